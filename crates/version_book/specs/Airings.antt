@@ -1,0 +1,49 @@
+-- Airing lists, and the version of a key at an airing.
+use Rattle.std.specs.Prelude.{ℕ, ◌+◌, ◌%◌, List, [], ◌∷◌, Bool, true, false, ◌&&◌, ◌==◌, if◌then◌else◌, Option, Some, None, filter_map, bytes_eq}
+use Rattle.section_codec.specs.declared.table.Key.{Key}
+use Rattle.section_codec.specs.declared.table.NumberedBody.{NumberedBody}
+use Rattle.section_codec.specs.declared.table.SubTable.{SubTable}
+
+-- what a sub-table carries: the number and the body of each of its sections, in order
+abbrev pub Content : Type 0
+Content = List NumberedBody
+
+-- one airing: the sub-tables of the publication that goes on air, and the moment of its swap in seconds
+pub record Airing : Type 0 where
+  pub tables : List SubTable
+  pub moment : ℕ
+
+abbrev pub is_key : Key → Key → Bool
+is_key a b = a.pid == b.pid && a.table == b.table && a.ext == b.ext && a.stream == b.stream && a.network == b.network
+
+abbrev pub is_content : Content → Content → Bool
+is_content [] [] = true
+is_content (x ∷ xs) (y ∷ ys) = x.number == y.number && bytes_eq x.body y.body && is_content xs ys
+is_content [] (y ∷ ys) = false
+is_content (x ∷ xs) [] = false
+
+-- the content of a key in a list of sub-tables
+abbrev pub content_in : Key → List SubTable → Option Content
+content_in k [] = None
+content_in k (t ∷ ts) = if is_key k t.key then Some t.sections else content_in k ts
+
+-- the content of a key at an airing, where the airing carries the key
+abbrev pub content_at : Key → Airing → Option Content
+content_at k a = content_in k a.tables
+
+-- what the airings that carry the key carry, in order
+abbrev pub carried : Key → List Airing → List Content
+carried k airings = filter_map (content_at k) airings
+
+-- how many of these contents differ from the one before
+abbrev pub changes_after : Content → List Content → ℕ
+changes_after c [] = 0
+changes_after c (d ∷ ds) = if is_content c d then changes_after d ds else 1 + changes_after d ds
+
+abbrev pub changes : List Content → ℕ
+changes [] = 0
+changes (c ∷ cs) = changes_after c cs
+
+-- the version of a key at the last of these airings: its changes up to there, modulo 32
+abbrev pub version_at : Key → List Airing → ℕ
+version_at k airings = changes (carried k airings) % 32
