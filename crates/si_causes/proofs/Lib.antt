@@ -1,0 +1,4 @@
+pub mod Bytes
+pub mod CauseFacts
+pub mod LineFacts
+pub mod GatherFacts
