@@ -2,3 +2,4 @@ pub mod Bytes
 pub mod CauseFacts
 pub mod LineFacts
 pub mod GatherFacts
+pub mod TextFacts
