@@ -50,3 +50,8 @@ abbrev pub read_after : Supply → ℕ → Supply
 read_after s room =
     if fails_next s.fail_at s.calls then record s { calls = raised s.calls; faults = raised s.faults }
     else record s { calls = raised s.calls; left = drop (moved s.piece room (length s.left)) s.left }
+
+-- what a write of a piece that is answered so leaves
+abbrev pub write_after : Store → List ℕ → Result ℕ Failed → Store
+write_after s piece (Ok n) = record s { calls = raised s.calls; taken = s.taken ++ take n piece }
+write_after s piece (Err failed) = record s { calls = raised s.calls; faults = raised s.faults }

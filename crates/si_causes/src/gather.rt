@@ -7,6 +7,7 @@ use crate::causes::Source;
 use crate::held::Held;
 use crate::line::Line;
 use crate::stop::ReadStop;
+use memchr::memchr;
 
 // how many bytes a text may have
 const TEXT: u64 = 67108864;
@@ -24,7 +25,7 @@ fn line_end(bytes: &[u8]) -> Option<usize>
     ensures place { result ≡ position (λ b. b == 10) bytes.now }
     ensures within { IfSome result (λ at. at < length bytes.now) }
 {
-    bytes.iter().position(|b| *b == b'\n')
+    memchr(b'\n', bytes)
 }
 
 // Moves what is held into the line, up to the first LF, and says whether there was one.

@@ -1,9 +1,9 @@
 // Sources and sinks in memory, for tests.
-ghost use Rattle.std.specs.Prelude.{◌≡◌, ◌≤◌, ◌<◌, ◌+◌, ◌-◌, ◌++◌, [], length, take, drop, min, Some};
+ghost use Rattle.std.specs.Prelude.{◌≡◌, ◌≤◌, ◌<◌, ◌+◌, ◌-◌, ◌++◌, [], length, take, drop, min, Some, IfOk, IsErr, Ok, true};
 ghost use Rattle.std.specs.Io.{ReadsAtMost};
 ghost use Rattle.std.specs.Io.KnownBytes.{ReadConsumes};
-ghost use Rattle.si_causes.specs.Causes.{HasCause};
-ghost use Rattle.si_causes.specs.Memory.{read_answer, read_after, moved};
+ghost use Rattle.si_causes.specs.Causes.{HasCause, TakesSome};
+ghost use Rattle.si_causes.specs.Memory.{read_answer, read_after, write_after, fails_next, moved};
 
 use crate::causes::{Failed, Sink, Source};
 use std::alloc::Global;
@@ -74,7 +74,6 @@ impl Source for MemSource {
         ensures bound { ReadsAtMost result into.new }
         ensures bytes { ReadConsumes (Some self.old.left) (Some self.new.left) result into.new }
         ensures cause { HasCause self.old.faults self.new.faults result }
-        ensures same { Unit {0} }
         ensures answer { result ≡ read_answer self.old (length into.old) }
         ensures after { self.new ≡ read_after self.old (length into.old) }
     {
@@ -126,7 +125,11 @@ impl Source for NeverFails {
 
     ghost same_later = { λ a b c p q. tt };
 
-    fn read(&mut self, into: &mut [u8]) -> Result<usize, Failed> {
+    fn read(&mut self, into: &mut [u8]) -> Result<usize, Failed>
+        ensures bound { ReadsAtMost result into.new }
+        ensures answer { result ≡ Ok (min (length into.old) (length self.old)) }
+        ensures bytes { ReadConsumes (Some self.old) (Some self.new) result into.new }
+    {
         let count = give(&self.bytes, self.at, usize::MAX, into);
         self.at += count;
         Ok(count)
@@ -181,7 +184,13 @@ impl Sink for MemSink {
 
     ghost faults = { λ s. s.faults };
 
-    fn write(&mut self, from: &[u8]) -> Result<usize, Failed> {
+    fn write(&mut self, from: &[u8]) -> Result<usize, Failed>
+        ensures bound { TakesSome result from.now }
+        ensures cause { HasCause self.old.faults self.new.faults result }
+        ensures count { IfOk result (λ n. n ≡ min self.old.piece (length from.now)) }
+        ensures fails { fails_next self.old.fail_at self.old.calls ≡ true → IsErr result }
+        ensures after { self.new ≡ write_after self.old from.now result }
+    {
         let fails = self.fail_at.contains(&self.calls);
         self.calls = self.calls.saturating_add(1);
         if fails {

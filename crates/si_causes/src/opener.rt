@@ -1,11 +1,12 @@
 // What opens paths.
-ghost use Rattle.std.specs.Prelude.{◌≡◌, [], ◌∷◌, List, ℕ, IfOk, Option, None, Some, Err};
+ghost use Rattle.std.specs.Prelude.{◌≡◌, [], ◌∷◌, List, ℕ, IfOk, Option, None, Some, IsErr};
 ghost use Rattle.si_causes.specs.Causes.{HasCause};
+ghost use Rattle.si_causes.specs.Memory.{raised};
 ghost use Rattle.si_causes.specs.Opening.{Files, Holds, Tries, TakesBack};
 
 use crate::causes::{Failed, Source};
 use crate::memory::NeverFails;
-use std::marker::Send;
+use std::marker::{Model, Send};
 
 /// What opens paths.
 ///
@@ -51,9 +52,19 @@ pub struct NoFiles {
     faults: u64,
 }
 
+impl Model for NoFiles {
+    ghost use Rattle.std.specs.Prelude.{ℕ};
+
+    ghost Value = { ℕ };
+
+    ghost view = { λ o. o.faults };
+}
+
 impl NoFiles {
     /// An opener that has not been asked yet.
-    pub fn new() -> NoFiles {
+    pub fn new() -> NoFiles
+        ensures { result ≡ 0 }
+    {
         NoFiles { faults: 0 }
     }
 }
@@ -61,7 +72,7 @@ impl NoFiles {
 impl Opener for NoFiles {
     type From = NeverFails;
 
-    ghost faults = { λ o. o.faults };
+    ghost faults = { λ o. o };
 
     ghost read_faults = { λ _. 0 };
 
@@ -70,7 +81,11 @@ impl Opener for NoFiles {
     ghost files = { λ _. Some [] };
 
     /// Always `Failed`.
-    fn open(&mut self, _path: &str) -> Result<NeverFails, Failed> {
+    fn open(&mut self, _path: &str) -> Result<NeverFails, Failed>
+        ensures cause { HasCause self.old self.new result }
+        ensures fails { IsErr result }
+        ensures count { self.new ≡ raised self.old }
+    {
         self.faults = self.faults.saturating_add(1);
         Err(Failed)
     }
