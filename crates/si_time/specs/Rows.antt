@@ -1,5 +1,5 @@
 -- Worked rows, from outside of this repository.
-use Rattle.std.specs.Prelude.{◌≡◌, codes, refl}
+use Rattle.std.specs.Prelude.{◌≡◌, ◌+◌, ◌-◌, ◌*◌, codes, refl}
 use Rattle.si_time.specs.Moments.{moment_text, moments_compute}
 
 row_epoch : moment_text 3506716800 ≡ codes "1970-01-01T00:00:00Z"
