@@ -101,16 +101,16 @@ pub sum-months : (y : ℕ) → sum (months y) ≡ days_in_year (pos y)
 sum-months y = ap sum (sym (take_all 12 (months y) (omega (arith, length-months y)))) ∙ (sym (month_start y 12 (omega arith)) ∙ days_of_months_all (pos y))
 
 -- the days before a date
-date_start : (k j d : ℕ) → k < 181 → j < 12 → 1 ≤ d → day_count (pos (1858 + k)) (suc j) d + 1 ≡ 4_331_046 + (sum (take k years) + (sum (take j (months (1858 + k))) + d))
+pub date_start : (k j d : ℕ) → k < 181 → j < 12 → 1 ≤ d → day_count (pos (1858 + k)) (suc j) d + 1 ≡ 4_331_046 + (sum (take k years) + (sum (take j (months (1858 + k))) + d))
 date_start k j d h i first =
     let back : suc j - 1 ≡ j = omega arith in
     omega (arith, year_start k (omega arith), month_start (1858 + k) j (omega arith), rw back at (day_count-day_of_year (pos (1858 + k)) (suc j) d first))
 
 -- a Modified Julian Date is the days before the date, less those before 17 November 1858
-mjd_is : (y m d n : ℕ) → day_count (pos y) m d ≡ n + 4_331_366 → mjd y m d ≡ pos n
+pub mjd_is : (y m d n : ℕ) → day_count (pos y) m d ≡ n + 4_331_366 → mjd y m d ≡ pos n
 mjd_is y m d n e = omega (arith, signed_arith, days_from_civil-day_count (pos y) m d)
 
-mjd_back : (y m d n : ℕ) → mjd y m d ≡ pos n → day_count (pos y) m d ≡ n + 4_331_366
+pub mjd_back : (y m d n : ℕ) → mjd y m d ≡ pos n → day_count (pos y) m d ≡ n + 4_331_366
 mjd_back y m d n e = omega (arith, signed_arith, days_from_civil-day_count (pos y) m d)
 
 -- a date by the number of its year, its month and its day from 0
@@ -146,7 +146,7 @@ civil_date-is n h =
     let next : 1 + j ≡ suc j = omega arith in
     rw next (date_is k j d n in_years in_months in_days (omega (arith, year.is, month.is)) h)
 
-is_civil : (y m d : ℕ) → IsDate (pos y) (pos m) (pos d) → IsCivilDate (pos y) m d
+pub is_civil : (y m d : ℕ) → IsDate (pos y) (pos m) (pos d) → IsCivilDate (pos y) m d
 is_civil y m d h = omega (arith, signed_arith)
 
 day_count-2039 : day_count (pos 2039) 1 1 ≡ 4_397_155
@@ -160,7 +160,7 @@ day_count-le_year x y h = by_lt_z (pos x) (pos y)
     (λ le. let same : x ≡ y = omega (arith, signed_arith) in rw same (omega arith))
 
 -- such a date lies in the years 1858 to 2038
-civil_year : (y m d n : ℕ) → IsCivilDate (pos y) m d → day_count (pos y) m d ≡ n + 4_331_366 → n < 65536 → (1858 ≤ y) × (y < 2039)
+pub civil_year : (y m d n : ℕ) → IsCivilDate (pos y) m d → day_count (pos y) m d ≡ n + 4_331_366 → n < 65536 → (1858 ≤ y) × (y < 2039)
 civil_year y m d n civil e h =
     let first = day_count-day_of_year (pos y) m d civil.2.0 in
     let early : 1858 ≤ y = by_lt_z (pos y) (pos 1858)

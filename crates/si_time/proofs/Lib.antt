@@ -1,1 +1,2 @@
 pub mod DateFacts
+pub mod ReadFacts

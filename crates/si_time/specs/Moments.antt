@@ -1,6 +1,6 @@
--- Moments and their written form: a date of the Gregorian calendar and a time of day in UTC, as ISO 8601 has them.
--- A day is named by its Modified Julian Date, whose day 0 is 17 November 1858 (EN 300 468, annex C).
-use Rattle.std.specs.Prelude.{ℕ, ◌+◌, ◌-◌, ◌/◌, ◌%◌, List, [], ◌∷◌, ◌++◌, if◌then◌else◌, nat_lt, map, codes, pos}
+-- Moments and durations as they are written: as texts of ISO 8601, in the Gregorian calendar and UTC, and as they are coded
+-- in event information (EN 300 468, 5.2.4 and 5.2.5): a Modified Julian Date, whose day 0 is 17 November 1858 (annex C), and BCD.
+use Rattle.std.specs.Prelude.{ℕ, ◌+◌, ◌*◌, ◌-◌, ◌/◌, ◌%◌, List, [], ◌∷◌, ◌++◌, if◌then◌else◌, nat_lt, map, codes, pos}
 use Rattle.std.specs.List.{range_with_len}
 use Rattle.jiff_core.specs.Calendar.{days_in_year, days_in_month}
 
@@ -45,7 +45,27 @@ clock_text seconds =
 unfoldable pub moment_text : ℕ → List ℕ
 moment_text seconds = date_text (civil_date (seconds / 86400)) ++ codes "T" ++ clock_text (seconds % 86400) ++ codes "Z"
 
+-- the text hh:mm:ss of a duration below 100 hours
+unfoldable pub duration_text : ℕ → List ℕ
+duration_text seconds = clock_text seconds
+
+-- the byte of two BCD digits, of a number below 100
+abbrev pub bcd : ℕ → ℕ
+bcd n = n / 10 * 16 + n % 10
+
+-- the six BCD digits hhmmss of a number of seconds
+abbrev pub clock_bcd : ℕ → List ℕ
+clock_bcd seconds = bcd (seconds / 3600) ∷ bcd (seconds / 60 % 60) ∷ bcd (seconds % 60) ∷ []
+
+-- the 40 bits of a moment: 16 bits of Modified Julian Date and the time of day in BCD
+unfoldable pub moment_bcd : ℕ → List ℕ
+moment_bcd seconds = seconds / 86400 / 256 ∷ seconds / 86400 % 256 ∷ clock_bcd (seconds % 86400)
+
+-- the 24 bits of a duration below 100 hours
+unfoldable pub duration_bcd : ℕ → List ℕ
+duration_bcd seconds = clock_bcd seconds
+
 -- a theorem whose `unfolding` line names this computes with the definitions of this file
 unfoldable pub moments_compute : Type 0
-unfolding years months civil_date moment_text
+unfolding years months civil_date moment_text duration_text moment_bcd duration_bcd
 moments_compute = Unit {0}
