@@ -1,0 +1,2 @@
+pub mod DateFacts
+pub mod ReadFacts
