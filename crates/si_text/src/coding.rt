@@ -8,7 +8,8 @@ use std::alloc::{AllocError, Global};
 /// The first byte of a text in UTF-8 (EN 300 468, annex A, table A.3).
 const UTF8: u8 = 0x15;
 
-fn is_plain_byte(b: u8) -> bool
+/// Whether a byte is a character of the plain set, which is coded as it is. It takes no memory.
+pub fn is_plain_byte(b: u8) -> bool
     ensures { result ≡ is_plain b }
 {
     matches!(

@@ -8,5 +8,5 @@
 mod coding;
 mod txt;
 
-pub use coding::{coded_len, encode_text};
+pub use coding::{coded_len, encode_text, is_plain_byte};
 pub use txt::Txt;

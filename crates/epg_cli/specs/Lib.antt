@@ -1,0 +1,5 @@
+pub mod Fields
+pub mod Codes
+pub mod Script
+pub mod Texts
+pub mod Rows
