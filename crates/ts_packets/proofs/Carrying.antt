@@ -25,6 +25,15 @@ length-pieces rest (g ∷ gs) = ap suc (length-pieces (left_by rest g) gs)
 pub Carries-none : Carries [] []
 Carries-none = record { groups = []; are = refl; have_room = tt; sections = refl; ended = refl }
 
+-- no section, no packet
+pub Carries-nothing : (ps : List Piece) → Carries ps [] → ps ≡ []
+Carries-nothing ps c = c.are ∙ ap (pieces []) (no_group c.groups c.have_room c.sections)
+  where
+    no_group : (groups : List (List (List ℕ))) → HaveRoom [] groups → [] ≡ all_of groups → groups ≡ []
+    no_group [] room e = refl
+    no_group ([] ∷ groups) room e = absurd (let none : 0 < 0 = room.0 in omega arith)
+    no_group ((s ∷ ss) ∷ groups) room e = cc
+
 -- packets that carry sections, one list after the other
 pub Carries-append : (ps qs : List Piece) (ss ts : List (List ℕ)) → Carries ps ss → Carries qs ts → Carries (ps ++ qs) (ss ++ ts)
 Carries-append ps qs ss ts a b = record {
