@@ -1,0 +1,5 @@
+pub mod Bytes
+pub mod CauseFacts
+pub mod LineFacts
+pub mod GatherFacts
+pub mod TextFacts

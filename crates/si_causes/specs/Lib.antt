@@ -1,0 +1,7 @@
+pub mod Causes
+pub mod Opening
+pub mod Lines
+pub mod Text
+pub mod Gathering
+pub mod Reading
+pub mod Memory

@@ -1,0 +1,90 @@
+// Collecting the next line of a source.
+ghost use Rattle.std.specs.Prelude.{◌≡◌, ◌≤◌, ◌<◌, ◌+◌, ◌++◌, [], ℕ, true, ◌==◌, length, position, take, IfSome};
+ghost use Rattle.si_causes.specs.Gathering.{Gathers, hand};
+ghost use Rattle.si_causes.specs.Lines.{first_line, after_line, has_end};
+
+use crate::causes::Source;
+use crate::held::Held;
+use crate::line::Line;
+use crate::stop::ReadStop;
+use memchr::memchr;
+
+// how many bytes a text may have
+const TEXT: u64 = 67108864;
+
+// What collecting a line met: a whole line, the last one, which has no LF, or the end.
+#[derive(Clone, Copy)]
+pub(crate) enum Found {
+    Line,
+    Last,
+    End,
+}
+
+// Where the first LF is.
+fn line_end(bytes: &[u8]) -> Option<usize>
+    ensures place { result ≡ position (λ b. b == 10) bytes.now }
+    ensures within { IfSome result (λ at. at < length bytes.now) }
+{
+    memchr(b'\n', bytes)
+}
+
+// Moves what is held into the line, up to the first LF, and says whether there was one.
+fn take_line(held: &mut Held, line: &mut Line) -> bool
+    ensures line { line.new ≡ take 16386 (line.old ++ first_line held.old) }
+    ensures held { held.new ≡ after_line held.old }
+    ensures found { result ≡ has_end held.old }
+{
+    let piece = held.bytes();
+    match line_end(piece) {
+        Some(at) => {
+            let (front, _) = piece.split_at(at);
+            line.add(front);
+            held.consume(at + 1);
+            true
+        }
+        None => {
+            line.add(piece);
+            let count = piece.len();
+            held.consume(count);
+            false
+        }
+    }
+}
+
+// Collects the next line, reading only where what is held has no LF.
+pub(crate) fn gather<S: Source>(
+    source: &mut S,
+    held: &mut Held,
+    line: &mut Line,
+    taken: &mut u64,
+) -> Result<Found, ReadStop>
+    requires empty { line.old ≡ [] }
+    requires within { taken.old ≤ 67108864 }
+    ensures gathers { Gathers S.left S.faults (hand source.old held.old line.old taken.old) (hand source.new held.new line.new taken.new) result }
+    ensures later { S.faults source.old ≤ S.faults source.new }
+    ensures lazy { has_end held.old ≡ true → source.new ≡ source.old }
+    ensures same { S.same source.old source.new }
+{
+    loop {
+        if take_line(held, line) {
+            return Ok(Found::Line);
+        }
+        let room = if *taken < TEXT { TEXT - *taken } else { 1 };
+        let count = match held.refill(source, room) {
+            Ok(count) => count,
+            Err(_) => return Err(ReadStop::Failed),
+        };
+        if count == 0 {
+            return Ok(if line.is_empty() {
+                Found::End
+            } else {
+                Found::Last
+            });
+        }
+        if *taken >= TEXT {
+            held.clear();
+            return Err(ReadStop::TooLong);
+        }
+        *taken += count as u64;
+    }
+}

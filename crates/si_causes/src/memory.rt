@@ -1,0 +1,209 @@
+// Sources and sinks in memory, for tests.
+ghost use Rattle.std.specs.Prelude.{◌≡◌, ◌≤◌, ◌<◌, ◌+◌, ◌-◌, ◌++◌, [], length, take, drop, min, Some, IfOk, IsErr, Ok, true};
+ghost use Rattle.std.specs.Io.{ReadsAtMost};
+ghost use Rattle.std.specs.Io.KnownBytes.{ReadConsumes};
+ghost use Rattle.si_causes.specs.Causes.{HasCause, TakesSome};
+ghost use Rattle.si_causes.specs.Memory.{read_answer, read_after, write_after, fails_next, moved};
+
+use crate::causes::{Failed, Sink, Source};
+use std::alloc::Global;
+use std::marker::Model;
+
+/// A source over bytes in memory. The calls named by `fail_at`, counted from 0, fail.
+#[derive(Drop)]
+pub struct MemSource {
+    bytes: Vec<u8>,
+    at: usize,
+    piece: usize,
+    fail_at: Vec<u64>,
+    calls: u64,
+    faults: u64,
+}
+
+impl Model for MemSource {
+    ghost use Rattle.std.specs.Prelude.{◌≤◌, length, drop};
+    ghost use Rattle.si_causes.specs.Memory.{Supply};
+
+    ghost Value = { Supply };
+
+    ghost view = { λ s. record { left = drop s.at s.bytes.items; piece = s.piece; fail_at = s.fail_at.items; calls = s.calls; faults = s.faults } };
+
+    ghost invariant = { λ s. (s.at ≤ length s.bytes.items) × (1 ≤ s.piece) };
+}
+
+impl MemSource {
+    pub fn open(bytes: Vec<u8>, piece: usize, fail_at: Vec<u64>) -> MemSource
+        requires { 1 ≤ piece }
+        ensures { result ≡ record { left = bytes.items; piece = piece; fail_at = fail_at.items; calls = 0; faults = 0 } }
+    {
+        MemSource {
+            bytes,
+            at: 0,
+            piece,
+            fail_at,
+            calls: 0,
+            faults: 0,
+        }
+    }
+}
+
+// Moves bytes from `at` on to the front of `into`, and says how many.
+fn give(bytes: &[u8], at: usize, most: usize, into: &mut [u8]) -> usize
+    requires at { at ≤ length bytes.now }
+    requires most { 1 ≤ most }
+    ensures count { result ≡ moved most (length into.old) (length bytes.now - at) }
+    ensures front { take result into.new ≡ take result (drop at bytes.now) }
+{
+    let count = most.min(into.len()).min(bytes.len() - at);
+    into[..count].copy_from_slice(&bytes[at..at + count]);
+    count
+}
+
+impl Source for MemSource {
+    ghost left = { λ s. Some s.left };
+
+    ghost faults = { λ s. s.faults };
+
+    ghost same = { λ _ _. Unit {0} };
+
+    ghost same_at_once = { λ a. tt };
+
+    ghost same_later = { λ a b c p q. tt };
+
+    fn read(&mut self, into: &mut [u8]) -> Result<usize, Failed>
+        ensures bound { ReadsAtMost result into.new }
+        ensures bytes { ReadConsumes (Some self.old.left) (Some self.new.left) result into.new }
+        ensures cause { HasCause self.old.faults self.new.faults result }
+        ensures answer { result ≡ read_answer self.old (length into.old) }
+        ensures after { self.new ≡ read_after self.old (length into.old) }
+    {
+        let fails = self.fail_at.contains(&self.calls);
+        self.calls = self.calls.saturating_add(1);
+        if fails {
+            self.faults = self.faults.saturating_add(1);
+            return Err(Failed);
+        }
+        let count = give(&self.bytes, self.at, self.piece, into);
+        self.at += count;
+        Ok(count)
+    }
+}
+
+/// A source over bytes in memory that never fails.
+#[derive(Drop)]
+pub struct NeverFails {
+    bytes: Vec<u8>,
+    at: usize,
+}
+
+impl Model for NeverFails {
+    ghost use Rattle.std.specs.Prelude.{◌≤◌, List, ℕ, length, drop};
+
+    ghost Value = { List ℕ };
+
+    ghost view = { λ s. drop s.at s.bytes.items };
+
+    ghost invariant = { λ s. s.at ≤ length s.bytes.items };
+}
+
+impl NeverFails {
+    pub fn open(bytes: Vec<u8>) -> NeverFails
+        ensures { result ≡ bytes.items }
+    {
+        NeverFails { bytes, at: 0 }
+    }
+}
+
+impl Source for NeverFails {
+    ghost left = { λ s. Some s };
+
+    ghost faults = { λ _. 0 };
+
+    ghost same = { λ _ _. Unit {0} };
+
+    ghost same_at_once = { λ a. tt };
+
+    ghost same_later = { λ a b c p q. tt };
+
+    fn read(&mut self, into: &mut [u8]) -> Result<usize, Failed>
+        ensures bound { ReadsAtMost result into.new }
+        ensures answer { result ≡ Ok (min (length into.old) (length self.old)) }
+        ensures bytes { ReadConsumes (Some self.old) (Some self.new) result into.new }
+    {
+        let count = give(&self.bytes, self.at, usize::MAX, into);
+        self.at += count;
+        Ok(count)
+    }
+}
+
+/// A sink in memory. The calls named by `fail_at`, counted from 0, fail, and so does one that finds no memory.
+#[derive(Drop)]
+pub struct MemSink {
+    bytes: Vec<u8>,
+    piece: usize,
+    fail_at: Vec<u64>,
+    calls: u64,
+    faults: u64,
+}
+
+impl Model for MemSink {
+    ghost use Rattle.std.specs.Prelude.{◌≤◌, length, drop};
+    ghost use Rattle.si_causes.specs.Memory.{Store};
+
+    ghost Value = { Store };
+
+    ghost view = { λ s. record { taken = s.bytes.items; piece = s.piece; fail_at = s.fail_at.items; calls = s.calls; faults = s.faults } };
+
+    ghost invariant = { λ s. 1 ≤ s.piece };
+}
+
+impl MemSink {
+    pub fn open(alloc: Global, piece: usize, fail_at: Vec<u64>) -> MemSink
+        requires { 1 ≤ piece }
+        ensures { result ≡ record { taken = []; piece = piece; fail_at = fail_at.items; calls = 0; faults = 0 } }
+    {
+        MemSink {
+            bytes: Vec::new(alloc),
+            piece,
+            fail_at,
+            calls: 0,
+            faults: 0,
+        }
+    }
+
+    /// The bytes taken.
+    pub fn taken(&self) -> &[u8]
+        ensures { result.now ≡ self.now.taken }
+    {
+        &self.bytes
+    }
+}
+
+impl Sink for MemSink {
+    ghost written = { λ s. Some s.taken };
+
+    ghost faults = { λ s. s.faults };
+
+    fn write(&mut self, from: &[u8]) -> Result<usize, Failed>
+        ensures bound { TakesSome result from.now }
+        ensures cause { HasCause self.old.faults self.new.faults result }
+        ensures count { IfOk result (λ n. n ≡ min self.old.piece (length from.now)) }
+        ensures fails { fails_next self.old.fail_at self.old.calls ≡ true → IsErr result }
+        ensures after { self.new ≡ write_after self.old from.now result }
+    {
+        let fails = self.fail_at.contains(&self.calls);
+        self.calls = self.calls.saturating_add(1);
+        if fails {
+            self.faults = self.faults.saturating_add(1);
+            return Err(Failed);
+        }
+        let count = self.piece.min(from.len());
+        match self.bytes.extend_from_slice(&from[..count]) {
+            Ok(()) => Ok(count),
+            Err(_) => {
+                self.faults = self.faults.saturating_add(1);
+                Err(Failed)
+            }
+        }
+    }
+}

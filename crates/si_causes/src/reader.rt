@@ -1,0 +1,125 @@
+// A reader of lines.
+ghost use Rattle.std.specs.Prelude.{◌≡◌, ◌≤◌, true, false, [], ℕ, List, Option, None, Some, Ok, Err, IfOk, IfSome};
+ghost use Rattle.std.specs.Io.KnownBytes.{IsAtEnd};
+ghost use Rattle.si_causes.specs.Lines.{has_end};
+ghost use Rattle.si_causes.specs.Reading.{NextCame, GivesLine, Falls, fresh, room, text_left};
+ghost use Rattle.si_causes.specs.Text.{lines_left};
+
+use crate::causes::Source;
+use crate::gather::{Found, gather};
+use crate::held::Held;
+use crate::line::Line;
+use crate::stop::ReadStop;
+use std::alloc::{AllocError, Global};
+use std::marker::Model;
+
+/// A reader of the lines of a source.
+///
+/// A line ends with LF or with the end of the source, and one CR before that end is not part of it. Behind an LF
+/// at the end there is no further line. The text may have 67,108,864 bytes.
+#[derive(Drop)]
+pub struct LineReader<S: Source> {
+    source: S,
+    held: Held,
+    passed: u64,
+    number: u64,
+    line: Line,
+    ended: bool,
+    stop: Option<ReadStop>,
+}
+
+impl<S: Source> Model for LineReader<S> {
+    ghost use Rattle.std.specs.Prelude.{◌≡◌, ◌+◌, ◌≤◌, true, length, [], None};
+    ghost use Rattle.std.specs.Io.KnownBytes.{IsAtEnd};
+    ghost use Rattle.si_causes.specs.Reading.{Reading};
+
+    ghost Value = { Reading S };
+
+    ghost view = { λ r. record { source = r.source; held = r.held; passed = r.passed; number = r.number; line = r.line; ended = r.ended; stop = r.stop } };
+
+    ghost invariant = { λ r. (r.passed + length r.held ≤ 67108864) × (r.number ≤ r.passed) × (r.ended ≡ true → (r.held ≡ []) × IsAtEnd (S.left r.source)) };
+}
+
+impl<S: Source> LineReader<S> {
+    /// A reader at the front of its source, with room for 65,536 bytes and for one line. Want of memory gives the
+    /// source up.
+    pub fn open(alloc: Global, source: S) -> Result<LineReader<S>, AllocError>
+        ensures { IfOk result (λ reader. reader ≡ fresh source) }
+    {
+        let held = Held::new(alloc)?;
+        let line = Line::new(alloc)?;
+        Ok(LineReader {
+            source,
+            held,
+            passed: 0,
+            number: 0,
+            line,
+            ended: false,
+            stop: None,
+        })
+    }
+
+    /// Goes on to the next line and gives its number, from 1 on, or `None` at the end.
+    ///
+    /// `TooLong` comes exactly where the source gave a byte after its 67,108,864th before the line was whole.
+    /// `Failed` comes only where the source failed in this call. After either each later call answers the same. The source is read only where no
+    /// whole line is held. It takes no memory.
+    pub fn next(&mut self) -> Result<Option<u64>, ReadStop>
+        ensures lines { self.old.stop ≡ None → (text : List ℕ) → text_left S.left self.old ≡ Some text
+            → GivesLine S.left self.old self.new (lines_left (room self.old) text) result }
+        ensures came { self.old.stop ≡ None → NextCame S.left S.faults self.old self.new result }
+        ensures falls { Falls self.old self.new result }
+        ensures end { result ≡ Ok None → IsAtEnd (S.left self.new.source) }
+        ensures over { self.old.stop ≡ None → self.old.ended ≡ true → (result ≡ Ok None) × (self.new ≡ self.old) }
+        ensures sticky { IfSome self.old.stop (λ stop. (result ≡ Err stop) × (self.new ≡ self.old)) }
+        ensures lazy { has_end self.old.held ≡ true → self.new.source ≡ self.old.source }
+        ensures later { S.faults self.old.source ≤ S.faults self.new.source }
+        ensures same { S.same self.old.source self.new.source }
+    {
+        if let Some(stop) = self.stop {
+            return Err(stop);
+        }
+        if self.ended {
+            return Ok(None);
+        }
+        self.line.clear();
+        let mut taken = self.passed + self.held.bytes().len() as u64;
+        match gather(&mut self.source, &mut self.held, &mut self.line, &mut taken) {
+            Ok(Found::End) => {
+                self.ended = true;
+                Ok(None)
+            }
+            Ok(Found::Last) => {
+                self.ended = true;
+                self.passed = taken;
+                self.line.finish();
+                self.number += 1;
+                Ok(Some(self.number))
+            }
+            Ok(Found::Line) => {
+                self.passed = taken - self.held.bytes().len() as u64;
+                self.line.finish();
+                self.number += 1;
+                Ok(Some(self.number))
+            }
+            Err(stop) => {
+                self.stop = Some(stop);
+                Err(stop)
+            }
+        }
+    }
+
+    /// The line that `next` gave last; of a line that is longer than 16,384 bytes the first 16,385.
+    pub fn line(&self) -> &[u8]
+        ensures { result.now ≡ self.now.line }
+    {
+        self.line.bytes()
+    }
+
+    /// Gives the source back. It takes no memory.
+    pub fn close(self) -> S
+        ensures { result ≡ self.source }
+    {
+        self.source
+    }
+}

@@ -1,0 +1,11 @@
+// Why a reader gives no more lines.
+use thiserror::Error;
+
+/// Why a reader gives no more lines: its source failed, or the text has more than 67,108,864 bytes.
+#[derive(Debug, Clone, Copy, PartialEq, Eq, Error)]
+pub enum ReadStop {
+    #[error("the source failed")]
+    Failed,
+    #[error("the text has more than 67,108,864 bytes")]
+    TooLong,
+}
