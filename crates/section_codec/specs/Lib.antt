@@ -1,0 +1,4 @@
+pub mod Tables
+pub mod Section
+pub mod Keys
+pub mod Rows

@@ -3,7 +3,7 @@ use si_base::{Bytes, Items};
 
 /// What names a sub-table on the wire: its PID, table_id and table_id_extension and, where the table has
 /// them, transport_stream_id and original_network_id (else 0).
-#[derive(Debug, Clone, Copy, PartialEq, Eq)]
+#[derive(Debug, Clone, Copy, PartialEq, Eq, PartialOrd, Ord)]
 pub struct Key {
     pub pid: u16,
     pub table: u8,

@@ -1,1 +1,2 @@
 pub mod Airings
+pub mod Book

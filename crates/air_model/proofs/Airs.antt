@@ -1,0 +1,54 @@
+-- An air grows by one cycle.
+use Rattle.std.proofs.Common.{◌≡◌, ℕ, List, [], ◌∷◌, ◌++◌, refl, sym, ap, ◌∙◌, subst, append_assoc, append-nil}
+use Rattle.std.specs.Prelude.{filter_map}
+use Rattle.std.specs.List.{AllByRecursion}
+use Rattle.std.proofs.lemmas.List.Concat.{flat_map-append}
+use Rattle.version_book.specs.Airings.{Airing}
+use Rattle.ts_packets.specs.Packets.{Piece, Carries}
+use Rattle.ts_packets.specs.Bytes.{Packet, HasFields}
+use Rattle.ts_packets.specs.Counting.{loads_on, Count}
+use Rattle.air_model.specs.Air.{Aired, sent_on, cycle_sections, IsCycle, Cycles, air, airings_of, IsAirOf}
+use Rattle.air_model.specs.Making.{each_alone, counted, cycle_alone}
+use Rattle.air_model.proofs.Counted.{PidsFit, of_pid-counted, fields-counted, count-counted, Carries-each_alone}
+
+-- the air of no airing
+pub IsAirOf-none : IsAirOf [] []
+IsAirOf-none = record { airings_are = refl; cycles = tt; counted = λ pid. tt; fields = tt }
+
+-- sections one after the other, each alone in its packets, are a cycle
+pub IsCycle-alone : (past : List Airing) (sent : List Packet) (a : Airing) → IsCycle past (record { airing = a; packets = cycle_alone past sent a })
+IsCycle-alone past sent a pid =
+    subst (λ (x : List Piece). Carries x (filter_map (sent_on pid) (cycle_sections past a))) (sym (of_pid-counted pid sent (each_alone (cycle_sections past a)))) (Carries-each_alone pid (cycle_sections past a))
+
+pub air-push : (xs : List Aired) (x : Aired) → air (xs ++ x ∷ []) ≡ air xs ++ x.packets
+air-push xs x = flat_map-append (λ (y : Aired). y.packets) xs (x ∷ []) ∙ ap (λ (l : List Packet). air xs ++ l) (append-nil x.packets)
+
+pub airings_of-push : (xs : List Aired) (x : Aired) → airings_of (xs ++ x ∷ []) ≡ airings_of xs ++ x.airing ∷ []
+airings_of-push [] x = refl
+airings_of-push (y ∷ ys) x = ap (λ (l : List Airing). y.airing ∷ l) (airings_of-push ys x)
+
+Cycles-push : (past : List Airing) (xs : List Aired) (x : Aired) → Cycles past xs → IsCycle (past ++ airings_of xs) x → Cycles past (xs ++ x ∷ [])
+Cycles-push past [] x h c = (subst (λ (l : List Airing). IsCycle l x) (append-nil past) c, tt)
+Cycles-push past (y ∷ ys) x h c = (h.0, Cycles-push (past ++ y.airing ∷ []) ys x h.1 (subst (λ (l : List Airing). IsCycle l x) (sym (append_assoc past (y.airing ∷ []) (airings_of ys))) c))
+
+all-append : (xs ys : List Packet) → AllByRecursion HasFields xs → AllByRecursion HasFields ys → AllByRecursion HasFields (xs ++ ys)
+all-append [] ys p q = q
+all-append (x ∷ xs) ys p q = (p.0, all-append xs ys p.1 q)
+
+-- one airing more, with a cycle of it whose counters go on, makes a longer air
+pub air_more : (airings : List Airing) (xs : List Aired) (x : Aired) → IsAirOf airings xs → IsCycle airings x → ((pid : ℕ) → Count 0 (loads_on pid (air xs ++ x.packets))) → AllByRecursion HasFields x.packets
+    → IsAirOf (airings ++ x.airing ∷ []) (xs ++ x ∷ [])
+air_more airings xs x h cycle counts fields = record {
+  airings_are = airings_of-push xs x ∙ ap (λ (l : List Airing). l ++ x.airing ∷ []) h.airings_are;
+  cycles = Cycles-push [] xs x h.cycles (subst (λ (l : List Airing). IsCycle l x) (sym h.airings_are) cycle);
+  counted = λ pid. subst (λ (l : List Packet). Count 0 (loads_on pid l)) (sym (air-push xs x)) (counts pid);
+  fields = subst (λ (l : List Packet). AllByRecursion HasFields l) (sym (air-push xs x)) (all-append (air xs) x.packets h.fields fields);
+}
+
+-- the cycle that is made behind an air makes a longer air
+pub air_more-alone : (airings : List Airing) (xs : List Aired) (a : Airing) → IsAirOf airings xs → PidsFit (each_alone (cycle_sections airings a))
+    → IsAirOf (airings ++ a ∷ []) (xs ++ record { airing = a; packets = cycle_alone airings (air xs) a } ∷ [])
+air_more-alone airings xs a h fit =
+    let units = each_alone (cycle_sections airings a) in
+    air_more airings xs (record { airing = a; packets = counted (air xs) units }) h (IsCycle-alone airings (air xs) a)
+    (λ pid. count-counted (air xs) units pid (h.counted pid)) (fields-counted (air xs) units fit)

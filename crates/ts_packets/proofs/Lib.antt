@@ -1,0 +1,4 @@
+pub mod Filling
+pub mod Carrying
+pub mod Headers
+pub mod Stamps

@@ -1,0 +1,35 @@
+-- Continuity counters: on each PID 0, 1, .. modulo 16, from its first packet on (ISO/IEC 13818-1, 2.4.3.3).
+use Rattle.std.specs.Prelude.{◌≡◌, ℕ, ◌+◌, ◌%◌, ◌<◌, List, [], ◌∷◌, Option, Some, None, ◌==◌, if◌then◌else◌, slice_index, count_by, filter_map}
+use Rattle.ts_packets.specs.Packets.{Piece}
+use Rattle.ts_packets.specs.Bytes.{Packet, pid_in}
+
+-- how many of these packets, each by its bytes, are of a PID
+abbrev pub count_on : ℕ → List (List ℕ) → ℕ
+count_on pid past = count_by (λ (bytes : List ℕ). pid_in bytes == pid) past
+
+-- These counters stand for these packets, all that were stamped: each PID has its next counter.
+pub record StandFor (past : List (List ℕ)) (counters : List ℕ) : Type 0 where
+  pub next : (pid : ℕ) → pid < 8192 → slice_index counters pid ≡ count_on pid past % 16
+
+-- the counter and the piece of a packet of a PID
+pub record Load : Type 0 where
+  pub counter : ℕ
+  pub piece : Piece
+
+abbrev pub load_on : ℕ → Packet → Option Load
+load_on pid p = if p.pid == pid then Some (record { counter = p.counter; piece = p.piece }) else None
+
+abbrev pub loads_on : ℕ → List Packet → List Load
+loads_on pid ps = filter_map (load_on pid) ps
+
+abbrev pub piece_on : ℕ → Packet → Option Piece
+piece_on pid p = if p.pid == pid then Some p.piece else None
+
+-- the packets of one PID, in their order
+abbrev pub of_pid : ℕ → List Packet → List Piece
+of_pid pid ps = filter_map (piece_on pid) ps
+
+-- the counters of one PID's packets are n, n + 1, .. modulo 16
+abbrev pub Count : ℕ → List Load → Type 0
+Count n [] = Unit {0}
+Count n (l ∷ ls) = (l.counter ≡ n % 16) × Count (1 + n) ls

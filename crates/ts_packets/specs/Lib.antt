@@ -1,0 +1,4 @@
+pub mod Packets
+pub mod Bytes
+pub mod Counting
+pub mod Rows

@@ -1,0 +1,51 @@
+// Continuity counters.
+ghost use Rattle.std.specs.Prelude.{◌≡◌, ◌%◌, ◌≤◌, ◌++◌, [], ◌∷◌, List, ℕ, length};
+ghost use Rattle.ts_packets.specs.Bytes.{pid_in, with_counter};
+ghost use Rattle.ts_packets.specs.Counting.{StandFor, count_on};
+
+use crate::written::TsPacket;
+use std::marker::Model;
+
+/// The next continuity_counter of each PID (ISO/IEC 13818-1, 2.4.3.3). Contracts see the list of these 8,192 numbers.
+#[derive(Drop)]
+pub struct Counters {
+    next: [u8; 8192],
+}
+
+impl Model for Counters {
+    ghost use Rattle.std.specs.Prelude.{List, ℕ};
+
+    ghost Value = { List ℕ };
+
+    ghost view = { λ c. c.next };
+}
+
+impl Counters {
+    /// The counters of a stream of which no packet was stamped. It takes no memory.
+    pub fn open() -> Counters
+        ensures { StandFor [] result }
+    {
+        Counters { next: [0; 8192] }
+    }
+
+    /// Sets the continuity_counter of a packet and changes nothing else of it: the first packet of a PID has 0, each
+    /// next one 1 more, modulo 16. It takes no memory.
+    pub fn stamp(&mut self, packet: &mut TsPacket)
+        ensures stamped { (past : List (List ℕ)) → StandFor past self.old → packet.new.0 ≡ with_counter (count_on (pid_in packet.old.0) past % 16) packet.old.0 }
+        ensures counted { (past : List (List ℕ)) → StandFor past self.old → StandFor (past ++ packet.new.0 ∷ []) self.new }
+    {
+        self.stamp_bytes(&mut packet.0);
+    }
+
+    /// As `stamp`, of the bytes of a packet where they stand.
+    pub fn stamp_bytes(&mut self, packet: &mut [u8])
+        requires { length packet.old ≡ 188 }
+        ensures stamped { (past : List (List ℕ)) → StandFor past self.old → packet.new ≡ with_counter (count_on (pid_in packet.old) past % 16) packet.old }
+        ensures counted { (past : List (List ℕ)) → StandFor past self.old → StandFor (past ++ packet.new ∷ []) self.new }
+    {
+        let pid = usize::from(packet[1] % 32) * 256 + usize::from(packet[2]);
+        let counter = self.next[pid] % 16;
+        packet[3] = packet[3] / 16 * 16 + counter;
+        self.next[pid] = (counter + 1) % 16;
+    }
+}

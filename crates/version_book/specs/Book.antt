@@ -1,0 +1,51 @@
+-- What a version book keeps, and the airings that it stands for.
+use Rattle.std.specs.Prelude.{◌≡◌, ◌≢◌, ℕ, ◌%◌, Bool, List, [], ◌∷◌, ◌++◌, if◌then◌else◌, Option, Some, None, map}
+use Rattle.section_codec.specs.declared.table.Key.{Key}
+use Rattle.section_codec.specs.declared.table.SubTable.{SubTable}
+use Rattle.version_book.specs.Airings.{Content, Airing, is_key, carried, changes_after, version_at}
+
+-- the version and the content that a key was last given
+pub record Kept : Type 0 where
+  pub version : ℕ
+  pub content : Content
+
+-- each key that was ever carried, with what is kept of it
+abbrev pub KeptKeys : Type 0
+KeptKeys = List (Key × Kept)
+
+-- what is kept of a key
+abbrev pub kept_in : Key → KeptKeys → Option Kept
+kept_in k [] = None
+kept_in k (entry ∷ entries) = if is_key k entry.0 then Some entry.1 else kept_in k entries
+
+-- the last of c and these contents
+abbrev pub last_of : Content → List Content → Content
+last_of c [] = c
+last_of c (d ∷ ds) = last_of d ds
+
+-- what is to be kept of a key that carried these contents: the last of them, with its version
+abbrev pub kept_after : List Content → Option Kept
+kept_after [] = None
+kept_after (c ∷ cs) = Some (record { version = changes_after c cs % 32; content = last_of c cs })
+
+-- The book stands for these airings: it keeps of each key what they carried last.
+abbrev pub Stands : List Airing → KeptKeys → Type 0
+Stands past book = (k : Key) → kept_in k book ≡ kept_after (carried k past)
+
+-- none of these sub-tables has this key
+abbrev pub Lacks : Key → List SubTable → Type 0
+Lacks k [] = Unit {0}
+Lacks k (t ∷ ts) = (k ≢ t.key) × Lacks k ts
+
+-- no two of these sub-tables have one key
+abbrev pub KeysDiffer : List SubTable → Type 0
+KeysDiffer [] = Unit {0}
+KeysDiffer (t ∷ ts) = Lacks t.key ts × KeysDiffer ts
+
+-- these sub-tables, aired at a moment
+abbrev pub aired : List SubTable → ℕ → Airing
+aired tables moment = record { tables = tables; moment = moment }
+
+-- the version of each of these sub-tables where they are aired behind the past
+abbrev pub versions_of : List Airing → List SubTable → ℕ → List ℕ
+versions_of past tables moment = map (λ (t : SubTable). version_at t.key (past ++ aired tables moment ∷ [])) tables
