@@ -1,3 +1,4 @@
 pub mod Numerals
 pub mod Plain
 pub mod Eight
+pub mod BlockFacts

@@ -1,6 +1,6 @@
 -- A readable line is text, and its fields are of the plain set.
 use Rattle.std.proofs.Common.{◌≡◌, ℕ, Bool, true, false, not, cond, List, [], ◌∷◌, refl, ap, ◌∙◌, inl, inr, ◌⊎◌}
-use Rattle.std.specs.Prelude.{IsUtf8, ◌&&◌, ◌==◌, nat_le, length}
+use Rattle.std.specs.Prelude.{IsUtf8, ◌&&◌, ◌==◌, nat_le, length, Result, Ok, Err, IfOk}
 use Rattle.std.specs.List.{list_all, slice_split, onto_first}
 use Rattle.std.proofs.lemmas.Str.{IsUtf8-from_ascii}
 use Rattle.si_text.specs.Coding.{is_plain, all_plain}
@@ -38,3 +38,7 @@ parts_plain (b ∷ bs) h =
 
 pub fields_plain : (line : List ℕ) → is_readable line ≡ true → list_all all_plain (fields_of line) ≡ true
 fields_plain line h = parts_plain line (readable_plain line h)
+
+pub all_from : {A E : Type 0} (r : Result A E) (parts : A → List (List ℕ)) (line : List ℕ) → is_readable line ≡ true → IfOk r (λ v. parts v ≡ fields_of line) → IfOk r (λ v. list_all all_plain (parts v) ≡ true)
+all_from (Ok v) parts line h e = ap (list_all all_plain) e ∙ fields_plain line h
+all_from (Err error) parts line h e = tt

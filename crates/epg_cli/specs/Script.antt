@@ -1,5 +1,5 @@
 -- The script of a text: the multiplex that its first four lines describe, and the commands behind them.
-use Rattle.std.specs.Prelude.{ℕ, ◌+◌, nat_le, Bool, true, false, ◌&&◌, List, [], ◌∷◌, Option, Some, None, if◌then◌else◌, codes, option_and_then, option_map}
+use Rattle.std.specs.Prelude.{◌≡◌, ℕ, ◌+◌, nat_le, Bool, true, false, ◌&&◌, List, [], ◌∷◌, Option, Some, None, if◌then◌else◌, codes, option_and_then, option_map}
 use Rattle.si_causes.specs.Text.{TextEnd, AtEnd, PastLimit, text_lines}
 use Rattle.si_text.specs.Coding.{coded_size}
 use Rattle.mux_config.specs.declared.mux.MuxService.{MuxService}
@@ -12,7 +12,7 @@ use Rattle.desk_core.specs.Journal.{Command}
 use Rattle.epg_cli.specs.declared.records.Network.{Network}
 use Rattle.epg_cli.specs.declared.records.Stream.{Stream}
 use Rattle.epg_cli.specs.declared.records.Numbers.{Numbers}
-use Rattle.mux_config.specs.Sound.{Between}
+use Rattle.mux_config.specs.Sound.{Between, IsSoundService}
 use Rattle.epg_cli.specs.Fields.{readable_fields, number_in, is_word}
 
 -- `feed,N,name,SERVICE,PROVIDER,NAME`
@@ -66,10 +66,18 @@ abbrev pub service_of : List (List ℕ) → Option MuxService
 service_of (word ∷ id ∷ feed ∷ kind ∷ pmt ∷ pcr ∷ provider ∷ name ∷ []) = service_in word (numbers_of id feed kind pmt pcr) provider name
 service_of fields = None
 
+-- a sound service without components
+pub record IsBare (s : MuxService) : Type 0 where
+  pub sound : IsSoundService s
+  pub bare : s.components ≡ []
+
 -- `end`
 abbrev pub is_end : List (List ℕ) → Bool
 is_end (word ∷ []) = is_word (codes "end") word
 is_end fields = false
+
+abbrev pub end_of : List (List ℕ) → Option (Unit {0})
+end_of fields = if is_end fields then Some tt else None
 
 -- the multiplex of these records: it starts at 1970-01-01T00:00:00Z, and repeats its frequent tables after 200 packets
 abbrev pub mux_of : Network → Stream → MuxService → Mux
@@ -128,13 +136,13 @@ short_at n PastLimit = TooLong
 abbrev pub with_commands : Mux → List Command × Stop → Script
 with_commands mux rest = record { mux = Some mux; commands = rest.0; stop = rest.1 }
 
-abbrev pub at_end : Mux → Bool → Lines → Script
-at_end mux true lines = with_commands mux (commands_of 5 lines)
-at_end mux false lines = no_mux (NoCommand 4)
+abbrev pub at_end : Mux → Option (Unit {0}) → Lines → Script
+at_end mux (Some u) lines = with_commands mux (commands_of 5 lines)
+at_end mux None lines = no_mux (NoCommand 4)
 
 abbrev pub fourth : Network → Stream → MuxService → Lines → Script
 fourth network stream service ([], end) = no_mux (short_at 4 end)
-fourth network stream service (line ∷ lines, end) = at_end (mux_of network stream service) (is_end (readable_fields line)) (lines, end)
+fourth network stream service (line ∷ lines, end) = at_end (mux_of network stream service) (end_of (readable_fields line)) (lines, end)
 
 abbrev pub at_service : Network → Stream → Option MuxService → Lines → Script
 at_service network stream None lines = no_mux (NoCommand 3)

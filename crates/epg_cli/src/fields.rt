@@ -1,7 +1,7 @@
 // The fields of an input line.
 ghost use Rattle.std.specs.Prelude.{◌≡◌, ◌==◌, ◌≤◌, ◌&&◌, not, true, map, length, IfOk, IfSome, nat_le};
 ghost use Rattle.std.specs.List.{list_all};
-ghost use Rattle.si_text.specs.Coding.{is_plain};
+ghost use Rattle.si_text.specs.Coding.{is_plain, all_plain};
 ghost use Rattle.epg_cli.specs.Fields.{fields_of, is_digit, is_numeral, number_in, value_from, is_readable, is_word};
 
 use si_text::is_plain_byte;
@@ -29,9 +29,11 @@ pub(crate) fn readable(line: &[u8]) -> bool
     all_may_stand(line) && line.len() <= LONGEST_LINE
 }
 
-/// The fields of a line, in its own bytes.
+/// The fields of a line that may be read, in its own bytes.
 pub(crate) fn fields<'a>(alloc: Global, line: &'a str) -> Result<Vec<&'a str>, AllocError>
-    ensures { IfOk result (λ v. map (λ x. x.now) v.items ≡ fields_of line.now) }
+    requires { is_readable line.now ≡ true }
+    ensures value { IfOk result (λ v. map (λ x. x.now) v.items ≡ fields_of line.now) }
+    ensures plain { IfOk result (λ v. list_all all_plain (map (λ x. x.now) v.items) ≡ true) }
 {
     line.split(',').collect(alloc)
 }

@@ -1,9 +1,13 @@
 //! The top call.
 #![tactic(auto)]
 
+mod block;
 mod fields;
+mod lines;
 mod records;
 mod report;
+mod sdt;
 mod status;
+mod stop;
 
 pub use status::{Origin, Outlet, Status};

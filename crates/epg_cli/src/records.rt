@@ -2,9 +2,9 @@
 ghost use Rattle.std.specs.Prelude.{◌≡◌, ◌≤◌, true, map, length, IfOk, IfSome};
 ghost use Rattle.std.specs.List.{list_all};
 ghost use Rattle.si_text.specs.Coding.{all_plain, coded_size};
-ghost use Rattle.mux_config.specs.Sound.{Between, IsSoundService};
+ghost use Rattle.mux_config.specs.Sound.{Between};
 ghost use Rattle.feed_book.specs.Replies.{fits};
-ghost use Rattle.epg_cli.specs.Script.{step_of, name_edit as name_of, network_of, stream_of, service_of, is_end, numbers_of, AreWithin, service_in};
+ghost use Rattle.epg_cli.specs.Script.{IsBare, step_of, name_edit as name_of, network_of, stream_of, service_of, is_end, numbers_of, AreWithin, service_in};
 
 use crate::fields::{is, number};
 use desk_core::Step;
@@ -177,7 +177,7 @@ fn service_from(
     requires provider { all_plain provider.now ≡ true }
     requires name { all_plain name.now ≡ true }
     ensures value { IfOk result (λ found. found ≡ service_in word.now numbers provider.now name.now) }
-    ensures sound { IfOk result (λ found. IfSome found IsSoundService) }
+    ensures sound { IfOk result (λ found. IfSome found IsBare) }
 {
     if !is(word, "service") {
         return Ok(None);
@@ -207,7 +207,7 @@ fn service_from(
 pub(crate) fn read_service(alloc: Global, fields: &[&str]) -> Result<Option<MuxService>, AllocError>
     requires { list_all all_plain (map (λ x. x.now) fields.now) ≡ true }
     ensures value { IfOk result (λ found. found ≡ service_of (map (λ x. x.now) fields.now)) }
-    ensures sound { IfOk result (λ found. IfSome found IsSoundService) }
+    ensures sound { IfOk result (λ found. IfSome found IsBare) }
 {
     if fields.len() != 8 {
         return Ok(None);
