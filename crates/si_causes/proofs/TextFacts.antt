@@ -169,6 +169,10 @@ stop_gives left faults old new line new_line taken new_taken TooLong text start 
 pub fresh_text : {S : Type 0} (left : S → Option (List ℕ)) (source : S) → text_left left (fresh source) ≡ left source
 fresh_text left source = prepend_known-nil (left source)
 
+-- and as much room as a text may have
+pub fresh_room : {S : Type 0} (source : S) → room (fresh source) ≡ text_limit
+fresh_room source = refl
+
 -- a line was the first of those left, and the others are left
 pub given_line : {S : Type 0} (left : S → Option (List ℕ)) (old new : Reading S) (lines : List (List ℕ) × TextEnd) (n : ℕ) → GivesLine left old new lines (Ok (Some n))
     → (n ≡ old.number + 1) × ((rest : List ℕ) × (text_left left new ≡ Some rest) × (lines ≡ (new.line ∷ (lines_left (room new) rest).0, (lines_left (room new) rest).1)))
@@ -197,3 +201,10 @@ pub given_past : {S : Type 0} (left : S → Option (List ℕ)) (old new : Readin
 given_past left old new (line ∷ lines, end) gives = absurd gives
 given_past left old new ([], AtEnd) gives = absurd gives
 given_past left old new ([], PastLimit) gives = refl
+
+-- one more line is done: of all lines the first were done, and then a line came
+pub lines_more : (all left rest : List (List ℕ) × TextEnd) (done : List (List ℕ)) (line : List ℕ) → all ≡ (done ++ left.0, left.1) → left ≡ (line ∷ rest.0, rest.1)
+    → all ≡ ((done ++ line ∷ []) ++ rest.0, rest.1)
+lines_more all left rest done line all_is left_is =
+    all_is ∙ ap (λ (q : List (List ℕ) × TextEnd). let p : List (List ℕ) × TextEnd = (done ++ q.0, q.1) in p) left_is
+    ∙ ap (λ (l : List (List ℕ)). let p : List (List ℕ) × TextEnd = (l, rest.1) in p) (sym (append_assoc done (line ∷ []) rest.0))
