@@ -16,7 +16,7 @@ struct Counted {
 impl Source for Counted {
     ghost left = { λ _. None };
 
-    ghost faults = { λ s. s.source.faults };
+    ghost faults = { λ s. s.source.calls.faults };
 
     ghost same = { λ _ _. Unit {0} };
 
