@@ -1,2 +1,4 @@
 pub mod DateFacts
 pub mod ReadFacts
+pub mod RoundTrips
+pub mod TextFacts
