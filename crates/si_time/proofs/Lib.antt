@@ -2,3 +2,4 @@ pub mod DateFacts
 pub mod ReadFacts
 pub mod RoundTrips
 pub mod TextFacts
+pub mod Values

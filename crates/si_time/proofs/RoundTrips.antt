@@ -1,5 +1,5 @@
 -- Reading what was written gives the value back, and only what is written of a value is read as it.
-use Rattle.std.proofs.Common.{◌≡◌, ◌∙◌, refl, sym, ap, ℕ, suc, ◌+◌, ◌-◌, ◌*◌, ◌/◌, ◌%◌, ◌<◌, ◌≤◌, List, [], ◌∷◌, ◌++◌, length, take, get_or, cond, nat_le, nat_lt, Bool, true, false, Option, Some, None, subst, arith, ◌&&◌}
+use Rattle.std.proofs.Common.{◌≡◌, refl, ap, ℕ, ◌+◌, ◌*◌, ◌/◌, ◌%◌, ◌<◌, ◌≤◌, List, [], ◌∷◌, length, get_or, cond, Bool, true, false, Option, Some, None, arith, ◌&&◌}
 use Rattle.std.proofs.lemmas.Bool.Decides.{nat_tests}
 use Rattle.std.proofs.lemmas.Option.{cond_some, none-some, same_Some}
 use Rattle.si_time.specs.Moments.{bcd, clock_bcd, moment_bcd, duration_bcd}
@@ -44,6 +44,15 @@ seconds_of-is limit h m s t e =
     let seconds : s < 60 = grind (arith, nat_tests, parts) in
     let all : h * 3600 + m * 60 + s ≡ t = parts.1 in
     record { fits = omega arith; hours = omega arith; minutes = omega arith; seconds = omega arith }
+
+-- where there is such a time
+pub seconds_of-some : (limit h m s : ℕ) → h < limit → m < 60 → s < 60 → seconds_of limit h m s ≡ Some (h * 3600 + m * 60 + s)
+seconds_of-some limit h m s a b c = grind (arith, nat_tests)
+
+pub seconds_of-tests : (limit h m s t : ℕ) → seconds_of limit h m s ≡ Some t → (h < limit) × (m < 60) × (s < 60)
+seconds_of-tests limit h m s t e =
+    let parts = cond_some _ _ _ e in
+    (grind (arith, nat_tests, parts), grind (arith, nat_tests, parts), grind (arith, nat_tests, parts))
 
 is_bcd-bcd : (n : ℕ) → n < 100 → is_bcd (bcd n) ≡ true
 is_bcd-bcd n h = grind (arith, nat_tests)
@@ -94,17 +103,23 @@ moment_from_bcd-moment_bcd t h =
     let all : t / 86400 * 86400 + t % 86400 ≡ t = omega arith in
     rw (clock_from_bcd-clock 24 (t % 86400) (omega arith) (omega arith), day, all)
 
-pub moment_from_bcd-is : (bytes : List ℕ) (t : ℕ) → ((i : ℕ) → get_or bytes i 0 < 256) → moment_from_bcd bytes ≡ Some t → (t < 65536 * 86400) × (bytes ≡ moment_bcd t)
+pub moment_from_bcd-is : (bytes : List ℕ) (t : ℕ) → get_or bytes 0 0 < 256 → get_or bytes 1 0 < 256 → moment_from_bcd bytes ≡ Some t → (t < 65536 * 86400) × (bytes ≡ moment_bcd t)
 unfolding moment_from_bcd moment_bcd
-moment_from_bcd-is (high ∷ low ∷ h ∷ m ∷ s ∷ []) t fits e =
+moment_from_bcd-is (high ∷ low ∷ h ∷ m ∷ s ∷ []) t top bottom e =
     let at = seconds_at-is (Some (high * 256 + low)) (clock_from_bcd 24 h m s) t e in
     let clock = clock_from_bcd-is 24 h m s at.second at.second_is in
     let day : high * 256 + low ≡ at.day = same_Some (high * 256 + low) at.day at.day_is in
     let number : t / 86400 ≡ high * 256 + low = omega (arith, at.all, clock.0) in
     let rest : t % 86400 ≡ at.second = omega (arith, at.all, clock.0) in
-    let top : high < 256 = fits 0 in
-    let bottom : low < 256 = fits 1 in
     let first : (high * 256 + low) / 256 ≡ high = omega arith in
     let second : (high * 256 + low) % 256 ≡ low = omega arith in
     (omega (arith, number), rw (number, rest, first, second) (ap (λ xs. high ∷ low ∷ xs) clock.1))
-moment_from_bcd-is _ t fits e = absurd (none-some t e)
+moment_from_bcd-is _ t top bottom e = absurd (none-some t e)
+
+pub length-moment_bcd : (t : ℕ) → length (moment_bcd t) ≡ 5
+unfolding moment_bcd
+length-moment_bcd t = refl
+
+pub length-duration_bcd : (t : ℕ) → length (duration_bcd t) ≡ 3
+unfolding duration_bcd
+length-duration_bcd t = refl

@@ -1,20 +1,20 @@
 -- Reading a written text gives the value back, and only the written text of a value is read as it.
-use Rattle.std.proofs.Common.{◌≡◌, ◌∙◌, refl, sym, ap, ℕ, suc, ◌+◌, ◌-◌, ◌*◌, ◌/◌, ◌%◌, ◌<◌, ◌≤◌, List, [], ◌∷◌, ◌++◌, length, take, map, get_or, cond, nat_le, nat_lt, Bool, true, false, Option, Some, None, subst, arith, ◌&&◌, ◌==◌, pos}
+use Rattle.std.proofs.Common.{◌≡◌, ◌∙◌, refl, sym, ap, ℕ, ◌+◌, ◌-◌, ◌*◌, ◌/◌, ◌%◌, ◌<◌, ◌≤◌, List, [], ◌∷◌, ◌++◌, length, take, map, get_or, Bool, true, false, Some, subst, arith, ◌&&◌, ◌==◌, pos}
 use Rattle.std.specs.Prelude.{codes}
 use Rattle.std.specs.List.{range_with_len}
 use Rattle.std.specs.Char.{is_ascii_digit}
 use Rattle.std.proofs.lemmas.Bool.{false≢true}
 use Rattle.std.proofs.lemmas.Bool.Decides.{nat_tests}
-use Rattle.std.proofs.lemmas.Option.{cond_some, none-some, same_Some}
+use Rattle.std.proofs.lemmas.Option.{same_Some}
 use Rattle.std.proofs.lemmas.List.FromFn.{fill_by_all}
 use Rattle.si_time.specs.Moments.{two_digits, date_text, clock_text, civil_date, moment_text, duration_text}
-use Rattle.si_time.specs.Readings.{has_shape, number_at, seconds_of, seconds_at, day_number, date_at_front, clock_at, moment_in, day_in, duration_in}
+use Rattle.si_time.specs.Readings.{has_shape, number_at, seconds_at, day_number, date_at_front, clock_at, moment_in, day_in, duration_in, IsMomentText, IsDayText}
 use Rattle.jiff_core.proofs.CalendarLemmas.{days_in_month_bounds}
 use Rattle.jiff_core.proofs.SignedLemmas.{signed_arith}
 use Rattle.si_time.specs.Dates.{IsDateOf}
 use Rattle.si_time.proofs.DateFacts.{civil_date-is, civil_date-only, is_civil}
-use Rattle.si_time.proofs.ReadFacts.{has_shape-length, day_number-is, day_number-civil_date}
-use Rattle.si_time.proofs.RoundTrips.{IsClock, seconds_of-parts, seconds_of-is, IsAt, seconds_at-is, behind_test}
+use Rattle.si_time.proofs.ReadFacts.{has_shape-length, day_number-is, day_number-some, day_number-civil_date}
+use Rattle.si_time.proofs.RoundTrips.{seconds_of-parts, seconds_of-is, seconds_of-some, seconds_of-tests, seconds_at-is, behind_test}
 
 digit-high : (n : ℕ) → n < 100 → is_ascii_digit (48 + n / 10) ≡ true
 digit-high n h = grind (arith, nat_tests)
@@ -236,3 +236,52 @@ moment_in-is bytes t e =
     let P : List ℕ → Type 0 = λ xs. moment_in xs ≡ Some t → (t < 65536 * 86400) × (xs ≡ moment_text t) in
     let at : ℕ → ℕ = λ i. get_or bytes i 0 in
     subst P (sym all) (moment_in-explicit (at 0) (at 1) (at 2) (at 3) (at 4) (at 5) (at 6) (at 7) (at 8) (at 9) (at 10) (at 11) (at 12) (at 13) (at 14) (at 15) (at 16) (at 17) (at 18) (at 19) t) e
+
+-- Where a text is read
+
+pub moment_in-only : (bytes : List ℕ) (t : ℕ) → moment_in bytes ≡ Some t → IsMomentText bytes
+unfolding moment_in
+moment_in-only bytes t e =
+    let parts = behind_test (has_shape (codes "dddd-dd-ddTdd:dd:ddZ") bytes) (seconds_at (date_at_front bytes) (clock_at 24 11 bytes)) t e in
+    let at = seconds_at-is (date_at_front bytes) (clock_at 24 11 bytes) t parts.1 in
+    let tests = seconds_of-tests 24 (number_at 11 bytes) (number_at 14 bytes) (number_at 17 bytes) at.second at.second_is in
+    record {
+      shape = parts.0;
+      date = (day_number-is (number_at 0 bytes * 100 + number_at 2 bytes) (number_at 5 bytes) (number_at 8 bytes) at.day at.day_is).0;
+      hours = tests.0;
+      minutes = tests.1;
+      seconds = tests.2
+    }
+
+pub moment_in-some : (bytes : List ℕ) → IsMomentText bytes → (t : ℕ) × (moment_in bytes ≡ Some t)
+unfolding moment_in
+moment_in-some bytes h =
+    let day = day_number-some (number_at 0 bytes * 100 + number_at 2 bytes) (number_at 5 bytes) (number_at 8 bytes) h.date in
+    let clock = seconds_of-some 24 (number_at 11 bytes) (number_at 14 bytes) (number_at 17 bytes) h.hours h.minutes h.seconds in
+    (day.0 * 86400 + (number_at 11 bytes * 3600 + number_at 14 bytes * 60 + number_at 17 bytes), rw (h.shape, day.1, clock))
+
+pub day_in-only : (bytes : List ℕ) (t : ℕ) → day_in bytes ≡ Some t → IsDayText bytes
+unfolding day_in
+day_in-only bytes t e =
+    let parts = behind_test (has_shape (codes "dddd-dd-dd") bytes) (seconds_at (date_at_front bytes) (Some 0)) t e in
+    let at = seconds_at-is (date_at_front bytes) (Some 0) t parts.1 in
+    record { shape = parts.0; date = (day_number-is (number_at 0 bytes * 100 + number_at 2 bytes) (number_at 5 bytes) (number_at 8 bytes) at.day at.day_is).0 }
+
+pub day_in-some : (bytes : List ℕ) → IsDayText bytes → (t : ℕ) × (day_in bytes ≡ Some t)
+unfolding day_in
+day_in-some bytes h =
+    let day = day_number-some (number_at 0 bytes * 100 + number_at 2 bytes) (number_at 5 bytes) (number_at 8 bytes) h.date in
+    (day.0 * 86400 + 0, rw (h.shape, day.1))
+
+-- the first ten bytes of a moment's text are its date's
+pub take-moment_text : (t : ℕ) → take 10 (moment_text t) ≡ date_text (civil_date (t / 86400))
+unfolding moment_text
+take-moment_text t = refl
+
+pub length-moment_text : (t : ℕ) → length (moment_text t) ≡ 20
+unfolding moment_text
+length-moment_text t = refl
+
+pub length-duration_text : (t : ℕ) → length (duration_text t) ≡ 8
+unfolding duration_text
+length-duration_text t = refl

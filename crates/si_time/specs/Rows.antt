@@ -1,7 +1,7 @@
 -- Worked rows, from outside of this repository.
-use Rattle.std.specs.Prelude.{◌≡◌, ◌+◌, ◌-◌, ◌*◌, Option, Some, None, List, [], ◌∷◌, map, codes, refl}
+use Rattle.std.specs.Prelude.{◌≡◌, ◌+◌, ◌-◌, ◌*◌, Some, [], ◌∷◌, map, codes, refl}
 use Rattle.si_time.specs.Moments.{moment_text, duration_text, moment_bcd, duration_bcd, moments_compute}
-use Rattle.si_time.specs.Readings.{moment_in, day_in, duration_in, moment_from_bcd, duration_from_bcd, readings_compute}
+use Rattle.si_time.specs.Readings.{moment_in, readings_compute}
 
 row_epoch : moment_text 3506716800 ≡ codes "1970-01-01T00:00:00Z"
 unfolding moments_compute

@@ -5,6 +5,7 @@ mod dates;
 mod digits;
 mod duration;
 mod moment;
+mod readings;
 
 pub use duration::{duration_bcd, duration_from_bcd, read_duration, write_duration};
 pub use moment::{

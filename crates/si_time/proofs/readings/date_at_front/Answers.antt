@@ -1,7 +1,6 @@
 use Rattle.std.proofs.Common.{◌+◌, ◌*◌}
-use Rattle.si_time.specs.Readings.{number_at}
 use Rattle.si_time.proofs.ReadFacts.{day_number-result}
-use Rattle.si_time.proofs.moment.date_at_front.Goals as goal
+use Rattle.si_time.proofs.readings.date_at_front.Goals as goal
 
 pub returns : goal.returns
 returns c =
