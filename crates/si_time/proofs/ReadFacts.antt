@@ -44,9 +44,9 @@ unfolding days_before
 in_years y m d h = by_lt_z (pos y) (pos 2039)
     (λ lt. omega (arith, signed_arith))
     (λ le.
-        let high : 2039 ≤ y = omega (arith, signed_arith) in
-        let all : sum (take (y - 1858) years) ≡ sum years = ap sum (take_all (y - 1858) years (omega (arith, length-years))) in
-        absurd (omega (arith, sum-years)))
+    let high : 2039 ≤ y = omega (arith, signed_arith) in
+    let all : sum (take (y - 1858) years) ≡ sum years = ap sum (take_all (y - 1858) years (omega (arith, length-years))) in
+    absurd (omega (arith, sum-years)))
 
 -- what is given is the Modified Julian Date of a date of the calendar
 pub day_number-is : (y m d n : ℕ) → day_number y m d ≡ Some n → IsDateOf n (y, m, d)

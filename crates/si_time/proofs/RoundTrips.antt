@@ -72,7 +72,7 @@ clock_from_bcd-clock limit t small h =
     let minutes : t / 60 % 60 < 100 = omega arith in
     let seconds : t % 60 < 100 = omega arith in
     rw (is_bcd-bcd (t / 3600) hours, is_bcd-bcd (t / 60 % 60) minutes, is_bcd-bcd (t % 60) seconds, bcd_value-bcd (t / 3600) hours, bcd_value-bcd (t / 60 % 60) minutes, bcd_value-bcd (t % 60) seconds)
-        (seconds_of-parts limit t h)
+    (seconds_of-parts limit t h)
 
 clock_from_bcd-is : (limit h m s t : ℕ) → clock_from_bcd limit h m s ≡ Some t → (t < limit * 3600) × (h ∷ m ∷ s ∷ [] ≡ clock_bcd t)
 clock_from_bcd-is limit h m s t e =

@@ -222,7 +222,7 @@ moment_in-explicit y1 y2 y3 y4 a m1 m2 b d1 d2 c h1 h2 d i1 i2 f s1 s2 z t e =
     let date_is = ap date_text (ap civil_date day ∙ civil_date-only at.day (year, number_at 5 bytes, number_at 8 bytes) is) ∙ date.0 in
     let clock_is : clock_text at.second ≡ h1 ∷ h2 ∷ d ∷ i1 ∷ i2 ∷ f ∷ s1 ∷ s2 ∷ [] = rw (← time.hours, ← time.minutes, ← time.seconds) clock.0 in
     let text : moment_text t ≡ (y1 ∷ y2 ∷ y3 ∷ y4 ∷ a ∷ m1 ∷ m2 ∷ b ∷ d1 ∷ d2 ∷ []) ++ codes "T" ++ (h1 ∷ h2 ∷ d ∷ i1 ∷ i2 ∷ f ∷ s1 ∷ s2 ∷ []) ++ codes "Z" =
-        joined (date_text (civil_date (t / 86400))) (y1 ∷ y2 ∷ y3 ∷ y4 ∷ a ∷ m1 ∷ m2 ∷ b ∷ d1 ∷ d2 ∷ []) (clock_text (t % 86400)) (h1 ∷ h2 ∷ d ∷ i1 ∷ i2 ∷ f ∷ s1 ∷ s2 ∷ []) date_is (ap clock_text second ∙ clock_is) in
+    joined (date_text (civil_date (t / 86400))) (y1 ∷ y2 ∷ y3 ∷ y4 ∷ a ∷ m1 ∷ m2 ∷ b ∷ d1 ∷ d2 ∷ []) (clock_text (t % 86400)) (h1 ∷ h2 ∷ d ∷ i1 ∷ i2 ∷ f ∷ s1 ∷ s2 ∷ []) date_is (ap clock_text second ∙ clock_is) in
     (omega (arith, at.all, time.fits), rw (mark.0, end.0) (sym text))
 
 twenty : (bytes : List ℕ) → length bytes ≡ 20 → bytes ≡ map (λ i. get_or bytes i 0) (range_with_len 0 20)
@@ -250,7 +250,7 @@ moment_in-only bytes t e =
       date = (day_number-is (number_at 0 bytes * 100 + number_at 2 bytes) (number_at 5 bytes) (number_at 8 bytes) at.day at.day_is).0;
       hours = tests.0;
       minutes = tests.1;
-      seconds = tests.2
+      seconds = tests.2;
     }
 
 pub moment_in-some : (bytes : List ℕ) → IsMomentText bytes → (t : ℕ) × (moment_in bytes ≡ Some t)

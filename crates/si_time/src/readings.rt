@@ -16,7 +16,12 @@ pub fn moment_in(text: &[u8]) -> Option<u64>
         return None;
     }
     let day = date_at_front(text)?;
-    let second = seconds_of(24, number_at(11, text), number_at(14, text), number_at(17, text))?;
+    let second = seconds_of(
+        24,
+        number_at(11, text),
+        number_at(14, text),
+        number_at(17, text),
+    )?;
     Some(u64::from(day) * DAY + u64::from(second))
 }
 
@@ -39,7 +44,12 @@ pub fn duration_in(text: &[u8]) -> Option<u32>
     if !has_shape(b"dd:dd:dd", text) {
         return None;
     }
-    seconds_of(100, number_at(0, text), number_at(3, text), number_at(6, text))
+    seconds_of(
+        100,
+        number_at(0, text),
+        number_at(3, text),
+        number_at(6, text),
+    )
 }
 
 /// The seconds of 40 bits. None where they are no moment.
