@@ -1,2 +1,5 @@
 pub mod DateFacts
 pub mod ReadFacts
+pub mod RoundTrips
+pub mod TextFacts
+pub mod Values

@@ -1,15 +1,15 @@
 -- Reading dates: the day number of a date is its Modified Julian Date.
-use Rattle.std.proofs.Common.{◌≡◌, ◌∙◌, refl, sym, ap, ℕ, suc, ◌+◌, ◌-◌, ◌*◌, ◌/◌, ◌%◌, ◌<◌, ◌≤◌, List, [], ◌∷◌, ◌++◌, length, take, take_all, get_or, sum, cond, nat_le, nat_lt, Bool, true, false, Option, Some, None, IfSome, IfNone, subst, arith, pos, ◌&&◌}
+use Rattle.std.proofs.Common.{◌≡◌, ◌∙◌, refl, sym, ap, ℕ, suc, ◌+◌, ◌-◌, ◌<◌, ◌≤◌, List, [], ◌∷◌, length, take, take_all, sum, nat_le, nat_lt, Bool, true, false, Option, Some, None, IfSome, IfNone, arith, ℤ, pos, negsuc, unsigned_abs, ◌≤ℤ◌, ◌&&◌}
 use Rattle.std.proofs.lemmas.Bool.Decides.{nat_tests}
 use Rattle.std.proofs.lemmas.Int.{by_lt_z}
 use Rattle.std.proofs.lemmas.Bool.{false≢true}
-use Rattle.std.proofs.lemmas.Option.{cond_some, none-some, same_Some}
-use Rattle.jiff_core.specs.Calendar.{days_in_month, IsCivilDate, IsDate, day_count}
+use Rattle.std.proofs.lemmas.Option.{cond_some}
+use Rattle.jiff_core.specs.Calendar.{days_in_month, day_count}
 use Rattle.jiff_core.proofs.SignedLemmas.{signed_arith}
-use Rattle.si_time.specs.Moments.{years, months, civil_date}
+use Rattle.si_time.specs.Moments.{years, civil_date}
 use Rattle.si_time.specs.Dates.{mjd, IsCodedDate, IsDateOf}
 use Rattle.si_time.specs.Readings.{is_date, days_before, day_number, has_shape}
-use Rattle.si_time.proofs.DateFacts.{civil_date-is, civil_date-only, is_civil, mjd_is, mjd_back, civil_year, date_start, length-years, sum-years}
+use Rattle.si_time.proofs.DateFacts.{civil_date-is, is_civil, mjd_is, mjd_back, civil_year, date_start, length-years, sum-years}
 
 -- there is no value where each leads to a contradiction
 pub elim_none : (o : Option ℕ) → ((n : ℕ) → o ≡ Some n → ⊥) → o ≡ None
@@ -44,9 +44,9 @@ unfolding days_before
 in_years y m d h = by_lt_z (pos y) (pos 2039)
     (λ lt. omega (arith, signed_arith))
     (λ le.
-        let high : 2039 ≤ y = omega (arith, signed_arith) in
-        let all : sum (take (y - 1858) years) ≡ sum years = ap sum (take_all (y - 1858) years (omega (arith, length-years))) in
-        absurd (omega (arith, sum-years)))
+    let high : 2039 ≤ y = omega (arith, signed_arith) in
+    let all : sum (take (y - 1858) years) ≡ sum years = ap sum (take_all (y - 1858) years (omega (arith, length-years))) in
+    absurd (omega (arith, sum-years)))
 
 -- what is given is the Modified Julian Date of a date of the calendar
 pub day_number-is : (y m d n : ℕ) → day_number y m d ≡ Some n → IsDateOf n (y, m, d)
@@ -94,3 +94,11 @@ has_shape-other_length shape bytes differ = false_unless (has_shape shape bytes)
 pub day_number-result : (y m d : ℕ) (o : Option ℕ) → IfSome o (λ n. IsDateOf n (y, m, d)) → IfNone o (¬ (IsCodedDate y m d)) → o ≡ day_number y m d
 day_number-result y m d None some none = sym (day_number-none y m d none)
 day_number-result y m d (Some n) some none = sym (day_number-of n y m d some)
+
+not_negative : (z : ℤ) → pos 0 ≤ℤ z → z ≡ pos (unsigned_abs z)
+not_negative (pos n) h = refl
+not_negative (negsuc n) h = absurd (omega (arith, signed_arith))
+
+-- a date with a number of 16 bits has it
+pub day_number-some : (y m d : ℕ) → IsCodedDate y m d → (n : ℕ) × (day_number y m d ≡ Some n)
+day_number-some y m d h = (unsigned_abs (mjd y m d), day_number-of (unsigned_abs (mjd y m d)) y m d (h, not_negative (mjd y m d) h.1.0))

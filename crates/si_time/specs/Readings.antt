@@ -1,7 +1,8 @@
 -- Moments, days and durations as they are read, from texts and from BCD.
-use Rattle.std.specs.Prelude.{ℕ, ◌+◌, ◌-◌, ◌*◌, ◌/◌, ◌%◌, Bool, true, false, ◌&&◌, ◌==◌, nat_le, nat_lt, if◌then◌else◌, Option, Some, None, option_map, option_and_then, List, [], ◌∷◌, take, sum, slice_index, codes, pos}
+use Rattle.std.specs.Prelude.{◌≡◌, ◌<◌, ℕ, ◌+◌, ◌-◌, ◌*◌, ◌/◌, ◌%◌, Bool, true, false, ◌&&◌, ◌==◌, nat_le, nat_lt, if◌then◌else◌, Option, Some, None, option_map, option_and_then, List, [], ◌∷◌, take, sum, slice_index, codes, pos}
 use Rattle.std.specs.Char.{is_ascii_digit}
 use Rattle.jiff_core.specs.Calendar.{days_in_month}
+use Rattle.si_time.specs.Dates.{IsCodedDate}
 use Rattle.si_time.specs.Moments.{years, months, moments_compute}
 
 -- the calendar has this date
@@ -47,6 +48,19 @@ date_at_front bytes = day_number (number_at 0 bytes * 100 + number_at 2 bytes) (
 -- the time at a place of these bytes
 abbrev pub clock_at : ℕ → ℕ → List ℕ → Option ℕ
 clock_at limit i bytes = seconds_of limit (number_at i bytes) (number_at (i + 3) bytes) (number_at (i + 6) bytes)
+
+-- a text YYYY-MM-DD of a date that the calendar has, with a Modified Julian Date of 16 bits
+pub record IsDayText (bytes : List ℕ) : Type 0 where
+  pub shape : has_shape (codes "dddd-dd-dd") bytes ≡ true
+  pub date : IsCodedDate (number_at 0 bytes * 100 + number_at 2 bytes) (number_at 5 bytes) (number_at 8 bytes)
+
+-- a text YYYY-MM-DDThh:mm:ssZ of such a date and a time of day
+pub record IsMomentText (bytes : List ℕ) : Type 0 where
+  pub shape : has_shape (codes "dddd-dd-ddTdd:dd:ddZ") bytes ≡ true
+  pub date : IsCodedDate (number_at 0 bytes * 100 + number_at 2 bytes) (number_at 5 bytes) (number_at 8 bytes)
+  pub hours : number_at 11 bytes < 24
+  pub minutes : number_at 14 bytes < 60
+  pub seconds : number_at 17 bytes < 60
 
 -- the moment of a text YYYY-MM-DDThh:mm:ssZ
 unfoldable pub moment_in : List ℕ → Option ℕ

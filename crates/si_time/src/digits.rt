@@ -21,7 +21,11 @@ pub fn has_shape(shape: &[u8], text: &[u8]) -> bool
         return false;
     }
     for (s, byte) in shape.iter().zip(text) {
-        let fits = if *s == b'd' { byte.is_ascii_digit() } else { byte == s };
+        let fits = if *s == b'd' {
+            byte.is_ascii_digit()
+        } else {
+            byte == s
+        };
         if !fits {
             return false;
         }

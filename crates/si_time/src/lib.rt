@@ -5,8 +5,12 @@ mod dates;
 mod digits;
 mod duration;
 mod moment;
+mod readings;
 
 pub use duration::{duration_bcd, duration_from_bcd, read_duration, write_duration};
 pub use moment::{
     Moment, block_of, from_bcd, midnight, read_day, read_moment, to_bcd, write_moment,
 };
+
+#[cfg(test)]
+mod tests;

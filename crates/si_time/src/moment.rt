@@ -1,11 +1,12 @@
 // Moments.
-ghost use Rattle.std.specs.Prelude.{◌≡◌, ◌+◌, ◌*◌, ◌/◌, ◌%◌, ◌<◌, ◌≤◌, option_map, length};
+ghost use Rattle.std.specs.Prelude.{◌≡◌, ◌+◌, ◌*◌, ◌/◌, ◌%◌, ◌<◌, ◌↔◌, ℕ, IfSome, IsSome, Some, option_map, take};
 ghost use Rattle.si_time.specs.Dates.{IsOnlyDateOf};
 ghost use Rattle.si_time.specs.Moments.{civil_date, moment_text, moment_bcd};
-ghost use Rattle.si_time.specs.Readings.{moment_in, day_in, date_at_front, moment_from_bcd};
+ghost use Rattle.si_time.specs.Readings.{moment_in, day_in, moment_from_bcd, IsMomentText, IsDayText};
 
-use crate::dates::{date_of, day_number};
-use crate::digits::{clock_bcd, clock_from_bcd, has_shape, number_at, seconds_of, two_digits};
+use crate::dates::date_of;
+use crate::digits::{clock_bcd, two_digits};
+use crate::readings::{day_in, moment_from_bcd, moment_in};
 
 /// A moment in UTC: the seconds since Modified Julian Date 0, 1858-11-17T00:00:00Z, below 65,536 × 86,400
 /// (EN 300 468, annex C).
@@ -26,29 +27,26 @@ pub fn to_bcd(at: Moment) -> [u8; 5]
 
 /// The moment of 40 bits as `to_bcd` gives them. None where a digit exceeds 9, hours 23, minutes 59 or seconds 59.
 /// It takes no memory.
-#[tactic(auto, unfolding(crate::specs::Readings::moment_from_bcd))]
 pub fn from_bcd(bytes: [u8; 5]) -> Option<Moment>
     ensures value { option_map (λ at. at.0) result ≡ moment_from_bcd bytes }
+    ensures window { IfSome result (λ at. at.0 < 65536 * 86400) }
+    ensures written { IfSome result (λ at. bytes ≡ moment_bcd at.0) }
+    ensures back { (s : ℕ) → s < 65536 * 86400 → bytes ≡ moment_bcd s → option_map (λ at. at.0) result ≡ Some s }
 {
-    let [high, low, h, m, s] = bytes;
-    let day = u16::from_be_bytes([high, low]);
-    let second = clock_from_bcd(24, h, m, s)?;
-    Some(moment_at(day, second))
+    moment_from_bcd(bytes).map(Moment)
 }
 
 /// The moment of a text `YYYY-MM-DDThh:mm:ssZ` in the proleptic Gregorian calendar. None where the bytes have another
 /// shape, the date or the time of day does not exist (second 60 included), or the moment is none of
 /// 1858-11-17T00:00:00Z to 2038-04-22T23:59:59Z. It takes no memory.
-#[tactic(auto, unfolding(crate::specs::Readings::moment_in))]
 pub fn read_moment(text: &[u8]) -> Option<Moment>
     ensures value { option_map (λ at. at.0) result ≡ moment_in text.now }
+    ensures some { IsSome result ↔ IsMomentText text.now }
+    ensures window { IfSome result (λ at. at.0 < 65536 * 86400) }
+    ensures written { IfSome result (λ at. text.now ≡ moment_text at.0) }
+    ensures back { (s : ℕ) → s < 65536 * 86400 → text.now ≡ moment_text s → option_map (λ at. at.0) result ≡ Some s }
 {
-    if !has_shape(b"dddd-dd-ddTdd:dd:ddZ", text) {
-        return None;
-    }
-    let day = date_at_front(text)?;
-    let second = seconds_of(24, number_at(11, text), number_at(14, text), number_at(17, text))?;
-    Some(moment_at(day, second))
+    moment_in(text).map(Moment)
 }
 
 /// The text `YYYY-MM-DDThh:mm:ssZ` of a moment, in the proleptic Gregorian calendar. It takes no memory.
@@ -73,14 +71,15 @@ pub fn write_moment(at: Moment) -> [u8; 20]
 
 /// The midnight that begins the day of a text `YYYY-MM-DD`. None where the bytes have another shape, the date does not
 /// exist, or it is none of 1858-11-17 to 2038-04-22. It takes no memory.
-#[tactic(auto, unfolding(crate::specs::Readings::day_in))]
 pub fn read_day(text: &[u8]) -> Option<Moment>
     ensures value { option_map (λ at. at.0) result ≡ day_in text.now }
+    ensures some { IsSome result ↔ IsDayText text.now }
+    ensures window { IfSome result (λ at. at.0 < 65536 * 86400) }
+    ensures midnight { IfSome result (λ at. at.0 % 86400 ≡ 0) }
+    ensures written { IfSome result (λ at. text.now ≡ take 10 (moment_text at.0)) }
+    ensures back { (s : ℕ) → s < 65536 * 86400 → text.now ≡ take 10 (moment_text s) → option_map (λ at. at.0) result ≡ Some (s / 86400 * 86400) }
 {
-    if !has_shape(b"dddd-dd-dd", text) {
-        return None;
-    }
-    Some(moment_at(date_at_front(text)?, 0))
+    day_in(text).map(Moment)
 }
 
 /// The three-hour block that a moment lies in, counted from Modified Julian Date 0. It takes no memory.
@@ -95,20 +94,4 @@ pub fn midnight(at: Moment) -> Moment
     ensures { result.0 ≡ at.0 / 86400 * 86400 }
 {
     Moment(at.0 / 86_400 * 86_400)
-}
-
-/// The moment of a day and a number of seconds in it.
-fn moment_at(day: u16, second: u32) -> Moment
-    ensures { result.0 ≡ day * 86400 + second }
-{
-    Moment(u64::from(day) * 86_400 + u64::from(second))
-}
-
-/// The Modified Julian Date of the date at the front of a text.
-fn date_at_front(text: &[u8]) -> Option<u16>
-    requires { 10 ≤ length text.now }
-    ensures { result ≡ date_at_front text.now }
-{
-    let year = number_at(0, text) * 100 + number_at(2, text);
-    day_number(year, number_at(5, text), number_at(8, text))
 }
