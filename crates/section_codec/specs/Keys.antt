@@ -1,5 +1,5 @@
 -- The keys of sub-tables, by the table of PIDs and table_ids (EN 300 468, 5.1.1 and 5.1.3).
-use Rattle.std.specs.Prelude.{ℕ, ◌+◌, ◌*◌, Bool, ◌==◌, ◌&&◌, ◌||◌, if◌then◌else◌, nat_le, List, length, slice_index, Option, Some, None}
+use Rattle.std.specs.Prelude.{ℕ, ◌&&◌, ◌||◌, if◌then◌else◌, nat_le, List, length, slice_index, Option, Some, None}
 use Rattle.si_base.specs.Fields.{two_at}
 use Rattle.section_codec.specs.Tables.{is_pat, is_pmt, is_nit, is_sdt, is_events}
 use Rattle.section_codec.specs.declared.section.LongHeader.{LongHeader}

@@ -1,5 +1,5 @@
 -- The bytes of a section, and the section that bytes are (ISO/IEC 13818-1, 2.4.4; EN 300 468, 5.1.1).
-use Rattle.std.specs.Prelude.{◌≡◌, ◌≢◌, ℕ, ◌+◌, ◌-◌, ◌*◌, ◌/◌, ◌%◌, ◌<◌, ◌≤◌, Bool, true, false, not, ◌==◌, ◌&&◌, ◌||◌, if◌then◌else◌, nat_le, nat_lt, List, [], ◌∷◌, ◌++◌, length, take, drop, slice_index, Result, Ok, Err}
+use Rattle.std.specs.Prelude.{◌≡◌, ◌≢◌, ℕ, ◌+◌, ◌-◌, ◌*◌, ◌/◌, ◌%◌, ◌<◌, ◌≤◌, Bool, false, not, ◌==◌, ◌&&◌, ◌||◌, if◌then◌else◌, nat_le, List, ◌∷◌, ◌++◌, length, take, drop, slice_index, Result, Ok, Err}
 use Rattle.si_base.specs.Fields.{two, four, two_at, four_at}
 use Rattle.si_base.specs.Crc.{crc_of}
 use Rattle.section_codec.specs.Tables.{is_eit, has_long_form}
@@ -53,7 +53,7 @@ long_header bytes = record {
   version = slice_index bytes 5 / 2 % 32;
   current = slice_index bytes 5 % 2 == 1;
   number = slice_index bytes 6;
-  last = slice_index bytes 7
+  last = slice_index bytes 7;
 }
 
 -- what stands between the header and the CRC
@@ -76,11 +76,13 @@ has_its_length bytes =
 abbrev pub has_its_crc : List ℕ → Bool
 has_its_crc bytes = not (is_long bytes) || kept_crc bytes == found_crc bytes
 
--- the table has this form, and the number is not above the last
+-- in the long form the table is not the TDT, and the number is not above the last
+abbrev pub has_long_syntax : List ℕ → Bool
+has_long_syntax bytes = not (slice_index bytes 0 == 0x70) && nat_le (slice_index bytes 6) (slice_index bytes 7)
+
+-- in the short form the table is none of those that have the long form
 abbrev pub has_its_syntax : List ℕ → Bool
-has_its_syntax bytes =
-    if is_long bytes then not (slice_index bytes 0 == 0x70) && nat_le (slice_index bytes 6) (slice_index bytes 7)
-    else not (has_long_form (slice_index bytes 0))
+has_its_syntax bytes = if is_long bytes then has_long_syntax bytes else not (has_long_form (slice_index bytes 0))
 
 abbrev pub section_of : List ℕ → Section
 section_of bytes =

@@ -2,8 +2,14 @@
 //! (ISO/IEC 13818-1, 2.4.4; EN 300 468, 5.1).
 #![tactic(auto)]
 
+mod keys;
+mod reading;
 mod section;
 mod table;
+mod writing;
 
+pub use keys::{eit_numbers, key_of};
+pub use reading::{read_section, written_sections_read_back};
 pub use section::{BadSection, LongHeader, Section};
 pub use table::{Key, NumberedBodies, NumberedBody, SubTable, SubTables, Tables, Tier3};
+pub use writing::{write_long, write_short};

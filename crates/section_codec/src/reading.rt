@@ -1,0 +1,265 @@
+// Sections as they are read.
+ghost use Rattle.std.specs.Prelude.{◌≡◌, ◌+◌, ◌*◌, ◌<◌, ◌≤◌, true, false, length, IfOk, IfErr, IsOk};
+ghost use Rattle.section_codec.specs.Tables.{has_long_form};
+ghost use Rattle.section_codec.specs.Section.{section_in, is_long, kept_crc, found_crc, long_header, long_body, has_its_length, has_long_syntax, LongReadsBack, ShortReadsBack};
+
+use crate::section::{BadSection, LongHeader, Section};
+use si_base::{Items, crc32};
+use std::alloc::Global;
+
+/// The section that these bytes are (ISO/IEC 13818-1, 2.4.4; EN 300 468, 5.1.1). Of the refusals the
+/// first that applies is answered:
+/// - `Length`: fewer than 3 bytes, or not exactly those that section_length tells, or more than 4,096, or
+///   fewer than 12 in the long form;
+/// - `Crc(kept, found)`: in the long form the last four bytes are not the CRC of those before;
+/// - `Syntax`: a table in the other form than its own, or a number above the last.
+///
+/// `Memory` comes only for a section, where its body finds none.
+pub fn read_section(alloc: Global, bytes: &[u8]) -> Result<Section, BadSection>
+    ensures section { IfOk result (λ section. section_in bytes.now ≡ Ok section) }
+    ensures refused { IfErr (section_in bytes.now) (λ bad. result ≡ Err bad) }
+    ensures memory { IfErr result (λ bad. IsOk (section_in bytes.now) → bad ≡ BadSection.Memory) }
+{
+    if !has_its_length(bytes) {
+        return Err(BadSection::Length);
+    }
+    if is_long(bytes) {
+        read_long(alloc, bytes)
+    } else {
+        read_short(alloc, bytes)
+    }
+}
+
+// A section in the long form, of the right length.
+fn read_long(alloc: Global, bytes: &[u8]) -> Result<Section, BadSection>
+    requires length { has_its_length bytes.now ≡ true }
+    requires form { is_long bytes.now ≡ true }
+    ensures section { IfOk result (λ section. section_in bytes.now ≡ Ok section) }
+    ensures refused { IfErr (section_in bytes.now) (λ bad. result ≡ Err bad) }
+    ensures memory { IfErr result (λ bad. IsOk (section_in bytes.now) → bad ≡ BadSection.Memory) }
+{
+    let kept = kept_crc(bytes);
+    let found = found_crc(bytes);
+    if kept != found {
+        return Err(BadSection::Crc(kept, found));
+    }
+    if !has_long_syntax(bytes) {
+        return Err(BadSection::Syntax);
+    }
+    match Vec::from_slice(alloc, long_body(bytes)) {
+        Ok(body) => Ok(Section::Long(long_header(bytes), Items::of(body))),
+        Err(_) => Err(BadSection::Memory),
+    }
+}
+
+// A section in the short form, of the right length.
+fn read_short(alloc: Global, bytes: &[u8]) -> Result<Section, BadSection>
+    requires length { has_its_length bytes.now ≡ true }
+    requires form { is_long bytes.now ≡ false }
+    ensures section { IfOk result (λ section. section_in bytes.now ≡ Ok section) }
+    ensures refused { IfErr (section_in bytes.now) (λ bad. result ≡ Err bad) }
+    ensures memory { IfErr result (λ bad. IsOk (section_in bytes.now) → bad ≡ BadSection.Memory) }
+{
+    let table = bytes[0];
+    if has_long_form(table) {
+        return Err(BadSection::Syntax);
+    }
+    match Vec::from_slice(alloc, &bytes[3..]) {
+        Ok(body) => Ok(Section::Short(table, Items::of(body))),
+        Err(_) => Err(BadSection::Memory),
+    }
+}
+
+// Whether the bytes are those that section_length tells, and not too many or too few.
+fn has_its_length(bytes: &[u8]) -> bool
+    ensures { result ≡ has_its_length bytes.now }
+{
+    let len = bytes.len();
+    if len < 3 {
+        return false;
+    }
+    let told = u16::from_be_bytes([bytes[1], bytes[2]]) % 4096;
+    len == 3 + told as usize && len <= 4096 && (!is_long(bytes) || len >= 12)
+}
+
+// Whether section_syntax_indicator is 1.
+fn is_long(bytes: &[u8]) -> bool
+    requires { 1 < length bytes.now }
+    ensures { result ≡ is_long bytes.now }
+{
+    bytes[1] / 128 % 2 == 1
+}
+
+// The last four bytes, and the CRC of those before.
+fn kept_crc(bytes: &[u8]) -> u32
+    requires { 4 ≤ length bytes.now }
+    ensures { result ≡ kept_crc bytes.now }
+{
+    let at = bytes.len() - 4;
+    u32::from_be_bytes([bytes[at], bytes[at + 1], bytes[at + 2], bytes[at + 3]])
+}
+
+fn found_crc(bytes: &[u8]) -> u32
+    requires { 4 ≤ length bytes.now }
+    ensures { result ≡ found_crc bytes.now }
+{
+    let (before, _) = bytes.split_at(bytes.len() - 4);
+    crc32(before)
+}
+
+// Whether the table has the long form, and the number is not above the last.
+fn has_long_syntax(bytes: &[u8]) -> bool
+    requires { 8 ≤ length bytes.now }
+    ensures { result ≡ has_long_syntax bytes.now }
+{
+    bytes[0] != 0x70 && bytes[6] <= bytes[7]
+}
+
+fn long_header(bytes: &[u8]) -> LongHeader
+    requires { 8 ≤ length bytes.now }
+    ensures { result ≡ long_header bytes.now }
+{
+    LongHeader {
+        table: bytes[0],
+        ext: u16::from_be_bytes([bytes[3], bytes[4]]),
+        version: bytes[5] / 2 % 32,
+        current: bytes[5] % 2 == 1,
+        number: bytes[6],
+        last: bytes[7],
+    }
+}
+
+// What stands between the header and the CRC.
+fn long_body(bytes: &[u8]) -> &[u8]
+    requires { 12 ≤ length bytes.now }
+    ensures { result.now ≡ long_body bytes.now }
+{
+    let (_, behind) = bytes.split_at(8);
+    let (body, _) = behind.split_at(bytes.len() - 12);
+    body
+}
+
+// Whether the sections of this table have the long form.
+fn has_long_form(table: u8) -> bool
+    ensures { result ≡ has_long_form table }
+{
+    matches!(table, 0x00 | 0x02 | 0x40 | 0x42 | 0x46 | 0x4E..=0x6F)
+}
+
+/// Reading a written section gives it back.
+pub fn written_sections_read_back()
+    ensures long { LongReadsBack }
+    ensures short { ShortReadsBack }
+{}
+
+#[cfg(test)]
+mod tests {
+    use super::*;
+    use crate::keys::{eit_numbers, key_of};
+    use crate::writing::{write_long, write_short};
+    use std::test::Fail;
+
+    #[test]
+    fn sections_both_ways(rt: HostRuntime) -> Result<(), Fail> {
+        let sdt = b"\x00\x01\xFF\x00\x65\xFF\x80\x0D\x48\x0B\x01\x04Acme\x04News".as_slice();
+        let written = [
+            (
+                0x00,
+                1,
+                b"\x00\x00\xE0\x10\x00\x65\xE1\x00".as_slice(),
+                20,
+                0xD4FA_67AA,
+            ),
+            (0x42, 1, sdt, 33, 0xB582_AFDD),
+            (
+                0x50,
+                101,
+                b"\x00\x01\x00\x01\x00\x50".as_slice(),
+                18,
+                0x49C6_682B,
+            ),
+        ];
+        for (table, ext, body, len, crc) in written {
+            let header = LongHeader {
+                table,
+                ext,
+                version: 0,
+                current: true,
+                number: 0,
+                last: 0,
+            };
+            assert!(rt; header.table != 0x70 && body.len() <= 1012);
+            let bytes = write_long(rt.alloc(), &header, body)?;
+            let bytes = bytes.as_slice();
+            assert_eq!(rt; bytes.len(), len, "of table {table}");
+            assert_eq!(rt; crc32(bytes), 0, "of table {table}");
+            assert!(rt; len >= 4);
+            assert_eq!(rt; kept_crc(bytes), crc, "of table {table}");
+            match read_section(rt.alloc(), bytes) {
+                Ok(Section::Long(found, inner)) => {
+                    assert_eq!(rt; found, header);
+                    assert_eq!(rt; inner.as_slice(), body);
+                }
+                _other => assert!(rt; false, "table {table} is not read"),
+            }
+        }
+        Ok(())
+    }
+
+    #[test]
+    fn refusals_and_keys(rt: HostRuntime) -> Result<(), Fail> {
+        let pat = b"\x00\xB0\x0D\x00\x01\xC1\x00\x00\x00\x01\xF0\x00\x2A\xB1\x04\xB2".as_slice();
+        let above_last = b"\x00\xB0\x0D\x00\x01\xC1\x01\x00\x00\x01\xF0\x00\x31\x99\x09\xCA";
+        let other_crc = b"\x00\xB0\x0D\x00\x01\xC1\x00\x00\x00\x01\xF0\x00\x2A\xB1\x04\xB3";
+        let long_tdt = b"\x70\xF0\x09\x00\x01\xC1\x00\x00\x37\xE2\xCA\x56";
+        let short = write_short(rt.alloc(), 0x90, &[0x55; 4093])?;
+        let mut too_long = [0x55; 4097];
+        too_long[0] = 0x90;
+        too_long[1] = 0x7F;
+        too_long[2] = 0xFE;
+        let refused = [
+            (&pat[..15], BadSection::Length),
+            (&pat[..2], BadSection::Length),
+            (
+                b"\x00\xB0\x08\x00\x01\xC1\x00\x00\x00\x01\xF0".as_slice(),
+                BadSection::Length,
+            ),
+            (too_long.as_slice(), BadSection::Length),
+            (
+                other_crc.as_slice(),
+                BadSection::Crc(0x2AB1_04B3, 0x2AB1_04B2),
+            ),
+            (above_last.as_slice(), BadSection::Syntax),
+            (long_tdt.as_slice(), BadSection::Syntax),
+            (b"\x00\x70\x01\xFF".as_slice(), BadSection::Syntax),
+        ];
+        for (bytes, want) in refused {
+            match read_section(rt.alloc(), bytes) {
+                Err(bad) => assert_eq!(rt; bad, want),
+                Ok(_) => assert!(rt; false, "read, and not {want:?}"),
+            }
+        }
+        match read_section(rt.alloc(), short.as_slice()) {
+            Ok(Section::Short(0x90, body)) => assert_eq!(rt; body.len(), 4093),
+            _other => assert!(rt; false, "4,096 bytes are not read"),
+        }
+        let header = long_header(pat);
+        let Some(key) = key_of(0x0000, &header, &[]) else {
+            return Ok(assert!(rt; false, "the PAT has no key"));
+        };
+        assert_eq!(rt;
+            (key.pid, key.table, key.ext, key.stream, key.network),
+            (0, 0, 1, 0, 0)
+        );
+        assert_eq!(rt;
+            key_of(0x0010, &header, &[]),
+            None,
+            "the PAT on the PID of the NIT"
+        );
+        assert_eq!(rt;
+            eit_numbers(&header, &[0, 1, 0, 1, 8, 0x50]),
+            Some((8, 0x50))
+        );
+        Ok(())
+    }
+}

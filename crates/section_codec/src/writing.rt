@@ -1,0 +1,64 @@
+// Sections as they are written.
+ghost use Rattle.std.specs.Prelude.{◌≡◌, ◌≢◌, ◌<◌, ◌≤◌, length, false, IfOk};
+ghost use Rattle.section_codec.specs.Tables.{has_long_form};
+ghost use Rattle.section_codec.specs.Section.{section_bytes, short_bytes, longest_body, long_flags, current_bit};
+
+use crate::section::LongHeader;
+use si_base::{Bytes, Items, crc32};
+use std::alloc::{AllocError, Global};
+
+/// The bytes of a section in the long form, with its CRC (ISO/IEC 13818-1, 2.4.4; EN 300 468, 5.1.1).
+/// It needs a table other than the TDT's 0x70, a version below 32, a number at most the last one, and
+/// a body of at most 4,084 bytes for the event tables 0x4E to 0x6F and of 1,012 for others.
+pub fn write_long(alloc: Global, header: &LongHeader, body: &[u8]) -> Result<Bytes, AllocError>
+    requires form { header.now.table ≢ 0x70 }
+    requires version { header.now.version < 32 }
+    requires number { header.now.number ≤ header.now.last }
+    requires within { length body.now ≤ longest_body header.now.table }
+    ensures { IfOk result (λ bytes. bytes ≡ section_bytes header.now body.now) }
+{
+    let mut out = Vec::with_capacity(alloc, 12 + body.len())?;
+    let flags = long_flags(header.table) + 9 + body.len() as u16;
+    out.push(header.table)?;
+    out.extend_from_slice(&flags.to_be_bytes())?;
+    out.extend_from_slice(&header.ext.to_be_bytes())?;
+    out.push(0xC0 + 2 * header.version + current_bit(header.current))?;
+    out.push(header.number)?;
+    out.push(header.last)?;
+    out.extend_from_slice(body)?;
+    let crc = crc32(&out);
+    out.extend_from_slice(&crc.to_be_bytes())?;
+    Ok(Items::of(out))
+}
+
+/// The bytes of a section in the short form, which has no CRC (EN 300 468, 5.2.5). It needs a table
+/// that is none of PAT, PMT, NIT, SDT and EIT, and a body of at most 4,093 bytes.
+pub fn write_short(alloc: Global, table: u8, body: &[u8]) -> Result<Bytes, AllocError>
+    requires form { has_long_form table ≡ false }
+    requires within { length body.now ≤ 4093 }
+    ensures { IfOk result (λ bytes. bytes ≡ short_bytes table body.now) }
+{
+    let mut out = Vec::with_capacity(alloc, 3 + body.len())?;
+    let flags = 0x7000 + body.len() as u16;
+    out.push(table)?;
+    out.extend_from_slice(&flags.to_be_bytes())?;
+    out.extend_from_slice(body)?;
+    Ok(Items::of(out))
+}
+
+// The second and third byte, less section_length.
+fn long_flags(table: u8) -> u16
+    ensures { result ≡ long_flags table }
+{
+    if table == 0x00 || table == 0x02 {
+        0xB000
+    } else {
+        0xF000
+    }
+}
+
+fn current_bit(current: bool) -> u8
+    ensures { result ≡ current_bit current }
+{
+    if current { 1 } else { 0 }
+}
