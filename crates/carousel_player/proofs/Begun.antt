@@ -1,0 +1,85 @@
+-- Sections that were laid can be sent, and are those of the cycle.
+use Rattle.std.proofs.Common.{◌≡◌, ◌≢◌, ℕ, zero, suc, ◌+◌, ◌<◌, ◌≤◌, Bool, true, false, cond, List, [], ◌∷◌, ◌++◌, length, refl, sym, ap, ap₂, ◌∙◌, subst, arith, map, drop, length-append}
+use Rattle.std.specs.Prelude.{flat_map, ◌&&◌, nat_le}
+use Rattle.std.specs.List.{AllByRecursion, All}
+use Rattle.std.proofs.lemmas.List.Elements.{recursion_from_All}
+use Rattle.section_codec.specs.declared.section.LongHeader.{LongHeader}
+use Rattle.section_codec.specs.declared.table.NumberedBody.{NumberedBody}
+use Rattle.section_codec.specs.declared.table.SubTable.{SubTable}
+use Rattle.section_codec.specs.Section.{section_bytes, before_crc, longest_body}
+use Rattle.si_base.specs.Fields.{four}
+use Rattle.si_base.specs.Crc.{crc_of}
+use Rattle.section_codec.specs.Tables.{is_eit}
+use Rattle.version_book.specs.Airings.{Content, Airing, version_at}
+use Rattle.version_book.specs.Book.{aired, versions_of}
+use Rattle.ts_packets.specs.Packets.{packets_of}
+use Rattle.air_model.specs.Air.{Sent, sent_section, header_of, sections_of, cycle_sections}
+use Rattle.air_model.specs.Making.{each_alone}
+use Rattle.carousel_player.specs.declared.cycle.Placed.{Placed}
+use Rattle.carousel_player.specs.Laying.{IsPlaced, IsBegun, IsUnderWay, sent_at, places_from, AreLaid, sections_with}
+use Rattle.carousel_player.specs.Playing.{IsFit}
+use Rattle.carousel_player.proofs.Laid.{laid_sent}
+
+length-section : (h : LongHeader) (body : List ℕ) → length (section_bytes h body) ≡ 12 + length body
+length-section h body = omega (arith, length-append (before_crc h body) (four (crc_of (before_crc h body))))
+
+-- a section that can be sent
+record IsSendable (s : Sent) : Type 0 where
+  pid : s.pid < 8192
+  some : 1 ≤ length s.bytes
+  most : length s.bytes ≤ 4096
+
+longest : (b : Bool) → cond b 4084 1012 ≤ 4084
+longest true = omega arith
+longest false = omega arith
+
+sendable_sections : (v : ℕ) (t : SubTable) (ss : Content) → t.key.pid < 8192 → AllByRecursion (λ (s : NumberedBody). length s.body ≤ longest_body t.key.table) ss → AllByRecursion IsSendable (map (sent_section v t) ss)
+sendable_sections v t [] pid fit = tt
+sendable_sections v t (s ∷ ss) pid fit =
+    let size = length-section (header_of v t s) s.body in
+    let most : length s.body ≤ longest_body t.key.table = fit.0 in
+    let top : longest_body t.key.table ≤ 4084 = longest (is_eit t.key.table) in
+    (record { pid = pid; some = omega (arith, size); most = omega (arith, size) }, sendable_sections v t ss pid fit.1)
+
+all-append : (xs ys : List Sent) → AllByRecursion IsSendable xs → AllByRecursion IsSendable ys → AllByRecursion IsSendable (xs ++ ys)
+all-append [] ys p q = q
+all-append (x ∷ xs) ys p q = (p.0, all-append xs ys p.1 q)
+
+sendable : (vs : List ℕ) (ts : List SubTable) → AllByRecursion IsFit ts → AllByRecursion IsSendable (sections_with vs ts)
+sendable [] ts fit = tt
+sendable (v ∷ vs) [] fit = tt
+sendable (v ∷ vs) (t ∷ ts) fit =
+    all-append (sections_of v t) (sections_with vs ts) (sendable_sections v t t.sections fit.0.pid (recursion_from_All _ t.sections fit.0.bodies)) (sendable vs ts fit.1)
+
+placed_fit : (size start : ℕ) (ss : List Sent) → start + length (flat_map (λ (s : Sent). s.bytes) ss) ≤ size → AllByRecursion IsSendable ss → AllByRecursion (IsPlaced size) (places_from start ss)
+placed_fit size start [] le fit = tt
+placed_fit size start (s ∷ ss) le fit =
+    let all = flat_map (λ (x : Sent). x.bytes) ss in
+    let both = length-append s.bytes all in
+    (record { pid = fit.0.pid; some = fit.0.some; most = fit.0.most; within = omega (arith, both) }, placed_fit size (start + length s.bytes) ss (omega (arith, both)) fit.1)
+
+first_begun : (ss : List Sent) → AllByRecursion IsSendable ss → IsBegun 0 (places_from 0 ss)
+first_begun [] fit = refl
+first_begun (s ∷ ss) fit = omega (arith, fit.0.some)
+
+-- a cycle of laid sections can begin
+pub under_way : (vs : List ℕ) (ts : List SubTable) (bytes : List ℕ) (placed : List Placed) → AreLaid (sections_with vs ts) bytes placed → All IsFit ts → IsUnderWay (length bytes) placed 0 0
+under_way vs ts bytes placed h fit =
+    let ss = sections_with vs ts in
+    let can = sendable vs ts (recursion_from_All IsFit ts fit) in
+    record {
+      within = omega arith;
+      sections = subst (AllByRecursion (IsPlaced (length bytes))) (sym h.placed_are) (placed_fit (length bytes) 0 ss (omega (arith, ap length h.bytes_are)) can);
+      begun = subst (IsBegun 0) (sym h.placed_are) (first_begun ss can);
+    }
+
+versions_given : (f : SubTable → ℕ) (ts : List SubTable) → sections_with (map f ts) ts ≡ flat_map (λ (t : SubTable). sections_of (f t) t) ts
+versions_given f [] = refl
+versions_given f (t ∷ ts) = ap (λ (l : List Sent). sections_of (f t) t ++ l) (versions_given f ts)
+
+-- with the versions of the airing they are its cycle
+pub cycle_begun : (past : List Airing) (moment : ℕ) (vs : List ℕ) (ts : List SubTable) (bytes : List ℕ) (placed : List Placed) → AreLaid (sections_with vs ts) bytes placed → vs ≡ versions_of past ts moment
+    → each_alone (map (sent_at bytes) placed) ≡ each_alone (cycle_sections past (aired ts moment))
+cycle_begun past moment vs ts bytes placed h is =
+    ap each_alone (laid_sent (sections_with vs ts) bytes placed h ∙ ap (λ (l : List ℕ). sections_with l ts) is
+      ∙ versions_given (λ (t : SubTable). version_at t.key (past ++ aired ts moment ∷ [])) ts)

@@ -1,0 +1,5 @@
+pub mod Steps
+pub mod Laid
+pub mod Begun
+pub mod Sendings
+pub mod Plays

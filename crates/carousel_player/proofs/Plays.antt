@@ -1,0 +1,178 @@
+-- What a player stands for, from call to call.
+use Rattle.std.proofs.Common.{◌≡◌, ◌≢◌, ℕ, zero, suc, ◌+◌, ◌<◌, ◌≤◌, List, [], ◌∷◌, ◌++◌, Result, Ok, Err, Option, Some, length, refl, sym, ap, ap₂, ◌∙◌, subst, arith, map, take, append_assoc, append-nil, length-append}
+use Rattle.std.specs.Prelude.{flat_map, OnOk, OnErr}
+use Rattle.std.specs.List.{AllByRecursion, All}
+use Rattle.std.specs.Io.KnownBytes.{Appends}
+use Rattle.std.proofs.KnownBytes.{Appends-trans}
+use Rattle.std.proofs.Math.Seq.{take-append-add}
+use Rattle.si_causes.specs.Causes.{AppendsFront}
+use Rattle.std.proofs.lemmas.List.Elements.{recursion_from_All}
+use Rattle.section_codec.specs.declared.table.NumberedBody.{NumberedBody}
+use Rattle.section_codec.specs.declared.table.SubTable.{SubTable}
+use Rattle.version_book.specs.Airings.{Content, Airing, version_at}
+use Rattle.version_book.specs.Book.{KeptKeys, Stands, aired}
+use Rattle.ts_packets.specs.Packets.{Piece, pieces, alone}
+use Rattle.ts_packets.specs.Bytes.{Packet, HasFields, bytes_of_packet, packet_on, packets_alone}
+use Rattle.ts_packets.specs.Counting.{StandFor}
+use Rattle.air_model.specs.Air.{Sent, Aired, air, airings_of, IsAirOf, sent_section, sections_of, cycle_sections}
+use Rattle.air_model.specs.Making.{each_alone, count_behind, counted, cycle_alone}
+use Rattle.air_model.proofs.Counted.{PidsFit, counted-append, length-counted}
+use Rattle.air_model.proofs.Airs.{IsAirOf-none, air-push, airings_of-push, air_more-alone}
+use Rattle.carousel_player.specs.Sending.{Sends}
+use Rattle.carousel_player.specs.Playing.{IsFit, Playing, HasSent, AtEnd, Within, Begins, GaveUp}
+use Rattle.carousel_player.proofs.Sendings.{all-append, all-front}
+
+-- ---- a cycle begins
+
+abbrev PidFits : Packet → Type 0
+PidFits p = p.pid < 8192
+
+pids_on : (pid : ℕ) (ps : List Piece) → pid < 8192 → PidsFit (map (packet_on pid) ps)
+pids_on pid [] lt = tt
+pids_on pid (p ∷ ps) lt = (lt, pids_on pid ps lt)
+
+pids_alone : (ss : List Sent) → AllByRecursion (λ (s : Sent). s.pid < 8192) ss → PidsFit (each_alone ss)
+pids_alone [] h = tt
+pids_alone (s ∷ ss) h = all-append PidFits (packets_alone s.pid s.bytes) (each_alone ss) (pids_on s.pid (pieces [] (alone s.bytes)) h.0) (pids_alone ss h.1)
+
+pids_of : (v : ℕ) (t : SubTable) (ss : Content) (more : List Sent) → t.key.pid < 8192 → AllByRecursion (λ (s : Sent). s.pid < 8192) more → AllByRecursion (λ (s : Sent). s.pid < 8192) (map (sent_section v t) ss ++ more)
+pids_of v t [] more lt h = h
+pids_of v t (s ∷ ss) more lt h = (lt, pids_of v t ss more lt h)
+
+pids_sent : (f : SubTable → ℕ) (ts : List SubTable) → AllByRecursion IsFit ts → AllByRecursion (λ (s : Sent). s.pid < 8192) (flat_map (λ (t : SubTable). sections_of (f t) t) ts)
+pids_sent f [] fit = tt
+pids_sent f (t ∷ ts) fit = pids_of (f t) t t.sections (flat_map (λ (u : SubTable). sections_of (f u) u) ts) fit.0.pid (pids_sent f ts fit.1)
+
+pub begins : (xs : List Aired) (ts : List SubTable) (moment : ℕ) (old new : Playing) → AtEnd xs old → All IsFit ts → new.counters ≡ old.counters
+    → Stands (airings_of xs ++ aired ts moment ∷ []) new.book → new.left ≡ each_alone (cycle_sections (airings_of xs) (aired ts moment)) → Begins xs (aired ts moment) new
+begins xs ts moment old new end fit same stands left =
+    let a = aired ts moment in
+    let units = each_alone (cycle_sections (airings_of xs) a) in
+    let x : Aired = record { airing = a; packets = counted (air xs) units } in
+    let pids : PidsFit units = pids_alone (cycle_sections (airings_of xs) a) (pids_sent (λ (t : SubTable). version_at t.key (airings_of xs ++ a ∷ [])) ts (recursion_from_All IsFit ts fit)) in
+    let longer = airings_of-push xs x in
+    (x, refl, record {
+        is_air = subst (λ (l : List Airing). IsAirOf l (xs ++ x ∷ [])) (sym longer) (air_more-alone (airings_of xs) xs a end.is_air pids);
+        handed = [];
+        parts = refl;
+        sent = record {
+          versions = subst (λ (l : List Airing). Stands l new.book) (sym longer) stands;
+          counters = subst (λ (l : List Packet). StandFor (map bytes_of_packet l) new.counters) (sym (append-nil (air xs))) (subst (λ (c : List ℕ). StandFor (map bytes_of_packet (air xs)) c) (sym same) end.sent.counters);
+        };
+        rest_is = ap₂ counted (sym (append-nil (air xs))) (sym left);
+      })
+
+-- ---- packets are handed out
+
+
+fields_before : (xs : List Aired) (x : Aired) (rest : List Packet) (p : Playing) (w : Within xs x rest p) → AllByRecursion HasFields (air xs ++ w.handed)
+fields_before xs x rest p w =
+    let whole : air (xs ++ x ∷ []) ≡ (air xs ++ w.handed) ++ rest = air-push xs x ∙ ap (λ (l : List Packet). air xs ++ l) w.parts ∙ sym (append_assoc (air xs) w.handed rest) in
+    all-front HasFields (air xs ++ w.handed) rest (subst (AllByRecursion HasFields) whole w.is_air.fields)
+
+-- a front of the rest was handed out
+pub record HandsOut (xs : List Aired) (x : Aired) (rest : List Packet) (new : Playing) (bytes : List ℕ) (front left : List Packet) : Type 0 where
+  pub parts : rest ≡ front ++ left
+  pub bytes_are : bytes ≡ flat_map bytes_of_packet front
+  pub within : Within xs x left new
+
+pub hands_out : (xs : List Aired) (x : Aired) (rest : List Packet) (old new : Playing) (bytes : List ℕ) (w : Within xs x rest old) (s : Sends old.left new.left old.counters new.counters bytes) → new.book ≡ old.book
+    → HandsOut xs x rest new bytes (counted (air xs ++ w.handed) s.front) (counted ((air xs ++ w.handed) ++ counted (air xs ++ w.handed) s.front) new.left)
+hands_out xs x rest old new bytes w s same =
+    let past = air xs ++ w.handed in
+    let front = counted past s.front in
+    let left = counted (past ++ front) new.left in
+    let fields = fields_before xs x rest old w in
+    let cut : rest ≡ front ++ left = w.rest_is ∙ ap (counted past) s.cut ∙ counted-append past s.front new.left in
+    let behind : past ++ front ≡ air xs ++ (w.handed ++ front) = append_assoc (air xs) w.handed front in
+    record {
+      parts = cut;
+      bytes_are = s.bytes_are past fields w.sent.counters;
+      within = record {
+        is_air = w.is_air;
+        handed = w.handed ++ front;
+        parts = w.parts ∙ ap (λ (l : List Packet). w.handed ++ l) cut ∙ sym (append_assoc w.handed front left);
+        sent = record {
+          versions = subst (Stands (airings_of (xs ++ x ∷ []))) (sym same) w.sent.versions;
+          counters = subst (λ (l : List Packet). StandFor (map bytes_of_packet l) new.counters) behind (s.count past fields w.sent.counters);
+        };
+        rest_is = ap (λ (l : List Packet). counted l new.left) behind;
+      };
+    }
+
+-- the next packet was handed out
+pub next_came : (xs : List Aired) (x : Aired) (p : Packet) (rest : List Packet) (old new : Playing) (bytes : List ℕ) → Within xs x (p ∷ rest) old → Sends old.left new.left old.counters new.counters bytes
+    → length old.left ≡ suc (length new.left) → new.book ≡ old.book → (bytes ≡ bytes_of_packet p) × Within xs x rest new
+next_came xs x p rest old new bytes w s fewer same =
+    let past = air xs ++ w.handed in
+    let one : length (counted past s.front) ≡ 1 = length-counted past s.front ∙ omega (arith, ap length s.cut, length-append s.front new.left) in
+    go (counted past s.front) (counted (past ++ counted past s.front) new.left) one (hands_out xs x (p ∷ rest) old new bytes w s same)
+  where
+    go : (front left : List Packet) → length front ≡ 1 → HandsOut xs x (p ∷ rest) new bytes front left → (bytes ≡ bytes_of_packet p) × Within xs x rest new
+    go [] left e h = absurd (omega arith)
+    go (q ∷ r ∷ front) left e h = absurd (omega arith)
+    go (q ∷ []) left e h =
+        let parts : p ∷ rest ≡ q ∷ left = h.parts in
+        let first : q ≡ p = cc in
+        let others : left ≡ rest = cc in
+        (h.bytes_are ∙ append-nil (bytes_of_packet q) ∙ ap bytes_of_packet first, subst (λ (l : List Packet). Within xs x l new) others h.within)
+
+-- ---- the end
+
+-- what is left is what is still to come
+pub Within-end : (xs : List Aired) (x : Aired) (p : Playing) → Within xs x [] p → AtEnd (xs ++ x ∷ []) p
+Within-end xs x p w = record {
+    is_air = w.is_air;
+    sent = record {
+      versions = w.sent.versions;
+      counters = subst (λ (l : List Packet). StandFor (map bytes_of_packet l) p.counters)
+          (sym (air-push xs x ∙ ap (λ (l : List Packet). air xs ++ l) (w.parts ∙ append-nil w.handed))) w.sent.counters;
+    };
+    none = none p.left w.rest_is;
+  }
+  where
+    none : (left : List Packet) → [] ≡ counted (air xs ++ w.handed) left → left ≡ []
+    none [] e = refl
+    none (q ∷ left) e = cc
+
+pub Within-none : (xs : List Aired) (x : Aired) (rest : List Packet) (p : Playing) → Within xs x rest p → p.left ≡ [] → rest ≡ []
+Within-none xs x rest p w e = w.rest_is ∙ ap (counted (air xs ++ w.handed)) e
+
+-- ---- outcomes
+
+pub on_ok_both : {T E : Type 0} (r : Result T E) (A B C : Type 0) → OnOk r A → OnOk r B → (A → B → C) → OnOk r C
+on_ok_both (Ok y) A B C a b f = f a b
+on_ok_both (Err e) A B C a b f = tt
+
+pub on_err : {T E : Type 0} (r : Result T E) (A : Type 0) → A → OnErr r A
+on_err (Ok y) A a = tt
+on_err (Err e) A a = a
+
+-- all of the rest was handed out
+pub all_out : (xs : List Aired) (x : Aired) (rest : List Packet) (old new : Playing) (bytes : List ℕ) → Within xs x rest old → Sends old.left new.left old.counters new.counters bytes → new.book ≡ old.book → new.left ≡ []
+    → AtEnd (xs ++ x ∷ []) new × (bytes ≡ flat_map bytes_of_packet rest)
+all_out xs x rest old new bytes w s same none =
+    let past = air xs ++ w.handed in
+    let front = counted past s.front in
+    let h = hands_out xs x rest old new bytes w s same in
+    let ended : counted (past ++ front) new.left ≡ [] = ap (counted (past ++ front)) none in
+    let whole : rest ≡ front = h.parts ∙ ap (λ (l : List Packet). front ++ l) ended ∙ append-nil front in
+    (Within-end xs x new (subst (λ (l : List Packet). Within xs x l new) ended h.within), h.bytes_are ∙ ap (flat_map bytes_of_packet) (sym whole))
+
+-- a front behind what was appended is a front of all
+pub front_behind : (a b c : Option (List ℕ)) (sent due : List ℕ) → Appends a b sent → AppendsFront b c due → AppendsFront a c (sent ++ due)
+front_behind a b c sent due p q =
+    (length sent + q.0, omega (arith, q.1, length-append sent due),
+      subst (Appends a c) (sym (take-append-add sent due q.0)) (Appends-trans a b c sent (take q.0 due) p q.2))
+
+-- the sink failed behind a front of the rest
+pub gave_up : (xs : List Aired) (x : Aired) (rest : List Packet) (old new : Playing) (bytes : List ℕ) (a c : Option (List ℕ)) → Within xs x rest old → Sends old.left new.left old.counters new.counters bytes → new.book ≡ old.book
+    → AppendsFront a c bytes → GaveUp xs x rest a c new
+gave_up xs x rest old new bytes a c w s same front =
+    let past = air xs ++ w.handed in
+    let h = hands_out xs x rest old new bytes w s same in
+    (counted past s.front, counted (past ++ counted past s.front) new.left, h.parts, h.within, subst (AppendsFront a c) h.bytes_are front)
+
+pub none_left : (left : List Packet) → length left ≡ 0 → left ≡ []
+none_left [] e = refl
+none_left (p ∷ left) e = absurd (omega arith)

@@ -1,0 +1,66 @@
+-- Sections laid end to end, and the packets of them that are still to come.
+use Rattle.std.specs.Prelude.{◌≡◌, ℕ, ◌+◌, ◌<◌, ◌≤◌, List, [], ◌∷◌, ◌++◌, length, take, drop, map, flat_map}
+use Rattle.std.specs.List.{AllByRecursion}
+use Rattle.ts_packets.specs.Packets.{packets_of}
+use Rattle.ts_packets.specs.Bytes.{Packet, bytes_of_packet}
+use Rattle.section_codec.specs.declared.table.SubTable.{SubTable}
+use Rattle.version_book.specs.Airings.{Content}
+use Rattle.air_model.specs.Air.{Sent, sections_of}
+use Rattle.air_model.specs.Making.{each_alone}
+use Rattle.carousel_player.specs.declared.cycle.Placed.{Placed}
+
+-- a section stands within so many bytes, and can be sent
+pub record IsPlaced (size : ℕ) (p : Placed) : Type 0 where
+  pub pid : p.pid < 8192
+  pub some : 1 ≤ p.len
+  pub most : p.len ≤ 4096
+  pub within : p.start + p.len ≤ size
+
+abbrev pub sent_at : List ℕ → Placed → Sent
+sent_at bytes p = record { pid = p.pid; bytes = take p.len (drop p.start bytes) }
+
+-- the packets behind so many of the section at a place
+abbrev pub packets_left : List ℕ → List Placed → ℕ → ℕ → List Packet
+packets_left bytes placed at index = drop index (each_alone (map (sent_at bytes) (drop at placed)))
+
+-- fewer packets were sent of the first section than it has; none where there is no section
+abbrev pub IsBegun : ℕ → List Placed → Type 0
+IsBegun index [] = index ≡ 0
+IsBegun index (p ∷ ps) = index < packets_of p.len
+
+-- what is sent from a place on
+pub record IsUnderWay (size : ℕ) (placed : List Placed) (at index : ℕ) : Type 0 where
+  pub within : at ≤ length placed
+  pub sections : AllByRecursion (IsPlaced size) (drop at placed)
+  pub begun : IsBegun index (drop at placed)
+
+-- ---- laying
+
+-- the places of sections that stand end to end from a byte on
+abbrev pub places_from : ℕ → List Sent → List Placed
+places_from start [] = []
+places_from start (s ∷ ss) = record { pid = s.pid; start = start; len = length s.bytes } ∷ places_from (start + length s.bytes) ss
+
+-- These sections are laid end to end.
+pub record AreLaid (ss : List Sent) (bytes : List ℕ) (placed : List Placed) : Type 0 where
+  pub bytes_are : bytes ≡ flat_map (λ (s : Sent). s.bytes) ss
+  pub placed_are : placed ≡ places_from 0 ss
+
+-- the sections of sub-tables with these versions
+abbrev pub sections_with : List ℕ → List SubTable → List Sent
+sections_with [] ts = []
+sections_with (v ∷ vs) [] = []
+sections_with (v ∷ vs) (t ∷ ts) = sections_of v t ++ sections_with vs ts
+
+-- how many bytes the sections of a sub-table have, and those of all
+abbrev pub room_of : Content → ℕ
+room_of [] = 0
+room_of (s ∷ ss) = 12 + length s.body + room_of ss
+
+abbrev pub room_for : List SubTable → ℕ
+room_for [] = 0
+room_for (t ∷ ts) = room_of t.sections + room_for ts
+
+abbrev pub places_for : List SubTable → ℕ
+places_for [] = 0
+places_for (t ∷ ts) = length t.sections + places_for ts

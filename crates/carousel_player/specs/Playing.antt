@@ -1,0 +1,70 @@
+-- What a player stands for: the airings whose cycles it has sent, and how far it has come in the last.
+use Rattle.std.specs.Prelude.{◌≡◌, ◌≢◌, ℕ, ◌+◌, ◌<◌, ◌≤◌, List, [], ◌∷◌, ◌++◌, length, map, flat_map, Option}
+use Rattle.std.specs.List.{All}
+use Rattle.section_codec.specs.declared.table.NumberedBody.{NumberedBody}
+use Rattle.section_codec.specs.declared.table.SubTable.{SubTable}
+use Rattle.section_codec.specs.Section.{longest_body}
+use Rattle.version_book.specs.Airings.{Content, Airing}
+use Rattle.version_book.specs.Book.{KeptKeys, Stands, KeysDiffer}
+use Rattle.ts_packets.specs.Bytes.{Packet, bytes_of_packet}
+use Rattle.ts_packets.specs.Counting.{StandFor}
+use Rattle.air_model.specs.Air.{Aired, air, airings_of, IsAirOf}
+use Rattle.air_model.specs.Making.{counted}
+use Rattle.si_causes.specs.Causes.{AppendsFront}
+
+-- ---- what can be sent
+
+-- each number is above the one before
+abbrev pub Ascend : Content → Type 0
+Ascend [] = Unit {0}
+Ascend (s ∷ []) = Unit {0}
+Ascend (s ∷ t ∷ ss) = (s.number < t.number) × Ascend (t ∷ ss)
+
+-- a sub-table whose sections can be sent
+pub record IsFit (t : SubTable) : Type 0 where
+  pub pid : t.key.pid < 8192
+  pub form : t.key.table ≢ 0x70
+  pub some : 0 < length t.sections
+  pub ascending : Ascend t.sections
+  pub bodies : All (λ (s : NumberedBody). length s.body ≤ longest_body t.key.table) t.sections
+
+-- sub-tables that can be sent in one cycle
+pub record AreFit (tables : List SubTable) : Type 0 where
+  pub differ : KeysDiffer tables
+  pub each : All IsFit tables
+
+-- ---- the player
+
+-- what contracts see of a player: its version book, its counters, and the packets of the cycle that are still to come, not yet counted
+pub record Playing : Type 0 where
+  pub book : KeptKeys
+  pub counters : List ℕ
+  pub left : List Packet
+
+-- its versions stand for the airings of xs, and its counters for these packets
+pub record HasSent (xs : List Aired) (sent : List Packet) (player : Playing) : Type 0 where
+  pub versions : Stands (airings_of xs) player.book
+  pub counters : StandFor (map bytes_of_packet sent) player.counters
+
+-- It has handed out just this air, one whole cycle for each airing, and nothing is left.
+pub record AtEnd (xs : List Aired) (player : Playing) : Type 0 where
+  pub is_air : IsAirOf (airings_of xs) xs
+  pub sent : HasSent xs (air xs) player
+  pub none : player.left ≡ []
+
+-- It has handed out the air of xs, and of the cycle of x, which goes on with that air, all but these packets.
+pub record Within (xs : List Aired) (x : Aired) (rest : List Packet) (player : Playing) : Type 0 where
+  pub is_air : IsAirOf (airings_of (xs ++ x ∷ [])) (xs ++ x ∷ [])
+  pub handed : List Packet
+  pub parts : x.packets ≡ handed ++ rest
+  pub sent : HasSent (xs ++ x ∷ []) (air xs ++ handed) player
+  pub rest_is : rest ≡ counted (air xs ++ handed) player.left
+
+-- the cycle of an airing begins
+abbrev pub Begins : List Aired → Airing → Playing → Type 0
+Begins xs a player = (x : Aired) × (x.airing ≡ a) × Within xs x x.packets player
+
+-- A sink failed: some of the packets were handed out, and it took a front of their bytes.
+abbrev pub GaveUp : List Aired → Aired → List Packet → Option (List ℕ) → Option (List ℕ) → Playing → Type 0
+GaveUp xs x rest old new player =
+    (handed left : List Packet) × (rest ≡ handed ++ left) × Within xs x left player × AppendsFront old new (flat_map bytes_of_packet handed)

@@ -1,0 +1,133 @@
+// A cycle that is being sent: its sections, laid end to end, and how far it has come.
+ghost use Rattle.std.specs.Prelude.{◌≡◌, ◌+◌, ◌≤◌, ◌<◌, [], ◌∷◌, ◌++◌, ◌==◌, List, ℕ, length, map, take, drop, Some, slice_get, vec_len, vec_capacity, OnOk, OnErr};
+ghost use Rattle.ts_packets.specs.Packets.{packets_of};
+ghost use Rattle.ts_packets.specs.Bytes.{bytes_of_packet, packets_alone};
+ghost use Rattle.section_codec.specs.declared.table.SubTable.{SubTable};
+ghost use Rattle.version_book.specs.Airings.{Airing};
+ghost use Rattle.version_book.specs.Book.{Stands, aired};
+ghost use Rattle.air_model.specs.Air.{cycle_sections};
+ghost use Rattle.air_model.specs.Making.{each_alone};
+ghost use Rattle.carousel_player.specs.Laying.{IsPlaced, room_for, places_for};
+ghost use Rattle.carousel_player.specs.Sending.{PutsFirst};
+ghost use Rattle.carousel_player.specs.Playing.{AreFit};
+
+use crate::laying::{lay_tables, room_for};
+use section_codec::{SubTable, Tables};
+use std::alloc::{AllocError, Global};
+use std::marker::Model;
+use ts_packets::{packets_of, put_packet};
+use version_book::VersionBook;
+
+/// A section of the cycle: its PID, and where its bytes stand.
+#[derive(Debug, Clone, Copy, PartialEq, Eq)]
+pub(crate) struct Placed {
+    pub(crate) pid: u16,
+    pub(crate) start: usize,
+    pub(crate) len: usize,
+}
+
+// The sections, the place of the one that is being sent, and how many of its packets were sent. Contracts see the
+// packets still to come, before they are counted.
+#[derive(Drop)]
+pub(crate) struct Cycle {
+    bytes: Vec<u8>,
+    placed: Vec<Placed>,
+    at: usize,
+    index: u32,
+}
+
+impl Model for Cycle {
+    ghost use Rattle.std.specs.Prelude.{List, length};
+    ghost use Rattle.ts_packets.specs.Bytes.{Packet};
+    ghost use Rattle.carousel_player.specs.Laying.{packets_left, IsUnderWay};
+
+    ghost Value = { List Packet };
+
+    ghost view = { λ c. packets_left c.bytes.items c.placed.items c.at c.index };
+
+    ghost invariant = { λ c. IsUnderWay (length c.bytes.items) c.placed.items c.at c.index };
+}
+
+impl Cycle {
+    /// The end of a cycle.
+    pub(crate) fn ended(alloc: Global) -> Cycle
+        ensures { result ≡ [] }
+    {
+        Cycle {
+            bytes: Vec::new(alloc),
+            placed: Vec::new(alloc),
+            at: 0,
+            index: 0,
+        }
+    }
+
+    /// Whether no packet is to come.
+    pub(crate) fn is_ended(&self) -> bool
+        ensures { result ≡ (length self.now == 0) }
+    {
+        self.at == self.placed.len()
+    }
+
+    /// Begins the cycle of these sub-tables, with the versions that the book gives them. All memory is taken first.
+    pub(crate) fn begin(&mut self, book: &mut VersionBook, tables: &Tables) -> Result<(), AllocError>
+        requires ended { self.old ≡ [] }
+        requires fit { AreFit tables.now.list }
+        ensures versions { OnOk result ((past : List Airing) (moment : ℕ) → Stands past book.old → Stands (past ++ aired tables.now.list moment ∷ []) book.new) }
+        ensures begun { OnOk result ((past : List Airing) (moment : ℕ) → Stands past book.old → self.new ≡ each_alone (cycle_sections past (aired tables.now.list moment))) }
+        ensures ended { OnErr result (self.new ≡ self.old) }
+        ensures kept { OnErr result (book.new ≡ book.old) }
+    {
+        self.at = 0;
+        self.index = 0;
+        let list = tables.list.as_slice();
+        take_room(&mut self.bytes, &mut self.placed, list)?;
+        let versions = book.assign(tables)?;
+        lay_tables(&mut self.bytes, &mut self.placed, list, versions.as_slice());
+        Ok(())
+    }
+
+    /// Writes the next packet over 188 bytes, not yet counted.
+    pub(crate) fn put_next(&mut self, into: &mut [u8])
+        requires room { length into.old ≡ 188 }
+        requires some { 0 < length self.old }
+        ensures { PutsFirst self.old self.new into.new }
+    {
+        let placed = self.placed[self.at];
+        put_placed(&self.bytes, placed, self.index, into);
+        if self.index + 1 < packets_of(placed.len) {
+            self.index += 1;
+        } else {
+            self.at += 1;
+            self.index = 0;
+        }
+    }
+}
+
+// Writes a packet of a section over 188 bytes.
+fn put_placed(bytes: &[u8], placed: Placed, index: u32, into: &mut [u8])
+    requires room { length into.old ≡ 188 }
+    requires placed { IsPlaced (length bytes.now) placed }
+    requires index { index < packets_of placed.len }
+    ensures { slice_get (map bytes_of_packet (packets_alone placed.pid (take placed.len (drop placed.start bytes.now)))) index ≡ Some into.new }
+{
+    let (_, from) = bytes.split_at(placed.start);
+    let (section, _) = from.split_at(placed.len);
+    put_packet(into, placed.pid, section, index);
+}
+
+// Empties the buffers and takes the memory for the sections of these sub-tables.
+fn take_room(bytes: &mut Vec<u8>, placed: &mut Vec<Placed>, tables: &[SubTable]) -> Result<(), AllocError>
+    ensures bytes { bytes.new.items ≡ [] }
+    ensures placed { placed.new.items ≡ [] }
+    ensures room { OnOk result (vec_len bytes.new + room_for tables.now ≤ vec_capacity bytes.new) }
+    ensures places { OnOk result (vec_len placed.new + places_for tables.now ≤ vec_capacity placed.new) }
+{
+    bytes.clear();
+    placed.clear();
+    let Some((size, places)) = room_for(tables) else {
+        return Err(AllocError);
+    };
+    bytes.reserve(size)?;
+    placed.reserve(places)?;
+    Ok(())
+}

@@ -1,0 +1,143 @@
+// Sections laid end to end in one buffer.
+ghost use Rattle.std.specs.Prelude.{◌≡◌, ◌≢◌, ◌+◌, ◌<◌, ◌≤◌, ◌++◌, [], ◌∷◌, List, ℕ, length, vec_len, vec_capacity, IfSome, if◌then◌else◌};
+ghost use Rattle.std.specs.List.{All};
+ghost use Rattle.section_codec.specs.Section.{section_bytes, long_flags, current_bit, longest_body};
+ghost use Rattle.air_model.specs.Air.{Sent, last_number, header_of, sent_section, sections_of};
+ghost use Rattle.carousel_player.specs.Laying.{AreLaid, sections_with, room_of, room_for, places_for};
+ghost use Rattle.carousel_player.specs.Playing.{IsFit};
+
+use crate::cycle::Placed;
+use section_codec::{LongHeader, NumberedBody, SubTable};
+use si_base::crc32;
+
+/// How many bytes the sections of these sub-tables have and how many sections there are, where these numbers fit.
+pub(crate) fn room_for(tables: &[SubTable]) -> Option<(usize, usize)>
+    ensures { IfSome result (λ room. (room.0 ≡ room_for tables.now) × (room.1 ≡ places_for tables.now)) }
+{
+    let mut bytes: usize = 0;
+    let mut places: usize = 0;
+    for table in tables {
+        let sections = table.sections.as_slice();
+        bytes = bytes.checked_add(room_of(sections)?)?;
+        places = places.checked_add(sections.len())?;
+    }
+    Some((bytes, places))
+}
+
+fn room_of(sections: &[NumberedBody]) -> Option<usize>
+    ensures { IfSome result (λ room. room ≡ room_of sections.now) }
+{
+    let mut bytes: usize = 0;
+    for section in sections {
+        bytes = bytes.checked_add(12)?.checked_add(section.body.len())?;
+    }
+    Some(bytes)
+}
+
+/// Lays the sections of these sub-tables, each with its version, behind those that are laid. It takes no memory.
+pub(crate) fn lay_tables(bytes: &mut Vec<u8>, placed: &mut Vec<Placed>, tables: &[SubTable], versions: &[u8])
+    requires fit { All IsFit tables.now }
+    requires versions { All (λ v. v < 32) versions.now }
+    requires room { vec_len bytes.old + room_for tables.now ≤ vec_capacity bytes.old }
+    requires places { vec_len placed.old + places_for tables.now ≤ vec_capacity placed.old }
+    ensures { (ss : List Sent) → AreLaid ss bytes.old.items placed.old.items → AreLaid (ss ++ sections_with versions.now tables.now) bytes.new.items placed.new.items }
+{
+    for (table, version) in tables.iter().zip(versions) {
+        lay_table(bytes, placed, table, *version);
+    }
+}
+
+fn lay_table(bytes: &mut Vec<u8>, placed: &mut Vec<Placed>, table: &SubTable, version: u8)
+    requires fit { IsFit table.now }
+    requires version { version < 32 }
+    requires room { vec_len bytes.old + room_of table.now.sections ≤ vec_capacity bytes.old }
+    requires places { vec_len placed.old + length table.now.sections ≤ vec_capacity placed.old }
+    ensures laid { (ss : List Sent) → AreLaid ss bytes.old.items placed.old.items → AreLaid (ss ++ sections_of version table.now) bytes.new.items placed.new.items }
+    ensures bytes_len { vec_len bytes.new ≡ vec_len bytes.old + room_of table.now.sections }
+    ensures bytes_capacity { vec_capacity bytes.old ≤ vec_capacity bytes.new }
+    ensures placed_len { vec_len placed.new ≡ vec_len placed.old + length table.now.sections }
+    ensures placed_capacity { vec_capacity placed.old ≤ vec_capacity placed.new }
+{
+    let sections = table.sections.as_slice();
+    let last = last_number(sections);
+    for section in sections {
+        let header = LongHeader {
+            table: table.key.table,
+            ext: table.key.ext,
+            version,
+            current: true,
+            number: section.number,
+            last,
+        };
+        lay_section(bytes, placed, table.key.pid, &header, section.body.as_slice());
+    }
+}
+
+fn last_number(sections: &[NumberedBody]) -> u8
+    ensures { result ≡ last_number sections.now }
+{
+    match sections.last() {
+        Some(section) => section.number,
+        None => 0,
+    }
+}
+
+fn lay_section(bytes: &mut Vec<u8>, placed: &mut Vec<Placed>, pid: u16, header: &LongHeader, body: &[u8])
+    requires version { header.now.version < 32 }
+    requires within { length body.now ≤ 4084 }
+    requires room { vec_len bytes.old + (12 + length body.now) ≤ vec_capacity bytes.old }
+    requires place { vec_len placed.old < vec_capacity placed.old }
+    ensures laid { (ss : List Sent) → AreLaid ss bytes.old.items placed.old.items → AreLaid (ss ++ record { pid = pid; bytes = section_bytes header.now body.now } ∷ []) bytes.new.items placed.new.items }
+    ensures bytes_len { vec_len bytes.new ≡ vec_len bytes.old + (12 + length body.now) }
+    ensures bytes_capacity { vec_capacity bytes.old ≤ vec_capacity bytes.new }
+    ensures placed_len { vec_len placed.new ≡ vec_len placed.old + 1 }
+    ensures placed_capacity { vec_capacity placed.old ≤ vec_capacity placed.new }
+{
+    let start = bytes.len();
+    put_section(bytes, header, body);
+    let len = bytes.len() - start;
+    placed.push(Placed { pid, start, len }).unwrap();
+}
+
+// Appends the bytes of a section in the long form to a buffer that has room for them, so that it takes no memory.
+fn put_section(out: &mut Vec<u8>, header: &LongHeader, body: &[u8])
+    requires version { header.now.version < 32 }
+    requires within { length body.now ≤ 4084 }
+    requires room { vec_len out.old + (12 + length body.now) ≤ vec_capacity out.old }
+    ensures items { out.new.items ≡ out.old.items ++ section_bytes header.now body.now }
+    ensures len { vec_len out.new ≡ vec_len out.old + (12 + length body.now) }
+    ensures capacity { vec_capacity out.old ≤ vec_capacity out.new }
+{
+    let start = out.len();
+    let length = long_flags(header.table) + 9 + body.len() as u16;
+    put(out, &[header.table]);
+    put(out, &length.to_be_bytes());
+    put(out, &header.ext.to_be_bytes());
+    put(out, &[0xC0 + 2 * header.version + current_bit(header.current), header.number, header.last]);
+    put(out, body);
+    let (_, section) = out.as_slice().split_at(start);
+    let crc = crc32(section);
+    put(out, &crc.to_be_bytes());
+}
+
+fn put(out: &mut Vec<u8>, bytes: &[u8])
+    requires room { vec_len out.old + length bytes.now ≤ vec_capacity out.old }
+    ensures items { out.new.items ≡ out.old.items ++ bytes.now }
+    ensures len { vec_len out.new ≡ vec_len out.old + length bytes.now }
+    ensures capacity { vec_capacity out.old ≤ vec_capacity out.new }
+{
+    out.extend_from_slice(bytes).unwrap();
+}
+
+// The second and third byte of a section, less section_length.
+fn long_flags(table: u8) -> u16
+    ensures { result ≡ long_flags table }
+{
+    if table == 0x00 || table == 0x02 { 0xB000 } else { 0xF000 }
+}
+
+fn current_bit(current: bool) -> u8
+    ensures { result ≡ current_bit current }
+{
+    if current { 1 } else { 0 }
+}

@@ -1,0 +1,108 @@
+// The player.
+ghost use Rattle.std.specs.Prelude.{◌≡◌, ◌≤◌, ◌↔◌, ◌++◌, [], ◌∷◌, List, ℕ, Some, IsTrue, IsNone, IfNone, IsOk, OnOk, OnErr, flat_map};
+ghost use Rattle.std.specs.Io.KnownBytes.{Appends};
+ghost use Rattle.si_causes.specs.Causes.{HasCause};
+ghost use Rattle.ts_packets.specs.Bytes.{Packet, bytes_of_packet};
+ghost use Rattle.version_book.specs.Book.{aired};
+ghost use Rattle.air_model.specs.Air.{Aired};
+ghost use Rattle.carousel_player.specs.Playing.{AtEnd, Within, Begins, GaveUp, AreFit};
+
+use crate::cycle::Cycle;
+use crate::sending::{BATCH, fill};
+use section_codec::Tables;
+use si_causes::{Failed, Sink, write_all};
+use si_time::Moment;
+use std::alloc::{AllocError, Global};
+use std::marker::Model;
+use ts_packets::{Counters, TsPacket};
+use version_book::VersionBook;
+
+/// A player of cycles. It stands for the air that it has handed out: the cycles of all airings swapped to, the last one
+/// as far as it has come. Versions and continuity counters go on over all cycles.
+#[derive(Drop)]
+pub struct Player {
+    book: VersionBook,
+    counters: Counters,
+    cycle: Cycle,
+    buffer: [u8; BATCH],
+}
+
+impl Model for Player {
+    ghost use Rattle.carousel_player.specs.Playing.{Playing};
+
+    ghost Value = { Playing };
+
+    ghost view = { λ p. record { book = p.book; counters = p.counters; left = p.cycle } };
+}
+
+impl Player {
+    /// A player that has handed out nothing and is at its end. The quota, in packets from 1 to 10,000, is that of the
+    /// runs of a cycle. It takes no memory.
+    pub fn open(alloc: Global, quota: u32) -> Player
+        requires some { 1 ≤ quota }
+        requires most { quota ≤ 10000 }
+        ensures { AtEnd [] result }
+    {
+        Player {
+            book: VersionBook::open(alloc),
+            counters: Counters::open(),
+            cycle: Cycle::ended(alloc),
+            buffer: [0; BATCH],
+        }
+    }
+
+    /// Begins the cycle of one airing more: of these sub-tables, of the publication with this number, at the moment of
+    /// the swap. It needs a player at its end, and sub-tables whose keys differ, with PIDs below 8,192, each with at
+    /// least one section, ascending numbers and bodies that fit a section in the long form. All memory is taken first:
+    /// where it is wanted, the player stays as it was, at its end.
+    pub fn swap(&mut self, tables: Tables, number: u64, moment: Moment) -> Result<(), AllocError>
+        requires at_end { self.old.left ≡ [] }
+        requires fit { AreFit tables.list }
+        ensures begun { (xs : List Aired) → AtEnd xs self.old → OnOk result (Begins xs (aired tables.list moment.0) self.new) }
+        ensures memory { OnErr result (self.new ≡ self.old) }
+    {
+        self.cycle.begin(&mut self.book, &tables)
+    }
+
+    /// Whether the cycle has ended: nothing of it is to come.
+    pub fn at_end(&self) -> bool
+        ensures { IsTrue result ↔ (self.now.left ≡ []) }
+    {
+        self.cycle.is_ended()
+    }
+
+    /// The next packet of the cycle, or None at its end. It takes no memory.
+    pub fn next_packet(&mut self) -> Option<TsPacket>
+        ensures came { (xs : List Aired) (x : Aired) (p : Packet) (rest : List Packet) → Within xs x (p ∷ rest) self.old
+            → (result ≡ Some (record { 0 = bytes_of_packet p })) × Within xs x rest self.new }
+        ensures none { IsNone result ↔ (self.old.left ≡ []) }
+        ensures kept { IfNone result (self.new ≡ self.old) }
+    {
+        if self.cycle.is_ended() {
+            return None;
+        }
+        let mut packet = TsPacket([0; 188]);
+        self.cycle.put_next(&mut packet.0);
+        self.counters.stamp(&mut packet);
+        Some(packet)
+    }
+
+    /// Writes all that remains of the cycle into a sink, many packets at a time. Failed comes only where the sink's
+    /// count of faults rose: then some packets were handed out, and the sink has a front of their bytes. It takes no
+    /// memory.
+    pub fn play_cycle<A: Sink>(&mut self, sink: &mut A) -> Result<(), Failed>
+        ensures done { (xs : List Aired) (x : Aired) (rest : List Packet) → Within xs x rest self.old
+            → OnOk result (AtEnd (xs ++ x ∷ []) self.new × Appends (A.written sink.old) (A.written sink.new) (flat_map bytes_of_packet rest)) }
+        ensures failed { (xs : List Aired) (x : Aired) (rest : List Packet) → Within xs x rest self.old
+            → OnErr result (GaveUp xs x rest (A.written sink.old) (A.written sink.new) self.new) }
+        ensures idle { self.old.left ≡ [] → IsOk result × (self.new ≡ self.old) × (sink.new ≡ sink.old) }
+        ensures cause { HasCause (A.faults sink.old) (A.faults sink.new) result }
+    {
+        'batches: while !self.cycle.is_ended() {
+            let count = fill(&mut self.cycle, &mut self.counters, &mut self.buffer);
+            let (due, _) = self.buffer.split_at(count);
+            write_all(sink, due)?;
+        }
+        Ok(())
+    }
+}
