@@ -2,3 +2,5 @@ pub mod Numerals
 pub mod Plain
 pub mod Eight
 pub mod BlockFacts
+pub mod AirFacts
+pub mod SwapFacts

@@ -4,4 +4,5 @@ pub mod Script
 pub mod Texts
 pub mod Air
 pub mod Reads
+pub mod Played
 pub mod Rows

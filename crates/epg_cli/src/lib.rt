@@ -4,6 +4,7 @@
 mod block;
 mod fields;
 mod lines;
+mod play;
 mod records;
 mod report;
 mod sdt;
