@@ -3,7 +3,8 @@ ghost use Rattle.std.specs.Prelude.{◌≡◌, ◌≤◌, ◌-◌, ◌↔◌, []
 ghost use Rattle.std.specs.Io.{ReadsAtMost};
 ghost use Rattle.std.specs.Io.KnownBytes.{ReadConsumes};
 ghost use Rattle.si_causes.specs.Causes.{HasCause, Rose, TakesSome};
-ghost use Rattle.si_causes.specs.Memory.{no_calls, fails_next, and_call, and_failed, raised, read_answer, read_after, write_after};
+ghost use Rattle.si_causes.specs.Memory.{no_calls, fails_next, and_call, and_failed, raised};
+ghost use Rattle.si_causes.specs.Memory.{read_answer, read_after, write_after};
 
 use crate::causes::{Failed, Sink, Source};
 use std::alloc::Global;

@@ -40,9 +40,18 @@ impl<S: Source> Model for LineReader<S> {
 
     ghost Value = { Reading S };
 
-    ghost view = { λ r. record { source = r.source; held = r.held; passed = r.passed; number = r.number; line = r.line; ended = r.ended; stop = r.stop } };
+    ghost view = { λ r. record {
+      source = r.source;
+      held = r.held;
+      passed = r.passed;
+      number = r.number;
+      line = r.line;
+      ended = r.ended;
+      stop = r.stop;
+    } };
 
-    ghost invariant = { λ r. (r.passed + length r.held ≤ 67108864) × (r.number ≤ r.passed) × (r.ended ≡ true → (r.held ≡ []) × IsAtEnd (S.left r.source)) };
+    ghost invariant = { λ r. (r.passed + length r.held ≤ 67108864) × (r.number ≤ r.passed)
+        × (r.ended ≡ true → (r.held ≡ []) × IsAtEnd (S.left r.source)) };
 }
 
 impl<S: Source> LineReader<S> {
@@ -75,7 +84,8 @@ impl<S: Source> LineReader<S> {
         ensures came { self.old.stop ≡ None → NextCame S.left S.faults self.old self.new result }
         ensures falls { Falls self.old self.new result }
         ensures end { result ≡ Ok None → IsAtEnd (S.left self.new.source) }
-        ensures over { self.old.stop ≡ None → self.old.ended ≡ true → (result ≡ Ok None) × (self.new ≡ self.old) }
+        ensures over { self.old.stop ≡ None → self.old.ended ≡ true
+            → (result ≡ Ok None) × (self.new ≡ self.old) }
         ensures sticky { IfSome self.old.stop (λ stop. (result ≡ Err stop) × (self.new ≡ self.old)) }
         ensures lazy { has_end self.old.held ≡ true → self.new.source ≡ self.old.source }
         ensures later { S.faults self.old.source ≤ S.faults self.new.source }
