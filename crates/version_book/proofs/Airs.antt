@@ -1,10 +1,10 @@
 -- One airing more: what is given to a book that stands for the airings before.
-use Rattle.std.proofs.Common.{◌≡◌, ◌≢◌, ℕ, zero, suc, ◌+◌, ◌%◌, List, [], ◌∷◌, ◌++◌, Bool, true, false, refl, sym, ap, ◌∙◌, arith, append-nil}
-use Rattle.std.specs.Prelude.{if◌then◌else◌, option_to_list, Option, Some, None, map}
+use Rattle.std.proofs.Common.{◌≡◌, ℕ, ◌+◌, ◌%◌, List, [], ◌∷◌, ◌++◌, Bool, true, false, refl, sym, ap, ◌∙◌, arith, append-nil}
+use Rattle.std.specs.Prelude.{if◌then◌else◌, option_to_list, Option, Some, map}
 use Rattle.std.specs.List.{AllByRecursion}
 use Rattle.section_codec.specs.declared.table.Key.{Key}
 use Rattle.section_codec.specs.declared.table.SubTable.{SubTable}
-use Rattle.version_book.specs.Airings.{Content, Airing, is_key, is_content, content_in, content_at, carried, changes_after, changes, version_at}
+use Rattle.version_book.specs.Airings.{Content, Airing, is_key, is_content, content_in, carried, changes_after, changes, version_at}
 use Rattle.version_book.specs.Book.{Kept, last_of, kept_after, Lacks, KeysDiffer, aired, versions_of}
 use Rattle.version_book.specs.Slots.{next_version, given_after}
 use Rattle.version_book.proofs.Versions.{is_key-same, is_key-itself, is_key-apart, changes_after-push, last_of-push, carried-push}
@@ -75,8 +75,8 @@ unfolding AreOwn
 each_version past f before all moment [] own = refl
 each_version past f before all moment (t ∷ ts) own =
     let one : version_at t.key (past ++ aired all moment ∷ []) ≡ next_version (f t.key) t.sections =
-      ap (λ (cs : List Content). changes cs % 32) (carried-push t.key past (aired all moment) ∙ ap (λ (o : Option Content). carried t.key past ++ option_to_list o) own.0)
-      ∙ next_version-is (carried t.key past) t.sections ∙ ap (λ (o : Option Kept). next_version o t.sections) (sym (before t.key)) in
+    ap (λ (cs : List Content). changes cs % 32) (carried-push t.key past (aired all moment) ∙ ap (λ (o : Option Content). carried t.key past ++ option_to_list o) own.0)
+    ∙ next_version-is (carried t.key past) t.sections ∙ ap (λ (o : Option Kept). next_version o t.sections) (sym (before t.key)) in
     let rest = each_version past f before all moment ts own.1 in
     ap (λ (n : ℕ). n ∷ map (λ (t : SubTable). next_version (f t.key) t.sections) ts) (sym one)
     ∙ ap (λ (ns : List ℕ). version_at t.key (past ++ aired all moment ∷ []) ∷ ns) rest
