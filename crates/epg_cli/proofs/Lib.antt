@@ -4,3 +4,4 @@ pub mod Eight
 pub mod BlockFacts
 pub mod AirFacts
 pub mod SwapFacts
+pub mod RestFacts
