@@ -1,6 +1,6 @@
 // Moments.
-ghost use Rattle.std.specs.Prelude.{◌≡◌, ◌+◌, ◌*◌, ◌/◌, ◌%◌, ◌<◌, ◌↔◌, ℕ, IfSome, IsSome, Some, option_map, take};
-ghost use Rattle.si_time.specs.Dates.{IsOnlyDateOf};
+ghost use Rattle.std.specs.Prelude.{◌≡◌, ◌+◌, ◌*◌, ◌/◌, ◌%◌, ◌<◌, ◌≤◌, ◌↔◌, ℕ, IfSome, IsSome, Some, option_map, take};
+ghost use Rattle.si_time.specs.Dates.{IsOnlyDateOf, annex_c};
 ghost use Rattle.si_time.specs.Moments.{civil_date, moment_text, moment_bcd};
 ghost use Rattle.si_time.specs.Readings.{moment_in, day_in, moment_from_bcd, IsMomentText, IsDayText};
 
@@ -54,6 +54,8 @@ pub fn write_moment(at: Moment) -> [u8; 20]
     requires { at.0 < 65536 * 86400 }
     ensures text { result ≡ moment_text at.0 }
     ensures date { IsOnlyDateOf (at.0 / 86400) (civil_date (at.0 / 86400)) }
+    // From 1 March 1900 on the standard's own formula gives the day number too.
+    ensures annex_c { 15079 ≤ at.0 / 86400 → annex_c (civil_date (at.0 / 86400)) ≡ at.0 / 86400 }
 {
     let (year, month, day) = date_of((at.0 / 86_400) as u16);
     let second = (at.0 % 86_400) as u32;
