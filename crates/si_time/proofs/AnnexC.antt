@@ -8,7 +8,7 @@ use Rattle.jiff_core.proofs.CalendarLemmas.{day_count-lt_year, day_count-lt_mont
 use Rattle.jiff_core.proofs.MarchLemmas.{day_count-early, day_count-late}
 use Rattle.jiff_core.proofs.SignedLemmas.{signed_arith}
 use Rattle.si_time.specs.Moments.{civil_date}
-use Rattle.si_time.specs.Dates.{IsDateOf, annex_c}
+use Rattle.si_time.specs.Dates.{annex_c}
 use Rattle.si_time.proofs.DateFacts.{civil_date-is, is_civil, mjd_back, civil_year}
 
 -- 122 days and the days from 1 March to the first of a month from 3 to 14
@@ -34,8 +34,8 @@ day_count-march_1900 = day_count-late (pos 1900) 11900 3 1 refl (omega arith) (o
 annex_c-from_1900 : (y m d n : ℕ) → IsCivilDate (pos y) m d → 1900 ≤ y → y < 2039 → day_count (pos y) m d ≡ n + 4_331_366 → 15079 ≤ n → annex_c (y, m, d) ≡ n
 annex_c-from_1900 y m d n civil low high e h = by_lt_z (pos m) (pos 3)
     (λ lt. by_lt_z (pos 1900) (pos y)
-        (λ later. annex_c-early y m d n (omega (arith, signed_arith)) high civil.1.0 (omega (arith, signed_arith)) civil.2.0 e)
-        (λ le. let same : y ≡ 1900 = omega (arith, signed_arith) in absurd (omega (arith, day_count-march_1900, rw same at e, day_count-lt_month (pos 1900) m d 3 1 (rw same at civil) (omega arith) (omega (arith, signed_arith))))))
+    (λ later. annex_c-early y m d n (omega (arith, signed_arith)) high civil.1.0 (omega (arith, signed_arith)) civil.2.0 e)
+    (λ le. let same : y ≡ 1900 = omega (arith, signed_arith) in absurd (omega (arith, day_count-march_1900, rw same at e, day_count-lt_month (pos 1900) m d 3 1 (rw same at civil) (omega arith) (omega (arith, signed_arith))))))
     (λ le. annex_c-late y m d n low high (omega (arith, signed_arith)) civil.1.1 civil.2.0 e)
 
 pub annex_c-is : (n : ℕ) → n < 65536 → 15079 ≤ n → annex_c (civil_date n) ≡ n
@@ -48,6 +48,6 @@ annex_c-is n fits h =
     let count = mjd_back y m d n is.1 in
     let years_are = civil_year y m d n civil count fits in
     let low : 1900 ≤ y = by_lt_z (pos y) (pos 1900)
-        (λ lt. absurd (omega (arith, day_count-march_1900, day_count-lt_year (pos y) m d (pos 1900) 3 1 civil (omega arith) lt)))
-        (λ le. omega (arith, signed_arith)) in
+    (λ lt. absurd (omega (arith, day_count-march_1900, day_count-lt_year (pos y) m d (pos 1900) 3 1 civil (omega arith) lt)))
+    (λ le. omega (arith, signed_arith)) in
     annex_c-from_1900 y m d n civil low years_are.1 count h

@@ -4,7 +4,7 @@ ghost use Rattle.si_time.specs.Dates.{IsOnlyDateOf, annex_c};
 ghost use Rattle.si_time.specs.Moments.{civil_date, moment_text, moment_bcd};
 ghost use Rattle.si_time.specs.Readings.{moment_in, day_in, moment_from_bcd, IsMomentText, IsDayText};
 
-use crate::dates::date_of;
+use crate::dates::{DAY, date_of};
 use crate::digits::{clock_bcd, two_digits};
 use crate::readings::{day_in, moment_from_bcd, moment_in};
 
@@ -20,8 +20,8 @@ pub fn to_bcd(at: Moment) -> [u8; 5]
     requires { at.0 < 65536 * 86400 }
     ensures { result ≡ moment_bcd at.0 }
 {
-    let [high, low] = ((at.0 / 86_400) as u16).to_be_bytes();
-    let [h, m, s] = clock_bcd((at.0 % 86_400) as u32);
+    let [high, low] = ((at.0 / DAY) as u16).to_be_bytes();
+    let [h, m, s] = clock_bcd((at.0 % DAY) as u32);
     [high, low, h, m, s]
 }
 
@@ -57,8 +57,8 @@ pub fn write_moment(at: Moment) -> [u8; 20]
     // From 1 March 1900 on the standard's own formula gives the day number too.
     ensures annex_c { 15079 ≤ at.0 / 86400 → annex_c (civil_date (at.0 / 86400)) ≡ at.0 / 86400 }
 {
-    let (year, month, day) = date_of((at.0 / 86_400) as u16);
-    let second = (at.0 % 86_400) as u32;
+    let (year, month, day) = date_of((at.0 / DAY) as u16);
+    let second = (at.0 % DAY) as u32;
     let [y1, y2] = two_digits((year / 100) as u8);
     let [y3, y4] = two_digits((year % 100) as u8);
     let [m1, m2] = two_digits(month);
@@ -95,5 +95,5 @@ pub fn block_of(at: Moment) -> u64
 pub fn midnight(at: Moment) -> Moment
     ensures { result.0 ≡ at.0 / 86400 * 86400 }
 {
-    Moment(at.0 / 86_400 * 86_400)
+    Moment(at.0 / DAY * DAY)
 }
