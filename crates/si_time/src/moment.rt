@@ -31,7 +31,8 @@ pub fn from_bcd(bytes: [u8; 5]) -> Option<Moment>
     ensures value { option_map (λ at. at.0) result ≡ moment_from_bcd bytes }
     ensures window { IfSome result (λ at. at.0 < 65536 * 86400) }
     ensures written { IfSome result (λ at. bytes ≡ moment_bcd at.0) }
-    ensures back { (s : ℕ) → s < 65536 * 86400 → bytes ≡ moment_bcd s → option_map (λ at. at.0) result ≡ Some s }
+    ensures back { (s : ℕ) → s < 65536 * 86400 → bytes ≡ moment_bcd s
+        → option_map (λ at. at.0) result ≡ Some s }
 {
     moment_from_bcd(bytes).map(Moment)
 }
@@ -44,7 +45,8 @@ pub fn read_moment(text: &[u8]) -> Option<Moment>
     ensures some { IsSome result ↔ IsMomentText text.now }
     ensures window { IfSome result (λ at. at.0 < 65536 * 86400) }
     ensures written { IfSome result (λ at. text.now ≡ moment_text at.0) }
-    ensures back { (s : ℕ) → s < 65536 * 86400 → text.now ≡ moment_text s → option_map (λ at. at.0) result ≡ Some s }
+    ensures back { (s : ℕ) → s < 65536 * 86400 → text.now ≡ moment_text s
+        → option_map (λ at. at.0) result ≡ Some s }
 {
     moment_in(text).map(Moment)
 }
@@ -79,7 +81,8 @@ pub fn read_day(text: &[u8]) -> Option<Moment>
     ensures window { IfSome result (λ at. at.0 < 65536 * 86400) }
     ensures midnight { IfSome result (λ at. at.0 % 86400 ≡ 0) }
     ensures written { IfSome result (λ at. text.now ≡ take 10 (moment_text at.0)) }
-    ensures back { (s : ℕ) → s < 65536 * 86400 → text.now ≡ take 10 (moment_text s) → option_map (λ at. at.0) result ≡ Some (s / 86400 * 86400) }
+    ensures back { (s : ℕ) → s < 65536 * 86400 → text.now ≡ take 10 (moment_text s)
+        → option_map (λ at. at.0) result ≡ Some (s / 86400 * 86400) }
 {
     day_in(text).map(Moment)
 }
