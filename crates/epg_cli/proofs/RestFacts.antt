@@ -3,6 +3,8 @@ use Rattle.std.proofs.Common.{◌≡◌, ℕ, ◌+◌, List, [], ◌∷◌, ◌+
 use Rattle.std.specs.Prelude.{Option, Some, None, Ok, Err, Result}
 use Rattle.std.proofs.Math.Seq.{take-append_seam}
 use Rattle.si_causes.specs.Text.{AtEnd, PastLimit}
+use Rattle.si_causes.specs.Reading.{Reading, GivesLine}
+use Rattle.si_causes.proofs.TextFacts.{given_past}
 use Rattle.si_causes.specs.declared.stop.ReadStop.{ReadStop}
 use Rattle.si_causes.specs.declared.stop.ReadStop.TheVariants.{Failed, TooLong as Overlong}
 use Rattle.desk_core.specs.declared.step.Step.{Step}
@@ -20,7 +22,6 @@ use Rattle.epg_cli.specs.Played.{did, desk_after, LineDid, RestDid}
 -- commands and a stop
 abbrev pub Rest : Type 0
 Rest = List Command × Stop
-
 
 pub desk_none : (desk : DeskState) → desk ≡ desk_after desk []
 desk_none desk = ap (λ (l : List Entry). let d : DeskState = record { mux = desk.mux; entries = l } in d) (sym (append-nil desk.entries))
@@ -63,7 +64,7 @@ at_line Air all y x done n o old desk new e t d h =
     let step = h.0 in
     let more = more_done all y x done n o step e t h.1 in
     let front : take (length (done ++ (0, step) ∷ [])) all.0 ≡ done ++ (0, step) ∷ [] =
-      ap (λ (p : Rest). take (length (done ++ (0, step) ∷ [])) p.0) more ∙ take-append_seam (done ++ (0, step) ∷ []) x.0 in
+    ap (λ (p : Rest). take (length (done ++ (0, step) ∷ [])) p.0) more ∙ take-append_seam (done ++ (0, step) ∷ []) x.0 in
     (length (done ++ (0, step) ∷ []), h.2 ∙ ap (λ (d' : DeskState). did d' step) d ∙ desk_more old done step ∙ ap (desk_after old) (sym front))
 at_line Memory all y x done n o old desk new e t d h = tt
 
@@ -80,3 +81,8 @@ pub at_end : (all y : Rest) (done : List Command) (old desk : DeskState) → all
 at_end all y done old desk e t d =
     let last = last_done all y done Ended e t in
     (ap (λ (p : Rest). p.1) last, d ∙ ap (desk_after old) (sym (ap (λ (p : Rest). p.0) last)))
+
+pub stopped_at : {S : Type 0} (left : S → Option (List ℕ)) (before new : Reading S) (stop : ReadStop) (p : Lines) (n : ℕ) (all : Rest) (done : List Command) (old desk : DeskState)
+    → GivesLine left before new p (Err stop) → all ≡ (done ++ (commands_of n p).0, (commands_of n p).1) → desk ≡ desk_after old done → RestDid all old desk (Err (Read stop))
+stopped_at left before new Failed p n all done old desk gives e d = at_failed all (commands_of n p) done old desk e d
+stopped_at left before new Overlong p n all done old desk gives e d = at_limit all (commands_of n p) done old desk e (ap (commands_of n) (given_past left before new p gives)) d

@@ -19,9 +19,9 @@ invariant-lines g l =
       one_service : length l.desk.mux.services ≡ 1;
       aired : (before : Option (List ℕ)) → HasAired l.fn.desk l.fn.player before (g.A.Sink.written l.fn.air) → HasAired l.desk l.player before (g.A.Sink.written l.air);
       told : (text : List ℕ) → text_left g.S.Source.left l.fn.lines ≡ Some text →
-        (done : List Command) × (rest : List ℕ) × (text_left g.S.Source.left l.lines ≡ Some rest)
-        × (commands_of (l.fn.lines.number + 1) (lines_of l.fn.lines text) ≡ (done ++ (commands_of (l.lines.number + 1) (lines_of l.lines rest)).0, (commands_of (l.lines.number + 1) (lines_of l.lines rest)).1))
-        × (l.desk ≡ desk_after l.fn.desk done);
+          (done : List Command) × (rest : List ℕ) × (text_left g.S.Source.left l.lines ≡ Some rest)
+          × (commands_of (l.fn.lines.number + 1) (lines_of l.fn.lines text) ≡ (done ++ (commands_of (l.lines.number + 1) (lines_of l.lines rest)).0, (commands_of (l.lines.number + 1) (lines_of l.lines rest)).1))
+          × (l.desk ≡ desk_after l.fn.desk done);
     }
 
 abbrev pub decreases-lines : goal.decreases-lines
