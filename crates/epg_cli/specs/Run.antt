@@ -82,6 +82,11 @@ stop_text (Read Failed) = codes "input not read"
 stop_text OnAir = codes "air not written"
 stop_text NoMemory = codes "memory"
 
+-- the fault line of a run, where there is one
+abbrev pub ending_text : Option PlayStop → List ℕ
+ending_text None = []
+ending_text (Some stop) = fault_line (stop_text stop)
+
 -- the status of a stop
 abbrev pub status_for : PlayStop → Status
 status_for (Refused n) = BadScript n
@@ -160,6 +165,15 @@ are_play words = false
 abbrev pub entries_of : Option DeskState → List Entry
 entries_of None = []
 entries_of (Some desk) = desk.entries
+
+-- a stop by a failed read, and one by a failed write, have their causes
+abbrev pub HasStopCause : ℕ → ℕ → Option PlayStop → Type 0
+HasStopCause before now (Some (Read Failed)) = Rose before now
+HasStopCause before now stop = Unit {0}
+
+abbrev pub HasAirStopCause : ℕ → ℕ → Option PlayStop → Type 0
+HasAirStopCause before now (Some OnAir) = Rose before now
+HasAirStopCause before now stop = Unit {0}
 
 -- what was played, and why it was not played on
 abbrev pub HasPlayed : Script → Told → Option DeskState → Option PlayStop → Type 0

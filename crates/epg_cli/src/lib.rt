@@ -2,6 +2,7 @@
 #![tactic(auto)]
 
 mod block;
+mod ending;
 mod fields;
 mod lines;
 mod play;
@@ -10,5 +11,6 @@ mod report;
 mod sdt;
 mod status;
 mod stop;
+mod top;
 
 pub use status::{Origin, Outlet, Status};
