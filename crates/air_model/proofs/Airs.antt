@@ -1,13 +1,13 @@
 -- An air grows by one cycle.
 use Rattle.std.proofs.Common.{◌≡◌, ℕ, List, [], ◌∷◌, ◌++◌, refl, sym, ap, ◌∙◌, subst, append_assoc, append-nil}
-use Rattle.std.specs.Prelude.{filter_map}
+use Rattle.std.specs.Prelude.{flat_map, filter_map}
 use Rattle.std.specs.List.{AllByRecursion}
 use Rattle.std.proofs.lemmas.List.Concat.{flat_map-append}
 use Rattle.version_book.specs.Airings.{Airing}
 use Rattle.ts_packets.specs.Packets.{Piece, Carries}
-use Rattle.ts_packets.specs.Bytes.{Packet, HasFields}
+use Rattle.ts_packets.specs.Bytes.{Packet, HasFields, bytes_of_packet}
 use Rattle.ts_packets.specs.Counting.{loads_on, Count}
-use Rattle.air_model.specs.Air.{Aired, sent_on, cycle_sections, IsCycle, Cycles, air, airings_of, IsAirOf}
+use Rattle.air_model.specs.Air.{Aired, sent_on, cycle_sections, IsCycle, Cycles, air, airings_of, air_bytes, IsAirOf}
 use Rattle.air_model.specs.Making.{each_alone, counted, cycle_alone}
 use Rattle.air_model.proofs.Counted.{PidsFit, of_pid-counted, fields-counted, count-counted, Carries-each_alone}
 
@@ -22,6 +22,9 @@ IsCycle-alone past sent a pid =
 
 pub air-push : (xs : List Aired) (x : Aired) → air (xs ++ x ∷ []) ≡ air xs ++ x.packets
 air-push xs x = flat_map-append (λ (y : Aired). y.packets) xs (x ∷ []) ∙ ap (λ (l : List Packet). air xs ++ l) (append-nil x.packets)
+
+pub air_bytes-push : (xs : List Aired) (x : Aired) → air_bytes (xs ++ x ∷ []) ≡ air_bytes xs ++ flat_map bytes_of_packet x.packets
+air_bytes-push xs x = ap (flat_map bytes_of_packet) (air-push xs x) ∙ flat_map-append bytes_of_packet (air xs) x.packets
 
 pub airings_of-push : (xs : List Aired) (x : Aired) → airings_of (xs ++ x ∷ []) ≡ airings_of xs ++ x.airing ∷ []
 airings_of-push [] x = refl

@@ -90,11 +90,11 @@ drop_none (suc n) = refl
 -- where a packet is to come, a section is there
 pub some_left : (bytes : List ℕ) (placed : List Placed) (at index : ℕ) → 0 < length (packets_left bytes placed at index) → at < length placed
 some_left bytes placed at index some = elim (cases_lt at (length placed)) [
-      inl lt ↦ lt
-    | inr past ↦
-        let none : packets_left bytes placed at index ≡ [] = ap (λ (l : List Placed). drop index (each_alone (map (sent_at bytes) l))) (drop_all at placed past) ∙ drop_none index in
-        absurd (omega (arith, ap length none))
-    ]
+  | inl lt ↦ lt
+  | inr past ↦
+      let none : packets_left bytes placed at index ≡ [] = ap (λ (l : List Placed). drop index (each_alone (map (sent_at bytes) l))) (drop_all at placed past) ∙ drop_none index in
+      absurd (omega (arith, ap length none))
+]
 
 -- the section that is being sent, and how many of its packets were sent
 pub record IsSending (bytes : List ℕ) (placed : List Placed) (at index : ℕ) (p : Placed) : Type 0 where
@@ -120,7 +120,7 @@ puts_first bytes placed at index p old into s is put =
     let back : units ≡ each_alone (map (sent_at bytes) (drop at placed)) = ap (λ (l : List Placed). each_alone (map (sent_at bytes) l)) (sym s.here) in
     let first : old ≡ q ∷ drop (suc index) units = sym is ∙ ap (drop index) (sym back) ∙ left_first bytes p (drop (at + 1) placed) index s.fits s.begun in
     let written : Some (bytes_of_packet q) ≡ Some into =
-      sym (slice_get-map bytes_of_packet (packets_alone p.pid (bytes_placed bytes p)) index ∙ ap (option_map bytes_of_packet) (sent_packet bytes p index s.fits s.begun)) ∙ put in
+    sym (slice_get-map bytes_of_packet (packets_alone p.pid (bytes_placed bytes p)) index ∙ ap (option_map bytes_of_packet) (sent_packet bytes p index s.fits s.begun)) ∙ put in
     let same : into ≡ bytes_of_packet q = cc in
     subst (λ (l : List Packet). PutsFirst l (drop (suc index) (each_alone (map (sent_at bytes) (drop at placed)))) into) (sym first) (sym (ap (drop (suc index)) back), same, record { pid = s.fits.pid; counter = refl })
 
