@@ -1,6 +1,6 @@
 -- Sections that were laid can be sent, and are those of the cycle.
-use Rattle.std.proofs.Common.{◌≡◌, ◌≢◌, ℕ, zero, suc, ◌+◌, ◌<◌, ◌≤◌, Bool, true, false, cond, List, [], ◌∷◌, ◌++◌, length, refl, sym, ap, ap₂, ◌∙◌, subst, arith, map, drop, length-append}
-use Rattle.std.specs.Prelude.{flat_map, ◌&&◌, nat_le}
+use Rattle.std.proofs.Common.{◌≡◌, ℕ, ◌+◌, ◌<◌, ◌≤◌, Bool, true, false, cond, List, [], ◌∷◌, ◌++◌, length, refl, sym, ap, ◌∙◌, subst, arith, map, length-append}
+use Rattle.std.specs.Prelude.{flat_map}
 use Rattle.std.specs.List.{AllByRecursion, All}
 use Rattle.std.proofs.lemmas.List.Elements.{recursion_from_All}
 use Rattle.section_codec.specs.declared.table.NumberedBody.{NumberedBody}
@@ -10,7 +10,6 @@ use Rattle.section_codec.proofs.ReadBack.{length-section_bytes}
 use Rattle.section_codec.specs.Tables.{is_eit}
 use Rattle.version_book.specs.Airings.{Content, Airing, version_at}
 use Rattle.version_book.specs.Book.{aired, versions_of}
-use Rattle.ts_packets.specs.Packets.{packets_of}
 use Rattle.air_model.specs.Air.{Sent, sent_section, header_of, sections_of, cycle_sections}
 use Rattle.air_model.specs.Making.{each_alone}
 use Rattle.carousel_player.specs.declared.cycle.Placed.{Placed}

@@ -1,5 +1,5 @@
 -- What a player stands for, from call to call.
-use Rattle.std.proofs.Common.{◌≡◌, ◌≢◌, ℕ, zero, suc, ◌+◌, ◌<◌, ◌≤◌, List, [], ◌∷◌, ◌++◌, Result, Ok, Err, Option, Some, length, refl, sym, ap, ap₂, ◌∙◌, subst, arith, map, take, append_assoc, append-nil, length-append}
+use Rattle.std.proofs.Common.{◌≡◌, ℕ, suc, ◌+◌, ◌<◌, List, [], ◌∷◌, ◌++◌, Result, Ok, Err, Option, length, refl, sym, ap, ap₂, ◌∙◌, subst, arith, map, take, append_assoc, append-nil, length-append}
 use Rattle.std.specs.Prelude.{flat_map, OnOk, OnErr}
 use Rattle.std.specs.List.{AllByRecursion, All}
 use Rattle.std.specs.Io.KnownBytes.{Appends}
@@ -9,19 +9,18 @@ use Rattle.std.proofs.lemmas.List.{take-append-le}
 use Rattle.std.proofs.lemmas.List.Concat.{flat_map-append}
 use Rattle.si_causes.specs.Causes.{AppendsFront}
 use Rattle.std.proofs.lemmas.List.Elements.{recursion_from_All}
-use Rattle.section_codec.specs.declared.table.NumberedBody.{NumberedBody}
 use Rattle.section_codec.specs.declared.table.SubTable.{SubTable}
 use Rattle.version_book.specs.Airings.{Content, Airing, version_at}
-use Rattle.version_book.specs.Book.{KeptKeys, Stands, aired}
+use Rattle.version_book.specs.Book.{Stands, aired}
 use Rattle.ts_packets.specs.Packets.{Piece, pieces, alone}
 use Rattle.ts_packets.specs.Bytes.{Packet, HasFields, bytes_of_packet, packet_on, packets_alone}
 use Rattle.ts_packets.specs.Counting.{StandFor}
 use Rattle.air_model.specs.Air.{Sent, Aired, air, airings_of, air_bytes, IsAirOf, sent_section, sections_of, cycle_sections}
-use Rattle.air_model.specs.Making.{each_alone, count_behind, counted, cycle_alone}
+use Rattle.air_model.specs.Making.{each_alone, counted}
 use Rattle.air_model.proofs.Counted.{PidsFit, counted-append, length-counted}
-use Rattle.air_model.proofs.Airs.{IsAirOf-none, air-push, air_bytes-push, airings_of-push, air_more-alone}
+use Rattle.air_model.proofs.Airs.{air-push, air_bytes-push, airings_of-push, air_more-alone}
 use Rattle.carousel_player.specs.Sending.{Sends}
-use Rattle.carousel_player.specs.Playing.{IsFit, Playing, HasSent, AtEnd, Within, Begins, GaveUp}
+use Rattle.carousel_player.specs.Playing.{IsFit, Playing, AtEnd, Within, Begins, GaveUp}
 use Rattle.carousel_player.proofs.Sendings.{all-append, all-front}
 
 -- ---- a cycle begins
@@ -190,7 +189,7 @@ pub GaveUp-front : (xs : List Aired) (x : Aired) (rest : List Packet) (a c : Opt
 GaveUp-front xs x rest a c p (handed, left, parts, within, front) =
     let whole : flat_map bytes_of_packet rest ≡ flat_map bytes_of_packet handed ++ flat_map bytes_of_packet left = ap (flat_map bytes_of_packet) parts ∙ flat_map-append bytes_of_packet handed left in
     let same : take front.0 (flat_map bytes_of_packet rest) ≡ take front.0 (flat_map bytes_of_packet handed) =
-      ap (take front.0) whole ∙ take-append-le front.0 (flat_map bytes_of_packet handed) (flat_map bytes_of_packet left) (omega (arith, front.1)) in
+    ap (take front.0) whole ∙ take-append-le front.0 (flat_map bytes_of_packet handed) (flat_map bytes_of_packet left) (omega (arith, front.1)) in
     (front.0, omega (arith, front.1, ap length whole, length-append (flat_map bytes_of_packet handed) (flat_map bytes_of_packet left)), subst (Appends a c) (sym same) front.2)
 
 -- an air, and then the cycle of one airing more

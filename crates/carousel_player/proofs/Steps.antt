@@ -1,5 +1,5 @@
 -- One packet further in a cycle.
-use Rattle.std.proofs.Common.{◌≡◌, ℕ, zero, suc, ◌+◌, ◌-◌, ◌<◌, ◌≤◌, inl, inr, List, [], ◌∷◌, ◌++◌, Bool, true, false, Some, None, length, get_or, refl, sym, ap, ap₂, ◌∙◌, subst, arith, take, drop, map, nat_eq, length-append, length-take, length-drop}
+use Rattle.std.proofs.Common.{◌≡◌, ℕ, zero, suc, ◌+◌, ◌<◌, ◌≤◌, inl, inr, List, [], ◌∷◌, ◌++◌, Some, length, get_or, refl, sym, ap, ap₂, ◌∙◌, subst, arith, take, drop, map, nat_eq, length-take, length-drop}
 use Rattle.std.specs.Prelude.{◌==◌, slice_get, option_map}
 use Rattle.std.specs.List.{AllByRecursion}
 use Rattle.std.proofs.lemmas.Bool.Decides.{nat_tests}
@@ -7,11 +7,9 @@ use Rattle.std.proofs.lemmas.Option.{slice_get-map}
 use Rattle.std.proofs.lemmas.Bool.{cases_lt}
 use Rattle.std.proofs.lemmas.List.{length-map, drop_all}
 use Rattle.std.proofs.Math.Seq.{drop-cons, drop-append_seam}
-use Rattle.ts_packets.specs.Packets.{Piece, pieces, alone, packets_of}
+use Rattle.ts_packets.specs.Packets.{pieces, alone, packets_of}
 use Rattle.ts_packets.specs.Bytes.{Packet, bytes_of_packet, packet_on, packets_alone}
 use Rattle.ts_packets.proofs.Carrying.{piece_at, at_alone, length-pieces, length-alone}
-use Rattle.ts_packets.proofs.Headers.{bytes_at}
-use Rattle.air_model.specs.Air.{Sent}
 use Rattle.air_model.specs.Making.{each_alone}
 use Rattle.carousel_player.specs.declared.cycle.Placed.{Placed}
 use Rattle.carousel_player.specs.Laying.{IsPlaced, sent_at, packets_left, IsBegun, IsUnderWay}

@@ -1,4 +1,4 @@
-use Rattle.std.proofs.Common.{◌≡◌, ◌+◌, ◌-◌, ℕ, List, [], ◌∷◌, ◌++◌, Result, length, sym, ap, ◌∙◌, subst₂, arith, length-append, if◌then◌else◌, is_ok}
+use Rattle.std.proofs.Common.{◌≡◌, ◌-◌, ℕ, List, [], ◌∷◌, ◌++◌, Result, length, sym, ap, ◌∙◌, subst₂, arith, length-append, if◌then◌else◌, is_ok}
 use Rattle.section_codec.specs.Section.{section_bytes}
 use Rattle.air_model.specs.Air.{Sent}
 use Rattle.carousel_player.specs.declared.cycle.Placed.{Placed}

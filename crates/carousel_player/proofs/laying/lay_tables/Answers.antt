@@ -1,7 +1,6 @@
-use Rattle.std.proofs.Common.{◌≡◌, ℕ, ◌+◌, ◌<◌, ◌≤◌, List, [], ◌∷◌, ◌++◌, length, get_or, take, drop, sym, ap, ap₂, ◌∙◌, subst, arith, append_assoc, vec_len, vec_capacity}
+use Rattle.std.proofs.Common.{◌≡◌, ℕ, ◌+◌, ◌≤◌, List, [], ◌∷◌, ◌++◌, length, take, drop, sym, ap, ◌∙◌, subst, arith, append_assoc, vec_len, vec_capacity}
 use Rattle.std.proofs.lemmas.List.{length_push}
 use Rattle.std.proofs.lemmas.Slice.Zip.{zip_turn, zip_end}
-use Rattle.section_codec.specs.declared.table.SubTable.{SubTable}
 use Rattle.air_model.specs.Air.{Sent, sections_of}
 use Rattle.carousel_player.specs.Laying.{AreLaid, sections_with, room_for, places_for}
 use Rattle.carousel_player.proofs.Laid.{tables_at, tables_more, sections_all}

@@ -1,11 +1,10 @@
-use Rattle.std.proofs.Common.{◌≡◌, ◌+◌, ◌<◌, ◌≤◌, ◌∷◌, ℕ, List, Some, suc, length, map, drop, sym, ap, ◌∙◌, subst, arith}
+use Rattle.std.proofs.Common.{◌≡◌, ◌+◌, ◌<◌, ℕ, List, Some, suc, length, map, drop, sym, subst, arith}
 use Rattle.std.specs.Prelude.{slice_get}
-use Rattle.ts_packets.specs.Packets.{packets_of}
 use Rattle.ts_packets.specs.Bytes.{Packet, bytes_of_packet, packets_alone}
 use Rattle.air_model.specs.Making.{each_alone}
-use Rattle.carousel_player.specs.Laying.{IsUnderWay, packets_left, sent_at}
+use Rattle.carousel_player.specs.Laying.{packets_left, sent_at}
 use Rattle.carousel_player.specs.Sending.{PutsFirst}
-use Rattle.carousel_player.proofs.Steps.{bytes_placed, IsSending, sending, puts_first, one_further, next_section}
+use Rattle.carousel_player.proofs.Steps.{bytes_placed, sending, puts_first, one_further, next_section}
 use Rattle.carousel_player.proofs.cycle.Cycle.put_next.Goals as goal
 
 pub invariant_of-self : goal.invariant_of-self

@@ -1,12 +1,9 @@
-use Rattle.std.proofs.Common.{◌≡◌, ◌<◌, ◌≤◌, ◌++◌, [], ℕ, List, length, take, refl, sym, ap, ◌∙◌, subst, arith}
+use Rattle.std.proofs.Common.{◌≡◌, ◌<◌, ◌++◌, [], length, sym, ap, ◌∙◌, subst, arith}
 use Rattle.std.proofs.lemmas.Bool.Decides.{nat_tests}
-use Rattle.std.specs.Prelude.{Option, flat_map}
 use Rattle.std.specs.Io.KnownBytes.{Appends}
 use Rattle.std.proofs.KnownBytes.{Appends-trans}
-use Rattle.si_causes.specs.Causes.{AppendsFront}
-use Rattle.ts_packets.specs.Bytes.{Packet, bytes_of_packet}
 use Rattle.carousel_player.specs.Sending.{Sends}
-use Rattle.carousel_player.specs.Playing.{Playing, Within, GaveUp}
+use Rattle.carousel_player.specs.Playing.{Playing, GaveUp}
 use Rattle.carousel_player.proofs.Sendings.{Sends-trans}
 use Rattle.carousel_player.proofs.Plays.{on_err, all_out, front_behind, gave_up, none_left}
 use Rattle.carousel_player.proofs.player.Player.play_cycle.Goals as goal
