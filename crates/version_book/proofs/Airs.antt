@@ -1,10 +1,10 @@
 -- One airing more: what is given to a book that stands for the airings before.
-use Rattle.std.proofs.Common.{◌≡◌, ◌≢◌, ℕ, zero, suc, ◌+◌, ◌%◌, List, [], ◌∷◌, ◌++◌, Bool, true, false, refl, sym, ap, ◌∙◌, arith, append-nil}
-use Rattle.std.specs.Prelude.{if◌then◌else◌, option_to_list, Option, Some, None, map}
+use Rattle.std.proofs.Common.{◌≡◌, ℕ, ◌+◌, ◌%◌, List, [], ◌∷◌, ◌++◌, Bool, true, false, refl, sym, ap, ◌∙◌, arith, append-nil}
+use Rattle.std.specs.Prelude.{if◌then◌else◌, option_to_list, Option, Some, map}
 use Rattle.std.specs.List.{AllByRecursion}
 use Rattle.section_codec.specs.declared.table.Key.{Key}
 use Rattle.section_codec.specs.declared.table.SubTable.{SubTable}
-use Rattle.version_book.specs.Airings.{Content, Airing, is_key, is_content, content_in, content_at, carried, changes_after, changes, version_at}
+use Rattle.version_book.specs.Airings.{Content, Airing, is_key, is_content, content_in, carried, changes_after, changes, version_at}
 use Rattle.version_book.specs.Book.{Kept, last_of, kept_after, Lacks, KeysDiffer, aired, versions_of}
 use Rattle.version_book.specs.Slots.{next_version, given_after}
 use Rattle.version_book.proofs.Versions.{is_key-same, is_key-itself, is_key-apart, changes_after-push, last_of-push, carried-push}
@@ -53,30 +53,27 @@ kept_after-airing past ts moment q = ap kept_after (carried-push q past (aired t
 
 -- ---- the version of each sub-table
 
--- each of these is what the list has of its key
-AreOwn : List SubTable → List SubTable → Type 0
+-- each of these is what the list of all has of its key
+abbrev pub AreOwn : List SubTable → List SubTable → Type 0
 AreOwn all ts = AllByRecursion (λ (t : SubTable). content_in t.key all ≡ Some t.sections) ts
 
 own_behind : (t : SubTable) (all ts : List SubTable) → Lacks t.key ts → AreOwn all ts → AreOwn (t ∷ all) ts
-unfolding AreOwn
 own_behind t all [] lacks own = tt
 own_behind t all (s ∷ ts) lacks own =
     (ap (λ (b : Bool). if b then Some t.sections else content_in s.key all) (is_key-apart s.key t.key (λ e. lacks.0 (sym e))) ∙ own.0, own_behind t all ts lacks.1 own.1)
 
-all_own : (ts : List SubTable) → KeysDiffer ts → AreOwn ts ts
-unfolding AreOwn
-all_own [] differ = tt
-all_own (t ∷ ts) differ =
-    (ap (λ (b : Bool). if b then Some t.sections else content_in t.key ts) (is_key-itself t.key), own_behind t ts ts differ.0 (all_own ts differ.1))
+pub AreOwn-all : (ts : List SubTable) → KeysDiffer ts → AreOwn ts ts
+AreOwn-all [] differ = tt
+AreOwn-all (t ∷ ts) differ =
+    (ap (λ (b : Bool). if b then Some t.sections else content_in t.key ts) (is_key-itself t.key), own_behind t ts ts differ.0 (AreOwn-all ts differ.1))
 
 each_version : (past : List Airing) (f : Key → Option Kept) → ((k : Key) → f k ≡ kept_after (carried k past)) → (all : List SubTable) (moment : ℕ) (ts : List SubTable) → AreOwn all ts
     → map (λ (t : SubTable). next_version (f t.key) t.sections) ts ≡ map (λ (t : SubTable). version_at t.key (past ++ aired all moment ∷ [])) ts
-unfolding AreOwn
 each_version past f before all moment [] own = refl
 each_version past f before all moment (t ∷ ts) own =
     let one : version_at t.key (past ++ aired all moment ∷ []) ≡ next_version (f t.key) t.sections =
-      ap (λ (cs : List Content). changes cs % 32) (carried-push t.key past (aired all moment) ∙ ap (λ (o : Option Content). carried t.key past ++ option_to_list o) own.0)
-      ∙ next_version-is (carried t.key past) t.sections ∙ ap (λ (o : Option Kept). next_version o t.sections) (sym (before t.key)) in
+    ap (λ (cs : List Content). changes cs % 32) (carried-push t.key past (aired all moment) ∙ ap (λ (o : Option Content). carried t.key past ++ option_to_list o) own.0)
+    ∙ next_version-is (carried t.key past) t.sections ∙ ap (λ (o : Option Kept). next_version o t.sections) (sym (before t.key)) in
     let rest = each_version past f before all moment ts own.1 in
     ap (λ (n : ℕ). n ∷ map (λ (t : SubTable). next_version (f t.key) t.sections) ts) (sym one)
     ∙ ap (λ (ns : List ℕ). version_at t.key (past ++ aired all moment ∷ []) ∷ ns) rest
@@ -84,4 +81,4 @@ each_version past f before all moment (t ∷ ts) own =
 -- what is given are the versions of the airing list
 pub versions-airing : (past : List Airing) (f : Key → Option Kept) → ((k : Key) → f k ≡ kept_after (carried k past)) → (ts : List SubTable) (moment : ℕ) → KeysDiffer ts
     → map (λ (t : SubTable). next_version (f t.key) t.sections) ts ≡ versions_of past ts moment
-versions-airing past f before ts moment differ = each_version past f before ts moment ts (all_own ts differ)
+versions-airing past f before ts moment differ = each_version past f before ts moment ts (AreOwn-all ts differ)

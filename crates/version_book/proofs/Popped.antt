@@ -1,5 +1,5 @@
 -- The last element of a front.
-use Rattle.std.proofs.Common.{◌≡◌, ℕ, zero, suc, ◌+◌, ◌<◌, ◌≤◌, List, [], ◌∷◌, ◌++◌, length, take, get_or, refl, sym, ap, ◌∙◌, arith}
+use Rattle.std.proofs.Common.{◌≡◌, ℕ, zero, suc, ◌+◌, ◌≤◌, List, [], ◌∷◌, ◌++◌, length, take, get_or, refl, arith}
 
 none_taken : {X : Type 0} (k : ℕ) (xs : List X) → take k xs ≡ [] → k ≤ length xs → k ≡ 0
 none_taken zero xs e le = refl

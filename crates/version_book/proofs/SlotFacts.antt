@@ -1,5 +1,5 @@
 -- The slots of a version book, and what they keep.
-use Rattle.std.proofs.Common.{◌≡◌, ◌≢◌, ℕ, zero, suc, ◌+◌, ◌%◌, ◌<◌, List, [], ◌∷◌, length, drop, get_or, Bool, true, false, ◌&&◌, ◌==◌, refl, sym, ap, ◌∙◌, subst, arith, drop-cons}
+use Rattle.std.proofs.Common.{◌≡◌, ℕ, zero, suc, ◌+◌, ◌%◌, ◌<◌, List, [], ◌∷◌, length, drop, get_or, Bool, true, false, ◌&&◌, ◌==◌, refl, sym, ap, ◌∙◌, subst, arith, drop-cons}
 use Rattle.std.specs.Prelude.{if◌then◌else◌, Option, Some, None, option_map, map, is_some, cond}
 use Rattle.std.specs.declared.cmp.Ordering.{Ordering}
 use Rattle.std.specs.declared.cmp.Ordering.TheVariants.{Less, Equal, Greater}
@@ -14,7 +14,7 @@ use Rattle.std.proofs.lemmas.Map.Keys.{sorted_head, sorted_tail}
 use Rattle.section_codec.specs.declared.table.Key.{Key}
 use Rattle.section_codec.specs.declared.table.SubTable.{SubTable}
 use Rattle.version_book.specs.Airings.{Content, is_key, is_content}
-use Rattle.version_book.specs.Book.{Kept, KeptKeys, kept_in, Lacks, KeysDiffer}
+use Rattle.version_book.specs.Book.{Kept, kept_in, Lacks, KeysDiffer}
 use Rattle.version_book.specs.Slots.{key_cmp, kept_by, with_kept, shown, held_in, next_version, changed_content, given_after}
 use Rattle.version_book.specs.declared.held.Held.{Held}
 use Rattle.version_book.proofs.Versions.{is_key-same, is_key-itself, is_key-apart, is_content-same}
@@ -41,6 +41,7 @@ none_above cmp ties k (e ∷ es) above = go e.1 (none_above cmp ties k es above.
   where
     other : is_key k e.0 ≡ false
     other = ties k e.0 ∙ ap is_eq above.0
+
     go : (o : Option Held) → kept_in k (shown es) ≡ None → kept_in k (with_kept e.0 o (shown es)) ≡ None
     go None rest = rest
     go (Some held) rest = ap (λ (b : Bool). if b then Some (kept_by held) else kept_in k (shown es)) other ∙ rest
@@ -53,6 +54,7 @@ kept_in-shown_by cmp ties k (e ∷ es) sorted =
   where
     above : AllByRecursion (λ y. cmp e.0 y ≡ Less) (keys_of es)
     above = sorted_head cmp e.0 (keys_of es) sorted
+
     go : (b : Bool) → is_key k e.0 ≡ b → (d : Bool) → d ≡ is_key k e.0 → (o : Option Held) → kept_in k (shown es) ≡ option_map kept_by (held_in (lookup (is_at (cmp k)) es))
         → kept_in k (with_kept e.0 o (shown es)) ≡ option_map kept_by (held_in (cond d (Some o) (lookup (is_at (cmp k)) es)))
     go true same true f None rec =
@@ -88,9 +90,9 @@ key_ties a b =
     ∙ ap (λ (v : Bool). is_eq p && (is_eq t && (is_eq x && (v && a.network == b.network)))) (unsigned_ties a.stream b.stream)
     ∙ ap (λ (v : Bool). is_eq p && (is_eq t && (is_eq x && (is_eq s && v)))) (unsigned_ties a.network b.network)
     ∙ sym (then_is_eq p (ordering_then t (ordering_then x (ordering_then s n)))
-      ∙ ap (λ (v : Bool). is_eq p && v) (then_is_eq t (ordering_then x (ordering_then s n)))
-      ∙ ap (λ (v : Bool). is_eq p && (is_eq t && v)) (then_is_eq x (ordering_then s n))
-      ∙ ap (λ (v : Bool). is_eq p && (is_eq t && (is_eq x && v))) (then_is_eq s n))
+    ∙ ap (λ (v : Bool). is_eq p && v) (then_is_eq t (ordering_then x (ordering_then s n)))
+    ∙ ap (λ (v : Bool). is_eq p && (is_eq t && v)) (then_is_eq x (ordering_then s n))
+    ∙ ap (λ (v : Bool). is_eq p && (is_eq t && (is_eq x && v))) (then_is_eq s n))
 
 pub kept_in-shown : (k : Key) (es : List (Key × Option Held)) → IsStrictlySortedBy key_cmp (keys_of es) → kept_in k (shown es) ≡ option_map kept_by (held_in (lookup (is_at (key_cmp k)) es))
 kept_in-shown k es sorted = kept_in-shown_by key_cmp key_ties k es sorted
@@ -175,7 +177,7 @@ given_turn f ts n t old change version lt at differ before planned counted q =
     let more : n + 1 ≡ suc n = omega arith in
     let d : KeysDiffer (t ∷ drop (suc n) ts) = subst KeysDiffer e (KeysDiffer-drop n ts differ) in
     let c : change ≡ changed_content (f t.key) t.sections =
-      planned ∙ get_or-map (λ (x : SubTable). changed_content (f x.key) x.sections) ts n t change lt ∙ ap (λ (x : SubTable). changed_content (f x.key) x.sections) (sym at) in
+    planned ∙ get_or-map (λ (x : SubTable). changed_content (f x.key) x.sections) ts n t change lt ∙ ap (λ (x : SubTable). changed_content (f x.key) x.sections) (sym at) in
     ap (λ (v : ℕ). filled_by t.key v change old q) counted
     ∙ ap (λ (o : Option Content). filled_by t.key (next_version (f t.key) t.sections) o old q) c
     ∙ given_step f t (drop (suc n) ts) old (λ k. before k ∙ ap (λ m. given_after f (drop m ts) k) more) d.0 q

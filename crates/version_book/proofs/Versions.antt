@@ -1,14 +1,13 @@
 -- Versions of a key along an airing list.
-use Rattle.std.proofs.Common.{◌≡◌, ◌≢◌, ℕ, zero, suc, ◌+◌, ◌%◌, ◌<◌, ◌≤◌, List, [], ◌∷◌, ◌++◌, length, Bool, true, false, ◌&&◌, ◌==◌, refl, sym, ap, ◌∙◌, subst, arith, inl, inr, ◌⊎◌, append_assoc, append-nil, eq-eqb, eqb-true}
+use Rattle.std.proofs.Common.{◌≡◌, ◌≢◌, ℕ, ◌+◌, ◌%◌, List, [], ◌∷◌, ◌++◌, Bool, true, false, ◌&&◌, ◌==◌, refl, sym, ap, ◌∙◌, subst, arith, inl, inr, ◌⊎◌, append_assoc, append-nil, eq-eqb, eqb-true}
 use Rattle.std.specs.List.{cons_option}
-use Rattle.std.specs.Prelude.{if◌then◌else◌, filter_map, option_to_list, Option, Some, None, bytes_eq}
+use Rattle.std.specs.Prelude.{if◌then◌else◌, option_to_list, Option, Some, None, bytes_eq}
 use Rattle.std.proofs.lemmas.List.Elements.{filter_map-append}
 use Rattle.std.proofs.lemmas.Slice.Eq.{bytes_eq-Decides}
 use Rattle.section_codec.specs.declared.table.Key.{Key}
 use Rattle.section_codec.specs.declared.table.NumberedBody.{NumberedBody}
-use Rattle.section_codec.specs.declared.table.SubTable.{SubTable}
-use Rattle.version_book.specs.Airings.{Content, Airing, is_key, is_content, content_in, content_at, carried, changes_after, changes, version_at}
-use Rattle.version_book.specs.Book.{Kept, last_of, kept_after}
+use Rattle.version_book.specs.Airings.{Content, Airing, is_key, is_content, content_at, carried, changes_after}
+use Rattle.version_book.specs.Book.{last_of}
 use Rattle.version_book.specs.Laws.{NeighboursAgree, AnotherBetween}
 
 -- ---- tests
@@ -35,12 +34,12 @@ is_key-same a b h =
 pub is_key-itself : (k : Key) → is_key k k ≡ true
 is_key-itself k =
     and_both (k.pid == k.pid && k.table == k.table && k.ext == k.ext && k.stream == k.stream) (k.network == k.network)
-      (and_both (k.pid == k.pid && k.table == k.table && k.ext == k.ext) (k.stream == k.stream)
-        (and_both (k.pid == k.pid && k.table == k.table) (k.ext == k.ext)
-          (and_both (k.pid == k.pid) (k.table == k.table) (eq-eqb k.pid k.pid refl) (eq-eqb k.table k.table refl))
-          (eq-eqb k.ext k.ext refl))
-        (eq-eqb k.stream k.stream refl))
-      (eq-eqb k.network k.network refl)
+    (and_both (k.pid == k.pid && k.table == k.table && k.ext == k.ext) (k.stream == k.stream)
+    (and_both (k.pid == k.pid && k.table == k.table) (k.ext == k.ext)
+    (and_both (k.pid == k.pid) (k.table == k.table) (eq-eqb k.pid k.pid refl) (eq-eqb k.table k.table refl))
+    (eq-eqb k.ext k.ext refl))
+    (eq-eqb k.stream k.stream refl))
+    (eq-eqb k.network k.network refl)
 
 pub is_key-apart : (a b : Key) → a ≢ b → is_key a b ≡ false
 is_key-apart a b other = go (is_key a b) refl
@@ -119,16 +118,21 @@ between b bs (e ∷ cs) d same other = go (same_or (changes_after b (bs ++ e ∷
   where
     shift : (xs : List Content) → (bs ++ e ∷ []) ++ xs ≡ bs ++ e ∷ xs
     shift xs = append_assoc bs (e ∷ []) xs
+
     go : (changes_after b (bs ++ e ∷ []) % 32 ≡ changes_after b bs % 32) ⊎ (changes_after b (bs ++ e ∷ []) % 32 ≢ changes_after b bs % 32)
         → (changes_after b (bs ++ e ∷ []) % 32 ≡ changes_after b (((bs ++ e ∷ []) ++ cs) ++ d ∷ []) % 32 → last_of b (bs ++ e ∷ []) ≢ d
-          → (one two : List Content) × (f : Content) × (cs ≡ one ++ f ∷ two) × (changes_after b (((bs ++ e ∷ []) ++ one) ++ f ∷ []) % 32 ≢ changes_after b (bs ++ e ∷ []) % 32))
+        → (one two : List Content) × (f : Content) × (cs ≡ one ++ f ∷ two) × (changes_after b (((bs ++ e ∷ []) ++ one) ++ f ∷ []) % 32 ≢ changes_after b (bs ++ e ∷ []) % 32))
         → (one two : List Content) × (f : Content) × (e ∷ cs ≡ one ++ f ∷ two) × (changes_after b ((bs ++ one) ++ f ∷ []) % 32 ≢ changes_after b bs % 32)
     go (inr apart) rec = ([], cs, e, refl, subst (λ (x : List Content). changes_after b (x ++ e ∷ []) % 32 ≢ changes_after b bs % 32) (sym (append-nil bs)) apart)
     go (inl equal) rec =
         let last : last_of b bs ≡ e = neighbours b bs e (sym equal) in
-        let r = rec (equal ∙ same ∙ ap (λ (x : List Content). changes_after b (x ++ d ∷ []) % 32) (sym (shift cs))) (λ is. other (last ∙ sym (last_of-push b bs e) ∙ is)) in
-        (e ∷ r.0, r.1, r.2, ap (λ (x : List Content). e ∷ x) r.3,
-          λ is. r.4 (ap (λ (x : List Content). changes_after b (x ++ r.2 ∷ []) % 32) (shift r.0) ∙ is ∙ sym equal))
+        let r = rec (equal ∙ same ∙ ap (λ (x : List Content). changes_after b (x ++ d ∷ []) % 32) (sym (shift cs))) (λ is. other (last ∙ sym (last_of-push b bs e) ∙ is)) in (
+          e ∷ r.0,
+          r.1,
+          r.2,
+          ap (λ (x : List Content). e ∷ x) r.3,
+          λ is. r.4 (ap (λ (x : List Content). changes_after b (x ++ r.2 ∷ []) % 32) (shift r.0) ∙ is ∙ sym equal),
+        )
 
 -- ---- one airing more
 

@@ -1,5 +1,5 @@
 -- What versions tell of contents.
-use Rattle.std.specs.Prelude.{◌≡◌, ◌≢◌, ℕ, ◌%◌, List, [], ◌∷◌, ◌++◌}
+use Rattle.std.specs.Prelude.{◌≡◌, ◌≢◌, ◌%◌, List, [], ◌∷◌, ◌++◌}
 use Rattle.version_book.specs.Airings.{Content, changes_after}
 use Rattle.version_book.specs.Book.{last_of}
 

@@ -1,11 +1,10 @@
 -- Worked airing lists.
-use Rattle.std.specs.Prelude.{◌≡◌, ℕ, zero, suc, ◌+◌, ◌%◌, List, [], ◌∷◌, ◌++◌, Some, None, refl, map}
+use Rattle.std.specs.Prelude.{◌≡◌, ℕ, zero, suc, ◌%◌, List, [], ◌∷◌, ◌++◌, Some, refl}
 use Rattle.section_codec.specs.declared.table.Key.{Key}
-use Rattle.section_codec.specs.declared.table.NumberedBody.{NumberedBody}
 use Rattle.section_codec.specs.declared.table.SubTable.{SubTable}
 use Rattle.section_codec.specs.declared.table.Tier3.TheVariants.{Fast}
-use Rattle.version_book.specs.Airings.{Content, Airing, version_at, carried, changes}
-use Rattle.version_book.specs.Book.{kept_in, kept_after, Kept, versions_of}
+use Rattle.version_book.specs.Airings.{Content, Airing, version_at, carried}
+use Rattle.version_book.specs.Book.{kept_after, versions_of}
 
 abbrev sdt : Key
 sdt = record { pid = 17; table = 66; ext = 1; stream = 0; network = 1 }

@@ -153,7 +153,12 @@ fn planned(alloc: Global, slots: &mut Slots, tables: &[SubTable]) -> Result<Plan
 }
 
 // Gives sub-tables what was planned. It takes no memory.
-fn settle(slots: &mut Slots, tables: &[SubTable], versions: &[u8], mut changes: Vec<Option<NumberedBodies>>)
+fn settle(
+    slots: &mut Slots,
+    tables: &[SubTable],
+    versions: &[u8],
+    mut changes: Vec<Option<NumberedBodies>>,
+)
     requires differ { KeysDiffer tables.now }
     requires made { All (HasSlot slots.old) tables.now }
     requires versions { versions.now ≡ map (version_given slots.old) tables.now }
@@ -177,5 +182,68 @@ fn settle(slots: &mut Slots, tables: &[SubTable], versions: &[u8], mut changes: 
 pub fn versions_tell_contents()
     ensures neighbours { NeighboursAgree }
     ensures between { AnotherBetween }
-{
+{}
+
+#[cfg(test)]
+mod tests {
+    use super::*;
+    use section_codec::Tier3;
+    use std::test::Fail;
+
+    fn sub_table(alloc: Global, table: u8, byte: u8) -> Result<SubTable, AllocError>
+        ensures { IfOk result (λ sub_table. sub_table.key.table ≡ table) }
+    {
+        let mut body = Items::new(alloc);
+        body.push(byte)?;
+        let mut sections = Items::new(alloc);
+        sections.push(NumberedBody { number: 0, body })?;
+        Ok(SubTable {
+            key: Key {
+                pid: 18,
+                table,
+                ext: 101,
+                stream: 1,
+                network: 1,
+            },
+            tier: Tier3::Near,
+            sections,
+        })
+    }
+
+    // Table 0x50 and, where a byte is given for it, table 0x51.
+    fn airing(alloc: Global, first: u8, second: Option<u8>) -> Result<Tables, AllocError>
+        ensures { IfOk result (λ tables. KeysDiffer tables.list) }
+    {
+        let mut list = Items::new(alloc);
+        list.push(sub_table(alloc, 0x50, first)?)?;
+        if let Some(byte) = second {
+            list.push(sub_table(alloc, 0x51, byte)?)?;
+        }
+        Ok(Tables { list })
+    }
+
+    #[test]
+    fn counts_changes_aired(rt: HostRuntime) -> Result<(), Fail> {
+        let alloc = rt.alloc();
+        let mut book = VersionBook::open(alloc);
+        assert_eq!(rt;
+            book.assign(&airing(alloc, 0, Some(9))?)?.as_slice(),
+            [0, 0].as_slice()
+        );
+        for n in 1..=32 {
+            let versions = book.assign(&airing(alloc, n, None)?)?;
+            assert_eq!(rt; versions.as_slice(), [n % 32].as_slice(), "at airing {n}");
+        }
+        assert_eq!(rt;
+            book.assign(&airing(alloc, 32, Some(9))?)?.as_slice(),
+            [0, 0].as_slice(),
+            "as before"
+        );
+        assert_eq!(rt;
+            book.assign(&airing(alloc, 72, Some(8))?)?.as_slice(),
+            [1, 1].as_slice(),
+            "forty later"
+        );
+        Ok(())
+    }
 }

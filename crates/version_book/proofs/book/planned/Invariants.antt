@@ -1,4 +1,4 @@
-use Rattle.std.proofs.Common.{◌≡◌, ℕ, ◌<◌, map, take, slice_index, slice_index_or}
+use Rattle.std.proofs.Common.{◌≡◌, ℕ, ◌<◌, map, take, slice_index_or}
 use Rattle.std.specs.List.{All}
 use Rattle.std.specs.BTreeMap.{IsOrdered}
 use Rattle.section_codec.specs.declared.table.Key.{Key}
@@ -14,5 +14,5 @@ invariant-loop-table l = record {
   made : (k : ℕ) (d : SubTable) → k < l.table-index → HasSlot l.slots (slice_index_or l.tables k d);
   held : (q : Key) → held_at l.slots q ≡ held_at l.fn.slots q;
   shown_same : shown l.slots.entries ≡ shown l.fn.slots.entries;
-  ordered : IsOrdered key_cmp l.slots
+  ordered : IsOrdered key_cmp l.slots;
 }

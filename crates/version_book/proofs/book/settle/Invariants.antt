@@ -11,7 +11,7 @@ invariant-loop-change l = record {
   changes : l.changes.items ≡ take (vec_len l.changes) (map (content_given l.fn.slots) l.tables);
   kept : (q : Key) → kept_at l.slots q ≡ given_after (kept_at l.fn.slots) (drop (vec_len l.changes) l.tables) q;
   made : All (HasSlot l.slots) l.tables;
-  ordered : IsOrdered key_cmp l.slots
+  ordered : IsOrdered key_cmp l.slots;
 }
 
 abbrev pub decreases-loop-change : goal.decreases-loop-change
