@@ -25,28 +25,30 @@ lines_step n a b h le =
     let part = parted a h in
     let m = n - (length first + 1) in
     elim (leb_tells (length (a ++ b)) n) [
-      inl within ↦
-        let inside : nat_le (length (a ++ b)) n ≡ true = within.0 in
-        let then : nat_le (length (after_line a ++ b)) m ≡ true = le-leb _ _ (omega (arith, within.1, part, length-append a b, length-append (after_line a) b)) in
-        let ne : a ++ b ≢ [] = λ e. absurd (omega (arith, part, ap length e, length-append a b)) in
-        (ap (λ t. cond t (raw_lines (a ++ b)) (whole_lines (take n (a ++ b)))) inside
-          ∙ raw_step (a ++ b) ne ∙ ap (λ l. l ∷ raw_lines (after_line (a ++ b))) (first_of_front a b h) ∙ ap (λ l. first ∷ raw_lines l) (after_of_front a b h)
-          ∙ ap (λ t. first ∷ cond t (raw_lines (after_line a ++ b)) (whole_lines (take m (after_line a ++ b)))) (sym then),
-         ap (λ t. cond t AtEnd PastLimit) (inside ∙ sym then))
-    | inr beyond ↦
-        let outside : nat_le (length (a ++ b)) n ≡ false = beyond.0 in
-        let then : nat_le (length (after_line a ++ b)) m ≡ false = lt-leb-false _ _ (omega (arith, beyond.1, part, length-append a b, length-append (after_line a) b)) in
-        let k = n - length a in
-        let whole : n ≡ length a + k = omega arith in
-        let rest : m ≡ length (after_line a) + k = omega (arith, part) in
-        let front : take n (a ++ b) ≡ a ++ take k b = ap (λ x. take x (a ++ b)) whole ∙ take-append-add a b k in
-        let back : take m (after_line a ++ b) ≡ after_line a ++ take k b = ap (λ x. take x (after_line a ++ b)) rest ∙ take-append-add (after_line a) b k in
-        (ap (λ t. cond t (raw_lines (a ++ b)) (whole_lines (take n (a ++ b)))) outside
-          ∙ ap whole_lines front ∙ whole_step (a ++ take k b) (end_of_front a (take k b) h)
-          ∙ ap (λ l. l ∷ whole_lines (after_line (a ++ take k b))) (first_of_front a (take k b) h)
-          ∙ ap (λ l. first ∷ whole_lines l) (after_of_front a (take k b) h ∙ sym back)
-          ∙ ap (λ t. first ∷ cond t (raw_lines (after_line a ++ b)) (whole_lines (take m (after_line a ++ b)))) (sym then),
-         ap (λ t. cond t AtEnd PastLimit) (outside ∙ sym then))
+      | inl within ↦
+          let inside : nat_le (length (a ++ b)) n ≡ true = within.0 in
+          let then : nat_le (length (after_line a ++ b)) m ≡ true = le-leb _ _ (omega (arith, within.1, part, length-append a b, length-append (after_line a) b)) in
+          let ne : a ++ b ≢ [] = λ e. absurd (omega (arith, part, ap length e, length-append a b)) in (
+            ap (λ t. cond t (raw_lines (a ++ b)) (whole_lines (take n (a ++ b)))) inside
+                ∙ raw_step (a ++ b) ne ∙ ap (λ l. l ∷ raw_lines (after_line (a ++ b))) (first_of_front a b h) ∙ ap (λ l. first ∷ raw_lines l) (after_of_front a b h)
+                ∙ ap (λ t. first ∷ cond t (raw_lines (after_line a ++ b)) (whole_lines (take m (after_line a ++ b)))) (sym then),
+            ap (λ t. cond t AtEnd PastLimit) (inside ∙ sym then),
+          )
+      | inr beyond ↦
+          let outside : nat_le (length (a ++ b)) n ≡ false = beyond.0 in
+          let then : nat_le (length (after_line a ++ b)) m ≡ false = lt-leb-false _ _ (omega (arith, beyond.1, part, length-append a b, length-append (after_line a) b)) in
+          let k = n - length a in
+          let whole : n ≡ length a + k = omega arith in
+          let rest : m ≡ length (after_line a) + k = omega (arith, part) in
+          let front : take n (a ++ b) ≡ a ++ take k b = ap (λ x. take x (a ++ b)) whole ∙ take-append-add a b k in
+          let back : take m (after_line a ++ b) ≡ after_line a ++ take k b = ap (λ x. take x (after_line a ++ b)) rest ∙ take-append-add (after_line a) b k in (
+            ap (λ t. cond t (raw_lines (a ++ b)) (whole_lines (take n (a ++ b)))) outside
+                ∙ ap whole_lines front ∙ whole_step (a ++ take k b) (end_of_front a (take k b) h)
+                ∙ ap (λ l. l ∷ whole_lines (after_line (a ++ take k b))) (first_of_front a (take k b) h)
+                ∙ ap (λ l. first ∷ whole_lines l) (after_of_front a (take k b) h ∙ sym back)
+                ∙ ap (λ t. first ∷ cond t (raw_lines (after_line a ++ b)) (whole_lines (take m (after_line a ++ b)))) (sym then),
+            ap (λ t. cond t AtEnd PastLimit) (outside ∙ sym then),
+          )
     ]
 
 -- a last line without an LF
@@ -83,8 +85,8 @@ pub line_falls : {S : Type 0} (left : S → Option (List ℕ)) (old new : Readin
 line_falls left old new n more came =
     let t = old.held ++ more in
     elim (b_cases (has_end t)) [
-      inl whole ↦ omega (arith, came.passed, came.within, parted t whole, ap length came.rest)
-    | inr open_end ↦ omega (arith, came.passed, came.within, some_length t (came.last open_end).0, ap length (came.rest ∙ after_line_none t open_end))
+      | inl whole ↦ omega (arith, came.passed, came.within, parted t whole, ap length came.rest)
+      | inr open_end ↦ omega (arith, came.passed, came.within, some_length t (came.last open_end).0, ap length (came.rest ∙ after_line_none t open_end))
     ]
 
 -- the line that came is the first of those that were left of a told text
@@ -96,23 +98,23 @@ line_gives left old new n more text came told =
     let t = old.held ++ more in
     let fits : length t ≤ room old = omega (arith, came.passed, came.within) in
     elim (b_cases (has_end t)) [
-      inl whole ↦
-        let all : text ≡ t ++ s.0 = h.2 ∙ ap (λ l. old.held ++ l) s.2 ∙ sym (append_assoc old.held more s.0) in
-        let less : room old - (length (first_line t) + 1) ≡ room new = omega (arith, came.passed, came.within, parted t whole, ap length came.rest) in
-        let step = lines_step (room old) t s.0 whole fits in
-        let now : text_left left new ≡ Some (after_line t ++ s.0) = ap (prepend_known new.held) s.1 ∙ ap (λ l. Some (l ++ s.0)) came.rest in
-        let lines = ap (lines_left (room old)) all
+      | inl whole ↦
+          let all : text ≡ t ++ s.0 = h.2 ∙ ap (λ l. old.held ++ l) s.2 ∙ sym (append_assoc old.held more s.0) in
+          let less : room old - (length (first_line t) + 1) ≡ room new = omega (arith, came.passed, came.within, parted t whole, ap length came.rest) in
+          let step = lines_step (room old) t s.0 whole fits in
+          let now : text_left left new ≡ Some (after_line t ++ s.0) = ap (prepend_known new.held) s.1 ∙ ap (λ l. Some (l ++ s.0)) came.rest in
+          let lines = ap (lines_left (room old)) all
           ∙ lines_shown (room old) (room old - (length (first_line t) + 1)) (t ++ s.0) (after_line t ++ s.0) (first_line t) step.0 step.1
           ∙ ap (λ (m : ℕ). let p : List (List ℕ) × TextEnd = (shown (first_line t) ∷ (lines_left m (after_line t ++ s.0)).0, (lines_left m (after_line t ++ s.0)).1) in p) less in
-        subst (λ p. GivesLine left old new p (Ok (Some n))) (sym lines) (came.number, came.line, (after_line t ++ s.0, now, refl))
-    | inr open_end ↦
-        let last = came.last open_end in
-        let none : s.0 ≡ [] = nothing_left (left new.source) s.0 s.1 last.1 in
-        let all : text ≡ t = h.2 ∙ ap (λ l. old.held ++ l) (s.2 ∙ ap (λ l. more ++ l) none ∙ append-nil more) in
-        let step = lines_last (room old) (room new) t open_end last.0 fits in
-        let now : text_left left new ≡ Some [] = ap (prepend_known new.held) (s.1 ∙ ap Some none) ∙ ap (λ l. Some (l ++ [])) (came.rest ∙ after_line_none t open_end) in
-        let lines = ap (lines_left (room old)) all ∙ lines_shown (room old) (room new) t [] (first_line t) step.0 step.1 in
-        subst (λ p. GivesLine left old new p (Ok (Some n))) (sym lines) (came.number, came.line, ([], now, refl))
+          subst (λ p. GivesLine left old new p (Ok (Some n))) (sym lines) (came.number, came.line, (after_line t ++ s.0, now, refl))
+      | inr open_end ↦
+          let last = came.last open_end in
+          let none : s.0 ≡ [] = nothing_left (left new.source) s.0 s.1 last.1 in
+          let all : text ≡ t = h.2 ∙ ap (λ l. old.held ++ l) (s.2 ∙ ap (λ l. more ++ l) none ∙ append-nil more) in
+          let step = lines_last (room old) (room new) t open_end last.0 fits in
+          let now : text_left left new ≡ Some [] = ap (prepend_known new.held) (s.1 ∙ ap Some none) ∙ ap (λ l. Some (l ++ [])) (came.rest ∙ after_line_none t open_end) in
+          let lines = ap (lines_left (room old)) all ∙ lines_shown (room old) (room new) t [] (first_line t) step.0 step.1 in
+          subst (λ p. GivesLine left old new p (Ok (Some n))) (sym lines) (came.number, came.line, ([], now, refl))
     ]
 
 -- the end comes where nothing is left of a told text
@@ -126,7 +128,7 @@ end_gives left old new text came told =
     let within : nat_le 0 (room old) ≡ true = grind (arith, nat_tests) in
     let now : text_left left new ≡ Some [] = ap (prepend_known new.held) (s.1 ∙ ap Some none) ∙ ap (λ l. Some (l ++ [])) came.rest in
     let lines : lines_left (room old) text ≡ ([], AtEnd) = ap (lines_left (room old)) all
-      ∙ ap (λ (b : Bool). let p : List (List ℕ) × TextEnd = (map shown (cond b [] (whole_lines (take (room old) []))), cond b AtEnd PastLimit) in p) within in
+    ∙ ap (λ (b : Bool). let p : List (List ℕ) × TextEnd = (map shown (cond b [] (whole_lines (take (room old) []))), cond b AtEnd PastLimit) in p) within in
     subst (λ p. GivesLine left old new p (Ok None)) (sym lines) now
 
 -- a told text is past its limit before its next line is whole
@@ -167,13 +169,22 @@ stop_gives left faults old new line new_line taken new_taken TooLong text start 
 pub fresh_text : {S : Type 0} (left : S → Option (List ℕ)) (source : S) → text_left left (fresh source) ≡ left source
 fresh_text left source = prepend_known-nil (left source)
 
+-- and as much room as a text may have
+pub fresh_room : {S : Type 0} (source : S) → room (fresh source) ≡ text_limit
+fresh_room source = refl
+
 -- a line was the first of those left, and the others are left
 pub given_line : {S : Type 0} (left : S → Option (List ℕ)) (old new : Reading S) (lines : List (List ℕ) × TextEnd) (n : ℕ) → GivesLine left old new lines (Ok (Some n))
     → (n ≡ old.number + 1) × ((rest : List ℕ) × (text_left left new ≡ Some rest) × (lines ≡ (new.line ∷ (lines_left (room new) rest).0, (lines_left (room new) rest).1)))
-given_line left old new (line ∷ lines, end) n gives =
-    (gives.0, (gives.2.0, gives.2.1,
-      ap (λ (l : List ℕ). let p : List (List ℕ) × TextEnd = (l ∷ lines, end) in p) (sym gives.1)
-      ∙ ap (λ (q : List (List ℕ) × TextEnd). let p : List (List ℕ) × TextEnd = (new.line ∷ q.0, q.1) in p) (sym gives.2.2)))
+given_line left old new (line ∷ lines, end) n gives = (
+  gives.0,
+  (
+    gives.2.0,
+    gives.2.1,
+    ap (λ (l : List ℕ). let p : List (List ℕ) × TextEnd = (l ∷ lines, end) in p) (sym gives.1)
+        ∙ ap (λ (q : List (List ℕ) × TextEnd). let p : List (List ℕ) × TextEnd = (new.line ∷ q.0, q.1) in p) (sym gives.2.2),
+  ),
+)
 given_line left old new ([], AtEnd) n gives = absurd gives
 given_line left old new ([], PastLimit) n gives = absurd gives
 
@@ -190,3 +201,10 @@ pub given_past : {S : Type 0} (left : S → Option (List ℕ)) (old new : Readin
 given_past left old new (line ∷ lines, end) gives = absurd gives
 given_past left old new ([], AtEnd) gives = absurd gives
 given_past left old new ([], PastLimit) gives = refl
+
+-- one more line is done: of all lines the first were done, and then a line came
+pub lines_more : (all left rest : List (List ℕ) × TextEnd) (done : List (List ℕ)) (line : List ℕ) → all ≡ (done ++ left.0, left.1) → left ≡ (line ∷ rest.0, rest.1)
+    → all ≡ ((done ++ line ∷ []) ++ rest.0, rest.1)
+lines_more all left rest done line all_is left_is =
+    all_is ∙ ap (λ (q : List (List ℕ) × TextEnd). let p : List (List ℕ) × TextEnd = (done ++ q.0, q.1) in p) left_is
+    ∙ ap (λ (l : List (List ℕ)). let p : List (List ℕ) × TextEnd = (l, rest.1) in p) (sym (append_assoc done (line ∷ []) rest.0))

@@ -1,5 +1,5 @@
 -- What a call on the outside tells: its faults are counted, and a failed call has raised its count.
-use Rattle.std.specs.Prelude.{◌≡◌, ℕ, ◌+◌, ◌-◌, ◌^◌, ◌<◌, ◌≤◌, ◌⊎◌, List, length, take, Result, OnErr, IfOk, Option}
+use Rattle.std.specs.Prelude.{◌≡◌, ℕ, ◌-◌, ◌^◌, ◌<◌, ◌≤◌, ◌⊎◌, List, length, take, Result, OnErr, IfOk, Option}
 use Rattle.std.specs.Io.KnownBytes.{Appends}
 
 -- the count rose, or it stands at the last value of a counter of 64 bits

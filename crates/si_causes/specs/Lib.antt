@@ -5,3 +5,4 @@ pub mod Text
 pub mod Gathering
 pub mod Reading
 pub mod Memory
+mod Rows

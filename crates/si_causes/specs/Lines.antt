@@ -1,5 +1,5 @@
 -- The lines of a text: a line ends with LF (10) or with the end of the text, and one CR (13) before that end is not part of it.
-use Rattle.std.specs.Prelude.{◌≡◌, ℕ, ◌+◌, ◌-◌, ◌==◌, nat_le, Bool, true, false, ◌||◌, List, [], ◌∷◌, length, take, map, slice_index, if◌then◌else◌}
+use Rattle.std.specs.Prelude.{ℕ, ◌-◌, ◌==◌, Bool, false, ◌||◌, List, [], ◌∷◌, length, take, slice_index, if◌then◌else◌}
 
 -- what stands before the first LF, or all
 abbrev pub first_line : List ℕ → List ℕ

@@ -1,5 +1,5 @@
 -- The lines of a text that may have only so many bytes, as a reader shows them, and how they end.
-use Rattle.std.specs.Prelude.{ℕ, ◌-◌, nat_le, List, length, take, map, if◌then◌else◌}
+use Rattle.std.specs.Prelude.{ℕ, nat_le, List, length, take, map, if◌then◌else◌}
 use Rattle.si_causes.specs.Lines.{raw_lines, whole_lines, shown}
 
 -- how a text stops: at its end, or with a byte past the last one that it may have

@@ -20,7 +20,8 @@ pub trait Source: Drop {
     /// How often a read has failed.
     ghost faults: { Self → ℕ };
 
-    /// Whether two values are one object at two moments. A caller that lends a source knows by it that it gets that one back.
+    /// Whether two values are one object at two moments. A caller that lends a source knows by it that it gets
+    /// that one back.
     ghost same: { Self → Self → Type 0 };
 
     /// Reads some of the next bytes into the front of `into`, and says how many. 0 for an `into` that is not

@@ -60,7 +60,8 @@ pub(crate) fn gather<S: Source>(
 ) -> Result<Found, ReadStop>
     requires empty { line.old ≡ [] }
     requires within { taken.old ≤ 67108864 }
-    ensures gathers { Gathers S.left S.faults (hand source.old held.old line.old taken.old) (hand source.new held.new line.new taken.new) result }
+    ensures gathers { Gathers S.left S.faults (hand source.old held.old line.old taken.old)
+        (hand source.new held.new line.new taken.new) result }
     ensures later { S.faults source.old ≤ S.faults source.new }
     ensures lazy { has_end held.old ≡ true → source.new ≡ source.old }
     ensures same { S.same source.old source.new }

@@ -24,7 +24,8 @@ impl Model for Held {
 
     ghost view = { λ h. slice_range h.buffer.items h.start h.end };
 
-    ghost invariant = { λ h. (h.start ≤ h.end) × (h.end ≤ length h.buffer.items) × (length h.buffer.items ≡ 65536) };
+    ghost invariant = { λ h. (h.start ≤ h.end) × (h.end ≤ length h.buffer.items)
+        × (length h.buffer.items ≡ 65536) };
 }
 
 impl Held {
@@ -64,7 +65,8 @@ impl Held {
     // Reads at most `room` bytes in place of what is held.
     pub(crate) fn refill<S: Source>(&mut self, source: &mut S, room: u64) -> Result<usize, Failed>
         requires { 1 ≤ room }
-        ensures ok { IfOk result (λ n. (n ≡ length self.new) × (n ≤ room) × Consumes (S.left source.old) (S.left source.new) self.new) }
+        ensures ok { IfOk result (λ n. (n ≡ length self.new) × (n ≤ room)
+            × Consumes (S.left source.old) (S.left source.new) self.new) }
         ensures end { IfOk result (λ n. n ≡ 0 → IsAtEnd (S.left source.new)) }
         ensures err { OnErr result ((self.new ≡ []) × Keeps (S.left source.old) (S.left source.new)) }
         ensures cause { HasCause (S.faults source.old) (S.faults source.new) result }

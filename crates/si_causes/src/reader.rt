@@ -16,7 +16,12 @@ use std::marker::Model;
 /// A reader of the lines of a source.
 ///
 /// A line ends with LF or with the end of the source, and one CR before that end is not part of it. Behind an LF
-/// at the end there is no further line. The text may have 67,108,864 bytes.
+/// at the end there is no further line. A line is shown up to its 16,385th byte, so that a caller can tell one that is
+/// longer than 16,384 bytes. The text may have 67,108,864 bytes, LFs and CRs included.
+///
+/// Contracts see a reader as the record `Reading`: the source, the bytes that it gave and that stand in no line yet,
+/// how many bytes stand in the lines handed out, how many lines these are, the last of them, whether the source told
+/// its end, and why there are no more lines.
 #[derive(Drop)]
 pub struct LineReader<S: Source> {
     source: S,
@@ -35,9 +40,18 @@ impl<S: Source> Model for LineReader<S> {
 
     ghost Value = { Reading S };
 
-    ghost view = { λ r. record { source = r.source; held = r.held; passed = r.passed; number = r.number; line = r.line; ended = r.ended; stop = r.stop } };
+    ghost view = { λ r. record {
+      source = r.source;
+      held = r.held;
+      passed = r.passed;
+      number = r.number;
+      line = r.line;
+      ended = r.ended;
+      stop = r.stop;
+    } };
 
-    ghost invariant = { λ r. (r.passed + length r.held ≤ 67108864) × (r.number ≤ r.passed) × (r.ended ≡ true → (r.held ≡ []) × IsAtEnd (S.left r.source)) };
+    ghost invariant = { λ r. (r.passed + length r.held ≤ 67108864) × (r.number ≤ r.passed)
+        × (r.ended ≡ true → (r.held ≡ []) × IsAtEnd (S.left r.source)) };
 }
 
 impl<S: Source> LineReader<S> {
@@ -59,18 +73,19 @@ impl<S: Source> LineReader<S> {
         })
     }
 
-    /// Goes on to the next line and gives its number, from 1 on, or `None` at the end.
+    /// Goes on to the next line and gives its number, from 1 on, or `None` exactly at the end.
     ///
     /// `TooLong` comes exactly where the source gave a byte after its 67,108,864th before the line was whole.
-    /// `Failed` comes only where the source failed in this call. After either each later call answers the same. The source is read only where no
-    /// whole line is held. It takes no memory.
+    /// `Failed` comes only where a read of the source failed in this call. After either each later call answers the
+    /// same. The source is read only where the bytes that it gave hold no further whole line. It takes no memory.
     pub fn next(&mut self) -> Result<Option<u64>, ReadStop>
         ensures lines { self.old.stop ≡ None → (text : List ℕ) → text_left S.left self.old ≡ Some text
             → GivesLine S.left self.old self.new (lines_left (room self.old) text) result }
         ensures came { self.old.stop ≡ None → NextCame S.left S.faults self.old self.new result }
         ensures falls { Falls self.old self.new result }
         ensures end { result ≡ Ok None → IsAtEnd (S.left self.new.source) }
-        ensures over { self.old.stop ≡ None → self.old.ended ≡ true → (result ≡ Ok None) × (self.new ≡ self.old) }
+        ensures over { self.old.stop ≡ None → self.old.ended ≡ true
+            → (result ≡ Ok None) × (self.new ≡ self.old) }
         ensures sticky { IfSome self.old.stop (λ stop. (result ≡ Err stop) × (self.new ≡ self.old)) }
         ensures lazy { has_end self.old.held ≡ true → self.new.source ≡ self.old.source }
         ensures later { S.faults self.old.source ≤ S.faults self.new.source }
@@ -109,7 +124,7 @@ impl<S: Source> LineReader<S> {
         }
     }
 
-    /// The line that `next` gave last; of a line that is longer than 16,384 bytes the first 16,385.
+    /// The line that `next` gave last, without its end; of a line that is longer than 16,384 bytes the first 16,385.
     pub fn line(&self) -> &[u8]
         ensures { result.now ≡ self.now.line }
     {

@@ -1,11 +1,10 @@
-use Rattle.std.proofs.Common.{◌≡◌, ◌+◌, ◌++◌, ◌∷◌, [], length, refl, sym, ap, ◌∙◌, subst, arith, false, true, ◌≤◌, take, lit<}
-use Rattle.std.specs.Io.KnownBytes.{Consumes}
-use Rattle.std.proofs.KnownBytes.{Consumes-trans, Consumes-kept}
+use Rattle.std.proofs.Common.{◌≡◌, ◌+◌, ◌++◌, [], length, refl, sym, ap, ◌∙◌, arith, false, true, ◌≤◌, take, lit<}
+use Rattle.std.proofs.KnownBytes.{Consumes-kept}
 use Rattle.si_causes.specs.Lines.{has_end}
 use Rattle.si_causes.specs.Gathering.{hand}
 use Rattle.si_causes.proofs.LineFacts.{has_end_append}
 use Rattle.si_causes.proofs.CauseFacts.{Rose-from}
-use Rattle.si_causes.proofs.GatherFacts.{start, ended, grown, at_end, take_nothing, no_length, one_byte}
+use Rattle.si_causes.proofs.GatherFacts.{start, ended, grown, at_end, take_nothing, no_length, one_more}
 use Rattle.si_causes.proofs.gather.gather.Goals as goal
 use Rattle.si_causes.proofs.gather.gather.Goals.{then-taken-lt-TEXT, else-taken-lt-TEXT}
 
@@ -20,18 +19,22 @@ pub returns-then-take_line-clause-gathers : goal.returns-then-take_line-clause-g
 returns-then-take_line-clause-gathers g c =
     let i = c.loop-room.invariant.0 in
     let r = ended g.S.Source.left g.S.Source.faults _ (hand c.loop-room.source c.loop-room.held c.loop-room.line c.loop-room.taken) i.0 i.1 c.take_line.new.held c.take_line.new.line i.2
-        c.take_line.ensures.line c.take_line.ensures.held (sym c.take_line.ensures.found ∙ c.if-take_line.true) in
+    c.take_line.ensures.line c.take_line.ensures.held (sym c.take_line.ensures.found ∙ c.if-take_line.true) in
     (i.1, r.0, r.1)
 
 pub returns-in-Err-clause-gathers : goal.returns-in-Err-clause-gathers
 returns-in-Err-clause-gathers g c =
     let i = c.loop-room.invariant.0 in
     let s = i.2 in
-    let none = sym c.take_line.ensures.found ∙ c.if-take_line.false in
-    (c.in-Err.ensures.err.0, (i.1,
-      Consumes-kept (g.S.Source.left c.args.source.now) (g.S.Source.left c.loop-room.source) (g.S.Source.left c.refill.new.source) i.1 s.consumed c.in-Err.ensures.err.1,
-      ap has_end s.same ∙ has_end_append i.0 c.loop-room.held s.no_end ∙ none,
-      Rose-from (g.S.Source.faults c.args.source.now) (g.S.Source.faults c.loop-room.source) (g.S.Source.faults c.refill.new.source) s.later c.in-Err.ensures.cause.failed))
+    let none = sym c.take_line.ensures.found ∙ c.if-take_line.false in (
+      c.in-Err.ensures.err.0,
+      (
+        i.1,
+        Consumes-kept (g.S.Source.left c.args.source.now) (g.S.Source.left c.loop-room.source) (g.S.Source.left c.refill.new.source) i.1 s.consumed c.in-Err.ensures.err.1,
+        ap has_end s.same ∙ has_end_append i.0 c.loop-room.held s.no_end ∙ none,
+        Rose-from (g.S.Source.faults c.args.source.now) (g.S.Source.faults c.loop-room.source) (g.S.Source.faults c.refill.new.source) s.later c.in-Err.ensures.cause.failed,
+      ),
+    )
 
 pub returns-then-is_empty-clause-gathers : goal.returns-then-is_empty-clause-gathers
 returns-then-is_empty-clause-gathers g c =
@@ -39,8 +42,8 @@ returns-then-is_empty-clause-gathers g c =
     let none = sym c.take_line.ensures.found ∙ c.if-take_line.false in
     let zero : length c.refill.new.self ≡ 0 = omega (arith, c.in-Ok.ensures.ok.0, c.if-count-eq0.true) in
     let s = grown g.S.Source.left g.S.Source.faults (hand c.args.source.now c.args.held.now c.args.line.now c.args.taken.now) (hand c.loop-room.source c.loop-room.held c.loop-room.line c.loop-room.taken)
-        i.0 i.1 c.refill.new.self c.take_line.new.line c.refill.new.source c.loop-room.taken i.2
-        c.take_line.ensures.line none c.in-Ok.ensures.ok.2 (omega arith) i.2.within c.in-Ok.ensures.cause.later in
+    i.0 i.1 c.refill.new.self c.take_line.new.line c.refill.new.source c.loop-room.taken i.2
+    c.take_line.ensures.line none c.in-Ok.ensures.ok.2 (omega arith) i.2.within c.in-Ok.ensures.cause.later in
     let e = at_end g.S.Source.left g.S.Source.faults _ _ _ _ s (no_length c.refill.new.self zero) in
     let empty = take_nothing 16386 (i.0 ++ c.loop-room.held) (lit< tt) (sym s.line ∙ c.is_empty.ensures.0 c.if-is_empty.true) in
     (i.1 ++ c.refill.new.self, e.0, (e.2 ∙ empty, c.in-Ok.ensures.end c.if-count-eq0.true))
@@ -51,11 +54,13 @@ returns-else-is_empty-clause-gathers g c =
     let none = sym c.take_line.ensures.found ∙ c.if-take_line.false in
     let zero : length c.refill.new.self ≡ 0 = omega (arith, c.in-Ok.ensures.ok.0, c.if-count-eq0.true) in
     let s = grown g.S.Source.left g.S.Source.faults (hand c.args.source.now c.args.held.now c.args.line.now c.args.taken.now) (hand c.loop-room.source c.loop-room.held c.loop-room.line c.loop-room.taken)
-        i.0 i.1 c.refill.new.self c.take_line.new.line c.refill.new.source c.loop-room.taken i.2
-        c.take_line.ensures.line none c.in-Ok.ensures.ok.2 (omega arith) i.2.within c.in-Ok.ensures.cause.later in
-    let e = at_end g.S.Source.left g.S.Source.faults _ _ _ _ s (no_length c.refill.new.self zero) in
-    (i.1 ++ c.refill.new.self, e.0,
-      (e.1, λ z. let shows = c.is_empty.ensures.1 (s.line ∙ ap (take 16386) (sym e.2 ∙ z)) in false-true (sym c.if-is_empty.false ∙ shows), c.in-Ok.ensures.end c.if-count-eq0.true))
+    i.0 i.1 c.refill.new.self c.take_line.new.line c.refill.new.source c.loop-room.taken i.2
+    c.take_line.ensures.line none c.in-Ok.ensures.ok.2 (omega arith) i.2.within c.in-Ok.ensures.cause.later in
+    let e = at_end g.S.Source.left g.S.Source.faults _ _ _ _ s (no_length c.refill.new.self zero) in (
+      i.1 ++ c.refill.new.self,
+      e.0,
+      (e.1, λ z. let shows = c.is_empty.ensures.1 (s.line ∙ ap (take 16386) (sym e.2 ∙ z)) in false-true (sym c.if-is_empty.false ∙ shows), c.in-Ok.ensures.end c.if-count-eq0.true),
+    )
 
 pub returns-then-taken-ge-TEXT-clause-gathers : goal.returns-then-taken-ge-TEXT-clause-gathers
 returns-then-taken-ge-TEXT-clause-gathers g c =
@@ -63,24 +68,32 @@ returns-then-taken-ge-TEXT-clause-gathers g c =
     let s = i.2 in
     let none = sym c.take_line.ensures.found ∙ c.if-take_line.false in
     let room : c.if-taken-lt-TEXT.room ≡ 1 =
-      elim c.if-taken-lt-TEXT.branch [ then-taken-lt-TEXT w ↦ omega arith | else-taken-lt-TEXT w ↦ omega arith ] in
+    elim c.if-taken-lt-TEXT.branch [ then-taken-lt-TEXT w ↦ omega arith | else-taken-lt-TEXT w ↦ omega arith ] in
     let one : length c.refill.new.self ≡ 1 = omega (arith, c.in-Ok.ensures.ok.0, c.in-Ok.ensures.ok.1, c.if-count-eq0.false) in
-    let b = one_byte c.refill.new.self one in
-    (c.clear.ensures, (i.1, b.0,
-      subst (λ l. Consumes (g.S.Source.left c.args.source.now) (g.S.Source.left c.refill.new.source) (i.1 ++ l)) b.1
-        (Consumes-trans (g.S.Source.left c.args.source.now) (g.S.Source.left c.loop-room.source) (g.S.Source.left c.refill.new.source) i.1 c.refill.new.self s.consumed c.in-Ok.ensures.ok.2),
-      omega (arith, s.taken, s.within, c.if-taken-ge-TEXT.true),
-      ap has_end s.same ∙ has_end_append i.0 c.loop-room.held s.no_end ∙ none))
+    let over = one_more (g.S.Source.left c.args.source.now) (g.S.Source.left c.loop-room.source) (g.S.Source.left c.refill.new.source) i.1 c.refill.new.self one s.consumed c.in-Ok.ensures.ok.2 in (
+      c.clear.ensures,
+      (
+        i.1,
+        over.0,
+        over.1,
+        omega (arith, s.taken, s.within, c.if-taken-ge-TEXT.true),
+        ap has_end s.same ∙ has_end_append i.0 c.loop-room.held s.no_end ∙ none,
+      ),
+    )
 
 pub loop-room-preserved : goal.loop-room-preserved
 loop-room-preserved g c =
     let i = c.loop-room.invariant.0 in
     let none = sym c.take_line.ensures.found ∙ c.if-take_line.false in
     let within : c.loop-room.taken + c.in-Ok.count ≤ 67108864 =
-      elim c.if-taken-lt-TEXT.branch [ then-taken-lt-TEXT w ↦ omega (arith, c.in-Ok.ensures.ok.1) | else-taken-lt-TEXT w ↦ absurd (omega arith) ] in
-    ((i.0 ++ c.loop-room.held, i.1 ++ c.refill.new.self,
-      grown g.S.Source.left g.S.Source.faults (hand c.args.source.now c.args.held.now c.args.line.now c.args.taken.now) (hand c.loop-room.source c.loop-room.held c.loop-room.line c.loop-room.taken)
-        i.0 i.1 c.refill.new.self c.take_line.new.line c.refill.new.source (c.loop-room.taken + c.in-Ok.count) i.2
-        c.take_line.ensures.line none c.in-Ok.ensures.ok.2 (omega (arith, c.in-Ok.ensures.ok.0)) within c.in-Ok.ensures.cause.later),
+    elim c.if-taken-lt-TEXT.branch [ then-taken-lt-TEXT w ↦ omega (arith, c.in-Ok.ensures.ok.1) | else-taken-lt-TEXT w ↦ absurd (omega arith) ] in (
+      (
+        i.0 ++ c.loop-room.held,
+        i.1 ++ c.refill.new.self,
+        grown g.S.Source.left g.S.Source.faults (hand c.args.source.now c.args.held.now c.args.line.now c.args.taken.now) (hand c.loop-room.source c.loop-room.held c.loop-room.line c.loop-room.taken)
+            i.0 i.1 c.refill.new.self c.take_line.new.line c.refill.new.source (c.loop-room.taken + c.in-Ok.count) i.2
+            c.take_line.ensures.line none c.in-Ok.ensures.ok.2 (omega (arith, c.in-Ok.ensures.ok.0)) within c.in-Ok.ensures.cause.later,
+      ),
       λ h. absurd (false-true (sym none ∙ ap has_end (c.loop-room.invariant.1 h).1 ∙ h)),
-      g.met.S.Source.same_later c.args.source.now c.loop-room.source c.refill.new.source c.loop-room.invariant.2 c.in-Ok.ensures.same)
+      g.met.S.Source.same_later c.args.source.now c.loop-room.source c.refill.new.source c.loop-room.invariant.2 c.in-Ok.ensures.same,
+    )

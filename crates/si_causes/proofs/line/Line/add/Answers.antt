@@ -1,4 +1,4 @@
-use Rattle.std.proofs.Common.{◌≡◌, ◌++◌, ◌-◌, ◌≤◌, min, take, length, arith, ap, ◌∙◌}
+use Rattle.std.proofs.Common.{◌++◌, ◌-◌, ◌≤◌, min, take, length, arith, ap, ◌∙◌}
 use Rattle.si_causes.proofs.LineFacts.{fill_front}
 use Rattle.si_causes.proofs.line.Line.add.Goals as goal
 
