@@ -8,7 +8,8 @@ use std::marker::Model;
 /// where their elements are, whatever room each has. It keeps the allocator of its `Vec`.
 #[derive(Debug, Drop)]
 pub struct Items<T> {
-    items: Vec<T>,
+    /// The elements, in a `Vec` of which contracts see the elements alone.
+    pub items: Vec<T>,
 }
 
 /// A list of bytes.

@@ -1,0 +1,6 @@
+pub mod AnnexC
+pub mod DateFacts
+pub mod ReadFacts
+pub mod RoundTrips
+pub mod TextFacts
+pub mod Values

@@ -1,0 +1,4 @@
+pub mod Dates
+pub mod Moments
+pub mod Readings
+pub mod Rows

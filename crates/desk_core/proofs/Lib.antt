@@ -1,0 +1,2 @@
+pub mod JournalFacts
+pub mod HeldFacts

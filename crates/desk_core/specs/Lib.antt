@@ -1,0 +1,5 @@
+pub mod Journal
+pub mod Publications
+pub mod Holding
+pub mod Desks
+pub mod Rows

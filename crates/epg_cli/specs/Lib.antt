@@ -1,0 +1,9 @@
+pub mod Fields
+pub mod Codes
+pub mod Script
+pub mod Texts
+pub mod Air
+pub mod Reads
+pub mod Played
+pub mod Run
+pub mod Rows

@@ -1,0 +1,4 @@
+pub mod Replies
+pub mod Standing
+pub mod Books
+pub mod Rows

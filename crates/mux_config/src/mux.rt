@@ -1,0 +1,72 @@
+// A multiplex and its services.
+ghost use Rattle.std.specs.Prelude.{◌≡◌, IfOk};
+
+use guide_model::{Cable, Components};
+use si_base::{Copies, Items};
+use si_text::Txt;
+use si_time::Moment;
+use std::alloc::AllocError;
+
+/// A service of the multiplex: its id, the number of the feed that edits it, its service_type, the PIDs of its PMT and of its
+/// clock reference, its first names and its components.
+#[derive(Debug, Drop)]
+pub struct MuxService {
+    pub service: u16,
+    pub feed: u8,
+    pub kind: u8,
+    pub pmt_pid: u16,
+    pub pcr_pid: u16,
+    pub provider: Txt,
+    pub name: Txt,
+    pub components: Components,
+}
+
+/// Services, in ascending order of their ids.
+pub type MuxServices = Items<MuxService>;
+
+/// A multiplex: network_id and name, transport_stream_id, original_network_id, its cable delivery where it is given, the
+/// moment at which its desk starts, the packets between two repeats of its frequent tables, and its services.
+#[derive(Debug, Drop)]
+pub struct Mux {
+    pub network: u16,
+    pub network_name: Txt,
+    pub stream: u16,
+    pub original: u16,
+    pub cable: Option<Cable>,
+    pub start: Moment,
+    pub quota: u32,
+    pub services: MuxServices,
+}
+
+impl Copies for MuxService {
+    fn copy(&self) -> Result<MuxService, AllocError> {
+        Ok(MuxService {
+            service: self.service,
+            feed: self.feed,
+            kind: self.kind,
+            pmt_pid: self.pmt_pid,
+            pcr_pid: self.pcr_pid,
+            provider: self.provider.copy()?,
+            name: self.name.copy()?,
+            components: self.components.copy()?,
+        })
+    }
+}
+
+impl Mux {
+    /// A copy.
+    pub fn copy(&self) -> Result<Mux, AllocError>
+        ensures { IfOk result (λ copy. copy ≡ self.now) }
+    {
+        Ok(Mux {
+            network: self.network,
+            network_name: self.network_name.copy()?,
+            stream: self.stream,
+            original: self.original,
+            cable: self.cable,
+            start: self.start,
+            quota: self.quota,
+            services: self.services.copy()?,
+        })
+    }
+}

@@ -1,0 +1,68 @@
+// The coded form of a text.
+ghost use Rattle.std.specs.Prelude.{◌≡◌, IfOk};
+ghost use Rattle.si_text.specs.Coding.{is_plain, all_plain, coded_text, coded_size};
+
+use si_base::Bytes;
+use std::alloc::{AllocError, Global};
+
+/// The first byte of a text in UTF-8 (EN 300 468, annex A, table A.3).
+const UTF8: u8 = 0x15;
+
+/// Whether a byte is a character of the plain set, which is coded as it is. It takes no memory.
+pub fn is_plain_byte(b: u8) -> bool
+    ensures { result ≡ is_plain b }
+{
+    matches!(
+        b,
+        b'A'..=b'Z'
+            | b'a'..=b'z'
+            | b'0'..=b'9'
+            | b' '
+            | b'.'
+            | b','
+            | b':'
+            | b';'
+            | b'!'
+            | b'?'
+            | b'\''
+            | b'"'
+            | b'('
+            | b')'
+            | b'-'
+            | b'/'
+            | b'&'
+            | b'%'
+            | b'+'
+            | b'*'
+    )
+}
+
+fn is_all_plain(text: &str) -> bool
+    ensures { result ≡ all_plain text.now }
+{
+    text.as_bytes().iter().all(|b| is_plain_byte(*b))
+}
+
+/// The number of bytes that a text is coded as. It takes no memory.
+pub fn coded_len(text: &str) -> usize
+    ensures { result ≡ coded_size text.now }
+{
+    if is_all_plain(text) {
+        text.len()
+    } else {
+        1 + text.len()
+    }
+}
+
+/// The bytes that a text is coded as: none for the empty text, the ASCII bytes of a text of the plain set, and
+/// 0x15 before the UTF-8 bytes of any other.
+pub fn encode_text(alloc: Global, text: &str) -> Result<Bytes, AllocError>
+    ensures { IfOk result (λ coded. coded ≡ coded_text text.now) }
+{
+    let mut coded = Vec::new(alloc);
+    if !is_all_plain(text) {
+        coded.push(UTF8)?;
+    }
+    coded.extend_from_slice(text.as_bytes())?;
+    Ok(Bytes::of(coded))
+}

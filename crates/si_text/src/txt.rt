@@ -1,0 +1,72 @@
+// Texts that are kept.
+ghost use Rattle.std.specs.Prelude.{◌≡◌, IfOk, Some, None, false, if◌then◌else◌};
+ghost use Rattle.std.specs.Str.{chars};
+ghost use Rattle.std.specs.List.{list_any};
+ghost use Rattle.si_text.specs.Control.{is_control, has_control};
+
+use std::alloc::{AllocError, Global};
+use std::marker::Model;
+
+/// A text without control characters (U+0000 to U+001F, U+007F to U+009F and U+E080 to U+E09F), which contracts
+/// see as its UTF-8 bytes.
+#[derive(Debug, Drop)]
+pub struct Txt {
+    text: String,
+}
+
+impl Model for Txt {
+    ghost use Rattle.std.specs.Prelude.{◌≡◌, List, ℕ, string_bytes, false};
+    ghost use Rattle.si_text.specs.Control.{has_control};
+
+    ghost Value = { List ℕ };
+
+    ghost view = { λ t. string_bytes t.text };
+
+    ghost invariant = { λ t. has_control (string_bytes t.text) ≡ false };
+}
+
+impl Txt {
+    /// The text, or `None` exactly where it has a control character.
+    pub fn of(alloc: Global, text: &str) -> Result<Option<Txt>, AllocError>
+        ensures { IfOk result (λ made. made ≡ (if has_control text.now then None else Some text.now)) }
+    {
+        if is_controlled(text) {
+            return Ok(None);
+        }
+        let text = String::from_str(alloc, text)?;
+        Ok(Some(Txt { text }))
+    }
+
+    /// A copy.
+    pub fn copy(&self) -> Result<Txt, AllocError>
+        ensures { IfOk result (λ copy. copy ≡ self.now) }
+    {
+        Ok(Txt {
+            text: self.text.clone()?,
+        })
+    }
+
+    /// The text.
+    pub fn as_str(&self) -> &str
+        ensures value { result.now ≡ self.now }
+        ensures clean { has_control self.now ≡ false }
+    {
+        self.text.as_str()
+    }
+}
+
+fn is_control_char(c: char) -> bool
+    ensures { result ≡ is_control c }
+{
+    matches!(c, '\0'..='\u{1F}' | '\u{7F}'..='\u{9F}' | '\u{E080}'..='\u{E09F}')
+}
+
+fn is_controlled(text: &str) -> bool
+    ensures { result ≡ has_control text.now }
+{
+    text.chars().any(
+        |c: char| -> bool
+            ensures { result ≡ is_control c }
+        { is_control_char(c) },
+    )
+}
