@@ -1,8 +1,7 @@
 -- Text of the plain set is ASCII, and has no control character.
 use Rattle.std.proofs.Common.{◌≡◌, ℕ, zero, suc, ◌<◌, ◌≤◌, Bool, true, false, List, [], ◌∷◌, arith, lit<, refl, ap, ◌∙◌}
-use Rattle.std.specs.Prelude.{IsAscii, ◌&&◌, ◌||◌, nat_le, nat_lt}
-use Rattle.std.specs.List.{list_all, list_any}
-use Rattle.std.specs.Str.{chars}
+use Rattle.std.specs.Prelude.{IsAscii, ◌&&◌, ◌||◌}
+use Rattle.std.specs.List.{list_any}
 use Rattle.std.proofs.lemmas.Str.{chars-IsAscii}
 use Rattle.std.proofs.lemmas.Bool.Decides.{nat_tests}
 use Rattle.si_text.specs.Coding.{is_plain, all_plain}

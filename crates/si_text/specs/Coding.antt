@@ -1,4 +1,5 @@
--- How a text is coded (EN 300 468, annex A): text of a plain set of characters as it is, other text as UTF-8 behind the byte 0x15.
+-- How a text is coded (EN 300 468, annex A): text of a plain set of characters as it is, other text as UTF-8
+-- behind the byte 0x15.
 use Rattle.std.specs.Prelude.{ℕ, ◌+◌, Bool, ◌||◌, ◌&&◌, ◌==◌, nat_le, List, ◌∷◌, length, if◌then◌else◌}
 use Rattle.std.specs.List.{list_all}
 

@@ -1,5 +1,5 @@
 // The coded form of a text.
-ghost use Rattle.std.specs.Prelude.{◌≡◌, IfOk};
+ghost use Rattle.std.specs.Prelude.{◌≡◌, length, IfOk};
 ghost use Rattle.si_text.specs.Coding.{is_plain, all_plain, coded_text, coded_size};
 
 use si_base::Bytes;
@@ -57,7 +57,8 @@ pub fn coded_len(text: &str) -> usize
 /// The bytes that a text is coded as: none for the empty text, the ASCII bytes of a text of the plain set, and
 /// 0x15 before the UTF-8 bytes of any other.
 pub fn encode_text(alloc: Global, text: &str) -> Result<Bytes, AllocError>
-    ensures { IfOk result (λ coded. coded ≡ coded_text text.now) }
+    ensures bytes { IfOk result (λ coded. coded ≡ coded_text text.now) }
+    ensures size { IfOk result (λ coded. length coded ≡ coded_size text.now) }
 {
     let mut coded = Vec::new(alloc);
     if !is_all_plain(text) {
