@@ -43,10 +43,10 @@ no_journal (Some mux) = refl
 
 none_aired : (script : Script) (air : Told) → air.old ≡ air.new → IsAired script [] air
 none_aired script air same = record {
-    cycles = [];
-    is_air = subst (λ (l : List Airing). IsAirOf l []) (sym (nothing_for script.mux)) IsAirOf-none;
-    bytes = subst (λ (w : Option (List ℕ)). Appends air.old w []) same (appends_nil air.old);
-  }
+  cycles = [];
+  is_air = subst (λ (l : List Airing). IsAirOf l []) (sym (nothing_for script.mux)) IsAirOf-none;
+  bytes = subst (λ (w : Option (List ℕ)). Appends air.old w []) same (appends_nil air.old);
+}
 
 -- ---- nothing was played
 
@@ -63,25 +63,25 @@ no_block left new script air NoMemory same e = tt
 aired_is : (mux : Mux) (desk : DeskState) (player : Playing) (rest : List Command × Stop) (commands : List Command) (air : Told) → desk ≡ desk_after (fresh mux) commands → HasAired desk player air.old air.new
     → IsAired (with_commands mux rest) (journal_of mux commands) air
 aired_is mux desk player rest commands air d (xs, end, are, bytes) = record {
-    cycles = xs;
-    is_air = subst (λ (l : List Airing). IsAirOf l xs) (are ∙ ap (λ (x : DeskState). airings x.mux x.entries) d) end.is_air;
-    bytes = bytes;
-  }
+  cycles = xs;
+  is_air = subst (λ (l : List Airing). IsAirOf l xs) (are ∙ ap (λ (x : DeskState). airings x.mux x.entries) d) end.is_air;
+  bytes = bytes;
+}
 
 front_is : (mux : Mux) (desk : DeskState) (rest : List Command × Stop) (commands : List Command) (air : Told) → desk ≡ desk_after (fresh mux) commands → HasAiredFront desk air.old air.new
     → IsAiredFront (with_commands mux rest) (journal_of mux commands) air
 front_is mux desk rest commands air d f = record {
-    front = f.front;
-    last = f.last;
-    entries = sym (ap (λ (x : DeskState). x.entries) d) ∙ f.entries;
-    is_swap = f.is_swap;
-    whole = f.whole;
-    cut = f.cut;
-    is_air = subst (λ (l : List Airing). IsAirOf l (f.whole ++ f.cut ∷ [])) (ap (λ (x : DeskState). airings x.mux x.entries) d) f.is_air;
-    taken = f.taken;
-    proper = f.proper;
-    bytes = f.bytes;
-  }
+  front = f.front;
+  last = f.last;
+  entries = sym (ap (λ (x : DeskState). x.entries) d) ∙ f.entries;
+  is_swap = f.is_swap;
+  whole = f.whole;
+  cut = f.cut;
+  is_air = subst (λ (l : List Airing). IsAirOf l (f.whole ++ f.cut ∷ [])) (ap (λ (x : DeskState). airings x.mux x.entries) d) f.is_air;
+  taken = f.taken;
+  proper = f.proper;
+  bytes = f.bytes;
+}
 
 played_rest : (r : Result (Unit {0}) PlayStop) (mux : Mux) (rest : List Command × Stop) (desk : DeskState) (player : Playing) (air : Told) → RestDid rest (fresh mux) desk r → AiredTo desk player air.old air.new r
     → HasPlayed (with_commands mux rest) air (Some desk) (result_err r)

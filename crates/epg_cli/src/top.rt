@@ -59,7 +59,12 @@ fn play<S: Source, A: Sink>(alloc: Global, lines: &mut LineReader<S>, air: &mut 
 }
 
 // Opens the input, plays its script and reports.
-fn play_through<S: Source, A: Sink, R: Sink>(alloc: Global, input: &mut S, air: &mut A, report: &mut R) -> Status
+fn play_through<S: Source, A: Sink, R: Sink>(
+    alloc: Global,
+    input: &mut S,
+    air: &mut A,
+    report: &mut R,
+) -> Status
     ensures leaves { (text : List ℕ) → S.left input.old ≡ Some text
         → Leaves (script_in text) (told A.written A.faults air.old air.new) (told R.written R.faults report.old report.new) result }
     ensures status { IsOfPlay result }
@@ -78,7 +83,12 @@ fn play_through<S: Source, A: Sink, R: Sink>(alloc: Global, input: &mut S, air: 
 
 /// Plays the script of the input: reads its lines and does them one after the other, sends one cycle to the air after each swap,
 /// and reports the journal of all steps done, with a line that names the fault where there is one.
-pub fn run_play<S: Source, A: Sink, R: Sink>(alloc: Global, input: &mut S, air: &mut A, report: &mut R) -> Status
+pub fn run_play<S: Source, A: Sink, R: Sink>(
+    alloc: Global,
+    input: &mut S,
+    air: &mut A,
+    report: &mut R,
+) -> Status
     ensures leaves { (text : List ℕ) → S.left input.old ≡ Some text
         → Leaves (script_in text) (told A.written A.faults air.old air.new) (told R.written R.faults report.old report.new) result }
     // Where neither the input nor a sink fails, the script decides the status, but for want of memory.

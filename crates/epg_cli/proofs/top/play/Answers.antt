@@ -25,7 +25,7 @@ returns-clause-played g c = λ text tells.
     let air = told g.A.Sink.written g.A.Sink.faults c.args.air.now c.play_rest.new.air in
     let did = c.play_rest.ensures.did block.0 block.1 in
     let did_all = subst (λ (d : DeskState). RestDid (commands_of 5 (lines_of c.read_block.new.lines block.0)) d c.play_rest.new.desk c.play_rest.result) desk
-      (subst (λ (rest : Rest). RestDid rest c.in-Ok-open.desk c.play_rest.new.desk c.play_rest.result) number did) in
+    (subst (λ (rest : Rest). RestDid rest c.in-Ok-open.desk c.play_rest.new.desk c.play_rest.result) number did) in
     let aired = c.play_rest.ensures.aired (g.A.Sink.written c.args.air.now) (start_aired c.in-Ok.mux c.in-Ok-open.desk c.open-player.result (g.A.Sink.written c.args.air.now) desk c.open-player.ensures) in
     subst (λ (o : Option PlayStop). HasPlayed (script_of (lines_of c.args.lines.now text)) air (Some c.play_rest.new.desk) o) (sym c.err-stop.ensures.value)
-      (played_all c.play_rest.result (script_of (lines_of c.args.lines.now text)) c.in-Ok.mux (commands_of 5 (lines_of c.read_block.new.lines block.0)) c.play_rest.new.desk c.play_rest.new.player air block.2 did_all aired)
+    (played_all c.play_rest.result (script_of (lines_of c.args.lines.now text)) c.in-Ok.mux (commands_of 5 (lines_of c.read_block.new.lines block.0)) c.play_rest.new.desk c.play_rest.new.player air block.2 did_all aired)

@@ -10,5 +10,5 @@ returns-clause-leaves g c = λ text tells.
     let report = told g.R.Sink.written g.R.Sink.faults c.args.report.now c.finish.new.report in
     let start = started (λ s. g.S.Source.left s.now) c.in-Ok.lines _ text c.in-Ok.ensures tells in
     leaves c.play-played.result.stop (script_in text) air report c.play-played.result.desk c.finish.result
-      (subst (λ (s : Script). HasPlayed s air c.play-played.result.desk c.play-played.result.stop) start.1 (c.play-played.ensures.played text start.0))
-      c.finish.ensures.finished
+    (subst (λ (s : Script). HasPlayed s air c.play-played.result.desk c.play-played.result.stop) start.1 (c.play-played.ensures.played text start.0))
+    c.finish.ensures.finished
