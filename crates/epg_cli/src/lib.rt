@@ -21,3 +21,6 @@ mod top;
 
 pub use status::{Origin, Outlet, Status};
 pub use top::{run, run_play};
+
+#[cfg(test)]
+mod tests;
