@@ -1,13 +1,14 @@
 -- An air grows by one cycle.
-use Rattle.std.proofs.Common.{◌≡◌, ℕ, List, [], ◌∷◌, ◌++◌, refl, sym, ap, ◌∙◌, subst, append_assoc, append-nil}
-use Rattle.std.specs.Prelude.{filter_map}
-use Rattle.std.specs.List.{AllByRecursion}
+use Rattle.std.proofs.Common.{◌≡◌, ℕ, List, [], ◌∷◌, ◌++◌, Bool, true, false, Some, None, length, refl, sym, ap, ◌∙◌, subst, arith, append_assoc, append-nil, eq-eqb}
+use Rattle.std.specs.Prelude.{◌==◌, if◌then◌else◌, flat_map, filter_map}
+use Rattle.std.specs.List.{AllByRecursion, cons_option}
 use Rattle.std.proofs.lemmas.List.Concat.{flat_map-append}
 use Rattle.version_book.specs.Airings.{Airing}
-use Rattle.ts_packets.specs.Packets.{Piece, Carries}
-use Rattle.ts_packets.specs.Bytes.{Packet, HasFields}
-use Rattle.ts_packets.specs.Counting.{loads_on, Count}
-use Rattle.air_model.specs.Air.{Aired, sent_on, cycle_sections, IsCycle, Cycles, air, airings_of, IsAirOf}
+use Rattle.ts_packets.specs.Packets.{Piece, IsWhole, Carries}
+use Rattle.ts_packets.specs.Bytes.{Packet, HasFields, bytes_of_packet}
+use Rattle.ts_packets.specs.Counting.{of_pid, loads_on, Count}
+use Rattle.ts_packets.proofs.Carrying.{Carries-whole}
+use Rattle.air_model.specs.Air.{Aired, sent_on, cycle_sections, IsCycle, Cycles, air, airings_of, air_bytes, IsAirOf}
 use Rattle.air_model.specs.Making.{each_alone, counted, cycle_alone}
 use Rattle.air_model.proofs.Counted.{PidsFit, of_pid-counted, fields-counted, count-counted, Carries-each_alone}
 
@@ -23,6 +24,9 @@ IsCycle-alone past sent a pid =
 pub air-push : (xs : List Aired) (x : Aired) → air (xs ++ x ∷ []) ≡ air xs ++ x.packets
 air-push xs x = flat_map-append (λ (y : Aired). y.packets) xs (x ∷ []) ∙ ap (λ (l : List Packet). air xs ++ l) (append-nil x.packets)
 
+pub air_bytes-push : (xs : List Aired) (x : Aired) → air_bytes (xs ++ x ∷ []) ≡ air_bytes xs ++ flat_map bytes_of_packet x.packets
+air_bytes-push xs x = ap (flat_map bytes_of_packet) (air-push xs x) ∙ flat_map-append bytes_of_packet (air xs) x.packets
+
 pub airings_of-push : (xs : List Aired) (x : Aired) → airings_of (xs ++ x ∷ []) ≡ airings_of xs ++ x.airing ∷ []
 airings_of-push [] x = refl
 airings_of-push (y ∷ ys) x = ap (λ (l : List Airing). y.airing ∷ l) (airings_of-push ys x)
@@ -31,9 +35,9 @@ Cycles-push : (past : List Airing) (xs : List Aired) (x : Aired) → Cycles past
 Cycles-push past [] x h c = (subst (λ (l : List Airing). IsCycle l x) (append-nil past) c, tt)
 Cycles-push past (y ∷ ys) x h c = (h.0, Cycles-push (past ++ y.airing ∷ []) ys x h.1 (subst (λ (l : List Airing). IsCycle l x) (sym (append_assoc past (y.airing ∷ []) (airings_of ys))) c))
 
-all-append : (xs ys : List Packet) → AllByRecursion HasFields xs → AllByRecursion HasFields ys → AllByRecursion HasFields (xs ++ ys)
-all-append [] ys p q = q
-all-append (x ∷ xs) ys p q = (p.0, all-append xs ys p.1 q)
+all-both : (P : Packet → Type 0) (xs ys : List Packet) → AllByRecursion P xs → AllByRecursion P ys → AllByRecursion P (xs ++ ys)
+all-both P [] ys p q = q
+all-both P (x ∷ xs) ys p q = (p.0, all-both P xs ys p.1 q)
 
 -- one airing more, with a cycle of it whose counters go on, makes a longer air
 pub air_more : (airings : List Airing) (xs : List Aired) (x : Aired) → IsAirOf airings xs → IsCycle airings x → ((pid : ℕ) → Count 0 (loads_on pid (air xs ++ x.packets))) → AllByRecursion HasFields x.packets
@@ -42,7 +46,7 @@ air_more airings xs x h cycle counts fields = record {
   airings_are = airings_of-push xs x ∙ ap (λ (l : List Airing). l ++ x.airing ∷ []) h.airings_are;
   cycles = Cycles-push [] xs x h.cycles (subst (λ (l : List Airing). IsCycle l x) (sym h.airings_are) cycle);
   counted = λ pid. subst (λ (l : List Packet). Count 0 (loads_on pid l)) (sym (air-push xs x)) (counts pid);
-  fields = subst (λ (l : List Packet). AllByRecursion HasFields l) (sym (air-push xs x)) (all-append (air xs) x.packets h.fields fields);
+  fields = subst (λ (l : List Packet). AllByRecursion HasFields l) (sym (air-push xs x)) (all-both HasFields (air xs) x.packets h.fields fields);
 }
 
 -- the cycle that is made behind an air makes a longer air
@@ -52,3 +56,34 @@ air_more-alone airings xs a h fit =
     let units = each_alone (cycle_sections airings a) in
     air_more airings xs (record { airing = a; packets = counted (air xs) units }) h (IsCycle-alone airings (air xs) a)
     (λ pid. count-counted (air xs) units pid (h.counted pid)) (fields-counted (air xs) units fit)
+
+whole_packets : (ps : List Packet) → ((pid : ℕ) → AllByRecursion IsWhole (of_pid pid ps)) → AllByRecursion (λ (p : Packet). IsWhole p.piece) ps
+whole_packets [] h = tt
+whole_packets (p ∷ ps) h = (first, whole_packets ps others)
+  where
+    first : IsWhole p.piece
+    first =
+        let here = h p.pid in
+        let same : (p.pid == p.pid) ≡ true = eq-eqb p.pid p.pid refl in
+        (subst (λ (b : Bool). AllByRecursion IsWhole (cons_option (if b then Some p.piece else None) (of_pid p.pid ps))) same here).0
+
+    others : (pid : ℕ) → AllByRecursion IsWhole (of_pid pid ps)
+    others pid = go (p.pid == pid) (h pid)
+      where
+        go : (b : Bool) → AllByRecursion IsWhole (cons_option (if b then Some p.piece else None) (of_pid pid ps)) → AllByRecursion IsWhole (of_pid pid ps)
+        go true all = all.1
+        go false all = all
+
+whole_cycles : (past : List Airing) (xs : List Aired) → Cycles past xs → AllByRecursion (λ (p : Packet). IsWhole p.piece) (air xs)
+whole_cycles past [] h = tt
+whole_cycles past (x ∷ xs) h =
+    all-both (λ (p : Packet). IsWhole p.piece) x.packets (air xs)
+    (whole_packets x.packets (λ pid. Carries-whole (of_pid pid x.packets) (filter_map (sent_on pid) (cycle_sections past x.airing)) (h.0 pid))) (whole_cycles (past ++ x.airing ∷ []) xs h.1)
+
+bytes_whole : (ps : List Packet) → AllByRecursion (λ (p : Packet). IsWhole p.piece) ps → AllByRecursion (λ (p : Packet). length (bytes_of_packet p) ≡ 188) ps
+bytes_whole [] h = tt
+bytes_whole (p ∷ ps) h = (omega (arith, h.0), bytes_whole ps h.1)
+
+-- each packet of an air has 188 bytes
+pub air-whole : (airings : List Airing) (xs : List Aired) → IsAirOf airings xs → AllByRecursion (λ (p : Packet). length (bytes_of_packet p) ≡ 188) (air xs)
+air-whole airings xs h = bytes_whole (air xs) (whole_cycles [] xs h.cycles)

@@ -1,27 +1,21 @@
 -- Sections that were laid can be sent, and are those of the cycle.
-use Rattle.std.proofs.Common.{◌≡◌, ◌≢◌, ℕ, zero, suc, ◌+◌, ◌<◌, ◌≤◌, Bool, true, false, cond, List, [], ◌∷◌, ◌++◌, length, refl, sym, ap, ap₂, ◌∙◌, subst, arith, map, drop, length-append}
-use Rattle.std.specs.Prelude.{flat_map, ◌&&◌, nat_le}
+use Rattle.std.proofs.Common.{◌≡◌, ℕ, ◌+◌, ◌<◌, ◌≤◌, Bool, true, false, cond, List, [], ◌∷◌, ◌++◌, length, refl, sym, ap, ◌∙◌, subst, arith, map, length-append}
+use Rattle.std.specs.Prelude.{flat_map}
 use Rattle.std.specs.List.{AllByRecursion, All}
 use Rattle.std.proofs.lemmas.List.Elements.{recursion_from_All}
-use Rattle.section_codec.specs.declared.section.LongHeader.{LongHeader}
 use Rattle.section_codec.specs.declared.table.NumberedBody.{NumberedBody}
 use Rattle.section_codec.specs.declared.table.SubTable.{SubTable}
-use Rattle.section_codec.specs.Section.{section_bytes, before_crc, longest_body}
-use Rattle.si_base.specs.Fields.{four}
-use Rattle.si_base.specs.Crc.{crc_of}
+use Rattle.section_codec.specs.Section.{longest_body}
+use Rattle.section_codec.proofs.ReadBack.{length-section_bytes}
 use Rattle.section_codec.specs.Tables.{is_eit}
 use Rattle.version_book.specs.Airings.{Content, Airing, version_at}
 use Rattle.version_book.specs.Book.{aired, versions_of}
-use Rattle.ts_packets.specs.Packets.{packets_of}
 use Rattle.air_model.specs.Air.{Sent, sent_section, header_of, sections_of, cycle_sections}
 use Rattle.air_model.specs.Making.{each_alone}
 use Rattle.carousel_player.specs.declared.cycle.Placed.{Placed}
 use Rattle.carousel_player.specs.Laying.{IsPlaced, IsBegun, IsUnderWay, sent_at, places_from, AreLaid, sections_with}
 use Rattle.carousel_player.specs.Playing.{IsFit}
 use Rattle.carousel_player.proofs.Laid.{laid_sent}
-
-length-section : (h : LongHeader) (body : List ℕ) → length (section_bytes h body) ≡ 12 + length body
-length-section h body = omega (arith, length-append (before_crc h body) (four (crc_of (before_crc h body))))
 
 -- a section that can be sent
 record IsSendable (s : Sent) : Type 0 where
@@ -36,7 +30,7 @@ longest false = omega arith
 sendable_sections : (v : ℕ) (t : SubTable) (ss : Content) → t.key.pid < 8192 → AllByRecursion (λ (s : NumberedBody). length s.body ≤ longest_body t.key.table) ss → AllByRecursion IsSendable (map (sent_section v t) ss)
 sendable_sections v t [] pid fit = tt
 sendable_sections v t (s ∷ ss) pid fit =
-    let size = length-section (header_of v t s) s.body in
+    let size = length-section_bytes (header_of v t s) s.body in
     let most : length s.body ≤ longest_body t.key.table = fit.0 in
     let top : longest_body t.key.table ≤ 4084 = longest (is_eit t.key.table) in
     (record { pid = pid; some = omega (arith, size); most = omega (arith, size) }, sendable_sections v t ss pid fit.1)
@@ -82,4 +76,4 @@ pub cycle_begun : (past : List Airing) (moment : ℕ) (vs : List ℕ) (ts : List
     → each_alone (map (sent_at bytes) placed) ≡ each_alone (cycle_sections past (aired ts moment))
 cycle_begun past moment vs ts bytes placed h is =
     ap each_alone (laid_sent (sections_with vs ts) bytes placed h ∙ ap (λ (l : List ℕ). sections_with l ts) is
-      ∙ versions_given (λ (t : SubTable). version_at t.key (past ++ aired ts moment ∷ [])) ts)
+    ∙ versions_given (λ (t : SubTable). version_at t.key (past ++ aired ts moment ∷ [])) ts)

@@ -1,10 +1,8 @@
 -- Sections laid end to end are found where they stand.
-use Rattle.std.proofs.Common.{◌≡◌, ℕ, zero, suc, ◌+◌, ◌-◌, ◌<◌, ◌≤◌, min, List, [], ◌∷◌, ◌++◌, Bool, true, false, Some, None, length, get_or, refl, sym, ap, ap₂, ◌∙◌, subst, arith, take, drop, map, append_assoc, append-nil, length-append, length-take, length-drop}
+use Rattle.std.proofs.Common.{◌≡◌, ℕ, zero, suc, ◌+◌, ◌-◌, ◌<◌, min, List, [], ◌∷◌, ◌++◌, Some, length, get_or, refl, sym, ap, ap₂, ◌∙◌, arith, take, drop, map, append_assoc, append-nil, length-append}
 use Rattle.std.specs.Prelude.{slice_get, flat_map}
-use Rattle.std.specs.List.{AllByRecursion, All}
-use Rattle.std.proofs.lemmas.List.{map-append, take_more, take_all, drop_all, take-append-le, drop-append-le}
+use Rattle.std.proofs.lemmas.List.{map-append, take_more}
 use Rattle.std.proofs.lemmas.List.Concat.{flat_map-append}
-use Rattle.std.proofs.lemmas.List.Elements.{All-get_or}
 use Rattle.std.proofs.Math.Seq.{drop-append_seam, take-append_seam}
 use Rattle.section_codec.specs.declared.table.NumberedBody.{NumberedBody}
 use Rattle.section_codec.specs.declared.table.SubTable.{SubTable}
@@ -36,16 +34,16 @@ places-push start (x ∷ ss) s =
     let all = flat_map (λ (y : Sent). y.bytes) ss in
     ap (λ (l : List Placed). first ∷ l) (places-push (start + length x.bytes) ss s)
     ∙ ap (λ (n : ℕ). first ∷ places_from (start + length x.bytes) ss ++ record { pid = s.pid; start = n; len = length s.bytes } ∷ [])
-      (let e : start + length x.bytes + length all ≡ start + length (x.bytes ++ all) = omega (arith, length-append x.bytes all) in e)
+    (let e : start + length x.bytes + length all ≡ start + length (x.bytes ++ all) = omega (arith, length-append x.bytes all) in e)
 
 pub AreLaid-push : (ss : List Sent) (s : Sent) (bytes : List ℕ) (placed : List Placed) (start len : ℕ) → AreLaid ss bytes placed → start ≡ length bytes → len ≡ length s.bytes
     → AreLaid (ss ++ s ∷ []) (bytes ++ s.bytes) (placed ++ record { pid = s.pid; start = start; len = len } ∷ [])
 AreLaid-push ss s bytes placed start len h at size = record {
   bytes_are = ap (λ (b : List ℕ). b ++ s.bytes) h.bytes_are ∙ ap (λ (b : List ℕ). flat_map (λ (x : Sent). x.bytes) ss ++ b) (sym (append-nil s.bytes)) ∙ sym (flat_map-append (λ (x : Sent). x.bytes) ss (s ∷ []));
   placed_are =
-    ap₂ (λ (l : List Placed) (n : ℕ). l ++ record { pid = s.pid; start = n; len = len } ∷ []) h.placed_are (at ∙ ap length h.bytes_are)
-    ∙ ap (λ (n : ℕ). places_from 0 ss ++ record { pid = s.pid; start = length (flat_map (λ (x : Sent). x.bytes) ss); len = n } ∷ []) size
-    ∙ sym (places-push 0 ss s ∙ ap (λ (n : ℕ). places_from 0 ss ++ record { pid = s.pid; start = n; len = length s.bytes } ∷ []) (let e : 0 + length (flat_map (λ (x : Sent). x.bytes) ss) ≡ length (flat_map (λ (x : Sent). x.bytes) ss) = omega arith in e));
+      ap₂ (λ (l : List Placed) (n : ℕ). l ++ record { pid = s.pid; start = n; len = len } ∷ []) h.placed_are (at ∙ ap length h.bytes_are)
+      ∙ ap (λ (n : ℕ). places_from 0 ss ++ record { pid = s.pid; start = length (flat_map (λ (x : Sent). x.bytes) ss); len = n } ∷ []) size
+      ∙ sym (places-push 0 ss s ∙ ap (λ (n : ℕ). places_from 0 ss ++ record { pid = s.pid; start = n; len = length s.bytes } ∷ []) (let e : 0 + length (flat_map (λ (x : Sent). x.bytes) ss) ≡ length (flat_map (λ (x : Sent). x.bytes) ss) = omega arith in e));
 }
 
 -- the sections up to and with one more
@@ -71,7 +69,7 @@ placed_behind front start [] bytes at is = refl
 placed_behind front start (s ∷ ss) bytes at is =
     let rest = flat_map (λ (x : Sent). x.bytes) ss in
     let here : take (length s.bytes) (drop start bytes) ≡ s.bytes =
-      ap₂ (λ (n : ℕ) (b : List ℕ). take (length s.bytes) (drop n b)) at is ∙ ap (take (length s.bytes)) (drop-append_seam front (s.bytes ++ rest)) ∙ take-append_seam s.bytes rest in
+    ap₂ (λ (n : ℕ) (b : List ℕ). take (length s.bytes) (drop n b)) at is ∙ ap (take (length s.bytes)) (drop-append_seam front (s.bytes ++ rest)) ∙ take-append_seam s.bytes rest in
     let behind = placed_behind (front ++ s.bytes) (start + length s.bytes) ss bytes (omega (arith, length-append front s.bytes)) (is ∙ sym (append_assoc front s.bytes rest)) in
     ap₂ (λ (b : List ℕ) (l : List Sent). record { pid = s.pid; bytes = b } ∷ l) here behind
 

@@ -1,25 +1,26 @@
 -- What a player stands for, from call to call.
-use Rattle.std.proofs.Common.{◌≡◌, ◌≢◌, ℕ, zero, suc, ◌+◌, ◌<◌, ◌≤◌, List, [], ◌∷◌, ◌++◌, Result, Ok, Err, Option, Some, length, refl, sym, ap, ap₂, ◌∙◌, subst, arith, map, take, append_assoc, append-nil, length-append}
+use Rattle.std.proofs.Common.{◌≡◌, ℕ, suc, ◌+◌, ◌<◌, List, [], ◌∷◌, ◌++◌, Result, Ok, Err, Option, length, refl, sym, ap, ap₂, ◌∙◌, subst, arith, map, take, append_assoc, append-nil, length-append}
 use Rattle.std.specs.Prelude.{flat_map, OnOk, OnErr}
 use Rattle.std.specs.List.{AllByRecursion, All}
 use Rattle.std.specs.Io.KnownBytes.{Appends}
 use Rattle.std.proofs.KnownBytes.{Appends-trans}
 use Rattle.std.proofs.Math.Seq.{take-append-add}
+use Rattle.std.proofs.lemmas.List.{take-append-le}
+use Rattle.std.proofs.lemmas.List.Concat.{flat_map-append}
 use Rattle.si_causes.specs.Causes.{AppendsFront}
 use Rattle.std.proofs.lemmas.List.Elements.{recursion_from_All}
-use Rattle.section_codec.specs.declared.table.NumberedBody.{NumberedBody}
 use Rattle.section_codec.specs.declared.table.SubTable.{SubTable}
 use Rattle.version_book.specs.Airings.{Content, Airing, version_at}
-use Rattle.version_book.specs.Book.{KeptKeys, Stands, aired}
+use Rattle.version_book.specs.Book.{Stands, aired}
 use Rattle.ts_packets.specs.Packets.{Piece, pieces, alone}
 use Rattle.ts_packets.specs.Bytes.{Packet, HasFields, bytes_of_packet, packet_on, packets_alone}
 use Rattle.ts_packets.specs.Counting.{StandFor}
-use Rattle.air_model.specs.Air.{Sent, Aired, air, airings_of, IsAirOf, sent_section, sections_of, cycle_sections}
-use Rattle.air_model.specs.Making.{each_alone, count_behind, counted, cycle_alone}
+use Rattle.air_model.specs.Air.{Sent, Aired, air, airings_of, air_bytes, IsAirOf, sent_section, sections_of, cycle_sections}
+use Rattle.air_model.specs.Making.{each_alone, counted}
 use Rattle.air_model.proofs.Counted.{PidsFit, counted-append, length-counted}
-use Rattle.air_model.proofs.Airs.{IsAirOf-none, air-push, airings_of-push, air_more-alone}
+use Rattle.air_model.proofs.Airs.{air-push, air_bytes-push, airings_of-push, air_more-alone}
 use Rattle.carousel_player.specs.Sending.{Sends}
-use Rattle.carousel_player.specs.Playing.{IsFit, Playing, HasSent, AtEnd, Within, Begins, GaveUp}
+use Rattle.carousel_player.specs.Playing.{IsFit, Playing, AtEnd, Within, Begins, GaveUp}
 use Rattle.carousel_player.proofs.Sendings.{all-append, all-front}
 
 -- ---- a cycle begins
@@ -50,8 +51,10 @@ begins xs ts moment old new end fit same stands left =
     let units = each_alone (cycle_sections (airings_of xs) a) in
     let x : Aired = record { airing = a; packets = counted (air xs) units } in
     let pids : PidsFit units = pids_alone (cycle_sections (airings_of xs) a) (pids_sent (λ (t : SubTable). version_at t.key (airings_of xs ++ a ∷ [])) ts (recursion_from_All IsFit ts fit)) in
-    let longer = airings_of-push xs x in
-    (x, refl, record {
+    let longer = airings_of-push xs x in (
+      x,
+      refl,
+      record {
         is_air = subst (λ (l : List Airing). IsAirOf l (xs ++ x ∷ [])) (sym longer) (air_more-alone (airings_of xs) xs a end.is_air pids);
         handed = [];
         parts = refl;
@@ -60,10 +63,10 @@ begins xs ts moment old new end fit same stands left =
           counters = subst (λ (l : List Packet). StandFor (map bytes_of_packet l) new.counters) (sym (append-nil (air xs))) (subst (λ (c : List ℕ). StandFor (map bytes_of_packet (air xs)) c) (sym same) end.sent.counters);
         };
         rest_is = ap₂ counted (sym (append-nil (air xs))) (sym left);
-      })
+      },
+    )
 
 -- ---- packets are handed out
-
 
 fields_before : (xs : List Aired) (x : Aired) (rest : List Packet) (p : Playing) (w : Within xs x rest p) → AllByRecursion HasFields (air xs ++ w.handed)
 fields_before xs x rest p w =
@@ -122,14 +125,14 @@ next_came xs x p rest old new bytes w s fewer same =
 -- what is left is what is still to come
 pub Within-end : (xs : List Aired) (x : Aired) (p : Playing) → Within xs x [] p → AtEnd (xs ++ x ∷ []) p
 Within-end xs x p w = record {
-    is_air = w.is_air;
-    sent = record {
-      versions = w.sent.versions;
-      counters = subst (λ (l : List Packet). StandFor (map bytes_of_packet l) p.counters)
-          (sym (air-push xs x ∙ ap (λ (l : List Packet). air xs ++ l) (w.parts ∙ append-nil w.handed))) w.sent.counters;
-    };
-    none = none p.left w.rest_is;
-  }
+  is_air = w.is_air;
+  sent = record {
+    versions = w.sent.versions;
+    counters = subst (λ (l : List Packet). StandFor (map bytes_of_packet l) p.counters)
+        (sym (air-push xs x ∙ ap (λ (l : List Packet). air xs ++ l) (w.parts ∙ append-nil w.handed))) w.sent.counters;
+  };
+  none = none p.left w.rest_is;
+}
   where
     none : (left : List Packet) → [] ≡ counted (air xs ++ w.handed) left → left ≡ []
     none [] e = refl
@@ -161,9 +164,11 @@ all_out xs x rest old new bytes w s same none =
 
 -- a front behind what was appended is a front of all
 pub front_behind : (a b c : Option (List ℕ)) (sent due : List ℕ) → Appends a b sent → AppendsFront b c due → AppendsFront a c (sent ++ due)
-front_behind a b c sent due p q =
-    (length sent + q.0, omega (arith, q.1, length-append sent due),
-      subst (Appends a c) (sym (take-append-add sent due q.0)) (Appends-trans a b c sent (take q.0 due) p q.2))
+front_behind a b c sent due p q = (
+  length sent + q.0,
+  omega (arith, q.1, length-append sent due),
+  subst (Appends a c) (sym (take-append-add sent due q.0)) (Appends-trans a b c sent (take q.0 due) p q.2),
+)
 
 -- the sink failed behind a front of the rest
 pub gave_up : (xs : List Aired) (x : Aired) (rest : List Packet) (old new : Playing) (bytes : List ℕ) (a c : Option (List ℕ)) → Within xs x rest old → Sends old.left new.left old.counters new.counters bytes → new.book ≡ old.book
@@ -176,3 +181,21 @@ gave_up xs x rest old new bytes a c w s same front =
 pub none_left : (left : List Packet) → length left ≡ 0 → left ≡ []
 none_left [] e = refl
 none_left (p ∷ left) e = absurd (omega arith)
+
+-- ---- the air
+
+-- where a sink failed, it has a front of the bytes that were to come, and not all of them
+pub GaveUp-front : (xs : List Aired) (x : Aired) (rest : List Packet) (a c : Option (List ℕ)) (p : Playing) → GaveUp xs x rest a c p → AppendsFront a c (flat_map bytes_of_packet rest)
+GaveUp-front xs x rest a c p (handed, left, parts, within, front) =
+    let whole : flat_map bytes_of_packet rest ≡ flat_map bytes_of_packet handed ++ flat_map bytes_of_packet left = ap (flat_map bytes_of_packet) parts ∙ flat_map-append bytes_of_packet handed left in
+    let same : take front.0 (flat_map bytes_of_packet rest) ≡ take front.0 (flat_map bytes_of_packet handed) =
+    ap (take front.0) whole ∙ take-append-le front.0 (flat_map bytes_of_packet handed) (flat_map bytes_of_packet left) (omega (arith, front.1)) in
+    (front.0, omega (arith, front.1, ap length whole, length-append (flat_map bytes_of_packet handed) (flat_map bytes_of_packet left)), subst (Appends a c) (sym same) front.2)
+
+-- an air, and then the cycle of one airing more
+pub air_appended : (xs : List Aired) (x : Aired) (a b c : Option (List ℕ)) → Appends a b (air_bytes xs) → Appends b c (flat_map bytes_of_packet x.packets) → Appends a c (air_bytes (xs ++ x ∷ []))
+air_appended xs x a b c p q = subst (Appends a c) (sym (air_bytes-push xs x)) (Appends-trans a b c (air_bytes xs) (flat_map bytes_of_packet x.packets) p q)
+
+-- an air, and then a front of the cycle of one airing more
+pub air_front : (xs : List Aired) (x : Aired) (a b c : Option (List ℕ)) → Appends a b (air_bytes xs) → AppendsFront b c (flat_map bytes_of_packet x.packets) → AppendsFront a c (air_bytes (xs ++ x ∷ []))
+air_front xs x a b c p q = subst (AppendsFront a c) (sym (air_bytes-push xs x)) (front_behind a b c (air_bytes xs) (flat_map bytes_of_packet x.packets) p q)

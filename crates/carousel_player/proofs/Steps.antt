@@ -1,5 +1,5 @@
 -- One packet further in a cycle.
-use Rattle.std.proofs.Common.{◌≡◌, ℕ, zero, suc, ◌+◌, ◌-◌, ◌<◌, ◌≤◌, inl, inr, List, [], ◌∷◌, ◌++◌, Bool, true, false, Some, None, length, get_or, refl, sym, ap, ap₂, ◌∙◌, subst, arith, take, drop, map, nat_eq, length-append, length-take, length-drop}
+use Rattle.std.proofs.Common.{◌≡◌, ℕ, zero, suc, ◌+◌, ◌<◌, ◌≤◌, inl, inr, List, [], ◌∷◌, ◌++◌, Some, length, get_or, refl, sym, ap, ap₂, ◌∙◌, subst, arith, take, drop, map, nat_eq, length-take, length-drop}
 use Rattle.std.specs.Prelude.{◌==◌, slice_get, option_map}
 use Rattle.std.specs.List.{AllByRecursion}
 use Rattle.std.proofs.lemmas.Bool.Decides.{nat_tests}
@@ -7,11 +7,9 @@ use Rattle.std.proofs.lemmas.Option.{slice_get-map}
 use Rattle.std.proofs.lemmas.Bool.{cases_lt}
 use Rattle.std.proofs.lemmas.List.{length-map, drop_all}
 use Rattle.std.proofs.Math.Seq.{drop-cons, drop-append_seam}
-use Rattle.ts_packets.specs.Packets.{Piece, pieces, alone, packets_of}
+use Rattle.ts_packets.specs.Packets.{pieces, alone, packets_of}
 use Rattle.ts_packets.specs.Bytes.{Packet, bytes_of_packet, packet_on, packets_alone}
 use Rattle.ts_packets.proofs.Carrying.{piece_at, at_alone, length-pieces, length-alone}
-use Rattle.ts_packets.proofs.Headers.{bytes_at}
-use Rattle.air_model.specs.Air.{Sent}
 use Rattle.air_model.specs.Making.{each_alone}
 use Rattle.carousel_player.specs.declared.cycle.Placed.{Placed}
 use Rattle.carousel_player.specs.Laying.{IsPlaced, sent_at, packets_left, IsBegun, IsUnderWay}
@@ -90,11 +88,11 @@ drop_none (suc n) = refl
 -- where a packet is to come, a section is there
 pub some_left : (bytes : List ℕ) (placed : List Placed) (at index : ℕ) → 0 < length (packets_left bytes placed at index) → at < length placed
 some_left bytes placed at index some = elim (cases_lt at (length placed)) [
-      inl lt ↦ lt
-    | inr past ↦
-        let none : packets_left bytes placed at index ≡ [] = ap (λ (l : List Placed). drop index (each_alone (map (sent_at bytes) l))) (drop_all at placed past) ∙ drop_none index in
-        absurd (omega (arith, ap length none))
-    ]
+  | inl lt ↦ lt
+  | inr past ↦
+      let none : packets_left bytes placed at index ≡ [] = ap (λ (l : List Placed). drop index (each_alone (map (sent_at bytes) l))) (drop_all at placed past) ∙ drop_none index in
+      absurd (omega (arith, ap length none))
+]
 
 -- the section that is being sent, and how many of its packets were sent
 pub record IsSending (bytes : List ℕ) (placed : List Placed) (at index : ℕ) (p : Placed) : Type 0 where
@@ -120,7 +118,7 @@ puts_first bytes placed at index p old into s is put =
     let back : units ≡ each_alone (map (sent_at bytes) (drop at placed)) = ap (λ (l : List Placed). each_alone (map (sent_at bytes) l)) (sym s.here) in
     let first : old ≡ q ∷ drop (suc index) units = sym is ∙ ap (drop index) (sym back) ∙ left_first bytes p (drop (at + 1) placed) index s.fits s.begun in
     let written : Some (bytes_of_packet q) ≡ Some into =
-      sym (slice_get-map bytes_of_packet (packets_alone p.pid (bytes_placed bytes p)) index ∙ ap (option_map bytes_of_packet) (sent_packet bytes p index s.fits s.begun)) ∙ put in
+    sym (slice_get-map bytes_of_packet (packets_alone p.pid (bytes_placed bytes p)) index ∙ ap (option_map bytes_of_packet) (sent_packet bytes p index s.fits s.begun)) ∙ put in
     let same : into ≡ bytes_of_packet q = cc in
     subst (λ (l : List Packet). PutsFirst l (drop (suc index) (each_alone (map (sent_at bytes) (drop at placed)))) into) (sym first) (sym (ap (drop (suc index)) back), same, record { pid = s.fits.pid; counter = refl })
 

@@ -2,7 +2,7 @@
 use Rattle.std.specs.Prelude.{◌≡◌, ℕ, ◌+◌, ◌<◌, ◌≤◌, List, [], ◌∷◌, ◌++◌, length, take, drop, map, flat_map}
 use Rattle.std.specs.List.{AllByRecursion}
 use Rattle.ts_packets.specs.Packets.{packets_of}
-use Rattle.ts_packets.specs.Bytes.{Packet, bytes_of_packet}
+use Rattle.ts_packets.specs.Bytes.{Packet}
 use Rattle.section_codec.specs.declared.table.SubTable.{SubTable}
 use Rattle.version_book.specs.Airings.{Content}
 use Rattle.air_model.specs.Air.{Sent, sections_of}

@@ -69,7 +69,11 @@ impl Cycle {
     }
 
     /// Begins the cycle of these sub-tables, with the versions that the book gives them. All memory is taken first.
-    pub(crate) fn begin(&mut self, book: &mut VersionBook, tables: &Tables) -> Result<(), AllocError>
+    pub(crate) fn begin(
+        &mut self,
+        book: &mut VersionBook,
+        tables: &Tables,
+    ) -> Result<(), AllocError>
         requires ended { self.old ≡ [] }
         requires fit { AreFit tables.now.list }
         ensures versions { OnOk result ((past : List Airing) (moment : ℕ) → Stands past book.old → Stands (past ++ aired tables.now.list moment ∷ []) book.new) }
@@ -116,7 +120,11 @@ fn put_placed(bytes: &[u8], placed: Placed, index: u32, into: &mut [u8])
 }
 
 // Empties the buffers and takes the memory for the sections of these sub-tables.
-fn take_room(bytes: &mut Vec<u8>, placed: &mut Vec<Placed>, tables: &[SubTable]) -> Result<(), AllocError>
+fn take_room(
+    bytes: &mut Vec<u8>,
+    placed: &mut Vec<Placed>,
+    tables: &[SubTable],
+) -> Result<(), AllocError>
     ensures bytes { bytes.new.items ≡ [] }
     ensures placed { placed.new.items ≡ [] }
     ensures room { OnOk result (vec_len bytes.new + room_for tables.now ≤ vec_capacity bytes.new) }

@@ -35,7 +35,12 @@ fn room_of(sections: &[NumberedBody]) -> Option<usize>
 }
 
 /// Lays the sections of these sub-tables, each with its version, behind those that are laid. It takes no memory.
-pub(crate) fn lay_tables(bytes: &mut Vec<u8>, placed: &mut Vec<Placed>, tables: &[SubTable], versions: &[u8])
+pub(crate) fn lay_tables(
+    bytes: &mut Vec<u8>,
+    placed: &mut Vec<Placed>,
+    tables: &[SubTable],
+    versions: &[u8],
+)
     requires fit { All IsFit tables.now }
     requires versions { All (λ v. v < 32) versions.now }
     requires room { vec_len bytes.old + room_for tables.now ≤ vec_capacity bytes.old }
@@ -69,7 +74,13 @@ fn lay_table(bytes: &mut Vec<u8>, placed: &mut Vec<Placed>, table: &SubTable, ve
             number: section.number,
             last,
         };
-        lay_section(bytes, placed, table.key.pid, &header, section.body.as_slice());
+        lay_section(
+            bytes,
+            placed,
+            table.key.pid,
+            &header,
+            section.body.as_slice(),
+        );
     }
 }
 
@@ -82,7 +93,13 @@ fn last_number(sections: &[NumberedBody]) -> u8
     }
 }
 
-fn lay_section(bytes: &mut Vec<u8>, placed: &mut Vec<Placed>, pid: u16, header: &LongHeader, body: &[u8])
+fn lay_section(
+    bytes: &mut Vec<u8>,
+    placed: &mut Vec<Placed>,
+    pid: u16,
+    header: &LongHeader,
+    body: &[u8],
+)
     requires version { header.now.version < 32 }
     requires within { length body.now ≤ 4084 }
     requires room { vec_len bytes.old + (12 + length body.now) ≤ vec_capacity bytes.old }
@@ -113,7 +130,14 @@ fn put_section(out: &mut Vec<u8>, header: &LongHeader, body: &[u8])
     put(out, &[header.table]);
     put(out, &length.to_be_bytes());
     put(out, &header.ext.to_be_bytes());
-    put(out, &[0xC0 + 2 * header.version + current_bit(header.current), header.number, header.last]);
+    put(
+        out,
+        &[
+            0xC0 + 2 * header.version + current_bit(header.current),
+            header.number,
+            header.last,
+        ],
+    );
     put(out, body);
     let (_, section) = out.as_slice().split_at(start);
     let crc = crc32(section);
@@ -133,7 +157,11 @@ fn put(out: &mut Vec<u8>, bytes: &[u8])
 fn long_flags(table: u8) -> u16
     ensures { result ≡ long_flags table }
 {
-    if table == 0x00 || table == 0x02 { 0xB000 } else { 0xF000 }
+    if table == 0x00 || table == 0x02 {
+        0xB000
+    } else {
+        0xF000
+    }
 }
 
 fn current_bit(current: bool) -> u8

@@ -11,3 +11,6 @@ mod player;
 mod sending;
 
 pub use player::Player;
+
+#[cfg(test)]
+mod tests;

@@ -36,8 +36,9 @@ impl Model for Player {
 }
 
 impl Player {
-    /// A player that has handed out nothing and is at its end. The quota, in packets from 1 to 10,000, is that of the
-    /// runs of a cycle. It takes no memory.
+    /// A player that has handed out nothing and is at its end. The quota, 1 to 10,000, is the number of packets of a run
+    /// between two sendings of the most frequent sections; while a cycle has each section once, it changes nothing. It
+    /// takes no memory.
     pub fn open(alloc: Global, quota: u32) -> Player
         requires some { 1 ≤ quota }
         requires most { quota ≤ 10000 }
@@ -52,9 +53,9 @@ impl Player {
     }
 
     /// Begins the cycle of one airing more: of these sub-tables, of the publication with this number, at the moment of
-    /// the swap. It needs a player at its end, and sub-tables whose keys differ, with PIDs below 8,192, each with at
-    /// least one section, ascending numbers and bodies that fit a section in the long form. All memory is taken first:
-    /// where it is wanted, the player stays as it was, at its end.
+    /// the swap (EN 300 468, 5.1.1). No packet tells the number. It needs a player at its end, and sub-tables whose keys
+    /// differ, with PIDs below 8,192, each with at least one section, ascending numbers and bodies that fit a section in
+    /// the long form. All memory is taken first: where it is wanting, the player stays as it was, at its end.
     pub fn swap(&mut self, tables: Tables, number: u64, moment: Moment) -> Result<(), AllocError>
         requires at_end { self.old.left ≡ [] }
         requires fit { AreFit tables.list }

@@ -4,3 +4,6 @@ pub mod Eight
 pub mod BlockFacts
 pub mod AirFacts
 pub mod SwapFacts
+pub mod RestFacts
+pub mod WindowFacts
+pub mod RunFacts

@@ -5,4 +5,5 @@ pub mod Texts
 pub mod Air
 pub mod Reads
 pub mod Played
+pub mod Run
 pub mod Rows

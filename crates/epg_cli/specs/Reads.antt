@@ -59,3 +59,8 @@ ReadBlock left new script (Err Memory) = Unit {0}
 abbrev pub HasReadCause : {T : Type 0} → ℕ → ℕ → Result T PlayStop → Type 0
 HasReadCause before now (Err (Read Failed)) = Rose before now
 HasReadCause before now result = Unit {0}
+
+-- a stop while the description of the multiplex is read is none of the air
+abbrev pub IsNoAirStop : {T : Type 0} → Result T PlayStop → Type 0
+IsNoAirStop (Err Air) = ⊥
+IsNoAirStop result = Unit {0}

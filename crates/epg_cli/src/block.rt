@@ -4,7 +4,7 @@ ghost use Rattle.si_text.specs.Coding.{coded_size};
 ghost use Rattle.si_causes.specs.Reading.{text_left};
 ghost use Rattle.mux_config.specs.Sound.{Between, IsSound};
 ghost use Rattle.epg_cli.specs.Script.{IsBare, network_of, stream_of, service_of, end_of, mux_of, script_of};
-ghost use Rattle.epg_cli.specs.Reads.{ReadLine, ReadRecord, ReadBlock, HasReadCause, lines_of};
+ghost use Rattle.epg_cli.specs.Reads.{ReadLine, ReadRecord, ReadBlock, HasReadCause, IsNoAirStop, lines_of};
 
 use crate::lines::{end_line, network_line, service_line, stream_line};
 use crate::records::{Network, Stream};
@@ -25,6 +25,7 @@ fn next_line<S: Source>(lines: &mut LineReader<S>, number: u64) -> Result<(), Pl
     requires number { number ≡ lines.old.number + 1 }
     ensures line { (text : List ℕ) → text_left S.left lines.old ≡ Some text → ReadLine S.left lines.old lines.new text result }
     ensures going { OnOk result ((lines.new.stop ≡ None) × (lines.new.number ≡ number)) }
+    ensures no_air { IsNoAirStop result }
     ensures cause { HasReadCause (S.faults lines.old.source) (S.faults lines.new.source) result }
     ensures later { S.faults lines.old.source ≤ S.faults lines.new.source }
     ensures same { S.same lines.old.source lines.new.source }
@@ -43,6 +44,7 @@ fn block_network<S: Source>(alloc: Global, lines: &mut LineReader<S>) -> Result<
     ensures reads { (text : List ℕ) → text_left S.left lines.old ≡ Some text → ReadRecord S.left network_of lines.old lines.new text result }
     ensures going { OnOk result ((lines.new.stop ≡ None) × (lines.new.number ≡ 1)) }
     ensures sound { IfOk result (λ network. Between 1 100 (coded_size network.name)) }
+    ensures no_air { IsNoAirStop result }
     ensures cause { HasReadCause (S.faults lines.old.source) (S.faults lines.new.source) result }
     ensures later { S.faults lines.old.source ≤ S.faults lines.new.source }
     ensures same { S.same lines.old.source lines.new.source }
@@ -60,6 +62,7 @@ fn block_stream<S: Source>(alloc: Global, lines: &mut LineReader<S>) -> Result<S
     requires number { lines.old.number ≡ 1 }
     ensures reads { (text : List ℕ) → text_left S.left lines.old ≡ Some text → ReadRecord S.left stream_of lines.old lines.new text result }
     ensures going { OnOk result ((lines.new.stop ≡ None) × (lines.new.number ≡ 2)) }
+    ensures no_air { IsNoAirStop result }
     ensures cause { HasReadCause (S.faults lines.old.source) (S.faults lines.new.source) result }
     ensures later { S.faults lines.old.source ≤ S.faults lines.new.source }
     ensures same { S.same lines.old.source lines.new.source }
@@ -81,6 +84,7 @@ fn block_service<S: Source>(
     ensures reads { (text : List ℕ) → text_left S.left lines.old ≡ Some text → ReadRecord S.left service_of lines.old lines.new text result }
     ensures going { OnOk result ((lines.new.stop ≡ None) × (lines.new.number ≡ 3)) }
     ensures sound { IfOk result IsBare }
+    ensures no_air { IsNoAirStop result }
     ensures cause { HasReadCause (S.faults lines.old.source) (S.faults lines.new.source) result }
     ensures later { S.faults lines.old.source ≤ S.faults lines.new.source }
     ensures same { S.same lines.old.source lines.new.source }
@@ -98,6 +102,7 @@ fn block_end<S: Source>(alloc: Global, lines: &mut LineReader<S>) -> Result<(), 
     requires number { lines.old.number ≡ 3 }
     ensures reads { (text : List ℕ) → text_left S.left lines.old ≡ Some text → ReadRecord S.left end_of lines.old lines.new text result }
     ensures going { OnOk result ((lines.new.stop ≡ None) × (lines.new.number ≡ 4)) }
+    ensures no_air { IsNoAirStop result }
     ensures cause { HasReadCause (S.faults lines.old.source) (S.faults lines.new.source) result }
     ensures later { S.faults lines.old.source ≤ S.faults lines.new.source }
     ensures same { S.same lines.old.source lines.new.source }
@@ -130,6 +135,7 @@ pub(crate) fn read_block<S: Source>(
     ensures going { OnOk result ((lines.new.stop ≡ None) × (lines.new.number ≡ 4)) }
     ensures sound { IfOk result IsSound }
     ensures one_service { IfOk result (λ mux. length mux.services ≡ 1) }
+    ensures no_air { IsNoAirStop result }
     ensures cause { HasReadCause (S.faults lines.old.source) (S.faults lines.new.source) result }
     ensures later { S.faults lines.old.source ≤ S.faults lines.new.source }
     ensures same { S.same lines.old.source lines.new.source }

@@ -5,9 +5,9 @@ use Rattle.std.proofs.lemmas.List.{get_or-append-add}
 use Rattle.std.proofs.Math.Seq.{take-append_seam}
 use Rattle.si_base.specs.Fields.{four, four_at}
 use Rattle.si_base.specs.Crc.{crc_of}
-use Rattle.si_base.proofs.Remainder.{crc_of-lt}
+use Rattle.si_base.proofs.Remainder.{crc_of-lt, crc_of-own_crc}
 use Rattle.section_codec.specs.Tables.{is_eit, has_long_form}
-use Rattle.section_codec.specs.Section.{long_flags, current_bit, before_crc, section_bytes, short_bytes, longest_body, is_long, section_length, long_header, long_body, kept_crc, found_crc, has_its_length, has_its_crc, has_long_syntax, has_its_syntax, section_of, section_in, LongReadsBack, ShortReadsBack}
+use Rattle.section_codec.specs.Section.{long_flags, current_bit, before_crc, section_bytes, short_bytes, longest_body, is_long, section_length, long_header, long_body, kept_crc, found_crc, has_its_length, has_its_crc, has_long_syntax, has_its_syntax, section_of, section_in, FitsLong, FitsShort, LongReadsBack, ShortReadsBack}
 use Rattle.section_codec.specs.declared.section.LongHeader.{LongHeader}
 use Rattle.section_codec.specs.declared.section.Section.TheVariants.{Long, Short}
 use Rattle.section_codec.specs.declared.section.BadSection.TheVariants.{Length, Crc, Syntax}
@@ -165,3 +165,21 @@ section_in-section_bytes h body fits =
 pub section_in-short_bytes : ShortReadsBack
 section_in-short_bytes table body fits =
     short_in table ((0x7000 + length body) / 256 % 256) ((0x7000 + length body) % 256) body (omega (arith, fits.within)) (omega (arith, fits.within)) fits.within fits.form
+
+-- ---- what section_length of written sections tells
+
+pub section_length-section_bytes : (h : LongHeader) (body : List ℕ) → FitsLong h body → section_length (section_bytes h body) ≡ 9 + length body
+section_length-section_bytes h body fits = flags_low h.table (9 + length body) (omega (arith, within h.table (length body) fits.within))
+
+pub section_length-short_bytes : (table : ℕ) (body : List ℕ) → FitsShort table body → section_length (short_bytes table body) ≡ length body
+section_length-short_bytes table body fits = omega (arith, fits.within)
+
+pub length-section_bytes-le : (h : LongHeader) (body : List ℕ) → FitsLong h body → length (section_bytes h body) ≤ 4096
+length-section_bytes-le h body fits = omega (arith, length-section_bytes h body, within h.table (length body) fits.within)
+
+pub length-short_bytes-le : (table : ℕ) (body : List ℕ) → FitsShort table body → length (short_bytes table body) ≤ 4096
+length-short_bytes-le table body fits = omega (arith, length-short_bytes table body, fits.within)
+
+-- a written section with its CRC has the CRC 0
+pub crc_of-section_bytes : (h : LongHeader) (body : List ℕ) → crc_of (section_bytes h body) ≡ 0
+crc_of-section_bytes h body = crc_of-own_crc (before_crc h body)

@@ -1,5 +1,9 @@
 //! Sections and sub-tables: the bytes of a section both ways, and the keys by which sub-tables are named
 //! (ISO/IEC 13818-1, 2.4.4; EN 300 468, 5.1).
+//!
+//! `specs/Section.antt` has the bytes of a section and the section that bytes are, `specs/Keys.antt` the key
+//! of a section, `specs/Tables.antt` the tables by PID and table_id. Writers give those bytes, `read_section`
+//! that section or the first reason why there is none, and reading a written section gives it back.
 #![tactic(auto)]
 
 mod keys;

@@ -1,4 +1,8 @@
 //! The ground of the wire: lists as values of a contract, byte fields and the CRC.
+//!
+//! `crc32` is the remainder of `specs/Crc.antt`, which goes bit by bit (ISO/IEC 13818-1, annex A); it looks
+//! eight bytes up at a turn. A `Reader` is the bytes that are left. `Items` is the list of its elements.
+//! No call takes memory but `Items::push`.
 #![tactic(auto)]
 
 mod copies;

@@ -1,3 +1,4 @@
+pub mod AnnexC
 pub mod DateFacts
 pub mod ReadFacts
 pub mod RoundTrips

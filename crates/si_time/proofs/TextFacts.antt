@@ -1,7 +1,7 @@
 -- Reading a written text gives the value back, and only the written text of a value is read as it.
-use Rattle.std.proofs.Common.{◌≡◌, ◌∙◌, refl, sym, ap, ℕ, ◌+◌, ◌-◌, ◌*◌, ◌/◌, ◌%◌, ◌<◌, ◌≤◌, List, [], ◌∷◌, ◌++◌, length, take, map, get_or, Bool, true, false, Some, subst, arith, ◌&&◌, ◌==◌, pos}
+use Rattle.std.proofs.Common.{◌≡◌, ◌∙◌, refl, sym, ap, ℕ, ◌+◌, ◌-◌, ◌*◌, ◌/◌, ◌%◌, ◌<◌, ◌≤◌, List, [], ◌∷◌, ◌++◌, length, take, map, get_or, nat_le, Bool, true, false, Some, subst, arith, ◌&&◌, ◌==◌, pos}
 use Rattle.std.specs.Prelude.{codes}
-use Rattle.std.specs.List.{range_with_len}
+use Rattle.std.specs.List.{range_with_len, list_all}
 use Rattle.std.specs.Char.{is_ascii_digit}
 use Rattle.std.proofs.lemmas.Bool.{false≢true}
 use Rattle.std.proofs.lemmas.Bool.Decides.{nat_tests}
@@ -285,3 +285,43 @@ length-moment_text t = refl
 pub length-duration_text : (t : ℕ) → length (duration_text t) ≡ 8
 unfolding duration_text
 length-duration_text t = refl
+
+-- Written texts
+
+-- two moments have one text only where they are one
+pub moment_text-injective : (s t : ℕ) → s < 65536 * 86400 → t < 65536 * 86400 → moment_text s ≡ moment_text t → s ≡ t
+moment_text-injective s t h k e = same_Some s t (sym (moment_in-moment_text s h) ∙ (ap moment_in e ∙ moment_in-moment_text t k))
+
+pub duration_text-injective : (s t : ℕ) → s < 360000 → t < 360000 → duration_text s ≡ duration_text t → s ≡ t
+duration_text-injective s t h k e = same_Some s t (sym (duration_in-duration_text s h) ∙ (ap duration_in e ∙ duration_in-duration_text t k))
+
+-- the bytes of a text stand from `-` to `Z`
+
+text-high : (n : ℕ) → n < 100 → (nat_le 45 (48 + n / 10) && nat_le (48 + n / 10) 90) ≡ true
+text-high n h = grind (arith, nat_tests)
+
+text-low : (n : ℕ) → (nat_le 45 (48 + n % 10) && nat_le (48 + n % 10) 90) ≡ true
+text-low n = grind (arith, nat_tests)
+
+date_text-bytes : (y m d : ℕ) → IsWritable (y, m, d) → (rest : List ℕ) → list_all (λ b. nat_le 45 b && nat_le b 90) (date_text (y, m, d) ++ rest) ≡ list_all (λ b. nat_le 45 b && nat_le b 90) rest
+date_text-bytes y m d w rest =
+    let century : y / 100 < 100 = omega (arith, w.year) in
+    let year : y % 100 < 100 = omega arith in
+    rw (text-high (y / 100) century, text-low (y / 100), text-high (y % 100) year, text-low (y % 100), text-high m w.month, text-low m, text-high d w.day, text-low d)
+
+clock_text-bytes : (t : ℕ) → t < 360000 → (rest : List ℕ) → list_all (λ b. nat_le 45 b && nat_le b 90) (clock_text t ++ rest) ≡ list_all (λ b. nat_le 45 b && nat_le b 90) rest
+clock_text-bytes t h rest =
+    let hours : t / 3600 < 100 = omega arith in
+    let minutes : t / 60 % 60 < 100 = omega arith in
+    let seconds : t % 60 < 100 = omega arith in
+    rw (text-high (t / 3600) hours, text-low (t / 3600), text-high (t / 60 % 60) minutes, text-low (t / 60 % 60), text-high (t % 60) seconds, text-low (t % 60))
+
+pub moment_text-bytes : (t : ℕ) → t < 65536 * 86400 → list_all (λ b. nat_le 45 b && nat_le b 90) (moment_text t) ≡ true
+unfolding moment_text
+moment_text-bytes t h =
+    let n = t / 86400 in
+    date_text-bytes (civil_date n).0 (civil_date n).1 (civil_date n).2 (writable n (omega arith)) (codes "T" ++ clock_text (t % 86400) ++ codes "Z") ∙ clock_text-bytes (t % 86400) (omega arith) (codes "Z")
+
+pub duration_text-bytes : (t : ℕ) → t < 360000 → list_all (λ b. nat_le 45 b && nat_le b 90) (duration_text t) ≡ true
+unfolding duration_text
+duration_text-bytes t h = clock_text-bytes t h []

@@ -30,7 +30,7 @@ seconds_of limit hours minutes seconds =
 abbrev pub seconds_at : Option ℕ → Option ℕ → Option ℕ
 seconds_at number clock = option_and_then (λ day. option_map (λ second. day * 86400 + second) clock) number
 
--- bytes have a shape, in which a letter d stands for any digit, and any other byte for itself
+-- bytes have a shape, in which a letter d (100) stands for any digit, and any other byte for itself
 abbrev pub has_shape : List ℕ → List ℕ → Bool
 has_shape [] [] = true
 has_shape [] (byte ∷ bytes) = false

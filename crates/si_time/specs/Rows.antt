@@ -1,5 +1,6 @@
 -- Worked rows. Their values are from outside: the example of EN 300 468 for start_time and duration, and another calendar.
 use Rattle.std.specs.Prelude.{◌≡◌, ◌+◌, ◌-◌, ◌*◌, Some, None, [], ◌∷◌, map, codes, refl}
+use Rattle.si_time.specs.Dates.{annex_c}
 use Rattle.si_time.specs.Moments.{moment_text, duration_text, moment_bcd, duration_bcd, moments_compute}
 use Rattle.si_time.specs.Readings.{moment_in, day_in, duration_in, moment_from_bcd, duration_from_bcd, readings_compute}
 
@@ -10,6 +11,10 @@ row_epoch = refl
 row_annex : moment_text 4257233100 ≡ codes "1993-10-13T12:45:00Z"
 unfolding moments_compute
 row_annex = refl
+
+-- the formula of annex C at its own example, 1982 September 6
+row_annex_c : annex_c (1982, 9, 6) ≡ 45218
+row_annex_c = refl
 
 -- both ends of the window, and 29 February of a century's leap year
 row_first : moment_text 0 ≡ codes "1858-11-17T00:00:00Z"

@@ -5,6 +5,9 @@ ghost use Rattle.si_time.specs.Moments.{civil_date};
 
 use jiff::civil::Date;
 
+/// The seconds of a day.
+pub const DAY: u64 = 86_400;
+
 /// The days from the calendar's first date, -9999-01-01, to Modified Julian Date 0, 1858-11-17.
 const FIRST: u32 = 4_331_000;
 

@@ -1,4 +1,5 @@
-//! Times of service information: moments as seconds since Modified Julian Date 0 (EN 300 468, annex C).
+//! Times of service information: moments as seconds since Modified Julian Date 0 (EN 300 468, annex C), days and
+//! durations, read and written as texts and in BCD. No call takes memory.
 #![tactic(auto)]
 
 mod dates;

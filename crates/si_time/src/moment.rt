@@ -1,10 +1,10 @@
 // Moments.
-ghost use Rattle.std.specs.Prelude.{◌≡◌, ◌+◌, ◌*◌, ◌/◌, ◌%◌, ◌<◌, ◌↔◌, ℕ, IfSome, IsSome, Some, option_map, take};
-ghost use Rattle.si_time.specs.Dates.{IsOnlyDateOf};
+ghost use Rattle.std.specs.Prelude.{◌≡◌, ◌+◌, ◌*◌, ◌/◌, ◌%◌, ◌<◌, ◌≤◌, ◌↔◌, ℕ, IfSome, IsSome, Some, option_map, take};
+ghost use Rattle.si_time.specs.Dates.{IsOnlyDateOf, annex_c};
 ghost use Rattle.si_time.specs.Moments.{civil_date, moment_text, moment_bcd};
 ghost use Rattle.si_time.specs.Readings.{moment_in, day_in, moment_from_bcd, IsMomentText, IsDayText};
 
-use crate::dates::date_of;
+use crate::dates::{DAY, date_of};
 use crate::digits::{clock_bcd, two_digits};
 use crate::readings::{day_in, moment_from_bcd, moment_in};
 
@@ -20,8 +20,8 @@ pub fn to_bcd(at: Moment) -> [u8; 5]
     requires { at.0 < 65536 * 86400 }
     ensures { result ≡ moment_bcd at.0 }
 {
-    let [high, low] = ((at.0 / 86_400) as u16).to_be_bytes();
-    let [h, m, s] = clock_bcd((at.0 % 86_400) as u32);
+    let [high, low] = ((at.0 / DAY) as u16).to_be_bytes();
+    let [h, m, s] = clock_bcd((at.0 % DAY) as u32);
     [high, low, h, m, s]
 }
 
@@ -31,7 +31,8 @@ pub fn from_bcd(bytes: [u8; 5]) -> Option<Moment>
     ensures value { option_map (λ at. at.0) result ≡ moment_from_bcd bytes }
     ensures window { IfSome result (λ at. at.0 < 65536 * 86400) }
     ensures written { IfSome result (λ at. bytes ≡ moment_bcd at.0) }
-    ensures back { (s : ℕ) → s < 65536 * 86400 → bytes ≡ moment_bcd s → option_map (λ at. at.0) result ≡ Some s }
+    ensures back { (s : ℕ) → s < 65536 * 86400 → bytes ≡ moment_bcd s
+        → option_map (λ at. at.0) result ≡ Some s }
 {
     moment_from_bcd(bytes).map(Moment)
 }
@@ -44,7 +45,8 @@ pub fn read_moment(text: &[u8]) -> Option<Moment>
     ensures some { IsSome result ↔ IsMomentText text.now }
     ensures window { IfSome result (λ at. at.0 < 65536 * 86400) }
     ensures written { IfSome result (λ at. text.now ≡ moment_text at.0) }
-    ensures back { (s : ℕ) → s < 65536 * 86400 → text.now ≡ moment_text s → option_map (λ at. at.0) result ≡ Some s }
+    ensures back { (s : ℕ) → s < 65536 * 86400 → text.now ≡ moment_text s
+        → option_map (λ at. at.0) result ≡ Some s }
 {
     moment_in(text).map(Moment)
 }
@@ -54,9 +56,11 @@ pub fn write_moment(at: Moment) -> [u8; 20]
     requires { at.0 < 65536 * 86400 }
     ensures text { result ≡ moment_text at.0 }
     ensures date { IsOnlyDateOf (at.0 / 86400) (civil_date (at.0 / 86400)) }
+    // From 1 March 1900 on the standard's own formula gives the day number too.
+    ensures annex_c { 15079 ≤ at.0 / 86400 → annex_c (civil_date (at.0 / 86400)) ≡ at.0 / 86400 }
 {
-    let (year, month, day) = date_of((at.0 / 86_400) as u16);
-    let second = (at.0 % 86_400) as u32;
+    let (year, month, day) = date_of((at.0 / DAY) as u16);
+    let second = (at.0 % DAY) as u32;
     let [y1, y2] = two_digits((year / 100) as u8);
     let [y3, y4] = two_digits((year % 100) as u8);
     let [m1, m2] = two_digits(month);
@@ -77,7 +81,8 @@ pub fn read_day(text: &[u8]) -> Option<Moment>
     ensures window { IfSome result (λ at. at.0 < 65536 * 86400) }
     ensures midnight { IfSome result (λ at. at.0 % 86400 ≡ 0) }
     ensures written { IfSome result (λ at. text.now ≡ take 10 (moment_text at.0)) }
-    ensures back { (s : ℕ) → s < 65536 * 86400 → text.now ≡ take 10 (moment_text s) → option_map (λ at. at.0) result ≡ Some (s / 86400 * 86400) }
+    ensures back { (s : ℕ) → s < 65536 * 86400 → text.now ≡ take 10 (moment_text s)
+        → option_map (λ at. at.0) result ≡ Some (s / 86400 * 86400) }
 {
     day_in(text).map(Moment)
 }
@@ -93,5 +98,5 @@ pub fn block_of(at: Moment) -> u64
 pub fn midnight(at: Moment) -> Moment
     ensures { result.0 ≡ at.0 / 86400 * 86400 }
 {
-    Moment(at.0 / 86_400 * 86_400)
+    Moment(at.0 / DAY * DAY)
 }

@@ -2,10 +2,8 @@
 ghost use Rattle.std.specs.Prelude.{◌≡◌, ◌<◌, ◌≤◌, length, slice_index};
 ghost use Rattle.si_time.specs.Readings.{moment_in, day_in, duration_in, date_at_front, moment_from_bcd, duration_from_bcd};
 
-use crate::dates::day_number;
+use crate::dates::{DAY, day_number};
 use crate::digits::{clock_from_bcd, has_shape, number_at, seconds_of};
-
-const DAY: u64 = 86_400;
 
 /// The seconds of a text `YYYY-MM-DDThh:mm:ssZ`. None where it is no moment.
 #[tactic(auto, unfolding(crate::specs::Readings::moment_in))]

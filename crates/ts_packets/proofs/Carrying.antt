@@ -1,9 +1,11 @@
 -- Packets carry sections: one list after the other, and a section alone in its packets.
 use Rattle.std.proofs.Common.{◌≡◌, ℕ, zero, suc, ◌+◌, ◌*◌, ◌/◌, ◌<◌, ◌≤◌, List, [], ◌∷◌, ◌++◌, Some, length, refl, sym, ap, ap₂, ◌∙◌, subst, arith, take, drop, append_assoc, append-nil, length-drop, take-append-drop}
 use Rattle.std.specs.Prelude.{slice_get}
+use Rattle.std.specs.List.{AllByRecursion}
+use Rattle.ts_packets.proofs.Filling.{length-payload}
 use Rattle.std.proofs.lemmas.List.{drop-drop}
 use Rattle.std.proofs.lemmas.List.Concat.{flat_map-append}
-use Rattle.ts_packets.specs.Packets.{Piece, joined, piece_of, left_by, pieces, left, HaveRoom, all_of, Carries, all_useful, goes_alone, alone, packets_of}
+use Rattle.ts_packets.specs.Packets.{Piece, IsWhole, joined, piece_of, left_by, pieces, left, HaveRoom, all_of, Carries, all_useful, goes_alone, alone, packets_of}
 
 pub pieces-append : (rest : List ℕ) (gs hs : List (List (List ℕ))) → pieces rest (gs ++ hs) ≡ pieces rest gs ++ pieces (left rest gs) hs
 pieces-append rest [] hs = refl
@@ -33,6 +35,14 @@ Carries-nothing ps c = c.are ∙ ap (pieces []) (no_group c.groups c.have_room c
     no_group [] room e = refl
     no_group ([] ∷ groups) room e = absurd (let none : 0 < 0 = room.0 in omega arith)
     no_group ((s ∷ ss) ∷ groups) room e = cc
+
+pieces-whole : (rest : List ℕ) (gs : List (List (List ℕ))) → AllByRecursion IsWhole (pieces rest gs)
+pieces-whole rest [] = tt
+pieces-whole rest (g ∷ gs) = (length-payload rest g, pieces-whole (left_by rest g) gs)
+
+-- packets that carry sections are whole
+pub Carries-whole : (ps : List Piece) (ss : List (List ℕ)) → Carries ps ss → AllByRecursion IsWhole ps
+Carries-whole ps ss c = subst (AllByRecursion IsWhole) (sym c.are) (pieces-whole [] c.groups)
 
 -- packets that carry sections, one list after the other
 pub Carries-append : (ps qs : List Piece) (ss ts : List (List ℕ)) → Carries ps ss → Carries qs ts → Carries (ps ++ qs) (ss ++ ts)

@@ -6,6 +6,10 @@ pub record Piece : Type 0 where
   pub start : Bool
   pub payload : List ℕ
 
+-- a payload fills its packet: 188 bytes less the header's four
+abbrev pub IsWhole : Piece → Type 0
+IsWhole p = length p.payload ≡ 184
+
 abbrev pub joined : List (List ℕ) → List ℕ
 joined ss = flat_map (λ (s : List ℕ). s) ss
 

@@ -1,0 +1,4 @@
+pub mod Versions
+pub mod Popped
+pub mod SlotFacts
+pub mod Airs

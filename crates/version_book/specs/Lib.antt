@@ -1,2 +1,5 @@
 pub mod Airings
 pub mod Book
+pub mod Laws
+pub mod Slots
+pub mod Rows

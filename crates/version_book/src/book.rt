@@ -1,42 +1,249 @@
-// STUB
-ghost use Rattle.std.specs.Prelude.{◌≡◌, ◌<◌, ◌++◌, [], ◌∷◌, List, ℕ, IfOk, OnOk, OnErr};
-ghost use Rattle.std.specs.List.{All};
-ghost use Rattle.version_book.specs.Airings.{Airing};
+// Versions, kept by key.
+ghost use Rattle.std.specs.Prelude.{◌≡◌, ◌≢◌, ◌<◌, ◌+◌, ◌%◌, ◌++◌, ◌∷◌, ℕ, [], List, map, length, Option, Some, None, option_map, option_copied, IsSome, IfOk, OnOk, OnErr, All, if◌then◌else◌};
+ghost use Rattle.std.specs.BTreeMap.{get, IsOrdered};
+ghost use Rattle.version_book.specs.Airings.{Airing, is_key};
+ghost use Rattle.section_codec.specs.declared.table.Key.{Key};
 ghost use Rattle.version_book.specs.Book.{Stands, KeysDiffer, aired, versions_of};
+ghost use Rattle.version_book.specs.Laws.{NeighboursAgree, AnotherBetween};
+ghost use Rattle.version_book.specs.Slots.{key_cmp, kept_by, held_at, kept_at, shown, next_version, changed_content, version_given, content_given, HasSlot, given_after};
 
-use section_codec::Tables;
-use si_base::Bytes;
+use crate::content::{copy, is_same};
+use crate::held::{Held, Slots};
+use section_codec::{Key, NumberedBodies, NumberedBody, SubTable, Tables};
+use si_base::{Bytes, Items};
 use std::alloc::{AllocError, Global};
+use std::collections::BTreeMap;
 use std::marker::Model;
 
-#[derive(Drop)]
+/// The versions of sub-tables. It stands for the airings that were assigned: it keeps, of each key that
+/// an airing ever carried, the version and the content that the key was last given. Contracts see it as
+/// these, in the order of the keys. It keeps its allocator.
+#[derive(Debug, Drop)]
 pub struct VersionBook {
     alloc: Global,
+    slots: Slots,
 }
 
 impl Model for VersionBook {
-    ghost use Rattle.std.specs.Prelude.{[]};
+    ghost use Rattle.std.specs.BTreeMap.{IsOrdered};
     ghost use Rattle.version_book.specs.Book.{KeptKeys};
+    ghost use Rattle.version_book.specs.Slots.{key_cmp, shown};
 
     ghost Value = { KeptKeys };
 
-    ghost view = { λ _. [] };
+    ghost view = { λ b. shown b.slots.entries };
+
+    ghost invariant = { λ b. IsOrdered key_cmp b.slots };
 }
 
 impl VersionBook {
+    /// A book that stands for no airing. It takes no memory.
     pub fn open(alloc: Global) -> VersionBook
-        ensures { result ≡ [] }
+        ensures none { result ≡ [] }
+        ensures stands { Stands [] result }
     {
-        VersionBook { alloc }
+        VersionBook {
+            alloc,
+            slots: BTreeMap::new(alloc),
+        }
     }
 
-    pub fn assign(&mut self, _tables: &Tables) -> Result<Bytes, AllocError>
-        requires { KeysDiffer _tables.now.list }
-        ensures versions { IfOk result (λ versions. (past : List Airing) (moment : ℕ) → Stands past self.old → versions ≡ versions_of past _tables.now.list moment) }
-        ensures stands { OnOk result ((past : List Airing) (moment : ℕ) → Stands past self.old → Stands (past ++ aired _tables.now.list moment ∷ []) self.new) }
+    /// Airs these sub-tables: the version_number of each of them, in order (ISO/IEC 13818-1, 2.4.4.5;
+    /// EN 300 468, 5.1.1). A key that was never aired before gets 0. A key whose content equals the
+    /// content that it was last aired with keeps its version, and otherwise gets its last version plus
+    /// 1, modulo 32. A key that is missing keeps what it had. No two sub-tables may have one key. Where
+    /// memory is wanting, the book stays as it was.
+    pub fn assign(&mut self, tables: &Tables) -> Result<Bytes, AllocError>
+        requires { KeysDiffer tables.now.list }
+        ensures versions { IfOk result (λ versions. (past : List Airing) (moment : ℕ) → Stands past self.old
+            → versions ≡ versions_of past tables.now.list moment) }
+        ensures stands { OnOk result ((past : List Airing) (moment : ℕ) → Stands past self.old
+            → Stands (past ++ aired tables.now.list moment ∷ []) self.new) }
         ensures small { IfOk result (λ versions. All (λ v. v < 32) versions) }
         ensures memory { OnErr result (self.new ≡ self.old) }
     {
-        Err(AllocError)
+        let tables = tables.list.as_slice();
+        let Plan { versions, changes } = planned(self.alloc, &mut self.slots, tables)?;
+        settle(&mut self.slots, tables, &versions, changes);
+        Ok(Items::of(versions))
+    }
+}
+
+// What is held of a key.
+fn held_of(slots: &Slots, key: Key) -> Option<&Held>
+    ensures { option_copied result ≡ held_at slots.now key }
+{
+    match slots.get(&key) {
+        Some(Some(held)) => Some(held),
+        _ => None,
+    }
+}
+
+// The version of the next content of a key, and the content to be held where it is not the last one.
+fn next(
+    alloc: Global,
+    held: Option<&Held>,
+    content: &[NumberedBody],
+) -> Result<(u8, Option<NumberedBodies>), AllocError>
+    ensures version { IfOk result (λ next. next.0 ≡ next_version (option_map kept_by (option_copied held.entry)) content.now) }
+    ensures change { IfOk result (λ next. next.1 ≡ changed_content (option_map kept_by (option_copied held.entry)) content.now) }
+    ensures small { IfOk result (λ next. next.0 < 32) }
+{
+    match held {
+        Some(held) if is_same(held.content.as_slice(), content) => Ok((held.version, None)),
+        Some(held) => Ok(((held.version + 1) % 32, Some(copy(alloc, content)?))),
+        None => Ok((0, Some(copy(alloc, content)?))),
+    }
+}
+
+// Makes a slot for a key that has none.
+fn make_slot(slots: &mut Slots, key: Key) -> Result<(), AllocError>
+    requires { IsOrdered key_cmp slots.old }
+    ensures made { OnOk result (IsSome (get key_cmp slots.new key)) }
+    ensures stay { (q : Key) → IsSome (get key_cmp slots.old q) → IsSome (get key_cmp slots.new q) }
+    ensures held { (q : Key) → held_at slots.new q ≡ held_at slots.old q }
+    ensures shown { shown slots.new.entries ≡ shown slots.old.entries }
+    ensures ordered { IsOrdered key_cmp slots.new }
+{
+    if !slots.contains_key(&key) {
+        slots.insert(key, None)?;
+    }
+    Ok(())
+}
+
+// Fills the slot of a key. It takes no memory.
+fn fill(slots: &mut Slots, key: Key, held: Held)
+    requires { IsSome (get key_cmp slots.old key) }
+    ensures put { (q : Key) → get key_cmp slots.new q ≡ (if is_key key q then Some (Some held) else get key_cmp slots.old q) }
+    ensures ordered { IsOrdered key_cmp slots.new }
+{
+    if let Some(slot) = slots.get_mut(&key) {
+        *slot = Some(held);
+    }
+}
+
+// The versions of sub-tables, and the contents to be held where they are not the last ones.
+#[derive(Drop)]
+struct Plan {
+    versions: Vec<u8>,
+    changes: Vec<Option<NumberedBodies>>,
+}
+
+// Plans what sub-tables are given, and makes their slots. It takes all the memory that giving wants.
+fn planned(alloc: Global, slots: &mut Slots, tables: &[SubTable]) -> Result<Plan, AllocError>
+    requires { IsOrdered key_cmp slots.old }
+    ensures versions { IfOk result (λ plan. plan.versions.items ≡ map (version_given slots.old) tables.now) }
+    ensures changes { IfOk result (λ plan. plan.changes.items ≡ map (content_given slots.old) tables.now) }
+    ensures small { IfOk result (λ plan. All (λ v. v < 32) plan.versions.items) }
+    ensures made { OnOk result (All (HasSlot slots.new) tables.now) }
+    ensures held { (q : Key) → held_at slots.new q ≡ held_at slots.old q }
+    ensures shown { shown slots.new.entries ≡ shown slots.old.entries }
+    ensures ordered { IsOrdered key_cmp slots.new }
+{
+    let mut versions = Vec::with_capacity(alloc, tables.len())?;
+    let mut changes = Vec::with_capacity(alloc, tables.len())?;
+    for table in tables {
+        let held = held_of(slots, table.key);
+        let (version, change) = next(alloc, held, table.sections.as_slice())?;
+        versions.push(version)?;
+        changes.push(change)?;
+        make_slot(slots, table.key)?;
+    }
+    Ok(Plan { versions, changes })
+}
+
+// Gives sub-tables what was planned. It takes no memory.
+fn settle(
+    slots: &mut Slots,
+    tables: &[SubTable],
+    versions: &[u8],
+    mut changes: Vec<Option<NumberedBodies>>,
+)
+    requires differ { KeysDiffer tables.now }
+    requires made { All (HasSlot slots.old) tables.now }
+    requires versions { versions.now ≡ map (version_given slots.old) tables.now }
+    requires small { All (λ v. v < 32) versions.now }
+    requires changes { changes.items ≡ map (content_given slots.old) tables.now }
+    requires ordered { IsOrdered key_cmp slots.old }
+    ensures kept { (q : Key) → kept_at slots.new q ≡ given_after (kept_at slots.old) tables.now q }
+    ensures ordered { IsOrdered key_cmp slots.new }
+{
+    while let Some(change) = changes.pop() {
+        let at = changes.len();
+        if let Some(content) = change {
+            let version = versions[at];
+            fill(slots, tables[at].key, Held { version, content });
+        }
+    }
+}
+
+/// What versions tell of contents: next to each other in what a key carries, equal versions have equal
+/// contents, and between two contents that differ under one version stands one with another version.
+pub fn versions_tell_contents()
+    ensures neighbours { NeighboursAgree }
+    ensures between { AnotherBetween }
+{}
+
+#[cfg(test)]
+mod tests {
+    use super::*;
+    use section_codec::Tier3;
+    use std::test::Fail;
+
+    fn sub_table(alloc: Global, table: u8, byte: u8) -> Result<SubTable, AllocError>
+        ensures { IfOk result (λ sub_table. sub_table.key.table ≡ table) }
+    {
+        let mut body = Items::new(alloc);
+        body.push(byte)?;
+        let mut sections = Items::new(alloc);
+        sections.push(NumberedBody { number: 0, body })?;
+        Ok(SubTable {
+            key: Key {
+                pid: 18,
+                table,
+                ext: 101,
+                stream: 1,
+                network: 1,
+            },
+            tier: Tier3::Near,
+            sections,
+        })
+    }
+
+    // Table 0x50 and, where a byte is given for it, table 0x51.
+    fn airing(alloc: Global, first: u8, second: Option<u8>) -> Result<Tables, AllocError>
+        ensures { IfOk result (λ tables. KeysDiffer tables.list) }
+    {
+        let mut list = Items::new(alloc);
+        list.push(sub_table(alloc, 0x50, first)?)?;
+        if let Some(byte) = second {
+            list.push(sub_table(alloc, 0x51, byte)?)?;
+        }
+        Ok(Tables { list })
+    }
+
+    #[test]
+    fn counts_changes_aired(rt: HostRuntime) -> Result<(), Fail> {
+        let alloc = rt.alloc();
+        let mut book = VersionBook::open(alloc);
+        assert_eq!(rt;
+            book.assign(&airing(alloc, 0, Some(9))?)?.as_slice(),
+            [0, 0].as_slice()
+        );
+        for n in 1..=32 {
+            let versions = book.assign(&airing(alloc, n, None)?)?;
+            assert_eq!(rt; versions.as_slice(), [n % 32].as_slice(), "at airing {n}");
+        }
+        assert_eq!(rt;
+            book.assign(&airing(alloc, 32, Some(9))?)?.as_slice(),
+            [0, 0].as_slice(),
+            "as before"
+        );
+        assert_eq!(rt;
+            book.assign(&airing(alloc, 72, Some(8))?)?.as_slice(),
+            [1, 1].as_slice(),
+            "forty later"
+        );
+        Ok(())
     }
 }

@@ -1,3 +1,13 @@
 //! Versions of sub-tables: how airings are listed, and the version_number of each sub-table at each airing
 //! (EN 300 468, 5.1.1; ISO/IEC 13818-1, 2.4.4.5).
+//!
+//! `specs/Airings.antt` has airing lists and the version of a key at an airing: how often, up to there, what
+//! the key carried was another content than before, modulo 32. A `VersionBook` stands for an airing list
+//! (`specs/Book.antt`) without storing it; `assign` gives the versions of one airing more.
 #![tactic(auto)]
+
+mod book;
+mod content;
+mod held;
+
+pub use book::{VersionBook, versions_tell_contents};

@@ -1,4 +1,4 @@
-use Rattle.std.proofs.Common.{◌≡◌, ◌+◌, ◌≤◌, ◌++◌, List, length, vec_len, vec_capacity, take, drop}
+use Rattle.std.proofs.Common.{◌+◌, ◌≤◌, ◌++◌, List, length, vec_len, vec_capacity, take, drop}
 use Rattle.air_model.specs.Air.{Sent}
 use Rattle.carousel_player.specs.Laying.{AreLaid, sections_with, room_for, places_for}
 use Rattle.carousel_player.proofs.laying.lay_tables.Given as goal

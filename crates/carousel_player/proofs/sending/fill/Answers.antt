@@ -1,4 +1,4 @@
-use Rattle.std.proofs.Common.{◌≡◌, ◌+◌, ◌%◌, ◌<◌, ◌≤◌, ℕ, List, ◌++◌, length, take, sym, ap, ◌∙◌, subst, arith, length-append}
+use Rattle.std.proofs.Common.{◌≡◌, ◌+◌, ◌<◌, ℕ, List, ◌++◌, length, take, sym, ap, ◌∙◌, subst, arith, length-append}
 use Rattle.std.proofs.lemmas.Bool.Decides.{nat_tests}
 use Rattle.carousel_player.specs.Sending.{Sends}
 use Rattle.carousel_player.proofs.Sendings.{Sends-one, Sends-trans, puts-length, take_packet}
@@ -17,7 +17,7 @@ loop-end-preserved c =
     let fewer = puts-length now next c.put_next.new.into some c.put_next.ensures in
     let before : length c.args.cycle.now ≡ length c.loop-end.invariant.sends.front + length now = ap length c.loop-end.invariant.sends.cut ∙ length-append c.loop-end.invariant.sends.front now in
     let taken : take (c.loop-end.end + 188) (front ++ (packet ++ behind)) ≡ take c.loop-end.end c.loop-end.buffer ++ packet =
-      take_packet c.loop-end.end front packet behind c.split_at_mut-rest.ensures.front_len (omega arith) ∙ ap (λ (l : List ℕ). l ++ packet) c.split_at_mut-rest.ensures.front in
+    take_packet c.loop-end.end front packet behind c.split_at_mut-rest.ensures.front_len (omega arith) ∙ ap (λ (l : List ℕ). l ++ packet) c.split_at_mut-rest.ensures.front in
     record {
       whole = omega arith;
       within = omega arith;

@@ -1,4 +1,5 @@
 use Rattle.std.proofs.Common.{◌/◌, arith}
+use Rattle.si_time.proofs.AnnexC.{annex_c-is}
 use Rattle.si_time.proofs.DateFacts.{civil_date-is_only}
 use Rattle.si_time.specs.Moments.{moment_text}
 use Rattle.si_time.proofs.moment.write_moment.Goals as goal
@@ -9,3 +10,6 @@ returns-clause-text c = rw (← c.date_of-year.ensures.value, c.two_digits.ensur
 
 pub returns-clause-date : goal.returns-clause-date
 returns-clause-date c = civil_date-is_only (c.args.at.0 / 86400) (omega arith)
+
+pub returns-clause-annex_c : goal.returns-clause-annex_c
+returns-clause-annex_c c = annex_c-is (c.args.at.0 / 86400) (omega arith)

@@ -1,4 +1,4 @@
-use Rattle.std.proofs.Common.{◌≡◌, ◌++◌, ℕ, List, [], length, sym, ap, ◌∙◌, subst, subst₂}
+use Rattle.std.proofs.Common.{List, [], ◌∙◌, subst}
 use Rattle.section_codec.specs.declared.table.SubTable.{SubTable}
 use Rattle.carousel_player.specs.Laying.{AreLaid, sections_with}
 use Rattle.carousel_player.proofs.Begun.{under_way, cycle_begun}

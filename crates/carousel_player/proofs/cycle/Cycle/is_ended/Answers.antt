@@ -1,4 +1,4 @@
-use Rattle.std.proofs.Common.{◌≡◌, ◌==◌, ℕ, List, length, nat_eq, ap, ◌∙◌, arith}
+use Rattle.std.proofs.Common.{◌==◌, List, length, nat_eq, ap, ◌∙◌, arith}
 use Rattle.ts_packets.specs.Bytes.{Packet}
 use Rattle.carousel_player.proofs.Steps.{ended_is}
 use Rattle.carousel_player.proofs.cycle.Cycle.is_ended.Goals as goal

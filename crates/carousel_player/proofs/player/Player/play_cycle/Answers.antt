@@ -1,12 +1,9 @@
-use Rattle.std.proofs.Common.{◌≡◌, ◌<◌, ◌≤◌, ◌++◌, [], ℕ, List, length, take, refl, sym, ap, ◌∙◌, subst, arith}
+use Rattle.std.proofs.Common.{◌≡◌, ◌<◌, ◌++◌, [], length, sym, ap, ◌∙◌, subst, arith}
 use Rattle.std.proofs.lemmas.Bool.Decides.{nat_tests}
-use Rattle.std.specs.Prelude.{Option, flat_map}
 use Rattle.std.specs.Io.KnownBytes.{Appends}
 use Rattle.std.proofs.KnownBytes.{Appends-trans}
-use Rattle.si_causes.specs.Causes.{AppendsFront}
-use Rattle.ts_packets.specs.Bytes.{Packet, bytes_of_packet}
 use Rattle.carousel_player.specs.Sending.{Sends}
-use Rattle.carousel_player.specs.Playing.{Playing, Within, GaveUp}
+use Rattle.carousel_player.specs.Playing.{Playing, GaveUp}
 use Rattle.carousel_player.proofs.Sendings.{Sends-trans}
 use Rattle.carousel_player.proofs.Plays.{on_err, all_out, front_behind, gave_up, none_left}
 use Rattle.carousel_player.proofs.player.Player.play_cycle.Goals as goal
@@ -17,12 +14,14 @@ batches-preserved g c =
     let now = c.batches.self-inside in
     let due = c.split_at.result.0.now in
     let sends : Sends now.cycle c.fill-count.new.cycle now.counters c.fill-count.new.counters due =
-      subst (Sends now.cycle c.fill-count.new.cycle now.counters c.fill-count.new.counters) (sym c.split_at.ensures.front) c.fill-count.ensures.sends in
+    subst (Sends now.cycle c.fill-count.new.cycle now.counters c.fill-count.new.counters) (sym c.split_at.ensures.front) c.fill-count.ensures.sends in
     let some : 0 < length now.cycle = grind (arith, nat_tests) in
     record {
-      sent = (i.sent.0 ++ due,
+      sent = (
+        i.sent.0 ++ due,
         Sends-trans c.args.self.now.left now.cycle c.fill-count.new.cycle c.args.self.now.counters now.counters c.fill-count.new.counters i.sent.0 due i.sent.1 sends,
-        Appends-trans (g.A.Sink.written c.args.sink.now) (g.A.Sink.written c.batches.sink) (g.A.Sink.written c.write_all.new.sink) i.sent.0 due i.sent.2 c.in_ok-write_all.ensures.done);
+        Appends-trans (g.A.Sink.written c.args.sink.now) (g.A.Sink.written c.batches.sink) (g.A.Sink.written c.write_all.new.sink) i.sent.0 due i.sent.2 c.in_ok-write_all.ensures.done,
+      );
       book = i.book;
       later = omega (arith, i.later, c.in_ok-write_all.ensures.cause.later);
       idle = λ none. absurd (omega (arith, some, ap length ((i.idle none).0 ∙ none)));
@@ -35,7 +34,7 @@ returns-in_err-write_all-clause-failed g c xs x rest w =
     let due = c.split_at.result.0.now in
     let new : Playing = record { book = now.book; counters = c.fill-count.new.counters; left = c.fill-count.new.cycle } in
     let sends : Sends now.cycle c.fill-count.new.cycle now.counters c.fill-count.new.counters due =
-      subst (Sends now.cycle c.fill-count.new.cycle now.counters c.fill-count.new.counters) (sym c.split_at.ensures.front) c.fill-count.ensures.sends in
+    subst (Sends now.cycle c.fill-count.new.cycle now.counters c.fill-count.new.counters) (sym c.split_at.ensures.front) c.fill-count.ensures.sends in
     let all = Sends-trans c.args.self.now.left now.cycle c.fill-count.new.cycle c.args.self.now.counters now.counters c.fill-count.new.counters i.sent.0 due i.sent.1 sends in
     let front = front_behind (g.A.Sink.written c.args.sink.now) (g.A.Sink.written c.batches.sink) (g.A.Sink.written c.write_all.new.sink) i.sent.0 due i.sent.2 c.in_err-write_all.ensures.failed in
     on_err c.from_residual.result (GaveUp xs x rest (g.A.Sink.written c.args.sink.now) (g.A.Sink.written c.write_all.new.sink) new)

@@ -1,7 +1,7 @@
 use Rattle.std.proofs.Common.{◌≡◌, ◌++◌, [], ◌∷◌, ℕ, List, sym, ap, subst}
 use Rattle.version_book.specs.Airings.{Airing}
 use Rattle.version_book.specs.Book.{Stands, aired}
-use Rattle.air_model.specs.Air.{Aired, airings_of, cycle_sections}
+use Rattle.air_model.specs.Air.{airings_of, cycle_sections}
 use Rattle.air_model.specs.Making.{each_alone}
 use Rattle.carousel_player.specs.Playing.{Playing, Begins}
 use Rattle.carousel_player.proofs.Plays.{begins, on_ok_both}

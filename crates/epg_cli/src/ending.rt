@@ -1,0 +1,106 @@
+// How a run ends: its report and its status.
+ghost use Rattle.std.specs.Prelude.{◌≡◌, ◌≤◌, ◌++◌, IfOk, OnOk, codes, IfSome, None, Some, List, Option, ℕ};
+ghost use Rattle.si_causes.specs.Causes.{Rose};
+ghost use Rattle.desk_core.specs.Desks.{DeskState};
+ghost use Rattle.epg_cli.specs.Texts.{journal_text, fault_line};
+ghost use Rattle.epg_cli.specs.Run.{stop_text, status_for, entries_of, ending_text, Finished, told, Reported};
+
+use crate::report::{put_number, text_of};
+use crate::status::{Origin, Outlet, Status};
+use crate::stop::PlayStop;
+use desk_core::Desk;
+use si_causes::{ReadStop, Sink, write_all};
+use std::alloc::{AllocError, Global};
+
+/// What was played: the desk, where its multiplex was read, and why the script was not played on.
+#[derive(Drop)]
+pub(crate) struct Played {
+    pub(crate) desk: Option<Desk>,
+    pub(crate) stop: Option<PlayStop>,
+}
+
+// Appends what the line of a stop says.
+fn put_stop(alloc: Global, out: &mut Vec<u8>, stop: PlayStop) -> Result<(), AllocError>
+    ensures { OnOk result (out.new.items ≡ out.old.items ++ stop_text stop) }
+{
+    match stop {
+        PlayStop::NoCommand(line) => {
+            out.extend_from_slice(b"input line ")?;
+            put_number(alloc, out, line)?;
+            out.extend_from_slice(b" is no command")
+        }
+        PlayStop::Read(ReadStop::TooLong) => out.extend_from_slice(b"input too long"),
+        PlayStop::Read(ReadStop::Failed) => out.extend_from_slice(b"input not read"),
+        PlayStop::Air => out.extend_from_slice(b"air not written"),
+        PlayStop::Memory => out.extend_from_slice(b"memory"),
+    }
+}
+
+// Appends the line of a fault.
+fn put_fault(alloc: Global, out: &mut Vec<u8>, stop: PlayStop) -> Result<(), AllocError>
+    ensures { OnOk result (out.new.items ≡ out.old.items ++ fault_line (stop_text stop)) }
+{
+    out.extend_from_slice(b"fault: ")?;
+    put_stop(alloc, out, stop)?;
+    out.extend_from_slice(b"\n")
+}
+
+// The text of a desk's journal.
+fn journal_of(alloc: Global, desk: &Desk) -> Result<Vec<u8>, AllocError>
+    ensures { IfOk result (λ text. text.items ≡ journal_text desk.now.entries) }
+{
+    let _ = desk.mux();
+    text_of(alloc, desk.entries())
+}
+
+// The whole report: the journal, and the fault line where there is one.
+fn report_of(alloc: Global, played: &Played) -> Result<Vec<u8>, AllocError>
+    ensures { IfOk result (λ text. text.items ≡ journal_text (entries_of played.now.desk) ++ ending_text played.now.stop) }
+{
+    let mut text = match &played.desk {
+        Some(desk) => journal_of(alloc, desk)?,
+        None => Vec::new(alloc),
+    };
+    if let Some(stop) = played.stop {
+        put_fault(alloc, &mut text, stop)?;
+    }
+    Ok(text)
+}
+
+fn status_of(stop: PlayStop) -> Status
+    ensures { result ≡ status_for stop }
+{
+    match stop {
+        PlayStop::NoCommand(line) => Status::BadScript(line),
+        PlayStop::Read(ReadStop::TooLong) => Status::TooLong(Origin::Input),
+        PlayStop::Read(ReadStop::Failed) => Status::ReadFault(Origin::Input),
+        PlayStop::Air => Status::WriteFault(Outlet::Air),
+        PlayStop::Memory => Status::Memory,
+    }
+}
+
+/// Ends a run for want of memory.
+pub(crate) fn out_of_memory<R: Sink>(report: &mut R) -> Status
+    ensures status { result ≡ Status.Memory }
+    ensures later { R.faults report.old ≤ R.faults report.new }
+{
+    let _ = write_all(report, b"fault: memory\n");
+    Status::Memory
+}
+
+/// Reports what was played, and says how the run ends. A report that fails changes the status of a whole script alone.
+pub(crate) fn finish<R: Sink>(alloc: Global, played: &Played, report: &mut R) -> Status
+    ensures finished { Finished played.now.stop (entries_of played.now.desk) (told R.written R.faults report.old report.new) result }
+{
+    let Ok(text) = report_of(alloc, played) else {
+        return out_of_memory(report);
+    };
+    let written = write_all(report, &text);
+    match played.stop {
+        Some(stop) => status_of(stop),
+        None => match written {
+            Ok(()) => Status::Done,
+            Err(_) => Status::WriteFault(Outlet::Report),
+        },
+    }
+}

@@ -1,0 +1,150 @@
+// The top call.
+ghost use Rattle.std.specs.Prelude.{◌≡◌, ◌≤◌, ◌↔◌, ◌⊎◌, List, ℕ, Option, None, Some, true, false, map, string_bytes, codes};
+ghost use Rattle.std.specs.Io.KnownBytes.{IsAtEnd};
+ghost use Rattle.si_causes.specs.Causes.{Rose};
+ghost use Rattle.si_causes.specs.Reading.{text_left};
+ghost use Rattle.epg_cli.specs.declared.status.Origin.{Origin as AnOrigin};
+ghost use Rattle.epg_cli.specs.Texts.{fault_line};
+ghost use Rattle.epg_cli.specs.Script.{script_in, script_of};
+ghost use Rattle.epg_cli.specs.Reads.{lines_of};
+ghost use Rattle.epg_cli.specs.Run.{Leaves, IsOfPlay, Completes, Reported, HasPlayed, are_play, told, HasStopCause, HasAirStopCause};
+
+use crate::block::read_block;
+use crate::ending::{Played, finish, out_of_memory};
+use crate::fields::is;
+use crate::play::play_rest;
+use crate::status::{Origin, Outlet, Status};
+use crate::stop::PlayStop;
+use carousel_player::Player;
+use desk_core::Desk;
+use si_causes::{Gate, LineReader, Opener, Sink, Source, write_all};
+use std::alloc::Global;
+use std::marker::{Send, Sync};
+use std::sync::Wait;
+use std::thread::Threads;
+
+// Reads the description of the multiplex, and then does the commands behind it.
+fn play<S: Source, A: Sink>(alloc: Global, lines: &mut LineReader<S>, air: &mut A) -> Played
+    requires going { lines.old.stop ≡ None }
+    requires number { lines.old.number ≡ 0 }
+    ensures played { (text : List ℕ) → text_left S.left lines.old ≡ Some text
+        → HasPlayed (script_of (lines_of lines.old text)) (told A.written A.faults air.old air.new) result.desk result.stop }
+    ensures end { result.stop ≡ None → IsAtEnd (S.left lines.new.source) }
+    ensures read_cause { HasStopCause (S.faults lines.old.source) (S.faults lines.new.source) result.stop }
+    ensures air_cause { HasAirStopCause (A.faults air.old) (A.faults air.new) result.stop }
+    ensures same { S.same lines.old.source lines.new.source }
+{
+    let mux = match read_block(alloc, lines) {
+        Ok(mux) => mux,
+        Err(stop) => {
+            return Played {
+                desk: None,
+                stop: Some(stop),
+            };
+        }
+    };
+    let quota = mux.quota;
+    let Ok(mut desk) = Desk::open(alloc, mux) else {
+        return Played {
+            desk: None,
+            stop: Some(PlayStop::Memory),
+        };
+    };
+    let mut player = Player::open(alloc, quota);
+    let stop = play_rest(alloc, lines, &mut desk, &mut player, air).err();
+    Played {
+        desk: Some(desk),
+        stop,
+    }
+}
+
+// Opens the input, plays its script and reports.
+fn play_through<S: Source, A: Sink, R: Sink>(
+    alloc: Global,
+    input: &mut S,
+    air: &mut A,
+    report: &mut R,
+) -> Status
+    ensures leaves { (text : List ℕ) → S.left input.old ≡ Some text
+        → Leaves (script_in text) (told A.written A.faults air.old air.new) (told R.written R.faults report.old report.new) result }
+    ensures status { IsOfPlay result }
+    ensures end { result ≡ Status.Done → IsAtEnd (S.left input.new) }
+    ensures input { result ≡ Status.ReadFault Origin.Input → Rose (S.faults input.old) (S.faults input.new) }
+    ensures air { result ≡ Status.WriteFault Outlet.Air → Rose (A.faults air.old) (A.faults air.new) }
+    ensures report { result ≡ Status.WriteFault Outlet.Report → Rose (R.faults report.old) (R.faults report.new) }
+{
+    let Ok(mut lines) = LineReader::open(alloc, &mut *input) else {
+        return out_of_memory(report);
+    };
+    let played = play(alloc, &mut lines, air);
+    let _source = lines.close();
+    finish(alloc, &played, report)
+}
+
+/// Plays the script of the input: reads its lines and does them one after the other, sends one cycle to the air after each swap,
+/// and reports the journal of all steps done, with a line that names the fault where there is one.
+pub fn run_play<S: Source, A: Sink, R: Sink>(
+    alloc: Global,
+    input: &mut S,
+    air: &mut A,
+    report: &mut R,
+) -> Status
+    ensures leaves { (text : List ℕ) → S.left input.old ≡ Some text
+        → Leaves (script_in text) (told A.written A.faults air.old air.new) (told R.written R.faults report.old report.new) result }
+    // Where neither the input nor a sink fails, the script decides the status, but for want of memory.
+    ensures completes { (text : List ℕ) → S.left input.old ≡ Some text → ¬ (Rose (S.faults input.old) (S.faults input.new))
+        → ¬ (Rose (A.faults air.old) (A.faults air.new)) → ¬ (Rose (R.faults report.old) (R.faults report.new)) → Completes (script_in text) result }
+    ensures status { IsOfPlay result }
+    ensures end { result ≡ Status.Done → IsAtEnd (S.left input.new) }
+    ensures input { result ≡ Status.ReadFault Origin.Input → Rose (S.faults input.old) (S.faults input.new) }
+    ensures air { result ≡ Status.WriteFault Outlet.Air → Rose (A.faults air.old) (A.faults air.new) }
+    ensures report { result ≡ Status.WriteFault Outlet.Report → Rose (R.faults report.old) (R.faults report.new) }
+{
+    play_through(alloc, input, air, report)
+}
+
+// Whether the words are the one word `play`.
+fn is_play(words: &[String]) -> bool
+    ensures { result ≡ are_play (map string_bytes words.now) }
+{
+    match words {
+        [word] => is(word.as_str(), "play"),
+        _ => false,
+    }
+}
+
+/// Does all that the program does: it takes the words of the command line without the program's name, what opens files, the input,
+/// the air, the report, and the gate that threads pass. The words are those of `play`: this one word alone. No file is opened.
+pub fn run<W: Threads + Wait + Sync, O: Opener, S: Source + Send, A: Sink + Send, R: Sink, G: Gate>(
+    _rt: &W,
+    alloc: Global,
+    words: &[String],
+    _opener: &mut O,
+    input: &mut S,
+    air: &mut A,
+    report: &mut R,
+    _gate: &G,
+) -> Status
+    // Usage comes exactly where the words are not the one word `play`; then nothing is read or sent.
+    ensures usage { result ≡ Status.Usage ↔ (are_play (map string_bytes words.now) ≡ false) }
+    ensures usage_leaves { result ≡ Status.Usage → (air.new ≡ air.old) × (input.new ≡ input.old)
+        × Reported (told R.written R.faults report.old report.new) (fault_line (codes "usage")) }
+    // What is left with each status of `play`: the journal that the report has, and the air.
+    ensures leaves { are_play (map string_bytes words.now) ≡ true → (text : List ℕ) → S.left input.old ≡ Some text
+        → Leaves (script_in text) (told A.written A.faults air.old air.new) (told R.written R.faults report.old report.new) result }
+    ensures completes { are_play (map string_bytes words.now) ≡ true → (text : List ℕ) → S.left input.old ≡ Some text → ¬ (Rose (S.faults input.old) (S.faults input.new))
+        → ¬ (Rose (A.faults air.old) (A.faults air.new)) → ¬ (Rose (R.faults report.old) (R.faults report.new)) → Completes (script_in text) result }
+    ensures status { are_play (map string_bytes words.now) ≡ true → IsOfPlay result }
+    // With Done the input was read to its end; each fault has its cause.
+    ensures end { result ≡ Status.Done → IsAtEnd (S.left input.new) }
+    ensures input { (origin : AnOrigin) → result ≡ Status.ReadFault origin → (origin ≡ Origin.Input) × Rose (S.faults input.old) (S.faults input.new) }
+    ensures air { result ≡ Status.WriteFault Outlet.Air → Rose (A.faults air.old) (A.faults air.new) }
+    ensures report { result ≡ Status.WriteFault Outlet.Report → Rose (R.faults report.old) (R.faults report.new) }
+    ensures opener_kept { _opener.new ≡ _opener.old }
+{
+    if is_play(words) {
+        return run_play(alloc, input, air, report);
+    }
+    let _ = write_all(report, b"fault: usage\n");
+    Status::Usage
+}

@@ -1,0 +1,44 @@
+//! The program: standard input is the input, standard output the air, standard error the report.
+//!
+//! The adapters over the standard streams are proved against the traits that the top call asks for; that the real streams
+//! behave so is not proved. All else is the top call's.
+#![tactic(auto)]
+
+mod adapters;
+
+use adapters::{Reading, Writing};
+use epg_cli::run;
+use si_causes::{NoFiles, OpenGate};
+use std::env::{self, Env};
+use std::io;
+use std::process::ExitCode;
+
+// The words behind the program's name.
+fn words(rt: &(impl Env + AllocGlobal)) -> io::Result<Vec<String>> {
+    let mut words = env::args(rt)?;
+    let _name = words.next();
+    Ok(words.collect(rt.alloc())?)
+}
+
+fn main(rt: HostRuntime) -> ExitCode {
+    let mut input = Reading::open(rt.stdin());
+    let mut air = Writing::open(rt.stdout());
+    let mut report = Writing::open(rt.stderr());
+    // Words that are no text are no command line, as no words are none.
+    let words = match words(&rt) {
+        Ok(words) => words,
+        Err(_) => Vec::new(rt.alloc()),
+    };
+    let mut files = NoFiles::new();
+    let status = run(
+        &rt,
+        rt.alloc(),
+        &words,
+        &mut files,
+        &mut input,
+        &mut air,
+        &mut report,
+        &OpenGate,
+    );
+    ExitCode::from(status.code())
+}
