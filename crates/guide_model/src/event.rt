@@ -1,6 +1,4 @@
 // Events and their parts.
-ghost use Rattle.std.specs.Prelude.{◌≡◌, IfOk};
-
 use si_base::{Copies, Items};
 use si_text::Txt;
 use si_time::Moment;

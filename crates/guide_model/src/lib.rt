@@ -10,3 +10,6 @@ mod stream;
 pub use event::{Event, Events, Genre, Genres, Rating};
 pub use guide::{Guide, ServiceGuide, ServiceGuides};
 pub use stream::{Cable, Component, Components};
+
+#[cfg(test)]
+mod tests;

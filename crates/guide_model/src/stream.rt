@@ -1,6 +1,4 @@
 // What a multiplex sends beside its events.
-ghost use Rattle.std.specs.Prelude.{◌≡◌, IfOk};
-
 use si_base::{Copies, Items};
 use std::alloc::AllocError;
 

@@ -1,4 +1,5 @@
--- A sound multiplex: every value in its range, and nothing that has to be single stands twice.
+-- A sound multiplex: every value in its range, and nothing that has to be single stands twice. What the types of the fields
+-- bound already (16 bits of an id, 8 of a type) is not said again.
 use Rattle.std.specs.Prelude.{◌≡◌, ◌≢◌, ℕ, ◌*◌, ◌<◌, ◌≤◌, List, [], ◌∷◌, length, Option, Some, None, map}
 use Rattle.std.specs.List.{AllByRecursion, flat_map}
 use Rattle.guide_model.specs.declared.stream.Cable.{Cable}
@@ -20,6 +21,15 @@ abbrev pub HasSoundCable : Option Cable → Type 0
 HasSoundCable None = Unit {0}
 HasSoundCable (Some cable) = IsSoundCable cable
 
+-- no language, or three letters a to z
+abbrev pub HasSoundLanguage : Option (List ℕ) → Type 0
+HasSoundLanguage None = Unit {0}
+HasSoundLanguage (Some letters) = (length letters ≡ 3) × AllByRecursion (Between 97 122) letters
+
+pub record IsSoundComponent (component : Component) : Type 0 where
+  pub pid : Between 32 8190 component.pid
+  pub language : HasSoundLanguage component.language
+
 -- no number stands twice
 abbrev pub AreDifferent : List ℕ → Type 0
 AreDifferent [] = Unit {0}
@@ -35,9 +45,9 @@ pub record IsSoundService (s : MuxService) : Type 0 where
   pub pcr_pid : Between 32 8191 s.pcr_pid
   pub provider : coded_size s.provider ≤ 100
   pub name : Between 1 100 (coded_size s.name)
-  pub components : length s.components ≤ 16
-  pub component_range : AllByRecursion (Between 32 8190) (component_pids s)
-  pub component_once : AreDifferent (component_pids s)
+  pub count : length s.components ≤ 16
+  pub components : AllByRecursion IsSoundComponent s.components
+  pub components_once : AreDifferent (component_pids s)
 
 -- each id is below those behind it
 abbrev pub DoAscend : List MuxService → Type 0
@@ -61,4 +71,5 @@ pub record IsSound (mux : Mux) : Type 0 where
   pub ascend : DoAscend mux.services
   pub pmts_once : AreDifferent (pmt_pids mux.services)
   -- no component has the PID of a PMT
-  pub apart : AllByRecursion (λ pmt. AllByRecursion (λ pid. pmt ≢ pid) (all_component_pids mux.services)) (pmt_pids mux.services)
+  pub apart :
+      AllByRecursion (λ pmt. AllByRecursion (λ pid. pmt ≢ pid) (all_component_pids mux.services)) (pmt_pids mux.services)

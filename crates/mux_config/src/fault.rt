@@ -9,8 +9,8 @@ pub enum Word {
     End,
 }
 
-/// What is wrong with a description: a line that is no record, a field outside its range, a line that repeats an earlier
-/// one (both numbers, from 1), or a word that is missing.
+/// What is wrong with a description: the number of a line (from 1) that is no record; of one with a field outside its range;
+/// of one that repeats an earlier line, and the number of that; or a word that is missing.
 #[derive(Debug, Clone, Copy, PartialEq, Eq)]
 pub enum MuxFault {
     Line(u64),

@@ -8,3 +8,6 @@ mod mux;
 
 pub use fault::{MuxFault, Word};
 pub use mux::{Mux, MuxService, MuxServices};
+
+#[cfg(test)]
+mod tests;

@@ -7,8 +7,8 @@ use si_text::Txt;
 use si_time::Moment;
 use std::alloc::AllocError;
 
-/// A service of the multiplex: its id, the number of the feed that edits it, its service_type, the PIDs of its PMT and of its
-/// clock reference, its first names and its components.
+/// A service of the multiplex: its service_id, the number of the feed that edits it, its service_type (EN 300 468, 6.2.33),
+/// the PIDs of its PMT and of its clock reference (ISO/IEC 13818-1, 2.4.4.8), its first names and its components.
 #[derive(Debug, Drop)]
 pub struct MuxService {
     pub service: u16,
@@ -24,8 +24,9 @@ pub struct MuxService {
 /// Services, in ascending order of their ids.
 pub type MuxServices = Items<MuxService>;
 
-/// A multiplex: network_id and name, transport_stream_id, original_network_id, its cable delivery where it is given, the
-/// moment at which its desk starts, the packets between two repeats of its frequent tables, and its services.
+/// A multiplex: network_id and network name, transport_stream_id, original_network_id, its cable delivery where it is
+/// given, the moment at which its desk starts, the number of packets between two repeats of its frequent tables, and its
+/// services.
 #[derive(Debug, Drop)]
 pub struct Mux {
     pub network: u16,
