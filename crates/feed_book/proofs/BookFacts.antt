@@ -13,7 +13,8 @@ use Rattle.feed_book.specs.Standing.{Names, last_or, names_in, names_of, is_done
 use Rattle.feed_book.specs.declared.reply.Reply.{Reply}
 use Rattle.feed_book.specs.declared.reply.Reply.TheVariants.{Done, Foreign, Range, Overlap, Member}
 use Rattle.feed_book.specs.Replies.{owns, names_reply, reply_to}
-use Rattle.feed_book.specs.Books.{kept_after, book_after, named, is_of, first_changed, reply_in, edited_in, Stands}
+use Rattle.feed_book.specs.Books.{kept_after, book_after, Stands}
+use Rattle.feed_book.specs.Changes.{named, is_of, first_changed, reply_in, edited_in}
 
 b_cases : (b : Bool) → (b ≡ true) ⊎ (b ≡ false)
 b_cases true = inl refl

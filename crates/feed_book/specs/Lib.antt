@@ -1,4 +1,5 @@
 pub mod Replies
 pub mod Standing
 pub mod Books
+pub mod Changes
 pub mod Rows

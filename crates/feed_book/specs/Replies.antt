@@ -17,8 +17,10 @@ owns services feed service = list_any (λ (s : MuxService). s.service == service
 abbrev pub fits : ℕ → List ℕ → Bool
 fits least text = nat_le least (coded_size text) && nat_le (coded_size text) 100
 
+-- the reply to a provider and a name
 abbrev pub names_reply : List ℕ → List ℕ → Reply
-names_reply provider name = if fits 0 provider then (if fits 1 name then Done else Range ServiceName) else Range Provider
+names_reply provider name =
+    if fits 0 provider then (if fits 1 name then Done else Range ServiceName) else Range Provider
 
 -- the service that an edit speaks of
 abbrev pub service_of : Edit → ℕ
@@ -28,5 +30,7 @@ service_of (Name service provider name) = service
 abbrev pub reply_over : Edit → Reply
 reply_over (Name service provider name) = names_reply provider name
 
+-- the reply to an edit of this feed
 abbrev pub reply_to : List MuxService → ℕ → Edit → Reply
-reply_to services feed edit = if owns services feed (service_of edit) then reply_over edit else Foreign (service_of edit)
+reply_to services feed edit =
+    if owns services feed (service_of edit) then reply_over edit else Foreign (service_of edit)

@@ -1,12 +1,13 @@
 // The book.
-ghost use Rattle.std.specs.Prelude.{◌≡◌, ◌<◌, [], ◌∷◌, ◌++◌, List, IfOk, OnErr, vec_len, position, false, if◌then◌else◌, slice_set, slice_index_or};
-ghost use Rattle.si_text.specs.Coding.{coded_size};
+ghost use Rattle.std.specs.Prelude.{◌≡◌, ◌<◌, [], ◌∷◌, ◌++◌, List, IfOk, OnErr, vec_len};
+ghost use Rattle.std.specs.Prelude.{position, false, if◌then◌else◌, slice_set, slice_index_or};
+ghost use Rattle.std.specs.List.{list_any};
 ghost use Rattle.mux_config.specs.declared.mux.MuxService.{MuxService as Service};
-ghost use Rattle.mux_config.specs.Sound.{IsSound, DoAscend};
+ghost use Rattle.mux_config.specs.Sound.{DoAscend};
 ghost use Rattle.feed_book.specs.declared.edit.Edit.{Edit as AnEdit};
 ghost use Rattle.feed_book.specs.declared.book.Kept.{Kept as AKept};
-ghost use Rattle.std.specs.List.{list_any};
-ghost use Rattle.feed_book.specs.Books.{Stands, guide_of, book_after, kept_after, named, is_of, first_changed, reply_in, edited_in};
+ghost use Rattle.feed_book.specs.Books.{Stands, guide_of, kept_after};
+ghost use Rattle.feed_book.specs.Changes.{named, is_of, first_changed, reply_in, edited_in};
 ghost use Rattle.feed_book.specs.Replies.{fits, reply_to, names_reply};
 ghost use Rattle.feed_book.specs.Standing.{is_done};
 
@@ -55,10 +56,16 @@ impl Book {
     }
 
     /// Answers an edit of a feed, and does it where the reply is `Done`; any other reply, and want of memory, leaves the
-    /// book as it is.
+    /// book as it is. The reply is the first that applies:
+    /// - `Foreign` with the service: the multiplex has no such service of this feed;
+    /// - `Range(Provider)`: the coded provider has more than 100 bytes;
+    /// - `Range(ServiceName)`: the coded name has no byte or more than 100;
+    /// - `Done`.
     pub fn edit(&mut self, feed: u8, cmd: &Edit) -> Result<Reply, AllocError>
-        ensures reply { (services : List Service) (past : List AnEdit) → Stands services past self.old → IfOk result (λ reply. reply ≡ reply_to services feed cmd.now) }
-        ensures book { (services : List Service) (past : List AnEdit) → DoAscend services → Stands services past self.old
+        ensures reply { (services : List Service) (past : List AnEdit) → Stands services past self.old
+            → IfOk result (λ reply. reply ≡ reply_to services feed cmd.now) }
+        ensures book { (services : List Service) (past : List AnEdit) → DoAscend services
+            → Stands services past self.old
             → IfOk result (λ reply. Stands services (if is_done reply then past ++ cmd.now ∷ [] else past) self.new) }
         ensures refused { IfOk result (λ reply. is_done reply ≡ false → self.new ≡ self.old) }
         ensures memory { OnErr result (self.new ≡ self.old) }
@@ -100,7 +107,8 @@ fn first_kept(alloc: Global, service: &MuxService) -> Result<Kept, AllocError>
 // Answers an edit over what is kept, and does it where the reply is `Done`.
 fn edit_in(services: &mut Vec<Kept>, feed: u8, cmd: &Edit) -> Result<Reply, AllocError>
     ensures reply { IfOk result (λ reply. reply ≡ reply_in services.old.items feed cmd.now) }
-    ensures book { IfOk result (λ reply. services.new.items ≡ (if is_done reply then edited_in services.old.items feed cmd.now else services.old.items)) }
+    ensures book { IfOk result (λ reply. services.new.items
+        ≡ (if is_done reply then edited_in services.old.items feed cmd.now else services.old.items)) }
     ensures memory { OnErr result (services.new.items ≡ services.old.items) }
 {
     match cmd {
@@ -118,8 +126,12 @@ fn name_service(
     provider: &Txt,
     name: &Txt,
 ) -> Result<Reply, AllocError>
-    ensures reply { IfOk result (λ reply. reply ≡ (if list_any (is_of feed service) services.old.items then names_reply provider.now name.now else Reply.Foreign service)) }
-    ensures book { IfOk result (λ reply. services.new.items ≡ (if is_done reply then first_changed (is_of feed service) (named provider.now name.now) services.old.items else services.old.items)) }
+    ensures reply { IfOk result (λ reply. reply
+        ≡ (if list_any (is_of feed service) services.old.items then names_reply provider.now name.now
+        else Reply.Foreign service)) }
+    ensures book { IfOk result (λ reply. services.new.items
+        ≡ (if is_done reply then first_changed (is_of feed service) (named provider.now name.now) services.old.items
+        else services.old.items)) }
     ensures memory { OnErr result (services.new.items ≡ services.old.items) }
 {
     let Some(at) = place_of(services, feed, service) else {
@@ -144,6 +156,7 @@ fn place_of(services: &[Kept], feed: u8, service: u16) -> Option<usize>
         .position(|kept| kept.guide.service == service && kept.feed == feed)
 }
 
+// Whether a coded text has so many bytes, and at most 100.
 fn is_within(least: usize, text: &Txt) -> bool
     ensures { result ≡ fits least text.now }
 {
@@ -151,6 +164,7 @@ fn is_within(least: usize, text: &Txt) -> bool
     least <= size && size <= 100
 }
 
+// The reply to the names of a service of the feed.
 fn reply_to_names(provider: &Txt, name: &Txt) -> Reply
     ensures { result ≡ names_reply provider.now name.now }
 {
@@ -166,7 +180,8 @@ fn reply_to_names(provider: &Txt, name: &Txt) -> Reply
 // Gives the service at a place its names.
 fn rename(services: &mut Vec<Kept>, at: usize, provider: Txt, name: Txt)
     requires { at < vec_len services.old }
-    ensures { (d : AKept) → services.new.items ≡ slice_set services.old.items at (named provider name (slice_index_or services.old.items at d)) }
+    ensures { (d : AKept) → services.new.items
+        ≡ slice_set services.old.items at (named provider name (slice_index_or services.old.items at d)) }
 {
     let kept = &mut services[at];
     kept.guide.provider = provider;

@@ -11,3 +11,6 @@ mod reply;
 pub use book::{Book, Kept};
 pub use edit::Edit;
 pub use reply::{DayFault, Field, Reply};
+
+#[cfg(test)]
+mod tests;

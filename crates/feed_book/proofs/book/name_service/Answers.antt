@@ -3,7 +3,7 @@ use Rattle.std.proofs.lemmas.List.Quantifiers.{position-Some}
 use Rattle.feed_book.specs.declared.book.Kept.{Kept}
 use Rattle.feed_book.specs.declared.reply.Reply.TheVariants.{Foreign}
 use Rattle.feed_book.specs.Replies.{names_reply}
-use Rattle.feed_book.specs.Books.{is_of, named, first_changed}
+use Rattle.feed_book.specs.Changes.{is_of, named, first_changed}
 use Rattle.feed_book.proofs.BookFacts.{none_passes, some_passes, change_at, not_done}
 use Rattle.feed_book.proofs.book.name_service.Goals as goal
 
