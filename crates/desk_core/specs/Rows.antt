@@ -2,7 +2,9 @@
 use Rattle.std.specs.Prelude.{◌≡◌, ℕ, List, [], ◌∷◌, None, refl, codes}
 use Rattle.si_time.specs.declared.moment.Moment.{Moment}
 use Rattle.guide_model.specs.declared.guide.Guide.{Guide}
+use Rattle.std.proofs.Common.{lit≤, lit<}
 use Rattle.mux_config.specs.declared.mux.Mux.{Mux}
+use Rattle.mux_config.specs.Sound.{IsSound}
 use Rattle.feed_book.specs.declared.edit.Edit.TheVariants.{Name}
 use Rattle.feed_book.specs.declared.reply.Reply.TheVariants.{Done}
 use Rattle.desk_core.specs.declared.step.Step.TheVariants.{Edit as edit, Publish, Swap}
@@ -39,6 +41,32 @@ row_journal =
 
 abbrev guide_named : List ℕ → Guide
 guide_named name = record { moment = row_start; services = record { service = 101; provider = codes "Acme"; name = name; events = [] } ∷ [] }
+
+pub row_sound : IsSound row_mux
+row_sound = record {
+  network_name = (lit≤ tt, lit≤ tt);
+  cable = tt;
+  start = lit< tt;
+  quota = (lit≤ tt, lit≤ tt);
+  count = (lit≤ tt, lit≤ tt);
+  services = (
+    record {
+      service = (lit≤ tt, lit≤ tt);
+      feed = (lit≤ tt, lit≤ tt);
+      pmt_pid = (lit≤ tt, lit≤ tt);
+      pcr_pid = (lit≤ tt, lit≤ tt);
+      provider = lit≤ tt;
+      name = (lit≤ tt, lit≤ tt);
+      count = lit≤ tt;
+      components = tt;
+      components_once = tt;
+    },
+    tt,
+  );
+  ascend = (tt, tt);
+  pmts_once = (tt, tt);
+  apart = (tt, tt);
+}
 
 row_one : journal_of row_mux row_commands ≡ row_journal
 row_one = refl

@@ -7,8 +7,8 @@
 mod adapters;
 
 use adapters::{Reading, Writing};
-use epg_cli::run;
-use si_causes::{NoFiles, OpenGate};
+use epg_cli::{Status, run};
+use si_causes::{NoFiles, OpenGate, write_all};
 use std::env::{self, Env};
 use std::io;
 use std::process::ExitCode;
@@ -24,9 +24,13 @@ fn main(rt: HostRuntime) -> ExitCode {
     let mut input = Reading::open(rt.stdin());
     let mut air = Writing::open(rt.stdout());
     let mut report = Writing::open(rt.stderr());
-    // Words that are no text are no command line, as no words are none.
     let words = match words(&rt) {
         Ok(words) => words,
+        Err(error) if error.kind() == io::ErrorKind::OutOfMemory => {
+            let _ = write_all(&mut report, b"fault: memory\n");
+            return ExitCode::from(Status::Memory.code());
+        }
+        // Words that are no text are no command line, as no words are none.
         Err(_) => Vec::new(rt.alloc()),
     };
     let mut files = NoFiles::new();
