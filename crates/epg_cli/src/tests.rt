@@ -78,7 +78,12 @@ fn packet() -> [u8; 188] {
 }
 
 // What the words of a command line end with, over this text.
-fn words_end<W: Threads + Wait + Sync>(rt: &W, alloc: Global, words: &[&str], text: &str) -> Result<Left, AllocError> {
+fn words_end<W: Threads + Wait + Sync>(
+    rt: &W,
+    alloc: Global,
+    words: &[&str],
+    text: &str,
+) -> Result<Left, AllocError> {
     let mut line = Vec::new(alloc);
     for word in words {
         line.push(String::from_str(alloc, word)?)?;
