@@ -12,6 +12,3 @@ mod step;
 pub use desk::Desk;
 pub use laws::one_legal_journal;
 pub use step::{Airing, Entry, Outcome, Step};
-
-#[cfg(test)]
-mod tests;
