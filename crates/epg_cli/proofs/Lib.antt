@@ -5,5 +5,4 @@ pub mod BlockFacts
 pub mod AirFacts
 pub mod SwapFacts
 pub mod RestFacts
-pub mod WindowFacts
 pub mod RunFacts

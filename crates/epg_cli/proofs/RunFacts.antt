@@ -26,7 +26,8 @@ use Rattle.epg_cli.specs.Air.{airings}
 use Rattle.epg_cli.specs.Script.{Script, Stop, Ended, NoCommand, TooLong, no_mux, with_commands, script_in, script_of}
 use Rattle.epg_cli.specs.Reads.{ReadBlock, IsNoAirStop, lines_of}
 use Rattle.epg_cli.specs.Played.{desk_after, RestDid, AiredTo, HasAired, HasAiredFront, IsOnAir, cycle_bytes}
-use Rattle.epg_cli.specs.Texts.{journal_text, fault_line}
+use Rattle.journal_text.specs.Entries.{journal_text}
+use Rattle.epg_cli.specs.Texts.{fault_line}
 use Rattle.epg_cli.specs.Run.{Told, IsAired, IsAiredFront, HasPlayed, Finished, FinishedBy, Leaves, IsOfPlay, Completes, whole_journal, first_journal, journal_for, entries_of, status_for, stop_text, Reported, airings_for, HasStopCause, HasAirStopCause}
 
 pub appends_nil : (w : Option (List ℕ)) → Appends w w []

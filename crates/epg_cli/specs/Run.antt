@@ -20,7 +20,8 @@ use Rattle.epg_cli.specs.Air.{airings}
 use Rattle.epg_cli.specs.Fields.{is_word}
 use Rattle.epg_cli.specs.Played.{cycle_bytes}
 use Rattle.epg_cli.specs.Script.{Script, Ended, NoCommand, TooLong}
-use Rattle.epg_cli.specs.Texts.{journal_text, fault_line}
+use Rattle.journal_text.specs.Entries.{journal_text}
+use Rattle.epg_cli.specs.Texts.{fault_line}
 
 -- What a sink told before and after a call: the bytes that it took, and the count of its faults.
 pub record Told : Type 0 where

@@ -13,7 +13,6 @@ mod fields;
 mod lines;
 mod play;
 mod records;
-mod report;
 mod sdt;
 mod status;
 mod stop;

@@ -1,10 +1,10 @@
-// The journal's text.
+// The text of an outcome.
 ghost use Rattle.std.specs.Prelude.{◌≡◌, ◌*◌, ◌<◌, ◌++◌, IfOk, OnOk, OnErr, codes, decimal};
 ghost use Rattle.si_time.specs.Moments.{moment_text};
-ghost use Rattle.epg_cli.specs.Texts.{field_text, day_fault_text, reply_text, outcome_text, edit_text, step_text, entry_text, journal_text, IsInWindow, AreInWindow};
+ghost use Rattle.journal_text.specs.Outcomes.{field_text, day_fault_text, reply_text, outcome_text, IsInWindow};
 
-use desk_core::{Entry, Outcome, Step};
-use feed_book::{DayFault, Edit, Field, Reply};
+use desk_core::Outcome;
+use feed_book::{DayFault, Field, Reply};
 use si_time::{Moment, write_moment};
 use std::alloc::{AllocError, Global};
 
@@ -91,7 +91,12 @@ fn put_reply(alloc: Global, out: &mut Vec<u8>, reply: Reply) -> Result<(), Alloc
     }
 }
 
-fn put_outcome(alloc: Global, out: &mut Vec<u8>, outcome: Outcome) -> Result<(), AllocError>
+// Appends the text of an outcome.
+pub(crate) fn put_outcome(
+    alloc: Global,
+    out: &mut Vec<u8>,
+    outcome: Outcome,
+) -> Result<(), AllocError>
     requires { IsInWindow outcome }
     ensures { OnOk result (out.new.items ≡ out.old.items ++ outcome_text outcome) }
 {
@@ -115,56 +120,23 @@ fn put_outcome(alloc: Global, out: &mut Vec<u8>, outcome: Outcome) -> Result<(),
     }
 }
 
-fn put_edit(alloc: Global, out: &mut Vec<u8>, edit: &Edit) -> Result<(), AllocError>
-    ensures { OnOk result (out.new.items ≡ out.old.items ++ edit_text edit.now) }
-{
-    match edit {
-        Edit::Name(service, provider, name) => {
-            out.extend_from_slice(b"name,")?;
-            put_number(alloc, out, *service as u64)?;
-            out.extend_from_slice(b",")?;
-            out.extend_from_slice(provider.as_str().as_bytes())?;
-            out.extend_from_slice(b",")?;
-            out.extend_from_slice(name.as_str().as_bytes())
-        }
-    }
-}
-
-fn put_step(alloc: Global, out: &mut Vec<u8>, step: &Step) -> Result<(), AllocError>
-    ensures { OnOk result (out.new.items ≡ out.old.items ++ step_text step.now) }
-{
-    match step {
-        Step::Edit(feed, edit) => {
-            out.extend_from_slice(b"feed,")?;
-            put_number(alloc, out, *feed as u64)?;
-            out.extend_from_slice(b",")?;
-            put_edit(alloc, out, edit)
-        }
-        Step::Publish => out.extend_from_slice(b"publish"),
-        Step::Swap => out.extend_from_slice(b"swap"),
-    }
-}
-
-fn put_entry(alloc: Global, out: &mut Vec<u8>, entry: &Entry) -> Result<(), AllocError>
-    requires { IsInWindow entry.now.outcome }
-    ensures { OnOk result (out.new.items ≡ out.old.items ++ entry_text entry.now) }
-{
-    put_number(alloc, out, entry.who as u64)?;
-    out.extend_from_slice(b",")?;
-    put_step(alloc, out, &entry.step)?;
-    out.extend_from_slice(b"\n=,")?;
-    put_outcome(alloc, out, entry.outcome)?;
-    out.extend_from_slice(b"\n")
-}
-
-/// The text of a journal: for each entry a line with its caller and its command, and a line with its outcome.
-pub(crate) fn text_of(alloc: Global, entries: &[Entry]) -> Result<Vec<u8>, AllocError>
-    requires { AreInWindow entries.now }
-    ensures { IfOk result (λ text. text.items ≡ journal_text entries.now) }
+// The text of an outcome in a list of its own.
+fn text_of(alloc: Global, outcome: Outcome) -> Result<Vec<u8>, AllocError>
+    requires { IsInWindow outcome }
+    ensures { IfOk result (λ text. text.items ≡ outcome_text outcome) }
 {
     let mut text = Vec::new(alloc);
-    for entry in entries {
-        put_entry(alloc, &mut text, entry)?;
-    }
+    put_outcome(alloc, &mut text, outcome)?;
     Ok(text)
+}
+
+/// Appends the text of an outcome as an outcome line has it behind `=,`: `done`, `published,3` and the like. Its moment, where it
+/// has one, is in the window that 16 bits of days can say (EN 300 468, annex C). Want of memory leaves `out` with what it had.
+pub fn write_outcome(alloc: Global, outcome: &Outcome, out: &mut Vec<u8>) -> Result<(), AllocError>
+    requires window { IsInWindow outcome.now }
+    ensures text { OnOk result (out.new.items ≡ out.old.items ++ outcome_text outcome.now) }
+    ensures kept { OnErr result (out.new.items ≡ out.old.items) }
+{
+    let text = text_of(alloc, *outcome)?;
+    out.extend_from_slice(&text)
 }

@@ -7,7 +7,8 @@ use Rattle.desk_core.specs.declared.step.Step.TheVariants.{Edit as edit, Publish
 use Rattle.desk_core.specs.declared.step.Outcome.{Outcome}
 use Rattle.desk_core.specs.declared.step.Entry.{Entry}
 use Rattle.desk_core.specs.Journal.{LegalAfter, Legal, outcome_of}
-use Rattle.epg_cli.specs.Texts.{IsInWindow, AreInWindow}
+use Rattle.journal_text.specs.Outcomes.{IsInWindow}
+use Rattle.journal_text.specs.Entries.{AreInWindow}
 
 step_window : (mux : Mux) (before : List Entry) (step : Step) → IsSound mux → IsInWindow (outcome_of mux before step)
 step_window mux before (edit feed e) sound = tt
