@@ -1,0 +1,85 @@
+-- What a demux keeps of each PID, and the packets that it stands for.
+use Rattle.std.specs.Prelude.{◌≡◌, ℕ, zero, suc, ◌+◌, ◌%◌, ◌<◌, List, [], ◌∷◌, ◌++◌, Bool, true, false, not, ◌&&◌, ◌==◌, if◌then◌else◌, nat_le, Option, Some, None, length, take, drop, bytes_eq}
+use Rattle.ts_packets.specs.Packets.{Piece}
+use Rattle.ts_packets.specs.Counting.{Load}
+use Rattle.ts_demux.specs.Hearing.{size_in, is_whole}
+use Rattle.ts_demux.specs.Arrivals.{Arrival, Arrival.Gap, Arrival.Came, arrivals_on}
+
+-- counter and payload of a load
+pub record Seen : Type 0 where
+  pub counter : ℕ
+  pub payload : List ℕ
+
+-- what is kept of a PID: the last load, and the first bytes of the section that is open
+pub record Kept : Type 0 where
+  pub last : Option Seen
+  pub section : Option (List ℕ)
+
+abbrev pub nothing : Kept
+nothing = record { last = None; section = None }
+
+-- ---- one packet more
+
+abbrev pub seen : Load → Seen
+seen l = record { counter = l.counter; payload = l.piece.payload }
+
+abbrev pub is_again : Option Seen → Load → Bool
+is_again None l = false
+is_again (Some last) l = (last.counter == l.counter) && bytes_eq last.payload l.piece.payload
+
+abbrev pub is_next : Option Seen → Load → Bool
+is_next None l = false
+is_next (Some last) l = l.counter == ((last.counter + 1) % 16)
+
+-- the header is there and tells a section_length above 4,093
+abbrev pub is_long : List ℕ → Bool
+is_long bytes = nat_le 3 (length bytes) && not (nat_le (size_in bytes) 4096)
+
+-- what stays open of bytes that are no whole section
+abbrev pub kept_open : List ℕ → Option (List ℕ)
+kept_open bytes = if is_long bytes then None else Some bytes
+
+-- the section that begins in these bytes of a packet and is open behind it; n bounds the number of sections
+abbrev pub left_open : ℕ → List ℕ → Option (List ℕ)
+left_open zero here = None
+left_open (suc n) [] = None
+left_open (suc n) (b ∷ here) = if b == 255 then None else if is_whole (b ∷ here) then left_open n (drop (size_in (b ∷ here)) (b ∷ here)) else kept_open (b ∷ here)
+
+abbrev pub open_from_start : List ℕ → Option (List ℕ)
+open_from_start [] = None
+open_from_start (p ∷ bytes) = if nat_le p (length bytes) then left_open (length bytes) (drop p bytes) else None
+
+abbrev pub open_further : Option (List ℕ) → List ℕ → Option (List ℕ)
+open_further None payload = None
+open_further (Some bytes) payload = if is_whole (bytes ++ payload) then None else kept_open (bytes ++ payload)
+
+-- the section that is open behind a packet, where this one is open before it
+abbrev pub open_behind : Option (List ℕ) → Piece → Option (List ℕ)
+open_behind o p = if p.start then open_from_start p.payload else open_further o p.payload
+
+-- what stays open before a load: nothing where it does not follow
+abbrev pub still_open : Bool → Option (List ℕ) → Option (List ℕ)
+still_open follows o = if follows then o else None
+
+abbrev pub kept_after : Kept → Arrival → Kept
+kept_after kept Gap = nothing
+kept_after kept (Came l) =
+    if is_again kept.last l then kept else record { last = Some (seen l); section = open_behind (still_open (is_next kept.last l) kept.section) l.piece }
+
+-- what is kept of a PID behind these arrivals
+abbrev pub kept_behind : Kept → List Arrival → Kept
+kept_behind kept [] = kept
+kept_behind kept (x ∷ xs) = kept_behind (kept_after kept x) xs
+
+-- ---- the demux
+
+-- what a demux keeps: of each PID, or nothing at all
+abbrev pub kept_on : ℕ → List (Option Kept) → Kept
+kept_on pid [] = nothing
+kept_on zero (None ∷ slots) = nothing
+kept_on zero (Some kept ∷ slots) = kept
+kept_on (suc pid) (slot ∷ slots) = kept_on pid slots
+
+-- A demux stands for these packets, each by its bytes: of each PID it keeps what they leave.
+abbrev pub Stands : List (List ℕ) → List (Option Kept) → Type 0
+Stands past slots = (pid : ℕ) → pid < 8192 → kept_on pid slots ≡ kept_behind nothing (arrivals_on pid past)

@@ -1,0 +1,5 @@
+pub mod Hearing
+pub mod Arrivals
+pub mod Sections
+pub mod Keeping
+pub mod Laws
