@@ -1,0 +1,9 @@
+pub mod Tests
+pub mod Lists
+pub mod Heard
+pub mod Hear
+pub mod Machine
+pub mod Stretches
+pub mod Windows
+pub mod Adding
+pub mod Written

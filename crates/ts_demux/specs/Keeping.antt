@@ -1,8 +1,8 @@
 -- What a demux keeps of each PID, and the packets that it stands for.
-use Rattle.std.specs.Prelude.{◌≡◌, ℕ, zero, suc, ◌+◌, ◌%◌, ◌<◌, List, [], ◌∷◌, ◌++◌, Bool, true, false, not, ◌&&◌, ◌==◌, if◌then◌else◌, nat_le, Option, Some, None, length, take, drop, bytes_eq}
+use Rattle.std.specs.Prelude.{◌≡◌, ℕ, zero, suc, ◌+◌, ◌%◌, ◌<◌, List, [], ◌∷◌, ◌++◌, Bool, true, false, not, ◌&&◌, ◌==◌, if◌then◌else◌, nat_le, Option, Some, None, length, take, drop, bytes_eq, slice_get}
 use Rattle.ts_packets.specs.Packets.{Piece}
 use Rattle.ts_packets.specs.Counting.{Load}
-use Rattle.ts_demux.specs.Hearing.{size_in, is_whole}
+use Rattle.ts_demux.specs.Hearing.{size_in, is_whole, begun}
 use Rattle.ts_demux.specs.Arrivals.{Arrival, Arrival.Gap, Arrival.Came, arrivals_on}
 
 -- counter and payload of a load
@@ -57,6 +57,27 @@ open_further (Some bytes) payload = if is_whole (bytes ++ payload) then None els
 abbrev pub open_behind : Option (List ℕ) → Piece → Option (List ℕ)
 open_behind o p = if p.start then open_from_start p.payload else open_further o p.payload
 
+-- the section that these bytes begin with, where it is whole
+abbrev pub finished : List ℕ → List (List ℕ)
+finished bytes = if is_whole bytes then take (size_in bytes) bytes ∷ [] else []
+
+abbrev pub finished_with : Option (List ℕ) → List ℕ → List (List ℕ)
+finished_with None later = []
+finished_with (Some bytes) later = finished (bytes ++ later)
+
+abbrev pub given_from_start : Option (List ℕ) → List ℕ → List (List ℕ)
+given_from_start o [] = []
+given_from_start o (p ∷ bytes) = if nat_le p (length bytes) then finished_with o (take p bytes) ++ begun (length bytes) (drop p bytes) [] else []
+
+-- the sections that a packet ends, where this one is open before it
+abbrev pub given_by : Option (List ℕ) → Piece → List (List ℕ)
+given_by o p = if p.start then given_from_start o p.payload else finished_with o p.payload
+
+-- what is open is neither whole nor too long
+abbrev pub IsOpen : Option (List ℕ) → Type 0
+IsOpen None = Unit {0}
+IsOpen (Some bytes) = (is_whole bytes ≡ false) × (is_long bytes ≡ false)
+
 -- what stays open before a load: nothing where it does not follow
 abbrev pub still_open : Bool → Option (List ℕ) → Option (List ℕ)
 still_open follows o = if follows then o else None
@@ -66,6 +87,11 @@ kept_after kept Gap = nothing
 kept_after kept (Came l) =
     if is_again kept.last l then kept else record { last = Some (seen l); section = open_behind (still_open (is_next kept.last l) kept.section) l.piece }
 
+-- the sections that an arrival ends
+abbrev pub given_after : Kept → Arrival → List (List ℕ)
+given_after kept Gap = []
+given_after kept (Came l) = if is_again kept.last l then [] else given_by (still_open (is_next kept.last l) kept.section) l.piece
+
 -- what is kept of a PID behind these arrivals
 abbrev pub kept_behind : Kept → List Arrival → Kept
 kept_behind kept [] = kept
@@ -73,12 +99,14 @@ kept_behind kept (x ∷ xs) = kept_behind (kept_after kept x) xs
 
 -- ---- the demux
 
--- what a demux keeps: of each PID, or nothing at all
+abbrev pub kept_in : Option (Option Kept) → Kept
+kept_in (Some (Some kept)) = kept
+kept_in (Some None) = nothing
+kept_in None = nothing
+
+-- what a demux keeps of a PID: what stands at the place of the PID, or nothing
 abbrev pub kept_on : ℕ → List (Option Kept) → Kept
-kept_on pid [] = nothing
-kept_on zero (None ∷ slots) = nothing
-kept_on zero (Some kept ∷ slots) = kept
-kept_on (suc pid) (slot ∷ slots) = kept_on pid slots
+kept_on pid slots = kept_in (slice_get slots pid)
 
 -- A demux stands for these packets, each by its bytes: of each PID it keeps what they leave.
 abbrev pub Stands : List (List ℕ) → List (Option Kept) → Type 0

@@ -33,14 +33,14 @@ pub record GoOn (pid : ℕ) (packets : List Packet) : Type 0 where
 
 -- So any part of such packets does.
 abbrev pub PartGoesOn : Type 0
-PartGoesOn = (pid : ℕ) (before part after : List Packet) → GoOn pid (before ++ part ++ after) → GoOn pid part
+PartGoesOn = (pid : ℕ) (before part after : List Packet) → GoOn pid (before ++ (part ++ after)) → GoOn pid part
 
 -- Of any part of packets that carry sections on a PID, just the sections are heard that begin and end in the part,
 -- however densely the sections share packets.
 abbrev pub PartIsHeard : Type 0
 PartIsHeard =
     (pid : ℕ) → pid < 8191 → (groups : List (List (List ℕ))) → HaveRoom [] groups → AllByRecursion IsSection (all_of groups)
-    → (before part after : List Packet) → of_pid pid (before ++ part ++ after) ≡ pieces [] groups → GoOn pid part
+    → (before part after : List Packet) → of_pid pid (before ++ (part ++ after)) ≡ pieces [] groups → GoOn pid part
     → sections_on pid (map bytes_of_packet part) ≡ within (length (of_pid pid before)) (length (of_pid pid (before ++ part))) groups
 
 -- Of all packets that carry sections on a PID, just those sections are heard.
