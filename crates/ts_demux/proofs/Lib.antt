@@ -7,3 +7,4 @@ pub mod Stretches
 pub mod Windows
 pub mod Adding
 pub mod Written
+pub mod Beginning

@@ -32,7 +32,7 @@ long_more x y h = go (is_whole (x ++ y)) refl
         let r = and_true (nat_le (size_in (x ++ y)) 4096) (nat_le (size_in (x ++ y)) (length (x ++ y))) q.1 in
         absurd (no (nat_le (size_in x) 4096) p.1 (ap (λ (n : ℕ). nat_le n 4096) (sym (size_in-append x y (le_told 3 (length x) p.0))) ∙ r.0))
 
-size_in-three : (x : List ℕ) → 3 ≤ length x → 3 ≤ size_in x
+pub size_in-three : (x : List ℕ) → 3 ≤ length x → 3 ≤ size_in x
 size_in-three [] h = absurd (omega arith)
 size_in-three (a ∷ []) h = absurd (omega arith)
 size_in-three (a ∷ b ∷ []) h = absurd (omega arith)
@@ -57,11 +57,11 @@ ends_later x y part all =
         let l : length x < size_in x = le_false (size_in x) (length x) f in
         omega arith
 
-begun-nothing : (n : ℕ) (later : List ℕ) → begun n [] later ≡ []
+pub begun-nothing : (n : ℕ) (later : List ℕ) → begun n [] later ≡ []
 begun-nothing zero later = refl
 begun-nothing (suc n) later = refl
 
-not_whole-finished : (x : List ℕ) → is_whole x ≡ false → finished x ≡ []
+pub not_whole-finished : (x : List ℕ) → is_whole x ≡ false → finished x ≡ []
 not_whole-finished x e = ap (λ (b : Bool). if b then take (size_in x) x ∷ [] else []) e
 
 whole-finished : (x y : List ℕ) → is_whole x ≡ true → finished (x ++ y) ≡ take (size_in x) x ∷ []
@@ -78,10 +78,10 @@ kept_open-later x later = go (is_long x) refl
     go false e = refl
 
 -- the three cases of a beginning
-begun-fill : (n b : ℕ) (here later : List ℕ) → (b == 255) ≡ true → begun (suc n) (b ∷ here) later ≡ []
+pub begun-fill : (n b : ℕ) (here later : List ℕ) → (b == 255) ≡ true → begun (suc n) (b ∷ here) later ≡ []
 begun-fill n b here later f = pick_no (b == 255) (is_whole (b ∷ here ++ later)) (found n b here later) f
 
-begun-whole : (n b : ℕ) (here later : List ℕ) → (b == 255) ≡ false → is_whole (b ∷ here) ≡ true →
+pub begun-whole : (n b : ℕ) (here later : List ℕ) → (b == 255) ≡ false → is_whole (b ∷ here) ≡ true →
     begun (suc n) (b ∷ here) later ≡ take (size_in (b ∷ here)) (b ∷ here) ∷ begun n (drop (size_in (b ∷ here)) (b ∷ here)) later
 begun-whole n b here later f e =
     let w = whole_more (b ∷ here) later e in
@@ -89,7 +89,7 @@ begun-whole n b here later f e =
     ∙ ap (λ (k : ℕ). take k (b ∷ here ++ later) ∷ begun n (drop k (b ∷ here)) later) w.1
     ∙ ap (λ (t : List ℕ). t ∷ begun n (drop (size_in (b ∷ here)) (b ∷ here)) later) w.2
 
-begun-part : (n b : ℕ) (here later : List ℕ) → (b == 255) ≡ false → is_whole (b ∷ here) ≡ false → begun (suc n) (b ∷ here) later ≡ finished (b ∷ here ++ later)
+pub begun-part : (n b : ℕ) (here later : List ℕ) → (b == 255) ≡ false → is_whole (b ∷ here) ≡ false → begun (suc n) (b ∷ here) later ≡ finished (b ∷ here ++ later)
 begun-part n b here later f e = go (is_whole (b ∷ here ++ later)) refl
   where
     go : (w : Bool) → is_whole (b ∷ here ++ later) ≡ w → begun (suc n) (b ∷ here) later ≡ finished (b ∷ here ++ later)

@@ -13,13 +13,16 @@ pub data Arrival : Type 0 where
   Gap : Arrival
   Came : (load : Load) → Arrival
 
+-- the load of a packet whose payload begins at a place
+abbrev pub load_in : Bool → ℕ → ℕ → List ℕ → Load
+load_in start counter at bytes = record { counter = counter; piece = record { start = start; payload = drop at bytes } }
+
 -- what a packet is on a PID; a packet without payload, and one of another PID, is nothing
 abbrev pub arrival_by : ℕ → List ℕ → Result Shape BadPacket → Option Arrival
 arrival_by pid bytes (Err e) = None
 arrival_by pid bytes (Ok shape.Pass) = None
 arrival_by pid bytes (Ok (shape.Gap on)) = if on == pid then Some Gap else None
-arrival_by pid bytes (Ok (shape.Load on start counter at)) =
-    if on == pid then Some (Came (record { counter = counter; piece = record { start = start; payload = drop at bytes } })) else None
+arrival_by pid bytes (Ok (shape.Load on start counter at)) = if on == pid then Some (Came (load_in start counter at bytes)) else None
 
 abbrev pub arrival_on : ℕ → List ℕ → Option Arrival
 arrival_on pid bytes = arrival_by pid bytes (shape_in bytes)

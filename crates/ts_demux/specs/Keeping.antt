@@ -23,13 +23,21 @@ nothing = record { last = None; section = None }
 abbrev pub seen : Load → Seen
 seen l = record { counter = l.counter; payload = l.piece.payload }
 
+-- this counter and payload are those of the last load
+abbrev pub is_again_at : Option Seen → ℕ → List ℕ → Bool
+is_again_at None counter payload = false
+is_again_at (Some last) counter payload = (last.counter == counter) && bytes_eq last.payload payload
+
+-- this counter follows that of the last load
+abbrev pub is_next_at : Option Seen → ℕ → Bool
+is_next_at None counter = false
+is_next_at (Some last) counter = counter == ((last.counter + 1) % 16)
+
 abbrev pub is_again : Option Seen → Load → Bool
-is_again None l = false
-is_again (Some last) l = (last.counter == l.counter) && bytes_eq last.payload l.piece.payload
+is_again last l = is_again_at last l.counter l.piece.payload
 
 abbrev pub is_next : Option Seen → Load → Bool
-is_next None l = false
-is_next (Some last) l = l.counter == ((last.counter + 1) % 16)
+is_next last l = is_next_at last l.counter
 
 -- the header is there and tells a section_length above 4,093
 abbrev pub is_long : List ℕ → Bool

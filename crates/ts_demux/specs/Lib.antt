@@ -3,3 +3,4 @@ pub mod Arrivals
 pub mod Sections
 pub mod Keeping
 pub mod Laws
+pub mod Reaching

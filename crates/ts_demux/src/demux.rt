@@ -4,8 +4,9 @@ ghost use Rattle.ts_packets.specs.Bytes.{shape_in};
 ghost use Rattle.ts_demux.specs.Sections.{ended_by};
 ghost use Rattle.ts_demux.specs.Keeping.{Stands};
 
+use crate::places::Places;
 use crate::section::RawSections;
-use crate::slot::Slot;
+use crate::slot::LoadShape;
 use si_base::Items;
 use std::alloc::{AllocError, Global};
 use std::marker::Model;
@@ -13,20 +14,20 @@ use ts_packets::Shape;
 
 /// A demultiplexer of sections: it hears the packets of a transport stream, whatever packets come, and gives the
 /// sections that they carry, of every PID. It stands for the packets that it has heard, and keeps of each PID the last
-/// payload and the section that is open. It keeps its allocator.
+/// load and the section that is open. It keeps its allocator.
 #[derive(Debug, Drop)]
 pub struct Demux {
     alloc: Global,
-    slots: Vec<Option<Box<Slot>>>,
+    places: Places,
 }
 
 impl Model for Demux {
-    ghost use Rattle.std.specs.Prelude.{List, Option, option_map, map};
+    ghost use Rattle.std.specs.Prelude.{List, Option};
     ghost use Rattle.ts_demux.specs.Keeping.{Kept};
 
     ghost Value = { List (Option Kept) };
 
-    ghost view = { λ d. map (option_map (λ slot. slot.value)) d.slots.items };
+    ghost view = { λ d. d.places };
 }
 
 impl Demux {
@@ -36,7 +37,7 @@ impl Demux {
     {
         Demux {
             alloc,
-            slots: Vec::new(alloc),
+            places: Places::none(alloc),
         }
     }
 
@@ -49,6 +50,26 @@ impl Demux {
         ensures stands { (past : List (List ℕ)) → Stands past self.old → OnOk result (Stands (past ++ packet.now ∷ []) self.new) }
         ensures memory { (past : List (List ℕ)) → Stands past self.old → OnErr result (Stands past self.new) }
     {
-        Ok(Items::new(self.alloc))
+        match *shape {
+            Shape::Pass => Ok(Items::new(self.alloc)),
+            Shape::Gap(pid) => {
+                self.places.forget(pid);
+                Ok(Items::new(self.alloc))
+            }
+            Shape::Load {
+                pid,
+                start,
+                counter,
+                at,
+            } => {
+                let load = LoadShape {
+                    pid,
+                    start,
+                    counter,
+                    at,
+                };
+                self.places.hear(self.alloc, packet, load)
+            }
+        }
     }
 }

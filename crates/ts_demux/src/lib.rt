@@ -2,7 +2,10 @@
 #![tactic(auto)]
 
 mod demux;
+mod headers;
+mod joining;
 mod laws;
+mod places;
 mod section;
 mod slot;
 
