@@ -8,3 +8,6 @@ pub mod Windows
 pub mod Adding
 pub mod Written
 pub mod Beginning
+pub mod Placing
+pub mod Starting
+pub mod Standing

@@ -145,7 +145,7 @@ left_open-open (suc n) (b ∷ here) = go (b == 255) (is_whole (b ∷ here)) refl
     go false true e rec = rec
     go false false e rec = kept_open-open (b ∷ here) e
 
-open_behind-open : (o : Option (List ℕ)) (p : Piece) → IsOpen (open_behind o p)
+pub open_behind-open : (o : Option (List ℕ)) (p : Piece) → IsOpen (open_behind o p)
 open_behind-open o p = go o p.start p.payload
   where
     more : (bytes payload : List ℕ) (w : Bool) → is_whole (bytes ++ payload) ≡ w → IsOpen (if w then None else kept_open (bytes ++ payload))

@@ -77,6 +77,22 @@ fn begin_behind_pointer(
         return Ok(Items::new(alloc));
     }
     let (passed, here) = bytes.split_at(pointer);
+    begin_at_target(alloc, pid, section, passed, here)
+}
+
+// What the pointer passes over may end the section; behind it sections begin.
+fn begin_at_target(
+    alloc: Global,
+    pid: u16,
+    section: &mut Option<Bytes>,
+    passed: &[u8],
+    here: &[u8],
+) -> Result<RawSections, AllocError>
+    requires open { IsOpen section.old }
+    ensures given { IfOk result (λ sections. sections ≡ map (on_pid pid) (finished_with section.old passed.now ++ begun (length here.now) here.now [])) }
+    ensures kept { OnOk result (section.new ≡ left_open (length here.now) here.now) }
+    ensures memory { OnErr result (section.new ≡ section.old) }
+{
     match missing_in(section, passed) {
         Some(rest) => end_and_begin(alloc, pid, section, rest, here),
         None => begin_anew(alloc, pid, section, here),

@@ -41,7 +41,7 @@ impl Places {
     {
         let place = usize::from(pid);
         if place < self.slots.len() {
-            self.slots[place] = None;
+            drop(self.slots[place].take());
         }
     }
 
@@ -59,14 +59,32 @@ impl Places {
         ensures memory { OnErr result ((q : ℕ) → kept_on q self.new ≡ kept_on q self.old) }
     {
         self.make_places()?;
-        let place = usize::from(load.pid);
-        let mut slot = match self.slots[place].take() {
-            Some(slot) => slot,
-            None => Box::new(alloc, Slot::empty())?,
-        };
+        let mut slot = self.take_slot(alloc, load.pid)?;
         let heard = slot.hear(alloc, packet, load);
-        self.slots[place] = Some(slot);
+        self.put_slot(load.pid, slot);
         heard
+    }
+
+    // Takes out what is kept of a PID. Want of memory leaves what is kept.
+    fn take_slot(&mut self, alloc: Global, pid: u16) -> Result<Box<Slot>, AllocError>
+        requires place { pid < length self.old }
+        ensures slot { IfOk result (λ slot. slot.value ≡ kept_on pid self.old) }
+        ensures places { length self.new ≡ length self.old }
+        ensures taken { OnOk result ((q : ℕ) → kept_on q self.new ≡ (if pid == q then nothing else kept_on q self.old)) }
+        ensures memory { OnErr result ((q : ℕ) → kept_on q self.new ≡ kept_on q self.old) }
+    {
+        match self.slots[usize::from(pid)].take() {
+            Some(slot) => Ok(slot),
+            None => Ok(Box::new(alloc, Slot::empty())?),
+        }
+    }
+
+    // Puts in what is to be kept of a PID.
+    fn put_slot(&mut self, pid: u16, slot: Box<Slot>)
+        requires place { pid < length self.old }
+        ensures { (q : ℕ) → kept_on q self.new ≡ (if pid == q then slot.value else kept_on q self.old) }
+    {
+        self.slots[usize::from(pid)] = Some(slot);
     }
 
     // Makes the places, where there are none.
