@@ -1,0 +1,6 @@
+pub mod Hearing
+pub mod Arrivals
+pub mod Sections
+pub mod Keeping
+pub mod Laws
+pub mod Reaching
