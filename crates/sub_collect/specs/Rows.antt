@@ -1,0 +1,2 @@
+-- Worked lists of sections.
+use Rattle.std.specs.Prelude.{◌≡◌, ℕ, [], ◌∷◌, refl}

@@ -1,0 +1,148 @@
+// Completions, kept by key.
+ghost use Rattle.std.specs.Prelude.{◌≡◌, ◌≤◌, ◌<◌, ◌+◌, ◌++◌, ◌∷◌, ℕ, [], List, map, Option, Some, None, option_map, option_copied, IfOk, OnOk, OnErr, All, if◌then◌else◌};
+ghost use Rattle.section_codec.specs.declared.table.Key.{Key};
+ghost use Rattle.sub_collect.specs.Runs.{Counted, counted};
+ghost use Rattle.sub_collect.specs.Completions.{IsOfKey, completion, completions, latest_done, latest_of, shown_after, shown_at};
+ghost use Rattle.sub_collect.specs.Collectors.{Stands, IsKeptOf};
+ghost use Rattle.sub_collect.specs.Slots.{kept_by, shown, latest_with_done};
+ghost use Rattle.sub_collect.specs.declared.completed.Completed.{Completed};
+
+use crate::completed::Completed;
+use crate::run::Run;
+use section_codec::{Key, LongHeader};
+use si_base::Bytes;
+use std::alloc::{AllocError, Global};
+use std::collections::BTreeMap;
+use std::marker::Model;
+
+/// What was heard of sub-tables. It stands for the counted sections that were taken, in the order in which
+/// they ended: it keeps, of each key, the latest bodies of the present run and the latest completion.
+/// Contracts see it as these, in the order of the keys. It keeps its allocator.
+#[derive(Debug, Drop)]
+pub struct Collector {
+    alloc: Global,
+    slots: BTreeMap<Key, Slot>,
+}
+
+impl Model for Collector {
+    ghost use Rattle.sub_collect.specs.Collectors.{KeptKeys};
+    ghost use Rattle.sub_collect.specs.Slots.{shown};
+
+    ghost Value = { KeptKeys };
+
+    ghost view = { λ c. shown c.slots.entries };
+}
+
+// What is kept of a key: its present run, and its latest completion.
+#[derive(Debug, Drop)]
+pub struct Slot {
+    pub run: Run,
+    pub latest: Option<Completed>,
+}
+
+impl Collector {
+    /// A collector that has heard nothing. It takes no memory.
+    pub fn open(alloc: Global) -> Collector
+        ensures none { result ≡ [] }
+        ensures stands { Stands [] result }
+    {
+        Collector {
+            alloc,
+            slots: BTreeMap::new(alloc),
+        }
+    }
+
+    /// Counts one section more of a key, and gives its version_number exactly where it shows a completion:
+    /// where the run of the key, which is its sections since it last had another version_number, holds every
+    /// number from 0 to this section's last_section_number, and the version or the content that it has whole
+    /// differs from the key's latest completion, or the key had none (ISO/IEC 13818-1, 2.4.4; EN 300 468,
+    /// 5.1.1). The content has for each number the body that was heard last. Where memory is wanting, the
+    /// collector stays as it was, and the section does not count.
+    pub fn take(
+        &mut self,
+        key: Key,
+        header: &LongHeader,
+        body: Bytes,
+    ) -> Result<Option<u8>, AllocError>
+        ensures shown { IfOk result (λ shown. (past : List Counted) → Stands past self.old
+            → shown ≡ option_map (λ d. d.version) (shown_at past (counted key header.now body))) }
+        ensures stands { OnOk result ((past : List Counted) → Stands past self.old
+            → Stands (past ++ counted key header.now body ∷ []) self.new) }
+        ensures memory { OnErr result (self.new ≡ self.old) }
+    {
+        match self.slots.get_mut(&key) {
+            Some(slot) => slot.take(self.alloc, key, header, body),
+            None => {
+                let mut slot = Slot::open(self.alloc, header.version);
+                let shown = slot.take(self.alloc, key, header, body)?;
+                self.slots.insert(key, slot)?;
+                Ok(shown)
+            }
+        }
+    }
+
+    /// The latest completion of a key, or None where it never had one.
+    pub fn latest(&self, key: Key) -> Option<&Completed>
+        ensures { (past : List Counted) → Stands past self.now → option_copied result ≡ latest_of key past }
+    {
+        match self.slots.get(&key) {
+            Some(slot) => slot.latest.as_ref(),
+            None => None,
+        }
+    }
+}
+
+impl Slot {
+    // A slot of a key without a section. It takes no memory.
+    fn open(alloc: Global, version: u8) -> Slot
+        ensures stands { IsKeptOf [] (kept_by result) }
+    {
+        Slot {
+            run: Run::open(alloc, version),
+            latest: None,
+        }
+    }
+
+    // Counts one section more of the key.
+    fn take(
+        &mut self,
+        alloc: Global,
+        key: Key,
+        header: &LongHeader,
+        body: Bytes,
+    ) -> Result<Option<u8>, AllocError>
+        ensures shown { IfOk result (λ shown. (heard : List Counted) → IsKeptOf heard (kept_by self.old) → All (IsOfKey key) heard
+            → shown ≡ option_map (λ d. d.version) (shown_after (latest_done (completions [] heard)) (completion (heard ++ counted key header.now body ∷ [])))) }
+        ensures stands { OnOk result ((heard : List Counted) → IsKeptOf heard (kept_by self.old) → All (IsOfKey key) heard
+            → IsKeptOf (heard ++ counted key header.now body ∷ []) (kept_by self.new)) }
+        ensures memory { OnErr result (kept_by self.new ≡ kept_by self.old) }
+    {
+        if self.run.version != header.version {
+            let mut run = Run::open(alloc, header.version);
+            let done = run.put(alloc, key, header, body)?;
+            self.run = run;
+            return Ok(show(&mut self.latest, done));
+        }
+        if self.run.repeats(header, &body) {
+            return Ok(None);
+        }
+        let done = self.run.put(alloc, key, header, body)?;
+        Ok(show(&mut self.latest, done))
+    }
+}
+
+// Keeps a completion, where there is one that differs from the latest, and gives its version.
+fn show(latest: &mut Option<Completed>, done: Option<Completed>) -> Option<u8>
+    ensures shown { result ≡ option_map (λ d. d.version) (shown_after latest.old done) }
+    ensures latest { latest.new ≡ latest_with_done latest.old done }
+{
+    let done = done?;
+    if let Some(before) = latest
+        && before.is_repeated_by(&done)
+    {
+        return None;
+    }
+    let version = done.version;
+    *latest = Some(done);
+    Some(version)
+}
