@@ -1,2 +1,4 @@
 pub mod Runs
 pub mod Slots
+pub mod Done
+pub mod Whole

@@ -78,17 +78,17 @@ whole-push run s held is =
 -- a number that is not held leaves nothing whole
 pub content_by-gap : (held : ℕ → Option (List ℕ)) (m n k : ℕ) → held m ≡ None → n ≤ m → m < n + k → content_by held (numbers_from n k) ≡ None
 content_by-gap held m n zero none le lt = absurd (omega arith)
-content_by-gap held m n (suc k) none le lt = go (n == m) refl
+content_by-gap held m n (suc k) none le lt = go (n == m) refl (λ (le' : 1 + n ≤ m). content_by-gap held m (1 + n) k none le' (omega arith))
   where
     here : (o : Option (List ℕ)) → with_body n o None ≡ None
     here None = refl
     here (Some b) = refl
 
-    go : (b : Bool) → (n == m) ≡ b → with_body n (held n) (content_by held (numbers_from (1 + n) k)) ≡ None
-    go true e = ap (λ (o : Option (List ℕ)). with_body n o (content_by held (numbers_from (1 + n) k))) (ap held (eqb-true n m e) ∙ none)
-    go false e =
+    go : (b : Bool) → (n == m) ≡ b → (1 + n ≤ m → content_by held (numbers_from (1 + n) k) ≡ None) → with_body n (held n) (content_by held (numbers_from (1 + n) k)) ≡ None
+    go true e rec = ap (λ (o : Option (List ℕ)). with_body n o (content_by held (numbers_from (1 + n) k))) (ap held (eqb-true n m e) ∙ none)
+    go false e rec =
         let other : n ≢ m = λ (same : n ≡ m). (let f : true ≡ false = sym (eq-eqb n m same) ∙ e in let z : Prim.⊥ = cc in z) in
-        ap (with_body n (held n)) (content_by-gap held m (1 + n) k none (omega arith) (omega arith)) ∙ here (held n)
+        ap (with_body n (held n)) (rec (omega arith)) ∙ here (held n)
 
 -- the latest body of each number, and that nothing else, tells what a run has whole
 pub whole-by : (run : List Counted) (s : Counted) (held : ℕ → Option (List ℕ)) → latest_section run ≡ Some s → ((n : ℕ) → held n ≡ body_of (latest_with n run)) → whole run ≡ content_by held (numbers_from 0 (1 + s.last))
