@@ -2,3 +2,5 @@ pub mod Runs
 pub mod Slots
 pub mod Done
 pub mod Whole
+pub mod Fronts
+pub mod Gathering
