@@ -4,3 +4,4 @@ pub mod Done
 pub mod Whole
 pub mod Fronts
 pub mod Gathering
+pub mod Putting

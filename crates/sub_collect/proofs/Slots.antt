@@ -34,7 +34,7 @@ latest_with-push n xs s = ap latest_section (filter-append (has_number n) xs (s 
     go true = latest-push (filter (has_number n) xs) s
     go false = behind_none (filter (has_number n) xs)
 
-turned : (a b : ℕ) → (a == b) ≡ (b == a)
+pub turned : (a b : ℕ) → (a == b) ≡ (b == a)
 turned a b = go (a == b) refl (b == a) refl
   where
     go : (x : Bool) → (a == b) ≡ x → (y : Bool) → (b == a) ≡ y → (a == b) ≡ (b == a)
