@@ -5,3 +5,4 @@ pub mod Whole
 pub mod Fronts
 pub mod Gathering
 pub mod Putting
+pub mod Taking

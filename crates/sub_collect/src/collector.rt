@@ -1,5 +1,6 @@
 // Completions, kept by key.
-ghost use Rattle.std.specs.Prelude.{◌≡◌, ◌≤◌, ◌<◌, ◌+◌, ◌++◌, ◌∷◌, ℕ, [], List, map, Option, Some, None, option_map, option_copied, IfOk, OnOk, OnErr, All, if◌then◌else◌};
+ghost use Rattle.std.specs.Prelude.{◌≡◌, ◌≤◌, ◌<◌, ◌+◌, ◌++◌, ◌∷◌, ℕ, [], List, map, Option, Some, None, option_map, option_copied, IfOk, OnOk, OnErr, if◌then◌else◌};
+ghost use Rattle.std.specs.List.{AllByRecursion};
 ghost use Rattle.section_codec.specs.declared.table.Key.{Key};
 ghost use Rattle.sub_collect.specs.Runs.{Counted, counted};
 ghost use Rattle.sub_collect.specs.Completions.{IsOfKey, completion, completions, latest_done, latest_of, shown_after, shown_at};
@@ -111,9 +112,9 @@ impl Slot {
         header: &LongHeader,
         body: Bytes,
     ) -> Result<Option<u8>, AllocError>
-        ensures shown { IfOk result (λ shown. (heard : List Counted) → IsKeptOf heard (kept_by self.old) → All (IsOfKey key) heard
+        ensures shown { IfOk result (λ shown. (heard : List Counted) → IsKeptOf heard (kept_by self.old) → AllByRecursion (IsOfKey key) heard
             → shown ≡ option_map (λ d. d.version) (shown_after (latest_done (completions [] heard)) (completion (heard ++ counted key header.now body ∷ [])))) }
-        ensures stands { OnOk result ((heard : List Counted) → IsKeptOf heard (kept_by self.old) → All (IsOfKey key) heard
+        ensures stands { OnOk result ((heard : List Counted) → IsKeptOf heard (kept_by self.old) → AllByRecursion (IsOfKey key) heard
             → IsKeptOf (heard ++ counted key header.now body ∷ []) (kept_by self.new)) }
         ensures memory { OnErr result (kept_by self.new ≡ kept_by self.old) }
     {
