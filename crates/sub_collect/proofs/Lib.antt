@@ -6,3 +6,4 @@ pub mod Fronts
 pub mod Gathering
 pub mod Putting
 pub mod Taking
+pub mod Keys

@@ -8,9 +8,6 @@ use Rattle.sub_collect.proofs.Runs.{run_of-push, run_of-other}
 use Rattle.sub_collect.proofs.Taking.{put-done, put-kept, repeat-kept, repeat-shows, repeat-test}
 use Rattle.sub_collect.proofs.collector.Slot.take.Goals as goal
 
-version_of : Completed → ℕ
-version_of d = d.version
-
 pub returns-then-self-header-clause-shown : goal.returns-then-self-header-clause-shown
 returns-then-self-header-clause-shown c = λ heard is all.
     let s = counted c.args.key c.args.header.now c.args.body in
