@@ -262,7 +262,7 @@ latest-shown_from k before (s ∷ ss) all more =
     ∙ latest-shown_from k (before ++ s ∷ []) ss (all-push k before s all more.0) more.1
     ∙ ap (option_or after) (latest-more before s)
     ∙ ap (option_or after) (sym (shown-or old (completion (before ++ s ∷ [])) (λ b d e f.
-        latest_done-key k before b all e ∙ sym (done_key s (completed (before ++ s ∷ [])) d (sym (completion-push before s) ∙ f) ∙ more.0))))
+    latest_done-key k before b all e ∙ sym (done_key s (completed (before ++ s ∷ [])) d (sym (completion-push before s) ∙ f) ∙ more.0))))
     ∙ ap (λ (o : Option Completed). option_or after (option_or o old)) (sym shown)
     ∙ sym (or_assoc after (shown_at before s) old)
     ∙ ap (λ (o : Option Completed). option_or o old) (sym (latest_done-front (shown_at before s) (dones (before ++ s ∷ []) ss)))

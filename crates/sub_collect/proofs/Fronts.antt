@@ -31,9 +31,9 @@ module _ (held : ℕ → Option (List ℕ)) (number : ℕ) (body : List ℕ) whe
   pub front-moves : IsFront held number → (front : ℕ) → number < front → ((n : ℕ) → number < n → n < front → is_some (held n) ≡ true) → (front < 256 → held front ≡ None)
       → IsFront (held_with held number body) front
   front-moves is front lt between gap = record {
-      below = λ (n : ℕ) (below : n < front). go n below (n == number) refl;
-      gap = λ (within : front < 256). with_other front (λ (e : front ≡ number). absurd (omega arith)) ∙ gap within;
-    }
+    below = λ (n : ℕ) (below : n < front). go n below (n == number) refl;
+    gap = λ (within : front < 256). with_other front (λ (e : front ≡ number). absurd (omega arith)) ∙ gap within;
+  }
     where
       which : (n : ℕ) → n < front → n ≢ number → (n < number) ⊎ (number ≤ n) → is_some (held n) ≡ true
       which n below other (inl h) = is.below n h

@@ -84,7 +84,7 @@ impl Collector {
 
     /// The latest completion of a key, or None where it never had one.
     pub fn latest(&self, key: Key) -> Option<&Completed>
-        ensures { (past : List Counted) → Stands past self.now → option_copied result ≡ latest_of key past }
+        ensures latest { (past : List Counted) → Stands past self.now → option_copied result ≡ latest_of key past }
     {
         match self.slots.get(&key) {
             Some(slot) => slot.latest.as_ref(),
@@ -146,4 +146,225 @@ fn show(latest: &mut Option<Completed>, done: Option<Completed>) -> Option<u8>
     let version = done.version;
     *latest = Some(done);
     Some(version)
+}
+
+#[cfg(test)]
+mod tests {
+    use super::*;
+    use si_base::Items;
+    use std::test::Fail;
+
+    // A section: its table_id, version_number, section_number, last_section_number and the one byte of its
+    // body, and whether it shows a completion.
+    #[derive(Debug, Clone, Copy)]
+    struct Heard(u8, u8, u8, u8, u8, bool);
+
+    fn key_with(table: u8) -> Key {
+        Key {
+            pid: 17,
+            table,
+            ext: 1,
+            stream: 0,
+            network: 1,
+        }
+    }
+
+    fn take(
+        alloc: Global,
+        collector: &mut Collector,
+        heard: Heard,
+    ) -> Result<Option<u8>, AllocError> {
+        let Heard(table, version, number, last, byte, _) = heard;
+        let header = LongHeader {
+            table,
+            ext: 1,
+            version,
+            current: true,
+            number,
+            last,
+        };
+        let mut body = Items::new(alloc);
+        body.push(byte)?;
+        collector.take(key_with(table), &header, body)
+    }
+
+    // Whether the latest completion of table 0x42 has this version, and sections 0 and on of these bytes.
+    fn has_latest(collector: &Collector, version: u8, bytes: &[u8]) -> bool {
+        let Some(done) = collector.latest(key_with(0x42)) else {
+            return false;
+        };
+        let sections = done.sections.as_slice();
+        if done.version != version || sections.len() != bytes.len() {
+            return false;
+        }
+        for (i, part) in sections.iter().enumerate() {
+            if part.number as usize != i || part.body.as_slice() != &bytes[i..i + 1] {
+                return false;
+            }
+        }
+        true
+    }
+
+    #[test]
+    fn completions_of_short_lists(rt: HostRuntime) -> Result<(), Fail> {
+        let cases = [
+            (
+                "one section, three times",
+                [
+                    Heard(0x42, 3, 0, 0, 7, true),
+                    Heard(0x42, 3, 0, 0, 7, false),
+                    Heard(0x42, 3, 0, 0, 7, false),
+                ]
+                .as_slice(),
+                3,
+                [7].as_slice(),
+            ),
+            (
+                "two sections, twice",
+                [
+                    Heard(0x42, 0, 0, 1, 7, false),
+                    Heard(0x42, 0, 1, 1, 8, true),
+                    Heard(0x42, 0, 0, 1, 7, false),
+                    Heard(0x42, 0, 1, 1, 8, false),
+                ]
+                .as_slice(),
+                0,
+                [7, 8].as_slice(),
+            ),
+            (
+                "the second section first",
+                [
+                    Heard(0x42, 0, 1, 1, 8, false),
+                    Heard(0x42, 0, 0, 1, 7, true),
+                ]
+                .as_slice(),
+                0,
+                [7, 8].as_slice(),
+            ),
+            (
+                "a version change in the middle",
+                [
+                    Heard(0x42, 0, 0, 1, 7, false),
+                    Heard(0x42, 1, 1, 1, 8, false),
+                    Heard(0x42, 0, 1, 1, 8, false),
+                    Heard(0x42, 1, 1, 1, 5, false),
+                    Heard(0x42, 1, 0, 1, 6, true),
+                ]
+                .as_slice(),
+                1,
+                [6, 5].as_slice(),
+            ),
+            (
+                "one version with another content",
+                [
+                    Heard(0x42, 0, 0, 1, 7, false),
+                    Heard(0x42, 0, 1, 1, 8, true),
+                    Heard(0x42, 0, 0, 1, 9, true),
+                    Heard(0x42, 0, 0, 1, 9, false),
+                ]
+                .as_slice(),
+                0,
+                [9, 8].as_slice(),
+            ),
+            (
+                "another version with the same content",
+                [Heard(0x42, 0, 0, 0, 7, true), Heard(0x42, 1, 0, 0, 7, true)].as_slice(),
+                1,
+                [7].as_slice(),
+            ),
+            (
+                "contents A, B, A",
+                [
+                    Heard(0x42, 0, 0, 0, 7, true),
+                    Heard(0x42, 1, 0, 0, 8, true),
+                    Heard(0x42, 0, 0, 0, 7, true),
+                ]
+                .as_slice(),
+                0,
+                [7].as_slice(),
+            ),
+            (
+                "A, an incomplete B, A",
+                [
+                    Heard(0x42, 0, 0, 0, 7, true),
+                    Heard(0x42, 1, 1, 1, 8, false),
+                    Heard(0x42, 0, 0, 0, 7, false),
+                ]
+                .as_slice(),
+                0,
+                [7].as_slice(),
+            ),
+            (
+                "last_section_number falls and rises",
+                [
+                    Heard(0x42, 0, 0, 2, 7, false),
+                    Heard(0x42, 0, 2, 2, 9, false),
+                    Heard(0x42, 0, 0, 0, 7, true),
+                    Heard(0x42, 0, 0, 3, 7, false),
+                    Heard(0x42, 0, 0, 0, 7, false),
+                    Heard(0x42, 0, 1, 1, 8, true),
+                    Heard(0x42, 0, 1, 2, 8, true),
+                ]
+                .as_slice(),
+                0,
+                [7, 8, 9].as_slice(),
+            ),
+            (
+                "two keys in turn",
+                [
+                    Heard(0x42, 0, 0, 1, 7, false),
+                    Heard(0x40, 5, 0, 1, 1, false),
+                    Heard(0x42, 0, 1, 1, 8, true),
+                    Heard(0x40, 5, 1, 1, 2, true),
+                    Heard(0x42, 1, 1, 1, 3, false),
+                ]
+                .as_slice(),
+                0,
+                [7, 8].as_slice(),
+            ),
+        ];
+        for (case, sections, version, bytes) in cases {
+            let mut collector = Collector::open(rt.alloc());
+            for heard in sections {
+                let shown = take(rt.alloc(), &mut collector, *heard)?;
+                let want = if heard.5 { Some(heard.1) } else { None };
+                assert_eq!(rt; shown, want, "{case}: {heard:?}");
+            }
+            assert!(rt; has_latest(&collector, version, bytes), "{case}");
+        }
+        Ok(())
+    }
+
+    #[test]
+    fn as_many_sections_as_there_are(rt: HostRuntime) -> Result<(), Fail> {
+        let mut collector = Collector::open(rt.alloc());
+        for number in 0..=254 {
+            let heard = Heard(0x42, 0, number, 255, number, false);
+            assert_eq!(rt; take(rt.alloc(), &mut collector, heard)?, None, "{number}");
+        }
+        let last = Heard(0x42, 0, 255, 255, 255, true);
+        assert_eq!(rt; take(rt.alloc(), &mut collector, last)?, Some(0));
+        assert_eq!(rt; take(rt.alloc(), &mut collector, last)?, None);
+        match collector.latest(key_with(0x42)) {
+            Some(done) => assert_eq!(rt; done.sections.len(), 256),
+            None => assert!(rt; false, "nothing is complete"),
+        }
+        Ok(())
+    }
+
+    #[test]
+    fn a_version_that_returns(rt: HostRuntime) -> Result<(), Fail> {
+        let mut collector = Collector::open(rt.alloc());
+        for n in 0..=32 {
+            let heard = Heard(0x42, n % 32, 0, 0, n, true);
+            assert_eq!(rt;
+                take(rt.alloc(), &mut collector, heard)?,
+                Some(n % 32),
+                "at {n}"
+            );
+        }
+        assert!(rt; has_latest(&collector, 0, &[32]));
+        assert!(rt; collector.latest(key_with(0x40)).is_none());
+        Ok(())
+    }
 }

@@ -14,4 +14,6 @@ mod run;
 
 pub use collector::Collector;
 pub use completed::Completed;
-pub use laws::{completions_by_key, completions_go_on, versions_part_runs, whole_versions_complete};
+pub use laws::{
+    completions_by_key, completions_go_on, versions_part_runs, whole_versions_complete,
+};

@@ -22,8 +22,8 @@ returns-in-Some-clause-shown c =
     let found : kept_in k c.args.self.now ≡ Some (kept_by c.in-Some.slot.now) =
     ap (λ (b : KeptKeys). kept_in k b) (sym c.self.view_is) ∙ kept_in-shown k c.self.inside.slots.entries ∙ ap (option_map kept_by) (sym c.in-Some.ensures.value) in
     IfOk-weaker c.take.result _ _ (λ shown take past stands.
-        take (sections_of k past) (of-kept k past (kept_in k c.args.self.now) (kept_by c.in-Some.slot.now) (stands k) found) (sections_of-all k past)
-        ∙ ap (option_map (λ (d : Completed). d.version)) (shown-by past s)) c.take.ensures.shown
+    take (sections_of k past) (of-kept k past (kept_in k c.args.self.now) (kept_by c.in-Some.slot.now) (stands k) found) (sections_of-all k past)
+    ∙ ap (option_map (λ (d : Completed). d.version)) (shown-by past s)) c.take.ensures.shown
 
 pub returns-in-Some-clause-stands : goal.returns-in-Some-clause-stands
 returns-in-Some-clause-stands c =
@@ -35,17 +35,17 @@ returns-in-Some-clause-stands c =
     ap (λ (b : KeptKeys). kept_in k b) (sym c.self.view_is) ∙ kept_in-shown k old ∙ ap (option_map kept_by) (sym c.in-Some.ensures.value) in
     let held = subst IsSome c.in-Some.ensures.value refl in
     on_ok_weaker c.take.result (λ take past stands.
-        stands-put past s c.args.self.now (shown new.entries) (kept_by c.take.new.self) stands
-        (λ q. kept-put k c.take.new.self old new.entries (((c.get_mut.follows.holds c.take.new.self).3 held).0) q
-            ∙ ap (λ (b : KeptKeys). if is_key k q then Some (kept_by c.take.new.self) else kept_in q b) c.self.view_is)
-        (take (sections_of k past) (of-kept k past (kept_in k c.args.self.now) (kept_by c.in-Some.slot.now) (stands k) found) (sections_of-all k past))) c.take.ensures.stands
+    stands-put past s c.args.self.now (shown new.entries) (kept_by c.take.new.self) stands
+    (λ q. kept-put k c.take.new.self old new.entries (((c.get_mut.follows.holds c.take.new.self).3 held).0) q
+    ∙ ap (λ (b : KeptKeys). if is_key k q then Some (kept_by c.take.new.self) else kept_in q b) c.self.view_is)
+    (take (sections_of k past) (of-kept k past (kept_in k c.args.self.now) (kept_by c.in-Some.slot.now) (stands k) found) (sections_of-all k past))) c.take.ensures.stands
 
 pub returns-in-Some-clause-memory : goal.returns-in-Some-clause-memory
 returns-in-Some-clause-memory c =
     on_err_weaker c.take.result (λ same.
-        ap shown (c.get_mut.follows.holds c.take.new.self).0
-        ∙ shown-set (is_at (key_cmp c.args.key)) c.self.inside.slots.entries c.in-Some.slot.now c.take.new.self (sym c.in-Some.ensures.value) same
-        ∙ c.self.view_is) c.take.ensures.memory
+    ap shown (c.get_mut.follows.holds c.take.new.self).0
+    ∙ shown-set (is_at (key_cmp c.args.key)) c.self.inside.slots.entries c.in-Some.slot.now c.take.new.self (sym c.in-Some.ensures.value) same
+    ∙ c.self.view_is) c.take.ensures.memory
 
 pub returns-in_ok-insert-in-None-clause-shown : goal.returns-in_ok-insert-in-None-clause-shown
 returns-in_ok-insert-in-None-clause-shown c = λ past stands.
@@ -68,6 +68,6 @@ returns-in_ok-insert-in-None-clause-stands c = λ past stands.
     let same : c.get_mut.follows.lender-at-none ≡ c.self.inside.slots = c.get_mut.follows.holds-at-none in
     stands-put past s c.args.self.now (shown c.insert.new.self.entries) (kept_by slot) stands
     (λ q. kept-put k slot old c.insert.new.self.entries
-        (λ p. c.in_ok-insert-in-None.ensures.updates.0 p ∙ ap (λ (m : BTreeMap Key Slot). cond (is_at (key_cmp k) p) (Some slot) (get key_cmp m p)) same) q
-        ∙ ap (λ (b : KeptKeys). if is_key k q then Some (kept_by slot) else kept_in q b) c.self.view_is)
+    (λ p. c.in_ok-insert-in-None.ensures.updates.0 p ∙ ap (λ (m : BTreeMap Key Slot). cond (is_at (key_cmp k) p) (Some slot) (get key_cmp m p)) same) q
+    ∙ ap (λ (b : KeptKeys). if is_key k q then Some (kept_by slot) else kept_in q b) c.self.view_is)
     (subst (λ (l : List Counted). IsKeptOf (l ++ s ∷ []) (kept_by slot)) (sym none) (c.in_ok-shown-in-None.ensures.stands [] c.open-slot.ensures.stands tt))

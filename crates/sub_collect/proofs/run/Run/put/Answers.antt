@@ -14,12 +14,13 @@ returns-clause-done c = λ run stands.
     let old = kept_run c.args.self.now in
     let held = λ (m : ℕ). body_in m old.held in
     elim c.if-from-front.branch [
-        then-from-front+in_ok-done w ↦ (
-        w.done-is ∙ w.in_ok-done.ensures
-        ∙ ap (λ (body : List ℕ). option_map (done_at s) (content_by (held_with held s.number body) (numbers_from 0 (1 + s.last)))) w.as_slice.ensures
-        ∙ ap (option_map (done_at s)) (sym (put-whole run s old stands)))
-        | else-from-front w ↦ (
-        w.done-is ∙ ap (option_map (done_at s)) (sym (put-gap run s old c.front_with-front.result stands (c.front_with-front.ensures stands.front c.args.body) (omega arith) (omega arith)))) ]
+      | then-from-front+in_ok-done w ↦ (
+          w.done-is ∙ w.in_ok-done.ensures
+          ∙ ap (λ (body : List ℕ). option_map (done_at s) (content_by (held_with held s.number body) (numbers_from 0 (1 + s.last)))) w.as_slice.ensures
+          ∙ ap (option_map (done_at s)) (sym (put-whole run s old stands)))
+      | else-from-front w ↦ (
+          w.done-is ∙ ap (option_map (done_at s)) (sym (put-gap run s old c.front_with-front.result stands (c.front_with-front.ensures stands.front c.args.body) (omega arith) (omega arith))))
+    ]
 
 pub returns-clause-stands : goal.returns-clause-stands
 returns-clause-stands c = λ run stands.

@@ -45,11 +45,12 @@ returns c =
     let n = c.loop-number.number in
     let all = content_by held (numbers_from 0 (1 + last)) in
     let whole : all ≡ Some c.loop-number-test.sections.items = elim c.loop-number-test.branch [
-        else-loop-number-test w ↦ absurd (omega arith)
-        | then-loop-number-test+in-Some+in_ok-from_slice+in_ok-push+else-number-number-end w ↦ (
+      | else-loop-number-test w ↦ absurd (omega arith)
+      | then-loop-number-test+in-Some+in_ok-from_slice+in_ok-push+else-number-number-end w ↦ (
           let body : w.of-body.result ≡ w.in-Some.held.now = w.of-body.ensures ∙ w.in_ok-from_slice.ensures.items in
           gather-end held last (n + 1) c.loop-number-test.sections.items all (omega arith)
           (gather-more held last n (n + 1) c.loop-number.sections.items w.of-body.result all c.loop-number.invariant.within refl
           (sym w.in-Some.ensures ∙ ap Some (sym body)) c.loop-number.invariant.so_far
-          ∙ ap (λ (l : Content). with_front l (left_from held last (n + 1))) (sym (ap (λ (v : Vec NumberedBody Global). v.items) w.sections-is ∙ w.in_ok-push.ensures.items)))) ] in
+          ∙ ap (λ (l : Content). with_front l (left_from held last (n + 1))) (sym (ap (λ (v : Vec NumberedBody Global). v.items) w.sections-is ∙ w.in_ok-push.ensures.items))))
+    ] in
     sym (ap (option_map (done_at (counted c.args.key c.args.header.now c.args.body.now))) (whole ∙ ap Some (sym c.of.ensures)))
