@@ -7,3 +7,4 @@ pub mod Gathering
 pub mod Putting
 pub mod Taking
 pub mod Keys
+pub mod OneContent

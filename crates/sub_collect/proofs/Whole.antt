@@ -108,11 +108,11 @@ module _ (k : Key) (v last : ℕ) where
       ap (λ (b : Bool). cond b (section_with k v last p ∷ sections_of k (sent ps)) (sections_of k (sent ps))) (is_key-itself k)
       ∙ ap (λ (l : List Counted). section_with k v last p ∷ l) (of_key ps)
 
-same_part : (p q : NumberedBody) → p.number ≡ q.number → p.body ≡ q.body → p ≡ q
+pub same_part : (p q : NumberedBody) → p.number ≡ q.number → p.body ≡ q.body → p ≡ q
 same_part p q a b = λ i. record { number = a i; body = b i }
 
 -- held bodies of ascending numbers are the content
-held-content : (held : ℕ → Option (List ℕ)) (m : ℕ) (ps : List NumberedBody) → map (λ (p : NumberedBody). p.number) ps ≡ numbers_from m (length ps)
+pub held-content : (held : ℕ → Option (List ℕ)) (m : ℕ) (ps : List NumberedBody) → map (λ (p : NumberedBody). p.number) ps ≡ numbers_from m (length ps)
     → AllByRecursion (λ (p : NumberedBody). held p.number ≡ Some p.body) ps → content_by held (numbers_from m (length ps)) ≡ Some ps
 held-content held m [] are all = refl
 held-content held m (p ∷ ps) are all =

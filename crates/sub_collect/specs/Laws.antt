@@ -1,10 +1,11 @@
 -- Laws of completions, for the layers above.
-use Rattle.std.specs.Prelude.{◌≡◌, ◌≢◌, ℕ, ◌+◌, ◌-◌, ◌<◌, List, [], ◌∷◌, ◌++◌, Bool, true, if◌then◌else◌, filter, map, length, Option, Some, option_to_list}
+use Rattle.std.specs.Prelude.{◌≡◌, ◌≢◌, ℕ, ◌+◌, ◌-◌, ◌<◌, List, [], ◌∷◌, ◌++◌, Bool, true, if◌then◌else◌, filter, map, length, Option, Some, None, ◌==◌, option_to_list, IsSome}
+use Rattle.std.specs.List.{AllByRecursion}
 use Rattle.std.specs.Option.{option_or}
 use Rattle.section_codec.specs.declared.table.Key.{Key}
 use Rattle.section_codec.specs.declared.table.NumberedBody.{NumberedBody}
 use Rattle.version_book.specs.Airings.{Content, is_key}
-use Rattle.sub_collect.specs.Runs.{Counted, all_of_version, run_of, latest_section, numbers_from, completed}
+use Rattle.sub_collect.specs.Runs.{Counted, all_of_version, run_of, latest_section, latest_with, numbers_from, completed}
 use Rattle.sub_collect.specs.Completions.{is_of, sections_of, completion, latest_done, latest_of, shown_at, dones}
 use Rattle.sub_collect.specs.declared.completed.Completed.{Completed}
 
@@ -59,3 +60,23 @@ VersionKeepsRun = (heard : List Counted) (s t : Counted) → latest_section hear
 abbrev pub LatestOneMore : Type 0
 LatestOneMore = (k : Key) (past : List Counted) (s : Counted)
     → latest_of k (past ++ s ∷ []) ≡ (if is_of k s then option_or (completion (sections_of k (past ++ s ∷ []))) (latest_of k past) else latest_of k past)
+
+-- the body of a number in a content
+abbrev pub part_in : ℕ → Content → Option (List ℕ)
+part_in n [] = None
+part_in n (p ∷ ps) = if n == p.number then Some p.body else part_in n ps
+
+-- a section of a content, whatever its key and version
+pub record IsSectionOf (content : Content) (s : Counted) : Type 0 where
+  pub part : part_in s.number content ≡ Some s.body
+  pub last : 1 + s.last ≡ length content
+
+-- A run of sections of one content completes nothing but it.
+abbrev pub RunCompletesNoOther : Type 0
+RunCompletesNoOther = (content : Content) → IsNumbered content → (heard : List Counted) → AllByRecursion (IsSectionOf content) (run_of heard)
+    → (d : Content) → completed heard ≡ Some d → d ≡ content
+
+-- It completes it where it holds all its numbers, whatever sections of it came first or last.
+abbrev pub RunCompletes : Type 0
+RunCompletes = (content : Content) → IsNumbered content → 0 < length content → (heard : List Counted) → AllByRecursion (IsSectionOf content) (run_of heard)
+    → AllByRecursion (λ (p : NumberedBody). IsSome (latest_with p.number (run_of heard))) content → completed heard ≡ Some content

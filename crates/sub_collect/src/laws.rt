@@ -1,5 +1,5 @@
 // Laws of completions.
-ghost use Rattle.sub_collect.specs.Laws.{KeysApart, LatestApart, LatestIsShown, LatestOneMore, DonesGoOn, DonesOneMore, WholeCompletes, VersionBeginsRun, VersionKeepsRun};
+ghost use Rattle.sub_collect.specs.Laws.{KeysApart, LatestApart, LatestIsShown, LatestOneMore, DonesGoOn, DonesOneMore, WholeCompletes, RunCompletes, RunCompletesNoOther, VersionBeginsRun, VersionKeepsRun};
 
 /// The completions of a key depend on the sections of that key alone: those that are shown, and the latest
 /// one, which is the last one that was shown.
@@ -26,4 +26,11 @@ pub fn whole_versions_complete()
 pub fn versions_part_runs()
     ensures begins { VersionBeginsRun }
     ensures joins { VersionKeepsRun }
+{}
+
+/// A run in which all sections are of one content completes nothing but it, and it where the run holds all
+/// its numbers.
+pub fn runs_complete_their_content()
+    ensures other { RunCompletesNoOther }
+    ensures whole { RunCompletes }
 {}
