@@ -6,3 +6,4 @@ pub mod AirFacts
 pub mod SwapFacts
 pub mod RestFacts
 pub mod RunFacts
+pub mod ListenFacts

@@ -21,7 +21,7 @@ pub(crate) struct Played {
 }
 
 // Appends a number in decimal digits.
-fn put_number(alloc: Global, out: &mut Vec<u8>, n: u64) -> Result<(), AllocError>
+pub(crate) fn put_number(alloc: Global, out: &mut Vec<u8>, n: u64) -> Result<(), AllocError>
     ensures { OnOk result (out.new.items ≡ out.old.items ++ decimal n) }
 {
     let text = n.to_string(alloc)?;

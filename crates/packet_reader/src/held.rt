@@ -8,8 +8,8 @@ use si_causes::{Failed, Source};
 use std::alloc::{AllocError, Global};
 use std::marker::Model;
 
-// how many bytes one read asks for at most: 1,392 packets
-const BUFFER: usize = 261_696;
+// how many bytes one read asks for at most: 348 packets
+const BUFFER: usize = 65_424;
 
 #[derive(Drop)]
 pub(crate) struct Held {
@@ -32,7 +32,7 @@ impl Model for Held {
     } };
 
     ghost invariant = { λ h. (h.packet ≤ h.start) × (h.start ≤ h.end) × (h.end ≤ length h.buffer.items)
-        × (length h.buffer.items ≡ 261696) };
+        × (length h.buffer.items ≡ 65424) };
 }
 
 impl Held {

@@ -67,7 +67,7 @@ fn begins_with_packet(bytes: &[u8]) -> bool
 }
 
 impl<S: Source> PacketReader<S> {
-    /// A reader at the front of its source, with room for 1,392 packets. Want of memory gives the source up.
+    /// A reader at the front of its source, with room for 348 packets. Want of memory gives the source up.
     pub fn open(alloc: Global, source: S) -> Result<PacketReader<S>, AllocError>
         ensures { IfOk result (λ reader. reader ≡ fresh source) }
     {

@@ -84,7 +84,7 @@ fn packets_and_stops(rt: HostRuntime) -> Result<(), Fail> {
 fn more_than_the_room(rt: HostRuntime) -> Result<(), Fail> {
     let alloc = rt.alloc();
     // more packets than the reader has room for, in pieces that cut packets
-    for piece in [1_000, 261_696, 500_000] {
+    for piece in [1_000, 65_424, 500_000] {
         let source = MemSource::open(packets(alloc, 3_000, &[])?, piece, Vec::new(alloc));
         let mut reader = PacketReader::open(alloc, source)?;
         let given = given(&mut reader);
