@@ -14,7 +14,7 @@ use Rattle.ts_demux.specs.Arrivals.{Arrival, arrival_by, arrival_on, arrivals_on
 use Rattle.ts_demux.specs.Sections.{sections_on, on_pid, ended_by, heard_each, heard_all, bytes_on}
 use Rattle.ts_demux.specs.Keeping.{Kept, nothing, given_after, kept_after, kept_behind}
 use Rattle.ts_demux.specs.Laws.{OrderKept}
-use Rattle.ts_demux.proofs.Tests.{same_number}
+use Rattle.ts_demux.proofs.Deciding.{same_number}
 use Rattle.ts_demux.proofs.Stretches.{heard_of-push, kept_behind-push}
 
 -- a packet is nothing on a PID that is not its own
@@ -78,8 +78,10 @@ ended_on pid past packet = go (pid_in packet == pid) refl
   where
     q : ℕ
     q = pid_in packet
+
     old : List (List ℕ)
     old = sections_on pid past
+
     go : (b : Bool) → (q == pid) ≡ b → old ++ filter_map (bytes_on pid) (ended_by past packet) ≡ sections_on pid (past ++ packet ∷ [])
     go false e =
         ap (λ (x : List RawSection). old ++ filter_map (bytes_on pid) x) (ended_by-is past packet)

@@ -1,4 +1,4 @@
-pub mod Tests
+pub mod Deciding
 pub mod Lists
 pub mod Heard
 pub mod Hear

@@ -4,7 +4,7 @@ use Rattle.std.specs.Prelude.{if◌then◌else◌, slice_get, slice_set, option_
 use Rattle.std.proofs.lemmas.Bool.Decides.{nat_tests}
 use Rattle.std.proofs.lemmas.List.{map-set, map-append}
 use Rattle.ts_demux.specs.Keeping.{Kept, nothing, kept_in, kept_on}
-use Rattle.ts_demux.proofs.Tests.{same_number}
+use Rattle.ts_demux.proofs.Deciding.{same_number}
 
 kept_on-none : (q : ℕ) (slots : List (Option Kept)) → kept_on q (slots ++ None ∷ []) ≡ kept_on q slots
 kept_on-none zero [] = refl

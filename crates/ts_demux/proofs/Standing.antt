@@ -12,7 +12,7 @@ use Rattle.ts_demux.specs.declared.section.RawSection.{RawSection}
 use Rattle.ts_demux.specs.Arrivals.{Arrival, Arrival.Gap, Arrival.Came, load_in, arrival_by, arrival_on, arrivals_on}
 use Rattle.ts_demux.specs.Sections.{on_pid, ended_by}
 use Rattle.ts_demux.specs.Keeping.{Kept, nothing, given_after, kept_after, kept_behind, kept_on, Stands}
-use Rattle.ts_demux.proofs.Tests.{same_number}
+use Rattle.ts_demux.proofs.Deciding.{same_number}
 use Rattle.ts_demux.proofs.Stretches.{kept_behind-push}
 use Rattle.ts_demux.proofs.Adding.{elsewhere, adds, arrivals_on-push, ended_by-is}
 
@@ -28,9 +28,10 @@ changes past packet q x e =
 -- a packet that is nothing on any PID
 pub nothing_came : (past : List (List ℕ)) (packet : List ℕ) (slots : List (Option Kept)) → ((q : ℕ) → arrival_on q packet ≡ None) → Stands past slots →
     (ended_by past packet ≡ []) × Stands (past ++ packet ∷ []) slots
-nothing_came past packet slots none stands =
-    (ended_by-is past packet ∙ ap (λ (o : Option Arrival). map (on_pid (pid_in packet)) (adds (pid_in packet) past o)) (none (pid_in packet)),
-      λ q lt. stands q lt ∙ stays past packet q (none q))
+nothing_came past packet slots none stands = (
+  ended_by-is past packet ∙ ap (λ (o : Option Arrival). map (on_pid (pid_in packet)) (adds (pid_in packet) past o)) (none (pid_in packet)),
+  λ q lt. stands q lt ∙ stays past packet q (none q),
+)
 
 -- a packet that arrives on its PID
 pub one_came : (past : List (List ℕ)) (packet : List ℕ) (old new : List (Option Kept)) (pid : ℕ) (x : Arrival) → pid ≡ pid_in packet → pid < 8192 → arrival_on pid packet ≡ Some x
@@ -73,6 +74,7 @@ gap_told packet pid e =
   where
     own : ℕ
     own = pid_in packet
+
     go : (sync error pass four long : Bool) → (if sync then Ok (if error then shape.Gap own else if pass then shape.Pass else if four then shape.Load own (payload_unit_start_indicator packet) (continuity_counter packet) 4
         else if long then shape.Gap own else shape.Load own (payload_unit_start_indicator packet) (continuity_counter packet) (5 + adaptation_field_length packet)) else Err Sync) ≡ Ok (shape.Gap pid) → pid ≡ own
     go false error pass four long f = cc
@@ -93,10 +95,13 @@ load_told packet pid counter at start e =
   where
     own : ℕ
     own = pid_in packet
+
     len : ℕ
     len = adaptation_field_length packet
+
     at_four : 4 < 188
     at_four = omega arith
+
     go : (sync error pass four long : Bool) → nat_lt 182 len ≡ long
         → (if sync then Ok (if error then shape.Gap own else if pass then shape.Pass else if four then shape.Load own (payload_unit_start_indicator packet) (continuity_counter packet) 4
         else if long then shape.Gap own else shape.Load own (payload_unit_start_indicator packet) (continuity_counter packet) (5 + len)) else Err Sync) ≡ Ok (shape.Load pid start counter at) → (pid ≡ own) × (at < 188)

@@ -76,7 +76,7 @@ pub heard_part : (before part after : List (List (List ℕ))) (ps qs rs : List P
     → (open_left : List ℕ) × (heard qs ≡ ended open_left (all_of part)) × (open_left ≡ left (left [] before) part)
 heard_part before part after ps qs rs room all e l m =
     let cut : ps ++ (qs ++ rs) ≡ pieces [] before ++ (pieces (left [] before) part ++ pieces (left (left [] before) part) after) =
-      e ∙ pieces-append [] before (part ++ after) ∙ ap (λ (x : List Piece). pieces [] before ++ x) (pieces-append (left [] before) part after) in
+    e ∙ pieces-append [] before (part ++ after) ∙ ap (λ (x : List Piece). pieces [] before ++ x) (pieces-append (left [] before) part after) in
     let one = same_parts ps (pieces [] before) (qs ++ rs) (pieces (left [] before) part ++ pieces (left (left [] before) part) after) (l ∙ sym (length-pieces [] before)) cut in
     let two = same_parts qs (pieces (left [] before) part) rs (pieces (left (left [] before) part) after) (m ∙ sym (length-pieces (left [] before) part)) one.1 in
     let here = HaveRoom-front (left [] before) part after (HaveRoom-behind [] before (part ++ after) room) in

@@ -14,7 +14,7 @@ use Rattle.ts_demux.specs.Hearing.{heard, IsSection}
 use Rattle.ts_demux.specs.Arrivals.{Arrival, Arrival.Came, arrival_by, arrival_on, arrivals_on, heard_of}
 use Rattle.ts_demux.specs.Sections.{sections_on}
 use Rattle.ts_demux.specs.Laws.{ended, within, GoOn, PartGoesOn, PartIsHeard, CarriedIsHeard}
-use Rattle.ts_demux.proofs.Tests.{same_number}
+use Rattle.ts_demux.proofs.Deciding.{same_number}
 use Rattle.ts_demux.proofs.Hear.{heard_of-counting}
 use Rattle.ts_demux.proofs.Heard.{AllSections, heard-pieces}
 use Rattle.ts_demux.proofs.Windows.{all-front, all-behind, length-pieces, left-append, heard_part}
@@ -26,6 +26,7 @@ arrives pid small p h = go (p.pid == pid) refl
   where
     load : Load
     load = record { counter = p.counter; piece = p.piece }
+
     go : (b : Bool) → (p.pid == pid) ≡ b → arrival_on pid (bytes_of_packet p) ≡ option_map Came (load_on pid p)
     go true e =
         let lt : p.pid < 8191 = subst (λ (n : ℕ). n < 8191) (sym (same_number p.pid pid e)) small in
