@@ -12,7 +12,8 @@ use Rattle.ts_packets.specs.Bytes.{pid_in, shape_in, shape_behind_sync, load_at,
 use Rattle.ts_demux.specs.declared.section.RawSection.{RawSection}
 use Rattle.ts_demux.specs.Arrivals.{Arrival, arrival_by, arrival_on, arrivals_on, heard_of}
 use Rattle.ts_demux.specs.Sections.{sections_on, on_pid, ended_by, heard_each, heard_all, bytes_on}
-use Rattle.ts_demux.specs.Keeping.{Kept, nothing, given_after, kept_after, kept_behind}
+use Rattle.ts_demux.specs.Keeping.{Kept, nothing}
+use Rattle.ts_demux.specs.Steps.{given_after, kept_after, kept_behind}
 use Rattle.ts_demux.specs.Laws.{OrderKept}
 use Rattle.ts_demux.proofs.Deciding.{same_number}
 use Rattle.ts_demux.proofs.Stretches.{heard_of-push, kept_behind-push}

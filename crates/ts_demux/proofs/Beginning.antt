@@ -5,7 +5,8 @@ use Rattle.std.proofs.lemmas.Bool.Decides.{nat_tests}
 use Rattle.ts_demux.specs.declared.headers.Reach.{Reach}
 use Rattle.ts_demux.specs.declared.headers.Reach.TheVariants.{Ends, Open, TooLong}
 use Rattle.ts_demux.specs.Hearing.{size_in, is_whole, begun}
-use Rattle.ts_demux.specs.Keeping.{is_long, kept_open, left_open}
+use Rattle.ts_demux.specs.Keeping.{is_long}
+use Rattle.ts_demux.specs.Steps.{kept_open, left_open}
 use Rattle.ts_demux.specs.Reaching.{reach_of}
 use Rattle.ts_demux.proofs.Deciding.{and_true, le_told, eq_no}
 use Rattle.ts_demux.proofs.Hear.{pick, found}

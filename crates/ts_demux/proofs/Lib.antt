@@ -11,3 +11,5 @@ pub mod Beginning
 pub mod Placing
 pub mod Starting
 pub mod Standing
+pub mod Open
+pub mod Keeping

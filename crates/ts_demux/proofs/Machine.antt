@@ -6,7 +6,8 @@ use Rattle.ts_packets.specs.Packets.{Piece}
 use Rattle.ts_demux.specs.Hearing.{size_in, is_whole, begun, passed_over, goes_on, behind_pointer, begun_in, heard}
 use Rattle.ts_demux.proofs.Deciding.{and_true, and_both, and_no, le_told, le_false, le_yes, le_no, eq_no}
 use Rattle.ts_demux.proofs.Heard.{size_in-append}
-use Rattle.ts_demux.specs.Keeping.{is_long, kept_open, left_open, open_from_start, open_further, open_behind, finished, finished_with, given_from_start, given_by, IsOpen}
+use Rattle.ts_demux.specs.Keeping.{is_long}
+use Rattle.ts_demux.specs.Steps.{kept_open, left_open, open_from_start, open_further, open_behind, finished, finished_with, given_from_start, given_by, IsOpen}
 use Rattle.ts_demux.proofs.Lists.{drop-past}
 use Rattle.ts_demux.proofs.Hear.{whole_more, pick, pick_no, pick_none, pick_yes, found}
 
@@ -18,7 +19,7 @@ no_from : (a : Bool) → a ≡ true → a ≡ false → Prim.⊥
 no_from a e f = cc
 
 -- its header stays too long where more follows
-long_more : (x y : List ℕ) → is_long x ≡ true → is_whole (x ++ y) ≡ false
+pub long_more : (x y : List ℕ) → is_long x ≡ true → is_whole (x ++ y) ≡ false
 long_more x y h = go (is_whole (x ++ y)) refl
   where
     no : (b : Bool) → not b ≡ true → b ≡ true → Prim.⊥
@@ -40,7 +41,7 @@ size_in-three (a ∷ b ∷ []) h = absurd (omega arith)
 size_in-three (a ∷ b ∷ c ∷ x) h = omega arith
 
 -- where a section is whole only with what follows, it ends there
-ends_later : (x y : List ℕ) → is_whole x ≡ false → is_whole (x ++ y) ≡ true → length x ≤ size_in (x ++ y)
+pub ends_later : (x y : List ℕ) → is_whole x ≡ false → is_whole (x ++ y) ≡ true → length x ≤ size_in (x ++ y)
 ends_later x y part all =
     let q = and_true (nat_le 3 (length (x ++ y))) (nat_le (size_in (x ++ y)) 4096 && nat_le (size_in (x ++ y)) (length (x ++ y))) all in
     let r = and_true (nat_le (size_in (x ++ y)) 4096) (nat_le (size_in (x ++ y)) (length (x ++ y))) q.1 in
@@ -137,7 +138,7 @@ kept_open-open x e = go (is_long x) refl
     go true f = tt
     go false f = (e, f)
 
-left_open-open : (n : ℕ) (here : List ℕ) → IsOpen (left_open n here)
+pub left_open-open : (n : ℕ) (here : List ℕ) → IsOpen (left_open n here)
 left_open-open zero here = tt
 left_open-open (suc n) [] = tt
 left_open-open (suc n) (b ∷ here) = go (b == 255) (is_whole (b ∷ here)) refl (left_open-open n (drop (size_in (b ∷ here)) (b ∷ here)))

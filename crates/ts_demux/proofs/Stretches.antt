@@ -5,7 +5,8 @@ use Rattle.ts_packets.specs.Packets.{Piece}
 use Rattle.ts_packets.specs.Counting.{Load}
 use Rattle.ts_demux.specs.Hearing.{heard, goes_on}
 use Rattle.ts_demux.specs.Arrivals.{Arrival, Arrival.Gap, Arrival.Came, is_repeat, without_repeats, before_stretches, stretches, heard_of}
-use Rattle.ts_demux.specs.Keeping.{Kept, nothing, seen, is_again, is_next, still_open, given_by, open_behind, given_after, kept_after, kept_behind}
+use Rattle.ts_demux.specs.Keeping.{Kept, nothing, seen}
+use Rattle.ts_demux.specs.Steps.{is_again, is_next, still_open, given_by, open_behind, given_after, kept_after, kept_behind}
 use Rattle.ts_demux.proofs.Machine.{machine, machine-is}
 
 -- the sections that these arrivals end, one after the other

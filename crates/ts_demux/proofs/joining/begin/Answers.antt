@@ -5,7 +5,7 @@ use Rattle.ts_demux.specs.declared.headers.Reach.TheVariants.{Ends}
 use Rattle.ts_demux.specs.declared.section.RawSection.{RawSection}
 use Rattle.ts_demux.specs.Hearing.{begun}
 use Rattle.ts_demux.specs.Sections.{on_pid}
-use Rattle.ts_demux.specs.Keeping.{left_open}
+use Rattle.ts_demux.specs.Steps.{left_open}
 use Rattle.ts_demux.specs.Reaching.{reach_of}
 use Rattle.ts_demux.proofs.Beginning.{begins_whole}
 use Rattle.ts_demux.proofs.joining.begin.Goals as goal
