@@ -1,12 +1,11 @@
 -- What is heard of packets that carry sections.
 use Rattle.std.proofs.Common.{◌≡◌, ℕ, zero, suc, ◌+◌, ◌-◌, ◌<◌, ◌≤◌, ◌≢◌, ◌⊎◌, inl, inr, List, [], ◌∷◌, ◌++◌, Bool, true, false, ◌&&◌, ◌==◌, length, refl, sym, ap, ◌∙◌, subst, subst₂, arith, take, drop, append_assoc, append-nil, length-append, length-drop}
-use Rattle.std.specs.Prelude.{if◌then◌else◌, nat_le, nat_eq}
+use Rattle.std.specs.Prelude.{if◌then◌else◌, nat_le}
 use Rattle.std.specs.List.{AllByRecursion}
-use Rattle.std.proofs.lemmas.Bool.Decides.{nat_tests}
 use Rattle.std.proofs.lemmas.List.{take_at, drop_at}
-use Rattle.ts_packets.specs.Packets.{Piece, joined, filled, piece_of, left_by, Begin, HasRoom, pieces, left, HaveRoom, all_of}
-use Rattle.ts_demux.specs.Hearing.{size_in, is_whole, begun, passed_over, goes_on, behind_pointer, begun_in, heard, IsSection}
-use Rattle.ts_demux.proofs.Deciding.{and_true, and_both, and_no, le_told, le_false, le_yes, le_no, eq_no}
+use Rattle.ts_packets.specs.Packets.{joined, filled, piece_of, left_by, Begin, pieces, left, HaveRoom, all_of}
+use Rattle.ts_demux.specs.Hearing.{size_in, is_whole, begun, passed_over, goes_on, begun_in, heard, IsSection}
+use Rattle.ts_demux.proofs.Deciding.{and_both, le_yes, le_no, eq_no}
 use Rattle.ts_demux.specs.Laws.{but_last, ended}
 use Rattle.ts_demux.proofs.Lists.{length-filled, drop-filled, filled-append, drop-append_past, take-filled_front, filled-rest, filled-cut, drop-past}
 

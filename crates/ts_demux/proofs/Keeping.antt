@@ -1,5 +1,5 @@
 -- Step by step the same is kept as the definition says of all arrivals.
-use Rattle.std.proofs.Common.{◌≡◌, ℕ, zero, suc, ◌+◌, ◌%◌, List, [], ◌∷◌, ◌++◌, Bool, true, false, ◌&&◌, ◌==◌, Option, Some, None, refl, sym, ap, ap₂, ◌∙◌, subst, append_assoc, append-nil}
+use Rattle.std.proofs.Common.{◌≡◌, ℕ, ◌+◌, ◌%◌, List, [], ◌∷◌, ◌++◌, Bool, true, false, ◌&&◌, ◌==◌, Option, Some, None, refl, sym, ap, ap₂, ◌∙◌, append_assoc, append-nil}
 use Rattle.std.specs.Prelude.{if◌then◌else◌, option_map, bytes_eq}
 use Rattle.std.specs.Cmp.Lexicographic.{same_text}
 use Rattle.ts_packets.specs.Packets.{Piece}
@@ -70,6 +70,7 @@ without-load (Some last) (Came m ∷ xs) l = go (is_repeat last m) refl (without
   where
     more : Option Seen → List Arrival
     more o = unless (is_again (last_seen o xs) l) l
+
     go : (b : Bool) → is_repeat last m ≡ b → without_repeats (Some last) (xs ++ Came l ∷ []) ≡ without_repeats (Some last) xs ++ more (Some (seen last))
         → without_repeats (Some m) (xs ++ Came l ∷ []) ≡ without_repeats (Some m) xs ++ more (Some (seen m))
         → (if b then without_repeats (Some last) (xs ++ Came l ∷ []) else Came m ∷ without_repeats (Some m) (xs ++ Came l ∷ [])) ≡ (if b then without_repeats (Some last) xs else Came m ∷ without_repeats (Some m) xs) ++ more (Some (seen m))
@@ -148,8 +149,10 @@ last_stretch-load (x ∷ y ∷ xs) l =
   where
     all : List Piece
     all = pieces_of (x ∷ y ∷ xs)
+
     behind : List Piece
     behind = last_stretch (y ∷ xs)
+
     go : (a b : Bool) → (if a && b then all ++ l.piece ∷ [] else where_next b behind ++ l.piece ∷ []) ≡ where_next b (if a then all else behind) ++ l.piece ∷ []
     go true true = refl
     go true false = refl
@@ -175,10 +178,13 @@ step xs (Came l) = go (is_again (last_load xs) l) refl
   where
     W : List Arrival
     W = without_repeats None xs
+
     new : Kept
     new = record { last = Some (seen l); section = open_behind (still_open (is_next (last_load xs) l) (open_section (last_stretch W))) l.piece }
+
     without : (b : Bool) → is_again (last_load xs) l ≡ b → without_repeats None (xs ++ Came l ∷ []) ≡ W ++ unless b l
     without b e = without-load None xs l ∙ ap (λ (c : Bool). W ++ unless c l) (ap (λ (o : Option Seen). is_again o l) (sym (last_load-seen xs)) ∙ e)
+
     go : (b : Bool) → is_again (last_load xs) l ≡ b → (if b then kept_by_all xs else new) ≡ kept_by_all (xs ++ Came l ∷ [])
     go true e =
         sym (ap₂ (λ (o : Option Seen) (ys : List Arrival). kept_of o (last_stretch ys)) (last_load-push xs (Came l) ∙ sym (again_told (last_load xs) l e)) (without true e ∙ append-nil W))

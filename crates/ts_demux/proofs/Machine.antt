@@ -1,15 +1,14 @@
 -- A demultiplexer that open_behind one open buffer hears what the definition says.
-use Rattle.std.proofs.Common.{◌≡◌, ℕ, zero, suc, ◌+◌, ◌-◌, ◌*◌, ◌%◌, ◌<◌, ◌≤◌, ◌⊎◌, inl, inr, List, [], ◌∷◌, ◌++◌, Bool, true, false, not, ◌&&◌, ◌==◌, Option, Some, None, length, refl, sym, ap, ◌∙◌, subst, arith, take, drop, append_assoc, append-nil, length-append}
+use Rattle.std.proofs.Common.{◌≡◌, ℕ, zero, suc, ◌<◌, ◌≤◌, List, [], ◌∷◌, ◌++◌, Bool, true, false, not, ◌&&◌, ◌==◌, Option, Some, None, length, refl, sym, ap, ◌∙◌, arith, take, drop, append_assoc, append-nil}
 use Rattle.std.specs.Prelude.{if◌then◌else◌, nat_le}
-use Rattle.std.proofs.lemmas.Bool.Decides.{nat_tests}
 use Rattle.ts_packets.specs.Packets.{Piece}
-use Rattle.ts_demux.specs.Hearing.{size_in, is_whole, begun, passed_over, goes_on, behind_pointer, begun_in, heard}
-use Rattle.ts_demux.proofs.Deciding.{and_true, and_both, and_no, le_told, le_false, le_yes, le_no, eq_no}
+use Rattle.ts_demux.specs.Hearing.{size_in, is_whole, begun, passed_over, goes_on, behind_pointer, heard}
+use Rattle.ts_demux.proofs.Deciding.{and_true, and_both, le_told, le_false, le_yes}
 use Rattle.ts_demux.proofs.Heard.{size_in-append}
 use Rattle.ts_demux.specs.Keeping.{is_long}
 use Rattle.ts_demux.specs.Steps.{kept_open, left_open, open_from_start, open_further, open_behind, finished, finished_with, given_from_start, given_by, IsOpen}
 use Rattle.ts_demux.proofs.Lists.{drop-past}
-use Rattle.ts_demux.proofs.Hear.{whole_more, pick, pick_no, pick_none, pick_yes, found}
+use Rattle.ts_demux.proofs.Hear.{whole_more, pick_no, pick_none, pick_yes, found}
 
 abbrev pub machine : Option (List ℕ) → List Piece → List (List ℕ)
 machine o [] = []

@@ -1,5 +1,5 @@
 -- What is kept behind a packet is what the definition says of all packets.
-use Rattle.std.proofs.Common.{◌≡◌, ℕ, zero, suc, ◌+◌, ◌-◌, ◌*◌, ◌%◌, ◌<◌, ◌≤◌, ◌⊎◌, inl, inr, List, [], ◌∷◌, ◌++◌, Bool, true, false, not, ◌&&◌, ◌==◌, Option, Some, None, length, refl, sym, ap, ap₂, ◌∙◌, subst, arith, take, drop, append_assoc, append-nil, length-append}
+use Rattle.std.proofs.Common.{◌≡◌, ℕ, zero, suc, List, [], ◌∷◌, ◌++◌, Bool, true, false, not, ◌==◌, Option, Some, None, length, refl, sym, ap, ap₂, ◌∙◌, arith, drop, append_assoc, append-nil, length-append}
 use Rattle.std.specs.Prelude.{if◌then◌else◌, nat_le, ◌||◌}
 use Rattle.ts_packets.specs.Packets.{Piece}
 use Rattle.ts_demux.specs.Hearing.{size_in, is_whole, passed_over, goes_on}
@@ -39,8 +39,10 @@ unended-left (suc n) (b ∷ here) later = go (b == 255) (is_whole (b ∷ here)) 
   where
     X : List ℕ
     X = b ∷ here
+
     all : List ℕ
     all = X ++ later
+
     go : (fill : Bool) (w : Bool) → is_whole X ≡ w → (l : Bool) → is_long X ≡ l → ((k : ℕ) → unended n (drop k X) later ≡ open_further (left_open n (drop k X)) later)
         → (if fill then None else three (is_whole all) (is_long all) (unended n (drop (size_in all) X) later) (Some all))
         ≡ open_further (if fill then None else if is_whole X then left_open n (drop (size_in X) X) else kept_open X) later
@@ -54,11 +56,11 @@ unended-left (suc n) (b ∷ here) later = go (b == 255) (is_whole (b ∷ here)) 
         ap (λ (w : Bool). three w (is_long all) (unended n (drop (size_in all) X) later) (Some all)) (long_more X later f)
         ∙ ap (λ (l : Bool). if l then None else Some all) (long_stays X later f)
         ∙ sym (ap (λ (w : Bool). open_further (if w then left_open n (drop (size_in X) X) else kept_open X) later) e
-          ∙ ap (λ (l : Bool). open_further (if l then None else Some X) later) f)
+        ∙ ap (λ (l : Bool). open_further (if l then None else Some X) later) f)
     go false false e false f rec =
         part (is_whole all) refl
         ∙ sym (ap (λ (w : Bool). open_further (if w then left_open n (drop (size_in X) X) else kept_open X) later) e
-          ∙ ap (λ (l : Bool). open_further (if l then None else Some X) later) f)
+        ∙ ap (λ (l : Bool). open_further (if l then None else Some X) later) f)
       where
         part : (w : Bool) → is_whole all ≡ w → three (is_whole all) (is_long all) (unended n (drop (size_in all) X) later) (Some all) ≡ (if is_whole all then None else kept_open all)
         part true g =
@@ -97,10 +99,13 @@ further_twice (Some bytes) x y = go (is_whole (bytes ++ x)) refl (is_long (bytes
   where
     X : List ℕ
     X = bytes ++ x
+
     whole : List ℕ
     whole = bytes ++ (x ++ y)
+
     same : X ++ y ≡ whole
     same = append_assoc bytes x y
+
     go : (w : Bool) → is_whole X ≡ w → (l : Bool) → is_long X ≡ l → open_further (if is_whole X then None else kept_open X) y ≡ (if is_whole whole then None else kept_open whole)
     go true e l f =
         ap (λ (w : Bool). open_further (if w then None else kept_open X) y) e
@@ -159,10 +164,13 @@ open_section-push (p ∷ ps) q = go (has_start ps) refl q.start refl (open_secti
   where
     starts : (b : Bool) → has_start (ps ++ q ∷ []) ≡ b → open_section (p ∷ (ps ++ q ∷ [])) ≡ (if b then open_section (ps ++ q ∷ []) else unended_in p (goes_on (ps ++ q ∷ [])))
     starts b e = ap (λ (x : Bool). if x then open_section (ps ++ q ∷ []) else unended_in p (goes_on (ps ++ q ∷ []))) e
+
     before : (b : Bool) → has_start ps ≡ b → open_section (p ∷ ps) ≡ (if b then open_section ps else unended_in p (goes_on ps))
     before b e = ap (λ (x : Bool). if x then open_section ps else unended_in p (goes_on ps)) e
+
     either : (a b : Bool) → has_start ps ≡ a → q.start ≡ b → has_start (ps ++ q ∷ []) ≡ (a || b)
     either a b e f = has_start-push ps q ∙ ap₂ (λ (x y : Bool). x || y) e f
+
     go : (a : Bool) → has_start ps ≡ a → (b : Bool) → q.start ≡ b → open_section (ps ++ q ∷ []) ≡ open_behind (open_section ps) q → open_section (p ∷ (ps ++ q ∷ [])) ≡ open_behind (open_section (p ∷ ps)) q
     go true e b f rec = starts true (either true b e f) ∙ rec ∙ ap (λ (o : Option (List ℕ)). open_behind o q) (sym (before true e))
     go false e true f rec = starts true (either false true e f) ∙ rec ∙ start_anyway (open_section ps) (open_section (p ∷ ps)) q f

@@ -1,14 +1,11 @@
 -- A demux that stands for packets, and one packet more.
-use Rattle.std.proofs.Common.{◌≡◌, ℕ, ◌+◌, ◌*◌, ◌/◌, ◌%◌, ◌<◌, ◌≤◌, List, [], ◌∷◌, ◌++◌, Bool, true, false, ◌==◌, Option, Some, None, length, refl, sym, ap, ap₂, ◌∙◌, subst, arith, map, append-nil}
-use Rattle.std.specs.Prelude.{if◌then◌else◌, nat_lt, ◌||◌, Result, Ok, Err, slice_index}
+use Rattle.std.proofs.Common.{◌≡◌, ℕ, ◌+◌, ◌<◌, ◌≤◌, List, [], ◌∷◌, ◌++◌, Bool, true, false, ◌==◌, Option, Some, None, refl, sym, ap, ◌∙◌, arith, map, append-nil}
+use Rattle.std.specs.Prelude.{if◌then◌else◌, nat_lt, ◌||◌, Ok, Err, slice_index}
 use Rattle.std.specs.List.{cons_option}
 use Rattle.std.proofs.lemmas.Bool.Decides.{nat_tests}
-use Rattle.ts_packets.specs.declared.shape.Shape.{Shape}
 use Rattle.ts_packets.specs.declared.shape.Shape.TheVariants as shape
-use Rattle.ts_packets.specs.declared.shape.BadPacket.{BadPacket}
 use Rattle.ts_packets.specs.declared.shape.BadPacket.TheVariants.{Sync}
 use Rattle.ts_packets.specs.Bytes.{pid_in, shape_in, transport_error_indicator, transport_scrambling_control, adaptation_field_control, adaptation_field_length, payload_unit_start_indicator, continuity_counter}
-use Rattle.ts_demux.specs.declared.section.RawSection.{RawSection}
 use Rattle.ts_demux.specs.Arrivals.{Arrival, Arrival.Gap, Arrival.Came, load_in, arrival_by, arrival_on, arrivals_on}
 use Rattle.ts_demux.specs.Sections.{on_pid, ended_by}
 use Rattle.ts_demux.specs.Keeping.{Kept, nothing, kept_on, Stands}
@@ -30,9 +27,10 @@ changes past packet q x e =
 -- a packet that is nothing on any PID
 pub nothing_came : (past : List (List ℕ)) (packet : List ℕ) (slots : List (Option Kept)) → ((q : ℕ) → arrival_on q packet ≡ None) → Stands past slots →
     (ended_by past packet ≡ []) × Stands (past ++ packet ∷ []) slots
-nothing_came past packet slots none stands =
-    (ended_by-is past packet ∙ ap (λ (o : Option Arrival). map (on_pid (pid_in packet)) (adds (pid_in packet) past o)) (none (pid_in packet)),
-      λ q lt. keeps_is (arrivals_on q (past ++ packet ∷ [])) (kept_on q slots) (keeps_told (arrivals_on q past) (kept_on q slots) (stands q lt) ∙ stays past packet q (none q)))
+nothing_came past packet slots none stands = (
+  ended_by-is past packet ∙ ap (λ (o : Option Arrival). map (on_pid (pid_in packet)) (adds (pid_in packet) past o)) (none (pid_in packet)),
+  λ q lt. keeps_is (arrivals_on q (past ++ packet ∷ [])) (kept_on q slots) (keeps_told (arrivals_on q past) (kept_on q slots) (stands q lt) ∙ stays past packet q (none q)),
+)
 
 -- a packet that arrives on its PID
 pub one_came : (past : List (List ℕ)) (packet : List ℕ) (old new : List (Option Kept)) (pid : ℕ) (x : Arrival) → pid ≡ pid_in packet → pid < 8192 → arrival_on pid packet ≡ Some x
@@ -41,6 +39,7 @@ one_came past packet old new pid x its small came after stands q lt = keeps_is (
   where
     told : (n : ℕ) → n < 8192 → kept_on n old ≡ kept_behind nothing (arrivals_on n past)
     told n less = keeps_told (arrivals_on n past) (kept_on n old) (stands n less)
+
     go : (b : Bool) → (pid == q) ≡ b → (if b then kept_after (kept_on pid old) x else kept_on q old) ≡ kept_behind nothing (arrivals_on q (past ++ packet ∷ []))
     go false e = told q lt ∙ stays past packet q (elsewhere q packet (ap (λ (n : ℕ). n == q) (sym its) ∙ e))
     go true e =

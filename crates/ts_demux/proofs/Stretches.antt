@@ -1,12 +1,12 @@
 -- What a demux gives packet by packet is what is heard of the stretches.
-use Rattle.std.proofs.Common.{◌≡◌, ℕ, ◌+◌, ◌%◌, List, [], ◌∷◌, ◌++◌, Bool, true, false, ◌==◌, Option, Some, None, refl, sym, ap, ◌∙◌, subst, flat_map, append_assoc, append-nil}
+use Rattle.std.proofs.Common.{◌≡◌, ℕ, ◌+◌, ◌%◌, List, [], ◌∷◌, ◌++◌, Bool, true, false, ◌==◌, Option, Some, None, refl, sym, ap, ◌∙◌, flat_map, append_assoc, append-nil}
 use Rattle.std.specs.Prelude.{if◌then◌else◌, option_map}
 use Rattle.ts_packets.specs.Packets.{Piece}
 use Rattle.ts_packets.specs.Counting.{Load}
-use Rattle.ts_demux.specs.Hearing.{heard, goes_on}
+use Rattle.ts_demux.specs.Hearing.{heard}
 use Rattle.ts_demux.specs.Arrivals.{Arrival, Arrival.Gap, Arrival.Came, is_repeat, without_repeats, before_stretches, stretches, heard_of}
 use Rattle.ts_demux.specs.Keeping.{Kept, nothing, seen}
-use Rattle.ts_demux.specs.Steps.{is_again, is_next, still_open, given_by, open_behind, given_after, kept_after, kept_behind}
+use Rattle.ts_demux.specs.Steps.{is_next, still_open, given_by, open_behind, given_after, kept_after, kept_behind}
 use Rattle.ts_demux.proofs.Machine.{machine, machine-is}
 
 -- the sections that these arrivals end, one after the other

@@ -1,8 +1,6 @@
 -- Worked packets, and what is heard of them.
 use Rattle.std.specs.Prelude.{◌≡◌, ℕ, List, [], ◌∷◌, ◌++◌, true, false, replicate, refl}
 use Rattle.ts_packets.specs.Packets.{Piece, pieces}
-use Rattle.ts_packets.specs.Counting.{Load}
-use Rattle.ts_demux.specs.declared.section.RawSection.{RawSection}
 use Rattle.ts_demux.specs.Hearing.{heard}
 use Rattle.ts_demux.specs.Arrivals.{Arrival, Arrival.Gap, Arrival.Came, heard_of, stretches}
 use Rattle.ts_demux.specs.Sections.{heard_all, heard_each}
