@@ -59,8 +59,8 @@ last_stretch (x ∷ xs) = if is_one_stretch (x ∷ xs) then pieces_of (x ∷ xs)
 abbrev pub is_long : List ℕ → Bool
 is_long bytes = nat_le 3 (length bytes) && not (nat_le (size_in bytes) 4096)
 
--- Of the sections that begin in these bytes of a packet, one behind the other, where later bytes follow the packet: the
--- bytes of the last one, where some of it are still to come. n bounds their number.
+-- Sections begin in these bytes of a packet, one behind the other, and later bytes follow the packet: what has come of the
+-- last one, where bytes of it are still to come. n bounds their number.
 abbrev pub unended : ℕ → List ℕ → List ℕ → Option (List ℕ)
 unended zero here later = None
 unended (suc n) [] later = None
