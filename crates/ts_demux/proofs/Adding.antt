@@ -1,21 +1,20 @@
 -- What one packet more adds on each PID.
-use Rattle.std.proofs.Common.{◌≡◌, ℕ, zero, suc, ◌+◌, List, [], ◌∷◌, ◌++◌, Bool, true, false, ◌==◌, Option, Some, None, length, refl, sym, ap, ◌∙◌, subst, arith, drop, map, filter_map, append_assoc, append-nil}
-use Rattle.std.specs.Prelude.{if◌then◌else◌, nat_lt, ◌||◌, Result, Ok, Err}
+use Rattle.std.proofs.Common.{◌≡◌, ℕ, ◌+◌, List, [], ◌∷◌, ◌++◌, Bool, true, false, ◌==◌, Option, Some, None, length, refl, sym, ap, ◌∙◌, drop, map, filter_map, append_assoc, append-nil}
+use Rattle.std.specs.Prelude.{if◌then◌else◌, nat_lt, ◌||◌, Ok, Err}
 use Rattle.std.specs.List.{cons_option}
 use Rattle.std.proofs.lemmas.List.{drop_at}
 use Rattle.std.proofs.lemmas.List.Elements.{filter_map-append}
-use Rattle.std.proofs.lemmas.Bool.Decides.{nat_tests}
-use Rattle.ts_packets.specs.declared.shape.Shape.{Shape}
 use Rattle.ts_packets.specs.declared.shape.Shape.TheVariants as shape
 use Rattle.ts_packets.specs.declared.shape.BadPacket.TheVariants.{Sync}
-use Rattle.ts_packets.specs.Bytes.{pid_in, shape_in, shape_behind_sync, load_at, transport_error_indicator, transport_scrambling_control, adaptation_field_control, adaptation_field_length, payload_unit_start_indicator, continuity_counter}
+use Rattle.ts_packets.specs.Bytes.{pid_in, transport_error_indicator, transport_scrambling_control, adaptation_field_control, adaptation_field_length, payload_unit_start_indicator, continuity_counter}
 use Rattle.ts_demux.specs.declared.section.RawSection.{RawSection}
 use Rattle.ts_demux.specs.Arrivals.{Arrival, arrival_by, arrival_on, arrivals_on, heard_of}
-use Rattle.ts_demux.specs.Sections.{sections_on, on_pid, ended_by, heard_each, heard_all, bytes_on}
-use Rattle.ts_demux.specs.Keeping.{Kept, nothing, given_after, kept_after, kept_behind}
+use Rattle.ts_demux.specs.Sections.{sections_on, on_pid, ended_by, heard_all, bytes_on}
+use Rattle.ts_demux.specs.Keeping.{nothing}
+use Rattle.ts_demux.specs.Steps.{given_after, kept_behind}
 use Rattle.ts_demux.specs.Laws.{OrderKept}
-use Rattle.ts_demux.proofs.Tests.{same_number}
-use Rattle.ts_demux.proofs.Stretches.{heard_of-push, kept_behind-push}
+use Rattle.ts_demux.proofs.Deciding.{same_number}
+use Rattle.ts_demux.proofs.Stretches.{heard_of-push}
 
 -- a packet is nothing on a PID that is not its own
 gap_elsewhere : (pid q : ℕ) (bytes : List ℕ) → (q == pid) ≡ false → arrival_by pid bytes (Ok (shape.Gap q)) ≡ None
@@ -78,8 +77,10 @@ ended_on pid past packet = go (pid_in packet == pid) refl
   where
     q : ℕ
     q = pid_in packet
+
     old : List (List ℕ)
     old = sections_on pid past
+
     go : (b : Bool) → (q == pid) ≡ b → old ++ filter_map (bytes_on pid) (ended_by past packet) ≡ sections_on pid (past ++ packet ∷ [])
     go false e =
         ap (λ (x : List RawSection). old ++ filter_map (bytes_on pid) x) (ended_by-is past packet)

@@ -1,15 +1,14 @@
 -- The sections that begin in a packet, one after the other.
-use Rattle.std.proofs.Common.{◌≡◌, ℕ, zero, suc, ◌+◌, ◌-◌, ◌<◌, ◌≤◌, ◌≢◌, List, [], ◌∷◌, ◌++◌, Bool, true, false, not, ◌&&◌, ◌==◌, Option, Some, None, length, refl, sym, ap, ap₂, ◌∙◌, subst, arith, take, drop, append-nil, length-append, length-drop}
+use Rattle.std.proofs.Common.{◌≡◌, ℕ, zero, suc, ◌<◌, ◌≤◌, ◌≢◌, List, [], ◌∷◌, ◌++◌, Bool, true, false, ◌&&◌, ◌==◌, Option, None, length, refl, sym, ap, ◌∙◌, arith, take, drop, append-nil, length-drop}
 use Rattle.std.specs.Prelude.{if◌then◌else◌, nat_le, slice_index}
-use Rattle.std.proofs.lemmas.Bool.Decides.{nat_tests}
-use Rattle.ts_demux.specs.declared.headers.Reach.{Reach}
 use Rattle.ts_demux.specs.declared.headers.Reach.TheVariants.{Ends, Open, TooLong}
 use Rattle.ts_demux.specs.Hearing.{size_in, is_whole, begun}
-use Rattle.ts_demux.specs.Keeping.{is_long, kept_open, left_open}
+use Rattle.ts_demux.specs.Keeping.{is_long}
+use Rattle.ts_demux.specs.Steps.{kept_open, left_open}
 use Rattle.ts_demux.specs.Reaching.{reach_of}
-use Rattle.ts_demux.proofs.Tests.{and_true, le_told, eq_no}
+use Rattle.ts_demux.proofs.Deciding.{and_true, le_told, eq_no}
 use Rattle.ts_demux.proofs.Hear.{pick, found}
-use Rattle.ts_demux.proofs.Machine.{begun-nothing, begun-fill, begun-whole, begun-part, not_whole-finished, size_in-three}
+use Rattle.ts_demux.proofs.Machine.{begun-nothing, begun-whole, size_in-three}
 
 -- a whole section has three bytes at least
 whole_some : (x : List ℕ) → is_whole x ≡ true → 3 ≤ size_in x
@@ -32,10 +31,11 @@ begun-bound (suc n) m [] later h k = sym (begun-nothing m later)
 begun-bound (suc n) zero (b ∷ xs) later h k = absurd (omega arith)
 begun-bound (suc n) (suc m) (b ∷ xs) later h k =
     go (is_whole (b ∷ xs ++ later)) refl (λ some. begun-bound n m (drop (size_in (b ∷ xs ++ later)) (b ∷ xs)) later
-      (shorter n (size_in (b ∷ xs ++ later)) (b ∷ xs) some h) (shorter m (size_in (b ∷ xs ++ later)) (b ∷ xs) some k))
+    (shorter n (size_in (b ∷ xs ++ later)) (b ∷ xs) some h) (shorter m (size_in (b ∷ xs ++ later)) (b ∷ xs) some k))
   where
     size : ℕ
     size = size_in (b ∷ xs ++ later)
+
     go : (w : Bool) → is_whole (b ∷ xs ++ later) ≡ w → (3 ≤ size → begun n (drop size (b ∷ xs)) later ≡ begun m (drop size (b ∷ xs)) later)
         → pick (b == 255) (is_whole (b ∷ xs ++ later)) (found n b xs later) ≡ pick (b == 255) (is_whole (b ∷ xs ++ later)) (found m b xs later)
     go true e rec = ap (λ (x : List (List ℕ)). pick (b == 255) (is_whole (b ∷ xs ++ later)) (take size (b ∷ xs ++ later) ∷ x)) (rec (whole_some (b ∷ xs ++ later) e))
@@ -64,8 +64,10 @@ left_open-bound (suc n) (suc m) (b ∷ xs) h k =
   where
     rest : List ℕ
     rest = drop (size_in (b ∷ xs)) (b ∷ xs)
+
     kept : Option (List ℕ)
     kept = kept_open (b ∷ xs)
+
     go : (w : Bool) → is_whole (b ∷ xs) ≡ w → (3 ≤ size_in (b ∷ xs) → left_open n rest ≡ left_open m rest)
         → choose (b == 255) (is_whole (b ∷ xs)) (left_open n rest) kept ≡ choose (b == 255) (is_whole (b ∷ xs)) (left_open m rest) kept
     go true e rec = ap (λ (x : Option (List ℕ)). choose (b == 255) (is_whole (b ∷ xs)) x kept) (rec (whole_some (b ∷ xs) e))
@@ -82,22 +84,6 @@ ends_told x n e = go (is_whole x) (is_long x) e
     go false true f = cc
     go false false f = cc
 
-pub long_told : (x : List ℕ) → reach_of x ≡ TooLong → (is_whole x ≡ false) × (is_long x ≡ true)
-long_told x e = go (is_whole x) (is_long x) e
-  where
-    go : (w l : Bool) → (if w then Ends (size_in x) else if l then TooLong else Open (if nat_le 3 (length x) then size_in x else 4096)) ≡ TooLong → (w ≡ false) × (l ≡ true)
-    go true l f = cc
-    go false true f = (refl, refl)
-    go false false f = cc
-
-pub open_told : (x : List ℕ) (n : ℕ) → reach_of x ≡ Open n → (is_whole x ≡ false) × (is_long x ≡ false)
-open_told x n e = go (is_whole x) (is_long x) e
-  where
-    go : (w l : Bool) → (if w then Ends (size_in x) else if l then TooLong else Open (if nat_le 3 (length x) then size_in x else 4096)) ≡ Open n → (w ≡ false) × (l ≡ false)
-    go true l f = cc
-    go false true f = cc
-    go false false f = (refl, refl)
-
 -- a byte that is not fill, and a section that ends in the packet
 pub begins_whole : (bytes : List ℕ) (n : ℕ) → 0 < length bytes → slice_index bytes 0 ≢ 255 → reach_of (bytes ++ []) ≡ Ends n →
     (begun (length bytes) bytes [] ≡ take n bytes ∷ begun (length (drop n bytes)) (drop n bytes) []) × (left_open (length bytes) bytes ≡ left_open (length (drop n bytes)) (drop n bytes))
@@ -109,48 +95,11 @@ begins_whole (b ∷ xs) n some other e =
     let fill = eq_no b 255 other in
     let three = whole_some bytes told.0 in
     let less : length (drop n bytes) ≤ length xs = omega (arith, length-drop n bytes, size, three) in
-    let same : length (drop n bytes) ≤ length (drop n bytes) = omega arith in
-    (begun-whole (length xs) b xs [] fill told.0 ∙ ap (λ (k : ℕ). take k bytes ∷ begun (length xs) (drop k bytes) []) size
-      ∙ ap (λ (x : List (List ℕ)). take n bytes ∷ x) (begun-bound (length xs) (length (drop n bytes)) (drop n bytes) [] less same),
+    let same : length (drop n bytes) ≤ length (drop n bytes) = omega arith in (
+      begun-whole (length xs) b xs [] fill told.0 ∙ ap (λ (k : ℕ). take k bytes ∷ begun (length xs) (drop k bytes) []) size
+          ∙ ap (λ (x : List (List ℕ)). take n bytes ∷ x) (begun-bound (length xs) (length (drop n bytes)) (drop n bytes) [] less same),
       ap (λ (p : Bool). choose p (is_whole bytes) (left_open (length xs) (drop (size_in bytes) bytes)) (kept_open bytes)) fill
-      ∙ ap (λ (w : Bool). choose false w (left_open (length xs) (drop (size_in bytes) bytes)) (kept_open bytes)) told.0
-      ∙ ap (λ (k : ℕ). left_open (length xs) (drop k bytes)) size
-      ∙ left_open-bound (length xs) (length (drop n bytes)) (drop n bytes) less same)
-
--- a byte of fill
-pub begins_fill : (bytes : List ℕ) → 0 < length bytes → slice_index bytes 0 ≡ 255 → (begun (length bytes) bytes [] ≡ []) × (left_open (length bytes) bytes ≡ None)
-begins_fill [] some is = absurd (omega arith)
-begins_fill (b ∷ xs) some is =
-    let fill : (b == 255) ≡ true = grind (arith, nat_tests) in
-    (begun-fill (length xs) b xs [] fill,
-      ap (λ (p : Bool). choose p (is_whole (b ∷ xs)) (left_open (length xs) (drop (size_in (b ∷ xs)) (b ∷ xs))) (kept_open (b ∷ xs))) fill)
-
-part : (b : ℕ) (xs : List ℕ) → b ≢ 255 → is_whole (b ∷ xs) ≡ false → (begun (length (b ∷ xs)) (b ∷ xs) [] ≡ []) × (left_open (length (b ∷ xs)) (b ∷ xs) ≡ kept_open (b ∷ xs))
-part b xs other e =
-    let bytes = b ∷ xs in
-    let fill = eq_no b 255 other in
-    let last : is_whole (bytes ++ []) ≡ false = ap is_whole (append-nil bytes) ∙ e in
-    (begun-part (length xs) b xs [] fill e ∙ not_whole-finished (bytes ++ []) last,
-      ap (λ (p : Bool). choose p (is_whole bytes) (left_open (length xs) (drop (size_in bytes) bytes)) (kept_open bytes)) fill
-      ∙ ap (λ (w : Bool). choose false w (left_open (length xs) (drop (size_in bytes) bytes)) (kept_open bytes)) e)
-
--- a section that is too long
-pub begins_long : (bytes : List ℕ) → 0 < length bytes → slice_index bytes 0 ≢ 255 → reach_of (bytes ++ []) ≡ TooLong → (begun (length bytes) bytes [] ≡ []) × (left_open (length bytes) bytes ≡ None)
-begins_long [] some other e = absurd (omega arith)
-begins_long (b ∷ xs) some other e =
-    let told = long_told (b ∷ xs) (ap reach_of (sym (append-nil (b ∷ xs))) ∙ e) in
-    let p = part b xs other told.0 in
-    (p.0, p.1 ∙ ap (λ (l : Bool). if l then None else Some (b ∷ xs)) told.1)
-
--- a section that is open behind the packet
-pub begins_open : (bytes : List ℕ) (n : ℕ) → 0 < length bytes → slice_index bytes 0 ≢ 255 → reach_of (bytes ++ []) ≡ Open n → (begun (length bytes) bytes [] ≡ []) × (left_open (length bytes) bytes ≡ Some bytes)
-begins_open [] n some other e = absurd (omega arith)
-begins_open (b ∷ xs) n some other e =
-    let told = open_told (b ∷ xs) n (ap reach_of (sym (append-nil (b ∷ xs))) ∙ e) in
-    let p = part b xs other told.0 in
-    (p.0, p.1 ∙ ap (λ (l : Bool). if l then None else Some (b ∷ xs)) told.1)
-
--- no byte is left
-pub begins_none : (bytes : List ℕ) → length bytes ≡ 0 → (begun (length bytes) bytes [] ≡ []) × (left_open (length bytes) bytes ≡ None)
-begins_none [] e = (refl, refl)
-begins_none (b ∷ xs) e = absurd (omega arith)
+          ∙ ap (λ (w : Bool). choose false w (left_open (length xs) (drop (size_in bytes) bytes)) (kept_open bytes)) told.0
+          ∙ ap (λ (k : ℕ). left_open (length xs) (drop k bytes)) size
+          ∙ left_open-bound (length xs) (length (drop n bytes)) (drop n bytes) less same,
+    )

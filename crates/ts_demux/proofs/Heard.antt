@@ -1,12 +1,11 @@
 -- What is heard of packets that carry sections.
 use Rattle.std.proofs.Common.{◌≡◌, ℕ, zero, suc, ◌+◌, ◌-◌, ◌<◌, ◌≤◌, ◌≢◌, ◌⊎◌, inl, inr, List, [], ◌∷◌, ◌++◌, Bool, true, false, ◌&&◌, ◌==◌, length, refl, sym, ap, ◌∙◌, subst, subst₂, arith, take, drop, append_assoc, append-nil, length-append, length-drop}
-use Rattle.std.specs.Prelude.{if◌then◌else◌, nat_le, nat_eq}
+use Rattle.std.specs.Prelude.{if◌then◌else◌, nat_le}
 use Rattle.std.specs.List.{AllByRecursion}
-use Rattle.std.proofs.lemmas.Bool.Decides.{nat_tests}
 use Rattle.std.proofs.lemmas.List.{take_at, drop_at}
-use Rattle.ts_packets.specs.Packets.{Piece, joined, filled, piece_of, left_by, Begin, HasRoom, pieces, left, HaveRoom, all_of}
-use Rattle.ts_demux.specs.Hearing.{size_in, is_whole, begun, passed_over, goes_on, behind_pointer, begun_in, heard, IsSection}
-use Rattle.ts_demux.proofs.Tests.{and_true, and_both, and_no, le_told, le_false, le_yes, le_no, eq_no}
+use Rattle.ts_packets.specs.Packets.{joined, filled, piece_of, left_by, Begin, pieces, left, HaveRoom, all_of}
+use Rattle.ts_demux.specs.Hearing.{size_in, is_whole, begun, passed_over, goes_on, begun_in, heard, IsSection}
+use Rattle.ts_demux.proofs.Deciding.{and_both, le_yes, le_no, eq_no}
 use Rattle.ts_demux.specs.Laws.{but_last, ended}
 use Rattle.ts_demux.proofs.Lists.{length-filled, drop-filled, filled-append, drop-append_past, take-filled_front, filled-rest, filled-cut, drop-past}
 
@@ -23,8 +22,8 @@ whole s w is =
     and_both (nat_le 3 (length (s ++ w))) (nat_le (size_in (s ++ w)) 4096 && nat_le (size_in (s ++ w)) (length (s ++ w)))
     (le_yes 3 (length (s ++ w)) (omega (arith, is.header)))
     (and_both (nat_le (size_in (s ++ w)) 4096) (nat_le (size_in (s ++ w)) (length (s ++ w)))
-      (le_yes (size_in (s ++ w)) 4096 (omega (arith, is.most)))
-      (le_yes (size_in (s ++ w)) (length (s ++ w)) (omega arith)))
+    (le_yes (size_in (s ++ w)) 4096 (omega (arith, is.most)))
+    (le_yes (size_in (s ++ w)) (length (s ++ w)) (omega arith)))
 
 choose_then : (p q : Bool) (x y z : List (List ℕ)) → p ≡ false → q ≡ true → (if p then x else if q then y else z) ≡ y
 choose_then p q x y z e f = ap (λ (b : Bool). if b then x else if q then y else z) e ∙ ap (λ (b : Bool). if b then y else z) f
@@ -67,9 +66,10 @@ Within m (s ∷ ss) = (0 < m) × Within (m - length s) ss
 
 Within-from_begin : (n : ℕ) (ss : List (List ℕ)) → Begin n ss → Within (183 - n) ss
 Within-from_begin n [] h = tt
-Within-from_begin n (s ∷ ss) h =
-    (let l : n < 183 = h.0 in let g : 0 < 183 - n = omega arith in g,
-      subst (λ (k : ℕ). Within k ss) (let e : 183 - (n + length s) ≡ (183 - n) - length s = omega arith in e) (Within-from_begin (n + length s) ss h.1))
+Within-from_begin n (s ∷ ss) h = (
+  let l : n < 183 = h.0 in let g : 0 < 183 - n = omega arith in g,
+  subst (λ (k : ℕ). Within k ss) (let e : 183 - (n + length s) ≡ (183 - n) - length s = omega arith in e) (Within-from_begin (n + length s) ss h.1),
+)
 
 begun-none : (f m : ℕ) (later : List ℕ) → m ≤ f → begun f (filled m []) later ≡ []
 begun-none zero zero later h = refl
@@ -88,11 +88,13 @@ begun-step [] J later f m is h k = absurd (omega (arith, is.header))
 begun-step (b ∷ s) J later zero m is h k = absurd (omega arith)
 begun-step (b ∷ s) J later (suc f) m is h k =
     let F = filled (m - length (b ∷ s)) J in
-    let fits : m - length (b ∷ s) ≤ f = omega arith in
-    (f, fits,
+    let fits : m - length (b ∷ s) ≤ f = omega arith in (
+      f,
+      fits,
       ap (λ (x : List ℕ). begun (suc f) x later) (filled-append (b ∷ s) J m h)
-      ∙ begun-section f b (s ++ F) later (b ∷ s) (F ++ later) is (is.no_fill b s refl) (append_assoc (b ∷ s) F later)
-      ∙ ap (λ (x : List ℕ). (b ∷ s) ∷ begun f x later) (drop_at (b ∷ s) F (length (b ∷ s)) refl))
+          ∙ begun-section f b (s ++ F) later (b ∷ s) (F ++ later) is (is.no_fill b s refl) (append_assoc (b ∷ s) F later)
+          ∙ ap (λ (x : List ℕ). (b ∷ s) ∷ begun f x later) (drop_at (b ∷ s) F (length (b ∷ s)) refl),
+    )
 
 -- a section that goes on behind the packet, and ends there
 begun-over : (s later more : List ℕ) (f m : ℕ) → IsSection s → 0 < m → m < length s → m ≤ f → later ≡ drop m s ++ more → begun f (filled m s) later ≡ s ∷ []
@@ -102,7 +104,7 @@ begun-over (b ∷ s) later more (suc f) zero is p h k e = absurd (omega arith)
 begun-over (b ∷ s) later more (suc f) (suc m) is p h k e =
     let H = filled (suc m) (b ∷ s) in
     let all : H ++ later ≡ (b ∷ s) ++ more =
-      ap (λ (x : List ℕ). H ++ x) e ∙ sym (append_assoc H (drop (suc m) (b ∷ s)) more) ∙ ap (λ (x : List ℕ). x ++ more) (filled-cut (suc m) (b ∷ s) (omega arith)) in
+    ap (λ (x : List ℕ). H ++ x) e ∙ sym (append_assoc H (drop (suc m) (b ∷ s)) more) ∙ ap (λ (x : List ℕ). x ++ more) (filled-cut (suc m) (b ∷ s) (omega arith)) in
     begun-section f b (filled m s) later (b ∷ s) more is (is.no_fill b s refl) all
     ∙ ap (λ (x : List ℕ). (b ∷ s) ∷ begun f x later) (drop-past (length (b ∷ s)) H (omega (arith, length-filled (suc m) (b ∷ s))))
     ∙ ap (λ (x : List (List ℕ)). (b ∷ s) ∷ x) (begun-nothing f later)
@@ -115,7 +117,7 @@ begun-short (b ∷ s) later missing c (suc f) zero is h e = refl
 begun-short (b ∷ s) later missing c (suc f) (suc m) is h e =
     let H = filled (suc m) (b ∷ s) in
     let all : b ∷ s ≡ (H ++ later) ++ c ∷ missing =
-      sym (filled-cut (suc m) (b ∷ s) (omega arith)) ∙ ap (λ (x : List ℕ). H ++ x) e ∙ sym (append_assoc H later (c ∷ missing)) in
+    sym (filled-cut (suc m) (b ∷ s) (omega arith)) ∙ ap (λ (x : List ℕ). H ++ x) e ∙ sym (append_assoc H later (c ∷ missing)) in
     choose_else (b == 255) (is_whole (H ++ later)) [] _ [] (eq_no b 255 (is.no_fill b s refl)) (not_whole (H ++ later) c missing (subst IsSection all is))
 
 -- the sections that begin in a packet are heard where the bytes left of the last follow
@@ -125,6 +127,7 @@ begun-group (s ∷ ss) later more f m all w k e = go (cut (length s) m) ss all w
   where
     cut : (a b : ℕ) → (a ≤ b) ⊎ (b < a)
     cut a b = grind arith
+
     go : (length s ≤ m) ⊎ (m < length s) → (ss : List (List ℕ)) → AllByRecursion IsSection (s ∷ ss) → Within m (s ∷ ss) → later ≡ drop m (s ++ joined ss) ++ more →
         ((f' : ℕ) → m - length s ≤ f' → later ≡ drop (m - length s) (joined ss) ++ more → begun f' (filled (m - length s) (joined ss)) later ≡ ss) →
         begun f (filled m (s ++ joined ss)) later ≡ s ∷ ss
@@ -142,9 +145,11 @@ begun-but_last (s ∷ []) later missing c f m all w k e = go (cut (length s) m)
   where
     cut : (a b : ℕ) → (a ≤ b) ⊎ (b < a)
     cut a b = grind arith
+
     nothing : (x : List ℕ) → [] ≡ x ++ c ∷ missing → Prim.⊥
     nothing [] q = cc
     nothing (y ∷ x) q = cc
+
     go : (length s ≤ m) ⊎ (m < length s) → begun f (filled m (s ++ [])) later ≡ []
     go (inl h) = absurd (nothing later (sym (drop-past m (s ++ []) (subst (λ (x : List ℕ). length x ≤ m) (sym (append-nil s)) h)) ∙ e))
     go (inr h) = ap (λ (x : List ℕ). begun f (filled m x) later) (append-nil s)
@@ -188,10 +193,14 @@ goes rest ([] ∷ groups) h = go (goes (drop 184 rest) groups h.1)
         let f = filled-rest 184 rest a.more in
         inl (record { more = f.0; is = ap (λ (x : List ℕ). filled 184 rest ++ x) a.is ∙ f.1; ended = a.ended })
     go (inr a) = inr (record {
-      next = a.next; missing = a.missing;
+      next = a.next;
+      missing = a.missing;
       is = sym (filled-cut 184 rest (reaches 184 rest (goes_on (pieces (drop 184 rest) groups)) a.next a.missing a.is))
           ∙ ap (λ (x : List ℕ). filled 184 rest ++ x) a.is ∙ sym (append_assoc (filled 184 rest) (goes_on (pieces (drop 184 rest) groups)) (a.next ∷ a.missing));
-      none = a.none; byte = a.byte; bytes = a.bytes; open_left = a.open_left;
+      none = a.none;
+      byte = a.byte;
+      bytes = a.bytes;
+      open_left = a.open_left;
     })
 goes rest ((s ∷ ss) ∷ groups) h =
     inl (record { more = []; is = passed-rest rest (joined (s ∷ ss)) h.0.0 ∙ sym (append-nil rest); ended = λ e. cc })
@@ -226,8 +235,8 @@ start rest s ss groups small all w fits (inl a) behind b ih =
     let m = 183 - length rest in
     let later = goes_on (pieces (left_by rest (s ∷ ss)) groups) in
     let first : begun_in (piece_of rest (s ∷ ss)) later ≡ s ∷ ss =
-      heard-start rest s ss later small
-      ∙ begun-group (s ∷ ss) later a.more 183 m all w fits (a.is ∙ ap (λ (x : List ℕ). x ++ a.more) (drop-append_past rest (joined (s ∷ ss)) 183 (omega arith))) in
+    heard-start rest s ss later small
+    ∙ begun-group (s ∷ ss) later a.more 183 m all w fits (a.is ∙ ap (λ (x : List ℕ). x ++ a.more) (drop-append_past rest (joined (s ∷ ss)) 183 (omega arith))) in
     ap (λ (x : List (List ℕ)). x ++ heard (pieces (left_by rest (s ∷ ss)) groups)) first
     ∙ ap (λ (x : List (List ℕ)). (s ∷ ss) ++ x) ih ∙ join behind b
   where
@@ -242,8 +251,8 @@ start rest s ss groups small all w fits (inr a) behind b ih =
     let m = 183 - length rest in
     let later = goes_on (pieces (left_by rest (s ∷ ss)) groups) in
     let first : begun_in (piece_of rest (s ∷ ss)) later ≡ but_last (s ∷ ss) =
-      heard-start rest s ss later small
-      ∙ begun-but_last (s ∷ ss) later a.missing a.next 183 m all w fits (sym (drop-append_past rest (joined (s ∷ ss)) 183 (omega arith)) ∙ a.is) in
+    heard-start rest s ss later small
+    ∙ begun-but_last (s ∷ ss) later a.missing a.next 183 m all w fits (sym (drop-append_past rest (joined (s ∷ ss)) 183 (omega arith)) ∙ a.is) in
     let none : heard (pieces (left_by rest (s ∷ ss)) groups) ≡ [] = ih ∙ subst₂ (λ (x : List ℕ) (y : List (List ℕ)). ended x y ≡ []) (sym a.open_left) (sym a.none) refl in
     ap (λ (x : List (List ℕ)). x ++ heard (pieces (left_by rest (s ∷ ss)) groups)) first
     ∙ ap (λ (x : List (List ℕ)). but_last (s ∷ ss) ++ x) none

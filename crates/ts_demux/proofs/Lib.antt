@@ -1,4 +1,4 @@
-pub mod Tests
+pub mod Deciding
 pub mod Lists
 pub mod Heard
 pub mod Hear
@@ -11,3 +11,5 @@ pub mod Beginning
 pub mod Placing
 pub mod Starting
 pub mod Standing
+pub mod Open
+pub mod Keeping

@@ -1,6 +1,6 @@
 -- Lists of bytes that a packet cuts.
-use Rattle.std.proofs.Common.{◌≡◌, ℕ, zero, suc, ◌+◌, ◌-◌, ◌<◌, ◌≤◌, List, [], ◌∷◌, ◌++◌, length, refl, sym, ap, ◌∙◌, subst, arith, take, drop, append_assoc, append-nil, length-append}
-use Rattle.ts_packets.specs.Packets.{filled, joined}
+use Rattle.std.proofs.Common.{◌≡◌, ℕ, zero, suc, ◌-◌, ◌≤◌, List, [], ◌∷◌, ◌++◌, length, refl, ap, ◌∙◌, arith, take, drop}
+use Rattle.ts_packets.specs.Packets.{filled}
 
 pub length-filled : (n : ℕ) (xs : List ℕ) → length (filled n xs) ≡ n
 length-filled zero xs = refl

@@ -1,14 +1,14 @@
 -- A demultiplexer that open_behind one open buffer hears what the definition says.
-use Rattle.std.proofs.Common.{◌≡◌, ℕ, zero, suc, ◌+◌, ◌-◌, ◌*◌, ◌%◌, ◌<◌, ◌≤◌, ◌⊎◌, inl, inr, List, [], ◌∷◌, ◌++◌, Bool, true, false, not, ◌&&◌, ◌==◌, Option, Some, None, length, refl, sym, ap, ◌∙◌, subst, arith, take, drop, append_assoc, append-nil, length-append}
+use Rattle.std.proofs.Common.{◌≡◌, ℕ, zero, suc, ◌<◌, ◌≤◌, List, [], ◌∷◌, ◌++◌, Bool, true, false, not, ◌&&◌, ◌==◌, Option, Some, None, length, refl, sym, ap, ◌∙◌, arith, take, drop, append_assoc, append-nil}
 use Rattle.std.specs.Prelude.{if◌then◌else◌, nat_le}
-use Rattle.std.proofs.lemmas.Bool.Decides.{nat_tests}
 use Rattle.ts_packets.specs.Packets.{Piece}
-use Rattle.ts_demux.specs.Hearing.{size_in, is_whole, begun, passed_over, goes_on, behind_pointer, begun_in, heard}
-use Rattle.ts_demux.proofs.Tests.{and_true, and_both, and_no, le_told, le_false, le_yes, le_no, eq_no}
+use Rattle.ts_demux.specs.Hearing.{size_in, is_whole, begun, passed_over, goes_on, behind_pointer, heard}
+use Rattle.ts_demux.proofs.Deciding.{and_true, and_both, le_told, le_false, le_yes}
 use Rattle.ts_demux.proofs.Heard.{size_in-append}
-use Rattle.ts_demux.specs.Keeping.{is_long, kept_open, left_open, open_from_start, open_further, open_behind, finished, finished_with, given_from_start, given_by, IsOpen}
+use Rattle.ts_demux.specs.Keeping.{is_long}
+use Rattle.ts_demux.specs.Steps.{kept_open, left_open, open_from_start, open_further, open_behind, finished, finished_with, given_from_start, given_by, IsOpen}
 use Rattle.ts_demux.proofs.Lists.{drop-past}
-use Rattle.ts_demux.proofs.Hear.{whole_more, pick, pick_no, pick_none, pick_yes, found}
+use Rattle.ts_demux.proofs.Hear.{whole_more, pick_no, pick_none, pick_yes, found}
 
 abbrev pub machine : Option (List ℕ) → List Piece → List (List ℕ)
 machine o [] = []
@@ -18,12 +18,13 @@ no_from : (a : Bool) → a ≡ true → a ≡ false → Prim.⊥
 no_from a e f = cc
 
 -- its header stays too long where more follows
-long_more : (x y : List ℕ) → is_long x ≡ true → is_whole (x ++ y) ≡ false
+pub long_more : (x y : List ℕ) → is_long x ≡ true → is_whole (x ++ y) ≡ false
 long_more x y h = go (is_whole (x ++ y)) refl
   where
     no : (b : Bool) → not b ≡ true → b ≡ true → Prim.⊥
     no true e f = cc
     no false e f = cc
+
     go : (w : Bool) → is_whole (x ++ y) ≡ w → is_whole (x ++ y) ≡ false
     go false e = e
     go true e =
@@ -39,7 +40,7 @@ size_in-three (a ∷ b ∷ []) h = absurd (omega arith)
 size_in-three (a ∷ b ∷ c ∷ x) h = omega arith
 
 -- where a section is whole only with what follows, it ends there
-ends_later : (x y : List ℕ) → is_whole x ≡ false → is_whole (x ++ y) ≡ true → length x ≤ size_in (x ++ y)
+pub ends_later : (x y : List ℕ) → is_whole x ≡ false → is_whole (x ++ y) ≡ true → length x ≤ size_in (x ++ y)
 ends_later x y part all =
     let q = and_true (nat_le 3 (length (x ++ y))) (nat_le (size_in (x ++ y)) 4096 && nat_le (size_in (x ++ y)) (length (x ++ y))) all in
     let r = and_true (nat_le (size_in (x ++ y)) 4096) (nat_le (size_in (x ++ y)) (length (x ++ y))) q.1 in
@@ -109,24 +110,25 @@ begun-open (suc n) (b ∷ here) later = go (b == 255) refl (is_whole (b ∷ here
   where
     opened : Bool → Bool → Option (List ℕ)
     opened x y = if x then None else if y then left_open n (drop (size_in (b ∷ here)) (b ∷ here)) else kept_open (b ∷ here)
+
     go : (fill : Bool) → (b == 255) ≡ fill → (w : Bool) → is_whole (b ∷ here) ≡ w → ((k : ℕ) → begun n (drop k (b ∷ here)) later ≡ begun n (drop k (b ∷ here)) [] ++ finished_with (left_open n (drop k (b ∷ here))) later)
         → begun (suc n) (b ∷ here) later ≡ begun (suc n) (b ∷ here) [] ++ finished_with (left_open (suc n) (b ∷ here)) later
     go true f w e rec =
         begun-fill n b here later f ∙ sym (ap (λ (x : List (List ℕ)). x ++ finished_with (left_open (suc n) (b ∷ here)) later) (begun-fill n b here [] f)
-          ∙ ap (λ (x : Bool). finished_with (if x then None else if is_whole (b ∷ here) then left_open n (drop (size_in (b ∷ here)) (b ∷ here)) else kept_open (b ∷ here)) later) f)
+        ∙ ap (λ (x : Bool). finished_with (if x then None else if is_whole (b ∷ here) then left_open n (drop (size_in (b ∷ here)) (b ∷ here)) else kept_open (b ∷ here)) later) f)
     go false f true e rec =
         let s = size_in (b ∷ here) in
         begun-whole n b here later f e ∙ ap (λ (x : List (List ℕ)). take s (b ∷ here) ∷ x) (rec s)
         ∙ sym (ap (λ (x : List (List ℕ)). x ++ finished_with (left_open (suc n) (b ∷ here)) later) (begun-whole n b here [] f e)
-          ∙ ap (λ (x : Bool). (take s (b ∷ here) ∷ begun n (drop s (b ∷ here)) []) ++ finished_with (if x then None else if is_whole (b ∷ here) then left_open n (drop s (b ∷ here)) else kept_open (b ∷ here)) later) f
-          ∙ ap (λ (x : Bool). (take s (b ∷ here) ∷ begun n (drop s (b ∷ here)) []) ++ finished_with (if x then left_open n (drop s (b ∷ here)) else kept_open (b ∷ here)) later) e)
+        ∙ ap (λ (x : Bool). (take s (b ∷ here) ∷ begun n (drop s (b ∷ here)) []) ++ finished_with (if x then None else if is_whole (b ∷ here) then left_open n (drop s (b ∷ here)) else kept_open (b ∷ here)) later) f
+        ∙ ap (λ (x : Bool). (take s (b ∷ here) ∷ begun n (drop s (b ∷ here)) []) ++ finished_with (if x then left_open n (drop s (b ∷ here)) else kept_open (b ∷ here)) later) e)
     go false f false e rec =
         let s = size_in (b ∷ here) in
         begun-part n b here later f e
         ∙ sym (ap (λ (x : List (List ℕ)). x ++ finished_with (left_open (suc n) (b ∷ here)) later) (begun-part n b here [] f e ∙ ap finished (append-nil (b ∷ here)) ∙ not_whole-finished (b ∷ here) e)
-          ∙ ap (λ (x : Bool). finished_with (if x then None else if is_whole (b ∷ here) then left_open n (drop s (b ∷ here)) else kept_open (b ∷ here)) later) f
-          ∙ ap (λ (x : Bool). finished_with (if x then left_open n (drop s (b ∷ here)) else kept_open (b ∷ here)) later) e
-          ∙ kept_open-later (b ∷ here) later)
+        ∙ ap (λ (x : Bool). finished_with (if x then None else if is_whole (b ∷ here) then left_open n (drop s (b ∷ here)) else kept_open (b ∷ here)) later) f
+        ∙ ap (λ (x : Bool). finished_with (if x then left_open n (drop s (b ∷ here)) else kept_open (b ∷ here)) later) e
+        ∙ kept_open-later (b ∷ here) later)
 
 kept_open-open : (x : List ℕ) → is_whole x ≡ false → IsOpen (kept_open x)
 kept_open-open x e = go (is_long x) refl
@@ -135,7 +137,7 @@ kept_open-open x e = go (is_long x) refl
     go true f = tt
     go false f = (e, f)
 
-left_open-open : (n : ℕ) (here : List ℕ) → IsOpen (left_open n here)
+pub left_open-open : (n : ℕ) (here : List ℕ) → IsOpen (left_open n here)
 left_open-open zero here = tt
 left_open-open (suc n) [] = tt
 left_open-open (suc n) (b ∷ here) = go (b == 255) (is_whole (b ∷ here)) refl (left_open-open n (drop (size_in (b ∷ here)) (b ∷ here)))
@@ -151,9 +153,11 @@ open_behind-open o p = go o p.start p.payload
     more : (bytes payload : List ℕ) (w : Bool) → is_whole (bytes ++ payload) ≡ w → IsOpen (if w then None else kept_open (bytes ++ payload))
     more bytes payload true e = tt
     more bytes payload false e = kept_open-open (bytes ++ payload) e
+
     first : (n : ℕ) (bytes : List ℕ) (b : Bool) → IsOpen (if b then left_open (length bytes) (drop n bytes) else None)
     first n bytes true = left_open-open (length bytes) (drop n bytes)
     first n bytes false = tt
+
     go : (o : Option (List ℕ)) (s : Bool) (payload : List ℕ) → IsOpen (if s then open_from_start payload else open_further o payload)
     go o true [] = tt
     go o true (n ∷ bytes) = first n bytes (nat_le n (length bytes))
@@ -187,6 +191,7 @@ machine-hears o (p ∷ ps) h =
         let L = finished_with (left_open (length bytes) (drop n bytes)) (goes_on ps) in
         append_assoc (finished_with o (take n bytes)) B (L ++ heard ps)
         ∙ ap (λ (x : List (List ℕ)). finished_with o (take n bytes) ++ x) (sym (append_assoc B L (heard ps)) ∙ ap (λ (x : List (List ℕ)). x ++ heard ps) (sym (begun-open (length bytes) (drop n bytes) (goes_on ps))))
+
     go : (s : Bool) (payload : List ℕ) (o : Option (List ℕ)) → IsOpen o →
         (if s then given_from_start o payload else finished_with o payload) ++ (finished_with (if s then open_from_start payload else open_further o payload) (goes_on ps) ++ heard ps)
         ≡ finished_with o (if s then passed_over payload else payload ++ goes_on ps) ++ ((if s then behind_pointer payload (goes_on ps) else []) ++ heard ps)

@@ -1,10 +1,10 @@
 -- What is kept at the places of a demux.
-use Rattle.std.proofs.Common.{◌≡◌, ℕ, zero, suc, ◌+◌, ◌<◌, ◌≤◌, List, [], ◌∷◌, ◌++◌, Bool, true, false, ◌==◌, Option, Some, None, length, refl, sym, ap, ◌∙◌, subst, arith, map}
-use Rattle.std.specs.Prelude.{if◌then◌else◌, slice_get, slice_set, option_map, Result, Ok, Err, OnOk}
+use Rattle.std.proofs.Common.{◌≡◌, ℕ, zero, suc, ◌<◌, ◌≤◌, List, [], ◌∷◌, ◌++◌, Bool, true, false, ◌==◌, Option, Some, None, length, refl, sym, ap, ◌∙◌, subst, arith, map}
+use Rattle.std.specs.Prelude.{if◌then◌else◌, slice_set, option_map, Result, Ok, Err, OnOk}
 use Rattle.std.proofs.lemmas.Bool.Decides.{nat_tests}
 use Rattle.std.proofs.lemmas.List.{map-set, map-append}
 use Rattle.ts_demux.specs.Keeping.{Kept, nothing, kept_in, kept_on}
-use Rattle.ts_demux.proofs.Tests.{same_number}
+use Rattle.ts_demux.proofs.Deciding.{same_number}
 
 kept_on-none : (q : ℕ) (slots : List (Option Kept)) → kept_on q (slots ++ None ∷ []) ≡ kept_on q slots
 kept_on-none zero [] = refl

@@ -1,9 +1,9 @@
 -- A packet in which a section begins.
-use Rattle.std.proofs.Common.{◌≡◌, ℕ, ◌+◌, ◌-◌, ◌≤◌, List, [], ◌∷◌, ◌++◌, Bool, true, false, Option, Some, None, length, refl, sym, ap, ap₂, ◌∙◌, subst, arith, take, drop, length-drop}
-use Rattle.std.specs.Prelude.{if◌then◌else◌, nat_le}
+use Rattle.std.proofs.Common.{◌≡◌, ℕ, ◌≤◌, List, [], ◌∷◌, ◌++◌, Bool, Option, None, length, sym, ap, ap₂, ◌∙◌, arith, take, drop, length-drop}
+use Rattle.std.specs.Prelude.{if◌then◌else◌}
 use Rattle.ts_demux.specs.Hearing.{begun}
-use Rattle.ts_demux.specs.Keeping.{left_open, finished_with, given_from_start, open_from_start}
-use Rattle.ts_demux.proofs.Tests.{le_yes}
+use Rattle.ts_demux.specs.Steps.{left_open, finished_with, given_from_start, open_from_start}
+use Rattle.ts_demux.proofs.Deciding.{le_yes}
 use Rattle.ts_demux.proofs.Beginning.{begun-bound, left_open-bound}
 
 pub start_given : (o : Option (List ℕ)) (payload bytes passed here : List ℕ) (p : ℕ) → payload ≡ p ∷ bytes → p ≤ length bytes → passed ≡ take p bytes → here ≡ drop p bytes →

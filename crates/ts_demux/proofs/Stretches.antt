@@ -1,11 +1,12 @@
 -- What a demux gives packet by packet is what is heard of the stretches.
-use Rattle.std.proofs.Common.{◌≡◌, ℕ, ◌+◌, ◌%◌, List, [], ◌∷◌, ◌++◌, Bool, true, false, ◌==◌, Option, Some, None, refl, sym, ap, ◌∙◌, subst, flat_map, append_assoc, append-nil}
+use Rattle.std.proofs.Common.{◌≡◌, ℕ, ◌+◌, ◌%◌, List, [], ◌∷◌, ◌++◌, Bool, true, false, ◌==◌, Option, Some, None, refl, sym, ap, ◌∙◌, flat_map, append_assoc, append-nil}
 use Rattle.std.specs.Prelude.{if◌then◌else◌, option_map}
 use Rattle.ts_packets.specs.Packets.{Piece}
 use Rattle.ts_packets.specs.Counting.{Load}
-use Rattle.ts_demux.specs.Hearing.{heard, goes_on}
+use Rattle.ts_demux.specs.Hearing.{heard}
 use Rattle.ts_demux.specs.Arrivals.{Arrival, Arrival.Gap, Arrival.Came, is_repeat, without_repeats, before_stretches, stretches, heard_of}
-use Rattle.ts_demux.specs.Keeping.{Kept, nothing, seen, is_again, is_next, still_open, given_by, open_behind, given_after, kept_after, kept_behind}
+use Rattle.ts_demux.specs.Keeping.{Kept, nothing, seen}
+use Rattle.ts_demux.specs.Steps.{is_next, still_open, given_by, open_behind, given_after, kept_after, kept_behind}
 use Rattle.ts_demux.proofs.Machine.{machine, machine-is}
 
 -- the sections that these arrivals end, one after the other
@@ -33,8 +34,10 @@ repeats_out (Some last) o (Came l ∷ xs) = go (is_repeat last l) (repeats_out (
   where
     given : List (List ℕ)
     given = given_by (still_open (follows (Some last) l) o) l.piece
+
     behind : Kept
     behind = kept_from (Some l) (open_behind (still_open (follows (Some last) l) o) l.piece)
+
     go : (b : Bool) → given_all (kept_from (Some last) o) xs ≡ no_repeats (Some last) o (without_repeats (Some last) xs)
         → given_all behind xs ≡ no_repeats (Some l) (open_behind (still_open (follows (Some last) l) o) l.piece) (without_repeats (Some l) xs)
         → (if b then [] else given) ++ given_all (if b then kept_from (Some last) o else behind) xs
@@ -78,13 +81,16 @@ stretches-load l (Came m ∷ xs) = go (some_stretch m xs (stretches xs))
   where
     S : List (List Piece)
     S = stretches (Came m ∷ xs)
+
     at : (b : Bool) (ss : List (List Piece)) (s : List Piece) (more : List (List Piece)) → ss ≡ s ∷ more →
         before_stretches l (Came m ∷ xs) ss ≡ before_stretches l (Came m ∷ xs) (s ∷ more)
     at b ss s more e = ap (before_stretches l (Came m ∷ xs)) e
+
     by : (b : Bool) (s : List Piece) (more : List (List Piece)) →
         (if b then (l.piece ∷ s) ∷ more else (l.piece ∷ []) ∷ s ∷ more) ≡ (l.piece ∷ (if b then s else [])) ∷ (if b then more else s ∷ more)
     by true s more = refl
     by false s more = refl
+
     go : (s : List Piece) × (more : List (List Piece)) × (stretches (Came m ∷ xs) ≡ s ∷ more) → before_stretches l (Came m ∷ xs) (stretches (Came m ∷ xs)) ≡ (l.piece ∷ front (Some l) (Came m ∷ xs)) ∷ others (Some l) (Came m ∷ xs)
     go (s, more, e) =
         let b = follows (Some l) m in

@@ -1,8 +1,8 @@
 -- Packets and sections, cut into parts.
-use Rattle.std.proofs.Common.{◌≡◌, ℕ, zero, suc, ◌+◌, ◌-◌, ◌<◌, ◌≤◌, List, [], ◌∷◌, ◌++◌, length, refl, sym, ap, ◌∙◌, subst, subst₂, arith, take, drop, map, flat_map, append_assoc, append-nil, length-append}
+use Rattle.std.proofs.Common.{◌≡◌, ℕ, suc, List, [], ◌∷◌, ◌++◌, length, refl, sym, ap, ◌∙◌, arith}
 use Rattle.std.specs.List.{AllByRecursion}
-use Rattle.ts_demux.specs.Laws.{ended, but_last}
-use Rattle.ts_packets.specs.Packets.{Piece, piece_of, left_by, HasRoom, pieces, left, HaveRoom, all_of}
+use Rattle.ts_demux.specs.Laws.{ended}
+use Rattle.ts_packets.specs.Packets.{Piece, piece_of, left_by, pieces, left, HaveRoom, all_of}
 use Rattle.ts_demux.specs.Hearing.{IsSection, heard}
 use Rattle.ts_demux.proofs.Heard.{AllSections, heard-pieces}
 
@@ -16,16 +16,6 @@ same_parts (x ∷ xs) (u ∷ us) ys vs l e =
     let r = same_parts xs us ys vs (omega arith) t in
     (let f : x ∷ xs ≡ u ∷ us = cc (h, r.0) in f, r.1)
 
--- a list that is mapped to two parts has two parts
-pub map_parts : {X Y : Type 0} (f : X → Y) (xs : List X) (ys zs : List Y) → map f xs ≡ ys ++ zs → (us vs : List X) × (xs ≡ us ++ vs) × (map f us ≡ ys) × (map f vs ≡ zs)
-map_parts f xs [] zs e = ([], xs, refl, refl, e)
-map_parts f [] (y ∷ ys) zs e = cc
-map_parts f (x ∷ xs) (y ∷ ys) zs e =
-    let h : f x ≡ y = cc in
-    let t : map f xs ≡ ys ++ zs = cc in
-    let r = map_parts f xs ys zs t in
-    (x ∷ r.0, r.1, ap (λ (l : List _). x ∷ l) r.2, (let g : f x ∷ map f r.0 ≡ y ∷ ys = cc (h, r.3) in g), r.4)
-
 pub pieces-append : (rest : List ℕ) (gs hs : List (List (List ℕ))) → pieces rest (gs ++ hs) ≡ pieces rest gs ++ pieces (left rest gs) hs
 pieces-append rest [] hs = refl
 pieces-append rest (g ∷ gs) hs = ap (λ (x : List Piece). piece_of rest g ∷ x) (pieces-append (left_by rest g) gs hs)
@@ -33,10 +23,6 @@ pieces-append rest (g ∷ gs) hs = ap (λ (x : List Piece). piece_of rest g ∷ 
 pub left-append : (rest : List ℕ) (gs hs : List (List (List ℕ))) → left rest (gs ++ hs) ≡ left (left rest gs) hs
 left-append rest [] hs = refl
 left-append rest (g ∷ gs) hs = left-append (left_by rest g) gs hs
-
-pub HaveRoom-append : (rest : List ℕ) (gs hs : List (List (List ℕ))) → HaveRoom rest gs → HaveRoom (left rest gs) hs → HaveRoom rest (gs ++ hs)
-HaveRoom-append rest [] hs p q = q
-HaveRoom-append rest (g ∷ gs) hs p q = (p.0, HaveRoom-append (left_by rest g) gs hs p.1 q)
 
 pub HaveRoom-front : (rest : List ℕ) (gs hs : List (List (List ℕ))) → HaveRoom rest (gs ++ hs) → HaveRoom rest gs
 HaveRoom-front rest [] hs p = tt
@@ -58,17 +44,6 @@ pub all-behind : {X : Type 0} (P : X → Type 0) (xs ys : List X) → AllByRecur
 all-behind P [] ys p = p
 all-behind P (x ∷ xs) ys p = all-behind P xs ys p.1
 
-pub all-both : {X : Type 0} (P : X → Type 0) (xs ys : List X) → AllByRecursion P xs → AllByRecursion P ys → AllByRecursion P (xs ++ ys)
-all-both P [] ys p q = q
-all-both P (x ∷ xs) ys p q = (p.0, all-both P xs ys p.1 q)
-
--- `ended` is a front of what was begun
-pub ended-front : (rest : List ℕ) (ss : List (List ℕ)) → (last : List (List ℕ)) × (ss ≡ ended rest ss ++ last)
-ended-front [] ss = ([], sym (append-nil ss))
-ended-front (b ∷ rest) [] = ([], refl)
-ended-front (b ∷ rest) (s ∷ []) = (s ∷ [], refl)
-ended-front (b ∷ rest) (s ∷ t ∷ ss) = ((ended-front (b ∷ rest) (t ∷ ss)).0, ap (λ (x : List (List ℕ)). s ∷ x) (ended-front (b ∷ rest) (t ∷ ss)).1)
-
 -- What is heard of any part of the packets: the sections that begin in this part, without the last where it goes on behind it.
 pub heard_part : (before part after : List (List (List ℕ))) (ps qs rs : List Piece)
     → HaveRoom [] (before ++ (part ++ after)) → AllSections (before ++ (part ++ after))
@@ -76,7 +51,7 @@ pub heard_part : (before part after : List (List (List ℕ))) (ps qs rs : List P
     → (open_left : List ℕ) × (heard qs ≡ ended open_left (all_of part)) × (open_left ≡ left (left [] before) part)
 heard_part before part after ps qs rs room all e l m =
     let cut : ps ++ (qs ++ rs) ≡ pieces [] before ++ (pieces (left [] before) part ++ pieces (left (left [] before) part) after) =
-      e ∙ pieces-append [] before (part ++ after) ∙ ap (λ (x : List Piece). pieces [] before ++ x) (pieces-append (left [] before) part after) in
+    e ∙ pieces-append [] before (part ++ after) ∙ ap (λ (x : List Piece). pieces [] before ++ x) (pieces-append (left [] before) part after) in
     let one = same_parts ps (pieces [] before) (qs ++ rs) (pieces (left [] before) part ++ pieces (left (left [] before) part) after) (l ∙ sym (length-pieces [] before)) cut in
     let two = same_parts qs (pieces (left [] before) part) rs (pieces (left (left [] before) part) after) (m ∙ sym (length-pieces (left [] before) part)) one.1 in
     let here = HaveRoom-front (left [] before) part after (HaveRoom-behind [] before (part ++ after) room) in

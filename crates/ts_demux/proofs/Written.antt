@@ -1,20 +1,17 @@
 -- What is heard of packets that are written.
-use Rattle.std.proofs.Common.{◌≡◌, ℕ, zero, suc, ◌+◌, ◌-◌, ◌<◌, ◌≤◌, List, [], ◌∷◌, ◌++◌, Bool, true, false, ◌==◌, Option, Some, None, length, refl, sym, ap, ap₂, ◌∙◌, subst, arith, take, drop, map, flat_map, filter_map, append_assoc, append-nil, length-append, take-append-drop, length-take, length-drop}
-use Rattle.std.specs.Prelude.{if◌then◌else◌, option_map, Ok, Result}
+use Rattle.std.proofs.Common.{◌≡◌, ℕ, ◌+◌, ◌<◌, List, [], ◌∷◌, ◌++◌, Bool, true, false, ◌==◌, Option, Some, None, length, refl, sym, ap, ap₂, ◌∙◌, subst, arith, take, drop, map, append_assoc, length-append, take-append-drop, length-take, length-drop}
+use Rattle.std.specs.Prelude.{if◌then◌else◌, option_map}
 use Rattle.std.specs.List.{cons_option, AllByRecursion}
 use Rattle.std.proofs.lemmas.List.Elements.{filter_map-append}
-use Rattle.ts_packets.specs.declared.shape.Shape.{Shape}
-use Rattle.ts_packets.specs.declared.shape.Shape.TheVariants as shape
-use Rattle.ts_packets.specs.declared.shape.BadPacket.{BadPacket}
-use Rattle.ts_packets.specs.Packets.{Piece, pieces, left, HaveRoom, all_of, Carries}
-use Rattle.ts_packets.specs.Bytes.{Packet, HasFields, bytes_of_packet, pid_in, shape_in}
+use Rattle.ts_packets.specs.Packets.{Piece, pieces, left, HaveRoom, all_of}
+use Rattle.ts_packets.specs.Bytes.{Packet, HasFields, bytes_of_packet}
 use Rattle.ts_packets.specs.Counting.{Load, load_on, loads_on, piece_on, of_pid, Count}
 use Rattle.ts_packets.proofs.Headers.{reads-written, pid_in-bytes}
 use Rattle.ts_demux.specs.Hearing.{heard, IsSection}
 use Rattle.ts_demux.specs.Arrivals.{Arrival, Arrival.Came, arrival_by, arrival_on, arrivals_on, heard_of}
 use Rattle.ts_demux.specs.Sections.{sections_on}
-use Rattle.ts_demux.specs.Laws.{ended, within, GoOn, PartGoesOn, PartIsHeard, CarriedIsHeard}
-use Rattle.ts_demux.proofs.Tests.{same_number}
+use Rattle.ts_demux.specs.Laws.{ended, GoOn, PartGoesOn, PartIsHeard, CarriedIsHeard}
+use Rattle.ts_demux.proofs.Deciding.{same_number}
 use Rattle.ts_demux.proofs.Hear.{heard_of-counting}
 use Rattle.ts_demux.proofs.Heard.{AllSections, heard-pieces}
 use Rattle.ts_demux.proofs.Windows.{all-front, all-behind, length-pieces, left-append, heard_part}
@@ -26,6 +23,7 @@ arrives pid small p h = go (p.pid == pid) refl
   where
     load : Load
     load = record { counter = p.counter; piece = p.piece }
+
     go : (b : Bool) → (p.pid == pid) ≡ b → arrival_on pid (bytes_of_packet p) ≡ option_map Came (load_on pid p)
     go true e =
         let lt : p.pid < 8191 = subst (λ (n : ℕ). n < 8191) (sym (same_number p.pid pid e)) small in

@@ -1,5 +1,5 @@
 -- What a receiver counts of the packets of one PID: repeats, gaps and stretches (ISO/IEC 13818-1, 2.4.3.3).
-use Rattle.std.specs.Prelude.{◌≡◌, ℕ, ◌+◌, ◌%◌, List, [], ◌∷◌, ◌++◌, Bool, ◌&&◌, ◌==◌, if◌then◌else◌, Option, Some, None, Result, Ok, Err, bytes_eq, drop, flat_map, filter_map}
+use Rattle.std.specs.Prelude.{ℕ, ◌+◌, ◌%◌, List, [], ◌∷◌, Bool, ◌&&◌, ◌==◌, if◌then◌else◌, Option, Some, None, Result, Ok, Err, bytes_eq, drop, flat_map, filter_map}
 use Rattle.ts_packets.specs.declared.shape.Shape.{Shape}
 use Rattle.ts_packets.specs.declared.shape.Shape.TheVariants as shape
 use Rattle.ts_packets.specs.declared.shape.BadPacket.{BadPacket}

@@ -1,16 +1,21 @@
 -- What a demux keeps of each PID, and the packets that it stands for.
-use Rattle.std.specs.Prelude.{◌≡◌, ℕ, zero, suc, ◌+◌, ◌%◌, ◌<◌, List, [], ◌∷◌, ◌++◌, Bool, true, false, not, ◌&&◌, ◌==◌, if◌then◌else◌, nat_le, Option, Some, None, length, take, drop, bytes_eq, slice_get}
+use Rattle.std.specs.Prelude.{◌≡◌, ℕ, zero, suc, ◌+◌, ◌%◌, ◌<◌, List, [], ◌∷◌, ◌++◌, Bool, true, false, not, ◌&&◌, ◌||◌, ◌==◌, if◌then◌else◌, nat_le, Option, Some, None, length, drop, slice_get}
 use Rattle.ts_packets.specs.Packets.{Piece}
 use Rattle.ts_packets.specs.Counting.{Load}
-use Rattle.ts_demux.specs.Hearing.{size_in, is_whole, begun}
-use Rattle.ts_demux.specs.Arrivals.{Arrival, Arrival.Gap, Arrival.Came, arrivals_on}
+use Rattle.ts_demux.specs.Hearing.{size_in, is_whole, goes_on}
+use Rattle.ts_demux.specs.Arrivals.{Arrival, Arrival.Gap, Arrival.Came, arrivals_on, without_repeats}
+
+-- ---- what is kept of a PID
 
 -- counter and payload of a load
 pub record Seen : Type 0 where
   pub counter : ℕ
   pub payload : List ℕ
 
--- what is kept of a PID: the last load, and the first bytes of the section that is open
+abbrev pub seen : Load → Seen
+seen l = record { counter = l.counter; payload = l.piece.payload }
+
+-- the last load, and the first bytes of the section that is open
 pub record Kept : Type 0 where
   pub last : Option Seen
   pub section : Option (List ℕ)
@@ -18,92 +23,73 @@ pub record Kept : Type 0 where
 abbrev pub nothing : Kept
 nothing = record { last = None; section = None }
 
--- ---- one packet more
+-- ---- the last load
 
-abbrev pub seen : Load → Seen
-seen l = record { counter = l.counter; payload = l.piece.payload }
+abbrev pub seen_in : Arrival → Option Seen
+seen_in Gap = None
+seen_in (Came l) = Some (seen l)
 
--- this counter and payload are those of the last load
-abbrev pub is_again_at : Option Seen → ℕ → List ℕ → Bool
-is_again_at None counter payload = false
-is_again_at (Some last) counter payload = (last.counter == counter) && bytes_eq last.payload payload
+-- counter and payload of the last load, which a gap makes forgotten
+abbrev pub last_load : List Arrival → Option Seen
+last_load [] = None
+last_load (x ∷ []) = seen_in x
+last_load (x ∷ y ∷ xs) = last_load (y ∷ xs)
 
--- this counter follows that of the last load
-abbrev pub is_next_at : Option Seen → ℕ → Bool
-is_next_at None counter = false
-is_next_at (Some last) counter = counter == ((last.counter + 1) % 16)
+-- ---- the section that is open
 
-abbrev pub is_again : Option Seen → Load → Bool
-is_again last l = is_again_at last l.counter l.piece.payload
+-- each of these is a load, and has the counter behind that of the one before
+abbrev pub is_one_stretch : List Arrival → Bool
+is_one_stretch [] = true
+is_one_stretch (Gap ∷ xs) = false
+is_one_stretch (Came l ∷ []) = true
+is_one_stretch (Came l ∷ Gap ∷ xs) = false
+is_one_stretch (Came l ∷ Came m ∷ xs) = (m.counter == ((l.counter + 1) % 16)) && is_one_stretch (Came m ∷ xs)
 
-abbrev pub is_next : Option Seen → Load → Bool
-is_next last l = is_next_at last l.counter
+abbrev pub pieces_of : List Arrival → List Piece
+pieces_of [] = []
+pieces_of (Gap ∷ xs) = pieces_of xs
+pieces_of (Came l ∷ xs) = l.piece ∷ pieces_of xs
+
+-- the stretch with which these arrivals end: the longest one; none behind a gap
+abbrev pub last_stretch : List Arrival → List Piece
+last_stretch [] = []
+last_stretch (x ∷ xs) = if is_one_stretch (x ∷ xs) then pieces_of (x ∷ xs) else last_stretch xs
 
 -- the header is there and tells a section_length above 4,093
 abbrev pub is_long : List ℕ → Bool
 is_long bytes = nat_le 3 (length bytes) && not (nat_le (size_in bytes) 4096)
 
--- what stays open of bytes that are no whole section
-abbrev pub kept_open : List ℕ → Option (List ℕ)
-kept_open bytes = if is_long bytes then None else Some bytes
+-- Sections begin in these bytes of a packet, one behind the other, and later bytes follow the packet: what has come of the
+-- last one, where bytes of it are still to come. n bounds their number.
+abbrev pub unended : ℕ → List ℕ → List ℕ → Option (List ℕ)
+unended zero here later = None
+unended (suc n) [] later = None
+unended (suc n) (b ∷ here) later =
+    if b == 255 then None
+    else if is_whole (b ∷ here ++ later) then unended n (drop (size_in (b ∷ here ++ later)) (b ∷ here)) later
+    else if is_long (b ∷ here ++ later) then None
+    else Some (b ∷ here ++ later)
 
--- the section that begins in these bytes of a packet and is open behind it; n bounds the number of sections
-abbrev pub left_open : ℕ → List ℕ → Option (List ℕ)
-left_open zero here = None
-left_open (suc n) [] = None
-left_open (suc n) (b ∷ here) = if b == 255 then None else if is_whole (b ∷ here) then left_open n (drop (size_in (b ∷ here)) (b ∷ here)) else kept_open (b ∷ here)
+abbrev pub unended_behind : List ℕ → List ℕ → Option (List ℕ)
+unended_behind [] later = None
+unended_behind (p ∷ bytes) later = if nat_le p (length bytes) then unended (length bytes) (drop p bytes) later else None
 
-abbrev pub open_from_start : List ℕ → Option (List ℕ)
-open_from_start [] = None
-open_from_start (p ∷ bytes) = if nat_le p (length bytes) then left_open (length bytes) (drop p bytes) else None
+abbrev pub unended_in : Piece → List ℕ → Option (List ℕ)
+unended_in p later = if p.start then unended_behind p.payload later else None
 
-abbrev pub open_further : Option (List ℕ) → List ℕ → Option (List ℕ)
-open_further None payload = None
-open_further (Some bytes) payload = if is_whole (bytes ++ payload) then None else kept_open (bytes ++ payload)
+abbrev pub has_start : List Piece → Bool
+has_start [] = false
+has_start (p ∷ ps) = p.start || has_start ps
 
--- the section that is open behind a packet, where this one is open before it
-abbrev pub open_behind : Option (List ℕ) → Piece → Option (List ℕ)
-open_behind o p = if p.start then open_from_start p.payload else open_further o p.payload
+-- the section that is open behind a stretch: it begins in the last start packet, and the packets behind go on with it
+abbrev pub open_section : List Piece → Option (List ℕ)
+open_section [] = None
+open_section (p ∷ ps) = if has_start ps then open_section ps else unended_in p (goes_on ps)
 
--- the section that these bytes begin with, where it is whole
-abbrev pub finished : List ℕ → List (List ℕ)
-finished bytes = if is_whole bytes then take (size_in bytes) bytes ∷ [] else []
-
-abbrev pub finished_with : Option (List ℕ) → List ℕ → List (List ℕ)
-finished_with None later = []
-finished_with (Some bytes) later = finished (bytes ++ later)
-
-abbrev pub given_from_start : Option (List ℕ) → List ℕ → List (List ℕ)
-given_from_start o [] = []
-given_from_start o (p ∷ bytes) = if nat_le p (length bytes) then finished_with o (take p bytes) ++ begun (length bytes) (drop p bytes) [] else []
-
--- the sections that a packet ends, where this one is open before it
-abbrev pub given_by : Option (List ℕ) → Piece → List (List ℕ)
-given_by o p = if p.start then given_from_start o p.payload else finished_with o p.payload
-
--- what is open is neither whole nor too long
-abbrev pub IsOpen : Option (List ℕ) → Type 0
-IsOpen None = Unit {0}
-IsOpen (Some bytes) = (is_whole bytes ≡ false) × (is_long bytes ≡ false)
-
--- what stays open before a load: nothing where it does not follow
-abbrev pub still_open : Bool → Option (List ℕ) → Option (List ℕ)
-still_open follows o = if follows then o else None
-
-abbrev pub kept_after : Kept → Arrival → Kept
-kept_after kept Gap = nothing
-kept_after kept (Came l) =
-    if is_again kept.last l then kept else record { last = Some (seen l); section = open_behind (still_open (is_next kept.last l) kept.section) l.piece }
-
--- the sections that an arrival ends
-abbrev pub given_after : Kept → Arrival → List (List ℕ)
-given_after kept Gap = []
-given_after kept (Came l) = if is_again kept.last l then [] else given_by (still_open (is_next kept.last l) kept.section) l.piece
-
--- what is kept of a PID behind these arrivals
-abbrev pub kept_behind : Kept → List Arrival → Kept
-kept_behind kept [] = kept
-kept_behind kept (x ∷ xs) = kept_behind (kept_after kept x) xs
+-- This is kept of a PID behind these arrivals.
+pub record Keeps (xs : List Arrival) (kept : Kept) : Type 0 where
+  pub last : kept.last ≡ last_load xs
+  pub section : kept.section ≡ open_section (last_stretch (without_repeats None xs))
 
 -- ---- the demux
 
@@ -116,6 +102,6 @@ kept_in None = nothing
 abbrev pub kept_on : ℕ → List (Option Kept) → Kept
 kept_on pid slots = kept_in (slice_get slots pid)
 
--- A demux stands for these packets, each by its bytes: of each PID it keeps what they leave.
+-- A demux stands for these packets, each by its bytes: of each PID it keeps what is kept behind them.
 abbrev pub Stands : List (List ℕ) → List (Option Kept) → Type 0
-Stands past slots = (pid : ℕ) → pid < 8192 → kept_on pid slots ≡ kept_behind nothing (arrivals_on pid past)
+Stands past slots = (pid : ℕ) → pid < 8192 → Keeps (arrivals_on pid past) (kept_on pid slots)

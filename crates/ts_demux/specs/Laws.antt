@@ -1,5 +1,5 @@
 -- Laws of hearing.
-use Rattle.std.specs.Prelude.{◌≡◌, ℕ, ◌+◌, ◌<◌, List, [], ◌∷◌, ◌++◌, length, take, drop, map, filter_map}
+use Rattle.std.specs.Prelude.{◌≡◌, ℕ, ◌<◌, List, [], ◌∷◌, ◌++◌, length, take, drop, map, filter_map}
 use Rattle.std.specs.List.{AllByRecursion}
 use Rattle.ts_packets.specs.Packets.{pieces, left, HaveRoom, all_of, Carries}
 use Rattle.ts_packets.specs.Bytes.{Packet, HasFields, bytes_of_packet}

@@ -42,8 +42,17 @@ impl Demux {
     }
 
     /// Hears one packet more: the sections that it ends, in the order in which they end. It needs the shape that
-    /// `read_packet` gives of the packet. Where memory is wanting, nothing was heard, and the demultiplexer stands for the
-    /// packets before; the same packet can be heard again.
+    /// `read_packet` gives of the packet.
+    ///
+    /// On each PID a load with the continuity_counter and the payload of the last load is a repeat, and is passed over,
+    /// unless a gap came between. A gap, and a load whose counter is not the next one, drop the section that is open
+    /// (ISO/IEC 13818-1, 2.4.3.3). Sections begin at the place that a pointer_field tells, one behind the other, up to
+    /// the packet's end or a byte 0xFF; the packets behind go on with the last of them, up to the next pointer_field's
+    /// target (2.4.4). A section with a section_length above 4,093 is dropped, and what stands behind it in the packet in
+    /// which it begins is not heard.
+    ///
+    /// Where memory is wanting, nothing was heard: the demultiplexer stands for the packets before, and the same packet
+    /// can be heard again. Memory is taken where a section begins or ends, and at the first load of a PID.
     pub fn hear(&mut self, packet: &[u8; 188], shape: &Shape) -> Result<RawSections, AllocError>
         requires { shape_in packet.now ≡ Ok shape.now }
         ensures heard { (past : List (List ℕ)) → Stands past self.old → IfOk result (λ sections. sections ≡ ended_by past packet.now) }

@@ -2,7 +2,7 @@
 ghost use Rattle.std.specs.Prelude.{◌≡◌, ◌≢◌, ◌≤◌, ◌<◌, ◌++◌, ◌∷◌, [], length, take, map, Some, false, true, unwrap_or, IsSome, IfNone, IfSome, IfOk, OnOk, OnErr};
 ghost use Rattle.ts_demux.specs.Hearing.{begun, is_whole};
 ghost use Rattle.ts_demux.specs.Sections.{on_pid};
-ghost use Rattle.ts_demux.specs.Keeping.{IsOpen, left_open, finished_with, given_from_start, given_by, still_open, open_from_start, open_further, open_behind};
+ghost use Rattle.ts_demux.specs.Steps.{IsOpen, left_open, finished_with, given_from_start, given_by, still_open, open_from_start, open_further, open_behind};
 ghost use Rattle.ts_packets.specs.Packets.{Piece};
 
 use crate::headers::{Reach, measure};

@@ -2,7 +2,8 @@
 ghost use Rattle.std.specs.Prelude.{◌≡◌, ◌<◌, ◌≤◌, ◌==◌, [], ℕ, length, map, if◌then◌else◌, IfOk, OnOk, OnErr};
 ghost use Rattle.ts_demux.specs.Arrivals.{Arrival, Arrival.Came, load_in};
 ghost use Rattle.ts_demux.specs.Sections.{on_pid};
-ghost use Rattle.ts_demux.specs.Keeping.{nothing, kept_on, kept_after, given_after};
+ghost use Rattle.ts_demux.specs.Keeping.{nothing, kept_on};
+ghost use Rattle.ts_demux.specs.Steps.{kept_after, given_after};
 
 use crate::section::RawSections;
 use crate::slot::{LoadShape, Slot};

@@ -3,7 +3,8 @@ ghost use Rattle.std.specs.Prelude.{◌≡◌, ◌<◌, ◌==◌, ◌+◌, ◌%�
 ghost use Rattle.ts_packets.specs.Counting.{Load};
 ghost use Rattle.ts_demux.specs.Arrivals.{Arrival, Arrival.Came, load_in};
 ghost use Rattle.ts_demux.specs.Sections.{on_pid};
-ghost use Rattle.ts_demux.specs.Keeping.{nothing, kept_after, given_after, is_again_at, is_next_at};
+ghost use Rattle.ts_demux.specs.Keeping.{nothing};
+ghost use Rattle.ts_demux.specs.Steps.{kept_after, given_after, is_again_at, is_next_at};
 
 use crate::joining::take_payload;
 use crate::section::RawSections;
@@ -38,7 +39,8 @@ pub(crate) struct Slot {
 
 impl Model for Slot {
     ghost use Rattle.std.specs.Prelude.{option_map, drop};
-    ghost use Rattle.ts_demux.specs.Keeping.{Kept, IsOpen};
+    ghost use Rattle.ts_demux.specs.Keeping.{Kept};
+    ghost use Rattle.ts_demux.specs.Steps.{IsOpen};
 
     ghost Value = { Kept };
 

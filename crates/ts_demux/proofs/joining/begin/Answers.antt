@@ -1,11 +1,11 @@
-use Rattle.std.proofs.Common.{◌≡◌, ◌≢◌, ◌<◌, ◌++◌, ◌∷◌, [], List, ℕ, length, take, drop, map, sym, ap, ◌∙◌, subst, arith, append_assoc}
+use Rattle.std.proofs.Common.{◌≡◌, ◌≢◌, ◌<◌, ◌++◌, ◌∷◌, [], List, ℕ, length, take, drop, map, sym, ap, ◌∙◌, arith, append_assoc}
 use Rattle.std.specs.Prelude.{slice_index}
 use Rattle.std.proofs.lemmas.Bool.Decides.{nat_tests}
 use Rattle.ts_demux.specs.declared.headers.Reach.TheVariants.{Ends}
 use Rattle.ts_demux.specs.declared.section.RawSection.{RawSection}
 use Rattle.ts_demux.specs.Hearing.{begun}
 use Rattle.ts_demux.specs.Sections.{on_pid}
-use Rattle.ts_demux.specs.Keeping.{left_open}
+use Rattle.ts_demux.specs.Steps.{left_open}
 use Rattle.ts_demux.specs.Reaching.{reach_of}
 use Rattle.ts_demux.proofs.Beginning.{begins_whole}
 use Rattle.ts_demux.proofs.joining.begin.Goals as goal

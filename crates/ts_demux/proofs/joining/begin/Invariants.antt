@@ -1,7 +1,7 @@
 use Rattle.std.proofs.Common.{◌≡◌, ◌++◌, [], length, map}
 use Rattle.ts_demux.specs.Hearing.{begun}
 use Rattle.ts_demux.specs.Sections.{on_pid}
-use Rattle.ts_demux.specs.Keeping.{left_open}
+use Rattle.ts_demux.specs.Steps.{left_open}
 use Rattle.ts_demux.proofs.joining.begin.Given as goal
 
 -- what was added and what begins in the bytes that are left is all that begins

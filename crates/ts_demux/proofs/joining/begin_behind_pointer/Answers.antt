@@ -1,6 +1,5 @@
 use Rattle.std.proofs.Common.{◌≡◌, ◌≤◌, ◌∷◌, List, ℕ, Option, length, map, sym, subst, arith}
 use Rattle.std.specs.Prelude.{IfOk, OnOk}
-use Rattle.std.proofs.lemmas.Bool.Decides.{nat_tests}
 use Rattle.ts_demux.specs.Sections.{on_pid}
 use Rattle.ts_demux.proofs.Starting.{start_given, start_kept}
 use Rattle.ts_demux.proofs.joining.begin_behind_pointer.Goals as goal

@@ -1,11 +1,10 @@
-use Rattle.std.proofs.Common.{◌≡◌, ◌<◌, ◌++◌, ◌∷◌, [], ℕ, List, Option, sym, ap, ◌∙◌, subst, arith, map}
-use Rattle.std.specs.Prelude.{IfOk, OnOk, Ok, slice_index}
-use Rattle.ts_packets.specs.Bytes.{pid_in, shape_in}
+use Rattle.std.proofs.Common.{◌≡◌, ◌<◌, ℕ, List, sym, ap, ◌∙◌, subst}
+use Rattle.std.specs.Prelude.{IfOk, Ok}
+use Rattle.ts_packets.specs.Bytes.{shape_in}
 use Rattle.ts_packets.specs.declared.shape.Shape.TheVariants as shape
 use Rattle.ts_demux.specs.declared.section.RawSection.{RawSection}
-use Rattle.ts_demux.specs.Arrivals.{Arrival, Arrival.Gap, Arrival.Came, load_in}
-use Rattle.ts_demux.specs.Sections.{on_pid, ended_by}
-use Rattle.ts_demux.specs.Keeping.{Stands, kept_on, given_after}
+use Rattle.ts_demux.specs.Arrivals.{Arrival.Gap, Arrival.Came, load_in}
+use Rattle.ts_demux.specs.Keeping.{Stands}
 use Rattle.ts_demux.proofs.Standing.{nothing_came, one_came, one_ended, passes, gap_came, gap_told, load_came, load_told, small_pid}
 use Rattle.ts_demux.proofs.Placing.{on_ok}
 use Rattle.ts_demux.proofs.demux.Demux.hear.Goals as goal

@@ -1,6 +1,6 @@
-use Rattle.std.proofs.Common.{◌≡◌, ◌<◌, ◌==◌, ℕ, List, Option, Some, length, map, sym, ap, ◌∙◌, subst, arith}
+use Rattle.std.proofs.Common.{◌≡◌, ◌<◌, ◌==◌, ℕ, List, Option, Some, length, map, sym, ap, ◌∙◌, arith}
 use Rattle.std.specs.Prelude.{if◌then◌else◌, option_map}
-use Rattle.ts_demux.specs.Keeping.{Kept, nothing, kept_in, kept_on}
+use Rattle.ts_demux.specs.Keeping.{Kept, kept_on}
 use Rattle.ts_demux.proofs.Placing.{placed, length-mapped}
 use Rattle.ts_demux.proofs.places.Places.put_slot.Goals as goal
 

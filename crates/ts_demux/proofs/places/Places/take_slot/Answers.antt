@@ -1,5 +1,5 @@
-use Rattle.std.proofs.Common.{◌≡◌, ◌<◌, ◌==◌, ℕ, List, Option, Some, length, map, sym, ap, ◌∙◌, subst, arith}
-use Rattle.std.specs.Prelude.{if◌then◌else◌, option_map, OnOk, Result, Ok, Err}
+use Rattle.std.proofs.Common.{◌≡◌, ◌<◌, ◌==◌, ℕ, List, Option, Some, length, map, sym, ap, ◌∙◌, arith}
+use Rattle.std.specs.Prelude.{if◌then◌else◌, option_map}
 use Rattle.ts_demux.specs.Keeping.{Kept, nothing, kept_in, kept_on}
 use Rattle.ts_demux.proofs.Placing.{placed, length-mapped, whatever}
 use Rattle.ts_demux.proofs.places.Places.take_slot.Goals as goal

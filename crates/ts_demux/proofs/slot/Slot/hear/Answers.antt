@@ -1,5 +1,5 @@
 use Rattle.std.proofs.Common.{sym, subst}
-use Rattle.ts_demux.specs.Keeping.{IsOpen, still_open, is_next_at}
+use Rattle.ts_demux.specs.Steps.{IsOpen, still_open}
 use Rattle.ts_demux.proofs.Machine.{open_behind-open}
 use Rattle.ts_demux.proofs.slot.Slot.hear.Goals as goal
 
