@@ -1,5 +1,5 @@
 -- Completions, one section more.
-use Rattle.std.proofs.Common.{◌≡◌, ◌≢◌, ℕ, ◌+◌, List, [], ◌∷◌, ◌++◌, Bool, true, false, ◌&&◌, ◌==◌, refl, sym, ap, ◌∙◌, subst, append_assoc, append-nil, eq-eqb, eqb-true}
+use Rattle.std.proofs.Common.{◌≡◌, List, [], ◌∷◌, ◌++◌, Bool, true, false, ◌==◌, refl, sym, ap, ◌∙◌, append_assoc, append-nil, eq-eqb, eqb-true}
 use Rattle.std.specs.Prelude.{if◌then◌else◌, cond, filter, Option, Some, None, option_map, option_to_list}
 use Rattle.std.specs.Option.{option_or}
 use Rattle.std.specs.List.{cons_option, AllByRecursion}
@@ -79,7 +79,7 @@ latest-whole (s ∷ heard) d e = latest-whole_from [] s heard d e
 pub completion-push : (heard : List Counted) (s : Counted) → completion (heard ++ s ∷ []) ≡ option_map (done_at s) (completed (heard ++ s ∷ []))
 completion-push heard s = ap (λ (o : Option Counted). completion_at o (completed (heard ++ s ∷ []))) (latest-push heard s)
 
-done_key : (s : Counted) (o : Option Content) (d : Completed) → option_map (done_at s) o ≡ Some d → d.key ≡ s.key
+pub done_key : (s : Counted) (o : Option Content) (d : Completed) → option_map (done_at s) o ≡ Some d → d.key ≡ s.key
 done_key s None d e = cc
 done_key s (Some c) d e =
     let f : done_at s c ≡ d = cc in

@@ -1,7 +1,6 @@
 -- A content is gathered number by number.
-use Rattle.std.proofs.Common.{◌≡◌, ℕ, suc, ◌+◌, ◌-◌, ◌<◌, ◌≤◌, List, [], ◌∷◌, ◌++◌, Bool, true, ◌&&◌, ◌==◌, refl, sym, ap, ◌∙◌, arith, append_assoc, append-nil, eq-eqb}
+use Rattle.std.proofs.Common.{◌≡◌, ℕ, suc, ◌+◌, ◌-◌, ◌<◌, ◌≤◌, List, [], ◌∷◌, ◌++◌, Bool, ◌&&◌, ◌==◌, refl, sym, ap, ◌∙◌, arith, append_assoc, append-nil, eq-eqb}
 use Rattle.std.specs.Prelude.{Option, Some, None}
-use Rattle.section_codec.specs.declared.table.NumberedBody.{NumberedBody}
 use Rattle.version_book.specs.Airings.{Content}
 use Rattle.sub_collect.specs.Runs.{numbers_from}
 use Rattle.sub_collect.specs.Slots.{is_body, with_body, content_by}

@@ -1,22 +1,20 @@
 -- The slots of a collector, and what they keep.
-use Rattle.std.proofs.Common.{◌≡◌, ◌≢◌, ℕ, List, [], ◌∷◌, ◌++◌, Bool, true, false, refl, sym, ap, ◌∙◌, subst}
-use Rattle.std.specs.Prelude.{if◌then◌else◌, cond, Option, Some, None, option_map, map}
-use Rattle.std.specs.List.{AllByRecursion}
+use Rattle.std.proofs.Common.{◌≡◌, List, [], ◌∷◌, ◌++◌, Bool, true, false, refl, sym, ap, ◌∙◌, subst}
+use Rattle.std.specs.Prelude.{if◌then◌else◌, cond, Option, Some, None, option_map}
 use Rattle.std.specs.Ordering.{is_eq}
 use Rattle.std.specs.BTreeMap.{is_at}
 use Rattle.std.specs.Map.{lookup, set_value}
 use Rattle.section_codec.specs.declared.table.Key.{Key}
 use Rattle.version_book.specs.Airings.{is_key}
 use Rattle.version_book.specs.Slots.{key_cmp}
-use Rattle.version_book.proofs.Versions.{is_key-same, is_key-itself}
+use Rattle.version_book.proofs.Versions.{is_key-same}
 use Rattle.version_book.proofs.SlotFacts.{key_ties}
 use Rattle.sub_collect.specs.Runs.{Counted}
-use Rattle.sub_collect.specs.Completions.{is_of, IsOfKey, sections_of, completion, completions, latest_done, latest_of, shown_after, shown_at}
+use Rattle.sub_collect.specs.Completions.{sections_of, completion, completions, latest_done, latest_of, shown_after, shown_at}
 use Rattle.sub_collect.specs.Collectors.{Kept, KeptKeys, kept_in, IsKeptOf, StandsFor, Stands}
 use Rattle.sub_collect.specs.Slots.{kept_by, shown}
-use Rattle.sub_collect.specs.declared.completed.Completed.{Completed}
 use Rattle.sub_collect.specs.declared.collector.Slot.{Slot}
-use Rattle.sub_collect.proofs.Done.{sections_of-one, sections_of-other, sections_of-all, shown_at-is}
+use Rattle.sub_collect.proofs.Done.{sections_of-one, sections_of-other, shown_at-is}
 
 -- what is kept of a key, as the map has it
 pub kept_in-shown : (k : Key) (es : List (Key × Slot)) → kept_in k (shown es) ≡ option_map kept_by (lookup (is_at (key_cmp k)) es)

@@ -1,10 +1,10 @@
 -- What a run of sections of one content completes.
-use Rattle.std.proofs.Common.{◌≡◌, ◌≢◌, ℕ, zero, suc, ◌+◌, ◌<◌, ◌≤◌, List, [], ◌∷◌, ◌++◌, Bool, true, false, ◌==◌, length, map, refl, sym, ap, ◌∙◌, subst, arith, eq-eqb, eqb-true}
+use Rattle.std.proofs.Common.{◌≡◌, ℕ, ◌+◌, ◌<◌, ◌≤◌, List, [], ◌∷◌, Bool, true, false, ◌==◌, length, map, refl, sym, ap, ◌∙◌, subst, arith, eq-eqb, eqb-true}
 use Rattle.std.specs.Prelude.{if◌then◌else◌, cond, filter, Option, Some, None, is_some, IsSome}
 use Rattle.std.specs.List.{AllByRecursion}
 use Rattle.section_codec.specs.declared.table.NumberedBody.{NumberedBody}
 use Rattle.version_book.specs.Airings.{Content}
-use Rattle.sub_collect.specs.Runs.{Counted, latest_section, has_number, latest_with, numbers_from, run_of, whole, completed}
+use Rattle.sub_collect.specs.Runs.{Counted, latest_section, has_number, latest_with, numbers_from, run_of, whole}
 use Rattle.sub_collect.specs.Collectors.{body_of}
 use Rattle.sub_collect.specs.Slots.{with_body, content_by}
 use Rattle.sub_collect.specs.Laws.{IsNumbered, part_in, IsSectionOf, RunCompletesNoOther, RunCompletes}
@@ -46,11 +46,12 @@ own : (m : ℕ) (ps : List NumberedBody) → map (λ (p : NumberedBody). p.numbe
 own m [] are = tt
 own m (p ∷ ps) are =
     let here : p.number ≡ m = cc in
-    let rest : map (λ (q : NumberedBody). q.number) ps ≡ numbers_from (1 + m) (length ps) = cc in
-    (ap (λ (b : Bool). if b then Some p.body else part_in p.number ps) (eq-eqb p.number p.number refl),
+    let rest : map (λ (q : NumberedBody). q.number) ps ≡ numbers_from (1 + m) (length ps) = cc in (
+      ap (λ (b : Bool). if b then Some p.body else part_in p.number ps) (eq-eqb p.number p.number refl),
       all_map (λ (q : NumberedBody). (part_in q.number ps ≡ Some q.body) × (1 + m ≤ q.number)) (λ (q : NumberedBody). part_in q.number (p ∷ ps) ≡ Some q.body)
-      (λ (q : NumberedBody) (h : (part_in q.number ps ≡ Some q.body) × (1 + m ≤ q.number)). behind q here h (q.number == p.number) refl) ps
-      (all_both (λ (q : NumberedBody). part_in q.number ps ≡ Some q.body) (λ (q : NumberedBody). 1 + m ≤ q.number) ps (own (1 + m) ps rest) (at_least (1 + m) ps rest)))
+          (λ (q : NumberedBody) (h : (part_in q.number ps ≡ Some q.body) × (1 + m ≤ q.number)). behind q here h (q.number == p.number) refl) ps
+          (all_both (λ (q : NumberedBody). part_in q.number ps ≡ Some q.body) (λ (q : NumberedBody). 1 + m ≤ q.number) ps (own (1 + m) ps rest) (at_least (1 + m) ps rest)),
+    )
   where
     behind : (q : NumberedBody) → p.number ≡ m → (part_in q.number ps ≡ Some q.body) × (1 + m ≤ q.number) → (b : Bool) → (q.number == p.number) ≡ b → (if b then Some p.body else part_in q.number ps) ≡ Some q.body
     behind q here h true e = let same : q.number ≡ p.number = eqb-true q.number p.number e in let le = h.1 in absurd (omega arith)

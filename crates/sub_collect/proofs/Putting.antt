@@ -1,17 +1,14 @@
 -- A kept run, once a section more is put.
-use Rattle.std.proofs.Common.{◌≡◌, ℕ, ◌+◌, ◌<◌, ◌≤◌, List, [], ◌∷◌, ◌++◌, Bool, true, ◌==◌, refl, sym, ap, ◌∙◌, arith}
-use Rattle.std.specs.Prelude.{if◌then◌else◌, cond, Option, Some, None, is_some, option_map}
+use Rattle.std.proofs.Common.{◌≡◌, ℕ, ◌+◌, ◌<◌, ◌≤◌, List, [], ◌∷◌, ◌++◌, Bool, ◌==◌, sym, ap, ◌∙◌, arith}
+use Rattle.std.specs.Prelude.{if◌then◌else◌, cond, Option, Some, None, is_some}
 use Rattle.std.specs.Ordering.{nat_cmp}
 use Rattle.std.specs.Cmp.{unsigned_ties}
 use Rattle.std.specs.BTreeMap.{is_at}
 use Rattle.std.specs.Map.{lookup}
-use Rattle.version_book.specs.Airings.{Content}
 use Rattle.sub_collect.specs.Runs.{Counted, all_of_version, latest_section, latest_with, numbers_from, whole}
-use Rattle.sub_collect.specs.Completions.{done_at}
 use Rattle.sub_collect.specs.Collectors.{KeptRun, body_in, body_of, IsFront, StandsForRun}
 use Rattle.sub_collect.specs.Slots.{held_with, content_by}
-use Rattle.sub_collect.specs.declared.completed.Completed.{Completed}
-use Rattle.sub_collect.proofs.Runs.{latest-push, all-more}
+use Rattle.sub_collect.proofs.Runs.{latest-push, all-push}
 use Rattle.sub_collect.proofs.Slots.{turned, body_in-get, body_of-push, whole-push, content_by-gap}
 
 pub front-same : (f g : ℕ → Option (List ℕ)) (front : ℕ) → ((n : ℕ) → g n ≡ f n) → IsFront f front → IsFront g front
@@ -37,7 +34,7 @@ pub put-stands : (run : List Counted) (s : Counted) (old new : KeptRun) → Stan
     → ((n : ℕ) → body_in n new.held ≡ held_with (λ (m : ℕ). body_in m old.held) s.number s.body n) → IsFront (held_with (λ (m : ℕ). body_in m old.held) s.number s.body) new.front
     → StandsForRun (run ++ s ∷ []) new
 put-stands run s old new stands version kept last held front = record {
-  version = all-more new.version run s (ap (λ (v : ℕ). all_of_version v run) kept ∙ stands.version) (version ∙ sym kept);
+  version = all-push new.version run s (ap (λ (v : ℕ). all_of_version v run) kept ∙ stands.version) (version ∙ sym kept);
   last = λ (t : Counted) (e : latest_section (run ++ s ∷ []) ≡ Some t).
       (let same : Some s ≡ Some t = sym (latest-push run s) ∙ e in let one : s ≡ t = cc in last ∙ ap (λ (c : Counted). c.last) one);
   held = λ (n : ℕ).

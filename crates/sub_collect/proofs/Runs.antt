@@ -1,10 +1,10 @@
 -- The run, one section more.
-use Rattle.std.proofs.Common.{◌≡◌, ◌≢◌, ℕ, List, [], ◌∷◌, ◌++◌, Bool, true, false, ◌&&◌, ◌==◌, refl, sym, ap, ◌∙◌, subst, arith, eq-eqb, eqb-true}
+use Rattle.std.proofs.Common.{◌≡◌, ◌≢◌, ℕ, List, [], ◌∷◌, ◌++◌, Bool, true, false, ◌==◌, refl, sym, ap, ◌∙◌, subst, eq-eqb, eqb-true}
 use Rattle.std.specs.Prelude.{if◌then◌else◌, Option, Some, None}
 use Rattle.version_book.proofs.Versions.{and_true, and_both}
 use Rattle.sub_collect.specs.Runs.{Counted, latest_section, all_of_version, is_one_version, run_of}
 
-all-push : (v : ℕ) (xs : List Counted) (s : Counted) → all_of_version v xs ≡ true → s.version ≡ v → all_of_version v (xs ++ s ∷ []) ≡ true
+pub all-push : (v : ℕ) (xs : List Counted) (s : Counted) → all_of_version v xs ≡ true → s.version ≡ v → all_of_version v (xs ++ s ∷ []) ≡ true
 all-push v [] s h e = and_both (s.version == v) true (eq-eqb s.version v e) refl
 all-push v (x ∷ xs) s h e =
     let p = and_true (x.version == v) (all_of_version v xs) h in
@@ -116,6 +116,3 @@ run_of-other xs v s all other = go (latest_section xs) refl
 
 pub version-joins : (heard : List Counted) (s t : Counted) → latest_section heard ≡ Some s → s.version ≡ t.version → run_of (heard ++ t ∷ []) ≡ run_of heard ++ t ∷ []
 version-joins heard s t e same = run_of-push heard t (subst (λ (v : ℕ). all_of_version v (run_of heard) ≡ true) same (run-version heard s e))
-
-pub all-more : (v : ℕ) (xs : List Counted) (s : Counted) → all_of_version v xs ≡ true → s.version ≡ v → all_of_version v (xs ++ s ∷ []) ≡ true
-all-more v xs s h e = all-push v xs s h e

@@ -1,16 +1,16 @@
 -- What a run holds, one section more.
-use Rattle.std.proofs.Common.{◌≡◌, ◌≢◌, ℕ, zero, suc, ◌+◌, ◌<◌, ◌≤◌, List, [], ◌∷◌, ◌++◌, Bool, true, false, ◌&&◌, ◌==◌, refl, sym, ap, ◌∙◌, subst, arith, eq-eqb, eqb-true}
-use Rattle.std.specs.Prelude.{if◌then◌else◌, cond, filter, Option, Some, None, option_map, is_some, bytes_eq}
-use Rattle.std.specs.Ordering.{is_eq, nat_cmp}
+use Rattle.std.proofs.Common.{◌≡◌, ◌≢◌, ℕ, zero, suc, ◌+◌, ◌<◌, ◌≤◌, List, [], ◌∷◌, ◌++◌, Bool, true, false, ◌==◌, refl, sym, ap, ◌∙◌, arith, eq-eqb, eqb-true}
+use Rattle.std.specs.Prelude.{if◌then◌else◌, cond, filter, Option, Some, None}
+use Rattle.std.specs.Ordering.{nat_cmp}
 use Rattle.std.specs.Cmp.{unsigned_ties}
 use Rattle.std.specs.BTreeMap.{is_at}
 use Rattle.std.specs.Map.{lookup}
 use Rattle.std.proofs.lemmas.List.Elements.{filter-append}
 use Rattle.version_book.specs.Airings.{Content}
-use Rattle.sub_collect.specs.Runs.{Counted, all_of_version, run_of, latest_section, has_number, latest_with, numbers_from, needed_at, needed, with_part, gathered, gathered_at, whole}
-use Rattle.sub_collect.specs.Collectors.{KeptRun, body_in, body_of, IsFront, StandsForRun}
+use Rattle.sub_collect.specs.Runs.{Counted, latest_section, has_number, latest_with, numbers_from, needed_at, with_part, gathered, gathered_at, whole}
+use Rattle.sub_collect.specs.Collectors.{body_in, body_of}
 use Rattle.sub_collect.specs.Slots.{held_with, with_body, content_by}
-use Rattle.sub_collect.proofs.Runs.{latest-push, all-more}
+use Rattle.sub_collect.proofs.Runs.{latest-push}
 
 -- ---- the body of a number, as the map has it
 

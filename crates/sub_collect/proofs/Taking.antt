@@ -1,20 +1,20 @@
 -- What is kept of a key, once a section more is taken.
-use Rattle.std.proofs.Common.{◌≡◌, ◌≢◌, ℕ, ◌+◌, ◌<◌, ◌≤◌, List, [], ◌∷◌, ◌++◌, Bool, true, false, ◌&&◌, ◌==◌, refl, sym, ap, ◌∙◌, subst, arith, eq-eqb, eqb-true}
-use Rattle.std.specs.Prelude.{if◌then◌else◌, filter, bytes_eq, Option, Some, None, is_some, option_map}
+use Rattle.std.proofs.Common.{◌≡◌, ℕ, ◌+◌, ◌<◌, List, [], ◌∷◌, ◌++◌, Bool, true, false, ◌&&◌, ◌==◌, refl, sym, ap, ◌∙◌, subst, eqb-true}
+use Rattle.std.specs.Prelude.{if◌then◌else◌, Option, Some, None, is_some, option_map}
 use Rattle.std.specs.Option.{option_or}
 use Rattle.std.specs.List.{AllByRecursion}
 use Rattle.std.proofs.lemmas.Slice.Eq.{bytes_eq-Decides}
 use Rattle.section_codec.specs.declared.table.Key.{Key}
 use Rattle.version_book.specs.Airings.{Content}
 use Rattle.version_book.proofs.Versions.{and_true}
-use Rattle.sub_collect.specs.Runs.{Counted, all_of_version, latest_section, latest_with, has_number, numbers_from, run_of, whole, completed}
+use Rattle.sub_collect.specs.Runs.{Counted, all_of_version, latest_section, latest_with, numbers_from, run_of, whole, completed}
 use Rattle.sub_collect.specs.Completions.{IsOfKey, done_at, completion_at, completion, completions, latest_done, repeats, shown_after}
-use Rattle.sub_collect.specs.Collectors.{KeptRun, Kept, body_in, body_of, IsFront, StandsForRun, IsKeptOf}
+use Rattle.sub_collect.specs.Collectors.{KeptRun, Kept, body_in, body_of, StandsForRun, IsKeptOf}
 use Rattle.sub_collect.specs.Slots.{held_with, is_body, content_by, latest_with_done}
 use Rattle.sub_collect.specs.declared.completed.Completed.{Completed}
-use Rattle.sub_collect.proofs.Runs.{run_of-push, run_of-other, latest-run, latest-push, all-latest, all-more, no-latest}
-use Rattle.sub_collect.proofs.Slots.{body_of-push, whole-by}
-use Rattle.sub_collect.proofs.Done.{latest-more, latest-whole, latest-key, latest_done-key, completion-push, repeats-itself, repeats-same}
+use Rattle.sub_collect.proofs.Runs.{run_of-push, latest-run, latest-push, all-latest, no-latest}
+use Rattle.sub_collect.proofs.Slots.{whole-by}
+use Rattle.sub_collect.proofs.Done.{done_key, latest-more, latest-whole, latest-key, latest_done-key, completion-push, repeats-itself, repeats-same}
 use Rattle.sub_collect.proofs.Putting.{put-stands}
 
 -- ---- a section that is put into a run
@@ -29,12 +29,6 @@ latest-kept (Some b) (Some d) keys = go (repeats b d) refl
     go : (r : Bool) → repeats b d ≡ r → (if r then Some b else Some d) ≡ Some d
     go true e = ap (λ (x : Completed). Some x) (repeats-same b d (keys b d refl refl) e)
     go false e = refl
-
-done_key : (s : Counted) (o : Option Content) (d : Completed) → option_map (done_at s) o ≡ Some d → d.key ≡ s.key
-done_key s None d e = cc
-done_key s (Some c) d e =
-    let f : done_at s c ≡ d = cc in
-    ap (λ (x : Completed). x.key) (sym f)
 
 -- the run goes on behind these sections of it, which may be none
 module _ (k : Key) (heard : List Counted) (all : AllByRecursion (IsOfKey k) heard) (s : Counted) (of_key : s.key ≡ k) (front : List Counted) (run : run_of (heard ++ s ∷ []) ≡ front ++ s ∷ []) where

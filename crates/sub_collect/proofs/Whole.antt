@@ -1,18 +1,17 @@
 -- The sections of a content, in order, complete it.
-use Rattle.std.proofs.Common.{◌≡◌, ◌≢◌, ℕ, zero, suc, ◌+◌, ◌-◌, ◌<◌, ◌≤◌, List, [], ◌∷◌, ◌++◌, Bool, true, false, ◌&&◌, ◌==◌, length, map, refl, sym, ap, ◌∙◌, subst, arith, append_assoc, append-nil, eq-eqb, eqb-true}
-use Rattle.std.specs.Prelude.{if◌then◌else◌, cond, filter, Option, Some, None}
+use Rattle.std.proofs.Common.{◌≡◌, ℕ, ◌+◌, ◌-◌, ◌<◌, List, [], ◌∷◌, ◌++◌, Bool, true, false, ◌==◌, length, map, refl, sym, ap, ◌∙◌, subst, arith, append_assoc, append-nil, eq-eqb, eqb-true}
+use Rattle.std.specs.Prelude.{cond, filter, Option, Some, None}
 use Rattle.std.specs.List.{AllByRecursion}
 use Rattle.std.proofs.lemmas.List.Elements.{filter-append}
 use Rattle.section_codec.specs.declared.table.Key.{Key}
 use Rattle.section_codec.specs.declared.table.NumberedBody.{NumberedBody}
-use Rattle.version_book.specs.Airings.{Content, is_key}
 use Rattle.version_book.proofs.Versions.{is_key-itself}
 use Rattle.sub_collect.specs.Runs.{Counted, latest_section, has_number, latest_with, numbers_from, run_of, whole, completed}
 use Rattle.sub_collect.specs.Completions.{is_of, sections_of}
 use Rattle.sub_collect.specs.Collectors.{body_of}
 use Rattle.sub_collect.specs.Slots.{with_body, content_by}
-use Rattle.sub_collect.specs.Laws.{IsNumbered, section_with, sections_with, WholeCompletes}
-use Rattle.sub_collect.proofs.Runs.{run_of-push, run_of-new, latest-push, version-joins}
+use Rattle.sub_collect.specs.Laws.{section_with, sections_with, WholeCompletes}
+use Rattle.sub_collect.proofs.Runs.{run_of-new, latest-push, version-joins}
 use Rattle.sub_collect.proofs.Slots.{whole-by}
 
 -- ---- the run that sections of one version end

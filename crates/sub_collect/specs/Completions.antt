@@ -1,5 +1,5 @@
 -- The completions of a list of counted sections of any keys, and those of them that are shown.
-use Rattle.std.specs.Prelude.{◌≡◌, ℕ, List, [], ◌∷◌, ◌++◌, Bool, ◌&&◌, ◌==◌, if◌then◌else◌, filter, Option, Some, None, option_map}
+use Rattle.std.specs.Prelude.{◌≡◌, List, [], ◌∷◌, ◌++◌, Bool, ◌&&◌, ◌==◌, if◌then◌else◌, filter, Option, Some, None, option_map}
 use Rattle.std.specs.List.{cons_option}
 use Rattle.section_codec.specs.declared.table.Key.{Key}
 use Rattle.version_book.specs.Airings.{Content, is_key, is_content}

@@ -1,11 +1,11 @@
 -- Laws of completions, for the layers above.
-use Rattle.std.specs.Prelude.{◌≡◌, ◌≢◌, ℕ, ◌+◌, ◌-◌, ◌<◌, List, [], ◌∷◌, ◌++◌, Bool, true, if◌then◌else◌, filter, map, length, Option, Some, None, ◌==◌, option_to_list, IsSome}
+use Rattle.std.specs.Prelude.{◌≡◌, ◌≢◌, ℕ, ◌+◌, ◌-◌, ◌<◌, List, [], ◌∷◌, ◌++◌, Bool, if◌then◌else◌, filter, map, length, Option, Some, None, ◌==◌, option_to_list, IsSome}
 use Rattle.std.specs.List.{AllByRecursion}
 use Rattle.std.specs.Option.{option_or}
 use Rattle.section_codec.specs.declared.table.Key.{Key}
 use Rattle.section_codec.specs.declared.table.NumberedBody.{NumberedBody}
 use Rattle.version_book.specs.Airings.{Content, is_key}
-use Rattle.sub_collect.specs.Runs.{Counted, all_of_version, run_of, latest_section, latest_with, numbers_from, completed}
+use Rattle.sub_collect.specs.Runs.{Counted, run_of, latest_section, latest_with, numbers_from, completed}
 use Rattle.sub_collect.specs.Completions.{is_of, sections_of, completion, latest_done, latest_of, shown_at, dones}
 use Rattle.sub_collect.specs.declared.completed.Completed.{Completed}
 

@@ -1,10 +1,10 @@
 -- Worked lists of sections.
-use Rattle.std.specs.Prelude.{◌≡◌, ℕ, zero, suc, ◌+◌, ◌%◌, List, [], ◌∷◌, ◌++◌, Some, None, map, length, refl}
+use Rattle.std.specs.Prelude.{◌≡◌, ℕ, zero, suc, ◌%◌, List, [], ◌∷◌, ◌++◌, Some, None, map, length, refl}
 use Rattle.section_codec.specs.declared.table.Key.{Key}
 use Rattle.section_codec.specs.declared.table.NumberedBody.{NumberedBody}
 use Rattle.version_book.specs.Airings.{Content}
-use Rattle.sub_collect.specs.Runs.{Counted, run_of, needed, completed}
-use Rattle.sub_collect.specs.Completions.{sections_of, latest_of, shown_at, dones}
+use Rattle.sub_collect.specs.Runs.{Counted, run_of, needed}
+use Rattle.sub_collect.specs.Completions.{latest_of, dones}
 use Rattle.sub_collect.specs.declared.completed.Completed.{Completed}
 
 abbrev sdt : Key

@@ -1,5 +1,5 @@
 -- The map behind a collector, as what it keeps.
-use Rattle.std.specs.Prelude.{◌≡◌, ℕ, List, [], ◌∷◌, ◌&&◌, ◌==◌, bytes_eq, Bool, false, if◌then◌else◌, map, Option, Some, None}
+use Rattle.std.specs.Prelude.{ℕ, List, [], ◌∷◌, ◌==◌, bytes_eq, Bool, false, if◌then◌else◌, map, Option, Some, None}
 use Rattle.section_codec.specs.declared.table.Key.{Key}
 use Rattle.version_book.specs.Airings.{Content}
 use Rattle.sub_collect.specs.Completions.{repeats}

@@ -104,7 +104,8 @@ impl Slot {
         }
     }
 
-    // Counts one section more of the key.
+    // Counts one section more of the key. A carousel repeats its sections for ever: what is held already
+    // costs one comparison.
     fn take(
         &mut self,
         alloc: Global,

@@ -52,6 +52,7 @@ impl Run {
             → StandsForRun (run ++ counted key header.now body ∷ []) (kept_run self.new)) }
         ensures memory { OnErr result (kept_run self.new ≡ kept_run self.old) }
     {
+        // The bodies are walked only where no number is missing, and nothing changes before all memory is had.
         let front = self.front_with(header.number);
         let done = if u16::from(header.last) < front {
             self.whole_with(alloc, key, header, body.as_slice())?
@@ -75,7 +76,7 @@ impl Run {
             }
     }
 
-    // How many numbers from 0 on are held once this number is.
+    // How many numbers from 0 on are held once this number is. Each number is passed once in a run.
     fn front_with(&self, number: u8) -> u16
         ensures { IsFront (λ n. body_in n self.now.held.entries) self.now.front → (body : List ℕ)
             → IsFront (held_with (λ n. body_in n self.now.held.entries) number body) result }
@@ -90,7 +91,7 @@ impl Run {
         front
     }
 
-    // What the run completes once a section is put.
+    // What the run completes once a section is put: a copy of each body, or None where one is missing.
     fn whole_with(
         &self,
         alloc: Global,

@@ -1,4 +1,4 @@
-use Rattle.std.proofs.Common.{◌≡◌, ℕ, ◌++◌, ◌∷◌, [], List, Option, Some, None, option_map, ap, sym, refl, subst, ◌∙◌}
+use Rattle.std.proofs.Common.{◌≡◌, ◌++◌, ◌∷◌, [], List, Some, None, option_map, ap, sym, refl, subst, ◌∙◌}
 use Rattle.std.specs.Prelude.{IsSome, cond, if◌then◌else◌}
 use Rattle.std.specs.BTreeMap.{BTreeMap, get, is_at}
 use Rattle.std.proofs.lemmas.Result.{IfOk-weaker, on_ok_weaker, on_err_weaker}
@@ -6,8 +6,8 @@ use Rattle.section_codec.specs.declared.table.Key.{Key}
 use Rattle.version_book.specs.Airings.{is_key}
 use Rattle.version_book.specs.Slots.{key_cmp}
 use Rattle.sub_collect.specs.Runs.{Counted, counted}
-use Rattle.sub_collect.specs.Completions.{sections_of, completion, completions, latest_done, shown_after, shown_at}
-use Rattle.sub_collect.specs.Collectors.{Kept, KeptKeys, kept_in, IsKeptOf, Stands}
+use Rattle.sub_collect.specs.Completions.{sections_of}
+use Rattle.sub_collect.specs.Collectors.{KeptKeys, kept_in, IsKeptOf}
 use Rattle.sub_collect.specs.Slots.{kept_by, shown}
 use Rattle.sub_collect.specs.declared.completed.Completed.{Completed}
 use Rattle.sub_collect.specs.declared.collector.Slot.{Slot}

@@ -1,8 +1,8 @@
-use Rattle.std.proofs.Common.{◌≡◌, ℕ, ◌++◌, ◌∷◌, [], List, Bool, true, Option, Some, None, option_map, ap, sym, refl, subst, ◌∙◌}
-use Rattle.sub_collect.specs.Runs.{Counted, all_of_version, counted, run_of, whole}
-use Rattle.sub_collect.specs.Completions.{done_at, completion, completions, latest_done, shown_after}
+use Rattle.std.proofs.Common.{ℕ, ◌++◌, ◌∷◌, [], Option, option_map, ap, sym, refl, subst, ◌∙◌}
+use Rattle.sub_collect.specs.Runs.{all_of_version, counted, run_of}
+use Rattle.sub_collect.specs.Completions.{completion, shown_after}
 use Rattle.sub_collect.specs.Collectors.{IsKeptOf, body_in}
-use Rattle.sub_collect.specs.Slots.{kept_run, kept_by, is_body, latest_with_done}
+use Rattle.sub_collect.specs.Slots.{kept_run, kept_by, latest_with_done}
 use Rattle.sub_collect.specs.declared.completed.Completed.{Completed}
 use Rattle.sub_collect.proofs.Runs.{run_of-push, run_of-other}
 use Rattle.sub_collect.proofs.Taking.{put-done, put-kept, repeat-kept, repeat-shows, repeat-test}

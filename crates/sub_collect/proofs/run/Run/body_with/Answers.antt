@@ -1,4 +1,4 @@
-use Rattle.std.proofs.Common.{◌≡◌, ℕ, Some, ap, sym, ◌∙◌}
+use Rattle.std.proofs.Common.{Some, ap, sym, ◌∙◌}
 use Rattle.sub_collect.specs.Collectors.{body_in}
 use Rattle.sub_collect.proofs.Slots.{body_in-get}
 use Rattle.sub_collect.proofs.Fronts.{with_other}

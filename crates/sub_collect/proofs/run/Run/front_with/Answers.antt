@@ -1,4 +1,4 @@
-use Rattle.std.proofs.Common.{◌≡◌, ◌≢◌, ℕ, ◌+◌, ◌<◌, List, Option, None, true, false, subst, sym, ap, ◌∙◌, arith, rules}
+use Rattle.std.proofs.Common.{◌≡◌, ℕ, ◌<◌, true, false, subst, sym, ◌∙◌, arith}
 use Rattle.sub_collect.specs.Collectors.{IsFront, body_in}
 use Rattle.sub_collect.proofs.Fronts.{held-get, is_some-none, front-moves, held-more}
 use Rattle.sub_collect.proofs.run.Run.front_with.Goals as goal

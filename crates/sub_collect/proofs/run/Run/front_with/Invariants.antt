@@ -1,4 +1,4 @@
-use Rattle.std.proofs.Common.{◌≡◌, ℕ, ◌+◌, ◌-◌, ◌<◌, ◌≤◌, List, true}
+use Rattle.std.proofs.Common.{◌≡◌, ℕ, ◌-◌, ◌<◌, ◌≤◌, true}
 use Rattle.std.specs.Prelude.{is_some}
 use Rattle.sub_collect.specs.Collectors.{body_in}
 use Rattle.sub_collect.proofs.run.Run.front_with.Given as goal

@@ -1,8 +1,7 @@
-use Rattle.std.proofs.Common.{◌≡◌, ℕ, ◌+◌, ◌∷◌, ◌++◌, [], ◌<◌, ◌≤◌, List, Option, Some, None, option_map, ap, sym, refl, ◌∙◌, arith}
-use Rattle.version_book.specs.Airings.{Content}
-use Rattle.sub_collect.specs.Runs.{Counted, counted, numbers_from, whole}
+use Rattle.std.proofs.Common.{ℕ, ◌+◌, List, option_map, ap, sym, refl, ◌∙◌, arith}
+use Rattle.sub_collect.specs.Runs.{counted, numbers_from}
 use Rattle.sub_collect.specs.Completions.{done_at}
-use Rattle.sub_collect.specs.Collectors.{StandsForRun, body_in}
+use Rattle.sub_collect.specs.Collectors.{body_in}
 use Rattle.sub_collect.specs.Slots.{kept_run, held_with, content_by}
 use Rattle.sub_collect.proofs.Putting.{inserted, put-stands, put-whole, put-gap}
 use Rattle.sub_collect.proofs.run.Run.put.Goals as goal

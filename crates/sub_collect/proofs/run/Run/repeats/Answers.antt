@@ -1,4 +1,4 @@
-use Rattle.std.proofs.Common.{◌≡◌, List, ℕ, Some, None, refl, ap, sym, ◌∙◌}
+use Rattle.std.proofs.Common.{List, ℕ, Some, None, refl, ap, sym, ◌∙◌}
 use Rattle.std.specs.Prelude.{bytes_eq}
 use Rattle.sub_collect.specs.Collectors.{body_in}
 use Rattle.sub_collect.proofs.Slots.{body_in-get}

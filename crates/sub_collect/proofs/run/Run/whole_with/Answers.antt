@@ -1,4 +1,4 @@
-use Rattle.std.proofs.Common.{◌≡◌, ℕ, ◌+◌, ◌++◌, ◌∷◌, [], ◌<◌, ◌≤◌, List, Option, Some, None, option_map, ap, sym, refl, ◌∙◌, arith, Vec, Global}
+use Rattle.std.proofs.Common.{◌≡◌, ◌+◌, Some, option_map, ap, sym, refl, ◌∙◌, arith, Vec, Global}
 use Rattle.section_codec.specs.declared.table.NumberedBody.{NumberedBody}
 use Rattle.version_book.specs.Airings.{Content}
 use Rattle.sub_collect.specs.Runs.{counted, numbers_from}

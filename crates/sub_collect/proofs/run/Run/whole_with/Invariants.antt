@@ -1,4 +1,4 @@
-use Rattle.std.proofs.Common.{◌≡◌, ℕ, ◌+◌, ◌≤◌}
+use Rattle.std.proofs.Common.{◌≡◌, ◌+◌, ◌≤◌}
 use Rattle.sub_collect.specs.Runs.{numbers_from}
 use Rattle.sub_collect.specs.Collectors.{body_in}
 use Rattle.sub_collect.specs.Slots.{held_with, content_by}
