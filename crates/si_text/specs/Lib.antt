@@ -1,3 +1,5 @@
 pub mod Coding
 pub mod Control
+pub mod Decoding
+pub mod Cutting
 pub mod Rows

@@ -1,12 +1,12 @@
 // The coded form of a text.
-ghost use Rattle.std.specs.Prelude.{◌≡◌, length, IfOk};
+ghost use Rattle.std.specs.Prelude.{◌≡◌, ◌++◌, length, IfOk, OnOk, OnErr};
 ghost use Rattle.si_text.specs.Coding.{is_plain, all_plain, coded_text, coded_size};
 
 use si_base::Bytes;
 use std::alloc::{AllocError, Global};
 
 /// The first byte of a text in UTF-8 (EN 300 468, annex A, table A.3).
-const UTF8: u8 = 0x15;
+pub(crate) const UTF8: u8 = 0x15;
 
 /// Whether a byte is a character of the plain set, which is coded as it is. It takes no memory.
 pub fn is_plain_byte(b: u8) -> bool
@@ -37,17 +37,17 @@ pub fn is_plain_byte(b: u8) -> bool
     )
 }
 
-fn is_all_plain(text: &str) -> bool
-    ensures { result ≡ all_plain text.now }
+pub(crate) fn is_all_plain(bytes: &[u8]) -> bool
+    ensures { result ≡ all_plain bytes.now }
 {
-    text.as_bytes().iter().all(|b| is_plain_byte(*b))
+    bytes.iter().all(|b| is_plain_byte(*b))
 }
 
 /// The number of bytes that a text is coded as. It takes no memory.
 pub fn coded_len(text: &str) -> usize
     ensures { result ≡ coded_size text.now }
 {
-    if is_all_plain(text) {
+    if is_all_plain(text.as_bytes()) {
         text.len()
     } else {
         1 + text.len()
@@ -61,9 +61,23 @@ pub fn encode_text(alloc: Global, text: &str) -> Result<Bytes, AllocError>
     ensures size { IfOk result (λ coded. length coded ≡ coded_size text.now) }
 {
     let mut coded = Vec::new(alloc);
-    if !is_all_plain(text) {
-        coded.push(UTF8)?;
-    }
-    coded.extend_from_slice(text.as_bytes())?;
+    append_text(text, &mut coded)?;
     Ok(Bytes::of(coded))
+}
+
+/// Appends the bytes that a text is coded as. Want of memory changes nothing.
+pub fn append_text(text: &str, out: &mut Vec<u8>) -> Result<(), AllocError>
+    ensures ok { OnOk result (out.new.items ≡ out.old.items ++ coded_text text.now) }
+    ensures memory { OnErr result (out.new.items ≡ out.old.items) }
+{
+    let bytes = text.as_bytes();
+    if is_all_plain(bytes) {
+        return out.extend_from_slice(bytes);
+    }
+    out.push(UTF8)?;
+    if let Err(error) = out.extend_from_slice(bytes) {
+        out.pop();
+        return Err(error);
+    }
+    Ok(())
 }

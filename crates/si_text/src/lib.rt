@@ -1,14 +1,21 @@
-//! Texts: kept texts, which have no control character, and how they are coded in descriptors
+//! Texts: kept texts, which have no control character, and how they are coded in descriptors and read there
 //! (EN 300 468, annex A).
 //!
-//! The layers above use two things: a `Txt` never has a control character, and `coded_len` and `encode_text` are
-//! the length and the bytes of the coded form.
+//! The layers above use: a `Txt` never has a control character; `coded_len` and `encode_text` are the length and the
+//! bytes of the coded form; `decode_text` shows bytes, and what was encoded from a `Txt` as that text; `cut_len` cuts a
+//! long text into pieces that join to it.
 #![tactic(auto)]
 
 mod coding;
+mod cutting;
+mod decoding;
+mod shown;
 mod txt;
 
-pub use coding::{coded_len, encode_text, is_plain_byte};
+pub use coding::{append_text, coded_len, encode_text, is_plain_byte};
+pub use cutting::{cut_len, pieces_join};
+pub use decoding::{coded_texts_decode, decode_text};
+pub use shown::Shown;
 pub use txt::Txt;
 
 #[cfg(test)]

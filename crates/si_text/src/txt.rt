@@ -1,5 +1,5 @@
 // Texts that are kept.
-ghost use Rattle.std.specs.Prelude.{◌≡◌, IfOk, Some, None, false, if◌then◌else◌};
+ghost use Rattle.std.specs.Prelude.{◌≡◌, IfOk, Some, None, false, if◌then◌else◌, IsUtf8};
 ghost use Rattle.std.specs.Str.{chars};
 ghost use Rattle.std.specs.List.{list_any};
 ghost use Rattle.si_text.specs.Control.{is_control, has_control};
@@ -50,6 +50,7 @@ impl Txt {
     pub fn as_str(&self) -> &str
         ensures value { result.now ≡ self.now }
         ensures clean { has_control self.now ≡ false }
+        ensures utf8 { IsUtf8 self.now }
     {
         self.text.as_str()
     }
