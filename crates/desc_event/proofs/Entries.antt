@@ -36,7 +36,7 @@ content-reads_back (g ∷ genres) fit =
 
 -- ---- parental_rating
 
-three_of : (xs : List ℕ) → length xs ≡ 3 → (a : ℕ) × (b : ℕ) × (c : ℕ) × (xs ≡ a ∷ b ∷ c ∷ [])
+pub three_of : (xs : List ℕ) → length xs ≡ 3 → (a : ℕ) × (b : ℕ) × (c : ℕ) × (xs ≡ a ∷ b ∷ c ∷ [])
 three_of [] e = absurd (omega arith)
 three_of (a ∷ []) e = absurd (omega arith)
 three_of (a ∷ b ∷ []) e = absurd (omega arith)

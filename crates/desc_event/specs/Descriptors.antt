@@ -3,9 +3,13 @@ use Rattle.std.specs.Prelude.{◌≡◌, ℕ, ◌<◌, List, ◌∷◌, ◌++◌
 use Rattle.std.specs.List.{flat_map, AllByRecursion}
 use Rattle.desc_event.specs.declared.descriptors.RawDesc.{RawDesc}
 
--- a descriptor as it is written: descriptor_tag, descriptor_length, and so many bytes
+-- a length of 8 bits, and so many bytes
+abbrev pub with_length : List ℕ → List ℕ
+with_length bytes = length bytes ∷ bytes
+
+-- a descriptor as it is written: descriptor_tag 8, descriptor_length 8, body
 abbrev pub descriptor : ℕ → List ℕ → List ℕ
-descriptor tag body = tag ∷ length body ∷ body
+descriptor tag body = tag ∷ with_length body
 
 abbrev pub descriptor_bytes : RawDesc → List ℕ
 descriptor_bytes d = descriptor d.tag d.body
