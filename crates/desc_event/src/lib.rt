@@ -5,6 +5,7 @@
 mod coded;
 mod content;
 mod descriptors;
+mod event_descriptors;
 mod extended_event;
 mod laws;
 mod parental_rating;
@@ -13,6 +14,7 @@ mod short_event;
 
 pub use content::{read_content, write_content};
 pub use descriptors::{RawDesc, RawDescs, read_descriptors};
+pub use event_descriptors::{event_len, write_event_descriptors};
 pub use extended_event::{ExtendedPiece, read_extended_event, write_extended_event};
 pub use laws::written_descriptors_read_back;
 pub use parental_rating::{Ratings, read_parental_rating, write_parental_rating};

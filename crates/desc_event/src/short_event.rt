@@ -30,17 +30,26 @@ pub fn write_short_event(event: &ShortEvent, out: &mut Vec<u8>) -> Result<(), Al
 {
     let name = Coded::of_shown(&event.name);
     let short = Coded::of_shown(&event.short);
-    out.reserve(7 + name.len() + short.len())?;
+    out.reserve(short_event_len(&event.language, &name, &short))?;
     put_short_event(&event.language, &name, &short, out);
     Ok(())
+}
+
+/// How many bytes a short_event_descriptor has.
+pub(crate) fn short_event_len(language: &[u8; 3], name: &Coded, text: &Coded) -> usize
+    requires { length name.now + length text.now ≤ 250 }
+    ensures size { result ≡ length (descriptor 0x4D (short_event_fields language.now name.now text.now)) }
+    ensures at_most { result ≤ 257 }
+{
+    4 + language.len() + name.len() + text.len()
 }
 
 /// Appends a short_event_descriptor to a buffer that has room for it.
 pub(crate) fn put_short_event(language: &[u8; 3], name: &Coded, text: &Coded, out: &mut Vec<u8>)
     requires length { length name.now + length text.now ≤ 250 }
-    requires room { vec_len out.old + (7 + length name.now + length text.now) ≤ vec_capacity out.old }
+    requires room { vec_len out.old + length (descriptor 0x4D (short_event_fields language.now name.now text.now)) ≤ vec_capacity out.old }
     ensures items { out.new.items ≡ out.old.items ++ descriptor 0x4D (short_event_fields language.now name.now text.now) }
-    ensures len { vec_len out.new ≡ vec_len out.old + (7 + length name.now + length text.now) }
+    ensures len { vec_len out.new ≡ vec_len out.old + length (descriptor 0x4D (short_event_fields language.now name.now text.now)) }
     ensures capacity { vec_capacity out.old ≤ vec_capacity out.new }
 {
     put(out, &[TAG, (5 + name.len() + text.len()) as u8]);
