@@ -1,1 +1,5 @@
 pub mod PlainFacts
+pub mod RoundTrip
+pub mod CutFacts
+pub mod PieceFacts
+pub mod LenFacts

@@ -60,7 +60,7 @@ pub fn encode_text(alloc: Global, text: &str) -> Result<Bytes, AllocError>
     ensures bytes { IfOk result (λ coded. coded ≡ coded_text text.now) }
     ensures size { IfOk result (λ coded. length coded ≡ coded_size text.now) }
 {
-    let mut coded = Vec::new(alloc);
+    let mut coded = Vec::with_capacity(alloc, 1 + text.len())?;
     append_text(text, &mut coded)?;
     Ok(Bytes::of(coded))
 }

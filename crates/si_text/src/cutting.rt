@@ -19,8 +19,9 @@ pub fn cut_len(text: &str) -> usize
     ensures fits { coded_size (take result text.now) ≤ 249 }
     ensures longest { (n : ℕ) → result < n → IsCharBoundary text.now n → 249 < coded_size (take n text.now) }
 {
-    if is_all_plain(&text.as_bytes()[..PIECE.min(text.len())]) {
-        PIECE.min(text.len())
+    let front = PIECE.min(text.len());
+    if is_all_plain(&text.as_bytes()[..front]) {
+        front
     } else {
         text.floor_char_boundary(PIECE - 1)
     }

@@ -1,5 +1,6 @@
 // What the bytes of a coded text are shown as.
-ghost use Rattle.std.specs.Prelude.{◌≡◌, ℕ, List, IfOk, MatchOption, Some, None};
+ghost use Rattle.std.specs.Prelude.{◌≡◌, ℕ, List, IfOk, MatchOption, Some, None, true, false};
+ghost use Rattle.std.specs.Str.{is_utf8};
 ghost use Rattle.si_text.specs.Coding.{coded_text};
 ghost use Rattle.si_text.specs.Decoding.{IsKept, IsAsDecoded, decoded, text_in};
 ghost use Rattle.si_text.specs.declared.shown.Shown.TheVariants.{Text};
@@ -27,11 +28,19 @@ pub fn decode_text(alloc: Global, bytes: &[u8]) -> Result<Shown, AllocError>
 fn text_in(bytes: &[u8]) -> Option<&str>
     ensures { MatchOption result (text_in bytes.now ≡ None) (λ text. text_in bytes.now ≡ Some text.now) }
 {
+    if is_all_plain(bytes) {
+        return utf8_in(bytes);
+    }
     match bytes.split_first() {
-        Some((&UTF8, text)) => str::from_utf8(text).ok(),
-        _ if is_all_plain(bytes) => str::from_utf8(bytes).ok(),
+        Some((&UTF8, text)) => utf8_in(text),
         _ => None,
     }
+}
+
+fn utf8_in(bytes: &[u8]) -> Option<&str>
+    ensures { MatchOption result (is_utf8 bytes.now ≡ false) (λ text. (is_utf8 bytes.now ≡ true) × (text.now ≡ bytes.now)) }
+{
+    str::from_utf8(bytes).ok()
 }
 
 /// Texts come back: what was encoded from a text decodes to Text of it, and what is shown, encoded again, is shown

@@ -1,0 +1,20 @@
+use Rattle.si_text.proofs.PieceFacts.{pieces-none, pieces-next, pieces-join, pieces-longest, pieces-kept, pieces-few}
+use Rattle.si_text.proofs.cutting.pieces_join.Goals as goal
+
+pub returns-clause-none : goal.returns-clause-none
+returns-clause-none c = pieces-none
+
+pub returns-clause-next : goal.returns-clause-next
+returns-clause-next c = pieces-next
+
+pub returns-clause-join : goal.returns-clause-join
+returns-clause-join c = pieces-join
+
+pub returns-clause-longest : goal.returns-clause-longest
+returns-clause-longest c = pieces-longest
+
+pub returns-clause-kept : goal.returns-clause-kept
+returns-clause-kept c = pieces-kept
+
+pub returns-clause-few : goal.returns-clause-few
+returns-clause-few c = pieces-few
