@@ -60,10 +60,7 @@ pub(crate) fn put_extended_event(
 
 /// The piece of the body of an extended_event_descriptor, or `None` exactly where a length runs past the end or bytes
 /// are left over (EN 300 468, 6.2.15).
-pub fn read_extended_event(
-    alloc: Global,
-    body: &[u8],
-) -> Result<Option<ExtendedPiece>, AllocError>
+pub fn read_extended_event(alloc: Global, body: &[u8]) -> Result<Option<ExtendedPiece>, AllocError>
     ensures { IfOk result (λ read. read ≡ extended_event_in body.now) }
 {
     let Some(text) = text_of(body) else {
