@@ -6,7 +6,7 @@ use Rattle.std.specs.List.{concat, list_any, AllByRecursion}
 use Rattle.std.proofs.lemmas.Bool.{cases_lt}
 use Rattle.std.proofs.lemmas.List.{length-take-le, length-drop, take-append-drop}
 use Rattle.std.proofs.lemmas.List.Folds.{list_any-append}
-use Rattle.std.proofs.lemmas.Str.{IsUtf8-take, IsUtf8-drop, chars-append}
+use Rattle.std.proofs.lemmas.Str.{IsUtf8-nil, IsUtf8-append, IsUtf8-take, IsUtf8-drop, chars-nil, chars-append}
 use Rattle.si_text.specs.Control.{is_control, has_control}
 use Rattle.si_text.specs.Cutting.{cut_size, first_pieces, pieces, IsLongestCut, ArePieces}
 use Rattle.si_text.specs.Decoding.{IsKept}
@@ -93,15 +93,29 @@ or_none : (a b : Bool) → (a || b) ≡ false → (a ≡ false) × (b ≡ false)
 or_none false b e = (refl, e)
 or_none true b e = cc
 
+-- a control character of two texts one behind the other is one of either
+pub has_control-append : (front rest : List ℕ) → IsUtf8 front → has_control (front ++ rest) ≡ (has_control front || has_control rest)
+has_control-append front rest u = ap (list_any is_control) (chars-append front rest u) ∙ list_any-append is_control (chars front) (chars rest)
+
+pub IsKept-append : (front rest : List ℕ) → IsKept front → IsKept rest → IsKept (front ++ rest)
+IsKept-append front rest f r = record {
+  utf8 = IsUtf8-append front rest f.utf8 r.utf8;
+  clean = has_control-append front rest f.utf8 ∙ ap (λ c. c || has_control rest) f.clean ∙ r.clean;
+}
+
+-- kept texts join to a kept text
+pub IsKept-concat : (texts : List (List ℕ)) → AllByRecursion IsKept texts → IsKept (concat texts)
+IsKept-concat [] all = record { utf8 = IsUtf8-nil; clean = ap (list_any is_control) chars-nil }
+IsKept-concat (text ∷ more) all = IsKept-append text (concat more) all.0 (IsKept-concat more all.1)
+
 -- both parts of a kept text are kept
 pub IsKept-parts : (text : List ℕ) → IsKept text → IsKept (take (cut_size text) text) × IsKept (drop (cut_size text) text)
 IsKept-parts text k =
     let front = take (cut_size text) text in
     let rest = drop (cut_size text) text in
     let uf = IsUtf8-front text k.utf8 in
-    let split : list_any is_control (chars text) ≡ (has_control front || has_control rest) =
-    ap (λ t. list_any is_control (chars t)) (sym (take-append-drop (cut_size text) text))
-    ∙ ap (list_any is_control) (chars-append front rest uf) ∙ list_any-append is_control (chars front) (chars rest) in
+    let split : has_control text ≡ (has_control front || has_control rest) =
+    ap has_control (sym (take-append-drop (cut_size text) text)) ∙ has_control-append front rest uf in
     let clean = or_none (has_control front) (has_control rest) (sym split ∙ k.clean) in
     (record { utf8 = uf; clean = clean.0 }, record { utf8 = IsUtf8-rest text k.utf8; clean = clean.1 })
 

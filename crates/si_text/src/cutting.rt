@@ -28,12 +28,14 @@ pub fn cut_len(text: &str) -> usize
 }
 
 /// The pieces of a text: the empty text has none; another has its longest front and the pieces of the rest. They
-/// join to the text, and each is text that may be kept where the whole is. All but the last have at least 245 bytes.
+/// join to the text, and each is text that may be kept where the whole is, and the other way round. All but the last
+/// have at least 245 bytes.
 pub fn pieces_join()
     ensures none { pieces [] ≡ [] }
     ensures next { (text : List ℕ) → IsUtf8 text → 0 < length text → pieces text ≡ take (cut_size text) text ∷ pieces (drop (cut_size text) text) }
     ensures join { (text : List ℕ) → IsUtf8 text → concat (pieces text) ≡ text }
     ensures longest { (text : List ℕ) → IsUtf8 text → ArePieces text (pieces text) }
     ensures kept { (text : List ℕ) → IsKept text → AllByRecursion IsKept (pieces text) }
+    ensures joined { (texts : List (List ℕ)) → AllByRecursion IsKept texts → IsKept (concat texts) }
     ensures few { (text : List ℕ) → IsUtf8 text → 245 * length (pieces text) ≤ length text + 244 }
 {}

@@ -1,7 +1,7 @@
 // Values from outside: the characters on both sides of each bound, and coded forms written by hand.
 use crate::{Shown, Txt, append_text, coded_len, cut_len, decode_text, encode_text, is_plain_byte};
 use si_base::Copies;
-use std::alloc::Global;
+use std::alloc::{AllocError, Global};
 use std::test::Fail;
 
 const PLAIN: &str =
@@ -9,7 +9,6 @@ const PLAIN: &str =
 
 #[test]
 fn kept_texts(rt: HostRuntime) -> Result<(), Fail> {
-    let alloc = rt.alloc();
     for (text, is_kept) in [
         ("", true),
         ("\0", false),
@@ -30,28 +29,30 @@ fn kept_texts(rt: HostRuntime) -> Result<(), Fail> {
         ("\u{10FFFF}", true),
         (PLAIN, true),
     ] {
-        let kept = Txt::of(alloc, text)?;
-        let bytes = text.as_bytes();
-        assert_eq!(rt; kept.is_some(), is_kept, "of {bytes:?}");
-        if let Some(kept) = kept {
-            assert_eq!(rt; kept.as_str().as_bytes(), bytes);
-            assert_eq!(rt; kept.copy()?.as_str().as_bytes(), bytes);
-        }
+        let want = is_kept.then_some(text);
+        assert!(rt; keeps(rt.alloc(), text, want)?, "{text}");
     }
     Ok(())
 }
 
+// Whether the text that is kept, and a copy of it, are this one.
+fn keeps(alloc: Global, text: &str, want: Option<&str>) -> Result<bool, AllocError> {
+    let Some(kept) = Txt::of(alloc, text)? else {
+        return Ok(want.is_none());
+    };
+    let copy = kept.copy()?;
+    Ok(want == Some(kept.as_str()) && want == Some(copy.as_str()))
+}
+
+#[test]
+fn plain_bytes(rt: HostRuntime) {
+    for b in 0..=255u8 {
+        assert_eq!(rt; is_plain_byte(b), PLAIN.as_bytes().contains(&b));
+    }
+}
+
 #[test]
 fn coded_forms(rt: HostRuntime) -> Result<(), Fail> {
-    let alloc = rt.alloc();
-    for b in 0..=255u8 {
-        assert_eq!(rt;
-            is_plain_byte(b),
-            PLAIN.as_bytes().contains(&b),
-            "of byte {b}"
-        );
-    }
-    let mut all = Vec::new(alloc);
     for (text, want) in [
         ("", b"".as_slice()),
         (PLAIN, PLAIN.as_bytes()),
@@ -60,23 +61,31 @@ fn coded_forms(rt: HostRuntime) -> Result<(), Fail> {
         ("#1", b"\x15#1".as_slice()),
         ("\u{20AC}", b"\x15\xE2\x82\xAC".as_slice()),
     ] {
-        assert_eq!(rt; coded_len(text), want.len(), "{text}");
-        assert_eq!(rt; encode_text(alloc, text)?.as_slice(), want, "{text}");
-        let before = all.len();
-        append_text(text, &mut all)?;
-        assert_eq!(rt; &all[before..], want, "{text}");
+        assert!(rt; is_coded_as(rt.alloc(), text, want)?, "{text}");
     }
-    let hundred = repeated(alloc, "\u{E9}", 49, "a")?;
-    assert_eq!(rt; coded_len(hundred.as_str()), 100);
-    let more = repeated(alloc, "\u{E9}", 50, "")?;
-    assert_eq!(rt; coded_len(more.as_str()), 101);
+    Ok(())
+}
+
+// Whether a text is coded as these bytes, by each of the three calls.
+fn is_coded_as(alloc: Global, text: &str, want: &[u8]) -> Result<bool, AllocError> {
+    let mut appended = Vec::from_slice(alloc, b"<")?;
+    append_text(text, &mut appended)?;
+    let coded = encode_text(alloc, text)?;
+    Ok(coded_len(text) == want.len() && coded.as_slice() == want && &appended[1..] == want)
+}
+
+#[test]
+fn names_of_a_hundred_bytes(rt: HostRuntime) -> Result<(), Fail> {
+    for (count, tail, want) in [(49, "a", 100), (50, "", 101), (50, "a", 102)] {
+        let name = repeated(rt.alloc(), "\u{E9}", count, tail)?;
+        assert_eq!(rt; coded_len(name.as_str()), want);
+    }
     Ok(())
 }
 
 // Each row: bytes, and the text that they are shown as, if any.
 #[test]
 fn shown_bytes(rt: HostRuntime) -> Result<(), Fail> {
-    let alloc = rt.alloc();
     for (bytes, want) in [
         (b"".as_slice(), Some("")),
         (b"\xA4".as_slice(), None),
@@ -104,41 +113,43 @@ fn shown_bytes(rt: HostRuntime) -> Result<(), Fail> {
         (b"\x15\xEE\x82\xA0".as_slice(), Some("\u{E0A0}")),
         (b"\x15\x15a".as_slice(), None),
     ] {
-        let shown = decode_text(alloc, bytes)?;
-        match &shown {
-            Shown::Text(text) => assert_eq!(rt; Some(text.as_str()), want, "{bytes:?}"),
-            Shown::Hex(kept) => {
-                assert_eq!(rt; want, None, "{bytes:?}");
-                assert_eq!(rt; kept.as_slice(), bytes);
-            }
-        }
+        let shown = decode_text(rt.alloc(), bytes)?;
+        assert!(rt; shows(&shown, bytes, want), "{bytes:?}");
     }
     Ok(())
 }
 
+// Whether this text is shown, or all these bytes.
+fn shows(shown: &Shown, bytes: &[u8], want: Option<&str>) -> bool {
+    match shown {
+        Shown::Text(text) => want == Some(text.as_str()),
+        Shown::Hex(kept) => want.is_none() && kept.as_slice() == bytes,
+    }
+}
+
 #[test]
-fn shown_texts_are_written(rt: HostRuntime) -> Result<(), Fail> {
-    let alloc = rt.alloc();
-    let mut out = Vec::from_slice(alloc, b"<")?;
+fn what_is_shown_is_written(rt: HostRuntime) -> Result<(), Fail> {
     for (bytes, want) in [
         (b"\x15News".as_slice(), b"News".as_slice()),
         (b"\x15\xC3\xA9".as_slice(), b"\x15\xC3\xA9".as_slice()),
         (b"\x15\xC3".as_slice(), b"\x15\xC3".as_slice()),
     ] {
-        let shown = decode_text(alloc, bytes)?.copy()?;
-        let before = out.len();
-        shown.append_to(&mut out)?;
-        assert_eq!(rt; &out[before..], want, "of {bytes:?}");
-        assert_eq!(rt; shown.coded_len(), want.len());
+        assert!(rt; is_written_as(rt.alloc(), bytes, want)?, "{bytes:?}");
     }
-    assert_eq!(rt; out.as_slice(), b"<News\x15\xC3\xA9\x15\xC3".as_slice());
     Ok(())
+}
+
+// Whether a copy of what the bytes are shown as is written as these.
+fn is_written_as(alloc: Global, bytes: &[u8], want: &[u8]) -> Result<bool, AllocError> {
+    let shown = decode_text(alloc, bytes)?.copy()?;
+    let mut out = Vec::from_slice(alloc, b"<")?;
+    shown.append_to(&mut out)?;
+    Ok(shown.coded_len() == want.len() && &out[1..] == want)
 }
 
 // Each row: so many `a`, what follows them, and where the whole is cut.
 #[test]
 fn cuts(rt: HostRuntime) -> Result<(), Fail> {
-    let alloc = rt.alloc();
     for (count, tail, want) in [
         (0, "", 0),
         (0, "\u{E9}", 2),
@@ -156,7 +167,7 @@ fn cuts(rt: HostRuntime) -> Result<(), Fail> {
         (248, "_", 248),
         (0, PLAIN, PLAIN.len()),
     ] {
-        let text = repeated(alloc, "a", count, tail)?;
+        let text = repeated(rt.alloc(), "a", count, tail)?;
         assert_eq!(rt; cut_len(text.as_str()), want, "{count} and {tail}");
     }
     Ok(())
@@ -176,7 +187,7 @@ fn pieces_of_a_long_text(rt: HostRuntime) -> Result<(), Fail> {
 }
 
 // A text so many times, and what follows.
-fn repeated(alloc: Global, text: &str, count: u32, tail: &str) -> Result<String, Fail> {
+fn repeated(alloc: Global, text: &str, count: u32, tail: &str) -> Result<String, AllocError> {
     let mut made = String::new(alloc);
     for _ in 0..count {
         made.push_str(text)?;

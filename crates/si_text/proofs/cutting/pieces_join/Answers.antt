@@ -1,4 +1,4 @@
-use Rattle.si_text.proofs.PieceFacts.{pieces-none, pieces-next, pieces-join, pieces-longest, pieces-kept, pieces-few}
+use Rattle.si_text.proofs.PieceFacts.{pieces-none, pieces-next, pieces-join, pieces-longest, pieces-kept, pieces-few, IsKept-concat}
 use Rattle.si_text.proofs.cutting.pieces_join.Goals as goal
 
 pub returns-clause-none : goal.returns-clause-none
@@ -15,6 +15,9 @@ returns-clause-longest c = pieces-longest
 
 pub returns-clause-kept : goal.returns-clause-kept
 returns-clause-kept c = pieces-kept
+
+pub returns-clause-joined : goal.returns-clause-joined
+returns-clause-joined c = IsKept-concat
 
 pub returns-clause-few : goal.returns-clause-few
 returns-clause-few c = pieces-few
