@@ -1,11 +1,11 @@
 -- Entries of content and parental_rating, read one after the other.
-use Rattle.std.proofs.Common.{◌≡◌, ℕ, ◌+◌, ◌*◌, ◌/◌, ◌%◌, ◌<◌, List, [], ◌∷◌, ◌++◌, length, Option, Some, None, refl, sym, ap, subst, ◌∙◌, append_assoc, arith, length-append}
+use Rattle.std.proofs.Common.{◌≡◌, ℕ, ◌+◌, ◌*◌, ◌/◌, ◌%◌, List, [], ◌∷◌, ◌++◌, length, Option, Some, None, refl, sym, ap, subst, ◌∙◌, append_assoc, arith, length-append}
 use Rattle.std.specs.Option.{option_map}
-use Rattle.std.specs.List.{flat_map, AllByRecursion}
+use Rattle.std.specs.List.{AllByRecursion}
 use Rattle.guide_model.specs.declared.event.Genre.{Genre}
 use Rattle.guide_model.specs.declared.event.Rating.{Rating}
-use Rattle.desc_event.specs.Content.{genre_bytes, content_body, genre_of, content_in, HasNibbles, ContentReadsBack}
-use Rattle.desc_event.specs.ParentalRating.{rating_bytes, parental_rating_body, rating_of, parental_rating_in, HasThreeLetters, ParentalRatingReadsBack}
+use Rattle.desc_event.specs.Content.{content_body, genre_of, ContentReadsBack}
+use Rattle.desc_event.specs.ParentalRating.{parental_rating_body, rating_of, parental_rating_in, HasThreeLetters, ParentalRatingReadsBack}
 
 -- entries that were read stand before those still to be read
 abbrev pub behind : {A : Type 0} → List A → Option (List A) → Option (List A)

@@ -1,9 +1,9 @@
 -- The fields of written bodies at their places.
-use Rattle.std.proofs.Common.{◌≡◌, ℕ, ◌+◌, ◌*◌, ◌/◌, ◌%◌, ◌<◌, Bool, true, List, [], ◌∷◌, ◌++◌, length, take, drop, Option, Some, None, refl, sym, ap, subst, ◌∙◌, arith, length-append, eq-eqb, if◌then◌else◌}
+use Rattle.std.proofs.Common.{◌≡◌, ℕ, ◌+◌, ◌*◌, ◌/◌, ◌%◌, Bool, true, List, [], ◌∷◌, ◌++◌, length, drop, Some, None, sym, ap, ◌∙◌, arith, length-append, eq-eqb, if◌then◌else◌}
 use Rattle.std.specs.Prelude.{slice_index}
 use Rattle.std.proofs.lemmas.List.{get_or-append-add}
 use Rattle.std.proofs.Math.Seq.{take-append_seam, drop-append-add}
-use Rattle.si_text.specs.Decoding.{decoded, shown_bytes, IsAsDecoded}
+use Rattle.si_text.specs.Decoding.{decoded, shown_bytes}
 use Rattle.si_text.specs.declared.shown.Shown.{Shown}
 use Rattle.desc_event.specs.declared.short_event.ShortEvent.{ShortEvent}
 use Rattle.desc_event.specs.declared.extended_event.ExtendedPiece.{ExtendedPiece}

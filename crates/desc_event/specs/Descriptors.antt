@@ -1,5 +1,5 @@
 -- Descriptors, one after the other (ISO/IEC 13818-1, 2.6; EN 300 468, 6.1).
-use Rattle.std.specs.Prelude.{◌≡◌, ℕ, ◌<◌, List, ◌∷◌, ◌++◌, length}
+use Rattle.std.specs.Prelude.{◌≡◌, ℕ, ◌<◌, List, ◌∷◌, length}
 use Rattle.std.specs.List.{flat_map, AllByRecursion}
 use Rattle.desc_event.specs.declared.descriptors.RawDesc.{RawDesc}
 

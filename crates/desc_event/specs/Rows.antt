@@ -1,5 +1,5 @@
 -- Worked descriptors.
-use Rattle.std.specs.Prelude.{◌≡◌, ℕ, List, [], ◌∷◌, Some, None, refl, codes}
+use Rattle.std.specs.Prelude.{◌≡◌, [], ◌∷◌, Some, None, refl, codes}
 use Rattle.std.specs.Str.{chars}
 use Rattle.std.proofs.Common.{lit<}
 use Rattle.si_text.specs.Cutting.{pieces, first_pieces, cut_size, greatest_cut}

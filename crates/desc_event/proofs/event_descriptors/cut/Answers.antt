@@ -1,4 +1,3 @@
-use Rattle.std.proofs.Common.{◌≡◌, ◌++◌, ◌∷◌, sym, ap, subst, ◌∙◌, arith}
 use Rattle.desc_event.proofs.Pieces.{cut_pieces, cut_utf8, cut_less}
 use Rattle.desc_event.proofs.event_descriptors.cut.Goals as goal
 

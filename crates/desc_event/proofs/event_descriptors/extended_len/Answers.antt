@@ -1,5 +1,5 @@
-use Rattle.std.proofs.Common.{◌≡◌, [], ap, sym, arith}
-use Rattle.std.proofs.lemmas.Bool.{eqb-true, eqb-false}
+use Rattle.std.proofs.Common.{ap, sym, arith}
+use Rattle.std.proofs.lemmas.Bool.{eqb-true}
 use Rattle.desc_event.proofs.Pieces.{extended_size, length-extended_events, no_pieces, extended_size-small}
 use Rattle.desc_event.proofs.event_descriptors.extended_len.Goals as goal
 

@@ -1,5 +1,5 @@
-use Rattle.std.proofs.Common.{◌≡◌, [], ap, sym, length, arith}
-use Rattle.std.proofs.lemmas.Bool.{eqb-true, eqb-false}
+use Rattle.std.proofs.Common.{ap, sym, length, arith}
+use Rattle.std.proofs.lemmas.Bool.{eqb-true}
 use Rattle.desc_event.proofs.Pieces.{no_pieces, few_pieces}
 use Rattle.desc_event.proofs.event_descriptors.piece_count.Goals as goal
 
