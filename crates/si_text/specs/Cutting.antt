@@ -36,7 +36,7 @@ unfoldable pub pieces : List ℕ → List (List ℕ)
 pieces text = first_pieces (length text) text
 
 -- The same without a count: a text may be cut behind n bytes, what stands before is coded in at most 249 bytes, and
--- behind no later place is it.
+-- what stands before a later place is not.
 pub record IsLongestCut (text : List ℕ) (n : ℕ) : Type 0 where
   pub whole : IsCharBoundary text n
   pub fits : coded_size (take n text) ≤ 249

@@ -7,12 +7,12 @@ ghost use Rattle.si_text.specs.Decoding.{IsKept};
 
 use crate::coding::is_all_plain;
 
-/// Most bytes of the coded form of a piece: an extended_event_descriptor has 255 bytes behind its length, and six of
-/// them are no text (EN 300 468, 6.2.15).
+/// Most bytes of the coded form of a piece: an extended_event_descriptor has up to 255 bytes behind its length, and
+/// six of them are no text (EN 300 468, 6.2.15).
 const PIECE: usize = 249;
 
 /// The byte length of the longest front of the text, cut at a character, whose coded form has at most 249 bytes.
-/// It reads at most so many bytes and takes no memory.
+/// It reads none behind the first 249 bytes, and takes no memory.
 pub fn cut_len(text: &str) -> usize
     ensures size { result ≡ cut_size text.now }
     ensures whole { IsCharBoundary text.now result }
@@ -28,8 +28,8 @@ pub fn cut_len(text: &str) -> usize
 }
 
 /// The pieces of a text: the empty text has none; another has its longest front and the pieces of the rest. They
-/// join to the text, and each is text that may be kept where the whole is, and the other way round. All but the last
-/// have at least 245 bytes.
+/// join to the text. The pieces of a text that may be kept may be kept too, and so may what kept texts join to. All
+/// pieces but the last have at least 245 bytes.
 pub fn pieces_join()
     ensures none { pieces [] ≡ [] }
     ensures next { (text : List ℕ) → IsUtf8 text → 0 < length text → pieces text ≡ take (cut_size text) text ∷ pieces (drop (cut_size text) text) }

@@ -11,8 +11,8 @@ use crate::txt::Txt;
 use si_base::Bytes;
 use std::alloc::{AllocError, Global};
 
-/// What the bytes are shown as: no byte is the empty text, bytes of the plain set are that text, and UTF-8 without a
-/// control character behind 0x15 is that text; everything else is Hex of all the bytes (EN 300 468, annex A).
+/// What the bytes are shown as: no byte is the empty text, bytes of the plain set are that text, and behind the byte
+/// 0x15 UTF-8 without a control character is that text. Everything else is Hex of all the bytes (EN 300 468, annex A).
 pub fn decode_text(alloc: Global, bytes: &[u8]) -> Result<Shown, AllocError>
     ensures { IfOk result (λ shown. shown ≡ decoded bytes.now) }
 {
@@ -43,8 +43,7 @@ fn utf8_in(bytes: &[u8]) -> Option<&str>
     str::from_utf8(bytes).ok()
 }
 
-/// Texts come back: what was encoded from a text decodes to Text of it, and what is shown, encoded again, is shown
-/// the same.
+/// What was encoded from a text that may be kept decodes to Text of it. What is shown, encoded again, is shown the same.
 pub fn coded_texts_decode()
     ensures text { (text : List ℕ) → IsKept text → decoded (coded_text text) ≡ Text text }
     ensures again { (bytes : List ℕ) → IsAsDecoded (decoded bytes) }

@@ -7,8 +7,8 @@ use crate::txt::Txt;
 use si_base::{Bytes, Copies};
 use std::alloc::AllocError;
 
-/// What the bytes of a coded text are shown as: the text, or all the bytes where they are not of the plain set and no
-/// UTF-8 behind 0x15, or where that has a control character (EN 300 468, annex A).
+/// What the bytes of a coded text are shown as: their text, or all the bytes where they are of no text that may be
+/// kept (EN 300 468, annex A).
 #[derive(Debug, Drop)]
 pub enum Shown {
     Text(Txt),
