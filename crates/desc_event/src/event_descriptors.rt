@@ -19,7 +19,9 @@ use std::alloc::AllocError;
 const HEAD: usize = 12;
 
 /// The size of the event's entry in an event information section: 12 bytes and its descriptors (EN 300 468, 5.2.4).
-/// It needs an event within the limits, goes once over its texts and takes no memory.
+/// It needs an event within the limits: a name of at most 100 coded bytes, a short text of at most 150, an extended text
+/// of at most 1,000 bytes and at most 8 genres with levels below 16. It takes no memory, and its work is linear in the
+/// lengths of the texts.
 pub fn event_len(event: &Event) -> u32
     requires { IsWithinLimits event.now }
     ensures size { result ≡ entry_size event.now }
@@ -29,8 +31,8 @@ pub fn event_len(event: &Event) -> u32
 }
 
 /// Appends the descriptors of an event: one short_event; extended_event for each piece of the extended text, numbered
-/// from 0; content where there is a genre; parental_rating where there is a rating. It needs an event within the
-/// limits. Want of memory leaves `out` unchanged.
+/// from 0; content where there is a genre; parental_rating where there is a rating (EN 300 468, 6.2). It needs an event
+/// within the limits that `event_len` names. Want of memory leaves `out` unchanged.
 pub fn write_event_descriptors(event: &Event, out: &mut Vec<u8>) -> Result<(), AllocError>
     requires { IsWithinLimits event.now }
     ensures written { OnOk result (out.new.items ≡ out.old.items ++ event_descriptors event.now) }
