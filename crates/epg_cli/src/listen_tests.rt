@@ -150,7 +150,7 @@ fn tells_read_fault(alloc: Global, piece: usize, n: usize) -> Result<bool, Alloc
 // Whether a run in which write `n` fails reports just what was written before.
 fn tells_write_fault(alloc: Global, piece: usize, n: usize) -> Result<bool, AllocError> {
     let left = over_three(alloc, piece, NEVER, n as u64)?;
-    let first = DONE.len().div_ceil(piece);
+    let first = DONE.len().div_ceil(piece.max(1));
     let written = if n < first {
         n.saturating_mul(piece)
     } else {

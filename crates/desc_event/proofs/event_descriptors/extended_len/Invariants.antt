@@ -1,0 +1,14 @@
+use Rattle.std.proofs.Common.{◌≡◌, ◌+◌, length}
+use Rattle.std.specs.Prelude.{IsUtf8}
+use Rattle.si_text.specs.Cutting.{pieces}
+use Rattle.desc_event.proofs.Pieces.{extended_size}
+use Rattle.desc_event.proofs.event_descriptors.extended_len.Given as goal
+
+abbrev pub invariant-loop-rest : goal.invariant-loop-rest
+invariant-loop-rest l = record {
+  utf8 : IsUtf8 l.rest;
+  size : l.size + extended_size (pieces l.rest) ≡ extended_size (pieces l.text);
+}
+
+abbrev pub decreases-loop-rest : goal.decreases-loop-rest
+decreases-loop-rest l = length l.rest

@@ -1,0 +1,82 @@
+// The coded form of a text, without a copy of it.
+ghost use Rattle.std.specs.Prelude.{◌≡◌, ◌+◌, ◌≤◌, ◌++◌, length, vec_len, vec_capacity};
+ghost use Rattle.si_text.specs.Coding.{coded_text};
+ghost use Rattle.si_text.specs.Decoding.{shown_bytes};
+
+use crate::room::put;
+use si_text::{Shown, coded_len};
+use std::marker::Model;
+
+/// The first byte of a text in UTF-8 (EN 300 468, annex A, table A.3).
+const UTF8: u8 = 0x15;
+
+/// The bytes of a coded text, which contracts see as their list.
+#[derive(Debug, Drop)]
+pub(crate) struct Coded<'a> {
+    is_utf8: bool,
+    bytes: &'a [u8],
+}
+
+impl<'a> Model for Coded<'a> {
+    ghost use Rattle.std.specs.Prelude.{List, ℕ, ◌∷◌, if◌then◌else◌};
+
+    ghost Value = { List ℕ };
+
+    ghost view = { λ c. (if c.is_utf8 then 0x15 ∷ c.bytes.now else c.bytes.now) };
+}
+
+impl<'a> Coded<'a> {
+    /// The bytes that a text is coded as.
+    pub(crate) fn of_text(text: &'a str) -> Coded<'a>
+        ensures { result ≡ coded_text text.now }
+    {
+        Coded {
+            is_utf8: coded_len(text) != text.len(),
+            bytes: text.as_bytes(),
+        }
+    }
+
+    /// These bytes, which are coded.
+    pub(crate) fn of_bytes(bytes: &'a [u8]) -> Coded<'a>
+        ensures { result ≡ bytes.now }
+    {
+        Coded {
+            is_utf8: false,
+            bytes,
+        }
+    }
+
+    /// The bytes of what is shown.
+    pub(crate) fn of_shown(shown: &'a Shown) -> Coded<'a>
+        ensures { result ≡ shown_bytes shown.now }
+    {
+        match shown {
+            Shown::Text(text) => Coded::of_text(text.as_str()),
+            Shown::Hex(bytes) => Coded::of_bytes(bytes.as_slice()),
+        }
+    }
+
+    /// How many they are.
+    pub(crate) fn len(&self) -> usize
+        ensures { result ≡ length self.now }
+    {
+        if self.is_utf8 {
+            1 + self.bytes.len()
+        } else {
+            self.bytes.len()
+        }
+    }
+
+    /// Appends them to a buffer that has room.
+    pub(crate) fn put(&self, out: &mut Vec<u8>)
+        requires room { vec_len out.old + length self.now ≤ vec_capacity out.old }
+        ensures items { out.new.items ≡ out.old.items ++ self.now }
+        ensures len { vec_len out.new ≡ vec_len out.old + length self.now }
+        ensures capacity { vec_capacity out.old ≤ vec_capacity out.new }
+    {
+        if self.is_utf8 {
+            put(out, &[UTF8]);
+        }
+        put(out, self.bytes);
+    }
+}

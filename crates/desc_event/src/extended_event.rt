@@ -1,0 +1,102 @@
+// extended_event_descriptor.
+ghost use Rattle.std.specs.Prelude.{◌≡◌, ◌+◌, ◌<◌, ◌≤◌, ◌++◌, true, false, length, drop, IfOk, OnOk, OnErr, IfSome, IfNone, OnSome, vec_len, vec_capacity};
+ghost use Rattle.desc_event.specs.Descriptors.{descriptor};
+ghost use Rattle.desc_event.specs.ExtendedEvent.{extended_event, extended_event_fields, extended_event_in, has_its_lengths, items_length};
+
+use crate::coded::Coded;
+use crate::room::put;
+use si_base::{Bytes, Items};
+use std::alloc::{AllocError, Global};
+
+/// What an extended_event_descriptor holds: descriptor_number and last_descriptor_number (4 bits each), the language
+/// (three letters) and the coded bytes of its piece of the text. Items are in no value (EN 300 468, 6.2.15).
+#[derive(Debug, Drop)]
+pub struct ExtendedPiece {
+    pub number: u8,
+    pub last: u8,
+    pub language: [u8; 3],
+    pub text: Bytes,
+}
+
+/// descriptor_tag of an extended_event_descriptor.
+const TAG: u8 = 0x4E;
+
+/// Appends an extended_event_descriptor without items (EN 300 468, 6.2.15). It needs numbers below 16 and a text of at
+/// most 249 bytes, so that the length fits its field. Want of memory leaves `out` unchanged.
+pub fn write_extended_event(piece: &ExtendedPiece, out: &mut Vec<u8>) -> Result<(), AllocError>
+    requires number { piece.now.number < 16 }
+    requires last { piece.now.last < 16 }
+    requires length { length piece.now.text ≤ 249 }
+    ensures written { OnOk result (out.new.items ≡ out.old.items ++ extended_event piece.now) }
+    ensures memory { OnErr result (out.new.items ≡ out.old.items) }
+{
+    let text = Coded::of_bytes(piece.text.as_slice());
+    out.reserve(8 + text.len())?;
+    put_extended_event(piece.number, piece.last, &piece.language, &text, out);
+    Ok(())
+}
+
+/// Appends an extended_event_descriptor to a buffer that has room for it.
+pub(crate) fn put_extended_event(
+    number: u8,
+    last: u8,
+    language: &[u8; 3],
+    text: &Coded,
+    out: &mut Vec<u8>,
+)
+    requires number { number < 16 }
+    requires last { last < 16 }
+    requires length { length text.now ≤ 249 }
+    requires room { vec_len out.old + (8 + length text.now) ≤ vec_capacity out.old }
+    ensures items { out.new.items ≡ out.old.items ++ descriptor 0x4E (extended_event_fields number last language.now text.now) }
+    ensures len { vec_len out.new ≡ vec_len out.old + (8 + length text.now) }
+    ensures capacity { vec_capacity out.old ≤ vec_capacity out.new }
+{
+    put(out, &[TAG, (6 + text.len()) as u8, 16 * number + last]);
+    put(out, language);
+    put(out, &[0, text.len() as u8]);
+    text.put(out);
+}
+
+/// The piece of the body of an extended_event_descriptor, or `None` exactly where a length runs past the end or bytes
+/// are left over (EN 300 468, 6.2.15).
+pub fn read_extended_event(alloc: Global, body: &[u8]) -> Result<Option<ExtendedPiece>, AllocError>
+    ensures { IfOk result (λ read. read ≡ extended_event_in body.now) }
+{
+    let Some(text) = text_of(body) else {
+        return Ok(None);
+    };
+    let numbers = body[0];
+    let mut language = [0; 3];
+    language.copy_from_slice(&body[1..4]);
+    let text = Items::of(Vec::from_slice(alloc, text)?);
+    Ok(Some(ExtendedPiece {
+        number: numbers / 16,
+        last: numbers % 16,
+        language,
+        text,
+    }))
+}
+
+// The bytes of the text, where the body has just those that its lengths tell.
+fn text_of(body: &[u8]) -> Option<&[u8]>
+    ensures none { IfNone result (has_its_lengths body.now ≡ false) }
+    ensures some { OnSome result (has_its_lengths body.now ≡ true) }
+    ensures long { OnSome result (6 ≤ length body.now) }
+    ensures text { IfSome result (λ text. text.now ≡ drop (6 + items_length body.now) body.now) }
+{
+    if body.len() < 6 {
+        return None;
+    }
+    let (head, behind) = body.split_at(5);
+    let items_length = head[4] as usize;
+    if behind.len() <= items_length {
+        return None;
+    }
+    let (_, behind) = behind.split_at(items_length);
+    let (text_length, text) = behind.split_at(1);
+    if text.len() != text_length[0] as usize {
+        return None;
+    }
+    Some(text)
+}

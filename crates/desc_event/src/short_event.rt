@@ -1,0 +1,104 @@
+// short_event_descriptor.
+ghost use Rattle.std.specs.Prelude.{◌≡◌, ◌+◌, ◌≤◌, ◌++◌, true, false, length, IfOk, OnOk, OnErr, IfSome, IfNone, OnSome, vec_len, vec_capacity};
+ghost use Rattle.si_text.specs.Decoding.{shown_bytes};
+ghost use Rattle.desc_event.specs.Descriptors.{descriptor};
+ghost use Rattle.desc_event.specs.ShortEvent.{short_event, short_event_fields, short_event_in, has_its_lengths, name_in, text_in};
+
+use crate::coded::Coded;
+use crate::room::put;
+use si_text::{Shown, decode_text};
+use std::alloc::{AllocError, Global};
+
+/// What a short_event_descriptor holds: the language of its texts (three letters), the name of the event and a short
+/// text (EN 300 468, 6.2.37).
+#[derive(Debug, Drop)]
+pub struct ShortEvent {
+    pub language: [u8; 3],
+    pub name: Shown,
+    pub short: Shown,
+}
+
+/// descriptor_tag of a short_event_descriptor.
+const TAG: u8 = 0x4D;
+
+/// Appends a short_event_descriptor (EN 300 468, 6.2.37). It needs texts whose bytes are at most 250 together, so
+/// that the length fits its field. Want of memory leaves `out` unchanged.
+pub fn write_short_event(event: &ShortEvent, out: &mut Vec<u8>) -> Result<(), AllocError>
+    requires { length (shown_bytes event.now.name) + length (shown_bytes event.now.short) ≤ 250 }
+    ensures written { OnOk result (out.new.items ≡ out.old.items ++ short_event event.now) }
+    ensures memory { OnErr result (out.new.items ≡ out.old.items) }
+{
+    let name = Coded::of_shown(&event.name);
+    let short = Coded::of_shown(&event.short);
+    out.reserve(short_event_len(&event.language, &name, &short))?;
+    put_short_event(&event.language, &name, &short, out);
+    Ok(())
+}
+
+/// How many bytes a short_event_descriptor has.
+pub(crate) fn short_event_len(language: &[u8; 3], name: &Coded, text: &Coded) -> usize
+    requires { length name.now + length text.now ≤ 250 }
+    ensures size { result ≡ length (descriptor 0x4D (short_event_fields language.now name.now text.now)) }
+    ensures at_most { result ≤ 257 }
+{
+    4 + language.len() + name.len() + text.len()
+}
+
+/// Appends a short_event_descriptor to a buffer that has room for it.
+pub(crate) fn put_short_event(language: &[u8; 3], name: &Coded, text: &Coded, out: &mut Vec<u8>)
+    requires length { length name.now + length text.now ≤ 250 }
+    requires room { vec_len out.old + length (descriptor 0x4D (short_event_fields language.now name.now text.now)) ≤ vec_capacity out.old }
+    ensures items { out.new.items ≡ out.old.items ++ descriptor 0x4D (short_event_fields language.now name.now text.now) }
+    ensures len { vec_len out.new ≡ vec_len out.old + length (descriptor 0x4D (short_event_fields language.now name.now text.now)) }
+    ensures capacity { vec_capacity out.old ≤ vec_capacity out.new }
+{
+    put(out, &[TAG, (5 + name.len() + text.len()) as u8]);
+    put(out, language);
+    put(out, &[name.len() as u8]);
+    name.put(out);
+    put(out, &[text.len() as u8]);
+    text.put(out);
+}
+
+/// The short_event of the body of a short_event_descriptor, or `None` exactly where a length runs past the end or
+/// bytes are left over (EN 300 468, 6.2.37).
+pub fn read_short_event(alloc: Global, body: &[u8]) -> Result<Option<ShortEvent>, AllocError>
+    ensures { IfOk result (λ read. read ≡ short_event_in body.now) }
+{
+    let Some((name, text)) = texts_of(body) else {
+        return Ok(None);
+    };
+    let mut language = [0; 3];
+    language.copy_from_slice(&body[..3]);
+    let name = decode_text(alloc, name)?;
+    let short = decode_text(alloc, text)?;
+    Ok(Some(ShortEvent {
+        language,
+        name,
+        short,
+    }))
+}
+
+// The bytes of the name and those of the text, where the body has just those that its lengths tell.
+fn texts_of(body: &[u8]) -> Option<(&[u8], &[u8])>
+    ensures none { IfNone result (has_its_lengths body.now ≡ false) }
+    ensures some { OnSome result (has_its_lengths body.now ≡ true) }
+    ensures long { OnSome result (5 ≤ length body.now) }
+    ensures name { IfSome result (λ texts. texts.0.now ≡ name_in body.now) }
+    ensures text { IfSome result (λ texts. texts.1.now ≡ text_in body.now) }
+{
+    if body.len() < 5 {
+        return None;
+    }
+    let (head, behind) = body.split_at(4);
+    let name_length = head[3] as usize;
+    if behind.len() <= name_length {
+        return None;
+    }
+    let (name, behind) = behind.split_at(name_length);
+    let (text_length, text) = behind.split_at(1);
+    if text.len() != text_length[0] as usize {
+        return None;
+    }
+    Some((name, text))
+}
