@@ -1,5 +1,5 @@
 -- What a run of `listen` leaves, for each status.
-use Rattle.std.specs.Prelude.{◌≡◌, ℕ, ◌⊎◌, ◌++◌, List, length, take, map, Bool, false, [], ◌∷◌, Option, Some, None, Ok, Err, Result, codes, decimal}
+use Rattle.std.specs.Prelude.{◌≡◌, ℕ, ◌⊎◌, ◌++◌, List, length, take, Bool, false, [], ◌∷◌, Option, Ok, Err, Result, codes, decimal}
 use Rattle.std.specs.Io.KnownBytes.{Appends}
 use Rattle.si_causes.specs.Causes.{Rose, AppendsFront}
 use Rattle.packet_reader.specs.Recordings.{RecordingEnd, RecordingEnd.AtEnd, RecordingEnd.Broken, RecordingEnd.PastLimit}
@@ -10,9 +10,9 @@ use Rattle.guide_receiver.specs.Texts.{done_lines}
 use Rattle.epg_cli.specs.declared.listen.ListenStop.{ListenStop}
 use Rattle.epg_cli.specs.declared.listen.ListenStop.TheVariants as stop
 use Rattle.epg_cli.specs.declared.status.Status.{Status}
-use Rattle.epg_cli.specs.declared.status.Status.TheVariants.{Done, Usage, BadScript, Disagrees, BadMux, BadFeed, BadStream, TooLong, OpenFault, ReadFault, WriteFault, Memory}
-use Rattle.epg_cli.specs.declared.status.Origin.TheVariants.{Input, Feed}
-use Rattle.epg_cli.specs.declared.status.Outlet.TheVariants.{Air, Report}
+use Rattle.epg_cli.specs.declared.status.Status.TheVariants.{Done, BadStream, TooLong, ReadFault, WriteFault, Memory}
+use Rattle.epg_cli.specs.declared.status.Origin.TheVariants.{Input}
+use Rattle.epg_cli.specs.declared.status.Outlet.TheVariants.{Report}
 use Rattle.epg_cli.specs.Fields.{is_word}
 use Rattle.epg_cli.specs.Texts.{fault_line}
 use Rattle.epg_cli.specs.Run.{Told, Reported}

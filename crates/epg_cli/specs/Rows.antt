@@ -1,5 +1,5 @@
 -- The first worked example, from the text to the commands.
-use Rattle.std.specs.Prelude.{◌≡◌, ℕ, List, [], ◌∷◌, ◌++◌, Some, None, refl, codes}
+use Rattle.std.specs.Prelude.{◌≡◌, ℕ, List, [], ◌++◌, Some, refl, codes}
 use Rattle.si_causes.specs.Lines.{raw_lines}
 use Rattle.si_causes.specs.Text.{AtEnd, PastLimit}
 use Rattle.desk_core.specs.Rows.{row_mux, row_commands}

@@ -13,8 +13,8 @@ use Rattle.desk_core.specs.Desks.{DeskState}
 use Rattle.epg_cli.specs.declared.stop.PlayStop.{PlayStop}
 use Rattle.epg_cli.specs.declared.stop.PlayStop.TheVariants.{NoCommand as Refused, Read, Air as OnAir, Memory as NoMemory}
 use Rattle.epg_cli.specs.declared.status.Status.{Status}
-use Rattle.epg_cli.specs.declared.status.Status.TheVariants.{Done, Usage, BadScript, Disagrees, BadMux, BadFeed, BadStream, TooLong as PastLimit, OpenFault, ReadFault, WriteFault, Memory}
-use Rattle.epg_cli.specs.declared.status.Origin.TheVariants.{Input, Feed}
+use Rattle.epg_cli.specs.declared.status.Status.TheVariants.{Done, BadScript, TooLong as PastLimit, ReadFault, WriteFault, Memory}
+use Rattle.epg_cli.specs.declared.status.Origin.TheVariants.{Input}
 use Rattle.epg_cli.specs.declared.status.Outlet.TheVariants.{Air, Report}
 use Rattle.epg_cli.specs.Air.{airings}
 use Rattle.epg_cli.specs.Fields.{is_word}

@@ -1,4 +1,4 @@
-use Rattle.std.proofs.Common.{◌≡◌, ◌+◌, ◌++◌, ◌∷◌, [], List, ℕ, map, sym, ap, ◌∙◌, arith, length, length-append, subst}
+use Rattle.std.proofs.Common.{◌≡◌, ◌++◌, ◌∷◌, [], List, ℕ, map, ◌∙◌, arith, length, length-append, subst}
 use Rattle.std.specs.Prelude.{Ok, Err}
 use Rattle.packet_reader.specs.Recordings.{packets_in, recording}
 use Rattle.packet_reader.specs.Reading.{room}
