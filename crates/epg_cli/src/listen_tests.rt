@@ -1,6 +1,7 @@
 // Runs of `listen` over recordings in memory, whose report is looked at.
 
 use crate::{Origin, Outlet, Status, run_listen, run_play};
+use si_base::crc32;
 use si_causes::{MemSink, MemSource};
 use std::alloc::{AllocError, Global};
 use std::fmt::Write;
@@ -24,16 +25,13 @@ fn packet() -> [u8; 188] {
     packet
 }
 
-// So many bytes of that packet, again and again, one of them changed.
-fn recording(alloc: Global, len: usize, place: usize, byte: u8) -> Result<Vec<u8>, AllocError> {
+// So many bytes of that packet, again and again.
+fn recording(alloc: Global, len: usize) -> Result<Vec<u8>, AllocError> {
     let mut bytes = Vec::new(alloc);
     for _ in 0..len.div_ceil(188) {
         bytes.extend_from_slice(&packet())?;
     }
     bytes.truncate(len);
-    if let Some(changed) = bytes.get_mut(place) {
-        *changed = byte;
-    }
     Ok(bytes)
 }
 
@@ -61,44 +59,95 @@ fn heard(
     Ok(Left { status, report })
 }
 
+// Whether a run over so many bytes has this status, and reports so often that the packet is done, and this end.
+fn tells(
+    alloc: Global,
+    len: usize,
+    done: bool,
+    status: Status,
+    end: &str,
+) -> Result<bool, AllocError> {
+    let left = heard(alloc, recording(alloc, len)?, 100, NEVER, NEVER)?;
+    let mut report = String::new(alloc);
+    if done {
+        report.push_str(DONE)?;
+    }
+    report.push_str(end)?;
+    Ok(left.status == status && left.report.taken() == report.as_bytes())
+}
+
 #[test]
 fn recordings(rt: HostRuntime) -> Result<(), Fail> {
     let alloc = rt.alloc();
-    let broken = Status::BadStream;
-    // the length of a recording of the one packet, a byte of it that is changed, how often the packet is done, and the end
-    for (len, place, byte, dones, status, end) in [
-        (0, 0, 0x47, 0, Status::Done, "end\n"),
-        (188, 0, 0x47, 1, Status::Done, "end\n"),
-        (376, 0, 0x47, 1, Status::Done, "end\n"),
-        (187, 0, 0x47, 0, broken(0), "fault: packet 0\n"),
-        (376, 188, 0x48, 1, broken(1), "fault: packet 1\n"),
-        (189, 0, 0x47, 1, broken(1), "fault: packet 1\n"),
-        // packets that show nothing: the CRC, the pointer, section_length, current_next_indicator and section_number
-        (188, 37, 0xDE, 0, Status::Done, "end\n"),
-        (188, 4, 184, 0, Status::Done, "end\n"),
-        (188, 6, 0xFF, 0, Status::Done, "end\n"),
-        (188, 10, 0xC0, 0, Status::Done, "end\n"),
-        (188, 11, 1, 0, Status::Done, "end\n"),
-        // a transport error, no payload, an adaptation field of 183 bytes and more, another PID
-        (188, 1, 0xC0, 0, Status::Done, "end\n"),
-        (188, 3, 0x20, 0, Status::Done, "end\n"),
-        (188, 3, 0x30, 0, Status::Done, "end\n"),
-        (188, 2, 0x12, 0, Status::Done, "end\n"),
+    assert!(rt; tells(alloc, 0, false, Status::Done, "end\n")?);
+    assert!(rt; tells(alloc, 188, true, Status::Done, "end\n")?);
+    assert!(rt; tells(alloc, 376, true, Status::Done, "end\n")?);
+    assert!(rt; tells(alloc, 187, false, Status::BadStream(0), "fault: packet 0\n")?);
+    assert!(rt; tells(alloc, 189, true, Status::BadStream(1), "fault: packet 1\n")?);
+    Ok(())
+}
+
+// Whether a packet behind the first that begins with 0x48 is told.
+fn tells_second_packet(alloc: Global) -> Result<bool, AllocError> {
+    let mut bytes = recording(alloc, 376)?;
+    if let Some(first) = bytes.get_mut(188) {
+        *first = 0x48;
+    }
+    let left = heard(alloc, bytes, 100, NEVER, NEVER)?;
+    let mut report = String::from_str(alloc, DONE)?;
+    report.push_str("fault: packet 1\n")?;
+    Ok(left.status == Status::BadStream(1) && left.report.taken() == report.as_bytes())
+}
+
+#[test]
+fn a_second_packet_that_is_none(rt: HostRuntime) -> Result<(), Fail> {
+    assert!(rt; tells_second_packet(rt.alloc())?);
+    Ok(())
+}
+
+// The packet with two bytes changed; with `sealed` its section gets the CRC of the changed bytes.
+fn changed(place: usize, byte: u8, second: usize, other: u8, sealed: bool) -> [u8; 188] {
+    let mut packet = packet();
+    if place < 188 {
+        packet[place] = byte;
+    }
+    if second < 188 {
+        packet[second] = other;
+    }
+    if sealed {
+        let crc = crc32(&packet[5..34]);
+        packet[34..38].copy_from_slice(&crc.to_be_bytes());
+    }
+    packet
+}
+
+// Whether a recording of this packet alone shows nothing.
+fn shows_nothing(alloc: Global, packet: &[u8; 188]) -> Result<bool, AllocError> {
+    let bytes = Vec::from_slice(alloc, packet)?;
+    let left = heard(alloc, bytes, 100, NEVER, NEVER)?;
+    Ok(left.status == Status::Done && left.report.taken() == b"end\n".as_slice())
+}
+
+#[test]
+fn packets_that_show_nothing(rt: HostRuntime) -> Result<(), Fail> {
+    let alloc = rt.alloc();
+    for (place, byte, second, other, sealed) in [
+        // the CRC; a pointer past the payload; a section_length of 4,094
+        (37, 0xDE, 37, 0xDE, false),
+        (4, 184, 4, 184, false),
+        (6, 0xFF, 7, 0xFE, false),
+        // current_next_indicator 0; section_number above last_section_number; another table
+        (10, 0xC0, 10, 0xC0, true),
+        (11, 1, 11, 1, true),
+        (5, 0x46, 5, 0x46, true),
+        // a transport error; no payload; an adaptation field of 183 bytes; another PID
+        (1, 0xC0, 1, 0xC0, false),
+        (3, 0x20, 3, 0x20, false),
+        (3, 0x30, 4, 183, false),
+        (2, 0x12, 2, 0x12, false),
     ] {
-        let left = heard(
-            alloc,
-            recording(alloc, len, place, byte)?,
-            100,
-            NEVER,
-            NEVER,
-        )?;
-        let mut report = String::new(alloc);
-        if dones == 1 {
-            report.push_str(DONE)?;
-        }
-        report.push_str(end)?;
-        assert_eq!(rt; left.status, status);
-        assert_eq!(rt; left.report.taken(), report.as_bytes());
+        let packet = changed(place, byte, second, other, sealed);
+        assert!(rt; shows_nothing(alloc, &packet)?);
     }
     Ok(())
 }
@@ -131,9 +180,13 @@ fn versions_are_heard(rt: HostRuntime) -> Result<(), Fail> {
     Ok(())
 }
 
-// The report of a run over three packets, of which the second has the next counter.
+// A run over three packets, of which the second has the next counter.
 fn over_three(alloc: Global, piece: usize, read: u64, told: u64) -> Result<Left, AllocError> {
-    heard(alloc, recording(alloc, 564, 191, 0x11)?, piece, read, told)
+    let mut bytes = recording(alloc, 564)?;
+    if let Some(counter) = bytes.get_mut(191) {
+        *counter = 0x11;
+    }
+    heard(alloc, bytes, piece, read, told)
 }
 
 // Whether a run in which read `n` fails reports what was read before, and the fault.

@@ -164,6 +164,16 @@ fn words_and_scripts(rt: HostRuntime) -> Result<(), Fail> {
     Ok(())
 }
 
+#[test]
+fn the_word_listen(rt: HostRuntime) -> Result<(), Fail> {
+    let alloc = rt.alloc();
+    let heard = words_end(&rt, alloc, &["listen"], "")?;
+    assert_eq!(rt; heard.status, Status::Done);
+    assert!(rt; heard.air.taken().is_empty());
+    assert_eq!(rt; heard.report.taken(), b"end\n".as_slice());
+    Ok(())
+}
+
 // The version and the counter of packet `i` of an air, each section of which has one packet.
 fn numbers(air: &[u8], i: usize) -> Option<(u8, u8)> {
     let packet = air.chunks(188).nth(i)?;
