@@ -1,2 +1,3 @@
 pub mod Sending
+pub mod Counting
 pub mod Laws
