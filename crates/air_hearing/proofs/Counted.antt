@@ -153,7 +153,7 @@ heard-on_sdts packets = among-on_sdts (heard_all [] packets) ∙ ap (filter_map 
 
 -- ---- sub-tables, cycles and airings
 
-on_pid_of : (t : SubTable) (version : ℕ) (b : Bool) → (t.key.pid == 0x0011) ≡ b → (ss : Content)
+pub on_pid_of : (t : SubTable) (version : ℕ) (b : Bool) → (t.key.pid == 0x0011) ≡ b → (ss : Content)
     → filter_map (sent_on 0x0011) (map (sent_section version t) ss) ≡ (if b then map (λ (s : NumberedBody). section_bytes (header_of version t s) s.body) ss else [])
 on_pid_of t version true e [] = refl
 on_pid_of t version false e [] = refl

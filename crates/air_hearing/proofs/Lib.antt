@@ -1,3 +1,5 @@
 pub mod Sections
 pub mod Counted
 pub mod Completing
+pub mod Fronts
+pub mod Told
