@@ -11,16 +11,18 @@ use Rattle.version_book.specs.Book.{Kept}
 use Rattle.version_book.specs.Slots.{next_version}
 use Rattle.version_book.proofs.Versions.{is_key-itself, is_content-same}
 use Rattle.sub_collect.specs.Runs.{Counted, latest_section, has_number, latest_with, numbers_from, run_of, whole, completed}
-use Rattle.sub_collect.specs.Completions.{is_of, sections_of, done_at, completion, completions, latest_done, latest_of, repeats, shown_after, shown_at, dones}
+use Rattle.sub_collect.specs.Completions.{is_of, sections_of, done_at, completion, completions, latest_done, latest_of, shown_after, shown_at, dones}
 use Rattle.sub_collect.specs.Collectors.{body_of}
 use Rattle.sub_collect.specs.Slots.{with_body, content_by}
 use Rattle.sub_collect.specs.Laws.{IsNumbered, section_with, sections_with, part_in, IsSectionOf}
 use Rattle.sub_collect.specs.declared.completed.Completed.{Completed}
 use Rattle.sub_collect.proofs.Runs.{run_of-new, version-joins, latest-push}
 use Rattle.sub_collect.proofs.Slots.{whole-by}
-use Rattle.sub_collect.proofs.Done.{completion-push, sections_of-one, shown_at-is, dones-one_more, latest-one_more, repeats-itself}
+use Rattle.sub_collect.proofs.Done.{completion-push, sections_of-one, dones-one_more, latest-one_more, repeats-itself}
 use Rattle.sub_collect.proofs.Whole.{whole-completes}
 use Rattle.sub_collect.proofs.OneContent.{completes-no-other}
+use Rattle.ts_demux.proofs.Windows.{all-front}
+use Rattle.air_hearing.proofs.Lists.{last_one}
 use Rattle.air_hearing.proofs.Counted.{below_end}
 
 -- ---- a content with ascending numbers has each of its parts
@@ -293,20 +295,12 @@ pub record Shows (k : Key) (v : ℕ) (content : Content) (past : List Counted) (
   pub front : (pre rest : Content) → content ≡ pre ++ rest → 0 < length rest → dones past (map (section_with k v (length content - 1)) pre) ≡ []
   pub holds : Holds k (record { version = v; content = content }) (past ++ sections_with k v content)
 
--- the last of a content
-pub last_part : (content : Content) → 0 < length content → (pre : Content) × (p : NumberedBody) × (content ≡ pre ++ p ∷ [])
-last_part [] some = absurd (omega arith)
-last_part (p ∷ []) some = ([], p, refl)
-last_part (p ∷ q ∷ content) some =
-    let r = last_part (q ∷ content) (omega arith) in
-    (p ∷ r.0, r.1, ap (λ (l : Content). p ∷ l) r.2)
-
 new-shows : (k : Key) (v : ℕ) (content : Content) → IsNumbered content → 0 < length content → (past : List Counted)
     → ((s : Counted) → s.version ≡ v → run_of (sections_of k past ++ s ∷ []) ≡ s ∷ [])
     → shown_after (latest_of k past) (Some (record { key = k; version = v; sections = content })) ≡ Some (record { key = k; version = v; sections = content })
     → Shows k v content past (record { key = k; version = v; sections = content } ∷ [])
 new-shows k v content numbered some past begins new =
-    let last = last_part content some in
+    let last = last_one content some in
     let all = whole-shown k v content numbered past begins last.0 last.1 last.2 new in
     record {
       whole = all.0;
@@ -314,16 +308,12 @@ new-shows k v content numbered some past begins new =
       holds = all.1;
     }
 
-front-all : (P : NumberedBody → Type 0) (ps qs : Content) → AllByRecursion P (ps ++ qs) → AllByRecursion P ps
-front-all P [] qs all = tt
-front-all P (p ∷ ps) qs all = (all.0, front-all P ps qs all.1)
-
 same-shows : (k : Key) (kept : Kept) → IsNumbered kept.content → 0 < length kept.content → (past : List Counted) → Holds k kept past → Shows k kept.version kept.content past []
 same-shows k kept numbered some past holds =
     let own = all_map (λ (p : NumberedBody). (part_in p.number kept.content ≡ Some p.body) × (0 ≤ p.number)) (λ (p : NumberedBody). part_in p.number kept.content ≡ Some p.body) (λ p h. h.0) kept.content (parts 0 kept.content numbered) in
     record {
       whole = (again-quiet k kept numbered past holds some kept.content own).0;
-      front = λ pre rest are left. (again-quiet k kept numbered past holds some pre (front-all (λ (p : NumberedBody). part_in p.number kept.content ≡ Some p.body) pre rest (subst (AllByRecursion (λ (p : NumberedBody). part_in p.number kept.content ≡ Some p.body)) are own))).0;
+      front = λ pre rest are left. (again-quiet k kept numbered past holds some pre (all-front (λ (p : NumberedBody). part_in p.number kept.content ≡ Some p.body) pre rest (subst (AllByRecursion (λ (p : NumberedBody). part_in p.number kept.content ≡ Some p.body)) are own))).0;
       holds = (again-quiet k kept numbered past holds some kept.content own).1;
     }
 

@@ -1,5 +1,5 @@
 -- The sections of an air that count.
-use Rattle.std.proofs.Common.{◌≡◌, ◌≢◌, ℕ, ◌+◌, ◌-◌, ◌%◌, ◌<◌, ◌≤◌, List, [], ◌∷◌, ◌++◌, Bool, true, false, ◌==◌, ◌&&◌, Option, Some, None, length, refl, sym, ap, ap₂, ◌∙◌, subst, arith, map, eq-eqb, eqb-true, le-leb}
+use Rattle.std.proofs.Common.{◌≡◌, ℕ, ◌+◌, ◌-◌, ◌<◌, ◌≤◌, List, [], ◌∷◌, ◌++◌, Bool, true, false, ◌==◌, ◌&&◌, Option, Some, None, length, refl, sym, ap, ap₂, ◌∙◌, arith, map, eq-eqb, eqb-true, le-leb}
 use Rattle.std.specs.Prelude.{if◌then◌else◌, filter_map, flat_map, nat_le, option_map, Result, Ok, Err}
 use Rattle.std.specs.List.{AllByRecursion, cons_option}
 use Rattle.std.proofs.lemmas.List.Elements.{filter_map-append}
@@ -11,11 +11,10 @@ use Rattle.section_codec.specs.declared.section.BadSection.{BadSection}
 use Rattle.section_codec.specs.declared.table.Key.{Key}
 use Rattle.section_codec.specs.declared.table.NumberedBody.{NumberedBody}
 use Rattle.section_codec.specs.declared.table.SubTable.{SubTable}
-use Rattle.section_codec.specs.Tables.{is_events}
 use Rattle.section_codec.specs.Keys.{key_with, key_in}
 use Rattle.section_codec.specs.Section.{section_bytes, section_in, longest_body, FitsLong}
 use Rattle.section_codec.proofs.ReadBack.{section_in-section_bytes}
-use Rattle.version_book.specs.Airings.{Content, Airing, version_at, carried, changes}
+use Rattle.version_book.specs.Airings.{Content, Airing, version_at}
 use Rattle.ts_packets.specs.Bytes.{bytes_of_packet}
 use Rattle.ts_demux.specs.declared.section.RawSection.{RawSection}
 use Rattle.ts_demux.specs.Sections.{sections_on, on_pid, heard_all, bytes_on}
@@ -24,7 +23,7 @@ use Rattle.sub_collect.specs.Runs.{Counted, counted, numbers_from}
 use Rattle.sub_collect.specs.Laws.{section_with, sections_with}
 use Rattle.guide_receiver.specs.Counting.{counted_of, counted_by, counted_in, counted_among}
 use Rattle.guide_receiver.specs.Heard.{counted_heard}
-use Rattle.air_model.specs.Air.{Sent, Aired, IsAirOf, air, sent_on, sent_section, header_of, last_number, sections_of, cycle_sections}
+use Rattle.air_model.specs.Air.{Sent, air, sent_on, sent_section, header_of, last_number, sections_of, cycle_sections}
 use Rattle.air_hearing.specs.Sending.{sections_sent, IsFit, AreFit}
 use Rattle.air_hearing.specs.Counting.{IsSdtBody, IsSdt, HasSdtsOnly, raw_of, counted_of_table, counted_of_cycle, counted_sent}
 use Rattle.air_hearing.specs.Laws.{SdtCounts, AirIsCounted}

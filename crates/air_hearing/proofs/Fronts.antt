@@ -1,12 +1,12 @@
 -- Packets that lack the last one of a cycle do not hear its last section.
-use Rattle.std.proofs.Common.{◌≡◌, ◌≢◌, ℕ, ◌+◌, ◌-◌, ◌<◌, ◌≤◌, List, [], ◌∷◌, ◌++◌, Bool, true, false, ◌==◌, Option, Some, None, length, length-append, refl, sym, ap, ◌∙◌, subst, arith, take, drop, map, append_assoc, append-nil, eq-eqb, eqb-true}
-use Rattle.std.specs.Prelude.{if◌then◌else◌, filter_map}
+use Rattle.std.proofs.Common.{◌≡◌, ℕ, ◌+◌, ◌<◌, ◌≤◌, List, [], ◌∷◌, ◌++◌, Bool, Some, None, length, length-append, sym, ap, ◌∙◌, subst, arith, take, map, append-nil, eq-eqb}
+use Rattle.std.specs.Prelude.{if◌then◌else◌}
 use Rattle.std.specs.List.{AllByRecursion, cons_option}
 use Rattle.std.proofs.lemmas.List.{take_at}
 use Rattle.std.proofs.lemmas.List.Concat.{flat_map-append}
-use Rattle.ts_packets.specs.Packets.{Piece, HasRoom, HaveRoom, pieces, left, all_of, Carries}
+use Rattle.ts_packets.specs.Packets.{Piece, HasRoom, HaveRoom, left, all_of, Carries}
 use Rattle.ts_packets.specs.Bytes.{Packet, bytes_of_packet}
-use Rattle.ts_packets.specs.Counting.{piece_on, of_pid}
+use Rattle.ts_packets.specs.Counting.{of_pid}
 use Rattle.ts_packets.proofs.Carrying.{length-pieces}
 use Rattle.ts_packets.proofs.Stamps.{of_pid-append}
 use Rattle.ts_demux.specs.Hearing.{IsSection}
@@ -14,14 +14,7 @@ use Rattle.ts_demux.specs.Laws.{but_last, ended, GoOn}
 use Rattle.ts_demux.specs.Sections.{sections_on}
 use Rattle.ts_demux.proofs.Windows.{HaveRoom-behind}
 use Rattle.ts_demux.proofs.Written.{part_is_heard}
-
--- the last of a list
-pub last_one : {X : Type 0} (xs : List X) → 0 < length xs → (front : List X) × (x : X) × (xs ≡ front ++ x ∷ [])
-last_one [] some = absurd (omega arith)
-last_one (x ∷ []) some = ([], x, refl)
-last_one (x ∷ y ∷ xs) some =
-    let r = last_one (y ∷ xs) (omega arith) in
-    (x ∷ r.0, r.1, ap (λ l. x ∷ l) r.2)
+use Rattle.air_hearing.proofs.Lists.{last_one}
 
 -- packets that carry a section are some
 pub Carries-some : (ps : List Piece) (ss : List (List ℕ)) → 0 < length ss → Carries ps ss → 0 < length ps

@@ -1,3 +1,4 @@
+pub mod Lists
 pub mod Sections
 pub mod Counted
 pub mod Completing

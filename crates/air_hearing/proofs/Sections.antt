@@ -1,5 +1,5 @@
 -- The sections of an air are heard.
-use Rattle.std.proofs.Common.{◌≡◌, ◌≢◌, ℕ, ◌+◌, ◌*◌, ◌/◌, ◌%◌, ◌<◌, ◌≤◌, List, [], ◌∷◌, ◌++◌, Bool, true, false, ◌==◌, Option, Some, None, length, refl, sym, ap, ap₂, ◌∙◌, subst, subst₂, arith, map}
+use Rattle.std.proofs.Common.{◌≡◌, ◌≢◌, ℕ, ◌+◌, ◌*◌, ◌/◌, ◌%◌, ◌<◌, ◌≤◌, List, [], ◌∷◌, ◌++◌, Bool, true, false, ◌==◌, Some, None, length, sym, ap, ◌∙◌, subst, subst₂, arith, map}
 use Rattle.std.specs.Prelude.{if◌then◌else◌, filter_map, flat_map, ◌||◌}
 use Rattle.std.specs.List.{AllByRecursion, cons_option}
 use Rattle.std.proofs.lemmas.List.Elements.{filter_map-append}
@@ -10,18 +10,17 @@ use Rattle.section_codec.specs.Tables.{is_eit}
 use Rattle.section_codec.specs.Section.{long_flags, section_bytes, longest_body}
 use Rattle.section_codec.proofs.ReadBack.{length-section_bytes}
 use Rattle.version_book.specs.Airings.{Airing, version_at}
-use Rattle.ts_packets.specs.Packets.{Piece, Carries}
-use Rattle.ts_packets.specs.Bytes.{bytes_of_packet}
+use Rattle.ts_packets.specs.Packets.{Carries}
 use Rattle.ts_packets.specs.Counting.{of_pid}
 use Rattle.ts_packets.proofs.Carrying.{Carries-none, Carries-append}
 use Rattle.ts_packets.proofs.Stamps.{of_pid-append}
-use Rattle.ts_demux.specs.Hearing.{size_in, IsSection}
+use Rattle.ts_demux.specs.Hearing.{IsSection}
 use Rattle.ts_demux.specs.Laws.{GoOn}
-use Rattle.ts_demux.specs.Sections.{sections_on}
 use Rattle.ts_demux.proofs.Written.{carried_is_heard}
 use Rattle.air_model.specs.Air.{Sent, Aired, IsAirOf, Cycles, air, airings_of, sent_on, sent_section, header_of, sections_of, cycle_sections}
 use Rattle.air_hearing.specs.Sending.{sections_sent, IsFit, AreFit}
 use Rattle.air_hearing.specs.Laws.{AirIsHeard}
+use Rattle.air_hearing.proofs.Lists.{all_both}
 
 -- ---- a written section is a section
 
@@ -48,7 +47,7 @@ IsSection-section_bytes h body other le =
       header = omega (arith, len);
       most = omega (arith, len, most);
       size = ap (λ (n : ℕ). 3 + n) told ∙ omega (arith, len);
-      no_fill = λ b more e is. other ((let f : h.table ≡ b = cc in f) ∙ is);
+      no_fill = λ b more e is. other ((let first : h.table ≡ b = cc in first) ∙ is);
     }
 
 -- ---- each section that is sent
@@ -57,10 +56,6 @@ each_of_table : (version : ℕ) (t : SubTable) → t.key.table ≢ 0xFF → (ss 
     → AllByRecursion (λ (x : Sent). IsSection x.bytes) (map (sent_section version t) ss)
 each_of_table version t other [] le = tt
 each_of_table version t other (s ∷ ss) le = (IsSection-section_bytes (header_of version t s) s.body other le.0, each_of_table version t other ss le.1)
-
-pub all_both : {X : Type 0} (P : X → Type 0) (xs ys : List X) → AllByRecursion P xs → AllByRecursion P ys → AllByRecursion P (xs ++ ys)
-all_both P [] ys p q = q
-all_both P (x ∷ xs) ys p q = (p.0, all_both P xs ys p.1 q)
 
 each_sent : (past airings : List Airing) → AllByRecursion AreFit airings → AllByRecursion (λ (x : Sent). IsSection x.bytes) (sections_sent past airings)
 each_sent past [] fit = tt

@@ -1,8 +1,8 @@
 -- The version changes of an air are heard.
-use Rattle.std.proofs.Common.{◌≡◌, ◌≢◌, ℕ, suc, ◌+◌, ◌-◌, ◌%◌, ◌<◌, List, [], ◌∷◌, ◌++◌, Bool, true, false, ◌==◌, Option, Some, None, length, length-append, refl, sym, ap, ap₂, ◌∙◌, subst, subst₂, arith, map, append_assoc, append-nil, eq-eqb, eqb-true, ne_eqb}
+use Rattle.std.proofs.Common.{◌≡◌, ◌≢◌, ℕ, ◌+◌, ◌-◌, ◌%◌, ◌<◌, List, [], ◌∷◌, ◌++◌, Bool, true, false, ◌==◌, Option, Some, None, length, length-append, refl, sym, ap, ap₂, ◌∙◌, subst, subst₂, arith, map, append_assoc, append-nil, eq-eqb, eqb-true, ne_eqb}
 use Rattle.std.specs.Prelude.{if◌then◌else◌, not, filter_map, flat_map, option_to_list}
 use Rattle.std.specs.List.{AllByRecursion, cons_option}
-use Rattle.std.proofs.lemmas.List.{map-append, append_cancel_left}
+use Rattle.std.proofs.lemmas.List.{map-append, append_cancel_left, length-map}
 use Rattle.std.proofs.lemmas.List.Elements.{filter_map-append}
 use Rattle.section_codec.specs.declared.table.Key.{Key}
 use Rattle.section_codec.specs.declared.table.NumberedBody.{NumberedBody}
@@ -23,6 +23,7 @@ use Rattle.ts_demux.specs.Hearing.{IsSection}
 use Rattle.ts_demux.specs.Laws.{GoOn}
 use Rattle.ts_demux.specs.Sections.{sections_on, ended_by, heard_all, bytes_on}
 use Rattle.ts_demux.proofs.Adding.{order_kept}
+use Rattle.ts_demux.proofs.Windows.{all-front}
 use Rattle.ts_demux.proofs.Written.{part_goes_on, carried_is_heard}
 use Rattle.sub_collect.specs.Runs.{Counted}
 use Rattle.sub_collect.specs.Completions.{dones}
@@ -31,18 +32,19 @@ use Rattle.sub_collect.specs.declared.completed.Completed.{Completed}
 use Rattle.sub_collect.proofs.Done.{dones-go_on}
 use Rattle.guide_receiver.specs.declared.done.DoneKey.{DoneKey}
 use Rattle.guide_receiver.specs.Counting.{counted_among}
-use Rattle.guide_receiver.specs.Heard.{DoneAt, at_packet, counted_heard, done_key, dones_by, dones_behind, dones_of}
+use Rattle.guide_receiver.specs.Heard.{DoneAt, at_packet, counted_heard, done_key, dones_by, dones_behind}
 use Rattle.guide_receiver.proofs.Shown.{more_shown, among-append, counted-push}
-use Rattle.air_model.specs.Air.{Sent, Aired, IsAirOf, IsCycle, Cycles, air, airings_of, sent_on, sent_section, header_of, sections_of, cycle_sections}
+use Rattle.air_model.specs.Air.{Sent, Aired, IsCycle, Cycles, air, airings_of, sent_on, sent_section, header_of, sections_of, cycle_sections}
 use Rattle.air_model.proofs.Airs.{air-push, airings_of-push}
 use Rattle.air_hearing.specs.Sending.{sections_sent, IsFit, AreFit}
 use Rattle.air_hearing.specs.Counting.{IsSdt}
 use Rattle.air_hearing.specs.Changes.{CarriesSdt, is_new, is_new_at, is_change, version_with, changes_of, told_with, changes_told}
 use Rattle.air_hearing.specs.Laws.{ChangesAreHeard, VersionsAreHeard}
-use Rattle.air_hearing.proofs.Sections.{all_both, sections-each, Carries-cycles, GoOn-air}
+use Rattle.air_hearing.proofs.Sections.{sections-each, Carries-cycles, GoOn-air}
 use Rattle.air_hearing.proofs.Counted.{count_on_sdts, CanCount, can_count, all-count, among-on_sdts, heard-on_sdts, on_pid_of, version_at-lt}
-use Rattle.air_hearing.proofs.Completing.{Heard, Holds, Shows, shows, content-shows}
-use Rattle.air_hearing.proofs.Fronts.{last_one, Carries-some, of_pid-last, front-less}
+use Rattle.air_hearing.proofs.Completing.{Heard, Shows, shows, content-shows}
+use Rattle.air_hearing.proofs.Lists.{all_both, last_one, map-parts}
+use Rattle.air_hearing.proofs.Fronts.{Carries-some, of_pid-last, front-less}
 
 -- ---- packets, and others behind them
 
@@ -109,29 +111,6 @@ one-told : (past : List (List ℕ)) (p : List ℕ) (ks : List DoneKey) → map d
 one-told past p ks e =
     let all = map (at_packet (length past)) (dones_by past p) in
     append-nil all ∙ ap (map (at_packet (length past))) (sym (undone (length past) (dones_by past p)) ∙ ap (map done_of) (sym (append-nil all)) ∙ e)
-
--- ---- parts of a list that was mapped
-
-length-mapped : {X Y : Type 0} (f : X → Y) (xs : List X) → length (map f xs) ≡ length xs
-length-mapped f [] = refl
-length-mapped f (x ∷ xs) = ap suc (length-mapped f xs)
-
-map-parts : {X Y : Type 0} (f : X → Y) (xs : List X) (us vs : List Y) → map f xs ≡ us ++ vs → (ys zs : List X) × (xs ≡ ys ++ zs) × (us ≡ map f ys) × (vs ≡ map f zs)
-map-parts f xs [] vs e = ([], xs, refl, refl, sym e)
-map-parts f [] (u ∷ us) vs e = cc
-map-parts f (x ∷ xs) (u ∷ us) vs e =
-    let here : f x ≡ u = cc in
-    let rest : map f xs ≡ us ++ vs = cc in
-    let r = map-parts f xs us vs rest in
-    (x ∷ r.0, r.1, ap (λ l. x ∷ l) r.2, ap₂ (λ h l. h ∷ l) (sym here) r.3, r.4)
-
-all-front : {X : Type 0} (P : X → Type 0) (xs ys : List X) → AllByRecursion P (xs ++ ys) → AllByRecursion P xs
-all-front P [] ys all = tt
-all-front P (x ∷ xs) ys all = (all.0, all-front P xs ys all.1)
-
-all-behind : {X : Type 0} (P : X → Type 0) (xs ys : List X) → AllByRecursion P (xs ++ ys) → AllByRecursion P ys
-all-behind P [] ys all = all
-all-behind P (x ∷ xs) ys all = all-behind P xs ys all.1
 
 -- ---- an airing that carries an SDT alone
 
@@ -215,7 +194,7 @@ parted k v t keyed fit sdt lt past shown sh us vs are some =
     let keys : (ss : Content) → map (section_with t.key v last) ss ≡ map (section_with k v last) ss = λ ss. ap (λ (q : Key). map (section_with q v last) ss) keyed in
     let front : filter_map count_on_sdts us ≡ map (section_with k v last) cut.0 =
     ap (filter_map count_on_sdts) cut.3 ∙ all-count t sdt v lt cut.0 (all-front (CanCount t) cut.0 cut.1 (subst (AllByRecursion (CanCount t)) cut.2 can)) ∙ keys cut.0 in
-    let left : 0 < length cut.1 = subst (λ (n : ℕ). 0 < n) (ap length cut.4 ∙ length-mapped (as_sent v t) cut.1) some in
+    let left : 0 < length cut.1 = subst (λ (n : ℕ). 0 < n) (ap length cut.4 ∙ length-map cut.1 (as_sent v t)) some in
     let none : dones past (filter_map count_on_sdts us) ≡ [] = ap (dones past) front ∙ sh.front cut.0 cut.1 cut.2 left in
     let all : filter_map count_on_sdts us ++ filter_map count_on_sdts vs ≡ sections_with k v t.sections =
     sym (filter_map-append count_on_sdts us vs) ∙ ap (filter_map count_on_sdts) (sym are) ∙ all-count t sdt v lt t.sections can ∙ keys t.sections in
@@ -252,7 +231,7 @@ module _ (k : Key) (before : List Aired) (x : Aired) (c : CarriesSdt k x.airing)
   new-some : 0 < length new
   new-some =
       let some = c.is_sdt.some in
-      let size : length new ≡ length c.table.sections = ap length (cycle-on_sdts k past x.airing c) ∙ length-mapped (as_sent (version_at k (past ++ x.airing ∷ [])) c.table) c.table.sections in
+      let size : length new ≡ length c.table.sections = ap length (cycle-on_sdts k past x.airing c) ∙ length-map c.table.sections (as_sent (version_at k (past ++ x.airing ∷ [])) c.table) in
       omega (arith, size, some)
 
   each-old : AllByRecursion IsSection old
@@ -337,7 +316,7 @@ module _ (k : Key) (before : List Aired) (x : Aired) (c : CarriesSdt k x.airing)
             let second : dones_behind U P ≡ map (at_packet (length U)) (map done_key shown) =
             one-told U (bytes_of_packet cut.last) (map done_key shown) (told-sdts U P ∙ ap (λ (l : List Counted). map done_key (dones l (filter_map count_on_sdts L))) counted-front ∙ ap (map done_key) pt.1) in
             let size : length (air (before ++ x ∷ [])) ≡ length (air before ++ cut.front) + 1 = ap length (air-push before x ∙ whole) ∙ length-append (air before ++ cut.front) (cut.last ∷ []) in
-            let number : length U ≡ length (air (before ++ x ∷ [])) - 1 = length-mapped bytes_of_packet (air before ++ cut.front) ∙ omega (arith, size) in
+            let number : length U ≡ length (air (before ++ x ∷ [])) - 1 = length-map (air before ++ cut.front) bytes_of_packet ∙ omega (arith, size) in
             let counted-all : counted_heard (bytes (air before ++ x.packets)) ≡ counted ++ sections_with k version content =
             ap counted_heard (ap bytes whole ∙ map-append bytes_of_packet (air before ++ cut.front) (cut.last ∷ [])) ∙ counted-more U P
             ∙ ap (λ (l : List Counted). l ++ filter_map count_on_sdts L) counted-front
