@@ -7,3 +7,5 @@ pub mod SwapFacts
 pub mod RestFacts
 pub mod RunFacts
 pub mod ListenFacts
+pub mod ScriptFacts
+pub mod HearingFacts

@@ -7,4 +7,5 @@ pub mod Reads
 pub mod Played
 pub mod Run
 pub mod Listen
+pub mod Hearing
 pub mod Rows

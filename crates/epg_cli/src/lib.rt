@@ -11,6 +11,7 @@
 mod block;
 mod ending;
 mod fields;
+mod laws;
 mod lines;
 mod listen;
 mod play;
@@ -20,6 +21,7 @@ mod status;
 mod stop;
 mod top;
 
+pub use laws::play_is_heard;
 pub use status::{Origin, Outlet, Status};
 pub use top::{run, run_listen, run_play};
 

@@ -1,0 +1,100 @@
+-- The sections of an air are heard.
+use Rattle.std.proofs.Common.{◌≡◌, ◌≢◌, ℕ, ◌+◌, ◌*◌, ◌/◌, ◌%◌, ◌<◌, ◌≤◌, List, [], ◌∷◌, ◌++◌, Bool, true, false, ◌==◌, Some, None, length, sym, ap, ◌∙◌, subst, subst₂, arith, map}
+use Rattle.std.specs.Prelude.{if◌then◌else◌, filter_map, flat_map, ◌||◌}
+use Rattle.std.specs.List.{AllByRecursion, cons_option}
+use Rattle.std.proofs.lemmas.List.Elements.{filter_map-append}
+use Rattle.section_codec.specs.declared.section.LongHeader.{LongHeader}
+use Rattle.section_codec.specs.declared.table.NumberedBody.{NumberedBody}
+use Rattle.section_codec.specs.declared.table.SubTable.{SubTable}
+use Rattle.section_codec.specs.Tables.{is_eit}
+use Rattle.section_codec.specs.Section.{long_flags, section_bytes, longest_body}
+use Rattle.section_codec.proofs.ReadBack.{length-section_bytes}
+use Rattle.version_book.specs.Airings.{Airing, version_at}
+use Rattle.ts_packets.specs.Packets.{Carries}
+use Rattle.ts_packets.specs.Counting.{of_pid}
+use Rattle.ts_packets.proofs.Carrying.{Carries-none, Carries-append}
+use Rattle.ts_packets.proofs.Stamps.{of_pid-append}
+use Rattle.ts_demux.specs.Hearing.{IsSection}
+use Rattle.ts_demux.specs.Laws.{GoOn}
+use Rattle.ts_demux.proofs.Written.{carried_is_heard}
+use Rattle.air_model.specs.Air.{Sent, Aired, IsAirOf, Cycles, air, airings_of, sent_on, sent_section, header_of, sections_of, cycle_sections}
+use Rattle.air_hearing.specs.Sending.{sections_sent, IsFit, AreFit}
+use Rattle.air_hearing.specs.Laws.{AirIsHeard}
+use Rattle.air_hearing.proofs.Lists.{all_both}
+
+-- ---- a written section is a section
+
+low_bits : (table n : ℕ) → n < 4096 → (((long_flags table + n) / 256 % 256) % 16) * 256 + (long_flags table + n) % 256 ≡ n
+low_bits table n lt = go (table == 0x00 || table == 0x02)
+  where
+    go : (b : Bool) → ((((if b then 0xB000 else 0xF000) + n) / 256 % 256) % 16) * 256 + ((if b then 0xB000 else 0xF000) + n) % 256 ≡ n
+    go true = omega arith
+    go false = omega arith
+
+within : (table n : ℕ) → n ≤ longest_body table → n ≤ 4084
+within table n le = go (is_eit table) le
+  where
+    go : (b : Bool) → n ≤ (if b then 4084 else 1012) → n ≤ 4084
+    go true le = le
+    go false le = omega arith
+
+pub IsSection-section_bytes : (h : LongHeader) (body : List ℕ) → h.table ≢ 0xFF → length body ≤ longest_body h.table → IsSection (section_bytes h body)
+IsSection-section_bytes h body other le =
+    let len = length-section_bytes h body in
+    let most : length body ≤ 4084 = within h.table (length body) le in
+    let told : (((long_flags h.table + (9 + length body)) / 256 % 256) % 16) * 256 + (long_flags h.table + (9 + length body)) % 256 ≡ 9 + length body = low_bits h.table (9 + length body) (omega arith) in
+    record {
+      header = omega (arith, len);
+      most = omega (arith, len, most);
+      size = ap (λ (n : ℕ). 3 + n) told ∙ omega (arith, len);
+      no_fill = λ b more e is. other ((let first : h.table ≡ b = cc in first) ∙ is);
+    }
+
+-- ---- each section that is sent
+
+each_of_table : (version : ℕ) (t : SubTable) → t.key.table ≢ 0xFF → (ss : List NumberedBody) → AllByRecursion (λ (s : NumberedBody). length s.body ≤ longest_body t.key.table) ss
+    → AllByRecursion (λ (x : Sent). IsSection x.bytes) (map (sent_section version t) ss)
+each_of_table version t other [] le = tt
+each_of_table version t other (s ∷ ss) le = (IsSection-section_bytes (header_of version t s) s.body other le.0, each_of_table version t other ss le.1)
+
+each_sent : (past airings : List Airing) → AllByRecursion AreFit airings → AllByRecursion (λ (x : Sent). IsSection x.bytes) (sections_sent past airings)
+each_sent past [] fit = tt
+each_sent past (a ∷ airings) fit = all_both (λ (x : Sent). IsSection x.bytes) (cycle_sections past a) (sections_sent (past ++ a ∷ []) airings) (of_tables a.tables fit.0) (each_sent (past ++ a ∷ []) airings fit.1)
+  where
+    of_tables : (ts : List SubTable) → AllByRecursion IsFit ts → AllByRecursion (λ (x : Sent). IsSection x.bytes) (flat_map (λ (t : SubTable). sections_of (version_at t.key (past ++ a ∷ [])) t) ts)
+    of_tables [] fit = tt
+    of_tables (t ∷ ts) fit =
+        all_both (λ (x : Sent). IsSection x.bytes) (sections_of (version_at t.key (past ++ a ∷ [])) t) (flat_map (λ (t : SubTable). sections_of (version_at t.key (past ++ a ∷ [])) t) ts)
+        (each_of_table (version_at t.key (past ++ a ∷ [])) t fit.0.table t.sections fit.0.bodies) (of_tables ts fit.1)
+
+each_on : (pid : ℕ) (ss : List Sent) → AllByRecursion (λ (x : Sent). IsSection x.bytes) ss → AllByRecursion IsSection (filter_map (sent_on pid) ss)
+each_on pid [] all = tt
+each_on pid (s ∷ ss) all = go (s.pid == pid) (each_on pid ss all.1)
+  where
+    go : (b : Bool) → AllByRecursion IsSection (filter_map (sent_on pid) ss) → AllByRecursion IsSection (cons_option (if b then Some s.bytes else None) (filter_map (sent_on pid) ss))
+    go true rest = (all.0, rest)
+    go false rest = rest
+
+pub sections-each : (pid : ℕ) (past airings : List Airing) → AllByRecursion AreFit airings → AllByRecursion IsSection (filter_map (sent_on pid) (sections_sent past airings))
+sections-each pid past airings fit = each_on pid (sections_sent past airings) (each_sent past airings fit)
+
+-- ---- the cycles, joined
+
+pub Carries-cycles : (pid : ℕ) (past : List Airing) (xs : List Aired) → Cycles past xs → Carries (of_pid pid (air xs)) (filter_map (sent_on pid) (sections_sent past (airings_of xs)))
+Carries-cycles pid past [] h = Carries-none
+Carries-cycles pid past (x ∷ xs) h =
+    let cycle = filter_map (sent_on pid) (cycle_sections past x.airing) in
+    let later = filter_map (sent_on pid) (sections_sent (past ++ x.airing ∷ []) (airings_of xs)) in
+    subst₂ Carries (sym (of_pid-append pid x.packets (air xs))) (sym (filter_map-append (sent_on pid) (cycle_sections past x.airing) (sections_sent (past ++ x.airing ∷ []) (airings_of xs))))
+    (Carries-append (of_pid pid x.packets) (of_pid pid (air xs)) cycle later (h.0 pid) (Carries-cycles pid (past ++ x.airing ∷ []) xs h.1))
+
+pub Carries-air : (airings : List Airing) (xs : List Aired) → IsAirOf airings xs → (pid : ℕ) → Carries (of_pid pid (air xs)) (filter_map (sent_on pid) (sections_sent [] airings))
+Carries-air airings xs is pid =
+    subst (λ (l : List Airing). Carries (of_pid pid (air xs)) (filter_map (sent_on pid) (sections_sent [] l))) is.airings_are (Carries-cycles pid [] xs is.cycles)
+
+pub GoOn-air : (airings : List Airing) (xs : List Aired) → IsAirOf airings xs → (pid : ℕ) → GoOn pid (air xs)
+GoOn-air airings xs is pid = record { fields = is.fields; counted = (0, is.counted pid) }
+
+pub air-heard : AirIsHeard
+air-heard airings xs is fit pid lt =
+    carried_is_heard pid lt (air xs) (filter_map (sent_on pid) (sections_sent [] airings)) (Carries-air airings xs is pid) (sections-each pid [] airings fit) (GoOn-air airings xs is pid)

@@ -1,0 +1,5 @@
+pub mod Sending
+pub mod Counting
+pub mod Changes
+pub mod Laws
+pub mod Rows

@@ -1,0 +1,9 @@
+//! What is sent is heard: of the air of an airing list the sections, the sections that count, and the completions that a
+//! receiver shows (ISO/IEC 13818-1, 2.4; EN 300 468, 5.1).
+//!
+//! This crate has definitions and laws alone. A law is a function with an empty body, whose clause is the law.
+#![tactic(auto)]
+
+mod laws;
+
+pub use laws::{air_is_counted, air_is_heard, changes_are_heard};
