@@ -1,6 +1,6 @@
 -- The SDT of one service can be sent, and what one more swap puts on air.
-use Rattle.std.proofs.Common.{◌≡◌, ◌≢◌, ℕ, zero, suc, ◌+◌, ◌*◌, ◌<◌, ◌≤◌, Bool, true, false, cond, List, [], ◌∷◌, ◌++◌, length, take, map, refl, sym, ap, ◌∙◌, subst, arith, lit<, lit≤, length-append, inl, inr, ◌⊎◌, append-nil, append_assoc}
-use Rattle.std.specs.Prelude.{flat_map, Option, Some, None, filter_map}
+use Rattle.std.proofs.Common.{◌≡◌, ℕ, zero, suc, ◌+◌, ◌*◌, ◌<◌, ◌≤◌, Bool, true, false, List, [], ◌∷◌, ◌++◌, length, take, refl, sym, ap, ◌∙◌, subst, arith, lit<, length-append, inl, inr, ◌⊎◌, append_assoc}
+use Rattle.std.specs.Prelude.{flat_map, Option}
 use Rattle.std.specs.List.{AllByRecursion, All}
 use Rattle.std.specs.Io.KnownBytes.{Appends}
 use Rattle.si_base.specs.Fields.{two}
@@ -12,7 +12,7 @@ use Rattle.mux_config.specs.declared.mux.Mux.{Mux}
 use Rattle.desk_core.specs.Publications.{HasFitNames, AreFitNames}
 use Rattle.section_codec.specs.declared.table.NumberedBody.{NumberedBody}
 use Rattle.section_codec.specs.Section.{longest_body}
-use Rattle.carousel_player.specs.Playing.{AreFit, IsFit, Playing, AtEnd, Within, Begins, GaveUp}
+use Rattle.carousel_player.specs.Playing.{AreFit, IsFit, Playing, AtEnd, GaveUp}
 use Rattle.std.proofs.lemmas.List.{take-append-le}
 use Rattle.section_codec.specs.declared.table.SubTable.{SubTable}
 use Rattle.version_book.specs.Airings.{Airing}

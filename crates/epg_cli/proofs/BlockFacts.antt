@@ -1,13 +1,13 @@
 -- The multiplex of a block is sound.
-use Rattle.std.proofs.Common.{◌≡◌, ◌≢◌, ◌++◌, ℕ, List, [], ◌∷◌, length, arith, subst, sym, ap, lit<, refl}
+use Rattle.std.proofs.Common.{◌≡◌, ◌≢◌, ◌++◌, List, [], ◌∷◌, arith, subst, sym, ap, lit<}
 use Rattle.std.specs.Prelude.{None, map}
-use Rattle.std.specs.List.{AllByRecursion, flat_map}
+use Rattle.std.specs.List.{AllByRecursion}
 use Rattle.si_text.specs.Coding.{coded_size}
 use Rattle.guide_model.specs.declared.stream.Component.{Component}
 use Rattle.mux_config.specs.declared.mux.Mux.{Mux}
 use Rattle.mux_config.specs.declared.mux.MuxService.{MuxService}
-use Rattle.mux_config.specs.Sound.{Between, IsSound, all_component_pids, component_pids, pmt_pids}
-use Rattle.epg_cli.specs.Script.{IsBare, mux_of}
+use Rattle.mux_config.specs.Sound.{Between, IsSound, component_pids}
+use Rattle.epg_cli.specs.Script.{IsBare}
 use Rattle.epg_cli.specs.declared.records.Network.{Network}
 use Rattle.epg_cli.specs.declared.records.Stream.{Stream}
 

@@ -1,9 +1,6 @@
 -- A line of eight fields.
-use Rattle.std.proofs.Common.{◌≡◌, ◌≢◌, ℕ, zero, suc, ◌<◌, ◌≤◌, Bool, true, List, [], ◌∷◌, length, map, get_or, refl, arith, Bor}
-use Rattle.std.specs.Prelude.{Option, None, ◌&&◌}
-use Rattle.std.specs.List.{list_all}
-use Rattle.si_text.specs.Coding.{all_plain}
-use Rattle.si_text.proofs.PlainFacts.{and_left, and_right}
+use Rattle.std.proofs.Common.{◌≡◌, ◌≢◌, ℕ, ◌<◌, ◌≤◌, List, [], ◌∷◌, length, map, get_or, refl, arith, Bor}
+use Rattle.std.specs.Prelude.{None}
 use Rattle.epg_cli.specs.Script.{service_of, service_in, numbers_of}
 
 -- fields as they are lent

@@ -5,5 +5,5 @@ pub mod BlockFacts
 pub mod AirFacts
 pub mod SwapFacts
 pub mod RestFacts
-pub mod WindowFacts
 pub mod RunFacts
+pub mod ListenFacts

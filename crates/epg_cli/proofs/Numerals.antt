@@ -1,11 +1,11 @@
 -- What `parse` answers for the digits of a field.
-use Rattle.std.proofs.Common.{◌≡◌, ℕ, ◌+◌, ◌-◌, ◌*◌, ◌<◌, ◌≤◌, List, length, true, rules, arith, Ok, Result}
+use Rattle.std.proofs.Common.{◌≡◌, ℕ, ◌≤◌, List, length, true, rules, arith, Ok, Result}
 use Rattle.std.specs.Prelude.{◌&&◌, nat_le}
 use Rattle.std.specs.List.{list_all}
 use Rattle.std.specs.Str.Parse.{ParsesUnsigned}
 use Rattle.std.proofs.lemmas.Str.Parse.{IsNumeralModel, numerals_by_fold, parse_gives, digits_value_short}
 use Rattle.std.proofs.lemmas.Bool.Decides.{nat_tests}
-use Rattle.epg_cli.specs.Fields.{is_digit, is_numeral, value_from}
+use Rattle.epg_cli.specs.Fields.{is_digit, value_from}
 
 own : IsNumeralModel (λ ds. list_all is_digit ds ≡ true) (value_from 0)
 own = numerals_by_fold _ (search rules) value_from (search rules)

@@ -1,7 +1,7 @@
 -- A readable line is text, and its fields are of the plain set.
-use Rattle.std.proofs.Common.{◌≡◌, ℕ, Bool, true, false, not, cond, List, [], ◌∷◌, refl, ap, ◌∙◌, inl, inr, ◌⊎◌}
+use Rattle.std.proofs.Common.{◌≡◌, ℕ, Bool, true, false, not, List, [], ◌∷◌, refl, ap, ◌∙◌, inl, inr, ◌⊎◌}
 use Rattle.std.specs.Prelude.{IsUtf8, ◌&&◌, ◌==◌, nat_le, length, Result, Ok, Err, IfOk}
-use Rattle.std.specs.List.{list_all, slice_split, onto_first}
+use Rattle.std.specs.List.{list_all, onto_first}
 use Rattle.std.proofs.lemmas.Str.{IsUtf8-from_ascii}
 use Rattle.si_text.specs.Coding.{is_plain, all_plain}
 use Rattle.si_text.proofs.PlainFacts.{and_left, and_right, plain_ascii}

@@ -1,8 +1,7 @@
 -- Lines, one after another, and the commands that they are.
-use Rattle.std.proofs.Common.{◌≡◌, ℕ, ◌+◌, List, [], ◌∷◌, ◌++◌, length, take, refl, sym, ap, ◌∙◌, append-nil, append_assoc}
-use Rattle.std.specs.Prelude.{Option, Some, None, Ok, Err, Result}
+use Rattle.std.proofs.Common.{◌≡◌, ℕ, ◌+◌, List, [], ◌∷◌, ◌++◌, length, take, sym, ap, ◌∙◌, append-nil, append_assoc}
+use Rattle.std.specs.Prelude.{Option, Some, None, Ok, Err}
 use Rattle.std.proofs.Math.Seq.{take-append_seam}
-use Rattle.si_causes.specs.Text.{AtEnd, PastLimit}
 use Rattle.si_causes.specs.Reading.{Reading, GivesLine}
 use Rattle.si_causes.proofs.TextFacts.{given_past}
 use Rattle.si_causes.specs.declared.stop.ReadStop.{ReadStop}

@@ -1,20 +1,19 @@
 -- From what was played, and how its report ended, to what a run leaves.
-use Rattle.std.proofs.Common.{◌≡◌, ℕ, ◌+◌, ◌<◌, ◌≤◌, List, [], ◌∷◌, ◌++◌, length, take, refl, sym, ap, ◌∙◌, subst, arith, append-nil, inl, inr, ◌⊎◌}
+use Rattle.std.proofs.Common.{◌≡◌, ℕ, List, [], ◌∷◌, ◌++◌, take, refl, sym, ap, ◌∙◌, subst, append-nil, inl, inr}
 use Rattle.std.specs.Prelude.{Option, Some, None, Ok, Err, Result, OnOk, OnErr, true, false}
 use Rattle.std.specs.Result.{result_err}
 use Rattle.std.specs.Io.KnownBytes.{Appends}
 use Rattle.si_causes.specs.Causes.{Rose, AppendsFront}
 use Rattle.si_causes.specs.Reading.{Reading, fresh as unread, text_left}
 use Rattle.si_causes.proofs.TextFacts.{fresh_text}
-use Rattle.si_causes.specs.declared.stop.ReadStop.{ReadStop}
 use Rattle.si_causes.specs.declared.stop.ReadStop.TheVariants.{Failed, TooLong as Overlong}
 use Rattle.version_book.specs.Airings.{Airing}
-use Rattle.air_model.specs.Air.{Aired, IsAirOf, airings_of, air_bytes}
+use Rattle.air_model.specs.Air.{IsAirOf}
 use Rattle.air_model.proofs.Airs.{IsAirOf-none}
 use Rattle.carousel_player.specs.Playing.{Playing, AtEnd}
 use Rattle.mux_config.specs.declared.mux.Mux.{Mux}
 use Rattle.desk_core.specs.declared.step.Entry.{Entry}
-use Rattle.desk_core.specs.Journal.{Command, journal_of, journal_after}
+use Rattle.desk_core.specs.Journal.{Command, journal_of}
 use Rattle.desk_core.specs.Desks.{DeskState, fresh}
 use Rattle.epg_cli.specs.declared.stop.PlayStop.{PlayStop}
 use Rattle.epg_cli.specs.declared.stop.PlayStop.TheVariants.{NoCommand as Refused, Read, Air as OnAir, Memory as NoMemory}
@@ -23,11 +22,12 @@ use Rattle.epg_cli.specs.declared.status.Status.TheVariants.{Done, Usage, BadScr
 use Rattle.epg_cli.specs.declared.status.Origin.TheVariants.{Input, Feed}
 use Rattle.epg_cli.specs.declared.status.Outlet.TheVariants.{Air, Report}
 use Rattle.epg_cli.specs.Air.{airings}
-use Rattle.epg_cli.specs.Script.{Script, Stop, Ended, NoCommand, TooLong, no_mux, with_commands, script_in, script_of}
+use Rattle.epg_cli.specs.Script.{Script, Stop, NoCommand, TooLong, no_mux, with_commands, script_in, script_of}
 use Rattle.epg_cli.specs.Reads.{ReadBlock, IsNoAirStop, lines_of}
-use Rattle.epg_cli.specs.Played.{desk_after, RestDid, AiredTo, HasAired, HasAiredFront, IsOnAir, cycle_bytes}
-use Rattle.epg_cli.specs.Texts.{journal_text, fault_line}
-use Rattle.epg_cli.specs.Run.{Told, IsAired, IsAiredFront, HasPlayed, Finished, FinishedBy, Leaves, IsOfPlay, Completes, whole_journal, first_journal, journal_for, entries_of, status_for, stop_text, Reported, airings_for, HasStopCause, HasAirStopCause}
+use Rattle.epg_cli.specs.Played.{desk_after, RestDid, AiredTo, HasAired, HasAiredFront, IsOnAir}
+use Rattle.journal_text.specs.Entries.{journal_text}
+use Rattle.epg_cli.specs.Texts.{fault_line}
+use Rattle.epg_cli.specs.Run.{Told, IsAired, IsAiredFront, HasPlayed, Finished, FinishedBy, Leaves, Completes, journal_for, entries_of, status_for, stop_text, Reported, airings_for, HasAirStopCause}
 
 pub appends_nil : (w : Option (List ℕ)) → Appends w w []
 appends_nil None = tt

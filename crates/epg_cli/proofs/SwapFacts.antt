@@ -1,5 +1,5 @@
 -- One more entry, and what it puts on air.
-use Rattle.std.proofs.Common.{◌≡◌, ◌≢◌, ℕ, ◌+◌, ◌<◌, ◌≤◌, Bool, true, false, cond, List, [], ◌∷◌, ◌++◌, length, take, map, refl, sym, ap, ◌∙◌, subst, arith, append-nil, append_assoc, inl, inr, ◌⊎◌}
+use Rattle.std.proofs.Common.{◌≡◌, ℕ, ◌≤◌, true, false, List, [], ◌∷◌, ◌++◌, take, refl, sym, ap, ◌∙◌, subst, arith, append-nil, append_assoc}
 use Rattle.std.specs.Prelude.{flat_map, Option, Some, None, filter_map, Result, Ok, Err, OnOk}
 use Rattle.std.specs.List.{AllByRecursion}
 use Rattle.std.specs.Io.KnownBytes.{Appends}
@@ -15,15 +15,13 @@ use Rattle.carousel_player.specs.Playing.{Playing, AtEnd}
 use Rattle.desk_core.specs.declared.step.Step.{Step}
 use Rattle.desk_core.specs.declared.step.Step.TheVariants.{Edit as edit, Publish, Swap}
 use Rattle.desk_core.specs.declared.step.Outcome.{Outcome}
-use Rattle.desk_core.specs.declared.step.Outcome.TheVariants.{Swapped}
 use Rattle.desk_core.specs.declared.step.Entry.{Entry}
-use Rattle.desk_core.specs.declared.step.Airing.{Airing as OnAir}
 use Rattle.desk_core.specs.Journal.{publishes, moment_of, outcome_of, LegalAfter, Legal}
-use Rattle.desk_core.specs.Publications.{aired_by, last_aired, publication, airing_of}
-use Rattle.desk_core.specs.Desks.{DeskState, and_entry, on_air_of}
-use Rattle.desk_core.proofs.JournalFacts.{publishes-push, publication-kept, aired-swap, legal_more}
+use Rattle.desk_core.specs.Publications.{aired_by, publication}
+use Rattle.desk_core.specs.Desks.{DeskState}
+use Rattle.desk_core.proofs.JournalFacts.{publication-kept, aired-swap, legal_more}
 use Rattle.epg_cli.specs.Air.{airings, airing_with, tables_of}
-use Rattle.epg_cli.specs.Played.{cycle_bytes, airing_on, HasAired, HasAiredFront, IsOnAir, SentCycle, AiredTo, did, is_swap}
+use Rattle.epg_cli.specs.Played.{cycle_bytes, airing_on, HasAired, IsOnAir, SentCycle, AiredTo, did, is_swap}
 use Rattle.epg_cli.specs.declared.stop.PlayStop.{PlayStop}
 use Rattle.epg_cli.specs.declared.stop.PlayStop.TheVariants.{NoCommand as Refused, Read, Air as OnFault, Memory}
 

@@ -9,7 +9,6 @@ use Rattle.mux_config.specs.declared.mux.Mux.{Mux}
 use Rattle.section_codec.specs.declared.table.SubTable.{SubTable}
 use Rattle.section_codec.specs.declared.table.Tier3.TheVariants.{Fast}
 use Rattle.version_book.specs.Airings.{Airing}
-use Rattle.desk_core.specs.declared.step.Outcome.{Outcome}
 use Rattle.desk_core.specs.declared.step.Entry.{Entry}
 use Rattle.desk_core.specs.Publications.{aired_by, publication}
 use Rattle.si_time.specs.declared.moment.Moment.{Moment}

@@ -6,4 +6,5 @@ pub mod Air
 pub mod Reads
 pub mod Played
 pub mod Run
+pub mod Listen
 pub mod Rows

@@ -1,14 +1,14 @@
 -- What reading the records of a script leaves.
-use Rattle.std.specs.Prelude.{◌≡◌, ◌⊎◌, ℕ, ◌+◌, List, [], ◌∷◌, Option, Some, None, Ok, Err, Result}
+use Rattle.std.specs.Prelude.{◌≡◌, ℕ, ◌+◌, List, [], ◌∷◌, Option, Some, None, Ok, Err, Result}
 use Rattle.si_causes.specs.Reading.{Reading, text_left, room}
-use Rattle.si_causes.specs.Text.{TextEnd, AtEnd, PastLimit, lines_left}
+use Rattle.si_causes.specs.Text.{AtEnd, PastLimit, lines_left}
 use Rattle.si_causes.specs.Causes.{Rose}
 use Rattle.si_causes.specs.declared.stop.ReadStop.TheVariants.{Failed, TooLong as Overlong}
 use Rattle.mux_config.specs.declared.mux.Mux.{Mux}
 use Rattle.epg_cli.specs.declared.stop.PlayStop.{PlayStop}
 use Rattle.epg_cli.specs.declared.stop.PlayStop.TheVariants.{NoCommand as Refused, Read, Air, Memory}
 use Rattle.epg_cli.specs.Fields.{readable_fields}
-use Rattle.epg_cli.specs.Script.{Lines, Stop, NoCommand, TooLong, Script, no_mux, with_commands, commands_of}
+use Rattle.epg_cli.specs.Script.{Lines, NoCommand, TooLong, Script, no_mux, with_commands, commands_of}
 
 -- the lines that a reader has still to give of this text
 abbrev pub lines_of : {S : Type 0} → Reading S → List ℕ → Lines

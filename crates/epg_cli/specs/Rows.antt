@@ -1,13 +1,9 @@
--- The first worked example, from the text to the journal, the report and the sections.
-use Rattle.std.specs.Prelude.{◌≡◌, ℕ, List, [], ◌∷◌, ◌++◌, Some, None, refl, codes, map}
-use Rattle.std.specs.Fmt.{digits}
+-- The first worked example, from the text to the commands.
+use Rattle.std.specs.Prelude.{◌≡◌, ℕ, List, [], ◌++◌, Some, refl, codes}
 use Rattle.si_causes.specs.Lines.{raw_lines}
 use Rattle.si_causes.specs.Text.{AtEnd, PastLimit}
-use Rattle.si_time.specs.Moments.{moments_compute}
-use Rattle.desk_core.specs.Journal.{journal_of}
-use Rattle.desk_core.specs.Rows.{row_mux, row_commands, row_journal}
+use Rattle.desk_core.specs.Rows.{row_mux, row_commands}
 use Rattle.epg_cli.specs.Script.{script_of, Ended, NoCommand, TooLong, no_mux}
-use Rattle.epg_cli.specs.Texts.{journal_text}
 
 abbrev pub row_block : List ℕ
 row_block = codes "network,40,Demo\nstream,1,1\nservice,101,1,1,256,257,Acme,One\nend\n"
@@ -38,7 +34,3 @@ row_ten_digits = refl
 
 row_quote : script_of (raw_lines (codes "network,40,\"Demo\"\n"), AtEnd) ≡ no_mux (NoCommand 1)
 row_quote = refl
-
-row_report : journal_text row_journal ≡ codes "0,feed,1,name,101,Acme,News\n=,done\n0,publish\n=,published,1\n0,swap\n=,swapped,1,1970-01-01T00:00:00Z\n"
-unfolding digits moments_compute
-row_report = refl

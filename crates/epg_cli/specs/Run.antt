@@ -13,14 +13,15 @@ use Rattle.desk_core.specs.Desks.{DeskState}
 use Rattle.epg_cli.specs.declared.stop.PlayStop.{PlayStop}
 use Rattle.epg_cli.specs.declared.stop.PlayStop.TheVariants.{NoCommand as Refused, Read, Air as OnAir, Memory as NoMemory}
 use Rattle.epg_cli.specs.declared.status.Status.{Status}
-use Rattle.epg_cli.specs.declared.status.Status.TheVariants.{Done, Usage, BadScript, Disagrees, BadMux, BadFeed, BadStream, TooLong as PastLimit, OpenFault, ReadFault, WriteFault, Memory}
-use Rattle.epg_cli.specs.declared.status.Origin.TheVariants.{Input, Feed}
+use Rattle.epg_cli.specs.declared.status.Status.TheVariants.{Done, BadScript, TooLong as PastLimit, ReadFault, WriteFault, Memory}
+use Rattle.epg_cli.specs.declared.status.Origin.TheVariants.{Input}
 use Rattle.epg_cli.specs.declared.status.Outlet.TheVariants.{Air, Report}
 use Rattle.epg_cli.specs.Air.{airings}
 use Rattle.epg_cli.specs.Fields.{is_word}
 use Rattle.epg_cli.specs.Played.{cycle_bytes}
 use Rattle.epg_cli.specs.Script.{Script, Ended, NoCommand, TooLong}
-use Rattle.epg_cli.specs.Texts.{journal_text, fault_line}
+use Rattle.journal_text.specs.Entries.{journal_text}
+use Rattle.epg_cli.specs.Texts.{fault_line}
 
 -- What a sink told before and after a call: the bytes that it took, and the count of its faults.
 pub record Told : Type 0 where

@@ -1,7 +1,6 @@
 -- The script of a text: the multiplex that its first four lines describe, and the commands behind them.
-use Rattle.std.specs.Prelude.{◌≡◌, ℕ, ◌+◌, nat_le, Bool, true, false, ◌&&◌, List, [], ◌∷◌, Option, Some, None, if◌then◌else◌, codes, option_and_then, option_map}
+use Rattle.std.specs.Prelude.{◌≡◌, ℕ, ◌+◌, Bool, false, ◌&&◌, List, [], ◌∷◌, Option, Some, None, if◌then◌else◌, codes, option_and_then, option_map}
 use Rattle.si_causes.specs.Text.{TextEnd, AtEnd, PastLimit, text_lines}
-use Rattle.si_text.specs.Coding.{coded_size}
 use Rattle.mux_config.specs.declared.mux.MuxService.{MuxService}
 use Rattle.mux_config.specs.declared.mux.Mux.{Mux}
 use Rattle.feed_book.specs.Replies.{fits}

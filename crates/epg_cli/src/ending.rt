@@ -1,14 +1,15 @@
 // How a run ends: its report and its status.
-ghost use Rattle.std.specs.Prelude.{◌≡◌, ◌≤◌, ◌++◌, IfOk, OnOk, codes, IfSome, None, Some, List, Option, ℕ};
+ghost use Rattle.std.specs.Prelude.{◌≡◌, ◌≤◌, ◌++◌, IfOk, OnOk, codes, decimal, IfSome, None, Some, List, Option, ℕ};
 ghost use Rattle.si_causes.specs.Causes.{Rose};
 ghost use Rattle.desk_core.specs.Desks.{DeskState};
-ghost use Rattle.epg_cli.specs.Texts.{journal_text, fault_line};
+ghost use Rattle.journal_text.specs.Entries.{journal_text, AreInWindow};
+ghost use Rattle.epg_cli.specs.Texts.{fault_line};
 ghost use Rattle.epg_cli.specs.Run.{stop_text, status_for, entries_of, ending_text, Finished, told, Reported};
 
-use crate::report::{put_number, text_of};
 use crate::status::{Origin, Outlet, Status};
 use crate::stop::PlayStop;
-use desk_core::Desk;
+use desk_core::{Desk, Entry};
+use journal_text::write_entry;
 use si_causes::{ReadStop, Sink, write_all};
 use std::alloc::{AllocError, Global};
 
@@ -17,6 +18,14 @@ use std::alloc::{AllocError, Global};
 pub(crate) struct Played {
     pub(crate) desk: Option<Desk>,
     pub(crate) stop: Option<PlayStop>,
+}
+
+// Appends a number in decimal digits.
+pub(crate) fn put_number(alloc: Global, out: &mut Vec<u8>, n: u64) -> Result<(), AllocError>
+    ensures { OnOk result (out.new.items ≡ out.old.items ++ decimal n) }
+{
+    let text = n.to_string(alloc)?;
+    out.extend_from_slice(text.as_bytes())
 }
 
 // Appends what the line of a stop says.
@@ -43,6 +52,18 @@ fn put_fault(alloc: Global, out: &mut Vec<u8>, stop: PlayStop) -> Result<(), All
     out.extend_from_slice(b"fault: ")?;
     put_stop(alloc, out, stop)?;
     out.extend_from_slice(b"\n")
+}
+
+// The text of these entries.
+fn text_of(alloc: Global, entries: &[Entry]) -> Result<Vec<u8>, AllocError>
+    requires { AreInWindow entries.now }
+    ensures { IfOk result (λ text. text.items ≡ journal_text entries.now) }
+{
+    let mut text = Vec::new(alloc);
+    for entry in entries {
+        write_entry(alloc, entry, &mut text)?;
+    }
+    Ok(text)
 }
 
 // The text of a desk's journal.

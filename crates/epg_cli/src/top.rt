@@ -7,16 +7,21 @@ ghost use Rattle.epg_cli.specs.declared.status.Origin.{Origin as AnOrigin};
 ghost use Rattle.epg_cli.specs.Texts.{fault_line};
 ghost use Rattle.epg_cli.specs.Script.{script_in, script_of};
 ghost use Rattle.epg_cli.specs.Reads.{lines_of};
+ghost use Rattle.packet_reader.specs.Recordings.{recording};
+ghost use Rattle.epg_cli.specs.Listen.{LeavesHeard, IsOfListen, HearsThrough, are_listen};
 ghost use Rattle.epg_cli.specs.Run.{Leaves, IsOfPlay, Completes, Reported, HasPlayed, are_play, told, HasStopCause, HasAirStopCause};
 
 use crate::block::read_block;
 use crate::ending::{Played, finish, out_of_memory};
 use crate::fields::is;
+use crate::listen::{end_report, hear_all};
 use crate::play::play_rest;
 use crate::status::{Origin, Outlet, Status};
 use crate::stop::PlayStop;
 use carousel_player::Player;
 use desk_core::Desk;
+use guide_receiver::Receiver;
+use packet_reader::PacketReader;
 use si_causes::{Gate, LineReader, Opener, Sink, Source, write_all};
 use std::alloc::Global;
 use std::marker::{Send, Sync};
@@ -103,6 +108,51 @@ pub fn run_play<S: Source, A: Sink, R: Sink>(
     play_through(alloc, input, air, report)
 }
 
+/// Hears the recording of the input: packets of 188 bytes from its first byte on. It reports one line for each completion of a
+/// sub-table, before it reads the next packet, and then the line `end`, or a line that names the fault (ISO/IEC 13818-1, 2.4;
+/// EN 300 468, 5.1).
+pub fn run_listen<S: Source, R: Sink>(alloc: Global, input: &mut S, report: &mut R) -> Status
+    ensures leaves { (bytes : List ℕ) → S.left input.old ≡ Some bytes
+        → LeavesHeard (recording bytes) (told R.written R.faults report.old report.new) result }
+    // Where neither the input nor the report fails, the recording decides the status, but for want of memory.
+    ensures completes { (bytes : List ℕ) → S.left input.old ≡ Some bytes → ¬ (Rose (S.faults input.old) (S.faults input.new))
+        → ¬ (Rose (R.faults report.old) (R.faults report.new)) → HearsThrough (recording bytes) result }
+    ensures status { IsOfListen result }
+    ensures end { result ≡ Status.Done → IsAtEnd (S.left input.new) }
+    ensures input { result ≡ Status.ReadFault Origin.Input → Rose (S.faults input.old) (S.faults input.new) }
+    ensures report { result ≡ Status.WriteFault Outlet.Report → Rose (R.faults report.old) (R.faults report.new) }
+{
+    listen_through(alloc, input, report)
+}
+
+// Opens the input, hears its packets and reports.
+fn listen_through<S: Source, R: Sink>(alloc: Global, input: &mut S, report: &mut R) -> Status
+    ensures leaves { (bytes : List ℕ) → S.left input.old ≡ Some bytes
+        → LeavesHeard (recording bytes) (told R.written R.faults report.old report.new) result }
+    ensures status { IsOfListen result }
+    ensures end { result ≡ Status.Done → IsAtEnd (S.left input.new) }
+    ensures input { result ≡ Status.ReadFault Origin.Input → Rose (S.faults input.old) (S.faults input.new) }
+    ensures report { result ≡ Status.WriteFault Outlet.Report → Rose (R.faults report.old) (R.faults report.new) }
+{
+    let Ok(mut packets) = PacketReader::open(alloc, &mut *input) else {
+        return out_of_memory(report);
+    };
+    let mut receiver = Receiver::open(alloc);
+    let heard = hear_all(alloc, &mut packets, &mut receiver, report);
+    let _source = packets.close();
+    end_report(alloc, heard, report)
+}
+
+// Whether the words are the one word `listen`.
+fn is_listen(words: &[String]) -> bool
+    ensures { result ≡ are_listen (map string_bytes words.now) }
+{
+    match words {
+        [word] => is(word.as_str(), "listen"),
+        _ => false,
+    }
+}
+
 // Whether the words are the one word `play`.
 fn is_play(words: &[String]) -> bool
     ensures { result ≡ are_play (map string_bytes words.now) }
@@ -114,7 +164,7 @@ fn is_play(words: &[String]) -> bool
 }
 
 /// Does all that the program does: it takes the words of the command line without the program's name, what opens files, the input,
-/// the air, the report, and the gate that threads pass. The words are those of `play`: this one word alone. No file is opened.
+/// the air, the report, and the gate that threads pass. The words are the one word `play` or the one word `listen`. No file is opened.
 pub fn run<W: Threads + Wait + Sync, O: Opener, S: Source + Send, A: Sink + Send, R: Sink, G: Gate>(
     _rt: &W,
     alloc: Global,
@@ -125,8 +175,8 @@ pub fn run<W: Threads + Wait + Sync, O: Opener, S: Source + Send, A: Sink + Send
     report: &mut R,
     _gate: &G,
 ) -> Status
-    // Usage comes exactly where the words are not the one word `play`; then nothing is read or sent.
-    ensures usage { result ≡ Status.Usage ↔ (are_play (map string_bytes words.now) ≡ false) }
+    // Usage comes exactly where the words are not one of the words `play` and `listen`; then nothing is read or sent.
+    ensures usage { result ≡ Status.Usage ↔ ((are_play (map string_bytes words.now) ≡ false) × (are_listen (map string_bytes words.now) ≡ false)) }
     ensures usage_leaves { result ≡ Status.Usage → (air.new ≡ air.old) × (input.new ≡ input.old)
         × Reported (told R.written R.faults report.old report.new) (fault_line (codes "usage")) }
     // What is left with each status of `play`: the journal that the report has, and the air.
@@ -135,6 +185,13 @@ pub fn run<W: Threads + Wait + Sync, O: Opener, S: Source + Send, A: Sink + Send
     ensures completes { are_play (map string_bytes words.now) ≡ true → (text : List ℕ) → S.left input.old ≡ Some text → ¬ (Rose (S.faults input.old) (S.faults input.new))
         → ¬ (Rose (A.faults air.old) (A.faults air.new)) → ¬ (Rose (R.faults report.old) (R.faults report.new)) → Completes (script_in text) result }
     ensures status { are_play (map string_bytes words.now) ≡ true → IsOfPlay result }
+    // What is left with each status of `listen`: the completions that the report has. Nothing is sent.
+    ensures listen_leaves { are_listen (map string_bytes words.now) ≡ true → (bytes : List ℕ) → S.left input.old ≡ Some bytes
+        → LeavesHeard (recording bytes) (told R.written R.faults report.old report.new) result }
+    ensures listen_completes { are_listen (map string_bytes words.now) ≡ true → (bytes : List ℕ) → S.left input.old ≡ Some bytes → ¬ (Rose (S.faults input.old) (S.faults input.new))
+        → ¬ (Rose (R.faults report.old) (R.faults report.new)) → HearsThrough (recording bytes) result }
+    ensures listen_status { are_listen (map string_bytes words.now) ≡ true → IsOfListen result }
+    ensures air_kept { are_listen (map string_bytes words.now) ≡ true → air.new ≡ air.old }
     // With Done the input was read to its end; each fault has its cause.
     ensures end { result ≡ Status.Done → IsAtEnd (S.left input.new) }
     ensures input { (origin : AnOrigin) → result ≡ Status.ReadFault origin → (origin ≡ Origin.Input) × Rose (S.faults input.old) (S.faults input.new) }
@@ -144,6 +201,9 @@ pub fn run<W: Threads + Wait + Sync, O: Opener, S: Source + Send, A: Sink + Send
 {
     if is_play(words) {
         return run_play(alloc, input, air, report);
+    }
+    if is_listen(words) {
+        return run_listen(alloc, input, report);
     }
     let _ = write_all(report, b"fault: usage\n");
     Status::Usage

@@ -1,7 +1,7 @@
 use Rattle.std.proofs.Common.{sym, ap, ◌∙◌, arith, cond}
 use Rattle.std.specs.Prelude.{Some, None}
 use Rattle.epg_cli.specs.Fields.{readable_fields}
-use Rattle.epg_cli.specs.Script.{is_end, end_of}
+use Rattle.epg_cli.specs.Script.{is_end}
 use Rattle.epg_cli.specs.Reads.{lines_of, Other}
 use Rattle.epg_cli.proofs.block.block_end.Goals as goal
 

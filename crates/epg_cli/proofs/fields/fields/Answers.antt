@@ -1,4 +1,4 @@
-use Rattle.std.proofs.Common.{List, ℕ, lit<, map}
+use Rattle.std.proofs.Common.{lit<, map}
 use Rattle.std.proofs.lemmas.Iterator.Splits.{YieldsList-from_str_split}
 use Rattle.std.proofs.lemmas.Iterator.Consumers.{map_from_collect}
 use Rattle.epg_cli.proofs.Plain.{all_from}

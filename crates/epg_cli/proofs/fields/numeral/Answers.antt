@@ -1,5 +1,4 @@
-use Rattle.std.proofs.Common.{◌≡◌, Ok, sym, ◌∙◌, refl}
-use Rattle.std.specs.Prelude.{IsOk}
+use Rattle.std.proofs.Common.{refl}
 use Rattle.epg_cli.proofs.Numerals.{field_read}
 use Rattle.epg_cli.proofs.fields.numeral.Goals as goal
 

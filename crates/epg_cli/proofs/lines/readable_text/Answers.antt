@@ -1,4 +1,4 @@
-use Rattle.std.proofs.Common.{sym, ◌∙◌}
+use Rattle.std.proofs.Common.{sym}
 use Rattle.epg_cli.proofs.Plain.{readable_is_text}
 use Rattle.epg_cli.proofs.lines.readable_text.Goals as goal
 

@@ -1,4 +1,4 @@
-use Rattle.std.proofs.Common.{◌≡◌, ap, sym, ◌∙◌}
+use Rattle.std.proofs.Common.{ap, sym, ◌∙◌}
 use Rattle.desk_core.specs.Desks.{and_entry}
 use Rattle.epg_cli.proofs.SwapFacts.{after_swap_aired, after_swap_on_air, after_other_aired, after_other_on_air, after_legal, on_ok}
 use Rattle.epg_cli.proofs.play.play_line.Goals as goal

@@ -1,4 +1,4 @@
-use Rattle.std.proofs.Common.{◌≡◌, ap, sym, ◌∙◌, subst, length, ℕ}
+use Rattle.std.proofs.Common.{ap, sym, ◌∙◌, subst, length}
 use Rattle.mux_config.specs.declared.mux.Mux.{Mux}
 use Rattle.section_codec.specs.declared.table.SubTable.{SubTable}
 use Rattle.std.specs.Prelude.{List}

@@ -1,5 +1,5 @@
-use Rattle.std.proofs.Common.{◌≡◌, sym, ◌∙◌, ap, cond, List, ℕ}
-use Rattle.std.specs.Prelude.{Option, Some, None}
+use Rattle.std.proofs.Common.{◌≡◌, sym, ◌∙◌, ap, cond}
+use Rattle.std.specs.Prelude.{Some, None}
 use Rattle.si_text.proofs.PlainFacts.{plain_clean}
 use Rattle.epg_cli.proofs.records.plain_text.Goals as goal
 

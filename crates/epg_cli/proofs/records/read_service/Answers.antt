@@ -1,7 +1,7 @@
 use Rattle.std.proofs.Common.{◌≡◌, [], List, ℕ, Bor, get_or, arith, subst, sym, ap, ◌∙◌}
 use Rattle.std.specs.Prelude.{Option, IfOk}
 use Rattle.mux_config.specs.declared.mux.MuxService.{MuxService}
-use Rattle.epg_cli.specs.Script.{service_of, service_in}
+use Rattle.epg_cli.specs.Script.{service_in}
 use Rattle.epg_cli.proofs.Eight.{of_eight, of_others}
 use Rattle.epg_cli.proofs.records.read_service.Goals as goal
 

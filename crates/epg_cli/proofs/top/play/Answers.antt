@@ -1,5 +1,5 @@
-use Rattle.std.proofs.Common.{◌≡◌, ◌+◌, ℕ, refl, sym, ap, ◌∙◌, subst, List, []}
-use Rattle.desk_core.specs.Desks.{DeskState, fresh}
+use Rattle.std.proofs.Common.{◌+◌, refl, sym, ap, subst}
+use Rattle.desk_core.specs.Desks.{DeskState}
 use Rattle.std.specs.Prelude.{Option, Some}
 use Rattle.epg_cli.specs.declared.stop.PlayStop.{PlayStop}
 use Rattle.epg_cli.specs.Script.{commands_of, script_of}

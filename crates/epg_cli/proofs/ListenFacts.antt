@@ -1,0 +1,256 @@
+-- Packets of a recording, one after another, and what is reported of them.
+use Rattle.std.proofs.Common.{◌≡◌, ℕ, ◌+◌, ◌-◌, ◌<◌, ◌≤◌, List, [], ◌∷◌, ◌++◌, length, take, map, get_or, refl, sym, ap, ◌∙◌, subst, arith, append-nil, append_assoc, length-append, inl, inr, true, codes}
+use Rattle.std.specs.Prelude.{Option, Some, None, Ok, Err, Result}
+use Rattle.std.proofs.lemmas.List.{map_more, take_all, take-append-le}
+use Rattle.std.proofs.Math.Seq.{take-append_seam, take-append-add}
+use Rattle.std.proofs.lemmas.Slice.Eq.{bytes_eq-Decides}
+use Rattle.std.specs.Io.KnownBytes.{Appends}
+use Rattle.std.proofs.KnownBytes.{Appends-trans, prepend_known-nil}
+use Rattle.si_causes.proofs.CauseFacts.{Rose-from}
+use Rattle.si_causes.specs.Causes.{AppendsFront}
+use Rattle.packet_reader.specs.Recordings.{RecordingEnd, RecordingEnd.AtEnd, RecordingEnd.Broken, RecordingEnd.PastLimit, packet_limit, and_packet, packets_in, recording}
+use Rattle.packet_reader.specs.Reading.{Reading, GivesPacket, Counts, bytes_left, room, fresh}
+use Rattle.packet_reader.specs.declared.stop.PacketStop.{PacketStop}
+use Rattle.packet_reader.specs.declared.stop.PacketStop.TheVariants as packet
+use Rattle.guide_receiver.specs.declared.done.DoneKey.{DoneKey}
+use Rattle.guide_receiver.specs.Heard.{DoneAt, at_packet, dones_by, dones_behind}
+use Rattle.guide_receiver.specs.Texts.{done_line, done_lines}
+use Rattle.epg_cli.specs.declared.listen.ListenStop.{ListenStop}
+use Rattle.epg_cli.specs.declared.listen.ListenStop.TheVariants as stop
+use Rattle.epg_cli.specs.declared.status.Status.{Status}
+use Rattle.epg_cli.specs.declared.status.Status.TheVariants.{Done, Usage, BadScript, Disagrees, BadMux, BadFeed, BadStream, TooLong, OpenFault, ReadFault, WriteFault, Memory}
+use Rattle.epg_cli.specs.declared.status.Origin.TheVariants.{Input, Feed}
+use Rattle.epg_cli.specs.declared.status.Outlet.TheVariants.{Air, Report}
+use Rattle.epg_cli.specs.Texts.{fault_line}
+use Rattle.epg_cli.specs.Run.{Told, Reported, are_play}
+use Rattle.epg_cli.specs.Listen.{Recording, are_listen, heard_text, end_line, packet_stop_text, packet_stop_status, HasHeard, ReportsLines, LeavesHeard, IsOfListen, HearsThrough, EndsHeard, HasReadCause, IsNoReadStop}
+use Rattle.epg_cli.proofs.RunFacts.{appends_nil}
+
+-- ---- lines
+
+lines_append : (xs ys : List DoneAt) → done_lines (xs ++ ys) ≡ done_lines xs ++ done_lines ys
+lines_append [] ys = refl
+lines_append (x ∷ xs) ys = ap (λ t. done_line x ++ t) (lines_append xs ys) ∙ sym (append_assoc (done_line x) (done_lines xs) (done_lines ys))
+
+pub lines_next : (n : ℕ) (dones : List DoneKey) (i : ℕ) (d item : DoneKey) (text new : List ℕ) → i < length dones → item ≡ get_or dones i d
+    → text ≡ done_lines (map (at_packet n) (take i dones)) → new ≡ text ++ done_line (at_packet n item) → new ≡ done_lines (map (at_packet n) (take (i + 1) dones))
+lines_next n dones i d item text new lt is before more =
+    more ∙ ap (λ t. t ++ done_line (at_packet n item)) before
+    ∙ ap (λ t. done_lines (map (at_packet n) (take i dones)) ++ t) (sym (append-nil (done_line (at_packet n item))))
+    ∙ sym (lines_append (map (at_packet n) (take i dones)) (at_packet n item ∷ []))
+    ∙ ap (λ x. done_lines (map (at_packet n) (take i dones) ++ at_packet n x ∷ [])) is
+    ∙ ap done_lines (sym (map_more (at_packet n) dones i d lt))
+
+dones_push : (past xs : List (List ℕ)) (p : List ℕ) → dones_behind past (xs ++ p ∷ []) ≡ dones_behind past xs ++ map (at_packet (length (past ++ xs))) (dones_by (past ++ xs) p)
+dones_push past [] p =
+    append-nil (map (at_packet (length past)) (dones_by past p)) ∙ ap (λ (q : List (List ℕ)). map (at_packet (length q)) (dones_by q p)) (sym (append-nil past))
+dones_push past (x ∷ xs) p =
+    let here = map (at_packet (length past)) (dones_by past x) in
+    let rest = dones_behind (past ++ x ∷ []) xs in
+    ap (λ t. here ++ t) (dones_push (past ++ x ∷ []) xs p)
+    ∙ ap (λ (q : List (List ℕ)). here ++ (rest ++ map (at_packet (length q)) (dones_by q p))) (append_assoc past (x ∷ []) xs)
+    ∙ sym (append_assoc here rest (map (at_packet (length (past ++ x ∷ xs))) (dones_by (past ++ x ∷ xs) p)))
+
+-- the report of one packet more
+pub text_push : (heard : List (List ℕ)) (p : List ℕ) → heard_text (heard ++ p ∷ []) ≡ heard_text heard ++ done_lines (map (at_packet (length heard)) (dones_by heard p))
+text_push heard p = ap done_lines (dones_push [] heard p) ∙ lines_append (dones_behind [] heard) (map (at_packet (length heard)) (dones_by heard p))
+
+-- a packet that shows nothing
+pub no_lines : (n : ℕ) (dones : List DoneKey) (w : Option (List ℕ)) → length dones ≡ 0 → Appends w w (done_lines (map (at_packet n) dones))
+no_lines n [] w e = appends_nil w
+no_lines n (d ∷ ds) w e = absurd (omega arith)
+
+-- ---- packets
+
+pub given_packet : {S : Type 0} (left : S → Option (List ℕ)) (before new : Reading S) (p : Recording) (n : ℕ) → GivesPacket left before new p (Ok (Some n))
+    → (rest : List ℕ) × (bytes_left left new ≡ Some rest) × (p ≡ and_packet new.packet (packets_in (room new) rest))
+given_packet left before new (q ∷ packets, end) n (is, (rest, told, then)) = (rest, told, ap (λ (r : Recording). and_packet q r) (sym then) ∙ ap (λ (t : List ℕ). and_packet t (packets_in (room new) rest)) (sym is))
+given_packet left before new ([], AtEnd) n gives = absurd gives
+given_packet left before new ([], Broken) n gives = absurd gives
+given_packet left before new ([], PastLimit) n gives = absurd gives
+
+pub given_end : {S : Type 0} (left : S → Option (List ℕ)) (before new : Reading S) (p : Recording) → GivesPacket left before new p (Ok None) → p ≡ ([], AtEnd)
+given_end left before new (q ∷ packets, end) gives = absurd gives
+given_end left before new ([], AtEnd) gives = refl
+given_end left before new ([], Broken) gives = absurd gives
+given_end left before new ([], PastLimit) gives = absurd gives
+
+given_broken : {S : Type 0} (left : S → Option (List ℕ)) (before new : Reading S) (p : Recording) (n : ℕ) → GivesPacket left before new p (Err (packet.Broken n)) → p ≡ ([], Broken)
+given_broken left before new (q ∷ packets, end) n gives = absurd gives
+given_broken left before new ([], AtEnd) n gives = absurd gives
+given_broken left before new ([], Broken) n gives = refl
+given_broken left before new ([], PastLimit) n gives = absurd gives
+
+given_past : {S : Type 0} (left : S → Option (List ℕ)) (before new : Reading S) (p : Recording) → GivesPacket left before new p (Err packet.TooLong) → p ≡ ([], PastLimit)
+given_past left before new (q ∷ packets, end) gives = absurd gives
+given_past left before new ([], AtEnd) gives = absurd gives
+given_past left before new ([], Broken) gives = absurd gives
+given_past left before new ([], PastLimit) gives = refl
+
+-- one more packet was heard
+pub more_heard : (all y x : Recording) (heard : List (List ℕ)) (p : List ℕ) → all ≡ (heard ++ y.0, y.1) → y ≡ and_packet p x → all ≡ ((heard ++ p ∷ []) ++ x.0, x.1)
+more_heard all y x heard p e t =
+    e ∙ ap (λ (r : Recording). let q : Recording = (heard ++ r.0, r.1) in q) t
+    ∙ ap (λ (l : List (List ℕ)). let q : Recording = (l, x.1) in q) (sym (append_assoc heard (p ∷ []) x.0))
+
+pub start_recording : (n : ℕ) (bytes : List ℕ) → n ≡ 0 → recording bytes ≡ ([] ++ (packets_in (packet_limit - n) bytes).0, (packets_in (packet_limit - n) bytes).1)
+start_recording n bytes e = ap (λ k. packets_in (packet_limit - k) bytes) (sym e)
+
+-- and reported
+pub reported_more : (heard : List (List ℕ)) (p : List ℕ) (n : ℕ) (a b c : Option (List ℕ)) → n ≡ length heard → Appends a b (heard_text heard)
+    → Appends b c (done_lines (map (at_packet n) (dones_by heard p))) → Appends a c (heard_text (heard ++ p ∷ []))
+reported_more heard p n a b c number done more =
+    let lines = ap (λ k. done_lines (map (at_packet k) (dones_by heard p))) number in
+    subst (Appends a c) (ap (λ l. heard_text heard ++ l) lines ∙ sym (text_push heard p)) (Appends-trans a b c (heard_text heard) (done_lines (map (at_packet n) (dones_by heard p))) done more)
+
+-- nothing is left
+last_heard : (all y : Recording) (heard : List (List ℕ)) (end : RecordingEnd) → all ≡ (heard ++ y.0, y.1) → y ≡ ([], end) → all ≡ (heard, end)
+last_heard all y heard end e t =
+    e ∙ ap (λ (r : Recording). let q : Recording = (heard ++ r.0, r.1) in q) t ∙ ap (λ (l : List (List ℕ)). let q : Recording = (l, end) in q) (append-nil heard)
+
+-- the first packets of a recording are those that were heard
+front_heard : (all y : Recording) (heard : List (List ℕ)) → all ≡ (heard ++ y.0, y.1) → take (length heard) all.0 ≡ heard
+front_heard all y heard e = ap (λ (r : Recording). take (length heard) r.0) e ∙ take-append_seam heard y.0
+
+text_is : (old new : Option (List ℕ)) (xs ys : List (List ℕ)) → xs ≡ ys → Appends old new (heard_text ys) → Appends old new (heard_text xs)
+text_is old new xs ys e done = subst (λ (l : List (List ℕ)). Appends old new (heard_text l)) (sym e) done
+
+pub heard_end : {S : Type 0} (left : S → Option (List ℕ)) (before after : Reading S) (all y : Recording) (heard : List (List ℕ)) (old new : Option (List ℕ))
+    → all ≡ (heard ++ y.0, y.1) → GivesPacket left before after y (Ok None) → Appends old new (heard_text heard) → HasHeard all old new (Ok tt)
+heard_end left before after all y heard old new e gives done =
+    let last = last_heard all y heard AtEnd e (given_end left before after y gives) in
+    (ap (λ (r : Recording). r.1) last, text_is old new all.0 heard (ap (λ (r : Recording). r.0) last) done)
+
+pub heard_stop : {S : Type 0} (left : S → Option (List ℕ)) (before after : Reading S) (s : PacketStop) (all y : Recording) (heard : List (List ℕ)) (old new : Option (List ℕ))
+    → all ≡ (heard ++ y.0, y.1) → before.number ≡ length heard → GivesPacket left before after y (Err s) → Counts before after (Err s) → Appends old new (heard_text heard)
+    → HasHeard all old new (Err (stop.Read s))
+heard_stop left before after (packet.Broken n) all y heard old new e count gives counts done =
+    let last = last_heard all y heard Broken e (given_broken left before after y n gives) in
+    (ap (λ (r : Recording). r.1) last, counts.0 ∙ count ∙ ap (λ (r : Recording). length r.0) (sym last), text_is old new all.0 heard (ap (λ (r : Recording). r.0) last) done)
+heard_stop left before after packet.TooLong all y heard old new e count gives counts done =
+    let last = last_heard all y heard PastLimit e (given_past left before after y gives) in
+    (ap (λ (r : Recording). r.1) last, text_is old new all.0 heard (ap (λ (r : Recording). r.0) last) done)
+heard_stop left before after packet.Failed all y heard old new e count gives counts done =
+    (length heard, text_is old new (take (length heard) all.0) heard (front_heard all y heard e) done)
+
+-- a front that stands behind something is a front of both
+pub front_behind : (a b c : Option (List ℕ)) (xs ys : List ℕ) → Appends a b xs → AppendsFront b c ys → AppendsFront a c (xs ++ ys)
+front_behind a b c xs ys done (n, lt, front) =
+    (length xs + n, omega (arith, lt, length-append xs ys), subst (Appends a c) (sym (take-append-add xs ys n)) (Appends-trans a b c xs (take n ys) done front))
+
+-- a front is a front of what is longer
+front_longer : (a c : Option (List ℕ)) (xs ys : List ℕ) → AppendsFront a c xs → AppendsFront a c (xs ++ ys)
+front_longer a c xs ys (n, lt, front) = (n, omega (arith, lt, length-append xs ys), subst (Appends a c) (sym (take-append-le n xs ys (omega (arith, lt)))) front)
+
+-- the lines of a packet were not all written, or there was no memory for them
+pub heard_line : (s : ListenStop) (all y x : Recording) (heard : List (List ℕ)) (p : List ℕ) (n : ℕ) (a b c : Option (List ℕ))
+    → all ≡ (heard ++ y.0, y.1) → y ≡ and_packet p x → n ≡ length heard → Appends a b (heard_text heard)
+    → ReportsLines b c (done_lines (map (at_packet n) (dones_by heard p))) (Err s) → HasHeard all a c (Err s)
+heard_line (stop.Read s) all y x heard p n a b c e t number done reports = absurd reports
+heard_line stop.Memory all y x heard p n a b c e t number done reports = tt
+heard_line stop.Report all y x heard p n a b c e t number done reports =
+    let lines = ap (λ k. done_lines (map (at_packet k) (dones_by heard p))) number in
+    let text = ap (λ l. heard_text heard ++ l) lines ∙ sym (text_push heard p) ∙ ap heard_text (sym (front_heard all x (heard ++ p ∷ []) (more_heard all y x heard p e t))) in
+    (length (heard ++ p ∷ []), subst (AppendsFront a c) text (front_behind a b c (heard_text heard) (done_lines (map (at_packet n) (dones_by heard p))) done reports))
+
+-- ---- the run is over
+
+-- what is reported behind something that was written
+behind : (a b c : Option (List ℕ)) (f g h : ℕ) (xs ys : List ℕ) → f ≤ g → Appends a b xs → Reported (record { old = b; new = c; faults_old = g; faults_new = h }) ys
+    → Reported (record { old = a; new = c; faults_old = f; faults_new = h }) (xs ++ ys)
+behind a b c f g h xs ys le done (inl all) = inl (Appends-trans a b c xs ys done all)
+behind a b c f g h xs ys le done (inr (rose, front)) = inr (Rose-from f g h le rose, front_behind a b c xs ys done front)
+
+pub leaves_heard : (heard : Result (Unit {0}) ListenStop) (recording : Recording) (old mid new : Option (List ℕ)) (f g h : ℕ) (status : Status) → f ≤ g → HasHeard recording old mid heard
+    → EndsHeard heard (record { old = mid; new = new; faults_old = g; faults_new = h }) status → LeavesHeard recording (record { old = old; new = new; faults_old = f; faults_new = h }) status
+leaves_heard (Ok u) recording old mid new f g h Done le (ended, done) ends = record { ended = ended; report_is = Appends-trans old mid new (heard_text recording.0) end_line done ends }
+leaves_heard (Ok u) recording old mid new f g h (WriteFault Report) le (ended, done) ends = record {
+  k = length recording.0;
+  report_is = subst (λ (l : List (List ℕ)). AppendsFront old new (heard_text l ++ end_line)) (sym (take_all (length recording.0) recording.0 (omega arith))) (front_behind old mid new (heard_text recording.0) end_line done ends.0);
+}
+leaves_heard (Ok u) recording old mid new f g h (WriteFault Air) le has ends = absurd ends
+leaves_heard (Ok u) recording old mid new f g h Usage le has ends = absurd ends
+leaves_heard (Ok u) recording old mid new f g h (BadScript n) le has ends = absurd ends
+leaves_heard (Ok u) recording old mid new f g h (Disagrees n kept found) le has ends = absurd ends
+leaves_heard (Ok u) recording old mid new f g h (BadMux fault) le has ends = absurd ends
+leaves_heard (Ok u) recording old mid new f g h (BadFeed i n) le has ends = absurd ends
+leaves_heard (Ok u) recording old mid new f g h (BadStream n) le has ends = absurd ends
+leaves_heard (Ok u) recording old mid new f g h (TooLong origin) le has ends = absurd ends
+leaves_heard (Ok u) recording old mid new f g h (OpenFault i) le has ends = absurd ends
+leaves_heard (Ok u) recording old mid new f g h (ReadFault origin) le has ends = absurd ends
+leaves_heard (Ok u) recording old mid new f g h Memory le has ends = absurd ends
+leaves_heard (Err stop.Memory) recording old mid new f g h status le has ends = subst (LeavesHeard recording (record { old = old; new = new; faults_old = f; faults_new = h })) (sym ends) tt
+leaves_heard (Err stop.Report) recording old mid new f g h status le has ends =
+    let told : Told = record { old = old; new = new; faults_old = f; faults_new = h } in
+    subst (LeavesHeard recording told) (sym ends.0) (record {
+      k = has.0;
+      report_is = front_longer old new (heard_text (take has.0 recording.0)) end_line (subst (λ (w : Option (List ℕ)). AppendsFront old w (heard_text (take has.0 recording.0))) ends.1 has.1);
+    })
+leaves_heard (Err (stop.Read s)) recording old mid new f g h status le has (inl memory) = subst (LeavesHeard recording (record { old = old; new = new; faults_old = f; faults_new = h })) (sym memory) tt
+leaves_heard (Err (stop.Read (packet.Broken n))) recording old mid new f g h status le has (inr (is, reported)) =
+    subst (LeavesHeard recording (record { old = old; new = new; faults_old = f; faults_new = h })) (sym is) (has.0, has.1, behind old mid new f g h (heard_text recording.0) (fault_line (packet_stop_text (packet.Broken n))) le has.2 reported)
+leaves_heard (Err (stop.Read packet.TooLong)) recording old mid new f g h status le has (inr (is, reported)) =
+    subst (LeavesHeard recording (record { old = old; new = new; faults_old = f; faults_new = h })) (sym is) (has.0, behind old mid new f g h (heard_text recording.0) (fault_line (packet_stop_text packet.TooLong)) le has.1 reported)
+leaves_heard (Err (stop.Read packet.Failed)) recording old mid new f g h status le has (inr (is, reported)) =
+    subst (LeavesHeard recording (record { old = old; new = new; faults_old = f; faults_new = h })) (sym is) (record { k = has.0; report_is = behind old mid new f g h (heard_text (take has.0 recording.0)) (fault_line (packet_stop_text packet.Failed)) le has.1 reported })
+
+-- a reader at the front of its source has the whole recording to give
+pub started : {S : Type 0} (left : S → Option (List ℕ)) (reader : Reading S) (source : S) (bytes : List ℕ) → reader ≡ fresh source → left source ≡ Some bytes → bytes_left left reader ≡ Some bytes
+started left reader source bytes e tells = ap (bytes_left left) e ∙ prepend_known-nil (left source) ∙ tells
+
+-- where nothing fails, the end of the recording decides
+pub hears_through : (recording : Recording) (report : Told) (status : Status) → LeavesHeard recording report status → (status ≡ ReadFault Input → ⊥) → (status ≡ WriteFault Report → ⊥) → HearsThrough recording status
+hears_through recording report Done leave r w = leave.ended
+hears_through recording report (BadStream n) leave r w = (leave.0, leave.1)
+hears_through recording report (TooLong Input) leave r w = leave.0
+hears_through recording report (TooLong (Feed f)) leave r w = absurd leave
+hears_through recording report (ReadFault Input) leave r w = absurd (r refl)
+hears_through recording report (ReadFault (Feed f)) leave r w = absurd leave
+hears_through recording report (WriteFault Report) leave r w = absurd (w refl)
+hears_through recording report (WriteFault Air) leave r w = absurd leave
+hears_through recording report Memory leave r w = tt
+hears_through recording report Usage leave r w = absurd leave
+hears_through recording report (BadScript n) leave r w = absurd leave
+hears_through recording report (Disagrees n kept found) leave r w = absurd leave
+hears_through recording report (BadMux fault) leave r w = absurd leave
+hears_through recording report (BadFeed f n) leave r w = absurd leave
+hears_through recording report (OpenFault f) leave r w = absurd leave
+
+pub no_read_cause : (before now : ℕ) (s : ListenStop) → IsNoReadStop (let r : Result (Unit {0}) ListenStop = Err s in r) → HasReadCause before now (Err s)
+no_read_cause before now (stop.Read s) none = absurd none
+no_read_cause before now stop.Report none = tt
+no_read_cause before now stop.Memory none = tt
+
+-- a run of `listen` has no other status
+stop_of_listen : (s : PacketStop) → IsOfListen (packet_stop_status s)
+stop_of_listen (packet.Broken n) = tt
+stop_of_listen packet.TooLong = tt
+stop_of_listen packet.Failed = tt
+
+pub of_listen : (heard : Result (Unit {0}) ListenStop) (t : Told) (status : Status) → EndsHeard heard t status → IsOfListen status
+of_listen (Ok u) t Done ends = tt
+of_listen (Ok u) t (WriteFault Report) ends = tt
+of_listen (Ok u) t (WriteFault Air) ends = absurd ends
+of_listen (Ok u) t Usage ends = absurd ends
+of_listen (Ok u) t (BadScript n) ends = absurd ends
+of_listen (Ok u) t (Disagrees n kept found) ends = absurd ends
+of_listen (Ok u) t (BadMux fault) ends = absurd ends
+of_listen (Ok u) t (BadFeed i n) ends = absurd ends
+of_listen (Ok u) t (BadStream n) ends = absurd ends
+of_listen (Ok u) t (TooLong origin) ends = absurd ends
+of_listen (Ok u) t (OpenFault i) ends = absurd ends
+of_listen (Ok u) t (ReadFault origin) ends = absurd ends
+of_listen (Ok u) t Memory ends = absurd ends
+of_listen (Err stop.Report) t status ends = subst IsOfListen (sym ends.0) tt
+of_listen (Err stop.Memory) t status ends = subst IsOfListen (sym ends) tt
+of_listen (Err (stop.Read s)) t status (inl memory) = subst IsOfListen (sym memory) tt
+of_listen (Err (stop.Read s)) t status (inr (is, reported)) = subst IsOfListen (sym is) (stop_of_listen s)
+
+-- no word is both `play` and `listen`
+pub not_both : (words : List (List ℕ)) → are_play words ≡ true → are_listen words ≡ true → ⊥
+not_both [] play listen = cc
+not_both (word ∷ []) play listen =
+    let is : word ≡ codes "play" = (bytes_eq-Decides word (codes "play")).0 play in
+    let other : are_listen (codes "play" ∷ []) ≡ true = subst (λ (w : List ℕ). are_listen (w ∷ []) ≡ true) is listen in
+    cc
+not_both (word ∷ second ∷ words) play listen = cc

@@ -1,0 +1,135 @@
+-- What a run of `listen` leaves, for each status.
+use Rattle.std.specs.Prelude.{◌≡◌, ℕ, ◌⊎◌, ◌++◌, List, length, take, Bool, false, [], ◌∷◌, Option, Ok, Err, Result, codes, decimal}
+use Rattle.std.specs.Io.KnownBytes.{Appends}
+use Rattle.si_causes.specs.Causes.{Rose, AppendsFront}
+use Rattle.packet_reader.specs.Recordings.{RecordingEnd, RecordingEnd.AtEnd, RecordingEnd.Broken, RecordingEnd.PastLimit}
+use Rattle.packet_reader.specs.declared.stop.PacketStop.{PacketStop}
+use Rattle.packet_reader.specs.declared.stop.PacketStop.TheVariants as packet
+use Rattle.guide_receiver.specs.Heard.{dones_of}
+use Rattle.guide_receiver.specs.Texts.{done_lines}
+use Rattle.epg_cli.specs.declared.listen.ListenStop.{ListenStop}
+use Rattle.epg_cli.specs.declared.listen.ListenStop.TheVariants as stop
+use Rattle.epg_cli.specs.declared.status.Status.{Status}
+use Rattle.epg_cli.specs.declared.status.Status.TheVariants.{Done, BadStream, TooLong, ReadFault, WriteFault, Memory}
+use Rattle.epg_cli.specs.declared.status.Origin.TheVariants.{Input}
+use Rattle.epg_cli.specs.declared.status.Outlet.TheVariants.{Report}
+use Rattle.epg_cli.specs.Fields.{is_word}
+use Rattle.epg_cli.specs.Texts.{fault_line}
+use Rattle.epg_cli.specs.Run.{Told, Reported}
+
+-- the packets of a recording, and how it stops
+abbrev pub Recording : Type 0
+Recording = List (List ℕ) × RecordingEnd
+
+-- the lines of the completions that these packets show
+abbrev pub heard_text : List (List ℕ) → List ℕ
+heard_text packets = done_lines (dones_of packets)
+
+-- the line behind them, where the recording was heard to its end
+abbrev pub end_line : List ℕ
+end_line = codes "end\n"
+
+-- what the line of a stop says
+abbrev pub packet_stop_text : PacketStop → List ℕ
+packet_stop_text (packet.Broken n) = codes "packet " ++ decimal n
+packet_stop_text packet.TooLong = codes "input too long"
+packet_stop_text packet.Failed = codes "input not read"
+
+-- the status of a stop
+abbrev pub packet_stop_status : PacketStop → Status
+packet_stop_status (packet.Broken n) = BadStream n
+packet_stop_status packet.TooLong = TooLong Input
+packet_stop_status packet.Failed = ReadFault Input
+
+-- with Done: each piece of the recording is a packet, and the report is the completions of all of them and the end
+pub record HeardWhole (recording : Recording) (report : Told) : Type 0 where
+  pub ended : recording.1 ≡ AtEnd
+  pub report_is : Appends report.old report.new (heard_text recording.0 ++ end_line)
+
+-- with a fault behind all packets of the recording
+abbrev pub HeardAll : Recording → List ℕ → Told → Type 0
+HeardAll recording fault report = Reported report (heard_text recording.0 ++ fault_line fault)
+
+-- with a fault behind the first k packets
+pub record HeardFirst (recording : Recording) (fault : List ℕ) (report : Told) : Type 0 where
+  pub k : ℕ
+  pub report_is : Reported report (heard_text (take k recording.0) ++ fault_line fault)
+
+-- with a fault of the report: a proper front of what is reported of the first k packets
+pub record HeardUnreported (recording : Recording) (report : Told) : Type 0 where
+  pub k : ℕ
+  pub report_is : AppendsFront report.old report.new (heard_text (take k recording.0) ++ end_line)
+
+-- What a run of `listen` leaves with each status, for a recording. No other status comes.
+abbrev pub LeavesHeard : Recording → Told → Status → Type 0
+LeavesHeard recording report Done = HeardWhole recording report
+LeavesHeard recording report (BadStream n) = (recording.1 ≡ Broken) × (n ≡ length recording.0) × HeardAll recording (packet_stop_text (packet.Broken n)) report
+LeavesHeard recording report (TooLong Input) = (recording.1 ≡ PastLimit) × HeardAll recording (packet_stop_text packet.TooLong) report
+LeavesHeard recording report (ReadFault Input) = HeardFirst recording (packet_stop_text packet.Failed) report
+LeavesHeard recording report (WriteFault Report) = HeardUnreported recording report
+LeavesHeard recording report Memory = Unit {0}
+LeavesHeard recording report status = ⊥
+
+-- the statuses of `listen`
+abbrev pub IsOfListen : Status → Type 0
+IsOfListen Done = Unit {0}
+IsOfListen (BadStream n) = Unit {0}
+IsOfListen (TooLong Input) = Unit {0}
+IsOfListen (ReadFault Input) = Unit {0}
+IsOfListen (WriteFault Report) = Unit {0}
+IsOfListen Memory = Unit {0}
+IsOfListen status = ⊥
+
+-- What a run answers where neither the input nor the report fails: the end of the recording decides, but for want of memory.
+abbrev pub HearsThrough : Recording → Status → Type 0
+HearsThrough recording Done = recording.1 ≡ AtEnd
+HearsThrough recording (BadStream n) = (recording.1 ≡ Broken) × (n ≡ length recording.0)
+HearsThrough recording (TooLong Input) = recording.1 ≡ PastLimit
+HearsThrough recording Memory = Unit {0}
+HearsThrough recording status = ⊥
+
+-- whether the words are the one word `listen`
+abbrev pub are_listen : List (List ℕ) → Bool
+are_listen (word ∷ []) = is_word (codes "listen") word
+are_listen words = false
+
+-- ---- inside a run
+
+-- what reporting some lines leaves
+abbrev pub ReportsLines : Option (List ℕ) → Option (List ℕ) → List ℕ → Result (Unit {0}) ListenStop → Type 0
+ReportsLines old new text (Ok u) = Appends old new text
+ReportsLines old new text (Err stop.Report) = AppendsFront old new text
+ReportsLines old new text (Err stop.Memory) = Unit {0}
+ReportsLines old new text (Err (stop.Read s)) = ⊥
+
+-- what hearing a recording leaves in the report
+abbrev pub HasHeard : Recording → Option (List ℕ) → Option (List ℕ) → Result (Unit {0}) ListenStop → Type 0
+HasHeard recording old new (Ok u) = (recording.1 ≡ AtEnd) × Appends old new (heard_text recording.0)
+HasHeard recording old new (Err (stop.Read (packet.Broken n))) = (recording.1 ≡ Broken) × (n ≡ length recording.0) × Appends old new (heard_text recording.0)
+HasHeard recording old new (Err (stop.Read packet.TooLong)) = (recording.1 ≡ PastLimit) × Appends old new (heard_text recording.0)
+HasHeard recording old new (Err (stop.Read packet.Failed)) = (k : ℕ) × Appends old new (heard_text (take k recording.0))
+HasHeard recording old new (Err stop.Report) = (k : ℕ) × AppendsFront old new (heard_text (take k recording.0))
+HasHeard recording old new (Err stop.Memory) = Unit {0}
+
+-- a stop by a failed read, and one by a failed write, have their causes
+abbrev pub HasReadCause : ℕ → ℕ → Result (Unit {0}) ListenStop → Type 0
+HasReadCause before now (Err (stop.Read packet.Failed)) = Rose before now
+HasReadCause before now result = Unit {0}
+
+-- a stop behind a packet that came is none of the input
+abbrev pub IsNoReadStop : Result (Unit {0}) ListenStop → Type 0
+IsNoReadStop (Err (stop.Read s)) = ⊥
+IsNoReadStop result = Unit {0}
+
+abbrev pub HasReportCause : ℕ → ℕ → Result (Unit {0}) ListenStop → Type 0
+HasReportCause before now (Err stop.Report) = Rose before now
+HasReportCause before now result = Unit {0}
+
+-- how the report ends, by why the recording was not heard on, and the status
+abbrev pub EndsHeard : Result (Unit {0}) ListenStop → Told → Status → Type 0
+EndsHeard (Ok u) report Done = Appends report.old report.new end_line
+EndsHeard (Ok u) report (WriteFault Report) = AppendsFront report.old report.new end_line × Rose report.faults_old report.faults_new
+EndsHeard (Ok u) report status = ⊥
+EndsHeard (Err (stop.Read s)) report status = (status ≡ Memory) ⊎ ((status ≡ packet_stop_status s) × Reported report (fault_line (packet_stop_text s)))
+EndsHeard (Err stop.Report) report status = (status ≡ WriteFault Report) × (report.old ≡ report.new)
+EndsHeard (Err stop.Memory) report status = status ≡ Memory

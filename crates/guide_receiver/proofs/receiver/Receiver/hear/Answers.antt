@@ -1,0 +1,31 @@
+use Rattle.std.proofs.Common.{◌≡◌, ◌++◌, ◌∷◌, [], List, ℕ, map, subst, sym, ap, ◌∙◌}
+use Rattle.ts_demux.specs.declared.section.RawSection.{RawSection}
+use Rattle.ts_demux.specs.Sections.{ended_by}
+use Rattle.sub_collect.specs.Runs.{Counted}
+use Rattle.sub_collect.specs.Completions.{dones}
+use Rattle.sub_collect.specs.Collectors.{Stands as CollectorStands}
+use Rattle.guide_receiver.specs.Counting.{counted_among}
+use Rattle.guide_receiver.specs.Heard.{Stands, counted_heard, done_key}
+use Rattle.guide_receiver.proofs.Shown.{counted-push}
+use Rattle.guide_receiver.proofs.receiver.Receiver.hear.Goals as goal
+
+pub returns-clause-dones : goal.returns-clause-dones
+returns-clause-dones c =
+    λ past stands.
+    let kept = subst (Stands past) (sym c.self.view_is) stands in
+    let heard : c.as_slice.result.now ≡ ended_by past c.args.packet.now = c.as_slice.ensures ∙ c.in-Ok-hear.ensures.heard past kept.sections in
+    c.in-Ok-count_all.ensures.dones (counted_heard past) kept.completions
+    ∙ ap (λ t. t ++ map done_key (dones (counted_heard past) (counted_among c.as_slice.result.now))) c.new-dones.ensures
+    ∙ ap (λ (t : List RawSection). map done_key (dones (counted_heard past) (counted_among t))) heard
+
+pub returns-clause-stands : goal.returns-clause-stands
+returns-clause-stands c =
+    λ past stands.
+    let kept = subst (Stands past) (sym c.self.view_is) stands in
+    let heard : c.as_slice.result.now ≡ ended_by past c.args.packet.now = c.as_slice.ensures ∙ c.in-Ok-hear.ensures.heard past kept.sections in
+    record {
+      sections = c.in-Ok-hear.ensures.stands past kept.sections;
+      completions = subst (λ (t : List Counted). CollectorStands t c.count_all.new.collector)
+          (ap (λ (t : List RawSection). counted_heard past ++ counted_among t) heard ∙ sym (counted-push past c.args.packet.now))
+          (c.in-Ok-count_all.ensures.stands (counted_heard past) kept.completions);
+    }

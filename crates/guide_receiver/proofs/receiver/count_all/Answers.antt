@@ -1,0 +1,33 @@
+use Rattle.std.proofs.Common.{◌≡◌, ◌++◌, List, map, take, subst, sym, ap, ◌∙◌, append_assoc, arith}
+use Rattle.std.specs.Prelude.{option_to_list}
+use Rattle.std.proofs.lemmas.List.{take_all}
+use Rattle.ts_demux.specs.declared.section.RawSection.{RawSection}
+use Rattle.sub_collect.specs.Runs.{Counted}
+use Rattle.sub_collect.specs.Completions.{dones}
+use Rattle.sub_collect.specs.Collectors.{Stands as CollectorStands}
+use Rattle.guide_receiver.specs.Counting.{counted_in, counted_among}
+use Rattle.guide_receiver.specs.Heard.{done_key}
+use Rattle.guide_receiver.proofs.Shown.{among-next, more_shown}
+use Rattle.guide_receiver.proofs.receiver.count_all.Goals as goal
+
+pub loop-section-preserved : goal.loop-section-preserved
+loop-section-preserved c =
+    let sections = c.args.sections.now in
+    let front = counted_among (take c.loop-section.section-index sections) in
+    let one = option_to_list (counted_in c.section-item.result) in
+    let next = among-next sections c.loop-section.section-index c.section-item.result c.loop-section-test.true c.section-item.is in
+    λ past stands.
+    let i = c.loop-section.invariant past stands in
+    let shown = map done_key (dones past front) in (
+      subst (λ t. CollectorStands t c.count.new.collector) (append_assoc past front one ∙ ap (λ t. past ++ t) (sym next)) (c.in_ok-done.ensures.stands (past ++ front) i.0),
+      c.in_ok-push_shown.ensures ∙ ap (λ t. t ++ option_to_list c.in_ok-done.done) i.1 ∙ append_assoc c.args.shown.now shown (option_to_list c.in_ok-done.done)
+          ∙ ap (λ t. c.args.shown.now ++ (shown ++ t)) (c.in_ok-done.ensures.done (past ++ front) i.0)
+          ∙ ap (λ t. c.args.shown.now ++ t) (sym (more_shown past front one))
+          ∙ ap (λ t. c.args.shown.now ++ map done_key (dones past t)) (sym next),
+    )
+
+pub returns-clause-stands : goal.returns-clause-stands
+returns-clause-stands c =
+    let sections = c.args.sections.now in
+    let whole = take_all c.loop-section.section-index sections (omega (arith, c.loop-section-test.false)) in
+    λ past stands. subst (λ (t : List RawSection). CollectorStands (past ++ counted_among t) c.loop-section.collector) whole (c.loop-section.invariant past stands).0

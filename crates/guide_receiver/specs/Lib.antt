@@ -1,0 +1,4 @@
+pub mod Counting
+pub mod Heard
+pub mod Texts
+mod Rows

@@ -1,0 +1,129 @@
+// The receiver.
+ghost use Rattle.std.specs.Prelude.{◌≡◌, ◌≢◌, ◌↔◌, ◌++◌, ◌∷◌, [], List, ℕ, Option, Err, IfOk, OnOk, map, option_map, option_to_list, slice_index};
+ghost use Rattle.sub_collect.specs.Runs.{Counted};
+ghost use Rattle.sub_collect.specs.Completions.{dones};
+ghost use Rattle.sub_collect.specs.Collectors.{Stands as CollectorStands};
+ghost use Rattle.guide_receiver.specs.Counting.{counted_in, counted_among};
+ghost use Rattle.guide_receiver.specs.Heard.{Stands, done_key, dones_by};
+
+use crate::counting::{CountedSection, counted_section};
+use crate::done::{DoneKey, Dones};
+use si_base::Items;
+use std::alloc::{AllocError, Global};
+use std::marker::Model;
+use sub_collect::Collector;
+use ts_demux::{Demux, RawSection};
+use ts_packets::read_packet;
+
+/// Why a packet is not heard: its first byte is not the sync_byte 0x47, or want of memory.
+#[derive(Debug, Clone, Copy, PartialEq, Eq)]
+pub enum HearStop {
+    Sync,
+    Memory,
+}
+
+/// A receiver of a transport stream. It stands for the packets that it heard, and keeps of each PID the section that is open, and
+/// of each sub-table its present run of sections and its latest completion. It keeps its allocator.
+#[derive(Debug, Drop)]
+pub struct Receiver {
+    alloc: Global,
+    demux: Demux,
+    collector: Collector,
+}
+
+impl Model for Receiver {
+    ghost use Rattle.guide_receiver.specs.Heard.{Hearing};
+
+    ghost Value = { Hearing };
+
+    ghost view = { λ r. record { demux = r.demux; collector = r.collector } };
+}
+
+impl Receiver {
+    /// A receiver that has heard nothing. It takes no memory.
+    pub fn open(alloc: Global) -> Receiver
+        ensures { Stands [] result }
+    {
+        Receiver {
+            alloc,
+            demux: Demux::open(alloc),
+            collector: Collector::open(alloc),
+        }
+    }
+
+    /// Hears one packet more: the completions that it shows, in order. `Sync` comes exactly where the first byte is not 0x47, and
+    /// then the receiver is unchanged. After `Memory` a part of the packet's sections may have been taken, and the receiver
+    /// stands for no packets.
+    pub fn hear(&mut self, packet: &[u8; 188]) -> Result<Dones, HearStop>
+        ensures sync { result ≡ Err HearStop.Sync ↔ (slice_index packet.now 0 ≢ 0x47) }
+        ensures unchanged { result ≡ Err HearStop.Sync → self.new ≡ self.old }
+        ensures dones { (past : List (List ℕ)) → Stands past self.old → IfOk result (λ dones. dones ≡ dones_by past packet.now) }
+        ensures stands { (past : List (List ℕ)) → Stands past self.old → OnOk result (Stands (past ++ packet.now ∷ []) self.new) }
+    {
+        let Ok(shape) = read_packet(packet) else {
+            return Err(HearStop::Sync);
+        };
+        let Ok(sections) = self.demux.hear(packet, &shape) else {
+            return Err(HearStop::Memory);
+        };
+        let mut dones = Items::new(self.alloc);
+        let Ok(()) = count_all(
+            self.alloc,
+            &mut self.collector,
+            sections.as_slice(),
+            &mut dones,
+        ) else {
+            return Err(HearStop::Memory);
+        };
+        Ok(dones)
+    }
+}
+
+// Counts these sections, and appends the completions that they show.
+fn count_all(
+    alloc: Global,
+    collector: &mut Collector,
+    sections: &[RawSection],
+    shown: &mut Dones,
+) -> Result<(), AllocError>
+    ensures dones { (past : List Counted) → CollectorStands past collector.old → OnOk result (shown.new ≡ shown.old ++ map done_key (dones past (counted_among sections.now))) }
+    ensures stands { (past : List Counted) → CollectorStands past collector.old → OnOk result (CollectorStands (past ++ counted_among sections.now) collector.new) }
+{
+    for section in sections {
+        let done = count(alloc, collector, section)?;
+        push_shown(shown, done)?;
+    }
+    Ok(())
+}
+
+// Counts a section, and gives the completion that it shows.
+fn count(
+    alloc: Global,
+    collector: &mut Collector,
+    section: &RawSection,
+) -> Result<Option<DoneKey>, AllocError>
+    ensures done { (past : List Counted) → CollectorStands past collector.old → IfOk result (λ done. option_to_list done ≡ map done_key (dones past (option_to_list (counted_in section.now)))) }
+    ensures stands { (past : List Counted) → CollectorStands past collector.old → OnOk result (CollectorStands (past ++ option_to_list (counted_in section.now)) collector.new) }
+{
+    let Some(CountedSection { key, header, body }) = counted_section(alloc, section)? else {
+        return Ok(None);
+    };
+    let shown = collector.take(key, &header, body)?;
+    Ok(match shown {
+        Some(version) => Some(DoneKey { key, version }),
+        None => None,
+    })
+}
+
+// Appends a completion, where there is one.
+fn push_shown(shown: &mut Dones, done: Option<DoneKey>) -> Result<(), AllocError>
+    ensures { OnOk result (shown.new ≡ shown.old ++ option_to_list done) }
+{
+    let Some(done) = done else {
+        return Ok(());
+    };
+    match shown.push(done) {
+        Ok(()) => Ok(()),
+        Err(_) => Err(AllocError),
+    }
+}

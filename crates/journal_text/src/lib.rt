@@ -1,0 +1,13 @@
+//! The journal's text: what the report says of each step of a desk and of its outcome.
+//!
+//! An entry is two lines: its caller's number and its command, and then its outcome behind `=,`. The layers above use one fact of
+//! each call: what it appends is the text that the definitions say, or it finds no memory and appends nothing.
+#![tactic(auto)]
+
+mod entry;
+mod outcome;
+#[cfg(test)]
+mod tests;
+
+pub use entry::write_entry;
+pub use outcome::write_outcome;

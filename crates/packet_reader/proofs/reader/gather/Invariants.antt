@@ -1,0 +1,12 @@
+use Rattle.std.proofs.Common.{◌≡◌, ◌≤◌, ℕ, ◌-◌, length}
+use Rattle.packet_reader.specs.Reading.{Gathers}
+use Rattle.packet_reader.proofs.reader.gather.Given as goal
+
+abbrev pub invariant-loop-held : goal.invariant-loop-held
+invariant-loop-held g l =
+    Gathers (g.S.Source.left l.fn.source) (g.S.Source.left l.source) l.fn.held.behind l.held.behind
+    × (g.S.Source.faults l.fn.source ≤ g.S.Source.faults l.source)
+    × g.S.Source.same l.fn.source l.source
+
+abbrev pub decreases-loop-held : goal.decreases-loop-held
+decreases-loop-held g l = 188 - length l.held.behind

@@ -1,0 +1,143 @@
+// A reader of packets.
+ghost use Rattle.std.specs.Prelude.{◌≡◌, ◌≤◌, ◌<◌, [], ℕ, List, Option, None, Some, Ok, Err, IfOk, OnOk, OnErr, IfSome, length, take};
+ghost use Rattle.std.specs.Io.KnownBytes.{IsAtEnd};
+ghost use Rattle.si_causes.specs.Causes.{HasCause as Faulted};
+ghost use Rattle.packet_reader.specs.Recordings.{is_packet, packets_in};
+ghost use Rattle.packet_reader.specs.Reading.{GivesPacket, Counts, HasCause, Gathers, fresh, room, bytes_left};
+
+use crate::held::Held;
+use crate::stop::PacketStop;
+use si_causes::{Failed, Source};
+use std::alloc::{AllocError, Global};
+use std::marker::Model;
+
+// how many packets a recording may have
+const PACKETS: u64 = 4_294_967_295;
+
+/// A reader of the packets of a recording (ISO/IEC 13818-1, 2.4.3): of pieces of 188 bytes from the source's first byte on, of which
+/// each begins with the sync byte 0x47. A recording may have 4,294,967,295 packets.
+///
+/// Contracts see a reader as the record `Reading`: the source, the bytes that it gave and that stand in no packet yet, how many
+/// packets were handed out, the last of them, and why there are no more.
+#[derive(Drop)]
+pub struct PacketReader<S: Source> {
+    source: S,
+    held: Held,
+    number: u64,
+    stop: Option<PacketStop>,
+}
+
+impl<S: Source> Model for PacketReader<S> {
+    ghost use Rattle.std.specs.Prelude.{◌≤◌};
+    ghost use Rattle.packet_reader.specs.Reading.{Reading};
+
+    ghost Value = { Reading S };
+
+    ghost view = { λ r. record {
+      source = r.source;
+      held = r.held.behind;
+      number = r.number;
+      packet = r.held.packet;
+      stop = r.stop;
+    } };
+
+    ghost invariant = { λ r. r.number ≤ 4294967295 };
+}
+
+// Reads until a packet is held, or the source ends.
+fn gather<S: Source>(source: &mut S, held: &mut Held) -> Result<(), Failed>
+    ensures gathers { Gathers (S.left source.old) (S.left source.new) held.old.behind held.new.behind }
+    ensures end { OnOk result (length held.new.behind < 188 → IsAtEnd (S.left source.new)) }
+    ensures cause { Faulted (S.faults source.old) (S.faults source.new) result }
+    ensures same { S.same source.old source.new }
+{
+    while held.behind().len() < 188 {
+        if held.refill(source)? == 0 {
+            return Ok(());
+        }
+    }
+    Ok(())
+}
+
+// Whether the first 188 bytes are a packet.
+fn begins_with_packet(bytes: &[u8]) -> bool
+    ensures { result ≡ is_packet (take 188 bytes.now) }
+{
+    bytes.len() >= 188 && bytes[0] == 0x47
+}
+
+impl<S: Source> PacketReader<S> {
+    /// A reader at the front of its source, with room for 348 packets. Want of memory gives the source up.
+    pub fn open(alloc: Global, source: S) -> Result<PacketReader<S>, AllocError>
+        ensures { IfOk result (λ reader. reader ≡ fresh source) }
+    {
+        let held = Held::new(alloc)?;
+        Ok(PacketReader {
+            source,
+            held,
+            number: 0,
+            stop: None,
+        })
+    }
+
+    /// Goes on to the next packet and gives its number, from 0 on, or `None` exactly at the end.
+    ///
+    /// `Broken` comes exactly where the next piece does not begin with 0x47, or is shorter than 188 bytes; `TooLong` exactly where the
+    /// source gave a byte behind its 4,294,967,295th packet. `Failed` comes only where a read of the source failed in this call. After
+    /// any of them each later call answers the same. The source is read only where no whole packet is held. It takes no memory.
+    pub fn next(&mut self) -> Result<Option<u64>, PacketStop>
+        ensures packets { self.old.stop ≡ None → (bytes : List ℕ) → bytes_left S.left self.old ≡ Some bytes
+            → GivesPacket S.left self.old self.new (packets_in (room self.old) bytes) result }
+        ensures counts { self.old.stop ≡ None → Counts self.old self.new result }
+        ensures end { result ≡ Ok None → IsAtEnd (S.left self.new.source) }
+        ensures cause { self.old.stop ≡ None → HasCause (S.faults self.old.source) (S.faults self.new.source) result }
+        ensures sticky { IfSome self.old.stop (λ stop. (result ≡ Err stop) × (self.new ≡ self.old)) }
+        ensures later { S.faults self.old.source ≤ S.faults self.new.source }
+        ensures same { S.same self.old.source self.new.source }
+    {
+        if let Some(stop) = self.stop {
+            return Err(stop);
+        }
+        let Ok(()) = gather(&mut self.source, &mut self.held) else {
+            return Err(self.stopped(PacketStop::Failed));
+        };
+        let bytes = self.held.behind();
+        if bytes.is_empty() {
+            return Ok(None);
+        }
+        if self.number == PACKETS {
+            return Err(self.stopped(PacketStop::TooLong));
+        }
+        if !begins_with_packet(bytes) {
+            return Err(self.stopped(PacketStop::Broken(self.number)));
+        }
+        let number = self.number;
+        self.held.advance();
+        self.number += 1;
+        Ok(Some(number))
+    }
+
+    // Keeps the stop.
+    fn stopped(&mut self, stop: PacketStop) -> PacketStop
+        ensures stop { self.new ≡ record self.old { stop = Some stop } }
+        ensures result { result ≡ stop }
+    {
+        self.stop = Some(stop);
+        stop
+    }
+
+    /// The packet that `next` gave last.
+    pub fn packet(&self) -> &[u8; 188]
+        requires { length self.now.packet ≡ 188 }
+        ensures { result.now ≡ self.now.packet }
+    {
+        self.held.packet()
+    }
+
+    /// Gives the source back. It takes no memory.
+    pub fn close(self) -> S
+        ensures { result ≡ self.source }
+    {
+        self.source
+    }
+}

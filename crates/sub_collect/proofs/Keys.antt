@@ -1,0 +1,85 @@
+-- The slots of a collector, and what they keep.
+use Rattle.std.proofs.Common.{◌≡◌, List, [], ◌∷◌, ◌++◌, Bool, true, false, refl, sym, ap, ◌∙◌, subst}
+use Rattle.std.specs.Prelude.{if◌then◌else◌, cond, Option, Some, None, option_map}
+use Rattle.std.specs.Ordering.{is_eq}
+use Rattle.std.specs.BTreeMap.{is_at}
+use Rattle.std.specs.Map.{lookup, set_value}
+use Rattle.section_codec.specs.declared.table.Key.{Key}
+use Rattle.version_book.specs.Airings.{is_key}
+use Rattle.version_book.specs.Slots.{key_cmp}
+use Rattle.version_book.proofs.Versions.{is_key-same}
+use Rattle.version_book.proofs.SlotFacts.{key_ties}
+use Rattle.sub_collect.specs.Runs.{Counted}
+use Rattle.sub_collect.specs.Completions.{sections_of, completion, completions, latest_done, latest_of, shown_after, shown_at}
+use Rattle.sub_collect.specs.Collectors.{Kept, KeptKeys, kept_in, IsKeptOf, StandsFor, Stands}
+use Rattle.sub_collect.specs.Slots.{kept_by, shown}
+use Rattle.sub_collect.specs.declared.collector.Slot.{Slot}
+use Rattle.sub_collect.proofs.Done.{sections_of-one, sections_of-other, shown_at-is}
+
+-- what is kept of a key, as the map has it
+pub kept_in-shown : (k : Key) (es : List (Key × Slot)) → kept_in k (shown es) ≡ option_map kept_by (lookup (is_at (key_cmp k)) es)
+kept_in-shown k [] = refl
+kept_in-shown k (e ∷ es) =
+    ap (λ (b : Bool). if b then Some (kept_by e.1) else kept_in k (shown es)) (key_ties k e.0)
+    ∙ go (is_eq (key_cmp k e.0)) (kept_in-shown k es)
+  where
+    go : (b : Bool) → kept_in k (shown es) ≡ option_map kept_by (lookup (is_at (key_cmp k)) es)
+        → (if b then Some (kept_by e.1) else kept_in k (shown es)) ≡ option_map kept_by (cond b (Some e.1) (lookup (is_at (key_cmp k)) es))
+    go true rest = refl
+    go false rest = rest
+
+-- a slot that keeps what it kept leaves what is shown
+pub shown-set : (test : Key → Bool) (es : List (Key × Slot)) (old new : Slot) → lookup test es ≡ Some old → kept_by new ≡ kept_by old → shown (set_value test es new) ≡ shown es
+shown-set test [] old new found same = refl
+shown-set test (e ∷ es) old new found same = go (test e.0) found (λ (f : lookup test es ≡ Some old). shown-set test es old new f same)
+  where
+    go : (b : Bool) → cond b (Some e.1) (lookup test es) ≡ Some old → (lookup test es ≡ Some old → shown (set_value test es new) ≡ shown es) → shown (cond b ((e.0, new) ∷ es) (e ∷ set_value test es new)) ≡ shown (e ∷ es)
+    go true f rec =
+        let one : e.1 ≡ old = cc in
+        ap (λ (x : Kept). (e.0, x) ∷ shown es) (same ∙ ap kept_by (sym one))
+    go false f rec = ap (λ (l : KeptKeys). (e.0, kept_by e.1) ∷ l) (rec f)
+
+-- what is kept of a key stands for its sections
+pub of-kept : (k : Key) (past : List Counted) (o : Option Kept) (kept : Kept) → StandsFor (sections_of k past) o → o ≡ Some kept → IsKeptOf (sections_of k past) kept
+of-kept k past o kept stands e = subst (λ (x : Option Kept). StandsFor (sections_of k past) x) e stands
+
+pub of-none : (k : Key) (past : List Counted) (o : Option Kept) → StandsFor (sections_of k past) o → o ≡ None → sections_of k past ≡ []
+of-none k past o stands e = subst (λ (x : Option Kept). StandsFor (sections_of k past) x) e stands
+
+pub latest-none : (k : Key) (past : List Counted) → sections_of k past ≡ [] → latest_of k past ≡ None
+latest-none k past e = ap (λ (l : List Counted). latest_done (completions [] l)) e
+
+-- what is kept of each key, where one was put
+pub stands-put : (past : List Counted) (s : Counted) (old new : KeptKeys) (kept : Kept) → Stands past old
+    → ((q : Key) → kept_in q new ≡ (if is_key s.key q then Some kept else kept_in q old)) → IsKeptOf (sections_of s.key past ++ s ∷ []) kept → Stands (past ++ s ∷ []) new
+stands-put past s old new kept stands put is q = go (is_key s.key q) refl
+  where
+    go : (b : Bool) → is_key s.key q ≡ b → StandsFor (sections_of q (past ++ s ∷ [])) (kept_in q new)
+    go true e =
+        let same : s.key ≡ q = is_key-same s.key q e in
+        let kept_is : kept_in q new ≡ Some kept = put q ∙ ap (λ (b : Bool). if b then Some kept else kept_in q old) e in
+        let sections : sections_of q (past ++ s ∷ []) ≡ sections_of s.key past ++ s ∷ [] =
+        sections_of-one q past s same ∙ ap (λ (k : Key). sections_of k past ++ s ∷ []) (sym same) in
+        subst (λ (o : Option Kept). StandsFor (sections_of q (past ++ s ∷ [])) o) (sym kept_is) (subst (λ (l : List Counted). IsKeptOf l kept) (sym sections) is)
+    go false e =
+        let kept_is : kept_in q new ≡ kept_in q old = put q ∙ ap (λ (b : Bool). if b then Some kept else kept_in q old) e in
+        subst (λ (o : Option Kept). StandsFor (sections_of q (past ++ s ∷ [])) o) (sym kept_is) (subst (λ (l : List Counted). StandsFor l (kept_in q old)) (sym (sections_of-other q past s e)) (stands q))
+
+-- what the map has once a slot is put, as it is kept
+pub kept-put : (k : Key) (slot : Slot) (old new : List (Key × Slot)) → ((q : Key) → lookup (is_at (key_cmp q)) new ≡ cond (is_at (key_cmp k) q) (Some slot) (lookup (is_at (key_cmp q)) old))
+    → (q : Key) → kept_in q (shown new) ≡ (if is_key k q then Some (kept_by slot) else kept_in q (shown old))
+kept-put k slot old new updates q =
+    kept_in-shown q new ∙ ap (option_map kept_by) (updates q) ∙ go (is_eq (key_cmp k q)) (kept_in-shown q old)
+    ∙ ap (λ (b : Bool). if b then Some (kept_by slot) else kept_in q (shown old)) (sym (key_ties k q))
+  where
+    go : (b : Bool) → kept_in q (shown old) ≡ option_map kept_by (lookup (is_at (key_cmp q)) old)
+        → option_map kept_by (cond b (Some slot) (lookup (is_at (key_cmp q)) old)) ≡ (if b then Some (kept_by slot) else kept_in q (shown old))
+    go true e = refl
+    go false e = sym e
+
+-- what a section shows, by the sections of its key alone
+pub shown-by : (past : List Counted) (s : Counted) → shown_after (latest_done (completions [] (sections_of s.key past))) (completion (sections_of s.key past ++ s ∷ [])) ≡ shown_at past s
+shown-by past s = sym (shown_at-is past s)
+
+pub shown-first : (past : List Counted) (s : Counted) → sections_of s.key past ≡ [] → shown_after (latest_done (completions [] [])) (completion ([] ++ s ∷ [])) ≡ shown_at past s
+shown-first past s e = ap (λ (l : List Counted). shown_after (latest_done (completions [] l)) (completion (l ++ s ∷ []))) (sym e) ∙ shown-by past s

@@ -1,0 +1,10 @@
+pub mod Runs
+pub mod Slots
+pub mod Done
+pub mod Whole
+pub mod Fronts
+pub mod Gathering
+pub mod Putting
+pub mod Taking
+pub mod Keys
+pub mod OneContent

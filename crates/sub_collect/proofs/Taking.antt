@@ -1,0 +1,140 @@
+-- What is kept of a key, once a section more is taken.
+use Rattle.std.proofs.Common.{◌≡◌, ℕ, ◌+◌, ◌<◌, List, [], ◌∷◌, ◌++◌, Bool, true, false, ◌&&◌, ◌==◌, refl, sym, ap, ◌∙◌, subst, eqb-true}
+use Rattle.std.specs.Prelude.{if◌then◌else◌, Option, Some, None, is_some, option_map}
+use Rattle.std.specs.Option.{option_or}
+use Rattle.std.specs.List.{AllByRecursion}
+use Rattle.std.proofs.lemmas.Slice.Eq.{bytes_eq-Decides}
+use Rattle.section_codec.specs.declared.table.Key.{Key}
+use Rattle.version_book.specs.Airings.{Content}
+use Rattle.version_book.proofs.Versions.{and_true}
+use Rattle.sub_collect.specs.Runs.{Counted, all_of_version, latest_section, latest_with, numbers_from, run_of, whole, completed}
+use Rattle.sub_collect.specs.Completions.{IsOfKey, done_at, completion_at, completion, completions, latest_done, repeats, shown_after}
+use Rattle.sub_collect.specs.Collectors.{KeptRun, Kept, body_in, body_of, StandsForRun, IsKeptOf}
+use Rattle.sub_collect.specs.Slots.{held_with, is_body, content_by, latest_with_done}
+use Rattle.sub_collect.specs.declared.completed.Completed.{Completed}
+use Rattle.sub_collect.proofs.Runs.{run_of-push, latest-run, latest-push, all-latest, no-latest}
+use Rattle.sub_collect.proofs.Slots.{whole-by}
+use Rattle.sub_collect.proofs.Done.{done_key, latest-more, latest-whole, latest-key, latest_done-key, completion-push, repeats-itself, repeats-same}
+use Rattle.sub_collect.proofs.Putting.{put-stands}
+
+-- ---- a section that is put into a run
+
+-- the latest completion, kept once it is shown or not
+latest-kept : (o p : Option Completed) → ((b d : Completed) → o ≡ Some b → p ≡ Some d → b.key ≡ d.key) → latest_with_done o p ≡ option_or p o
+latest-kept None None keys = refl
+latest-kept (Some b) None keys = refl
+latest-kept None (Some d) keys = refl
+latest-kept (Some b) (Some d) keys = go (repeats b d) refl
+  where
+    go : (r : Bool) → repeats b d ≡ r → (if r then Some b else Some d) ≡ Some d
+    go true e = ap (λ (x : Completed). Some x) (repeats-same b d (keys b d refl refl) e)
+    go false e = refl
+
+-- the run goes on behind these sections of it, which may be none
+module _ (k : Key) (heard : List Counted) (all : AllByRecursion (IsOfKey k) heard) (s : Counted) (of_key : s.key ≡ k) (front : List Counted) (run : run_of (heard ++ s ∷ []) ≡ front ++ s ∷ []) where
+  pub put-done : completion (heard ++ s ∷ []) ≡ option_map (done_at s) (whole (front ++ s ∷ []))
+  put-done = completion-push heard s ∙ ap (λ (l : List Counted). option_map (done_at s) (whole l)) run
+
+  pub put-kept : (latest : Option Completed) → latest ≡ latest_done (completions [] heard) → (kept : KeptRun) → StandsForRun (front ++ s ∷ []) kept
+      → IsKeptOf (heard ++ s ∷ []) (record { run = kept; latest = latest_with_done latest (option_map (done_at s) (whole (front ++ s ∷ []))) })
+  put-kept latest is kept stands = record {
+    run = subst (λ (l : List Counted). StandsForRun l kept) (sym run) stands;
+    latest =
+        latest-kept latest (option_map (done_at s) (whole (front ++ s ∷ [])))
+        (λ b d e f. latest_done-key k heard b all (sym is ∙ e) ∙ sym (done_key s (whole (front ++ s ∷ [])) d f ∙ of_key))
+        ∙ ap (λ (o : Option Completed). option_or o latest) (sym put-done)
+        ∙ ap (option_or (completion (heard ++ s ∷ []))) is
+        ∙ sym (latest-more heard s);
+  }
+
+-- ---- a section that repeats what is held
+
+is_body-same : (o : Option (List ℕ)) (body : List ℕ) → is_body o body ≡ true → o ≡ Some body
+is_body-same None body e = cc
+is_body-same (Some held) body e = ap (λ (b : List ℕ). Some b) ((bytes_eq-Decides held body).0 e)
+
+-- a run that holds a number has a latest section
+run-some : (run : List Counted) (n : ℕ) (body : List ℕ) → body_of (latest_with n run) ≡ Some body → (t : Counted) × (latest_section run ≡ Some t)
+run-some run n body e = go (latest_section run) refl
+  where
+    go : (o : Option Counted) → latest_section run ≡ o → (t : Counted) × (latest_section run ≡ Some t)
+    go (Some t) f = (t, f)
+    go None f =
+        let none : None ≡ Some body = ap (λ (l : List Counted). body_of (latest_with n l)) (sym (no-latest run f)) ∙ e in
+        absurd (let z : Prim.⊥ = cc in z)
+
+held-stays : (held : ℕ → Option (List ℕ)) (number : ℕ) (body : List ℕ) → held number ≡ Some body → (n : ℕ) → held n ≡ held_with held number body n
+held-stays held number body e n = go (n == number) refl
+  where
+    go : (b : Bool) → (n == number) ≡ b → held n ≡ (if b then Some body else held n)
+    go true f = ap held (eqb-true n number f) ∙ e
+    go false f = refl
+
+done_at-same : (s t : Counted) (c : Content) → s.key ≡ t.key → s.version ≡ t.version → done_at s c ≡ done_at t c
+done_at-same s t c k v = λ i. record { key = k i; version = v i; sections = c }
+
+module _ (k : Key) (heard : List Counted) (all : AllByRecursion (IsOfKey k) heard) (s : Counted) (of_key : s.key ≡ k) (kept : Kept) (is : IsKeptOf heard kept)
+    (version : s.version ≡ kept.run.version) (last : kept.run.last ≡ s.last) (held : body_in s.number kept.run.held ≡ Some s.body) where
+  some : (t : Counted) × (latest_section (run_of heard) ≡ Some t)
+  some = run-some (run_of heard) s.number s.body (sym (is.run.held s.number) ∙ held)
+
+  more : run_of (heard ++ s ∷ []) ≡ run_of heard ++ s ∷ []
+  more = run_of-push heard s (ap (λ (v : ℕ). all_of_version v (run_of heard)) version ∙ is.run.version)
+
+  stands : StandsForRun (run_of heard ++ s ∷ []) kept.run
+  stands = put-stands (run_of heard) s kept.run kept.run is.run version refl last (held-stays (λ (n : ℕ). body_in n kept.run.held) s.number s.body held)
+      (record {
+        below = λ (n : ℕ) (lt : n < kept.run.front). ap is_some (sym (held-stays (λ (m : ℕ). body_in m kept.run.held) s.number s.body held n)) ∙ is.run.front.below n lt;
+        gap = λ (lt : kept.run.front < 256). sym (held-stays (λ (m : ℕ). body_in m kept.run.held) s.number s.body held kept.run.front) ∙ is.run.front.gap lt;
+      })
+
+  same_content : completed (heard ++ s ∷ []) ≡ completed heard
+  same_content =
+      ap whole more
+      ∙ whole-by (run_of heard ++ s ∷ []) s (λ (n : ℕ). body_in n kept.run.held) (latest-push (run_of heard) s) stands.held
+      ∙ ap (λ (n : ℕ). content_by (λ (m : ℕ). body_in m kept.run.held) (numbers_from 0 (1 + n))) (sym last ∙ is.run.last some.0 some.1)
+      ∙ sym (whole-by (run_of heard) some.0 (λ (n : ℕ). body_in n kept.run.held) some.1 is.run.held)
+
+  same_completion : completion (heard ++ s ∷ []) ≡ completion heard
+  same_completion =
+      completion-push heard s
+      ∙ ap (option_map (done_at s)) same_content
+      ∙ go (completed heard)
+      ∙ ap (λ (o : Option Counted). completion_at o (completed heard)) (sym (sym (latest-run heard) ∙ some.1))
+    where
+      go : (o : Option Content) → option_map (done_at s) o ≡ option_map (done_at some.0) o
+      go None = refl
+      go (Some c) = ap (λ (d : Completed). Some d) (done_at-same s some.0 c (of_key ∙ sym (latest-key k heard some.0 all (sym (latest-run heard) ∙ some.1)))
+          (version ∙ sym (all-latest kept.run.version (run_of heard) some.0 is.run.version some.1)))
+
+  -- it leaves all that is kept
+  pub repeat-kept : IsKeptOf (heard ++ s ∷ []) kept
+  repeat-kept = record {
+    run = subst (λ (l : List Counted). StandsForRun l kept.run) (sym more) stands;
+    latest = is.latest ∙ go (completion heard) refl ∙ ap (λ (o : Option Completed). option_or o (latest_done (completions [] heard))) (sym same_completion) ∙ sym (latest-more heard s);
+  }
+    where
+      go : (o : Option Completed) → completion heard ≡ o → latest_done (completions [] heard) ≡ option_or (completion heard) (latest_done (completions [] heard))
+      go None e = ap (λ (p : Option Completed). option_or p (latest_done (completions [] heard))) (sym e)
+      go (Some d) e = latest-whole heard d e ∙ ap (λ (p : Option Completed). option_or p (latest_done (completions [] heard))) (sym e)
+
+  -- and shows nothing
+  pub repeat-shows : shown_after (latest_done (completions [] heard)) (completion (heard ++ s ∷ [])) ≡ None
+  repeat-shows = ap (shown_after (latest_done (completions [] heard))) same_completion ∙ go (completion heard) refl
+    where
+      none : (o : Option Completed) → shown_after o None ≡ None
+      none None = refl
+      none (Some b) = refl
+
+      go : (o : Option Completed) → completion heard ≡ o → shown_after (latest_done (completions [] heard)) (completion heard) ≡ None
+      go None e = ap (shown_after (latest_done (completions [] heard))) e ∙ none (latest_done (completions [] heard))
+      go (Some d) e =
+          ap (λ (o : Option Completed). shown_after o (completion heard)) (latest-whole heard d e)
+          ∙ ap (shown_after (Some d)) e
+          ∙ ap (λ (b : Bool). if b then None else Some d) (repeats-itself d)
+
+-- the test that a section repeats what is kept
+pub repeat-test : (a b : ℕ) (o : Option (List ℕ)) (body : List ℕ) → (a == b && is_body o body) ≡ true → (a ≡ b) × (o ≡ Some body)
+repeat-test a b o body e =
+    let p = and_true (a == b) (is_body o body) e in
+    (eqb-true a b p.0, is_body-same o body p.1)

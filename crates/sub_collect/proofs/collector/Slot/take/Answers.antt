@@ -1,0 +1,61 @@
+use Rattle.std.proofs.Common.{ℕ, ◌++◌, ◌∷◌, [], Option, option_map, ap, sym, refl, subst, ◌∙◌}
+use Rattle.sub_collect.specs.Runs.{all_of_version, counted, run_of}
+use Rattle.sub_collect.specs.Completions.{completion, shown_after}
+use Rattle.sub_collect.specs.Collectors.{IsKeptOf, body_in}
+use Rattle.sub_collect.specs.Slots.{kept_run, kept_by, latest_with_done}
+use Rattle.sub_collect.specs.declared.completed.Completed.{Completed}
+use Rattle.sub_collect.proofs.Runs.{run_of-push, run_of-other}
+use Rattle.sub_collect.proofs.Taking.{put-done, put-kept, repeat-kept, repeat-shows, repeat-test}
+use Rattle.sub_collect.proofs.collector.Slot.take.Goals as goal
+
+pub returns-then-self-header-clause-shown : goal.returns-then-self-header-clause-shown
+returns-then-self-header-clause-shown c = λ heard is all.
+    let s = counted c.args.key c.args.header.now c.args.body in
+    let latest = c.args.self.now.latest in
+    let run = run_of-other heard c.args.self.now.run.version s is.run.version c.if-self-header.true in
+    c.show.ensures.shown
+    ∙ ap (λ (o : Option Completed). option_map (λ (d : Completed). d.version) (shown_after latest o)) (c.in_ok-done.ensures.done [] c.open-run.ensures.stands ∙ sym (put-done c.args.key heard all s refl [] run))
+    ∙ ap (λ (o : Option Completed). option_map (λ (d : Completed). d.version) (shown_after o (completion (heard ++ s ∷ [])))) is.latest
+
+pub returns-then-self-header-clause-stands : goal.returns-then-self-header-clause-stands
+returns-then-self-header-clause-stands c = λ heard is all.
+    let s = counted c.args.key c.args.header.now c.args.body in
+    let latest = c.args.self.now.latest in
+    let run = run_of-other heard c.args.self.now.run.version s is.run.version c.if-self-header.true in
+    let kept = kept_run c.put.new.self in
+    subst (λ (o : Option Completed). IsKeptOf (heard ++ s ∷ []) (record { run = kept; latest = o }))
+    (sym (c.show.ensures.latest ∙ ap (latest_with_done latest) (c.in_ok-done.ensures.done [] c.open-run.ensures.stands)))
+    (put-kept c.args.key heard all s refl [] run latest is.latest kept (c.in_ok-done.ensures.stands [] c.open-run.ensures.stands))
+
+pub returns-then-repeats-clause-shown : goal.returns-then-repeats-clause-shown
+returns-then-repeats-clause-shown c = λ heard is all.
+    let s = counted c.args.key c.args.header.now c.args.body in
+    let kept = kept_by c.args.self.now in
+    let test = repeat-test kept.run.last s.last (body_in s.number kept.run.held) s.body (sym c.repeats.ensures ∙ c.if-repeats.true) in
+    ap (option_map (λ (d : Completed). d.version)) (sym (repeat-shows c.args.key heard all s refl kept is (sym c.if-self-header.false) test.0 test.1))
+
+pub returns-then-repeats-clause-stands : goal.returns-then-repeats-clause-stands
+returns-then-repeats-clause-stands c = λ heard is all.
+    let s = counted c.args.key c.args.header.now c.args.body in
+    let kept = kept_by c.args.self.now in
+    let test = repeat-test kept.run.last s.last (body_in s.number kept.run.held) s.body (sym c.repeats.ensures ∙ c.if-repeats.true) in
+    repeat-kept c.args.key heard all s refl kept is (sym c.if-self-header.false) test.0 test.1
+
+pub returns-clause-shown : goal.returns-clause-shown
+returns-clause-shown c = λ heard is all.
+    let s = counted c.args.key c.args.header.now c.args.body in
+    let latest = c.args.self.now.latest in
+    let run = run_of-push heard s (ap (λ (v : ℕ). all_of_version v (run_of heard)) (sym c.if-self-header.false) ∙ is.run.version) in
+    c.show-2.ensures.shown
+    ∙ ap (λ (o : Option Completed). option_map (λ (d : Completed). d.version) (shown_after latest o)) (c.in_ok-done-2.ensures.done (run_of heard) is.run ∙ sym (put-done c.args.key heard all s refl (run_of heard) run))
+    ∙ ap (λ (o : Option Completed). option_map (λ (d : Completed). d.version) (shown_after o (completion (heard ++ s ∷ [])))) is.latest
+
+pub returns-clause-stands : goal.returns-clause-stands
+returns-clause-stands c = λ heard is all.
+    let s = counted c.args.key c.args.header.now c.args.body in
+    let latest = c.args.self.now.latest in
+    let run = run_of-push heard s (ap (λ (v : ℕ). all_of_version v (run_of heard)) (sym c.if-self-header.false) ∙ is.run.version) in
+    let kept = kept_run c.put-2.new.self in
+    subst (λ (o : Option Completed). IsKeptOf (heard ++ s ∷ []) (record { run = kept; latest = o }))
+    (sym (c.show-2.ensures.latest ∙ ap (latest_with_done latest) (c.in_ok-done-2.ensures.done (run_of heard) is.run)))
+    (put-kept c.args.key heard all s refl (run_of heard) run latest is.latest kept (c.in_ok-done-2.ensures.stands (run_of heard) is.run))

@@ -1,0 +1,62 @@
+-- What a collector keeps, and the counted sections that it stands for.
+use Rattle.std.specs.Prelude.{◌≡◌, ℕ, ◌<◌, List, [], ◌∷◌, true, ◌==◌, if◌then◌else◌, Option, Some, None, option_map, is_some}
+use Rattle.section_codec.specs.declared.table.Key.{Key}
+use Rattle.version_book.specs.Airings.{is_key}
+use Rattle.sub_collect.specs.Runs.{Counted, all_of_version, run_of, latest_section, latest_with}
+use Rattle.sub_collect.specs.Completions.{sections_of, completions, latest_done}
+use Rattle.sub_collect.specs.declared.completed.Completed.{Completed}
+
+-- what is kept of a run: its version, the last_section_number of its latest section, the latest body of each number that it holds, and how many numbers it holds from 0 on
+pub record KeptRun : Type 0 where
+  pub version : ℕ
+  pub last : ℕ
+  pub held : List (ℕ × List ℕ)
+  pub front : ℕ
+
+-- what is kept of a key: its run and its latest completion
+pub record Kept : Type 0 where
+  pub run : KeptRun
+  pub latest : Option Completed
+
+-- each key that had a section, with what is kept of it
+abbrev pub KeptKeys : Type 0
+KeptKeys = List (Key × Kept)
+
+-- what is kept of a key
+abbrev pub kept_in : Key → KeptKeys → Option Kept
+kept_in k [] = None
+kept_in k (entry ∷ entries) = if is_key k entry.0 then Some entry.1 else kept_in k entries
+
+-- the body that is held of a number
+abbrev pub body_in : ℕ → List (ℕ × List ℕ) → Option (List ℕ)
+body_in n [] = None
+body_in n (entry ∷ entries) = if n == entry.0 then Some entry.1 else body_in n entries
+
+abbrev pub body_of : Option Counted → Option (List ℕ)
+body_of s = option_map (λ (x : Counted). x.body) s
+
+-- all numbers below the front are held, and the front itself is not, or is above all numbers
+pub record IsFront (held : ℕ → Option (List ℕ)) (front : ℕ) : Type 0 where
+  pub below : (n : ℕ) → n < front → is_some (held n) ≡ true
+  pub gap : front < 256 → held front ≡ None
+
+-- A kept run stands for a run.
+pub record StandsForRun (run : List Counted) (kept : KeptRun) : Type 0 where
+  pub version : all_of_version kept.version run ≡ true
+  pub last : (s : Counted) → latest_section run ≡ Some s → kept.last ≡ s.last
+  pub held : (n : ℕ) → body_in n kept.held ≡ body_of (latest_with n run)
+  pub front : IsFront (λ n. body_in n kept.held) kept.front
+
+-- What is kept of a key stands for these sections of it.
+pub record IsKeptOf (heard : List Counted) (kept : Kept) : Type 0 where
+  pub run : StandsForRun (run_of heard) kept.run
+  pub latest : kept.latest ≡ latest_done (completions [] heard)
+
+-- Of a key without a section nothing is kept.
+abbrev pub StandsFor : List Counted → Option Kept → Type 0
+StandsFor heard None = heard ≡ []
+StandsFor heard (Some kept) = IsKeptOf heard kept
+
+-- The collector stands for these counted sections, in the order in which they ended.
+abbrev pub Stands : List Counted → KeptKeys → Type 0
+Stands past collector = (k : Key) → StandsFor (sections_of k past) (kept_in k collector)

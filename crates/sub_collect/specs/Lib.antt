@@ -1,0 +1,6 @@
+pub mod Runs
+pub mod Completions
+pub mod Collectors
+pub mod Slots
+pub mod Laws
+pub mod Rows

@@ -1,0 +1,42 @@
+-- The map behind a collector, as what it keeps.
+use Rattle.std.specs.Prelude.{ℕ, List, [], ◌∷◌, ◌==◌, bytes_eq, Bool, false, if◌then◌else◌, map, Option, Some, None}
+use Rattle.section_codec.specs.declared.table.Key.{Key}
+use Rattle.version_book.specs.Airings.{Content}
+use Rattle.sub_collect.specs.Completions.{repeats}
+use Rattle.sub_collect.specs.Collectors.{KeptRun, Kept, KeptKeys}
+use Rattle.sub_collect.specs.declared.completed.Completed.{Completed}
+use Rattle.sub_collect.specs.declared.run.Run.{Run}
+use Rattle.sub_collect.specs.declared.collector.Slot.{Slot}
+
+abbrev pub kept_run : Run → KeptRun
+kept_run run = record { version = run.version; last = run.last; held = run.held.entries; front = run.front }
+
+abbrev pub kept_by : Slot → Kept
+kept_by slot = record { run = kept_run slot.run; latest = slot.latest }
+
+abbrev pub shown : List (Key × Slot) → KeptKeys
+shown entries = map (λ (entry : Key × Slot). (entry.0, kept_by entry.1)) entries
+
+-- what is held of a number once this body is put under that one
+abbrev pub held_with : (ℕ → Option (List ℕ)) → ℕ → List ℕ → ℕ → Option (List ℕ)
+held_with held number body n = if n == number then Some body else held n
+
+abbrev pub is_body : Option (List ℕ) → List ℕ → Bool
+is_body None body = false
+is_body (Some held) body = bytes_eq held body
+
+abbrev pub with_body : ℕ → Option (List ℕ) → Option Content → Option Content
+with_body n None rest = None
+with_body n (Some body) None = None
+with_body n (Some body) (Some parts) = Some (record { number = n; body = body } ∷ parts)
+
+-- for each of these numbers the body that is held of it; None where one is not
+abbrev pub content_by : (ℕ → Option (List ℕ)) → List ℕ → Option Content
+content_by held [] = Some []
+content_by held (n ∷ ns) = with_body n (held n) (content_by held ns)
+
+-- the latest completion, once there is a completion or none
+abbrev pub latest_with_done : Option Completed → Option Completed → Option Completed
+latest_with_done latest None = latest
+latest_with_done None (Some d) = Some d
+latest_with_done (Some before) (Some d) = if repeats before d then Some before else Some d

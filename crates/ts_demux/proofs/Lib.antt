@@ -1,0 +1,15 @@
+pub mod Deciding
+pub mod Lists
+pub mod Heard
+pub mod Hear
+pub mod Machine
+pub mod Stretches
+pub mod Windows
+pub mod Adding
+pub mod Written
+pub mod Beginning
+pub mod Placing
+pub mod Starting
+pub mod Standing
+pub mod Open
+pub mod Keeping
