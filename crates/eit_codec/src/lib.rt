@@ -2,9 +2,12 @@
 #![tactic(auto)]
 
 mod eit;
+mod laws;
 mod reading;
 mod shows;
 mod writing;
 
 pub use eit::{Eit, EitHead};
+pub use laws::written_events_read_back;
+pub use reading::read_eit;
 pub use writing::write_eit;

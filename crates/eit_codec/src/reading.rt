@@ -1,16 +1,74 @@
 // Event information as it is read.
 ghost use Rattle.std.specs.Prelude.{◌≡◌, ◌<◌, ◌++◌, List, ℕ, length, IfOk, IfSome, IfNone};
+ghost use Rattle.eit_codec.specs.declared.eit.Eit.{Eit};
 ghost use Rattle.guide_model.specs.declared.screen.ScreenEvent.{ScreenEvent};
 ghost use Rattle.eit_codec.specs.Entries.{Entry, entry_bytes, FitsEntry};
 ghost use Rattle.eit_codec.specs.Shows.{event_of};
-ghost use Rattle.eit_codec.specs.Eit.{IsEvent};
+ghost use Rattle.eit_codec.specs.Eit.{head_bytes, IsEvent, AreEntries, IsEit};
 
+use crate::eit::{Eit, EitHead};
 use crate::shows::{genres_of, joined, pieces_in, rating_of, short_of};
 use desc_event::{RawDesc, read_descriptors};
-use guide_model::ScreenEvent;
+use guide_model::{ScreenEvent, ScreenEvents};
+use si_base::Items;
 use si_time::{Moment, duration_from_bcd, from_bcd};
 use std::alloc::{AllocError, Global};
 use std::marker::Model;
+
+/// The head and the events of the body of a section of event information, or `None` exactly where the body ends within
+/// its head or an entry, bytes are left over, or a start or a duration is not decimal or no time. running_status and
+/// free_CA_mode may have any value. Descriptors of other tags, and those whose body does not fit, are passed over
+/// (EN 300 468, 5.2.4).
+pub fn read_eit(alloc: Global, body: &[u8]) -> Result<Option<Eit>, AllocError>
+    ensures some { IfOk result (λ read. IfSome read (λ eit. IsEit body.now eit)) }
+    ensures none { IfOk result (λ read. IfNone read ((eit : Eit) → ¬ IsEit body.now eit)) }
+{
+    let Some((head, behind)) = split_head(body) else {
+        return Ok(None);
+    };
+    let Some(events) = read_events(alloc, behind)? else {
+        return Ok(None);
+    };
+    Ok(Some(Eit { head, events }))
+}
+
+// The head at the front of a body, and what stands behind it; none where the body ends within it.
+fn split_head(body: &[u8]) -> Option<(EitHead, &[u8])>
+    ensures parts { IfSome result (λ parts. body.now ≡ head_bytes parts.0 ++ parts.1.now) }
+    ensures none { IfNone result (length body.now < 6) }
+{
+    if body.len() < 6 {
+        return None;
+    }
+    let (fields, behind) = body.split_at(6);
+    let head = EitHead {
+        stream: u16::from_be_bytes([fields[0], fields[1]]),
+        original: u16::from_be_bytes([fields[2], fields[3]]),
+        segment_last: fields[4],
+        last_table: fields[5],
+    };
+    Some((head, behind))
+}
+
+// The events of the entries that these bytes are.
+fn read_events(alloc: Global, bytes: &[u8]) -> Result<Option<ScreenEvents>, AllocError>
+    ensures some { IfOk result (λ read. IfSome read (λ events. AreEntries bytes.now events)) }
+    ensures none { IfOk result (λ read. IfNone read ((events : List ScreenEvent) → ¬ AreEntries bytes.now events)) }
+{
+    let mut events = Vec::new(alloc);
+    let mut rest = bytes;
+    while !rest.is_empty() {
+        let Some((entry, behind)) = split_entry(rest) else {
+            return Ok(None);
+        };
+        let Some(event) = read_event(alloc, &entry)? else {
+            return Ok(None);
+        };
+        events.push(event)?;
+        rest = behind;
+    }
+    Ok(Some(Items::of(events)))
+}
 
 /// An entry of an event as it stands in a body, its descriptors not read yet. Contracts see it as an `Entry`.
 #[derive(Debug, Drop)]
