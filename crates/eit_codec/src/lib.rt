@@ -8,6 +8,9 @@ mod shows;
 mod writing;
 
 pub use eit::{Eit, EitHead};
-pub use laws::written_events_read_back;
+pub use laws::{events_are_typed, written_events_read_back};
 pub use reading::read_eit;
 pub use writing::write_eit;
+
+#[cfg(test)]
+mod tests;
