@@ -24,11 +24,15 @@ use Rattle.eit_codec.proofs.Written.{descs_of, descs-are, event-shown}
 pub entry-has_its_size : EntryHasItsSize
 entry-has_its_size status e =
     let flags = two (4096 * (2 * status) + length (event_descriptors e)) in
-    omega (arith, length-moment_bcd e.start.0, length-duration_bcd e.seconds,
+    omega (
+      arith,
+      length-moment_bcd e.start.0,
+      length-duration_bcd e.seconds,
       length-append (two e.id ++ moment_bcd e.start.0 ++ duration_bcd e.seconds ++ flags) (event_descriptors e),
       length-append (two e.id ++ moment_bcd e.start.0 ++ duration_bcd e.seconds) flags,
       length-append (two e.id ++ moment_bcd e.start.0) (duration_bcd e.seconds),
-      length-append (two e.id) (moment_bcd e.start.0))
+      length-append (two e.id) (moment_bcd e.start.0),
+    )
 
 content-small : (genres : List Genre) → length genres ≤ 8 → length (content_of genres) ≤ 18
 content-small [] le = omega arith
@@ -44,11 +48,23 @@ descriptors-small e p q =
     let text = coded_text e.short in
     let short = short_event (record { language = e.language; name = Text e.name; short = Text e.short }) in
     let extended = extended_events e.language e.extended in
-    omega (arith, p.limits.name, p.limits.short, q.language, length-coded_text e.name, length-coded_text e.short,
-      length-append (e.language ++ length name ∷ name) (length text ∷ text), length-append e.language (length name ∷ name),
-      length-append (short ++ extended ++ content_of e.genres) (rating_of e.rating), length-append (short ++ extended) (content_of e.genres), length-append short extended,
-      length-extended_events e.language e.extended q.language, extended_size-small e.extended q.extended.utf8 p.limits.extended,
-      content-small e.genres p.limits.genres, rating-small e.rating q.rating)
+    omega (
+      arith,
+      p.limits.name,
+      p.limits.short,
+      q.language,
+      length-coded_text e.name,
+      length-coded_text e.short,
+      length-append (e.language ++ length name ∷ name) (length text ∷ text),
+      length-append e.language (length name ∷ name),
+      length-append (short ++ extended ++ content_of e.genres) (rating_of e.rating),
+      length-append (short ++ extended) (content_of e.genres),
+      length-append short extended,
+      length-extended_events e.language e.extended q.language,
+      extended_size-small e.extended q.extended.utf8 p.limits.extended,
+      content-small e.genres p.limits.genres,
+      rating-small e.rating q.rating,
+    )
 
 written-event : (status : ℕ) (e : Event) → status < 8 → IsCodable e → IsTyped e → IsEvent (written_entry status e) (shown_event e)
 written-event status e lt p q = record {

@@ -120,15 +120,26 @@ short-short : (e : Event) → IsCodable e → IsTyped e → IsShort (short_desc 
 short-short e p q =
     let name = coded_text e.name in
     let text = coded_text e.short in
-    omega (arith, p.limits.name, p.limits.short, q.language, length-coded_text e.name, length-coded_text e.short,
-      length-append (e.language ++ length name ∷ name) (length text ∷ text), length-append e.language (length name ∷ name))
+    omega (
+      arith,
+      p.limits.name,
+      p.limits.short,
+      q.language,
+      length-coded_text e.name,
+      length-coded_text e.short,
+      length-append (e.language ++ length name ∷ name) (length text ∷ text),
+      length-append e.language (length name ∷ name),
+    )
 
 pub descs-are : (e : Event) → IsCodable e → IsTyped e → AreDescriptors (event_descriptors e) (descs_of e)
 descs-are e p q = record {
   whole = desc-bytes e;
-  lengths = (short-short e p q, all-append (all_pieces e) (genre_descs e.genres ++ rating_descs e.rating)
-      (piece-short 0 (length (pieces e.extended) - 1) e.language (pieces e.extended) q.language (small e.extended (pieces e.extended) (pieces-longest e.extended q.extended.utf8)))
-      (all-append (genre_descs e.genres) (rating_descs e.rating) (genre-short e.genres p.limits.genres) (rating-short e.rating q.rating)));
+  lengths = (
+    short-short e p q,
+    all-append (all_pieces e) (genre_descs e.genres ++ rating_descs e.rating)
+        (piece-short 0 (length (pieces e.extended) - 1) e.language (pieces e.extended) q.language (small e.extended (pieces e.extended) (pieces-longest e.extended q.extended.utf8)))
+        (all-append (genre_descs e.genres) (rating_descs e.rating) (genre-short e.genres p.limits.genres) (rating-short e.rating q.rating)),
+  );
 }
 
 -- ---- what they show
@@ -199,11 +210,47 @@ event-shown e p q levels =
     let start = e.start in
     let genres : shows.genres_of (descs_of e) ≡ e.genres = ap shows.genres_or_none (content-behind 0 (length (pieces e.extended) - 1) e.language (pieces e.extended) (genre_descs e.genres ++ rating_descs e.rating)) ∙ content-first e.genres e.rating levels in
     let rating : shows.rating_of (descs_of e) ≡ e.rating = ap shows.first_rating (rating-behind 0 (length (pieces e.extended) - 1) e.language (pieces e.extended) (genre_descs e.genres ++ rating_descs e.rating)) ∙ rating-first e.genres e.rating q.rating in
-    ap (λ (s : ShortEvent). record { id = e.id; start = start; seconds = e.seconds; language = s.language; name = s.name; short = s.short;
-      extended = shows.joined (shows.pieces_in s.language (descs_of e)); rating = shows.rating_of (descs_of e); genres = shows.genres_of (descs_of e) }) (short-shown e q)
-    ∙ ap (λ (x : Shown). record { id = e.id; start = start; seconds = e.seconds; language = e.language; name = Text e.name; short = Text e.short;
-      extended = x; rating = shows.rating_of (descs_of e); genres = shows.genres_of (descs_of e) }) (extended-shown e p q)
-    ∙ ap (λ (r : Option Rating). record { id = e.id; start = start; seconds = e.seconds; language = e.language; name = Text e.name; short = Text e.short;
-      extended = Text e.extended; rating = r; genres = shows.genres_of (descs_of e) }) rating
-    ∙ ap (λ (gs : List Genre). record { id = e.id; start = start; seconds = e.seconds; language = e.language; name = Text e.name; short = Text e.short;
-      extended = Text e.extended; rating = e.rating; genres = gs }) genres
+    ap (λ (s : ShortEvent). record {
+      id = e.id;
+      start = start;
+      seconds = e.seconds;
+      language = s.language;
+      name = s.name;
+      short = s.short;
+      extended = shows.joined (shows.pieces_in s.language (descs_of e));
+      rating = shows.rating_of (descs_of e);
+      genres = shows.genres_of (descs_of e);
+    }) (short-shown e q)
+    ∙ ap (λ (x : Shown). record {
+      id = e.id;
+      start = start;
+      seconds = e.seconds;
+      language = e.language;
+      name = Text e.name;
+      short = Text e.short;
+      extended = x;
+      rating = shows.rating_of (descs_of e);
+      genres = shows.genres_of (descs_of e);
+    }) (extended-shown e p q)
+    ∙ ap (λ (r : Option Rating). record {
+      id = e.id;
+      start = start;
+      seconds = e.seconds;
+      language = e.language;
+      name = Text e.name;
+      short = Text e.short;
+      extended = Text e.extended;
+      rating = r;
+      genres = shows.genres_of (descs_of e);
+    }) rating
+    ∙ ap (λ (gs : List Genre). record {
+      id = e.id;
+      start = start;
+      seconds = e.seconds;
+      language = e.language;
+      name = Text e.name;
+      short = Text e.short;
+      extended = Text e.extended;
+      rating = e.rating;
+      genres = gs;
+    }) genres

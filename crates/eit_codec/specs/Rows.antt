@@ -98,21 +98,27 @@ row_read = record {
   entries = record {
     entries = news_entry ∷ bare_entry ∷ [];
     whole = refl;
-    shown = (record {
-      fits = record { id = lit< tt; time = refl; duration = refl; flags = lit< tt; descriptors = lit< tt };
-      start = refl;
-      seconds = refl;
-      descs = news_desc ∷ [];
-      loop = record { whole = refl; lengths = (lit< tt, tt) };
-      shows = refl;
-    }, (record {
-      fits = record { id = lit< tt; time = refl; duration = refl; flags = lit< tt; descriptors = lit< tt };
-      start = refl;
-      seconds = refl;
-      descs = [];
-      loop = record { whole = refl; lengths = tt };
-      shows = refl;
-    }, tt));
+    shown = (
+      record {
+        fits = record { id = lit< tt; time = refl; duration = refl; flags = lit< tt; descriptors = lit< tt };
+        start = refl;
+        seconds = refl;
+        descs = news_desc ∷ [];
+        loop = record { whole = refl; lengths = (lit< tt, tt) };
+        shows = refl;
+      },
+      (
+        record {
+          fits = record { id = lit< tt; time = refl; duration = refl; flags = lit< tt; descriptors = lit< tt };
+          start = refl;
+          seconds = refl;
+          descs = [];
+          loop = record { whole = refl; lengths = tt };
+          shows = refl;
+        },
+        tt,
+      ),
+    );
   };
 }
 

@@ -28,10 +28,8 @@ pub fn events_are_typed(event: &Event)
 
 fn is_word(number: u16)
     ensures { number < 65536 }
-{
-}
+{}
 
 fn is_code(letters: &[u8; 3])
     ensures { length letters.now ≡ 3 }
-{
-}
+{}

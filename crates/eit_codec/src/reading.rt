@@ -15,10 +15,14 @@ use si_time::{Moment, duration_from_bcd, from_bcd};
 use std::alloc::{AllocError, Global};
 use std::marker::Model;
 
-/// The head and the events of the body of a section of event information, or `None` exactly where the body ends within
-/// its head or an entry, bytes are left over, or a start or a duration is not decimal or no time. running_status and
-/// free_CA_mode may have any value. Descriptors of other tags, and those whose body does not fit, are passed over
-/// (EN 300 468, 5.2.4).
+/// The head and the events of the body of a section of event information (EN 300 468, 5.2.4), or `None` exactly where
+/// the body ends within its head or an entry, a descriptor runs past the end of its loop, bytes are left over, or a start
+/// or a duration is not decimal or no time. running_status and free_CA_mode may have any value.
+///
+/// Language, name and short text are those of the first short_event; without one the language is `und` and both texts
+/// are empty. The extended text joins the extended_event pieces of that language in the order in which they stand; where
+/// one is not shown as text it is `Hex` of all their bytes. The genres are those of the first content, the rating is the
+/// first of the first parental_rating. Descriptors of other tags, and those whose body does not fit, are passed over.
 pub fn read_eit(alloc: Global, body: &[u8]) -> Result<Option<Eit>, AllocError>
     ensures some { IfOk result (λ read. IfSome read (λ eit. IsEit body.now eit)) }
     ensures none { IfOk result (λ read. IfNone read ((eit : Eit) → ¬ IsEit body.now eit)) }

@@ -146,9 +146,9 @@ fn written_as_by_hand(rt: HostRuntime) -> Result<(), Fail> {
     assert!(rt; are_codable(&event));
     for (status, flags) in [(0, 0x00), (1, 0x20), (4, 0x80), (7, 0xE0)] {
         let body = write_eit(alloc, &HEAD, status, &event)?;
-        let mut want = body_of(alloc, &NEWS)?;
-        want[16] = flags;
-        assert_eq!(rt; body.as_slice(), want.as_slice());
+        let mut entry = NEWS;
+        entry[10] = flags;
+        assert_eq!(rt; body.as_slice(), body_of(alloc, &entry)?.as_slice());
     }
     let none = write_eit(alloc, &HEAD, 0, &[])?;
     assert_eq!(rt; none.as_slice(), HEAD_BYTES.as_slice());
@@ -160,12 +160,16 @@ fn read_as_by_hand(rt: HostRuntime) -> Result<(), Fail> {
     let alloc = rt.alloc();
     // running_status and free_CA_mode have any value
     for flags in [0x00, 0x10, 0x80, 0xF0] {
-        let mut body = body_of(alloc, &NEWS)?;
-        body[16] = flags;
+        let mut entry = NEWS;
+        entry[10] = flags;
+        let body = body_of(alloc, &entry)?;
         let eit = read_eit(alloc, &body)?.ok_or("no body")?;
         assert_eq!(rt; eit.head, HEAD);
         let event = only_event(alloc, &body)?;
-        assert_eq!(rt; (event.id, event.start.0, event.seconds), (7, 4_257_234_000, 1800));
+        assert_eq!(rt;
+            (event.id, event.start.0, event.seconds),
+            (7, 4_257_234_000, 1800)
+        );
         assert_eq!(rt; event.language, *b"eng");
         assert!(rt; shows(&event.name, Ok("News")));
         assert!(rt; shows(&event.short, Ok("")));
@@ -244,7 +248,10 @@ fn texts_shown(rt: HostRuntime) -> Result<(), Fail> {
         assert_eq!(rt; event.language, *language);
         assert!(rt; shows(&event.name, name), "the name of {descriptors:?}");
         assert!(rt; shows(&event.short, short), "the text of {descriptors:?}");
-        assert!(rt; shows(&event.extended, extended), "the extended text of {descriptors:?}");
+        assert!(rt;
+            shows(&event.extended, extended),
+            "the extended text of {descriptors:?}"
+        );
     }
     Ok(())
 }
@@ -296,10 +303,10 @@ fn times_read(rt: HostRuntime) -> Result<(), Fail> {
         ([0x23, 0x59, 0x59], [0x99, 0x59, 0x59], true),
         ([0x00, 0x00, 0x00], [0x00, 0x00, 0x00], true),
     ] {
-        let mut body = body_of(alloc, &NEWS)?;
-        body[10..13].copy_from_slice(&time);
-        body[13..16].copy_from_slice(&duration);
-        let read = read_eit(alloc, &body)?.is_some();
+        let mut entry = NEWS;
+        entry[4..7].copy_from_slice(&time);
+        entry[7..10].copy_from_slice(&duration);
+        let read = read_eit(alloc, &body_of(alloc, &entry)?)?.is_some();
         assert_eq!(rt; read, want, "{time:?} {duration:?}");
     }
     Ok(())
@@ -311,7 +318,10 @@ fn cut_at_every_byte(rt: HostRuntime) -> Result<(), Fail> {
     let mut body = body_of(alloc, &NEWS)?;
     body.extend_from_slice(&NEWS)?;
     body.push(0)?;
-    assert_eq!(rt; fronts_read(alloc, &body)?.as_slice(), [6, 29, 52].as_slice());
+    assert_eq!(rt;
+        fronts_read(alloc, &body)?.as_slice(),
+        [6, 29, 52].as_slice()
+    );
     // a descriptor that is longer than its loop
     for descriptors in [b"\x7F".as_slice(), b"\x7F\x01", b"\x7F\x00\x00"] {
         let body = body_with(alloc, descriptors)?;
@@ -327,8 +337,11 @@ fn read_back(rt: HostRuntime) -> Result<(), Fail> {
     assert!(rt; are_codable(&events));
     let body = write_eit(alloc, &HEAD, 4, &events)?;
     let read = only_event(alloc, body.as_slice())?;
-    let [film] = events;
-    assert_eq!(rt; (read.id, read.start.0, read.seconds), (film.id, film.start.0, film.seconds));
+    let film = &events[0];
+    assert_eq!(rt;
+        (read.id, read.start.0, read.seconds),
+        (film.id, film.start.0, film.seconds)
+    );
     assert_eq!(rt; read.language, film.language);
     assert!(rt; shows(&read.name, Ok(film.name.as_str())));
     assert!(rt; shows(&read.short, Ok(film.short.as_str())));
