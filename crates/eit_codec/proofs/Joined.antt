@@ -1,11 +1,11 @@
 -- Pieces of an extended text, one after the other.
-use Rattle.std.proofs.Common.{◌≡◌, ℕ, suc, ◌+◌, ◌<◌, length, get_or, drop, drop-cons, add-one, List, [], ◌∷◌, ◌++◌, Option, Some, None, refl, sym, ap, ◌∙◌, append_assoc}
+use Rattle.std.proofs.Common.{◌≡◌, ℕ, suc, ◌+◌, ◌<◌, length, get_or, drop, drop-cons, add-one, List, ◌∷◌, ◌++◌, Option, Some, None, refl, sym, ap, ◌∙◌, append_assoc}
 use Rattle.std.specs.Option.{option_map}
 use Rattle.std.specs.List.{concat}
 use Rattle.si_text.specs.Decoding.{decoded}
 use Rattle.si_text.specs.declared.shown.Shown.{Shown}
-use Rattle.si_text.specs.declared.shown.Shown.TheVariants.{Text, Hex}
-use Rattle.eit_codec.specs.Shows.{with_text, texts_of, joined_as, joined}
+use Rattle.si_text.specs.declared.shown.Shown.TheVariants.{Text}
+use Rattle.eit_codec.specs.Shows.{with_text, texts_of}
 
 -- the texts that are left, behind the text so far
 abbrev pub text_behind : List ℕ → Option (List (List ℕ)) → Option (List ℕ)

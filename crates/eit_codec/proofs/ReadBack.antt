@@ -1,5 +1,5 @@
 -- Written bodies read back.
-use Rattle.std.proofs.Common.{◌≡◌, ℕ, ◌+◌, ◌-◌, ◌*◌, ◌<◌, ◌≤◌, List, [], ◌∷◌, ◌++◌, length, map, Option, Some, None, IfSome, refl, sym, ap, arith, length-append}
+use Rattle.std.proofs.Common.{ℕ, ◌+◌, ◌*◌, ◌<◌, ◌≤◌, List, [], ◌∷◌, ◌++◌, length, map, Option, Some, None, IfSome, refl, sym, arith, length-append}
 use Rattle.std.specs.List.{flat_map, AllByRecursion}
 use Rattle.std.proofs.lemmas.List.Folds.{flat_map-map}
 use Rattle.std.proofs.lemmas.List.Elements.{recursion_from_All}
@@ -17,7 +17,7 @@ use Rattle.desc_event.specs.ShortEvent.{short_event}
 use Rattle.desc_event.proofs.Entries.{length-parental_rating_body}
 use Rattle.desc_event.proofs.Pieces.{length-coded_text, length-content_of, length-extended_events, extended_size-small}
 use Rattle.si_text.specs.declared.shown.Shown.TheVariants.{Text}
-use Rattle.eit_codec.specs.Entries.{FitsEntry, entry_bytes}
+use Rattle.eit_codec.specs.Entries.{entry_bytes}
 use Rattle.eit_codec.specs.Eit.{written_entry, written_bytes, IsCodable, IsTyped, IsEvent, AreEvents, shown_event, EntryHasItsSize, EitReadsBack}
 use Rattle.eit_codec.proofs.Written.{descs_of, descs-are, event-shown}
 

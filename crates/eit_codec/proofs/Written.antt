@@ -1,11 +1,11 @@
 -- The entry of an event shows that event.
-use Rattle.std.proofs.Common.{◌≡◌, ℕ, suc, ◌+◌, ◌-◌, ◌*◌, ◌<◌, ◌≤◌, ◌==◌, Bool, true, List, [], ◌∷◌, ◌++◌, length, map, take, Option, Some, None, IfSome, refl, sym, ap, subst, ◌∙◌, append_assoc, arith, length-append, eq-eqb, if◌then◌else◌}
-use Rattle.std.specs.List.{flat_map, concat, AllByRecursion}
+use Rattle.std.proofs.Common.{◌≡◌, ℕ, suc, ◌-◌, ◌<◌, ◌≤◌, Bool, true, List, [], ◌∷◌, ◌++◌, length, map, take, Option, Some, None, IfSome, refl, sym, ap, subst, ◌∙◌, append_assoc, arith, length-append, eq-eqb, if◌then◌else◌}
+use Rattle.std.specs.List.{flat_map, AllByRecursion}
 use Rattle.std.proofs.lemmas.Grind.{flat_map-append}
 use Rattle.std.proofs.lemmas.List.{append-nil}
 use Rattle.si_text.specs.Coding.{coded_text, coded_size}
 use Rattle.si_text.specs.Cutting.{pieces, ArePieces}
-use Rattle.si_text.specs.Decoding.{decoded, IsKept}
+use Rattle.si_text.specs.Decoding.{IsKept}
 use Rattle.si_text.specs.declared.shown.Shown.{Shown}
 use Rattle.si_text.specs.declared.shown.Shown.TheVariants.{Text}
 use Rattle.si_text.proofs.PieceFacts.{pieces-join, pieces-kept, pieces-longest}
@@ -18,7 +18,7 @@ use Rattle.desc_event.specs.declared.short_event.ShortEvent.{ShortEvent}
 use Rattle.desc_event.specs.declared.extended_event.ExtendedPiece.{ExtendedPiece}
 use Rattle.desc_event.specs.Descriptors.{descriptor_bytes, AreDescriptors}
 use Rattle.desc_event.specs.ShortEvent.{short_event_body, short_event_in}
-use Rattle.desc_event.specs.ExtendedEvent.{extended_event_body, extended_event_in}
+use Rattle.desc_event.specs.ExtendedEvent.{extended_event_body}
 use Rattle.desc_event.specs.Content.{content_body, content_in, HasNibbles}
 use Rattle.desc_event.specs.ParentalRating.{parental_rating_body, parental_rating_in, HasThreeLetters}
 use Rattle.desc_event.specs.EventDescriptors.{numbered, event_descriptors, content_of, rating_of}

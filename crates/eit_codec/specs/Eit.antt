@@ -1,5 +1,5 @@
 -- The body of an event information section, both ways (EN 300 468, 5.2.4).
-use Rattle.std.specs.Prelude.{◌≡◌, ℕ, ◌*◌, ◌<◌, ◌≤◌, List, [], ◌∷◌, ◌++◌, length, map, Some, IfSome}
+use Rattle.std.specs.Prelude.{◌≡◌, ℕ, ◌*◌, ◌<◌, List, [], ◌∷◌, ◌++◌, length, map, Some, IfSome}
 use Rattle.std.specs.List.{flat_map, All}
 use Rattle.si_base.specs.Fields.{two}
 use Rattle.si_time.specs.Moments.{moment_bcd, duration_bcd}

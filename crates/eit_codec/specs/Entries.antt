@@ -1,5 +1,5 @@
 -- The entry of an event in an event information section (EN 300 468, 5.2.4).
-use Rattle.std.specs.Prelude.{◌≡◌, ℕ, ◌+◌, ◌*◌, ◌<◌, List, ◌∷◌, ◌++◌, length}
+use Rattle.std.specs.Prelude.{◌≡◌, ℕ, ◌+◌, ◌*◌, ◌<◌, List, ◌++◌, length}
 use Rattle.si_base.specs.Fields.{two}
 
 -- its fields; flags are running_status 3 and free_CA_mode 1

@@ -1,4 +1,4 @@
-use Rattle.std.proofs.Common.{Some, IfSome, sym, subst}
+use Rattle.std.proofs.Common.{IfSome, sym, subst}
 use Rattle.desc_event.specs.ParentalRating.{HasThreeLetters}
 use Rattle.eit_codec.proofs.laws.events_are_typed.Goals as goal
 

@@ -1,4 +1,4 @@
-use Rattle.std.proofs.Common.{List, IfNone, sym, subst}
+use Rattle.std.proofs.Common.{List, IfNone, subst}
 use Rattle.guide_model.specs.declared.screen.ScreenEvent.{ScreenEvent}
 use Rattle.eit_codec.specs.Eit.{AreEntries}
 use Rattle.eit_codec.proofs.Heads.{no_entries}

@@ -1,8 +1,7 @@
 use Rattle.std.proofs.Common.{◌<◌, length, arith, sym, subst}
-use Rattle.std.specs.Prelude.{List, ◌++◌, ◌∷◌, [], IfSome, IfNone}
+use Rattle.std.specs.Prelude.{List, IfSome, IfNone}
 use Rattle.guide_model.specs.declared.screen.ScreenEvent.{ScreenEvent}
-use Rattle.std.proofs.lemmas.Bool.{eqb-true, eqb-false}
-use Rattle.std.proofs.lemmas.List.{nil_from_length}
+use Rattle.std.proofs.lemmas.Bool.{eqb-false}
 use Rattle.eit_codec.specs.Eit.{IsEvent}
 use Rattle.eit_codec.proofs.Same.{cut_entry, no_event, AreSoFar, next_so_far}
 use Rattle.eit_codec.proofs.reading.read_events.Goals as goal

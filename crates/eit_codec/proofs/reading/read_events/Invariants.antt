@@ -1,4 +1,4 @@
-use Rattle.std.proofs.Common.{◌≡◌, length}
+use Rattle.std.proofs.Common.{length}
 use Rattle.eit_codec.proofs.Same.{AreSoFar}
 use Rattle.eit_codec.proofs.reading.read_events.Given as goal
 

@@ -1,4 +1,4 @@
-use Rattle.std.proofs.Common.{◌≡◌, ◌++◌, take}
+use Rattle.std.proofs.Common.{◌≡◌, take}
 use Rattle.eit_codec.specs.Eit.{eit_body}
 use Rattle.eit_codec.proofs.writing.write_eit.Given as goal
 
