@@ -1,0 +1,5 @@
+pub mod Joined
+pub mod Same
+pub mod Heads
+pub mod Written
+pub mod ReadBack

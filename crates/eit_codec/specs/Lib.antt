@@ -1,0 +1,4 @@
+pub mod Entries
+pub mod Shows
+pub mod Eit
+pub mod Rows

@@ -1,0 +1,23 @@
+//! Bodies of event information sections, both ways (EN 300 468, 5.2.4).
+//!
+//! The layers above use: `write_eit` gives the written form; `read_eit` gives the one value of a body, and `None` exactly
+//! where it has none; reading what was written of events gives those events back, all texts as `Text`
+//! (`written_events_read_back`).
+//!
+//! `specs/Entries.antt` has the bytes of an entry, `specs/Shows.antt` what the descriptors of an event show, and
+//! `specs/Eit.antt` the body, written and read, with the laws.
+#![tactic(auto)]
+
+mod eit;
+mod laws;
+mod reading;
+mod shows;
+mod writing;
+
+pub use eit::{Eit, EitHead};
+pub use laws::{events_are_typed, written_events_read_back};
+pub use reading::read_eit;
+pub use writing::write_eit;
+
+#[cfg(test)]
+mod tests;
