@@ -1,0 +1,4 @@
+pub mod Journal
+pub mod Knowledge
+pub mod Rows
+pub mod Rule
