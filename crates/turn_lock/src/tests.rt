@@ -1,4 +1,4 @@
-//! A journal of numbers, each with its caller.
+//! A journal of numbers, each with the caller that made it: what threads leave, and what a pass finds in its next turn.
 ghost use Rattle.std.specs.Prelude.{◌≡◌, ◌⊎◌, ℕ, ◌+◌, ◌<◌, List, [], ◌∷◌, ◌++◌, IfOk, IfErr};
 ghost use Rattle.turn_lock.specs.Journal.{Grows};
 
@@ -13,6 +13,7 @@ struct Mark {
     number: u32,
 }
 
+/// The state: a list of marks, which stands on nothing.
 #[derive(Drop)]
 struct Log {
     marks: Vec<Mark>,
@@ -34,7 +35,7 @@ impl Chronicle for Log {
     }
 }
 
-/// Appends one number.
+/// Appends one mark; at want of memory, nothing.
 struct Append {
     number: u32,
 }
@@ -53,7 +54,7 @@ impl Job<Log> for Append {
     }
 }
 
-/// The last number of a caller.
+/// Looks for the last number of a caller, and appends nothing.
 struct Last {
     who: u32,
 }
@@ -77,6 +78,7 @@ impl Job<Log> for Last {
     }
 }
 
+/// Turns with the numbers from 0 on.
 fn many<W: Wait>(rt: &W, turns: &Turns<Log>, mut pass: Pass<Log>, count: u32) -> Pass<Log>
     requires { pass.turns ≡ turns.now.turns }
     ensures { (result.turns ≡ pass.turns) × (result.own.low ≡ pass.own.low) × (result.own.span ≡ pass.own.span) × (result.finished ≡ pass.finished) }
@@ -88,7 +90,7 @@ fn many<W: Wait>(rt: &W, turns: &Turns<Log>, mut pass: Pass<Log>, count: u32) ->
 }
 
 #[test]
-fn two_threads(rt: HostRuntime) {
+fn two_callers_make_a_thousand_turns_each(rt: HostRuntime) {
     let log = Log {
         marks: Vec::new(rt.alloc()),
     };
@@ -115,7 +117,7 @@ fn two_threads(rt: HostRuntime) {
     }
 }
 
-/// Three turns, and a receipt of what was seen after them.
+/// Three turns, and a receipt of what was seen behind them.
 fn three<W: Wait>(rt: &W, turns: &Turns<Log>, pass: Pass<Log>) -> (Pass<Log>, Receipt<Log>)
     requires { pass.turns ≡ turns.now.turns }
     ensures pass { (result.0.turns ≡ pass.turns) × (result.0.own.low ≡ pass.own.low) × (result.0.own.span ≡ pass.own.span) × (result.0.finished ≡ pass.finished) }
@@ -133,8 +135,6 @@ fn a_receipt_shows_the_third_turn(rt: HostRuntime) {
     };
     let (turns, mut first) = Turns::open(rt.alloc(), log, 2).expect(&rt, "memory");
     let second = first.split(&turns, 1);
-    assert_eq!(rt; second.who(), 1);
-    assert_eq!(rt; first.span(), 1);
     let ((second, receipt), mut first) = join(
         &rt,
         || three(&rt, &turns, second),
@@ -160,4 +160,47 @@ fn a_look_leaves_the_list(rt: HostRuntime) {
         log.marks.as_slice(),
         [Mark { who: 0, number: 7 }].as_slice()
     );
+}
+
+#[test]
+fn numbers_are_dealt_out_and_taken_in(rt: HostRuntime) {
+    let log = Log {
+        marks: Vec::new(rt.alloc()),
+    };
+    let (turns, mut low) = Turns::open(rt.alloc(), log, 5).expect(&rt, "memory");
+    let mut middle = low.split(&turns, 3);
+    let mut high = middle.split(&turns, 1);
+    assert_eq!(rt; (low.who(), low.span()), (0, 2));
+    assert_eq!(rt; (middle.who(), middle.span()), (2, 2));
+    assert_eq!(rt; (high.who(), high.span()), (4, 1));
+    assert!(rt; turns.turn(&rt, &mut high, Append { number: 3 }).is_ok());
+    assert!(rt; turns.turn(&rt, &mut low, Append { number: 9 }).is_ok());
+    assert!(rt; turns.turn(&rt, &mut middle, Append { number: 6 }).is_ok());
+    middle.join(&turns, high);
+    low.join(&turns, middle);
+    let log = turns.close(low);
+    assert_eq!(rt;
+        log.marks.as_slice(),
+        [
+            Mark { who: 4, number: 3 },
+            Mark { who: 0, number: 9 },
+            Mark { who: 2, number: 6 },
+        ]
+        .as_slice()
+    );
+}
+
+#[test]
+fn a_dropped_pass_leaves_its_entries(rt: HostRuntime) {
+    let log = Log {
+        marks: Vec::new(rt.alloc()),
+    };
+    let (turns, mut first) = Turns::open(rt.alloc(), log, 2).expect(&rt, "memory");
+    {
+        let mut second = first.split(&turns, 1);
+        assert!(rt; turns.turn(&rt, &mut second, Append { number: 4 }).is_ok());
+    }
+    assert_eq!(rt; turns.turn(&rt, &mut first, Last { who: 1 }), Some(4));
+    assert!(rt; turns.turn(&rt, &mut first, Append { number: 5 }).is_ok());
+    assert_eq!(rt; turns.turn(&rt, &mut first, Last { who: 0 }), Some(5));
 }
