@@ -5,6 +5,9 @@ use Rattle.std.specs.Prelude.{Result, Ok, Err, IfOk, OnErr}
 use Rattle.std.proofs.lemmas.List.{take_all}
 use Rattle.std.proofs.lemmas.Bool.{cases_Bool, cond-true, cond-false, eqb-true, eqb-false, ne_eqb, and_parts, and_left, or_left, or_parts, and_from, eq-eqb}
 use Rattle.mux_config.specs.declared.mux.MuxService.{MuxService}
+use Rattle.mux_config.specs.Sound.{DoAscend}
+use Rattle.guide_model.specs.declared.guide.ServiceGuide.{ServiceGuide}
+use Rattle.si_time.specs.declared.moment.Moment.{Moment}
 use Rattle.feed_edits.specs.declared.edit.Edit.{Edit}
 use Rattle.feed_book.specs.declared.reply.Reply.{Reply}
 use Rattle.feed_book.specs.declared.reply.Reply.TheVariants as reply
@@ -227,3 +230,24 @@ ascend-either feed edit (Err e) book new once ok err = subst AreAscending (sym (
 pub ascend-opened : (services : List MuxService) (i : ℕ) (book : List Kept) → length services ≤ i → book ≡ book_after (take i services) [] → AreAscending (map (λ (s : MuxService). s.service) services) → AreAscending (services_of book)
 ascend-opened services i book l is once =
     subst AreAscending (sym (ap services_of (is ∙ ap (λ ss. book_after ss []) (take_all i services l)) ∙ services-after services [])) once
+
+-- the services of a sound multiplex ascend
+pub services_ascend : (services : List MuxService) → DoAscend services → AreAscending (map (λ (s : MuxService). s.service) services)
+services_ascend [] h = tt
+services_ascend (s ∷ services) h = (above s services h.0, services_ascend services h.1)
+  where
+    above : (s : MuxService) (services : List MuxService) → AllByRecursion (λ (t : MuxService). s.service < t.service) services → AllByRecursion (λ n. s.service < n) (map (λ (t : MuxService). t.service) services)
+    above s [] h = tt
+    above s (t ∷ services) h = (h.0, above s services h.1)
+
+-- the services of the guides are those of what is kept
+pub services_guided : (book : List Kept) → map (λ (s : ServiceGuide). s.service) (map (λ (kept : Kept). kept.guide) book) ≡ services_of book
+services_guided [] = refl
+services_guided (kept ∷ book) = ap (λ ids. kept.guide.service ∷ ids) (services_guided book)
+
+pub guide_within : (book : List Kept) (i : ℕ) (guides : List ServiceGuide) (moment : Moment) → length book ≤ i → guides ≡ map (λ (kept : Kept). kept.guide) (take i book) → AllByRecursion IsServiceWithin guides → AreAscending (services_of book) → IsGuideWithin (record { moment = moment; services = guides })
+guide_within book i guides moment l is within ascend =
+    record {
+      services = within;
+      ascend = subst AreAscending (sym (ap (map (λ (s : ServiceGuide). s.service)) (is ∙ ap (map (λ (kept : Kept). kept.guide)) (take_all i book l)) ∙ services_guided book)) ascend;
+    }

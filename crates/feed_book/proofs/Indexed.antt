@@ -73,15 +73,15 @@ sum_by-filter_le : {X : Type 0} (g : X → ℕ) (p : X → Bool) (xs : List X) �
 sum_by-filter_le g p [] = omega arith
 sum_by-filter_le g p (x ∷ xs) =
     elim (cases_Bool (p x)) [
-      | inl e ↦ kept (ap (sum_by g) (cond-true (p x) (x ∷ filter p xs) (filter p xs) e) ∙ sum_by-cons g x (filter p xs)) (sum_by-cons g x xs) (sum_by-filter_le g p xs)
-      | inr e ↦ gone (ap (sum_by g) (cond-false (p x) (x ∷ filter p xs) (filter p xs) e)) (sum_by-cons g x xs) (sum_by-filter_le g p xs)
+      | inl e ↦ kept (g x) (ap (sum_by g) (cond-true (p x) (x ∷ filter p xs) (filter p xs) e) ∙ sum_by-cons g x (filter p xs)) (sum_by-cons g x xs) (sum_by-filter_le g p xs)
+      | inr e ↦ gone (g x) (ap (sum_by g) (cond-false (p x) (x ∷ filter p xs) (filter p xs) e)) (sum_by-cons g x xs) (sum_by-filter_le g p xs)
     ]
   where
-    kept : {a b c d n : ℕ} → a ≡ n + b → c ≡ n + d → b ≤ d → a ≤ c
-    kept {a} {b} {c} {d} {n} p q l = omega arith
+    kept : (n : ℕ) {a b c d : ℕ} → a ≡ n + b → c ≡ n + d → b ≤ d → a ≤ c
+    kept n {a} {b} {c} {d} p q l = omega arith
 
-    gone : {a b c d n : ℕ} → a ≡ b → c ≡ n + d → b ≤ d → a ≤ c
-    gone {a} {b} {c} {d} {n} p q l = omega arith
+    gone : (n : ℕ) {a b c d : ℕ} → a ≡ b → c ≡ n + d → b ≤ d → a ≤ c
+    gone n {a} {b} {c} {d} p q l = omega arith
 
 blocks-put : (event : Event) (events : List Event) → place_fault events event ≡ None → ((block : ℕ) → block_size block events ≤ 20000) → (block : ℕ) → block_size block (put event events) ≤ 20000
 blocks-put event events h blocks block =
