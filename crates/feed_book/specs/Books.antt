@@ -35,13 +35,6 @@ book_after services past = map (kept_after past) services
 abbrev pub Stands : List MuxService → List Edit → List Kept → Type 0
 Stands services past book = book ≡ book_after services past
 
--- the replies to edits one after the other, each with the feed it comes from, after these accepted edits
-abbrev pub replies_to : List MuxService → List Edit → List (ℕ × Edit) → List Reply
-replies_to services past [] = []
-replies_to services past (e ∷ edits) =
-    let reply = reply_to services past e.0 e.1 in
-    reply ∷ replies_to services (if is_done reply then past ++ e.1 ∷ [] else past) edits
-
 -- what a book gives at a moment
 abbrev pub guide_of : List Kept → Moment → Guide
 guide_of book moment = record { moment = moment; services = map (λ (kept : Kept). kept.guide) book }
