@@ -23,3 +23,6 @@ pub use book::Book;
 pub use feed_edits::{DayItems, DayText, Edit, Item, Length, RawRating, Stamp};
 pub use laws::standing_are_last_words;
 pub use reply::{DayFault, Field, Reply};
+
+#[cfg(test)]
+mod tests;
