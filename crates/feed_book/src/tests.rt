@@ -87,19 +87,36 @@ fn ask(book: &mut Book, feed: u8, edit: &Edit) -> Result<Reply, Fail> {
     Ok(book.edit(feed, edit)?)
 }
 
-fn item(
-    alloc: Global,
-    id: u16,
-    start: &[u8; 20],
-    length: &[u8; 8],
-    name: Txt,
-) -> Result<Item, Fail> {
+// A moment of October 1993.
+fn stamp(time: &str) -> Result<Stamp, Fail> {
+    let mut bytes = *b"1993-10-ddThh:mm:ssZ";
+    if time.len() != 11 {
+        return Err("no 11 bytes".into());
+    }
+    bytes[8..19].copy_from_slice(time.as_bytes());
+    Ok(Stamp(bytes))
+}
+
+fn length(time: &str) -> Result<Length, Fail> {
+    let mut bytes = [0; 8];
+    if time.len() != bytes.len() {
+        return Err("no 8 bytes".into());
+    }
+    bytes.copy_from_slice(time.as_bytes());
+    Ok(Length(bytes))
+}
+
+fn range(field: Field) -> Reply {
+    Reply::Range(field)
+}
+
+fn news(alloc: Global, id: u16, from: &str, lasts: &str) -> Result<Item, Fail> {
     Ok(Item {
         id,
-        start: Stamp(*start),
-        length: Length(*length),
+        start: stamp(from)?,
+        length: length(lasts)?,
         language: text(alloc, "eng")?,
-        name,
+        name: text(alloc, "News")?,
         short: text(alloc, "")?,
         extended: text(alloc, "")?,
         rating: None,
@@ -107,105 +124,118 @@ fn item(
     })
 }
 
-fn news(alloc: Global, id: u16, start: &[u8; 20], length: &[u8; 8]) -> Result<Item, Fail> {
-    let name = text(alloc, "News")?;
-    item(alloc, id, start, length, name)
-}
+// ---- one case of a table each
 
-fn put(
-    alloc: Global,
+fn assert_reply(
+    rt: &impl Abort,
     book: &mut Book,
     feed: u8,
-    id: u16,
-    start: &[u8; 20],
-    length: &[u8; 8],
-) -> Result<Reply, Fail> {
-    ask(book, feed, &Edit::Put(101, news(alloc, id, start, length)?))
+    edit: &Edit,
+    want: Reply,
+) -> Result<(), Fail> {
+    let reply = ask(book, feed, edit)?;
+    assert_eq!(rt; reply, want);
+    Ok(())
 }
 
-fn day(book: &mut Book, items: Vec<Item>) -> Result<Reply, Fail> {
-    ask(
-        book,
-        1,
-        &Edit::Day(101, DayText(*b"1993-10-13"), DayItems::of(items)),
-    )
+fn assert_put(
+    rt: &impl Abort,
+    alloc: Global,
+    book: &mut Book,
+    case: (u8, u16, &str, &str, Reply),
+) -> Result<(), Fail> {
+    let (feed, id, from, lasts, want) = case;
+    let edit = Edit::Put(101, news(alloc, id, from, lasts)?);
+    assert_reply(rt, book, feed, &edit, want)
 }
 
-// The id, start (from the day's midnight on) and length of each event of service 101.
+fn assert_day(
+    rt: &impl Abort,
+    alloc: Global,
+    book: &mut Book,
+    items: &[(u16, &str, &str)],
+    want: Reply,
+) -> Result<(), Fail> {
+    let mut made = Vec::new(alloc);
+    for (id, from, lasts) in items {
+        made.push(news(alloc, *id, *from, *lasts)?)?;
+    }
+    let edit = Edit::Day(101, DayText(*b"1993-10-13"), DayItems::of(made));
+    assert_reply(rt, book, 1, &edit, want)
+}
+
+fn assert_event(rt: &impl Abort, event: &Event, want: &(u16, u64, u32)) {
+    assert_eq!(rt; event.id, want.0);
+    assert_eq!(rt; event.start, Moment(want.1));
+    assert_eq!(rt; event.seconds, want.2);
+}
+
+// The id, start and length of each event of service 101.
 fn assert_events(rt: &impl Abort, book: &Book, want: &[(u16, u64, u32)]) -> Result<(), Fail> {
     let guide = book.guide(AT)?;
     for service in guide.services.as_slice() {
         if service.service == 101 {
             assert_eq!(rt; service.events.len(), want.len());
-            for (event, (id, start, seconds)) in service.events.as_slice().iter().zip(want) {
-                assert_eq!(rt; event.id, *id);
-                assert_eq!(rt; event.start, Moment(DAY + *start), "of event {id}");
-                assert_eq!(rt; event.seconds, *seconds, "of event {id}");
+            for (event, want) in service.events.as_slice().iter().zip(want) {
+                assert_event(rt, event, want);
             }
         }
     }
     Ok(())
 }
 
+// ---- events one by one
+
 #[test]
 fn events_that_touch(rt: HostRuntime) -> Result<(), Fail> {
     let alloc = rt.alloc();
     let mut book = open(alloc)?;
-    for (feed, id, start, length, want) in [
-        (1, 1, b"1993-10-13T13:00:00Z", b"00:30:00", Reply::Done),
-        (1, 2, b"1993-10-13T13:30:00Z", b"00:30:00", Reply::Done),
-        (
-            1,
-            3,
-            b"1993-10-13T12:30:00Z",
-            b"00:30:01",
-            Reply::Overlap(1),
-        ),
-        (1, 3, b"1993-10-13T12:30:00Z", b"00:30:00", Reply::Done),
-        (1, 2, b"1993-10-13T13:31:00Z", b"00:29:00", Reply::Done),
-        (
-            1,
-            4,
-            b"1993-10-13T12:00:00Z",
-            b"12:00:00",
-            Reply::Overlap(3),
-        ),
-        (
-            2,
-            9,
-            b"1993-10-13T13:00:00Z",
-            b"00:00:00",
-            Reply::Foreign(101),
-        ),
-        (
-            1,
-            9,
-            b"1993-10-13T13:00:00Z",
-            b"00:00:00",
-            Reply::Range(Field::Duration),
-        ),
+    for case in [
+        (1, 1, "13T13:00:00", "00:30:00", Reply::Done),
+        (1, 2, "13T13:30:00", "00:30:00", Reply::Done),
+        (1, 3, "13T12:30:00", "00:30:01", Reply::Overlap(1)),
+        (1, 3, "13T12:30:00", "00:30:00", Reply::Done),
+        (1, 2, "13T13:31:00", "00:29:00", Reply::Done),
+        (1, 4, "13T12:00:00", "12:00:00", Reply::Overlap(3)),
+        (2, 9, "13T13:00:00", "00:00:00", Reply::Foreign(101)),
+        (1, 9, "13T13:00:00", "00:00:00", range(Field::Duration)),
     ] {
-        assert_eq!(rt;
-            put(alloc, &mut book, feed, id, start, length)?,
-            want,
-            "of event {id}"
-        );
+        assert_put(&rt, alloc, &mut book, case)?;
     }
     assert_events(
         &rt,
         &book,
-        &[(3, 45_000, 1_800), (1, 46_800, 1_800), (2, 48_660, 1_740)],
-    )?;
-    assert_eq!(rt;
-        ask(&mut book, 2, &Edit::Withdraw(101, 2))?,
-        Reply::Foreign(101)
-    );
-    assert_eq!(rt; ask(&mut book, 1, &Edit::Withdraw(101, 2))?, Reply::Done);
-    assert_eq!(rt; ask(&mut book, 1, &Edit::Withdraw(101, 2))?, Reply::Done);
-    assert_events(&rt, &book, &[(3, 45_000, 1_800), (1, 46_800, 1_800)])?;
-    assert_eq!(rt; ask(&mut book, 1, &Edit::Clear(101))?, Reply::Done);
+        &[
+            (3, DAY + 45_000, 1_800),
+            (1, DAY + 46_800, 1_800),
+            (2, DAY + 48_660, 1_740),
+        ],
+    )
+}
+
+#[test]
+fn events_taken_away(rt: HostRuntime) -> Result<(), Fail> {
+    let alloc = rt.alloc();
+    let mut book = open(alloc)?;
+    for case in [
+        (1, 2, "13T13:30:00", "00:30:00", Reply::Done),
+        (1, 3, "13T12:30:00", "00:30:00", Reply::Done),
+    ] {
+        assert_put(&rt, alloc, &mut book, case)?;
+    }
+    for (feed, id, want) in [
+        (2, 2, Reply::Foreign(101)),
+        (1, 2, Reply::Done),
+        (1, 2, Reply::Done),
+    ] {
+        assert_reply(&rt, &mut book, feed, &Edit::Withdraw(101, id), want)?;
+    }
+    assert_events(&rt, &book, &[(3, DAY + 45_000, 1_800)])?;
+    assert_reply(&rt, &mut book, 1, &Edit::Clear(101), Reply::Done)?;
     assert_events(&rt, &book, &[])
 }
+
+// ---- the rules in their order
 
 // A genre of these levels, so many times.
 fn genres(alloc: Global, count: usize, level1: u8, level2: u8) -> Result<Genres, Fail> {
@@ -220,214 +250,137 @@ fn genres(alloc: Global, count: usize, level1: u8, level2: u8) -> Result<Genres,
     Ok(Genres::of(genres))
 }
 
+// An item with texts of so many letters.
 fn with_texts(
     alloc: Global,
-    language: &str,
+    id: u16,
     name: usize,
     short: usize,
     extended: usize,
 ) -> Result<Item, Fail> {
-    let mut made = news(alloc, 1, b"1993-10-13T12:45:00Z", b"01:45:30")?;
-    made.language = text(alloc, language)?;
-    made.name = letters(alloc, 0, name)?;
-    made.short = letters(alloc, 0, short)?;
-    made.extended = letters(alloc, 0, extended)?;
-    Ok(made)
+    Ok(Item {
+        id,
+        start: stamp("13T12:45:00")?,
+        length: length("01:45:30")?,
+        language: text(alloc, "deu")?,
+        name: letters(alloc, 0, name)?,
+        short: letters(alloc, 0, short)?,
+        extended: letters(alloc, 0, extended)?,
+        rating: None,
+        genres: genres(alloc, 1, 2, 14)?,
+    })
 }
 
-// Each row but the last is refused by the first rule that it breaks, and breaks all later ones.
+fn rated(alloc: Global, country: &str, value: u8) -> Result<Option<RawRating>, Fail> {
+    let country = text(alloc, country)?;
+    Ok(Some(RawRating { country, value }))
+}
+
+// An item at the ends of the limits of the first n rules, which breaks all others.
+fn broken_from(alloc: Global, n: usize) -> Result<Item, Fail> {
+    let start = if n < 1 {
+        *b"2038-04-23T00:00:00Z"
+    } else {
+        *b"2038-04-22T23:59:59Z"
+    };
+    let lasts = if n < 2 {
+        "24:00:00"
+    } else if n < 3 {
+        "00:00:02"
+    } else {
+        "00:00:01"
+    };
+    let country = if n < 8 { "gbr" } else { "GBR" };
+    Ok(Item {
+        id: 1,
+        start: Stamp(start),
+        length: length(lasts)?,
+        language: text(alloc, if n < 4 { "EN" } else { "eng" })?,
+        name: letters(alloc, 0, if n < 5 { 101 } else { 100 })?,
+        short: letters(alloc, 0, if n < 6 { 151 } else { 150 })?,
+        extended: letters(alloc, 0, if n < 7 { 1_001 } else { 1_000 })?,
+        rating: rated(alloc, country, if n < 9 { 16 } else { 15 })?,
+        genres: genres(alloc, if n < 10 { 9 } else { 8 }, 15, 15)?,
+    })
+}
+
+fn assert_rule(
+    rt: &impl Abort,
+    alloc: Global,
+    book: &mut Book,
+    n: usize,
+    want: Reply,
+) -> Result<(), Fail> {
+    let made = broken_from(alloc, n)?;
+    assert_reply(rt, book, 1, &Edit::Put(101, made), want)
+}
+
 #[test]
 fn rules_in_their_order(rt: HostRuntime) -> Result<(), Fail> {
     let alloc = rt.alloc();
     let mut book = open(alloc)?;
-    for (start, length, language, name, short, extended, country, value, count, want) in [
-        (
-            b"1993-02-29T00:00:00Z",
-            b"00:00:00",
-            "EN",
-            0,
-            151,
-            1_001,
-            "gb",
-            0,
-            9,
-            Reply::Range(Field::Start),
-        ),
-        (
-            b"2038-04-22T23:59:59Z",
-            b"24:00:00",
-            "EN",
-            0,
-            151,
-            1_001,
-            "gb",
-            0,
-            9,
-            Reply::Range(Field::Duration),
-        ),
-        (
-            b"2038-04-22T23:59:59Z",
-            b"00:00:02",
-            "EN",
-            0,
-            151,
-            1_001,
-            "gb",
-            0,
-            9,
-            Reply::Range(Field::Window),
-        ),
-        (
-            b"2038-04-22T23:59:59Z",
-            b"00:00:01",
-            "EN",
-            0,
-            151,
-            1_001,
-            "gb",
-            0,
-            9,
-            Reply::Range(Field::Language),
-        ),
-        (
-            b"2038-04-22T23:59:59Z",
-            b"00:00:01",
-            "eng",
-            101,
-            151,
-            1_001,
-            "gb",
-            0,
-            9,
-            Reply::Range(Field::Name),
-        ),
-        (
-            b"2038-04-22T23:59:59Z",
-            b"00:00:01",
-            "eng",
-            100,
-            151,
-            1_001,
-            "gb",
-            0,
-            9,
-            Reply::Range(Field::Short),
-        ),
-        (
-            b"2038-04-22T23:59:59Z",
-            b"00:00:01",
-            "eng",
-            100,
-            150,
-            1_001,
-            "gb",
-            0,
-            9,
-            Reply::Range(Field::Extended),
-        ),
-        (
-            b"2038-04-22T23:59:59Z",
-            b"00:00:01",
-            "eng",
-            100,
-            150,
-            1_000,
-            "gbr",
-            0,
-            9,
-            Reply::Range(Field::Country),
-        ),
-        (
-            b"2038-04-22T23:59:59Z",
-            b"00:00:01",
-            "eng",
-            100,
-            150,
-            1_000,
-            "GBR",
-            16,
-            9,
-            Reply::Range(Field::Rating),
-        ),
-        (
-            b"2038-04-22T23:59:59Z",
-            b"00:00:01",
-            "eng",
-            100,
-            150,
-            1_000,
-            "GBR",
-            15,
-            9,
-            Reply::Range(Field::Genre),
-        ),
-        (
-            b"2038-04-22T23:59:59Z",
-            b"00:00:01",
-            "eng",
-            100,
-            150,
-            1_000,
-            "GBR",
-            1,
-            8,
-            Reply::Done,
-        ),
+    for (n, field) in [
+        (0, Field::Start),
+        (1, Field::Duration),
+        (2, Field::Window),
+        (3, Field::Language),
+        (4, Field::Name),
+        (5, Field::Short),
+        (6, Field::Extended),
+        (7, Field::Country),
+        (8, Field::Rating),
+        (9, Field::Genre),
     ] {
-        let mut made = with_texts(alloc, language, name, short, extended)?;
-        made.start = Stamp(*start);
-        made.length = Length(*length);
-        made.rating = Some(RawRating {
-            country: text(alloc, country)?,
-            value,
-        });
-        made.genres = genres(alloc, count, 15, 15)?;
-        assert_eq!(rt; ask(&mut book, 1, &Edit::Put(101, made))?, want);
+        assert_rule(&rt, alloc, &mut book, n, Reply::Range(field))?;
     }
-    Ok(())
+    assert_rule(&rt, alloc, &mut book, 10, Reply::Done)
+}
+
+fn assert_name(
+    rt: &impl Abort,
+    alloc: Global,
+    book: &mut Book,
+    case: (usize, usize, u8, u8, Reply),
+) -> Result<(), Fail> {
+    let (accents, plain, level1, level2, want) = case;
+    let mut made = with_texts(alloc, 1, 0, 0, 0)?;
+    made.name = letters(alloc, accents, plain)?;
+    made.genres = genres(alloc, 1, level1, level2)?;
+    assert_reply(rt, book, 1, &Edit::Put(101, made), want)
 }
 
 #[test]
 fn coded_names(rt: HostRuntime) -> Result<(), Fail> {
     let alloc = rt.alloc();
     let mut book = open(alloc)?;
-    for (accents, plain, level1, level2, want) in [
+    for case in [
         (49, 1, 15, 15, Reply::Done),
-        (50, 0, 15, 15, Reply::Range(Field::Name)),
+        (50, 0, 15, 15, range(Field::Name)),
         (0, 1, 0, 0, Reply::Done),
-        (0, 0, 0, 0, Reply::Range(Field::Name)),
-        (0, 4, 16, 0, Reply::Range(Field::Genre)),
-        (0, 4, 0, 16, Reply::Range(Field::Genre)),
+        (0, 0, 0, 0, range(Field::Name)),
+        (0, 4, 16, 0, range(Field::Genre)),
+        (0, 4, 0, 16, range(Field::Genre)),
     ] {
-        let name = letters(alloc, accents, plain)?;
-        let mut made = item(alloc, 1, b"1993-10-13T12:45:00Z", b"23:59:59", name)?;
-        made.genres = genres(alloc, 1, level1, level2)?;
-        assert_eq!(rt;
-            ask(&mut book, 1, &Edit::Put(101, made))?,
-            want,
-            "{accents} and {plain} letters"
-        );
+        assert_name(&rt, alloc, &mut book, case)?;
     }
     Ok(())
 }
 
-// An event of the minutes from a number on, with texts of so many letters.
-fn put_long(
+// ---- full blocks and services
+
+// An event of two minutes from a minute of the day on, with texts of so many letters.
+fn assert_long(
+    rt: &impl Abort,
     alloc: Global,
     book: &mut Book,
-    id: u16,
-    minute: u64,
-    length: &[u8; 8],
-    name: usize,
-    short: usize,
-) -> Result<Reply, Fail> {
-    let mut made = with_texts(alloc, "eng", name, short, 0)?;
-    made.id = id;
-    if minute < 1_000_000 {
-        made.start = Stamp(write_moment(Moment(DAY + 60 * minute)));
-    }
-    made.length = Length(*length);
-    ask(book, 1, &Edit::Put(101, made))
+    case: (u16, u16, usize, usize, Reply),
+) -> Result<(), Fail> {
+    let (id, minute, name, short, want) = case;
+    let mut made = with_texts(alloc, id, name, short, 0)?;
+    made.start = Stamp(write_moment(Moment(DAY + 60 * u64::from(minute))));
+    made.length = length("00:02:00")?;
+    made.genres = Genres::new(alloc);
+    assert_reply(rt, book, 1, &Edit::Put(101, made), want)
 }
 
 // 74 entries of 269 bytes, and one that fills the block of three hours or has a byte too many.
@@ -436,49 +389,42 @@ fn full_block(rt: HostRuntime) -> Result<(), Fail> {
     let alloc = rt.alloc();
     let mut book = open(alloc)?;
     for n in 0_u16..74 {
-        let reply = put_long(alloc, &mut book, n, 2 * u64::from(n), b"00:02:00", 100, 150)?;
-        assert_eq!(rt; reply, Reply::Done, "of event {n}");
+        assert_long(&rt, alloc, &mut book, (n, 2 * n, 100, 150, Reply::Done))?;
     }
-    for (id, minute, name, short, want) in [
-        (75, 148, 76, 0, Reply::Range(Field::Segment(20_001))),
+    for case in [
+        (75, 148, 76, 0, range(Field::Segment(20_001))),
         (75, 148, 75, 0, Reply::Done),
-        (76, 150, 1, 0, Reply::Range(Field::Segment(20_020))),
+        (76, 150, 1, 0, range(Field::Segment(20_020))),
         (76, 180, 100, 150, Reply::Done),
         (3, 6, 100, 150, Reply::Done),
         (3, 6, 100, 148, Reply::Done),
         (75, 148, 77, 0, Reply::Done),
     ] {
-        let reply = put_long(alloc, &mut book, id, minute, b"00:02:00", name, short)?;
-        assert_eq!(rt; reply, want, "of event {id}");
+        assert_long(&rt, alloc, &mut book, case)?;
     }
     Ok(())
 }
 
-// 2,000 events stand, and an event of the last id goes in place of itself.
+// 2,000 events stand, and an event of a standing id goes in place of itself.
 #[test]
 fn full_service(rt: HostRuntime) -> Result<(), Fail> {
     let alloc = rt.alloc();
     let mut book = open(alloc)?;
     for n in 0_u16..2_000 {
-        let reply = put_long(
+        assert_long(
+            &rt,
             alloc,
             &mut book,
-            n,
-            2 * u64::from(1_999 - n),
-            b"00:02:00",
-            1,
-            0,
+            (n, 2 * (1_999 - n), 1, 0, Reply::Done),
         )?;
-        assert_eq!(rt; reply, Reply::Done, "of event {n}");
     }
-    for (id, minute, want) in [
-        (2_000, 4_000, Reply::Range(Field::Count(2_001))),
-        (2_000, 3_999, Reply::Overlap(0)),
-        (1_999, 4_000, Reply::Done),
-        (0, 0, Reply::Done),
+    for case in [
+        (2_000, 4_000, 1, 0, range(Field::Count(2_001))),
+        (2_000, 3_999, 1, 0, Reply::Overlap(0)),
+        (1_999, 4_000, 1, 0, Reply::Done),
+        (0, 0, 1, 0, Reply::Done),
     ] {
-        let reply = put_long(alloc, &mut book, id, minute, b"00:02:00", 1, 0)?;
-        assert_eq!(rt; reply, want, "of event {id}");
+        assert_long(&rt, alloc, &mut book, case)?;
     }
     let guide = book.guide(AT)?;
     for service in guide.services.as_slice() {
@@ -488,158 +434,176 @@ fn full_service(rt: HostRuntime) -> Result<(), Fail> {
     Ok(())
 }
 
+// ---- days
+
+#[test]
+fn refused_days(rt: HostRuntime) -> Result<(), Fail> {
+    let alloc = rt.alloc();
+    let mut book = open(alloc)?;
+    assert_put(
+        &rt,
+        alloc,
+        &mut book,
+        (1, 1, "13T13:00:00", "00:30:00", Reply::Done),
+    )?;
+    let next_day = [
+        (5, "13T13:00:00", "00:30:00"),
+        (6, "14T00:00:00", "00:30:00"),
+    ];
+    assert_day(
+        &rt,
+        alloc,
+        &mut book,
+        &next_day,
+        Reply::Member(1, DayFault::Range(Field::Window)),
+    )?;
+    let overlap = [
+        (5, "13T13:00:00", "00:30:00"),
+        (6, "13T13:10:00", "00:30:00"),
+    ];
+    assert_day(
+        &rt,
+        alloc,
+        &mut book,
+        &overlap,
+        Reply::Member(1, DayFault::Overlap(5)),
+    )?;
+    assert_events(&rt, &book, &[(1, DAY + 46_800, 1_800)])?;
+    assert_day(&rt, alloc, &mut book, &[], Reply::Done)?;
+    assert_events(&rt, &book, &[])
+}
+
+// An id of another day moves, the later of two items of one id stands, and the day before stays.
 #[test]
 fn days(rt: HostRuntime) -> Result<(), Fail> {
     let alloc = rt.alloc();
     let mut book = open(alloc)?;
-    assert_eq!(rt;
-        put(alloc, &mut book, 1, 1, b"1993-10-13T13:00:00Z", b"00:30:00")?,
-        Reply::Done
-    );
-    assert_eq!(rt;
-        put(alloc, &mut book, 1, 7, b"1993-10-14T08:00:00Z", b"01:00:00")?,
-        Reply::Done
-    );
-    let beyond = vec![in alloc;
-        news(alloc, 5, b"1993-10-13T13:00:00Z", b"00:30:00")?,
-        news(alloc, 6, b"1993-10-14T00:00:00Z", b"00:30:00")?,
-    ]?;
-    assert_eq!(rt;
-        day(&mut book, beyond)?,
-        Reply::Member(1, DayFault::Range(Field::Window))
-    );
-    let overlap = vec![in alloc;
-        news(alloc, 5, b"1993-10-13T13:00:00Z", b"00:30:00")?,
-        news(alloc, 6, b"1993-10-13T13:10:00Z", b"00:30:00")?,
-    ]?;
-    assert_eq!(rt;
-        day(&mut book, overlap)?,
-        Reply::Member(1, DayFault::Overlap(5))
-    );
-    assert_events(&rt, &book, &[(1, 46_800, 1_800), (7, 115_200, 3_600)])?;
-    let moved = vec![in alloc;
-        news(alloc, 5, b"1993-10-13T13:00:00Z", b"00:30:00")?,
-        news(alloc, 7, b"1993-10-13T09:00:00Z", b"01:00:00")?,
-        news(alloc, 5, b"1993-10-13T10:00:00Z", b"00:10:00")?,
-    ]?;
-    assert_eq!(rt; day(&mut book, moved)?, Reply::Done);
-    assert_events(&rt, &book, &[(7, 32_400, 3_600), (5, 36_000, 600)])?;
-    assert_eq!(rt;
-        put(alloc, &mut book, 1, 8, b"1993-10-12T23:30:00Z", b"01:00:00")?,
-        Reply::Done
-    );
-    assert_eq!(rt; day(&mut book, Vec::new(alloc))?, Reply::Done);
-    assert_eq!(rt;
-        put(alloc, &mut book, 1, 9, b"1993-10-13T00:29:59Z", b"00:00:01")?,
-        Reply::Overlap(8)
-    );
-    Ok(())
+    for case in [
+        (1, 1, "13T13:00:00", "00:30:00", Reply::Done),
+        (1, 7, "14T08:00:00", "01:00:00", Reply::Done),
+        (1, 8, "12T23:30:00", "01:00:00", Reply::Done),
+    ] {
+        assert_put(&rt, alloc, &mut book, case)?;
+    }
+    let moved = [
+        (5, "13T13:00:00", "00:30:00"),
+        (7, "13T09:00:00", "01:00:00"),
+        (5, "13T10:00:00", "00:10:00"),
+    ];
+    assert_day(&rt, alloc, &mut book, &moved, Reply::Done)?;
+    assert_events(
+        &rt,
+        &book,
+        &[
+            (8, DAY - 1_800, 3_600),
+            (7, DAY + 32_400, 3_600),
+            (5, DAY + 36_000, 600),
+        ],
+    )?;
+    let early = [(9, "13T00:29:59", "00:00:01")];
+    assert_day(
+        &rt,
+        alloc,
+        &mut book,
+        &early,
+        Reply::Member(0, DayFault::Overlap(8)),
+    )
 }
 
-// 2,000 items of 43 seconds in one edit, and one event of another day too many.
+// 2,000 items of 43 seconds.
+fn whole_day(alloc: Global) -> Result<DayItems, Fail> {
+    let mut items = Vec::new(alloc);
+    for n in 0_u16..2_000 {
+        let mut made = news(alloc, n, "13T00:00:00", "00:00:43")?;
+        made.start = Stamp(write_moment(Moment(DAY + 43 * u64::from(1_999 - n))));
+        items.push(made)?;
+    }
+    Ok(DayItems::of(items))
+}
+
 #[test]
 fn full_day(rt: HostRuntime) -> Result<(), Fail> {
     let alloc = rt.alloc();
     let mut book = open(alloc)?;
-    let mut items = Vec::new(alloc);
-    for n in 0_u16..2_000 {
-        let mut made = news(alloc, n, b"1993-10-13T00:00:00Z", b"00:00:43")?;
-        made.start = Stamp(write_moment(Moment(DAY + 43 * u64::from(1_999 - n))));
-        items.push(made)?;
+    let edit = Edit::Day(101, DayText(*b"1993-10-13"), whole_day(alloc)?);
+    assert_put(
+        &rt,
+        alloc,
+        &mut book,
+        (1, 2_000, "14T00:00:00", "00:30:00", Reply::Done),
+    )?;
+    assert_reply(
+        &rt,
+        &mut book,
+        1,
+        &edit,
+        Reply::Member(1_999, DayFault::Range(Field::Count(2_001))),
+    )?;
+    assert_events(&rt, &book, &[(2_000, DAY + 86_400, 1_800)])?;
+    assert_reply(&rt, &mut book, 1, &Edit::Clear(101), Reply::Done)?;
+    assert_reply(&rt, &mut book, 1, &edit, Reply::Done)?;
+    for case in [
+        (
+            1,
+            2_000,
+            "13T23:53:20",
+            "00:00:01",
+            range(Field::Count(2_001)),
+        ),
+        (1, 2_000, "13T23:53:19", "00:00:01", Reply::Overlap(0)),
+    ] {
+        assert_put(&rt, alloc, &mut book, case)?;
     }
-    let edit = Edit::Day(101, DayText(*b"1993-10-13"), DayItems::of(items));
-    assert_eq!(rt;
-        put(
-            alloc,
-            &mut book,
-            1,
-            2_000,
-            b"1993-10-14T00:00:00Z",
-            b"00:30:00"
-        )?,
-        Reply::Done
-    );
-    assert_eq!(rt;
-        ask(&mut book, 1, &edit)?,
-        Reply::Member(1_999, DayFault::Range(Field::Count(2_001)))
-    );
-    assert_events(&rt, &book, &[(2_000, 86_400, 1_800)])?;
-    assert_eq!(rt;
-        ask(&mut book, 1, &Edit::Withdraw(101, 2_000))?,
-        Reply::Done
-    );
-    assert_eq!(rt; ask(&mut book, 1, &edit)?, Reply::Done);
-    assert_eq!(rt;
-        put(
-            alloc,
-            &mut book,
-            1,
-            2_000,
-            b"1993-10-13T23:53:20Z",
-            b"00:00:01"
-        )?,
-        Reply::Range(Field::Count(2_001))
-    );
-    assert_eq!(rt;
-        put(
-            alloc,
-            &mut book,
-            1,
-            2_000,
-            b"1993-10-13T23:53:19Z",
-            b"00:00:01"
-        )?,
-        Reply::Overlap(0)
-    );
     Ok(())
 }
 
-fn assert_event(rt: &impl Abort, event: &Event) {
-    assert_eq!(rt; event.id, 65_535);
-    assert_eq!(rt; event.start, AT);
-    assert_eq!(rt; event.seconds, 6_330);
+// ---- the event of an item, and names
+
+fn assert_all_of(rt: &impl Abort, event: &Event) {
+    let rating = Some(Rating {
+        country: *b"DEU",
+        value: 3,
+    });
+    let genre = [Genre {
+        level1: 2,
+        level2: 14,
+        user: 255,
+    }];
     assert_eq!(rt; event.language, *b"deu");
-    assert_eq!(rt; event.name.as_str().as_bytes(), "aaa".as_bytes());
-    assert_eq!(rt; event.short.as_str().as_bytes(), "aa".as_bytes());
-    assert_eq!(rt; event.extended.as_str().as_bytes(), "a".as_bytes());
-    assert_eq!(rt;
-        event.rating,
-        Some(Rating {
-            country: *b"DEU",
-            value: 3
-        })
-    );
-    assert_eq!(rt;
-        event.genres.as_slice(),
-        [Genre {
-            level1: 2,
-            level2: 14,
-            user: 255
-        }]
-        .as_slice()
-    );
+    assert_eq!(rt; event.name.as_str().as_bytes(), b"aaa".as_slice());
+    assert_eq!(rt; event.short.as_str().as_bytes(), b"aa".as_slice());
+    assert_eq!(rt; event.extended.as_str().as_bytes(), b"a".as_slice());
+    assert_eq!(rt; event.rating, rating);
+    assert_eq!(rt; event.genres.as_slice(), genre.as_slice());
 }
 
 #[test]
 fn event_of_an_item(rt: HostRuntime) -> Result<(), Fail> {
     let alloc = rt.alloc();
     let mut book = open(alloc)?;
-    let mut made = with_texts(alloc, "deu", 3, 2, 1)?;
-    made.id = 65_535;
-    made.rating = Some(RawRating {
-        country: text(alloc, "DEU")?,
-        value: 3,
-    });
-    made.genres = genres(alloc, 1, 2, 14)?;
-    assert_eq!(rt; ask(&mut book, 1, &Edit::Put(101, made))?, Reply::Done);
+    let mut made = with_texts(alloc, 65_535, 3, 2, 1)?;
+    made.rating = rated(alloc, "DEU", 3)?;
+    assert_reply(&rt, &mut book, 1, &Edit::Put(101, made), Reply::Done)?;
     let guide = book.guide(AT)?;
     assert_eq!(rt; guide.moment, AT);
     for service in guide.services.as_slice() {
         for event in service.events.as_slice() {
-            assert_event(&rt, event);
+            assert_all_of(&rt, event);
         }
     }
-    assert_events(&rt, &book, &[(65_535, 45_900, 6_330)])
+    assert_events(&rt, &book, &[(65_535, DAY + 45_900, 6_330)])
+}
+
+fn assert_name_edit(
+    rt: &impl Abort,
+    alloc: Global,
+    book: &mut Book,
+    case: (u8, u16, usize, usize, usize, Reply),
+) -> Result<(), Fail> {
+    let (feed, service, provider, accents, plain, want) = case;
+    let provider = letters(alloc, 0, provider)?;
+    let name = letters(alloc, accents, plain)?;
+    assert_reply(rt, book, feed, &Edit::Name(service, provider, name), want)
 }
 
 fn assert_names(rt: &impl Abort, book: &Book, want: [(u16, &str, &str); 2]) -> Result<(), Fail> {
@@ -657,27 +621,24 @@ fn assert_names(rt: &impl Abort, book: &Book, want: [(u16, &str, &str); 2]) -> R
 fn names(rt: HostRuntime) -> Result<(), Fail> {
     let alloc = rt.alloc();
     let mut book = open(alloc)?;
-    for (feed, service, provider, accents, plain, want) in [
+    for case in [
         (2, 101, 101, 0, 0, Reply::Foreign(101)),
         (1, 103, 0, 0, 4, Reply::Foreign(103)),
-        (1, 101, 101, 0, 0, Reply::Range(Field::Provider)),
-        (1, 101, 100, 0, 0, Reply::Range(Field::ServiceName)),
-        (1, 101, 100, 0, 101, Reply::Range(Field::ServiceName)),
-        (1, 101, 0, 50, 0, Reply::Range(Field::ServiceName)),
+        (1, 101, 101, 0, 0, range(Field::Provider)),
+        (1, 101, 100, 0, 0, range(Field::ServiceName)),
+        (1, 101, 100, 0, 101, range(Field::ServiceName)),
+        (1, 101, 0, 50, 0, range(Field::ServiceName)),
     ] {
-        let edit = Edit::Name(
-            service,
-            letters(alloc, 0, provider)?,
-            letters(alloc, accents, plain)?,
-        );
-        assert_eq!(rt; ask(&mut book, feed, &edit)?, want);
+        assert_name_edit(&rt, alloc, &mut book, case)?;
     }
     assert_names(&rt, &book, [(101, "Acme", "One"), (102, "Acme", "Two")])?;
-    let edit = Edit::Name(101, letters(alloc, 0, 100)?, letters(alloc, 49, 1)?);
-    assert_eq!(rt; ask(&mut book, 1, &edit)?, Reply::Done);
-    let edit = Edit::Name(102, text(alloc, "")?, text(alloc, "News")?);
-    assert_eq!(rt; ask(&mut book, 2, &edit)?, Reply::Done);
-    let edit = Edit::Name(101, text(alloc, "Beta")?, text(alloc, "!")?);
-    assert_eq!(rt; ask(&mut book, 1, &edit)?, Reply::Done);
-    assert_names(&rt, &book, [(101, "Beta", "!"), (102, "", "News")])
+    for case in [
+        (1, 101, 100, 49, 1, Reply::Done),
+        (2, 102, 0, 0, 100, Reply::Done),
+        (1, 101, 3, 0, 2, Reply::Done),
+        (2, 102, 0, 0, 1, Reply::Done),
+    ] {
+        assert_name_edit(&rt, alloc, &mut book, case)?;
+    }
+    assert_names(&rt, &book, [(101, "aaa", "aa"), (102, "", "a")])
 }
