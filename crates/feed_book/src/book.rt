@@ -63,7 +63,7 @@ fn edit_in(services: &mut Vec<ServiceBook>, feed: u8, cmd: &Edit) -> Result<Repl
 }
 
 /// The events and names that stand for each service, in ascending order of service.
-#[derive(Drop)]
+#[derive(Debug, Drop)]
 pub struct Book {
     services: Vec<ServiceBook>,
 }

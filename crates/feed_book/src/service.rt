@@ -23,7 +23,7 @@ use std::alloc::{AllocError, Global};
 use std::marker::Model;
 
 /// A service's feed, names and events, which contracts see without the index.
-#[derive(Drop)]
+#[derive(Debug, Drop)]
 pub(crate) struct ServiceBook {
     feed: u8,
     guide: ServiceGuide,
