@@ -1,6 +1,6 @@
 -- What a desk keeps, with one more entry.
 use Rattle.std.proofs.Common.{◌≡◌, ℕ, ◌+◌, ◌≤◌, length, Bool, true, false, cond, List, [], ◌∷◌, ◌++◌, map, refl, sym, ap, ◌∙◌, subst, arith, append-nil, inl, inr, ◌⊎◌}
-use Rattle.std.specs.Prelude.{◌==◌, filter_map}
+use Rattle.std.specs.Prelude.{◌==◌, nat_lt, None, filter_map}
 use Rattle.std.specs.List.{AllByRecursion}
 use Rattle.std.proofs.lemmas.Bool.Decides.{nat_tests}
 use Rattle.si_text.specs.Coding.{coded_size}
@@ -18,15 +18,16 @@ use Rattle.feed_book.specs.declared.reply.Reply.TheVariants.{Done, Foreign, Rang
 use Rattle.feed_book.specs.Standing.{Names, last_or, names_in, is_done}
 use Rattle.feed_book.specs.Replies.{owns, fits, reply_over, reply_to, service_of}
 use Rattle.feed_book.specs.Books.{Stands, book_after, guide_of}
-use Rattle.desk_core.specs.declared.step.Step.TheVariants.{Edit as edit, Publish, Swap}
-use Rattle.desk_core.specs.declared.step.Outcome.TheVariants.{Edited, Published, Swapped}
+use Rattle.desk_core.specs.declared.step.Step.TheVariants.{Edit as edit, Tick, Publish, Swap}
+use Rattle.desk_core.specs.declared.step.Outcome.TheVariants.{Edited, Ticked, Late, Published, Swapped}
+use Rattle.desk_core.specs.declared.step.Outcome.{Outcome}
 use Rattle.desk_core.specs.declared.step.Entry.{Entry}
 use Rattle.desk_core.specs.declared.step.Airing.{Airing}
 use Rattle.desk_core.specs.declared.held.Held.{Held}
-use Rattle.desk_core.specs.Journal.{is_publish, publishes, moment_of}
-use Rattle.desk_core.specs.Publications.{accepted, publication, airing_of, last_aired, guide_after, AreFitNames, HasFitNames}
+use Rattle.desk_core.specs.Journal.{is_publish, publishes, moment_of, later_of, ticked, outcome_of}
+use Rattle.desk_core.specs.Publications.{accepted, publication, airing_of, last_aired, guide_after, aired_by, AreFitNames, HasFitNames}
 use Rattle.desk_core.specs.Holding.{IsHeld, IsFit}
-use Rattle.desk_core.proofs.JournalFacts.{publishes-push, accepted-push, publication-kept, publication-new, aired-swap, aired-other, legal_more}
+use Rattle.desk_core.proofs.JournalFacts.{publishes-push, accepted-push, publication-kept, publication-new, aired-swap, aired-other, moment-tick, moment-other, legal_more}
 
 b_cases : (b : Bool) → (b ≡ true) ⊎ (b ≡ false)
 b_cases true = inl refl
@@ -114,6 +115,7 @@ held_edited mux entries held who feed e reply book h replied stands =
       fit = subst (AllByRecursion IsFit) (sym now) (now_fit (is_done reply) (accepted entries) e h.fit
           (λ done. over_done (owns mux.services feed (service_of e)) (reply_over e) (service_of e) (ap is_done (sym replied) ∙ done)));
       book = subst (λ past. Stands mux.services past book) (sym now) stands;
+      moment = h.moment ∙ sym (moment-other mux entries x refl);
       published = h.published ∙ sym count;
       latest = h.latest ∙ sym (publication-kept mux entries x (publishes entries) (omega arith)) ∙ ap (publication mux (entries ++ x ∷ [])) (sym count);
       latest_names = h.latest_names;
@@ -140,6 +142,7 @@ held_published mux entries held who h =
       legal = legal_more mux [] entries x h.legal (ap (λ n. Published (1 + n)) h.published);
       fit = subst (AllByRecursion IsFit) (sym now) h.fit;
       book = subst (λ past. Stands mux.services past held.book) (sym now) h.book;
+      moment = h.moment ∙ sym (moment-other mux entries x refl);
       published = ap (λ n. 1 + n) h.published ∙ sym count;
       latest = frozen ∙ sym (publication-new mux entries x (1 + publishes entries) refl refl) ∙ ap (publication mux (entries ++ x ∷ [])) (sym count);
       latest_names = subst (λ (g : Guide). AreFitNames g) (sym frozen) (book_names mux.services (accepted entries) h.sound.services h.fit);
@@ -167,6 +170,7 @@ held_swapped mux entries held who h =
       legal = legal_more mux [] entries x h.legal (ap (λ n. Swapped n (moment_of mux entries)) h.published);
       fit = subst (AllByRecursion IsFit) (sym now) h.fit;
       book = subst (λ past. Stands mux.services past held.book) (sym now) h.book;
+      moment = h.moment ∙ sym (moment-other mux entries x refl);
       published = h.published ∙ sym count;
       latest = h.latest ∙ sym kept ∙ ap (publication mux (entries ++ x ∷ [])) (sym count);
       latest_names = h.latest_names;
@@ -177,27 +181,82 @@ held_swapped mux entries held who h =
       on_air_number = subst (λ (a : ℕ × Moment). a.0 ≤ publishes (entries ++ x ∷ [])) (sym aired) (omega (arith, h.published, count));
     }
 
+-- the entry of a tick
+abbrev pub ticked_entry : ℕ → Moment → Outcome → Entry
+ticked_entry who at outcome = record { who = who; step = Tick at; outcome = outcome }
+
+-- the moment after a tick at this moment, by what it is answered
+now_ticked : (mux : Mux) (entries : List Entry) (who : ℕ) (at : Moment)
+    → moment_of mux (entries ++ ticked_entry who at (ticked (moment_of mux entries) at) ∷ []) ≡ later_of (moment_of mux entries) at
+now_ticked mux entries who at = elim (b_cases (nat_lt at.0 (moment_of mux entries).0)) [
+  | inl late ↦ rw late (moment-other mux entries (ticked_entry who at (Late (moment_of mux entries))) refl)
+  | inr later ↦ rw later (moment-tick mux entries (ticked_entry who at Ticked) at refl ∙ (rw later refl))
+]
+
+not_accepted : (entries : List Entry) (who : ℕ) (at : Moment) (outcome : Outcome) → accepted (entries ++ ticked_entry who at outcome ∷ []) ≡ accepted entries
+not_accepted entries who at outcome = accepted-push entries (ticked_entry who at outcome) ∙ append-nil (accepted entries)
+
+not_aired : (now at : Moment) → aired_by (ticked now at) ≡ None
+not_aired now at = elim (b_cases (nat_lt at.0 now.0)) [
+  | inl late ↦ rw late refl
+  | inr later ↦ rw later refl
+]
+
+-- a tick leaves all but the moment
+pub held_ticked : (mux : Mux) (entries : List Entry) (held : Held) (who : ℕ) (at : Moment) → IsHeld mux entries held
+    → IsHeld mux (entries ++ ticked_entry who at (ticked (moment_of mux entries) at) ∷ []) (record held { moment = later_of held.moment at })
+held_ticked mux entries held who at h =
+    let x = ticked_entry who at (ticked (moment_of mux entries) at) in
+    let count : publishes (entries ++ x ∷ []) ≡ publishes entries = publishes-push entries x ∙ omega arith in
+    let now : accepted (entries ++ x ∷ []) ≡ accepted entries = not_accepted entries who at x.outcome in
+    let aired = aired-other mux entries x (not_aired (moment_of mux entries) at) in
+    record {
+      sound = h.sound;
+      legal = legal_more mux [] entries x h.legal refl;
+      fit = subst (AllByRecursion IsFit) (sym now) h.fit;
+      book = subst (λ past. Stands mux.services past held.book) (sym now) h.book;
+      moment = ap (λ (m : Moment). later_of m at) h.moment ∙ sym (now_ticked mux entries who at);
+      published = h.published ∙ sym count;
+      latest = h.latest ∙ sym (publication-kept mux entries x (publishes entries) (omega arith)) ∙ ap (publication mux (entries ++ x ∷ [])) (sym count);
+      latest_names = h.latest_names;
+      on_air = h.on_air
+          ∙ ap (λ (g : Guide). let a : Airing = record { number = (last_aired mux entries).0; moment = (last_aired mux entries).1; guide = g } in a) (sym (publication-kept mux entries x (last_aired mux entries).0 h.on_air_number))
+          ∙ ap (airing_of mux (entries ++ x ∷ [])) (sym aired);
+      on_air_names = h.on_air_names;
+      on_air_number = subst (λ (a : ℕ × Moment). a.0 ≤ publishes (entries ++ x ∷ [])) (sym aired) (omega (arith, h.on_air_number, count));
+    }
+
 -- the same, by what the calls tell
-pub as_published : (mux : Mux) (entries : List Entry) (old new : Held) (who n : ℕ) (at : Moment) → IsHeld mux entries old → at ≡ moment_of mux entries
-    → n ≡ 1 + old.published → new ≡ record old { published = 1 + old.published; latest = guide_of old.book at }
+pub as_published : (mux : Mux) (entries : List Entry) (old new : Held) (who n : ℕ) → IsHeld mux entries old
+    → n ≡ 1 + old.published → new ≡ record old { published = 1 + old.published; latest = guide_of old.book old.moment }
     → IsHeld mux (entries ++ published_entry who n ∷ []) new
-as_published mux entries old new who n at h now number is =
+as_published mux entries old new who n h number is =
     let same : new ≡ record old { published = 1 + old.published; latest = guide_of old.book (moment_of mux entries) } =
-    is ∙ ap (λ (m : Moment). let x : Held = record old { published = 1 + old.published; latest = guide_of old.book m } in x) now in
+    is ∙ ap (λ (m : Moment). let x : Held = record old { published = 1 + old.published; latest = guide_of old.book m } in x) h.moment in
     subst (λ (k : ℕ). IsHeld mux (entries ++ published_entry who k ∷ []) new) (sym number)
     (subst (λ (x : Held). IsHeld mux (entries ++ published_entry who (1 + old.published) ∷ []) x) (sym same) (held_published mux entries old who h))
 
-pub as_swapped : (mux : Mux) (entries : List Entry) (old new : Held) (who n : ℕ) (at : Moment) → IsHeld mux entries old → at ≡ moment_of mux entries
-    → n ≡ old.published → new ≡ record old { on_air = record { number = old.published; moment = at; guide = old.latest } }
+pub as_swapped : (mux : Mux) (entries : List Entry) (old new : Held) (who n : ℕ) (at : Moment) → IsHeld mux entries old → at ≡ old.moment
+    → n ≡ old.published → new ≡ record old { on_air = record { number = old.published; moment = old.moment; guide = old.latest } }
     → IsHeld mux (entries ++ swapped_entry who n at ∷ []) new
 as_swapped mux entries old new who n at h now number is =
     let P : Moment → Type 0 = λ (m : Moment). IsHeld mux (entries ++ swapped_entry who old.published m ∷ []) (record old { on_air = record { number = old.published; moment = m; guide = old.latest } }) in
+    let stood : IsHeld mux (entries ++ swapped_entry who old.published old.moment ∷ []) new =
+    subst (λ (x : Held). IsHeld mux (entries ++ swapped_entry who old.published old.moment ∷ []) x) (sym is) (subst P (sym h.moment) (held_swapped mux entries old who h)) in
     subst (λ (k : ℕ). IsHeld mux (entries ++ swapped_entry who k at ∷ []) new) (sym number)
-    (subst (λ (x : Held). IsHeld mux (entries ++ swapped_entry who old.published at ∷ []) x) (sym is) (subst P (sym now) (held_swapped mux entries old who h)))
+    (subst (λ (m : Moment). IsHeld mux (entries ++ swapped_entry who old.published m ∷ []) new) (sym now) stood)
 
-pub open_held_is : (mux : Mux) (held : Held) → IsSound mux → Stands mux.services [] held.book → held.published ≡ 0 → held.latest ≡ guide_of held.book mux.start
+pub as_ticked : (mux : Mux) (entries : List Entry) (old new : Held) (who : ℕ) (at : Moment) (outcome : Outcome) → IsHeld mux entries old
+    → outcome ≡ ticked old.moment at → new ≡ record old { moment = later_of old.moment at }
+    → IsHeld mux (entries ++ ticked_entry who at outcome ∷ []) new
+as_ticked mux entries old new who at outcome h answered is =
+    let same : outcome ≡ ticked (moment_of mux entries) at = answered ∙ ap (λ (m : Moment). ticked m at) h.moment in
+    subst (λ (o : Outcome). IsHeld mux (entries ++ ticked_entry who at o ∷ []) new) (sym same)
+    (subst (λ (x : Held). IsHeld mux (entries ++ ticked_entry who at (ticked (moment_of mux entries) at) ∷ []) x) (sym is) (held_ticked mux entries old who at h))
+
+pub open_held_is : (mux : Mux) (held : Held) → IsSound mux → Stands mux.services [] held.book → held.moment ≡ mux.start → held.published ≡ 0 → held.latest ≡ guide_of held.book mux.start
     → held.on_air ≡ record { number = 0; moment = mux.start; guide = held.latest } → IsHeld mux [] held
-open_held_is mux held sound book published latest on_air =
+open_held_is mux held sound book moment published latest on_air =
     let frozen : held.latest ≡ guide_after mux [] = latest ∙ ap (λ (kept : List Kept). guide_of kept mux.start) book in
     let names : AreFitNames held.latest = subst (λ (g : Guide). AreFitNames g) (sym frozen) (book_names mux.services [] sound.services tt) in
     record {
@@ -205,6 +264,7 @@ open_held_is mux held sound book published latest on_air =
       legal = tt;
       fit = tt;
       book = book;
+      moment = moment;
       published = published;
       latest = frozen;
       latest_names = names;

@@ -8,7 +8,7 @@ use Rattle.feed_book.specs.Standing.{last_or}
 use Rattle.feed_book.proofs.BookFacts.{last_or-push}
 use Rattle.si_time.specs.declared.moment.Moment.{Moment}
 use Rattle.desk_core.specs.declared.step.Entry.{Entry}
-use Rattle.desk_core.specs.Journal.{is_publish, publishes, outcome_of, LegalAfter, Command, command_of, entry_after, journal_after}
+use Rattle.desk_core.specs.Journal.{is_publish, publishes, later_of, latest_of_all, ticked_by, moment_of, outcome_of, LegalAfter, Command, command_of, entry_after, journal_after}
 use Rattle.desk_core.specs.Publications.{accepted_by, accepted, before_publish, publication, guide_after, aired_by, last_aired}
 
 b_cases : (b : Bool) → (b ≡ true) ⊎ (b ≡ false)
@@ -75,6 +75,21 @@ pub aired-other : (mux : Mux) (xs : List Entry) (e : Entry) → aired_by e.outco
 aired-other mux xs e h =
     ap (last_or (0, mux.start)) (filter_map-append (λ (entry : Entry). aired_by entry.outcome) xs (e ∷ []))
     ∙ rw h (ap (last_or (0, mux.start)) (append-nil (filter_map (λ (entry : Entry). aired_by entry.outcome) xs)))
+
+-- the moment after one more tick, and after another entry
+latest-push : (first : Moment) (ms : List Moment) (m : Moment) → latest_of_all first (ms ++ m ∷ []) ≡ later_of (latest_of_all first ms) m
+latest-push first [] m = refl
+latest-push first (x ∷ xs) m = latest-push (later_of first x) xs m
+
+pub moment-tick : (mux : Mux) (xs : List Entry) (e : Entry) (at : Moment) → ticked_by e.step e.outcome ≡ Some at → moment_of mux (xs ++ e ∷ []) ≡ later_of (moment_of mux xs) at
+moment-tick mux xs e at h =
+    ap (latest_of_all mux.start) (filter_map-append (λ (entry : Entry). ticked_by entry.step entry.outcome) xs (e ∷ []))
+    ∙ rw h (latest-push mux.start (filter_map (λ (entry : Entry). ticked_by entry.step entry.outcome) xs) at)
+
+pub moment-other : (mux : Mux) (xs : List Entry) (e : Entry) → ticked_by e.step e.outcome ≡ None → moment_of mux (xs ++ e ∷ []) ≡ moment_of mux xs
+moment-other mux xs e h =
+    ap (latest_of_all mux.start) (filter_map-append (λ (entry : Entry). ticked_by entry.step entry.outcome) xs (e ∷ []))
+    ∙ rw h (ap (latest_of_all mux.start) (append-nil (filter_map (λ (entry : Entry). ticked_by entry.step entry.outcome) xs)))
 
 pub legal_more : (mux : Mux) (before entries : List Entry) (entry : Entry) → LegalAfter mux before entries → entry.outcome ≡ outcome_of mux (before ++ entries) entry.step → LegalAfter mux before (entries ++ entry ∷ [])
 legal_more mux before [] entry legal e = (e ∙ ap (λ l. outcome_of mux l entry.step) (append-nil before), tt)

@@ -9,7 +9,7 @@ use Rattle.feed_book.specs.Replies.{reply_over}
 use Rattle.feed_book.specs.Books.{Stands}
 use Rattle.desk_core.specs.declared.step.Entry.{Entry}
 use Rattle.desk_core.specs.declared.held.Held.{Held}
-use Rattle.desk_core.specs.Journal.{Legal, publishes}
+use Rattle.desk_core.specs.Journal.{Legal, publishes, moment_of}
 use Rattle.desk_core.specs.Publications.{accepted, publication, airing_of, last_aired, AreFitNames}
 
 -- an edit that is accepted, wherever its service is
@@ -21,6 +21,7 @@ pub record IsHeld (mux : Mux) (entries : List Entry) (held : Held) : Type 0 wher
   pub legal : Legal mux entries
   pub fit : AllByRecursion IsFit (accepted entries)
   pub book : Stands mux.services (accepted entries) held.book
+  pub moment : held.moment ≡ moment_of mux entries
   pub published : held.published ≡ publishes entries
   pub latest : held.latest ≡ publication mux entries (publishes entries)
   pub latest_names : AreFitNames held.latest

@@ -1,5 +1,5 @@
 -- The first worked example: a name edit, a publish and a swap on a multiplex of one service.
-use Rattle.std.specs.Prelude.{◌≡◌, ℕ, List, [], ◌∷◌, None, refl, codes}
+use Rattle.std.specs.Prelude.{◌≡◌, ℕ, List, [], ◌∷◌, None, refl, codes, map}
 use Rattle.si_time.specs.declared.moment.Moment.{Moment}
 use Rattle.guide_model.specs.declared.guide.Guide.{Guide}
 use Rattle.std.proofs.Common.{lit≤, lit<}
@@ -7,8 +7,9 @@ use Rattle.mux_config.specs.declared.mux.Mux.{Mux}
 use Rattle.mux_config.specs.Sound.{IsSound}
 use Rattle.feed_book.specs.declared.edit.Edit.TheVariants.{Name}
 use Rattle.feed_book.specs.declared.reply.Reply.TheVariants.{Done}
-use Rattle.desk_core.specs.declared.step.Step.TheVariants.{Edit as edit, Publish, Swap}
-use Rattle.desk_core.specs.declared.step.Outcome.TheVariants.{Edited, Published, Swapped}
+use Rattle.desk_core.specs.declared.step.Step.TheVariants.{Edit as edit, Tick, Publish, Swap}
+use Rattle.desk_core.specs.declared.step.Outcome.TheVariants.{Edited, Ticked, Late, Published, Swapped}
+use Rattle.desk_core.specs.declared.step.Outcome.{Outcome}
 use Rattle.desk_core.specs.declared.step.Entry.{Entry}
 use Rattle.desk_core.specs.Journal.{Command, journal_of}
 use Rattle.desk_core.specs.Publications.{publication, last_aired}
@@ -79,3 +80,17 @@ row_first = refl
 
 row_aired : last_aired row_mux row_journal ≡ (1, row_start)
 row_aired = refl
+
+-- ticks: 1993-10-13T12:45:00Z, then a quarter past midnight, a second before it, and the same moment again
+abbrev at_noon : Moment
+at_noon = record { 0 = 4257233100 }
+
+abbrev past_midnight : Moment
+past_midnight = record { 0 = 4257274500 }
+
+abbrev outcomes_of : Mux → List Command → List Outcome
+outcomes_of mux commands = map (λ (entry : Entry). entry.outcome) (journal_of mux commands)
+
+row_ticks : outcomes_of (record row_mux { start = at_noon }) ((0, Tick past_midnight) ∷ (1, Tick (record { 0 = 4257274499 })) ∷ (0, Tick past_midnight) ∷ (0, Publish) ∷ (0, Swap) ∷ [])
+    ≡ Ticked ∷ Late past_midnight ∷ Ticked ∷ Published 1 ∷ Swapped 1 past_midnight ∷ []
+row_ticks = refl

@@ -47,16 +47,17 @@ impl Desk {
         })
     }
 
-    /// Does a step for a caller, and appends one entry with its outcome: an edit is answered by the reply to it, a publish
-    /// freezes what stands and is answered by its number (from 1), and a swap puts the latest publication on air and is answered by its
-    /// number and the desk's moment. All memory is taken first; want of it changes nothing.
+    /// Does a step for a caller, and appends one entry with its outcome: an edit is answered by the reply to it; a tick before
+    /// the desk's moment is late, and any other sets that moment; a publish freezes what stands with the desk's moment and is
+    /// answered by its number (from 1); and a swap puts the latest publication on air and is answered by its number and the
+    /// desk's moment. All memory is taken first; want of it changes nothing.
     pub fn step(&mut self, who: u32, step: Step) -> Result<Outcome, AllocError>
         ensures outcome { IfOk result (λ outcome. outcome ≡ outcome_of self.old.mux self.old.entries step) }
         ensures entry { IfOk result (λ outcome. self.new ≡ and_entry self.old who step outcome) }
         ensures memory { OnErr result (self.new ≡ self.old) }
     {
         self.entries.reserve(1)?;
-        let outcome = perform(&mut self.held, self.mux.start, &step)?;
+        let outcome = perform(&mut self.held, &step)?;
         self.entries.push_reserved(Entry { who, step, outcome });
         Ok(outcome)
     }
@@ -80,7 +81,7 @@ impl Desk {
     {
         Ok(Airing {
             number: self.held.published,
-            moment: self.mux.start,
+            moment: self.held.moment,
             guide: self.held.latest.copy()?,
         })
     }
@@ -97,7 +98,7 @@ impl Desk {
     pub fn now(&self) -> Moment
         ensures { result ≡ moment_of self.now.mux self.now.entries }
     {
-        self.mux.start
+        self.held.moment
     }
 
     /// The multiplex.
