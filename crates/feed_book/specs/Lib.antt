@@ -1,5 +1,11 @@
-pub mod Replies
+pub mod Events
+pub mod Sound
+pub mod Limits
+pub mod Readings
 pub mod Standing
-pub mod Books
+pub mod Replies
+pub mod Kept
+pub mod Slots
+pub mod Days
 pub mod Changes
-pub mod Rows
+pub mod Books

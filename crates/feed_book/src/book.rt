@@ -1,71 +1,125 @@
-// The book.
-ghost use Rattle.std.specs.Prelude.{◌≡◌, ◌<◌, [], ◌∷◌, ◌++◌, List, IfOk, OnErr, vec_len};
-ghost use Rattle.std.specs.Prelude.{position, false, if◌then◌else◌, slice_set, slice_index_or};
-ghost use Rattle.std.specs.List.{list_any};
+// The book: all services.
+ghost use Rattle.std.specs.Prelude.{◌≡◌, ℕ, ◌++◌, ◌∷◌, [], ◌≤◌, List, Option, Some, false, find, length, map, IfOk, OnErr, if◌then◌else◌};
+ghost use Rattle.std.specs.List.{position_or_len, AllByRecursion};
+ghost use Rattle.feed_book.specs.Kept.{Kept};
 ghost use Rattle.mux_config.specs.declared.mux.MuxService.{MuxService as Service};
-ghost use Rattle.mux_config.specs.Sound.{DoAscend};
-ghost use Rattle.feed_book.specs.declared.edit.Edit.{Edit as AnEdit};
-ghost use Rattle.feed_book.specs.declared.book.Kept.{Kept as AKept};
-ghost use Rattle.feed_book.specs.Books.{Stands, guide_of, kept_after};
-ghost use Rattle.feed_book.specs.Changes.{named, is_of, first_changed, reply_in, edited_in};
-ghost use Rattle.feed_book.specs.Replies.{fits, reply_to, names_reply};
+ghost use Rattle.feed_edits.specs.declared.edit.Edit.{Edit as AnEdit};
 ghost use Rattle.feed_book.specs.Standing.{is_done};
+ghost use Rattle.feed_book.specs.Replies.{service_of as service_in};
+ghost use Rattle.feed_book.specs.Changes.{is_owned, reply_in, book_with};
+ghost use Rattle.feed_book.specs.Books.{reply_to, book_after, guide_of, Stands};
+ghost use Rattle.mux_config.specs.Sound.{IsSound};
+ghost use Rattle.feed_book.specs.Limits.{IsServiceWithin, IsGuideWithin};
+ghost use Rattle.feed_book.specs.Replies.{IsDayWithin};
 
-use crate::edit::Edit;
-use crate::reply::{Field, Reply};
-use guide_model::{Events, Guide, ServiceGuide, ServiceGuides};
-use mux_config::{Mux, MuxService};
-use si_base::Copies;
-use si_text::{Txt, coded_len};
+use crate::reply::Reply;
+use crate::service::ServiceBook;
+use feed_edits::Edit;
+use guide_model::{Guide, ServiceGuides};
+use mux_config::Mux;
 use si_time::Moment;
 use std::alloc::{AllocError, Global};
 use std::marker::Model;
 
-/// What a book keeps of a service: the feed that edits it, and its names and events.
-#[derive(Debug, Drop)]
-pub struct Kept {
-    pub feed: u8,
-    pub guide: ServiceGuide,
+fn service_of(cmd: &Edit) -> u16
+    ensures { result ≡ service_in cmd.now }
+{
+    match cmd {
+        Edit::Put(service, _) => *service,
+        Edit::Withdraw(service, _) => *service,
+        Edit::Clear(service) => *service,
+        Edit::Name(service, _, _) => *service,
+        Edit::Day(service, _, _) => *service,
+    }
 }
 
-/// The names and events that stand for each service, in ascending order of service.
-#[derive(Debug, Drop)]
+// The place of the feed's service, or the length.
+fn place_of(services: &[ServiceBook], feed: u8, service: u16) -> usize
+    ensures place { result ≡ position_or_len (is_owned feed service) services.now }
+    ensures bound { result ≤ length services.now }
+{
+    for (i, kept) in services.iter().enumerate() {
+        if kept.is_owned(feed, service) {
+            return i;
+        }
+    }
+    services.len()
+}
+
+fn edit_in(services: &mut Vec<ServiceBook>, feed: u8, cmd: &Edit) -> Result<Reply, AllocError>
+    requires { IsDayWithin cmd.now }
+    ensures reply { IfOk result (λ reply. reply ≡ reply_in services.old.items feed cmd.now) }
+    ensures kept { IfOk result (λ reply. services.new.items ≡ (if is_done reply then book_with feed cmd.now services.old.items else services.old.items)) }
+    ensures memory { OnErr result (services.new.items ≡ services.old.items) }
+    ensures within { IfOk result (λ _. (kept : Kept) → find (is_owned feed (service_in cmd.now)) services.old.items ≡ Some kept → IsServiceWithin kept.guide) }
+{
+    let service = service_of(cmd);
+    let at = place_of(services, feed, service);
+    if at == services.len() {
+        return Ok(Reply::Foreign(service));
+    }
+    let kept = &mut services[at];
+    kept.edit(cmd)
+}
+
+/// The events and names that stand for each service, in ascending order of service.
+#[derive(Drop)]
 pub struct Book {
-    services: Vec<Kept>,
+    services: Vec<ServiceBook>,
 }
 
 impl Model for Book {
     ghost use Rattle.std.specs.Prelude.{List};
-    ghost use Rattle.feed_book.specs.declared.book.Kept.{Kept};
+    ghost use Rattle.feed_book.specs.Kept.{Kept};
+    ghost use Rattle.feed_book.specs.Sound.{AreAscending};
+    ghost use Rattle.feed_book.specs.Changes.{services_of};
 
     ghost Value = { List Kept };
 
     ghost view = { λ b. b.services.items };
+
+    ghost invariant = { λ b. AreAscending (services_of b.services.items) };
 }
 
 impl Book {
-    /// The book of a sound multiplex before any edit: the names of the multiplex, and no event.
+    /// The book of a sound multiplex before any edit: the names of the multiplex, and no events.
     pub fn open(alloc: Global, mux: &Mux) -> Result<Book, AllocError>
+        requires { IsSound mux.now }
         ensures { IfOk result (λ book. Stands mux.now.services [] book) }
     {
         let mut services = Vec::with_capacity(alloc, mux.services.len())?;
         for service in mux.services.as_slice() {
-            services.push(first_kept(alloc, service)?)?;
+            services.push(ServiceBook::open(alloc, service)?)?;
         }
         Ok(Book { services })
     }
 
     /// Answers an edit of a feed, and does it where the reply is `Done`; any other reply, and want of memory, leaves the
-    /// book as it is. The reply is the first that applies:
-    /// - `Foreign` with the service: the multiplex has no such service of this feed;
-    /// - `Range(Provider)`: the coded provider has more than 100 bytes;
-    /// - `Range(ServiceName)`: the coded name has no byte or more than 100;
-    /// - `Done`.
+    /// book as it is. A day that is given has at most 2,000 items. The reply is the first that applies:
+    ///
+    /// `Foreign` with the service: the multiplex has no such service of this feed.
+    ///
+    /// `Put`, which makes the item's event stand in place of the event with its id: `Range` of `Start` (no moment is
+    /// read), `Duration` (no duration is read, or it is not 1 to 86,399 seconds), `Window` (it ends behind
+    /// 2038-04-22T23:59:59Z by more than a second), `Language` (not three letters `a` to `z`), `Name` (not 1 to 100
+    /// coded bytes), `Short` (more than 150 coded bytes), `Extended` (more than 1,000 bytes of UTF-8), `Country` (not
+    /// three letters `A` to `Z`), `Rating` (not 1 to 15) and `Genre` (more than 8, or a level above 15). `Overlap` with
+    /// the id of the event of another id that has an instant in common, of several the one that starts first.
+    /// `Range(Count(n))` and `Range(Segment(n))`: `n` events of the service would stand, more than 2,000; the entries of
+    /// those that start in its three-hour block would have `n` bytes, more than 20,000.
+    ///
+    /// `Withdraw`, also where no such event stands, and `Clear`: `Done`.
+    ///
+    /// `Name`: `Range` of `Provider` (more than 100 coded bytes) and of `ServiceName` (not 1 to 100).
+    ///
+    /// `Day`, which takes away all events that start on the day and puts the items one after the other: `Range(Start)`
+    /// (no day is read); `Member` with the place, from 0, of the first item that the rules of `Put` refuse over what
+    /// stands then, and why. An item that starts on another day is `Range(Window)`.
     pub fn edit(&mut self, feed: u8, cmd: &Edit) -> Result<Reply, AllocError>
+        requires { IsDayWithin cmd.now }
         ensures reply { (services : List Service) (past : List AnEdit) → Stands services past self.old
-            → IfOk result (λ reply. reply ≡ reply_to services feed cmd.now) }
-        ensures book { (services : List Service) (past : List AnEdit) → DoAscend services
-            → Stands services past self.old
+            → IfOk result (λ reply. reply ≡ reply_to services past feed cmd.now) }
+        ensures book { (services : List Service) (past : List AnEdit) → Stands services past self.old
             → IfOk result (λ reply. Stands services (if is_done reply then past ++ cmd.now ∷ [] else past) self.new) }
         ensures refused { IfOk result (λ reply. is_done reply ≡ false → self.new ≡ self.old) }
         ensures memory { OnErr result (self.new ≡ self.old) }
@@ -73,117 +127,19 @@ impl Book {
         edit_in(&mut self.services, feed, cmd)
     }
 
-    /// What stands, at a moment.
+    /// What stands, with a moment. It is within all limits.
     pub fn guide(&self, moment: Moment) -> Result<Guide, AllocError>
-        ensures { IfOk result (λ guide. guide ≡ guide_of self.now moment) }
+        ensures guide { IfOk result (λ guide. guide ≡ guide_of self.now moment) }
+        ensures within { IfOk result (λ guide. IsGuideWithin guide) }
     {
         let alloc = *self.services.allocator();
         let mut guides = Vec::with_capacity(alloc, self.services.len())?;
         for kept in &self.services {
-            guides.push(kept.guide.copy()?)?;
+            guides.push(kept.copy_guide()?)?;
         }
         Ok(Guide {
             moment,
             services: ServiceGuides::of(guides),
         })
     }
-}
-
-// What is kept of a service before any edit.
-fn first_kept(alloc: Global, service: &MuxService) -> Result<Kept, AllocError>
-    ensures { IfOk result (λ kept. kept ≡ kept_after [] service.now) }
-{
-    Ok(Kept {
-        feed: service.feed,
-        guide: ServiceGuide {
-            service: service.service,
-            provider: service.provider.copy()?,
-            name: service.name.copy()?,
-            events: Events::new(alloc),
-        },
-    })
-}
-
-// Answers an edit over what is kept, and does it where the reply is `Done`.
-fn edit_in(services: &mut Vec<Kept>, feed: u8, cmd: &Edit) -> Result<Reply, AllocError>
-    ensures reply { IfOk result (λ reply. reply ≡ reply_in services.old.items feed cmd.now) }
-    ensures book { IfOk result (λ reply. services.new.items
-        ≡ (if is_done reply then edited_in services.old.items feed cmd.now else services.old.items)) }
-    ensures memory { OnErr result (services.new.items ≡ services.old.items) }
-{
-    match cmd {
-        Edit::Name(service, provider, name) => name_service(
-            services, feed, *service, provider, name,
-        ),
-    }
-}
-
-// Gives the service of the feed its names, where the reply is `Done`.
-fn name_service(
-    services: &mut Vec<Kept>,
-    feed: u8,
-    service: u16,
-    provider: &Txt,
-    name: &Txt,
-) -> Result<Reply, AllocError>
-    ensures reply { IfOk result (λ reply. reply
-        ≡ (if list_any (is_of feed service) services.old.items then names_reply provider.now name.now
-        else Reply.Foreign service)) }
-    ensures book { IfOk result (λ reply. services.new.items
-        ≡ (if is_done reply then first_changed (is_of feed service) (named provider.now name.now) services.old.items
-        else services.old.items)) }
-    ensures memory { OnErr result (services.new.items ≡ services.old.items) }
-{
-    let Some(at) = place_of(services, feed, service) else {
-        return Ok(Reply::Foreign(service));
-    };
-    let reply = reply_to_names(provider, name);
-    if let Reply::Done = reply {
-        let provider = provider.copy()?;
-        let name = name.copy()?;
-        rename(services, at, provider, name);
-        return Ok(Reply::Done);
-    }
-    Ok(reply)
-}
-
-// Where the service of the feed is.
-fn place_of(services: &[Kept], feed: u8, service: u16) -> Option<usize>
-    ensures { result ≡ position (is_of feed service) services.now }
-{
-    services
-        .iter()
-        .position(|kept| kept.guide.service == service && kept.feed == feed)
-}
-
-// Whether a coded text has so many bytes, and at most 100.
-fn is_within(least: usize, text: &Txt) -> bool
-    ensures { result ≡ fits least text.now }
-{
-    let size = coded_len(text.as_str());
-    least <= size && size <= 100
-}
-
-// The reply to the names of a service of the feed.
-fn reply_to_names(provider: &Txt, name: &Txt) -> Reply
-    ensures { result ≡ names_reply provider.now name.now }
-{
-    if !is_within(0, provider) {
-        Reply::Range(Field::Provider)
-    } else if !is_within(1, name) {
-        Reply::Range(Field::ServiceName)
-    } else {
-        Reply::Done
-    }
-}
-
-// Gives the service at a place its names.
-fn rename(services: &mut Vec<Kept>, at: usize, provider: Txt, name: Txt)
-    requires { at < vec_len services.old }
-    ensures { (d : AKept) → services.new.items
-        ≡ slice_set services.old.items at (named provider name (slice_index_or services.old.items at d)) }
-{
-    let kept = &mut services[at];
-    kept.guide.provider = provider;
-    kept.guide.name = name;
 }

@@ -1,0 +1,147 @@
+// A service's events in order of start, and their index in step with them.
+ghost use Rattle.std.specs.Prelude.{◌≡◌, ℕ, ◌+◌, ◌<◌, ◌≤◌, length, map, insert, vec_len, vec_capacity};
+ghost use Rattle.feed_book.specs.Replies.{without, put};
+ghost use Rattle.feed_book.specs.Standing.{placed};
+ghost use Rattle.feed_book.specs.Sound.{AreApart};
+ghost use Rattle.feed_book.specs.Readings.{event_of as event_given};
+ghost use Rattle.feed_book.specs.Standing.{is_done};
+ghost use Rattle.feed_book.specs.Replies.{item_fault, put_reply};
+ghost use Rattle.feed_book.specs.Slots.{slot_of as slot_of_event, AreIndexed};
+ghost use Rattle.std.specs.Prelude.{IfOk, OnErr, Some, None, [], if◌then◌else◌};
+
+use crate::reading::{event_of, field_fault};
+use crate::reply::{DayFault, Reply};
+use crate::slots::{Slot, place_fault, place_of_id, place_of_start, slot_of};
+use feed_edits::Item;
+use guide_model::Event;
+use std::alloc::AllocError;
+
+// An insertion for which there is room.
+fn insert_at<T: Drop>(list: &mut Vec<T>, at: usize, item: T)
+    requires within { at ≤ vec_len list.old }
+    requires room { vec_len list.old < vec_capacity list.old }
+    ensures items { list.new.items ≡ insert list.old.items at item }
+    ensures len { vec_len list.new ≡ vec_len list.old + 1 }
+    ensures capacity { vec_capacity list.old ≤ vec_capacity list.new }
+{
+    match list.insert(at, item) {
+        Ok(()) => {}
+        Err(_) => unreachable!(),
+    }
+}
+
+/// Takes the event of an id out, if there is one.
+pub(crate) fn take_out(events: &mut Vec<Event>, slots: &mut Vec<Slot>, id: u16)
+    requires apart { AreApart events.old.items }
+    requires index { slots.old.items ≡ map slot_of_event events.old.items }
+    ensures events { events.new.items ≡ without id events.old.items }
+    ensures index { slots.new.items ≡ map slot_of_event (without id events.old.items) }
+    ensures events_len { vec_len events.new ≤ vec_len events.old }
+    ensures slots_len { vec_len slots.new ≤ vec_len slots.old }
+    ensures events_capacity { vec_capacity events.new ≡ vec_capacity events.old }
+    ensures slots_capacity { vec_capacity slots.new ≡ vec_capacity slots.old }
+{
+    let at = place_of_id(slots, id);
+    if at < slots.len() {
+        let _gone = events.remove(at);
+        slots.remove(at);
+    }
+}
+
+/// Places an event for which there is room.
+fn place_in(events: &mut Vec<Event>, slots: &mut Vec<Slot>, event: Event, slot: Slot)
+    requires apart { AreApart events.old.items }
+    requires index { slots.old.items ≡ map slot_of_event events.old.items }
+    requires slot { slot ≡ slot_of_event event }
+    requires events_room { vec_len events.old < vec_capacity events.old }
+    requires slots_room { vec_len slots.old < vec_capacity slots.old }
+    ensures events { events.new.items ≡ placed event events.old.items }
+    ensures index { slots.new.items ≡ map slot_of_event (placed event events.old.items) }
+    ensures events_len { vec_len events.new ≡ vec_len events.old + 1 }
+    ensures slots_len { vec_len slots.new ≡ vec_len slots.old + 1 }
+    ensures events_capacity { vec_capacity events.old ≤ vec_capacity events.new }
+    ensures slots_capacity { vec_capacity slots.old ≤ vec_capacity slots.new }
+{
+    let to = place_of_start(slots, slot.start);
+    insert_at(events, to, event);
+    insert_at(slots, to, slot);
+}
+
+/// Puts an event for which there is room in place of the one of its id.
+pub(crate) fn put_in(events: &mut Vec<Event>, slots: &mut Vec<Slot>, event: Event, slot: Slot)
+    requires apart { AreApart events.old.items }
+    requires index { slots.old.items ≡ map slot_of_event events.old.items }
+    requires slot { slot ≡ slot_of_event event }
+    requires events_room { vec_len events.old < vec_capacity events.old }
+    requires slots_room { vec_len slots.old < vec_capacity slots.old }
+    ensures events { events.new.items ≡ put event events.old.items }
+    ensures index { slots.new.items ≡ map slot_of_event (put event events.old.items) }
+    ensures events_len { vec_len events.new ≤ vec_len events.old + 1 }
+    ensures slots_len { vec_len slots.new ≤ vec_len slots.old + 1 }
+    ensures events_capacity { vec_capacity events.old ≤ vec_capacity events.new }
+    ensures slots_capacity { vec_capacity slots.old ≤ vec_capacity slots.new }
+{
+    let at = place_of_id(slots, slot.id);
+    let to = place_of_start(slots, slot.start);
+    if at < slots.len() && at <= to && to - at <= 1 {
+        // The new start falls on the old place: nothing moves.
+        events[at] = event;
+        slots[at] = slot;
+    } else {
+        take_out(events, slots, slot.id);
+        place_in(events, slots, event, slot);
+    }
+}
+
+fn reply_of(fault: DayFault) -> Reply
+    ensures { result ≡ put_reply (Some fault) }
+{
+    match fault {
+        DayFault::Range(field) => Reply::Range(field),
+        DayFault::Overlap(id) => Reply::Overlap(id),
+    }
+}
+
+/// Puts an item, or says by which rule not.
+pub(crate) fn put_item(
+    events: &mut Vec<Event>,
+    slots: &mut Vec<Slot>,
+    item: &Item,
+) -> Result<Reply, AllocError>
+    requires { AreIndexed events.old.items slots.old.items }
+    ensures reply { IfOk result (λ reply. reply ≡ put_reply (item_fault None events.old.items item.now)) }
+    ensures events { IfOk result (λ reply. events.new.items ≡ (if is_done reply then put (event_given item.now) events.old.items else events.old.items)) }
+    ensures memory { OnErr result (events.new.items ≡ events.old.items) }
+    ensures indexed { AreIndexed events.new.items slots.new.items }
+{
+    if let Some(field) = field_fault(item, None) {
+        return Ok(Reply::Range(field));
+    }
+    let event = event_of(item)?;
+    let slot = slot_of(&event);
+    if let Some(fault) = place_fault(slots, &slot) {
+        return Ok(reply_of(fault));
+    }
+    events.reserve(1)?;
+    slots.reserve(1)?;
+    put_in(events, slots, event, slot);
+    Ok(Reply::Done)
+}
+
+/// Takes the event of an id out of an index of events.
+pub(crate) fn withdraw(events: &mut Vec<Event>, slots: &mut Vec<Slot>, id: u16)
+    requires { AreIndexed events.old.items slots.old.items }
+    ensures events { events.new.items ≡ without id events.old.items }
+    ensures indexed { AreIndexed events.new.items slots.new.items }
+{
+    take_out(events, slots, id);
+}
+
+/// Takes all events out.
+pub(crate) fn clear(events: &mut Vec<Event>, slots: &mut Vec<Slot>)
+    ensures events { events.new.items ≡ [] }
+    ensures indexed { AreIndexed events.new.items slots.new.items }
+{
+    events.clear();
+    slots.clear();
+}
