@@ -2,7 +2,8 @@
 ghost use Rattle.std.specs.Prelude.{◌≡◌, IfOk, OnErr};
 ghost use Rattle.mux_config.specs.Sound.{IsSound};
 ghost use Rattle.desk_core.specs.Journal.{Legal, outcome_of, moment_of};
-ghost use Rattle.desk_core.specs.Publications.{AreFitNames};
+ghost use Rattle.feed_book.specs.Limits.{IsGuideWithin};
+ghost use Rattle.desk_core.specs.Steps.{IsStepWithin};
 ghost use Rattle.desk_core.specs.Desks.{fresh, and_entry, on_air_of, latest_of};
 
 use crate::held::{Held, open_held, perform};
@@ -14,7 +15,7 @@ use std::marker::Model;
 
 /// A desk: its multiplex, and the journal of all that it was asked. It starts with an empty journal at the multiplex's start, with
 /// publication 0 (the names of the multiplex, and no event) as the latest and as the one on air.
-#[derive(Debug, Drop)]
+#[derive(Drop)]
 pub struct Desk {
     mux: Mux,
     entries: Vec<Entry>,
@@ -50,8 +51,9 @@ impl Desk {
     /// Does a step for a caller, and appends one entry with its outcome: an edit is answered by the reply to it; a tick before
     /// the desk's moment is late, and any other sets that moment; a publish freezes what stands with the desk's moment and is
     /// answered by its number (from 1); and a swap puts the latest publication on air and is answered by its number and the
-    /// desk's moment. All memory is taken first; want of it changes nothing.
+    /// desk's moment. All memory is taken first; want of it changes nothing. A day that is given has at most 2,000 items.
     pub fn step(&mut self, who: u32, step: Step) -> Result<Outcome, AllocError>
+        requires day { IsStepWithin step }
         ensures outcome { IfOk result (λ outcome. outcome ≡ outcome_of self.old.mux self.old.entries step) }
         ensures entry { IfOk result (λ outcome. self.new ≡ and_entry self.old who step outcome) }
         ensures memory { OnErr result (self.new ≡ self.old) }
@@ -65,7 +67,7 @@ impl Desk {
     /// The publication on air, with the moment of the last swap; before any swap publication 0 and the multiplex's start.
     pub fn on_air(&self) -> Result<Airing, AllocError>
         ensures airing { IfOk result (λ airing. airing ≡ on_air_of self.now) }
-        ensures names { IfOk result (λ airing. AreFitNames airing.guide) }
+        ensures within { IfOk result (λ airing. IsGuideWithin airing.guide) }
     {
         Ok(Airing {
             number: self.held.on_air.number,
@@ -77,7 +79,7 @@ impl Desk {
     /// What `on_air` would give after a swap made now.
     pub fn latest(&self) -> Result<Airing, AllocError>
         ensures airing { IfOk result (λ airing. airing ≡ latest_of self.now) }
-        ensures names { IfOk result (λ airing. AreFitNames airing.guide) }
+        ensures within { IfOk result (λ airing. IsGuideWithin airing.guide) }
     {
         Ok(Airing {
             number: self.held.published,

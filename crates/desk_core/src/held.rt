@@ -3,9 +3,11 @@ ghost use Rattle.std.specs.Prelude.{◌≡◌, ◌+◌, ◌<◌, ◌^◌, ◌∷
 ghost use Rattle.mux_config.specs.declared.mux.Mux.{Mux as AMux};
 ghost use Rattle.mux_config.specs.Sound.{IsSound};
 ghost use Rattle.feed_book.specs.Books.{guide_of};
+ghost use Rattle.feed_book.specs.Limits.{IsGuideWithin};
 ghost use Rattle.desk_core.specs.declared.step.Entry.{Entry as AnEntry};
 ghost use Rattle.desk_core.specs.Journal.{outcome_of, ticked, later_of};
 ghost use Rattle.desk_core.specs.Holding.{IsHeld};
+ghost use Rattle.desk_core.specs.Steps.{IsStepWithin};
 
 use crate::step::{Airing, Outcome, Step};
 use feed_book::Book;
@@ -15,7 +17,7 @@ use si_time::Moment;
 use std::alloc::{AllocError, Global};
 
 /// What stands, the moment, how many publications were made, the latest of them, and the one on air.
-#[derive(Debug, Drop)]
+#[derive(Drop)]
 pub(crate) struct Held {
     pub(crate) book: Book,
     pub(crate) moment: Moment,
@@ -28,6 +30,7 @@ pub(crate) struct Held {
 pub(crate) fn publish(held: &mut Held) -> Result<u64, AllocError>
     requires { held.old.published < 2 ^ 63 }
     ensures number { IfOk result (λ n. n ≡ 1 + held.old.published) }
+    ensures within { IfOk result (λ n. IsGuideWithin held.new.latest) }
     ensures held { IfOk result (λ n. held.new ≡ record held.old { published = 1 + held.old.published; latest = guide_of held.old.book held.old.moment }) }
     ensures memory { OnErr result (held.new ≡ held.old) }
 {
@@ -65,7 +68,8 @@ pub(crate) fn tick(held: &mut Held, at: Moment) -> Outcome
 
 // Does a step over what is kept, and says its outcome.
 pub(crate) fn perform(held: &mut Held, step: &Step) -> Result<Outcome, AllocError>
-    requires { held.old.published < 2 ^ 63 }
+    requires count { held.old.published < 2 ^ 63 }
+    requires day { IsStepWithin step.now }
     ensures outcome { (mux : AMux) (entries : List AnEntry) → IsHeld mux entries held.old → IfOk result (λ outcome. outcome ≡ outcome_of mux entries step.now) }
     ensures held { (mux : AMux) (entries : List AnEntry) (who : ℕ) → IsHeld mux entries held.old
         → IfOk result (λ outcome. IsHeld mux (entries ++ record { who = who; step = step.now; outcome = outcome } ∷ []) held.new) }

@@ -9,3 +9,4 @@ pub mod Slots
 pub mod Days
 pub mod Changes
 pub mod Books
+pub mod Accepted

@@ -21,5 +21,5 @@ mod slots;
 
 pub use book::Book;
 pub use feed_edits::{DayItems, DayText, Edit, Item, Length, RawRating, Stamp};
-pub use laws::standing_are_last_words;
+pub use laws::{accepted_edits_stay_within, standing_are_last_words};
 pub use reply::{DayFault, Field, Reply};

@@ -5,8 +5,10 @@ use Rattle.desk_core.proofs.HeldFacts.{few_publishes}
 use Rattle.desk_core.proofs.desk.Desk.step.Goals as goal
 
 pub perform-requires : goal.perform-requires
-perform-requires c =
-    omega (arith, c.self.invariant.published, few_publishes c.self.inside.entries.items, c.self.inside.entries.ok.0, c.self.inside.entries.small)
+perform-requires c = record {
+  count = omega (arith, c.self.invariant.published, few_publishes c.self.inside.entries.items, c.self.inside.entries.ok.0, c.self.inside.entries.small);
+  day = c.requires.day;
+}
 
 pub invariant_of-self-2 : goal.invariant_of-self-2
 invariant_of-self-2 c =
