@@ -1,6 +1,7 @@
 -- What a desk keeps, with one more entry.
 use Rattle.std.proofs.Common.{◌≡◌, ℕ, ◌+◌, ◌≤◌, length, Bool, true, false, cond, List, [], ◌∷◌, ◌++◌, refl, sym, ap, ◌∙◌, subst, arith, append-nil, inl, inr, ◌⊎◌}
-use Rattle.std.specs.Prelude.{nat_lt, None}
+use Rattle.std.specs.Prelude.{◌<◌, ◌*◌, nat_lt, None}
+use Rattle.std.specs.List.{AllByRecursion}
 use Rattle.si_time.specs.declared.moment.Moment.{Moment}
 use Rattle.guide_model.specs.declared.guide.Guide.{Guide}
 use Rattle.mux_config.specs.declared.mux.Mux.{Mux}
@@ -9,6 +10,7 @@ use Rattle.feed_book.specs.Kept.{Kept}
 use Rattle.feed_edits.specs.declared.edit.Edit.{Edit}
 use Rattle.feed_book.specs.declared.reply.Reply.{Reply}
 use Rattle.feed_book.specs.Standing.{is_done}
+use Rattle.feed_book.specs.Replies.{IsDayWithin}
 use Rattle.feed_book.specs.Limits.{IsGuideWithin}
 use Rattle.feed_book.specs.Books.{Stands, reply_to, guide_of}
 use Rattle.desk_core.specs.declared.step.Step.TheVariants.{Edit as edit, Tick, Publish, Swap}
@@ -19,6 +21,7 @@ use Rattle.desk_core.specs.declared.step.Airing.{Airing}
 use Rattle.desk_core.specs.declared.held.Held.{Held}
 use Rattle.desk_core.specs.Journal.{is_publish, accepted, publishes, moment_of, later_of, ticked}
 use Rattle.desk_core.specs.Publications.{publication, airing_of, last_aired, guide_after, aired_by}
+use Rattle.desk_core.specs.Steps.{IsStepWithin}
 use Rattle.desk_core.specs.Holding.{IsHeld}
 use Rattle.desk_core.proofs.JournalFacts.{publishes-push, accepted-push, publication-kept, publication-new, aired-swap, aired-other, moment-tick, moment-other, legal_more}
 
@@ -36,12 +39,21 @@ now_accepted entries who feed e reply = accepted-push entries (edited who feed e
   | inr h ↦ rw h (append-nil (accepted entries))
 ])
 
+all_push : {A : Type 0} (P : A → Type 0) (xs : List A) (x : A) → AllByRecursion P xs → P x → AllByRecursion P (xs ++ x ∷ [])
+all_push P [] x h p = (p, tt)
+all_push P (y ∷ ys) x h p = (h.0, all_push P ys x h.1 p)
+
+-- one more step that a desk may be asked
+steps_push : (entries : List Entry) (x : Entry) → AllByRecursion (λ (entry : Entry). IsStepWithin entry.step) entries → IsStepWithin x.step
+    → AllByRecursion (λ (entry : Entry). IsStepWithin entry.step) (entries ++ x ∷ [])
+steps_push entries x h within = all_push (λ (entry : Entry). IsStepWithin entry.step) entries x h within
+
 -- an entry that is no publish and no swap leaves all but the book
 pub held_edited : (mux : Mux) (entries : List Entry) (held : Held) (who feed : ℕ) (e : Edit) (reply : Reply) (book : List Kept)
-    → IsHeld mux entries held → reply ≡ reply_to mux.services (accepted entries) feed e
+    → IsHeld mux entries held → IsDayWithin e → reply ≡ reply_to mux.services (accepted entries) feed e
     → Stands mux.services (cond (is_done reply) (accepted entries ++ e ∷ []) (accepted entries)) book
     → IsHeld mux (entries ++ edited who feed e reply ∷ []) (record held { book = book })
-held_edited mux entries held who feed e reply book h replied stands =
+held_edited mux entries held who feed e reply book h day replied stands =
     let x = edited who feed e reply in
     let count : publishes (entries ++ x ∷ []) ≡ publishes entries = publishes-push entries x ∙ omega arith in
     let now = now_accepted entries who feed e reply in
@@ -49,6 +61,7 @@ held_edited mux entries held who feed e reply book h replied stands =
     record {
       sound = h.sound;
       legal = legal_more mux [] entries x h.legal (ap Edited replied);
+      steps = steps_push entries x h.steps day;
       book = subst (λ past. Stands mux.services past book) (sym now) stands;
       moment = h.moment ∙ sym (moment-other mux entries x refl);
       published = h.published ∙ sym count;
@@ -75,6 +88,7 @@ held_published mux entries held who h within =
     record {
       sound = h.sound;
       legal = legal_more mux [] entries x h.legal (ap (λ n. Published (1 + n)) h.published);
+      steps = steps_push entries x h.steps tt;
       book = subst (λ past. Stands mux.services past held.book) (sym now) h.book;
       moment = h.moment ∙ sym (moment-other mux entries x refl);
       published = ap (λ n. 1 + n) h.published ∙ sym count;
@@ -102,6 +116,7 @@ held_swapped mux entries held who h =
     record {
       sound = h.sound;
       legal = legal_more mux [] entries x h.legal (ap (λ n. Swapped n (moment_of mux entries)) h.published);
+      steps = steps_push entries x h.steps tt;
       book = subst (λ past. Stands mux.services past held.book) (sym now) h.book;
       moment = h.moment ∙ sym (moment-other mux entries x refl);
       published = h.published ∙ sym count;
@@ -136,9 +151,9 @@ not_aired now at = elim (b_cases (nat_lt at.0 now.0)) [
 ]
 
 -- a tick leaves all but the moment
-pub held_ticked : (mux : Mux) (entries : List Entry) (held : Held) (who : ℕ) (at : Moment) → IsHeld mux entries held
+pub held_ticked : (mux : Mux) (entries : List Entry) (held : Held) (who : ℕ) (at : Moment) → IsHeld mux entries held → at.0 < 65536 * 86400
     → IsHeld mux (entries ++ ticked_entry who at (ticked (moment_of mux entries) at) ∷ []) (record held { moment = later_of held.moment at })
-held_ticked mux entries held who at h =
+held_ticked mux entries held who at h within =
     let x = ticked_entry who at (ticked (moment_of mux entries) at) in
     let count : publishes (entries ++ x ∷ []) ≡ publishes entries = publishes-push entries x ∙ omega arith in
     let now : accepted (entries ++ x ∷ []) ≡ accepted entries = not_accepted entries who at x.outcome in
@@ -146,6 +161,7 @@ held_ticked mux entries held who at h =
     record {
       sound = h.sound;
       legal = legal_more mux [] entries x h.legal refl;
+      steps = steps_push entries x h.steps within;
       book = subst (λ past. Stands mux.services past held.book) (sym now) h.book;
       moment = ap (λ (m : Moment). later_of m at) h.moment ∙ sym (now_ticked mux entries who at);
       published = h.published ∙ sym count;
@@ -179,13 +195,13 @@ as_swapped mux entries old new who n at h now number is =
     subst (λ (k : ℕ). IsHeld mux (entries ++ swapped_entry who k at ∷ []) new) (sym number)
     (subst (λ (m : Moment). IsHeld mux (entries ++ swapped_entry who old.published m ∷ []) new) (sym now) stood)
 
-pub as_ticked : (mux : Mux) (entries : List Entry) (old new : Held) (who : ℕ) (at : Moment) (outcome : Outcome) → IsHeld mux entries old
+pub as_ticked : (mux : Mux) (entries : List Entry) (old new : Held) (who : ℕ) (at : Moment) (outcome : Outcome) → IsHeld mux entries old → at.0 < 65536 * 86400
     → outcome ≡ ticked old.moment at → new ≡ record old { moment = later_of old.moment at }
     → IsHeld mux (entries ++ ticked_entry who at outcome ∷ []) new
-as_ticked mux entries old new who at outcome h answered is =
+as_ticked mux entries old new who at outcome h within answered is =
     let same : outcome ≡ ticked (moment_of mux entries) at = answered ∙ ap (λ (m : Moment). ticked m at) h.moment in
     subst (λ (o : Outcome). IsHeld mux (entries ++ ticked_entry who at o ∷ []) new) (sym same)
-    (subst (λ (x : Held). IsHeld mux (entries ++ ticked_entry who at (ticked (moment_of mux entries) at) ∷ []) x) (sym is) (held_ticked mux entries old who at h))
+    (subst (λ (x : Held). IsHeld mux (entries ++ ticked_entry who at (ticked (moment_of mux entries) at) ∷ []) x) (sym is) (held_ticked mux entries old who at h within))
 
 pub open_held_is : (mux : Mux) (held : Held) → IsSound mux → Stands mux.services [] held.book → held.moment ≡ mux.start → held.published ≡ 0 → held.latest ≡ guide_of held.book mux.start → IsGuideWithin held.latest
     → held.on_air ≡ record { number = 0; moment = mux.start; guide = held.latest } → IsHeld mux [] held
@@ -194,6 +210,7 @@ open_held_is mux held sound book moment published latest within on_air =
     record {
       sound = sound;
       legal = tt;
+      steps = tt;
       book = book;
       moment = moment;
       published = published;

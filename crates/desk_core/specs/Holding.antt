@@ -1,5 +1,6 @@
 -- What a desk keeps beside its journal is determined by the journal.
 use Rattle.std.specs.Prelude.{◌≡◌, ◌≤◌, List}
+use Rattle.std.specs.List.{AllByRecursion}
 use Rattle.mux_config.specs.declared.mux.Mux.{Mux}
 use Rattle.mux_config.specs.Sound.{IsSound}
 use Rattle.feed_book.specs.Limits.{IsGuideWithin}
@@ -7,11 +8,13 @@ use Rattle.feed_book.specs.Books.{Stands}
 use Rattle.desk_core.specs.declared.step.Entry.{Entry}
 use Rattle.desk_core.specs.declared.held.Held.{Held}
 use Rattle.desk_core.specs.Journal.{Legal, accepted, publishes, moment_of}
+use Rattle.desk_core.specs.Steps.{IsStepWithin}
 use Rattle.desk_core.specs.Publications.{publication, airing_of, last_aired}
 
 pub record IsHeld (mux : Mux) (entries : List Entry) (held : Held) : Type 0 where
   pub sound : IsSound mux
   pub legal : Legal mux entries
+  pub steps : AllByRecursion (λ (entry : Entry). IsStepWithin entry.step) entries
   pub book : Stands mux.services (accepted entries) held.book
   pub moment : held.moment ≡ moment_of mux entries
   pub published : held.published ≡ publishes entries

@@ -1,5 +1,7 @@
 // The desk.
 ghost use Rattle.std.specs.Prelude.{◌≡◌, IfOk, OnErr};
+ghost use Rattle.std.specs.List.{AllByRecursion};
+ghost use Rattle.desk_core.specs.declared.step.Entry.{Entry as AnEntry};
 ghost use Rattle.mux_config.specs.Sound.{IsSound};
 ghost use Rattle.desk_core.specs.Journal.{Legal, outcome_of, moment_of};
 ghost use Rattle.feed_book.specs.Limits.{IsGuideWithin};
@@ -51,9 +53,10 @@ impl Desk {
     /// Does a step for a caller, and appends one entry with its outcome: an edit is answered by the reply to it; a tick before
     /// the desk's moment is late, and any other sets that moment; a publish freezes what stands with the desk's moment and is
     /// answered by its number (from 1); and a swap puts the latest publication on air and is answered by its number and the
-    /// desk's moment. All memory is taken first; want of it changes nothing. A day that is given has at most 2,000 items.
+    /// desk's moment. All memory is taken first; want of it changes nothing. A day that is given has at most 2,000 items, and a tick a moment that 16
+    /// bits of days can say.
     pub fn step(&mut self, who: u32, step: Step) -> Result<Outcome, AllocError>
-        requires day { IsStepWithin step }
+        requires { IsStepWithin step }
         ensures outcome { IfOk result (λ outcome. outcome ≡ outcome_of self.old.mux self.old.entries step) }
         ensures entry { IfOk result (λ outcome. self.new ≡ and_entry self.old who step outcome) }
         ensures memory { OnErr result (self.new ≡ self.old) }
@@ -92,6 +95,7 @@ impl Desk {
     pub fn entries(&self) -> &[Entry]
         ensures value { result.now ≡ self.now.entries }
         ensures legal { Legal self.now.mux result.now }
+        ensures within { AllByRecursion (λ (entry : AnEntry). IsStepWithin entry.step) result.now }
     {
         &self.entries
     }

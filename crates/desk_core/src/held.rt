@@ -69,7 +69,7 @@ pub(crate) fn tick(held: &mut Held, at: Moment) -> Outcome
 // Does a step over what is kept, and says its outcome.
 pub(crate) fn perform(held: &mut Held, step: &Step) -> Result<Outcome, AllocError>
     requires count { held.old.published < 2 ^ 63 }
-    requires day { IsStepWithin step.now }
+    requires within { IsStepWithin step.now }
     ensures outcome { (mux : AMux) (entries : List AnEntry) → IsHeld mux entries held.old → IfOk result (λ outcome. outcome ≡ outcome_of mux entries step.now) }
     ensures held { (mux : AMux) (entries : List AnEntry) (who : ℕ) → IsHeld mux entries held.old
         → IfOk result (λ outcome. IsHeld mux (entries ++ record { who = who; step = step.now; outcome = outcome } ∷ []) held.new) }

@@ -3,6 +3,7 @@ use Rattle.desk_core.specs.declared.step.Step.{Step}
 use Rattle.desk_core.specs.declared.held.Held.{Held}
 use Rattle.desk_core.specs.declared.step.Outcome.TheVariants.{Edited, Published, Swapped}
 use Rattle.desk_core.specs.Journal.{accepted, outcome_of}
+use Rattle.desk_core.specs.Steps.{IsStepWithin}
 use Rattle.desk_core.specs.Holding.{IsHeld}
 use Rattle.desk_core.proofs.HeldFacts.{held_edited, as_published, as_swapped, as_ticked}
 use Rattle.desk_core.proofs.held.perform.Goals as goal
@@ -16,6 +17,7 @@ pub returns-in_ok-reply-in-Edit-clause-held : goal.returns-in_ok-reply-in-Edit-c
 returns-in_ok-reply-in-Edit-clause-held c = λ mux entries who held.
     subst (λ (s : Step). IsHeld mux (entries ++ record { who = who; step = s; outcome = Edited c.in_ok-reply-in-Edit.reply } ∷ []) (record c.args.held.now { book = c.edit.new.self })) (sym c.in-Edit.is)
     (held_edited mux entries c.args.held.now who _ _ c.in_ok-reply-in-Edit.reply c.edit.new.self held
+    (subst (λ (s : Step). IsStepWithin s) c.in-Edit.is c.requires.within)
     (c.in_ok-reply-in-Edit.ensures.reply mux.services (accepted entries) held.book)
     (c.in_ok-reply-in-Edit.ensures.book mux.services (accepted entries) held.book))
 
@@ -34,4 +36,4 @@ returns-in_ok-number-in-Swap-clause-held c = λ mux entries who held.
 pub returns-in-Tick-clause-held : goal.returns-in-Tick-clause-held
 returns-in-Tick-clause-held c = λ mux entries who held.
     subst (λ (s : Step). IsHeld mux (entries ++ record { who = who; step = s; outcome = c.tick.result } ∷ []) c.tick.new.held) (sym c.in-Tick.is)
-    (as_ticked mux entries c.args.held.now c.tick.new.held who _ c.tick.result held c.tick.ensures.outcome c.tick.ensures.held)
+    (as_ticked mux entries c.args.held.now c.tick.new.held who _ c.tick.result held (subst (λ (s : Step). IsStepWithin s) c.in-Tick.is c.requires.within) c.tick.ensures.outcome c.tick.ensures.held)
