@@ -1,9 +1,9 @@
 -- The text of a line, field by field.
-use Rattle.std.proofs.Common.{◌≡◌, ℕ, ◌+◌, ◌<◌, List, [], ◌∷◌, ◌++◌, map, take, flat_map, refl, sym, ap, ◌∙◌, arith, append-nil, append_assoc, false}
+use Rattle.std.proofs.Common.{◌≡◌, ℕ, ◌<◌, List, [], ◌∷◌, ◌++◌, refl, sym, ap, ◌∙◌, arith, append-nil, append_assoc, false}
 use Rattle.std.specs.Prelude.{◌==◌, Result, Ok, Err, OnOk}
 use Rattle.std.proofs.lemmas.Bool.Decides.{nat_tests}
 use Rattle.csv.specs.Writing.{default_writer, row_body, field_text, fields_text}
-use Rattle.edit_rows.specs.Commands.{Line, and_field, and_fields, no_fields, ended, line_text}
+use Rattle.journal_text.specs.Edits.{Line, and_field, and_fields, no_fields, ended, line_text}
 
 rest_text : (line : Line) (fields : List (List ℕ)) → 0 < line.fields → (and_fields line fields).text ≡ line.text ++ fields_text default_writer fields
 unfolding fields_text
@@ -27,7 +27,7 @@ ended_line line f fs is = ap (λ (l : Line). ended l) is ∙ ap (λ (t : List �
 
 -- what stands behind a line
 pub behind : {E : Type 0} (r : Result (Unit {0}) E) (old line more more' middle new : List ℕ)
-    → middle ≡ old ++ line → more' ≡ more → OnOk r (new ≡ middle ++ more') → OnOk r (new ≡ old ++ line ++ more)
+    → middle ≡ old ++ line → more' ≡ more → OnOk r (new ≡ middle ++ more') → OnOk r (new ≡ old ++ (line ++ more))
 behind (Ok u) old line more more' middle new at same is =
-    is ∙ ap (λ (m : List ℕ). m ++ more') at ∙ ap (λ (m : List ℕ). (old ++ line) ++ m) same
+    is ∙ ap (λ (m : List ℕ). m ++ more') at ∙ append_assoc old line more' ∙ ap (λ (m : List ℕ). old ++ (line ++ m)) same
 behind (Err e) old line more more' middle new at same is = tt

@@ -1,18 +1,12 @@
-// The lines of a command.
+// The lines of an edit.
 ghost use Rattle.std.specs.Prelude.{◌≡◌, ◌++◌, ◌∷◌, [], length, ◌<◌, OnOk, IfOk, codes, decimal, flat_map};
-ghost use Rattle.edit_rows.specs.Commands.{edit_fields, item_fields, item_text, items_of, genre_text, genres_text, country_text, value_text, line_text, and_field, and_fields, IsOpenFor};
+ghost use Rattle.journal_text.specs.Edits.{edit_fields, item_fields, item_text, items_of, genre_text, genres_text, country_text, value_text, line_text, and_field, and_fields, IsOpenFor};
 
 use crate::line::Row;
+use crate::outcome::put_number;
 use feed_edits::{Edit, Item, RawRating};
 use guide_model::Genre;
 use std::alloc::{AllocError, Global};
-
-fn put_number(alloc: Global, out: &mut Vec<u8>, n: u64) -> Result<(), AllocError>
-    ensures { OnOk result (out.new.items ≡ out.old.items ++ decimal n) }
-{
-    let text = n.to_string(alloc)?;
-    out.extend_from_slice(text.as_bytes())
-}
 
 // Appends a genre: its two levels and its user byte, with points between.
 fn put_genre(alloc: Global, out: &mut Vec<u8>, genre: Genre) -> Result<(), AllocError>
@@ -89,7 +83,8 @@ fn put_item(alloc: Global, out: &mut Vec<u8>, item: &Item) -> Result<(), AllocEr
     row.end(out)
 }
 
-fn put_items(alloc: Global, out: &mut Vec<u8>, items: &[Item]) -> Result<(), AllocError>
+/// Appends the lines of items.
+pub(crate) fn put_items(alloc: Global, out: &mut Vec<u8>, items: &[Item]) -> Result<(), AllocError>
     ensures { OnOk result (out.new.items ≡ out.old.items ++ flat_map item_text items.now) }
 {
     for item in items {
@@ -98,8 +93,8 @@ fn put_items(alloc: Global, out: &mut Vec<u8>, items: &[Item]) -> Result<(), All
     Ok(())
 }
 
-// The items of a day; of another edit none.
-fn items_of(edit: &Edit) -> &[Item]
+/// The items of a day; of another edit none.
+pub(crate) fn items_of(edit: &Edit) -> &[Item]
     ensures { result.now ≡ items_of edit.now }
 {
     match edit {
@@ -118,8 +113,8 @@ fn add_put(alloc: Global, row: &mut Row, service: u16, item: &Item) -> Result<()
     add_item(alloc, row, item)
 }
 
-// Adds the fields of an edit.
-fn add_edit(alloc: Global, row: &mut Row, edit: &Edit) -> Result<(), AllocError>
+/// Adds the fields of an edit.
+pub(crate) fn add_edit(alloc: Global, row: &mut Row, edit: &Edit) -> Result<(), AllocError>
     requires { IsOpenFor 20 row.old }
     ensures { OnOk result (row.new ≡ and_fields row.old (edit_fields edit.now)) }
 {
@@ -147,18 +142,4 @@ fn add_edit(alloc: Global, row: &mut Row, edit: &Edit) -> Result<(), AllocError>
             row.number(alloc, items.len() as u64)
         }
     }
-}
-
-/// Appends the lines of an edit of a feed, with the caller in front.
-pub fn write_edit(alloc: Global, out: &mut Vec<u8>, who: u32, feed: u8, edit: &Edit) -> Result<(), AllocError>
-    ensures { OnOk result (out.new.items ≡ out.old.items
-        ++ line_text (decimal who ∷ codes "feed" ∷ decimal feed ∷ edit_fields edit.now) ++ flat_map item_text (items_of edit.now)) }
-{
-    let mut row = Row::open(alloc);
-    row.number(alloc, who as u64)?;
-    row.field(b"feed")?;
-    row.number(alloc, feed as u64)?;
-    add_edit(alloc, &mut row, edit)?;
-    row.end(out)?;
-    put_items(alloc, out, items_of(edit))
 }

@@ -10,7 +10,7 @@ pub(crate) struct Row {
 }
 
 impl Model for Row {
-    ghost use Rattle.edit_rows.specs.Commands.{Line, line_in};
+    ghost use Rattle.journal_text.specs.Edits.{Line, line_in};
 
     ghost Value = { Line };
 
@@ -19,7 +19,7 @@ impl Model for Row {
 
 impl Row {
     ghost use Rattle.std.specs.Prelude.{◌≡◌, ◌++◌, OnOk, decimal};
-    ghost use Rattle.edit_rows.specs.Commands.{no_fields, and_field, ended, IsOpen};
+    ghost use Rattle.journal_text.specs.Edits.{no_fields, and_field, ended, IsOpen};
 
     /// A line without a field.
     pub(crate) fn open(alloc: Global) -> Row
