@@ -144,7 +144,7 @@ now_ticked mux entries who at = elim (b_cases (nat_lt at.0 (moment_of mux entrie
 not_accepted : (entries : List Entry) (who : ℕ) (at : Moment) (outcome : Outcome) → accepted (entries ++ ticked_entry who at outcome ∷ []) ≡ accepted entries
 not_accepted entries who at outcome = accepted-push entries (ticked_entry who at outcome) ∙ append-nil (accepted entries)
 
-not_aired : (now at : Moment) → aired_by (ticked now at) ≡ None
+pub not_aired : (now at : Moment) → aired_by (ticked now at) ≡ None
 not_aired now at = elim (b_cases (nat_lt at.0 now.0)) [
   | inl late ↦ rw late refl
   | inr later ↦ rw later refl
