@@ -1,88 +1,33 @@
 -- What a desk keeps, with one more entry.
-use Rattle.std.proofs.Common.{◌≡◌, ℕ, ◌+◌, ◌≤◌, length, Bool, true, false, cond, List, [], ◌∷◌, ◌++◌, map, refl, sym, ap, ◌∙◌, subst, arith, append-nil, inl, inr, ◌⊎◌}
-use Rattle.std.specs.Prelude.{◌==◌, filter_map}
+use Rattle.std.proofs.Common.{◌≡◌, ℕ, ◌+◌, ◌≤◌, length, Bool, true, false, cond, List, [], ◌∷◌, ◌++◌, refl, sym, ap, ◌∙◌, subst, arith, append-nil, inl, inr, ◌⊎◌}
+use Rattle.std.specs.Prelude.{◌<◌, ◌*◌, nat_lt, None}
 use Rattle.std.specs.List.{AllByRecursion}
-use Rattle.std.proofs.lemmas.Bool.Decides.{nat_tests}
-use Rattle.si_text.specs.Coding.{coded_size}
 use Rattle.si_time.specs.declared.moment.Moment.{Moment}
 use Rattle.guide_model.specs.declared.guide.Guide.{Guide}
 use Rattle.mux_config.specs.declared.mux.Mux.{Mux}
-use Rattle.mux_config.specs.declared.mux.MuxService.{MuxService}
-use Rattle.mux_config.specs.Sound.{IsSound, IsSoundService}
-use Rattle.feed_book.specs.declared.book.Kept.{Kept}
-use Rattle.feed_book.specs.declared.edit.Edit.{Edit}
-use Rattle.feed_book.specs.declared.edit.Edit.TheVariants.{Name}
-use Rattle.feed_book.specs.declared.reply.Field.TheVariants.{Provider, ServiceName}
+use Rattle.mux_config.specs.Sound.{IsSound}
+use Rattle.feed_book.specs.Kept.{Kept}
+use Rattle.feed_edits.specs.declared.edit.Edit.{Edit}
 use Rattle.feed_book.specs.declared.reply.Reply.{Reply}
-use Rattle.feed_book.specs.declared.reply.Reply.TheVariants.{Done, Foreign, Range, Overlap, Member}
-use Rattle.feed_book.specs.Standing.{Names, last_or, names_in, is_done}
-use Rattle.feed_book.specs.Replies.{owns, fits, reply_over, reply_to, service_of}
-use Rattle.feed_book.specs.Books.{Stands, book_after, guide_of}
-use Rattle.desk_core.specs.declared.step.Step.TheVariants.{Edit as edit, Publish, Swap}
-use Rattle.desk_core.specs.declared.step.Outcome.TheVariants.{Edited, Published, Swapped}
+use Rattle.feed_book.specs.Standing.{is_done}
+use Rattle.feed_book.specs.Replies.{IsDayWithin}
+use Rattle.feed_book.specs.Limits.{IsGuideWithin}
+use Rattle.feed_book.specs.Books.{Stands, reply_to, guide_of}
+use Rattle.desk_core.specs.declared.step.Step.TheVariants.{Edit as edit, Tick, Publish, Swap}
+use Rattle.desk_core.specs.declared.step.Outcome.TheVariants.{Edited, Ticked, Late, Published, Swapped}
+use Rattle.desk_core.specs.declared.step.Outcome.{Outcome}
 use Rattle.desk_core.specs.declared.step.Entry.{Entry}
 use Rattle.desk_core.specs.declared.step.Airing.{Airing}
 use Rattle.desk_core.specs.declared.held.Held.{Held}
-use Rattle.desk_core.specs.Journal.{is_publish, publishes, moment_of}
-use Rattle.desk_core.specs.Publications.{accepted, publication, airing_of, last_aired, guide_after, AreFitNames, HasFitNames}
-use Rattle.desk_core.specs.Holding.{IsHeld, IsFit}
-use Rattle.desk_core.proofs.JournalFacts.{publishes-push, accepted-push, publication-kept, publication-new, aired-swap, aired-other, legal_more}
+use Rattle.desk_core.specs.Journal.{is_publish, accepted, publishes, moment_of, later_of, ticked}
+use Rattle.desk_core.specs.Publications.{publication, airing_of, last_aired, guide_after, aired_by}
+use Rattle.desk_core.specs.Steps.{IsStepWithin}
+use Rattle.desk_core.specs.Holding.{IsHeld}
+use Rattle.desk_core.proofs.JournalFacts.{publishes-push, accepted-push, publication-kept, publication-new, aired-swap, aired-other, moment-tick, moment-other, legal_more}
 
 b_cases : (b : Bool) → (b ≡ true) ⊎ (b ≡ false)
 b_cases true = inl refl
 b_cases false = inr refl
-
--- names within their limits
-abbrev pub AreFit : Names → Type 0
-AreFit names = (coded_size names.0 ≤ 100) × (1 ≤ coded_size names.1) × (coded_size names.1 ≤ 100)
-
-both_fit : (a b : Bool) → cond a (cond b Done (Range ServiceName)) (Range Provider) ≡ Done → (a ≡ true) × (b ≡ true)
-both_fit true true h = (refl, refl)
-both_fit true false h = cc
-both_fit false b h = cc
-
-within : (least : ℕ) (text : List ℕ) → fits least text ≡ true → (least ≤ coded_size text) × (coded_size text ≤ 100)
-within least text h = (grind (arith, nat_tests), grind (arith, nat_tests))
-
-fit_names : (service : ℕ) (provider name : List ℕ) → IsFit (Name service provider name) → AreFit (provider, name)
-fit_names service provider name h =
-    let two = both_fit (fits 0 provider) (fits 1 name) h in
-    let p = within 0 provider two.0 in
-    let n = within 1 name two.1 in
-    (p.1, n.0, n.1)
-
-given_fit : (service : ℕ) (past : List Edit) → AllByRecursion IsFit past → AllByRecursion AreFit (filter_map (names_in service) past)
-given_fit service [] h = tt
-given_fit service (Name at provider name ∷ past) h = elim (b_cases (at == service)) [
-  | inl e ↦ rw e (fit_names at provider name h.0, given_fit service past h.1)
-  | inr e ↦ rw e (given_fit service past h.1)
-]
-
-last_fit : (first : Names) (xs : List Names) → AreFit first → AllByRecursion AreFit xs → AreFit (last_or first xs)
-last_fit first [] f h = f
-last_fit first (x ∷ xs) f h = last_fit x xs h.0 h.1
-
-pub book_names : (ss : List MuxService) (past : List Edit) → AllByRecursion IsSoundService ss → AllByRecursion IsFit past
-    → AllByRecursion HasFitNames (map (λ (kept : Kept). kept.guide) (book_after ss past))
-book_names [] past sound h = tt
-book_names (s ∷ ss) past sound h =
-    let names = last_fit (s.provider, s.name) (filter_map (names_in s.service) past) (sound.0.provider, sound.0.name.0, sound.0.name.1) (given_fit s.service past h) in
-    (record { provider = names.0; least = names.1; most = names.2 }, book_names ss past sound.1 h)
-
-all_push : (past : List Edit) (e : Edit) → AllByRecursion IsFit past → IsFit e → AllByRecursion IsFit (past ++ e ∷ [])
-all_push [] e h f = (f, tt)
-all_push (x ∷ xs) e h f = (h.0, all_push xs e h.1 f)
-
-is_done-Done : (reply : Reply) → is_done reply ≡ true → reply ≡ Done
-is_done-Done Done h = refl
-is_done-Done (Foreign service) h = cc
-is_done-Done (Range field) h = cc
-is_done-Done (Overlap event) h = cc
-is_done-Done (Member place fault) h = cc
-
-over_done : (b : Bool) (reply : Reply) (service : ℕ) → is_done (cond b reply (Foreign service)) ≡ true → reply ≡ Done
-over_done true reply service h = is_done-Done reply h
-over_done false reply service h = cc
 
 -- the entry of an edit
 abbrev pub edited : ℕ → ℕ → Edit → Reply → Entry
@@ -94,16 +39,21 @@ now_accepted entries who feed e reply = accepted-push entries (edited who feed e
   | inr h ↦ rw h (append-nil (accepted entries))
 ])
 
-now_fit : (b : Bool) (past : List Edit) (e : Edit) → AllByRecursion IsFit past → (b ≡ true → IsFit e) → AllByRecursion IsFit (cond b (past ++ e ∷ []) past)
-now_fit true past e h f = all_push past e h (f refl)
-now_fit false past e h f = h
+all_push : {A : Type 0} (P : A → Type 0) (xs : List A) (x : A) → AllByRecursion P xs → P x → AllByRecursion P (xs ++ x ∷ [])
+all_push P [] x h p = (p, tt)
+all_push P (y ∷ ys) x h p = (h.0, all_push P ys x h.1 p)
+
+-- one more step that a desk may be asked
+steps_push : (entries : List Entry) (x : Entry) → AllByRecursion (λ (entry : Entry). IsStepWithin entry.step) entries → IsStepWithin x.step
+    → AllByRecursion (λ (entry : Entry). IsStepWithin entry.step) (entries ++ x ∷ [])
+steps_push entries x h within = all_push (λ (entry : Entry). IsStepWithin entry.step) entries x h within
 
 -- an entry that is no publish and no swap leaves all but the book
 pub held_edited : (mux : Mux) (entries : List Entry) (held : Held) (who feed : ℕ) (e : Edit) (reply : Reply) (book : List Kept)
-    → IsHeld mux entries held → reply ≡ reply_to mux.services feed e
+    → IsHeld mux entries held → IsDayWithin e → reply ≡ reply_to mux.services (accepted entries) feed e
     → Stands mux.services (cond (is_done reply) (accepted entries ++ e ∷ []) (accepted entries)) book
     → IsHeld mux (entries ++ edited who feed e reply ∷ []) (record held { book = book })
-held_edited mux entries held who feed e reply book h replied stands =
+held_edited mux entries held who feed e reply book h day replied stands =
     let x = edited who feed e reply in
     let count : publishes (entries ++ x ∷ []) ≡ publishes entries = publishes-push entries x ∙ omega arith in
     let now = now_accepted entries who feed e reply in
@@ -111,25 +61,25 @@ held_edited mux entries held who feed e reply book h replied stands =
     record {
       sound = h.sound;
       legal = legal_more mux [] entries x h.legal (ap Edited replied);
-      fit = subst (AllByRecursion IsFit) (sym now) (now_fit (is_done reply) (accepted entries) e h.fit
-          (λ done. over_done (owns mux.services feed (service_of e)) (reply_over e) (service_of e) (ap is_done (sym replied) ∙ done)));
+      steps = steps_push entries x h.steps day;
       book = subst (λ past. Stands mux.services past book) (sym now) stands;
+      moment = h.moment ∙ sym (moment-other mux entries x refl);
       published = h.published ∙ sym count;
       latest = h.latest ∙ sym (publication-kept mux entries x (publishes entries) (omega arith)) ∙ ap (publication mux (entries ++ x ∷ [])) (sym count);
-      latest_names = h.latest_names;
+      latest_within = h.latest_within;
       on_air = h.on_air
           ∙ ap (λ (g : Guide). let a : Airing = record { number = (last_aired mux entries).0; moment = (last_aired mux entries).1; guide = g } in a) (sym (publication-kept mux entries x (last_aired mux entries).0 h.on_air_number))
           ∙ ap (airing_of mux (entries ++ x ∷ [])) (sym aired);
-      on_air_names = h.on_air_names;
+      on_air_within = h.on_air_within;
       on_air_number = subst (λ (a : ℕ × Moment). a.0 ≤ publishes (entries ++ x ∷ [])) (sym aired) (omega (arith, h.on_air_number, count));
     }
 
 abbrev pub published_entry : ℕ → ℕ → Entry
 published_entry who n = record { who = who; step = Publish; outcome = Published n }
 
-pub held_published : (mux : Mux) (entries : List Entry) (held : Held) (who : ℕ) → IsHeld mux entries held
+pub held_published : (mux : Mux) (entries : List Entry) (held : Held) (who : ℕ) → IsHeld mux entries held → IsGuideWithin (guide_of held.book (moment_of mux entries))
     → IsHeld mux (entries ++ published_entry who (1 + held.published) ∷ []) (record held { published = 1 + held.published; latest = guide_of held.book (moment_of mux entries) })
-held_published mux entries held who h =
+held_published mux entries held who h within =
     let x = published_entry who (1 + held.published) in
     let count : publishes (entries ++ x ∷ []) ≡ 1 + publishes entries = publishes-push entries x ∙ omega arith in
     let now : accepted (entries ++ x ∷ []) ≡ accepted entries = accepted-push entries x ∙ append-nil (accepted entries) in
@@ -138,15 +88,16 @@ held_published mux entries held who h =
     record {
       sound = h.sound;
       legal = legal_more mux [] entries x h.legal (ap (λ n. Published (1 + n)) h.published);
-      fit = subst (AllByRecursion IsFit) (sym now) h.fit;
+      steps = steps_push entries x h.steps tt;
       book = subst (λ past. Stands mux.services past held.book) (sym now) h.book;
+      moment = h.moment ∙ sym (moment-other mux entries x refl);
       published = ap (λ n. 1 + n) h.published ∙ sym count;
       latest = frozen ∙ sym (publication-new mux entries x (1 + publishes entries) refl refl) ∙ ap (publication mux (entries ++ x ∷ [])) (sym count);
-      latest_names = subst (λ (g : Guide). AreFitNames g) (sym frozen) (book_names mux.services (accepted entries) h.sound.services h.fit);
+      latest_within = within;
       on_air = h.on_air
           ∙ ap (λ (g : Guide). let a : Airing = record { number = (last_aired mux entries).0; moment = (last_aired mux entries).1; guide = g } in a) (sym (publication-kept mux entries x (last_aired mux entries).0 h.on_air_number))
           ∙ ap (airing_of mux (entries ++ x ∷ [])) (sym aired);
-      on_air_names = h.on_air_names;
+      on_air_within = h.on_air_within;
       on_air_number = subst (λ (a : ℕ × Moment). a.0 ≤ publishes (entries ++ x ∷ [])) (sym aired) (omega (arith, h.on_air_number, count));
     }
 
@@ -165,51 +116,108 @@ held_swapped mux entries held who h =
     record {
       sound = h.sound;
       legal = legal_more mux [] entries x h.legal (ap (λ n. Swapped n (moment_of mux entries)) h.published);
-      fit = subst (AllByRecursion IsFit) (sym now) h.fit;
+      steps = steps_push entries x h.steps tt;
       book = subst (λ past. Stands mux.services past held.book) (sym now) h.book;
+      moment = h.moment ∙ sym (moment-other mux entries x refl);
       published = h.published ∙ sym count;
       latest = h.latest ∙ sym kept ∙ ap (publication mux (entries ++ x ∷ [])) (sym count);
-      latest_names = h.latest_names;
+      latest_within = h.latest_within;
       on_air = ap (λ (g : Guide). let a : Airing = record { number = held.published; moment = moment_of mux entries; guide = g } in a)
           (h.latest ∙ sym kept ∙ ap (publication mux (entries ++ x ∷ [])) (sym h.published))
           ∙ ap (airing_of mux (entries ++ x ∷ [])) (sym aired);
-      on_air_names = h.latest_names;
+      on_air_within = h.latest_within;
       on_air_number = subst (λ (a : ℕ × Moment). a.0 ≤ publishes (entries ++ x ∷ [])) (sym aired) (omega (arith, h.published, count));
     }
 
--- the same, by what the calls tell
-pub as_published : (mux : Mux) (entries : List Entry) (old new : Held) (who n : ℕ) (at : Moment) → IsHeld mux entries old → at ≡ moment_of mux entries
-    → n ≡ 1 + old.published → new ≡ record old { published = 1 + old.published; latest = guide_of old.book at }
-    → IsHeld mux (entries ++ published_entry who n ∷ []) new
-as_published mux entries old new who n at h now number is =
-    let same : new ≡ record old { published = 1 + old.published; latest = guide_of old.book (moment_of mux entries) } =
-    is ∙ ap (λ (m : Moment). let x : Held = record old { published = 1 + old.published; latest = guide_of old.book m } in x) now in
-    subst (λ (k : ℕ). IsHeld mux (entries ++ published_entry who k ∷ []) new) (sym number)
-    (subst (λ (x : Held). IsHeld mux (entries ++ published_entry who (1 + old.published) ∷ []) x) (sym same) (held_published mux entries old who h))
+-- the entry of a tick
+abbrev pub ticked_entry : ℕ → Moment → Outcome → Entry
+ticked_entry who at outcome = record { who = who; step = Tick at; outcome = outcome }
 
-pub as_swapped : (mux : Mux) (entries : List Entry) (old new : Held) (who n : ℕ) (at : Moment) → IsHeld mux entries old → at ≡ moment_of mux entries
-    → n ≡ old.published → new ≡ record old { on_air = record { number = old.published; moment = at; guide = old.latest } }
+-- the moment after a tick at this moment, by what it is answered
+now_ticked : (mux : Mux) (entries : List Entry) (who : ℕ) (at : Moment)
+    → moment_of mux (entries ++ ticked_entry who at (ticked (moment_of mux entries) at) ∷ []) ≡ later_of (moment_of mux entries) at
+now_ticked mux entries who at = elim (b_cases (nat_lt at.0 (moment_of mux entries).0)) [
+  | inl late ↦ rw late (moment-other mux entries (ticked_entry who at (Late (moment_of mux entries))) refl)
+  | inr later ↦ rw later (moment-tick mux entries (ticked_entry who at Ticked) at refl ∙ (rw later refl))
+]
+
+not_accepted : (entries : List Entry) (who : ℕ) (at : Moment) (outcome : Outcome) → accepted (entries ++ ticked_entry who at outcome ∷ []) ≡ accepted entries
+not_accepted entries who at outcome = accepted-push entries (ticked_entry who at outcome) ∙ append-nil (accepted entries)
+
+pub not_aired : (now at : Moment) → aired_by (ticked now at) ≡ None
+not_aired now at = elim (b_cases (nat_lt at.0 now.0)) [
+  | inl late ↦ rw late refl
+  | inr later ↦ rw later refl
+]
+
+-- a tick leaves all but the moment
+pub held_ticked : (mux : Mux) (entries : List Entry) (held : Held) (who : ℕ) (at : Moment) → IsHeld mux entries held → at.0 < 65536 * 86400
+    → IsHeld mux (entries ++ ticked_entry who at (ticked (moment_of mux entries) at) ∷ []) (record held { moment = later_of held.moment at })
+held_ticked mux entries held who at h within =
+    let x = ticked_entry who at (ticked (moment_of mux entries) at) in
+    let count : publishes (entries ++ x ∷ []) ≡ publishes entries = publishes-push entries x ∙ omega arith in
+    let now : accepted (entries ++ x ∷ []) ≡ accepted entries = not_accepted entries who at x.outcome in
+    let aired = aired-other mux entries x (not_aired (moment_of mux entries) at) in
+    record {
+      sound = h.sound;
+      legal = legal_more mux [] entries x h.legal refl;
+      steps = steps_push entries x h.steps within;
+      book = subst (λ past. Stands mux.services past held.book) (sym now) h.book;
+      moment = ap (λ (m : Moment). later_of m at) h.moment ∙ sym (now_ticked mux entries who at);
+      published = h.published ∙ sym count;
+      latest = h.latest ∙ sym (publication-kept mux entries x (publishes entries) (omega arith)) ∙ ap (publication mux (entries ++ x ∷ [])) (sym count);
+      latest_within = h.latest_within;
+      on_air = h.on_air
+          ∙ ap (λ (g : Guide). let a : Airing = record { number = (last_aired mux entries).0; moment = (last_aired mux entries).1; guide = g } in a) (sym (publication-kept mux entries x (last_aired mux entries).0 h.on_air_number))
+          ∙ ap (airing_of mux (entries ++ x ∷ [])) (sym aired);
+      on_air_within = h.on_air_within;
+      on_air_number = subst (λ (a : ℕ × Moment). a.0 ≤ publishes (entries ++ x ∷ [])) (sym aired) (omega (arith, h.on_air_number, count));
+    }
+
+-- the same, by what the calls tell
+pub as_published : (mux : Mux) (entries : List Entry) (old new : Held) (who n : ℕ) → IsHeld mux entries old
+    → n ≡ 1 + old.published → new ≡ record old { published = 1 + old.published; latest = guide_of old.book old.moment } → IsGuideWithin new.latest
+    → IsHeld mux (entries ++ published_entry who n ∷ []) new
+as_published mux entries old new who n h number is within =
+    let same : new ≡ record old { published = 1 + old.published; latest = guide_of old.book (moment_of mux entries) } =
+    is ∙ ap (λ (m : Moment). let x : Held = record old { published = 1 + old.published; latest = guide_of old.book m } in x) h.moment in
+    subst (λ (k : ℕ). IsHeld mux (entries ++ published_entry who k ∷ []) new) (sym number)
+    (subst (λ (x : Held). IsHeld mux (entries ++ published_entry who (1 + old.published) ∷ []) x) (sym same)
+    (held_published mux entries old who h (subst (λ (x : Held). IsGuideWithin x.latest) same within)))
+
+pub as_swapped : (mux : Mux) (entries : List Entry) (old new : Held) (who n : ℕ) (at : Moment) → IsHeld mux entries old → at ≡ old.moment
+    → n ≡ old.published → new ≡ record old { on_air = record { number = old.published; moment = old.moment; guide = old.latest } }
     → IsHeld mux (entries ++ swapped_entry who n at ∷ []) new
 as_swapped mux entries old new who n at h now number is =
     let P : Moment → Type 0 = λ (m : Moment). IsHeld mux (entries ++ swapped_entry who old.published m ∷ []) (record old { on_air = record { number = old.published; moment = m; guide = old.latest } }) in
+    let stood : IsHeld mux (entries ++ swapped_entry who old.published old.moment ∷ []) new =
+    subst (λ (x : Held). IsHeld mux (entries ++ swapped_entry who old.published old.moment ∷ []) x) (sym is) (subst P (sym h.moment) (held_swapped mux entries old who h)) in
     subst (λ (k : ℕ). IsHeld mux (entries ++ swapped_entry who k at ∷ []) new) (sym number)
-    (subst (λ (x : Held). IsHeld mux (entries ++ swapped_entry who old.published at ∷ []) x) (sym is) (subst P (sym now) (held_swapped mux entries old who h)))
+    (subst (λ (m : Moment). IsHeld mux (entries ++ swapped_entry who old.published m ∷ []) new) (sym now) stood)
 
-pub open_held_is : (mux : Mux) (held : Held) → IsSound mux → Stands mux.services [] held.book → held.published ≡ 0 → held.latest ≡ guide_of held.book mux.start
+pub as_ticked : (mux : Mux) (entries : List Entry) (old new : Held) (who : ℕ) (at : Moment) (outcome : Outcome) → IsHeld mux entries old → at.0 < 65536 * 86400
+    → outcome ≡ ticked old.moment at → new ≡ record old { moment = later_of old.moment at }
+    → IsHeld mux (entries ++ ticked_entry who at outcome ∷ []) new
+as_ticked mux entries old new who at outcome h within answered is =
+    let same : outcome ≡ ticked (moment_of mux entries) at = answered ∙ ap (λ (m : Moment). ticked m at) h.moment in
+    subst (λ (o : Outcome). IsHeld mux (entries ++ ticked_entry who at o ∷ []) new) (sym same)
+    (subst (λ (x : Held). IsHeld mux (entries ++ ticked_entry who at (ticked (moment_of mux entries) at) ∷ []) x) (sym is) (held_ticked mux entries old who at h within))
+
+pub open_held_is : (mux : Mux) (held : Held) → IsSound mux → Stands mux.services [] held.book → held.moment ≡ mux.start → held.published ≡ 0 → held.latest ≡ guide_of held.book mux.start → IsGuideWithin held.latest
     → held.on_air ≡ record { number = 0; moment = mux.start; guide = held.latest } → IsHeld mux [] held
-open_held_is mux held sound book published latest on_air =
+open_held_is mux held sound book moment published latest within on_air =
     let frozen : held.latest ≡ guide_after mux [] = latest ∙ ap (λ (kept : List Kept). guide_of kept mux.start) book in
-    let names : AreFitNames held.latest = subst (λ (g : Guide). AreFitNames g) (sym frozen) (book_names mux.services [] sound.services tt) in
     record {
       sound = sound;
       legal = tt;
-      fit = tt;
+      steps = tt;
       book = book;
+      moment = moment;
       published = published;
       latest = frozen;
-      latest_names = names;
+      latest_within = within;
       on_air = on_air ∙ ap (λ (g : Guide). let a : Airing = record { number = 0; moment = mux.start; guide = g } in a) frozen;
-      on_air_names = subst (λ (a : Airing). AreFitNames a.guide) (sym on_air) names;
+      on_air_within = subst (λ (a : Airing). IsGuideWithin a.guide) (sym on_air) within;
       on_air_number = omega arith;
     }
 

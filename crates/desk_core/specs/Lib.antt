@@ -3,3 +3,4 @@ pub mod Publications
 pub mod Holding
 pub mod Desks
 pub mod Rows
+pub mod Steps

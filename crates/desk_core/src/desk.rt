@@ -1,8 +1,11 @@
 // The desk.
 ghost use Rattle.std.specs.Prelude.{◌≡◌, IfOk, OnErr};
+ghost use Rattle.std.specs.List.{AllByRecursion};
+ghost use Rattle.desk_core.specs.declared.step.Entry.{Entry as AnEntry};
 ghost use Rattle.mux_config.specs.Sound.{IsSound};
 ghost use Rattle.desk_core.specs.Journal.{Legal, outcome_of, moment_of};
-ghost use Rattle.desk_core.specs.Publications.{AreFitNames};
+ghost use Rattle.feed_book.specs.Limits.{IsGuideWithin};
+ghost use Rattle.desk_core.specs.Steps.{IsStepWithin};
 ghost use Rattle.desk_core.specs.Desks.{fresh, and_entry, on_air_of, latest_of};
 
 use crate::held::{Held, open_held, perform};
@@ -14,7 +17,7 @@ use std::marker::Model;
 
 /// A desk: its multiplex, and the journal of all that it was asked. It starts with an empty journal at the multiplex's start, with
 /// publication 0 (the names of the multiplex, and no event) as the latest and as the one on air.
-#[derive(Debug, Drop)]
+#[derive(Drop)]
 pub struct Desk {
     mux: Mux,
     entries: Vec<Entry>,
@@ -47,16 +50,19 @@ impl Desk {
         })
     }
 
-    /// Does a step for a caller, and appends one entry with its outcome: an edit is answered by the reply to it, a publish
-    /// freezes what stands and is answered by its number (from 1), and a swap puts the latest publication on air and is answered by its
-    /// number and the desk's moment. All memory is taken first; want of it changes nothing.
+    /// Does a step for a caller, and appends one entry with its outcome: an edit is answered by the reply to it; a tick before
+    /// the desk's moment is late, and any other sets that moment; a publish freezes what stands with the desk's moment and is
+    /// answered by its number (from 1); and a swap puts the latest publication on air and is answered by its number and the
+    /// desk's moment. All memory is taken first; want of it changes nothing. A day that is given has at most 2,000 items, and a tick a moment that 16
+    /// bits of days can say.
     pub fn step(&mut self, who: u32, step: Step) -> Result<Outcome, AllocError>
+        requires { IsStepWithin step }
         ensures outcome { IfOk result (λ outcome. outcome ≡ outcome_of self.old.mux self.old.entries step) }
         ensures entry { IfOk result (λ outcome. self.new ≡ and_entry self.old who step outcome) }
         ensures memory { OnErr result (self.new ≡ self.old) }
     {
         self.entries.reserve(1)?;
-        let outcome = perform(&mut self.held, self.mux.start, &step)?;
+        let outcome = perform(&mut self.held, &step)?;
         self.entries.push_reserved(Entry { who, step, outcome });
         Ok(outcome)
     }
@@ -64,7 +70,7 @@ impl Desk {
     /// The publication on air, with the moment of the last swap; before any swap publication 0 and the multiplex's start.
     pub fn on_air(&self) -> Result<Airing, AllocError>
         ensures airing { IfOk result (λ airing. airing ≡ on_air_of self.now) }
-        ensures names { IfOk result (λ airing. AreFitNames airing.guide) }
+        ensures within { IfOk result (λ airing. IsGuideWithin airing.guide) }
     {
         Ok(Airing {
             number: self.held.on_air.number,
@@ -76,11 +82,11 @@ impl Desk {
     /// What `on_air` would give after a swap made now.
     pub fn latest(&self) -> Result<Airing, AllocError>
         ensures airing { IfOk result (λ airing. airing ≡ latest_of self.now) }
-        ensures names { IfOk result (λ airing. AreFitNames airing.guide) }
+        ensures within { IfOk result (λ airing. IsGuideWithin airing.guide) }
     {
         Ok(Airing {
             number: self.held.published,
-            moment: self.mux.start,
+            moment: self.held.moment,
             guide: self.held.latest.copy()?,
         })
     }
@@ -89,6 +95,7 @@ impl Desk {
     pub fn entries(&self) -> &[Entry]
         ensures value { result.now ≡ self.now.entries }
         ensures legal { Legal self.now.mux result.now }
+        ensures within { AllByRecursion (λ (entry : AnEntry). IsStepWithin entry.step) result.now }
     {
         &self.entries
     }
@@ -97,7 +104,7 @@ impl Desk {
     pub fn now(&self) -> Moment
         ensures { result ≡ moment_of self.now.mux self.now.entries }
     {
-        self.mux.start
+        self.held.moment
     }
 
     /// The multiplex.

@@ -10,5 +10,5 @@ mod laws;
 mod step;
 
 pub use desk::Desk;
-pub use laws::one_legal_journal;
+pub use laws::{one_legal_journal, publications_are_within};
 pub use step::{Airing, Entry, Outcome, Step};

@@ -3,17 +3,17 @@ use feed_book::{Edit, Reply};
 use guide_model::Guide;
 use si_time::Moment;
 
-/// A step of the desk: an edit of a feed, by its number; a publish; or a swap.
+/// A step of the desk: an edit of a feed, by its number; a tick of the clock to a moment; a publish; or a swap.
 #[derive(Debug, Drop)]
 pub enum Step {
     Edit(u8, Edit),
+    Tick(Moment),
     Publish,
     Swap,
 }
 
-/// The outcome of a step: the reply to an edit; a tick that was taken, or that came before the desk's moment; the number of
-/// the publication that was made; or the number of the one that went on air, and the moment. A desk without ticks makes no `Ticked`
-/// and no `Late`.
+/// The outcome of a step: the reply to an edit; a tick that was taken, or one that came before the desk's moment, with that
+/// moment; the number of the publication that was made; or the number of the one that went on air, and the desk's moment.
 #[derive(Debug, Clone, Copy, PartialEq, Eq)]
 pub enum Outcome {
     Edited(Reply),

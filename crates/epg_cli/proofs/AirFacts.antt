@@ -9,7 +9,7 @@ use Rattle.guide_model.specs.declared.guide.Guide.{Guide}
 use Rattle.guide_model.specs.declared.guide.ServiceGuide.{ServiceGuide}
 use Rattle.mux_config.specs.declared.mux.MuxService.{MuxService}
 use Rattle.mux_config.specs.declared.mux.Mux.{Mux}
-use Rattle.desk_core.specs.Publications.{HasFitNames, AreFitNames}
+use Rattle.feed_book.specs.Limits.{IsServiceWithin, IsGuideWithin}
 use Rattle.section_codec.specs.declared.table.NumberedBody.{NumberedBody}
 use Rattle.section_codec.specs.Section.{longest_body}
 use Rattle.carousel_player.specs.Playing.{AreFit, IsFit, Playing, AtEnd, GaveUp}
@@ -40,13 +40,13 @@ length-two n = refl
 length-descriptor : (kind : ℕ) (provider name : List ℕ) → length (service_descriptor kind provider name) ≡ 5 + length provider + length name
 length-descriptor kind provider name = omega (arith, length-append provider (length name ∷ name))
 
-length-entry : (s : MuxService) (g : ServiceGuide) → HasFitNames g → length (sdt_entry s g) ≤ 210
+length-entry : (s : MuxService) (g : ServiceGuide) → IsServiceWithin g → length (sdt_entry s g) ≤ 210
 length-entry s g fit =
     let d = service_descriptor s.kind (coded_text g.provider) (coded_text g.name) in
     omega (
       arith,
-      fit.provider,
-      fit.most,
+      fit.names.provider,
+      fit.names.name.1,
       length-coded g.provider,
       length-coded g.name,
       length-descriptor s.kind (coded_text g.provider) (coded_text g.name),
@@ -56,7 +56,7 @@ length-entry s g fit =
       length-append (two s.service ++ 0xFF ∷ two (0x8000 + length d)) d,
     )
 
-length-entries : (ss : List MuxService) (gs : List ServiceGuide) → AllByRecursion HasFitNames gs → length (sdt_entries ss gs) ≤ 210 * length ss
+length-entries : (ss : List MuxService) (gs : List ServiceGuide) → AllByRecursion IsServiceWithin gs → length (sdt_entries ss gs) ≤ 210 * length ss
 length-entries [] gs fit = omega arith
 length-entries (s ∷ ss) [] fit = omega arith
 length-entries (s ∷ ss) (g ∷ gs) fit = omega (arith, length-append (sdt_entry s g) (sdt_entries ss gs), length-entry s g fit.0, length-entries ss gs fit.1)
@@ -65,9 +65,9 @@ pub all_one : {A : Type 0} (P : A → Type 0) (x : A) → P x → All P (x ∷ [
 all_one P x p zero d lt = p
 all_one P x p (suc k) d lt = absurd (omega arith)
 
-pub tables_fit : (mux : Mux) (guide : Guide) → length mux.services ≡ 1 → AreFitNames guide → AreFit (tables_of mux guide)
+pub tables_fit : (mux : Mux) (guide : Guide) → length mux.services ≡ 1 → IsGuideWithin guide → AreFit (tables_of mux guide)
 tables_fit mux guide one fit =
-    let body : length (sdt_body mux guide) ≤ 1012 = omega (arith, length-two mux.original, length-append (two mux.original) (0xFF ∷ sdt_entries mux.services guide.services), length-entries mux.services guide.services fit, one) in
+    let body : length (sdt_body mux guide) ≤ 1012 = omega (arith, length-two mux.original, length-append (two mux.original) (0xFF ∷ sdt_entries mux.services guide.services), length-entries mux.services guide.services fit.services, one) in
     record {
       differ = (tt, tt);
       each = all_one IsFit _ (record {

@@ -12,20 +12,12 @@ use Rattle.section_codec.specs.Section.{longest_body}
 use Rattle.ts_packets.specs.Bytes.{Packet, bytes_of_packet}
 use Rattle.packet_reader.specs.Recordings.{RecordingEnd, RecordingEnd.AtEnd, is_packet, and_packet, packets_in, packet_limit, recording}
 use Rattle.packet_reader.proofs.RecordingFacts.{packet_step}
-use Rattle.feed_book.specs.declared.edit.Edit.{Edit}
-use Rattle.feed_book.specs.Standing.{is_done}
-use Rattle.feed_book.specs.Replies.{owns, reply_over, reply_to, service_of}
-use Rattle.feed_book.specs.declared.reply.Reply.{Reply}
-use Rattle.feed_book.specs.declared.reply.Reply.TheVariants.{Done, Foreign, Range, Overlap, Member}
-use Rattle.desk_core.specs.declared.step.Step.{Step}
-use Rattle.desk_core.specs.declared.step.Step.TheVariants.{Edit as edit, Publish, Swap}
-use Rattle.desk_core.specs.declared.step.Outcome.{Outcome}
+use Rattle.feed_book.specs.Limits.{IsGuideWithin}
 use Rattle.desk_core.specs.declared.step.Entry.{Entry}
-use Rattle.desk_core.specs.Journal.{is_publish, outcome_of, LegalAfter, journal_of}
-use Rattle.desk_core.specs.Publications.{accepted_by, accepted, before_publish, publication, aired_by, AreFitNames}
-use Rattle.desk_core.specs.Holding.{IsFit}
+use Rattle.desk_core.specs.Journal.{LegalAfter, journal_of}
+use Rattle.desk_core.specs.Publications.{publication, aired_by}
 use Rattle.desk_core.proofs.JournalFacts.{journal_legal}
-use Rattle.desk_core.proofs.HeldFacts.{book_names}
+use Rattle.desk_core.proofs.WithinFacts.{publications_within}
 use Rattle.air_model.specs.Air.{air, air_bytes}
 use Rattle.air_model.proofs.Airs.{air-whole}
 use Rattle.guide_receiver.specs.Texts.{done_lines}
@@ -37,52 +29,12 @@ use Rattle.epg_cli.specs.Hearing.{sdt_key, PlayIsHeard}
 use Rattle.epg_cli.proofs.AirFacts.{tables_fit}
 use Rattle.epg_cli.proofs.ScriptFacts.{IsOfScript, of_script}
 
--- ---- the edits that are accepted have names within their limits
-
-done_fits : (b : Bool) (reply : Reply) (service : ℕ) → is_done (if b then reply else Foreign service) ≡ true → reply ≡ Done
-done_fits false reply service e = cc
-done_fits true Done service e = refl
-done_fits true (Foreign other) service e = cc
-done_fits true (Range field) service e = cc
-done_fits true (Overlap event) service e = cc
-done_fits true (Member place fault) service e = cc
-
-entry_fits : (mux : Mux) (before : List Entry) (step : Step) (past : List Edit) → AllByRecursion IsFit past → AllByRecursion IsFit (cons_option (accepted_by step (outcome_of mux before step)) past)
-entry_fits mux before Publish past all = all
-entry_fits mux before Swap past all = all
-entry_fits mux before (edit feed e) past all = go (is_done (reply_to mux.services feed e)) refl
-  where
-    go : (b : Bool) → is_done (reply_to mux.services feed e) ≡ b → AllByRecursion IsFit (cons_option (if b then Some e else None) past)
-    go false is = all
-    go true is = (done_fits (owns mux.services feed (service_of e)) (reply_over e) (service_of e) is, all)
-
-published_fit : (mux : Mux) (before entries : List Entry) (n : ℕ) → LegalAfter mux before entries → AllByRecursion IsFit (accepted (before_publish n entries))
-published_fit mux before [] n legal = tt
-published_fit mux before (entry ∷ entries) n legal = go (is_publish entry.step) (n == 1) (λ m. published_fit mux (before ++ entry ∷ []) entries m legal.1)
-  where
-    more : (m : ℕ) → AllByRecursion IsFit (accepted (before_publish m entries)) → AllByRecursion IsFit (accepted (entry ∷ before_publish m entries))
-    more m rest = subst (λ (o : Outcome). AllByRecursion IsFit (cons_option (accepted_by entry.step o) (accepted (before_publish m entries)))) (sym legal.0)
-        (entry_fits mux before entry.step (accepted (before_publish m entries)) rest)
-
-    go : (p one : Bool) → ((m : ℕ) → AllByRecursion IsFit (accepted (before_publish m entries))) → AllByRecursion IsFit (accepted (if p then (if one then [] else entry ∷ before_publish (n - 1) entries) else entry ∷ before_publish n entries))
-    go true true rest = tt
-    go true false rest = more (n - 1) (rest (n - 1))
-    go false one rest = more n (rest n)
-
--- so have all publications
-publication_names : (mux : Mux) (journal : List Entry) (n : ℕ) → IsOfScript mux → LegalAfter mux [] journal → AreFitNames (publication mux journal n)
-publication_names mux journal n is legal = book_names mux.services (accepted (if n == 0 then [] else before_publish n journal)) is.services (go (n == 0))
-  where
-    go : (b : Bool) → AllByRecursion IsFit (accepted (if b then [] else before_publish n journal))
-    go true = tt
-    go false = published_fit mux [] journal n legal
-
 -- ---- each airing carries the SDT of the multiplex
 
 begins_with : (n : ℕ) (rest : List ℕ) → n < 65536 → two_at 0 (two n ++ rest) ≡ n
 begins_with n rest lt = omega (arith, lt)
 
-carries_sdt : (mux : Mux) (guide : Guide) (moment : ℕ) → IsOfScript mux → AreFitNames guide → CarriesSdt (sdt_key mux) (record { tables = tables_of mux guide; moment = moment })
+carries_sdt : (mux : Mux) (guide : Guide) (moment : ℕ) → IsOfScript mux → IsGuideWithin guide → CarriesSdt (sdt_key mux) (record { tables = tables_of mux guide; moment = moment })
 carries_sdt mux guide moment is names =
     let fit = (tables_fit mux guide is.one names).each 0 (record { key = sdt_key mux; tier = Fast; sections = [] }) (lit< tt) in
     let within : length (sdt_body mux guide) ≤ longest_body 0x42 = fit.bodies 0 (record { number = 0; body = [] }) (lit< tt) in
@@ -111,7 +63,7 @@ airings_carry mux journal (entry ∷ entries) is legal = go (aired_by entry.outc
     go : (o : Option (ℕ × Moment)) → AllByRecursion (CarriesSdt (sdt_key mux)) (filter_map (λ (entry : Entry). airing_with mux journal (aired_by entry.outcome)) entries)
         → AllByRecursion (CarriesSdt (sdt_key mux)) (cons_option (airing_with mux journal o) (filter_map (λ (entry : Entry). airing_with mux journal (aired_by entry.outcome)) entries))
     go None all = all
-    go (Some aired) all = (carries_sdt mux (publication mux journal aired.0) aired.1.0 is (publication_names mux journal aired.0 is legal), all)
+    go (Some aired) all = (carries_sdt mux (publication mux journal aired.0) aired.1.0 is (publications_within mux journal aired.0 is.services is.ascend legal), all)
 
 -- ---- an air as a recording
 

@@ -7,13 +7,12 @@ use Rattle.si_causes.specs.Text.{text_lines}
 use Rattle.ts_demux.proofs.Deciding.{and_true, le_told}
 use Rattle.mux_config.specs.declared.mux.MuxService.{MuxService}
 use Rattle.mux_config.specs.declared.mux.Mux.{Mux}
-use Rattle.mux_config.specs.Sound.{Between, IsSoundService}
-use Rattle.feed_book.specs.Replies.{fits}
+use Rattle.mux_config.specs.Sound.{DoAscend, Between, IsSoundService}
 use Rattle.epg_cli.specs.declared.records.Network.{Network}
 use Rattle.epg_cli.specs.declared.records.Stream.{Stream}
 use Rattle.epg_cli.specs.declared.records.Numbers.{Numbers}
 use Rattle.epg_cli.specs.Fields.{readable_fields, is_numeral, value_from, number_in, is_word}
-use Rattle.epg_cli.specs.Script.{AreWithin, numbers_of, service_with, service_in, service_of, network_of, stream_of, end_of, mux_of, Lines, at_end, fourth, at_service, third, at_stream, second, at_network, script_of, script_in}
+use Rattle.epg_cli.specs.Script.{fits, AreWithin, numbers_of, service_with, service_in, service_of, network_of, stream_of, end_of, mux_of, Lines, at_end, fourth, at_service, third, at_stream, second, at_network, script_of, script_in}
 
 -- the multiplex of a script
 pub record IsOfScript (mux : Mux) : Type 0 where
@@ -21,6 +20,7 @@ pub record IsOfScript (mux : Mux) : Type 0 where
   pub original : mux.original < 65536
   pub one : length mux.services ≡ 1
   pub services : AllByRecursion IsSoundService mux.services
+  pub ascend : DoAscend mux.services
 
 in_range : (low high : ℕ) (field : List ℕ) (n : ℕ) → number_in low high field ≡ Some n → Between low high n
 in_range low high field n = go (is_numeral field)
@@ -126,7 +126,7 @@ ends : (network : Network) (stream : Stream) (service : MuxService) → IsStream
 ends network stream service s sound None lines mux e = cc
 ends network stream service s sound (Some u) lines mux e =
     let same : mux_of network stream service ≡ mux = cc in
-    subst IsOfScript same (record { stream = s.0; original = s.1; one = refl; services = (sound, tt) })
+    subst IsOfScript same (record { stream = s.0; original = s.1; one = refl; services = (sound, tt); ascend = (tt, tt) })
 
 fourths : (network : Network) (stream : Stream) (service : MuxService) → IsStream stream → IsSoundService service → (lines : Lines) (mux : Mux) → (fourth network stream service lines).mux ≡ Some mux → IsOfScript mux
 fourths network stream service s sound ([], end) mux e = cc

@@ -13,12 +13,13 @@ use Rattle.ts_packets.specs.Bytes.{Packet, bytes_of_packet}
 use Rattle.air_model.specs.Air.{Aired, IsAirOf, airings_of, air, air_bytes}
 use Rattle.carousel_player.specs.Playing.{Playing, AtEnd}
 use Rattle.desk_core.specs.declared.step.Step.{Step}
-use Rattle.desk_core.specs.declared.step.Step.TheVariants.{Edit as edit, Publish, Swap}
+use Rattle.desk_core.specs.declared.step.Step.TheVariants.{Edit as edit, Tick, Publish, Swap}
 use Rattle.desk_core.specs.declared.step.Outcome.{Outcome}
 use Rattle.desk_core.specs.declared.step.Entry.{Entry}
 use Rattle.desk_core.specs.Journal.{publishes, moment_of, outcome_of, LegalAfter, Legal}
 use Rattle.desk_core.specs.Publications.{aired_by, publication}
 use Rattle.desk_core.specs.Desks.{DeskState}
+use Rattle.desk_core.proofs.HeldFacts.{not_aired}
 use Rattle.desk_core.proofs.JournalFacts.{publication-kept, aired-swap, legal_more}
 use Rattle.epg_cli.specs.Air.{airings, airing_with, tables_of}
 use Rattle.epg_cli.specs.Played.{cycle_bytes, airing_on, HasAired, IsOnAir, SentCycle, AiredTo, did, is_swap}
@@ -37,6 +38,7 @@ publishes-front (x ∷ xs) ys = omega (arith, publishes-front xs ys)
 
 step_known : (mux : Mux) (before : List Entry) (step : Step) (k : ℕ) → publishes before ≤ k → IsKnown k (aired_by (outcome_of mux before step))
 step_known mux before (edit feed e) k le = tt
+step_known mux before (Tick at) k le = subst (IsKnown k) (sym (not_aired (moment_of mux before) at)) tt
 step_known mux before Publish k le = tt
 step_known mux before Swap k le = le
 
@@ -83,16 +85,19 @@ swap_airs : (mux : Mux) (xs : List Entry) (step : Step) → is_swap step ≡ tru
 swap_airs mux xs Swap h = refl
 swap_airs mux xs Publish h = cc
 swap_airs mux xs (edit feed e) h = cc
+swap_airs mux xs (Tick at) h = cc
 
 other_airs : (mux : Mux) (xs : List Entry) (step : Step) → is_swap step ≡ false → aired_by (outcome_of mux xs step) ≡ None
 other_airs mux xs Swap h = cc
 other_airs mux xs Publish h = refl
 other_airs mux xs (edit feed e) h = refl
+other_airs mux xs (Tick at) h = not_aired (moment_of mux xs) at
 
 is_swap-Swap : (step : Step) → is_swap step ≡ true → step ≡ Swap
 is_swap-Swap Swap h = refl
 is_swap-Swap Publish h = cc
 is_swap-Swap (edit feed e) h = cc
+is_swap-Swap (Tick at) h = cc
 
 other_airings : (desk : DeskState) (step : Step) → Legal desk.mux desk.entries → is_swap step ≡ false → airings desk.mux desk.entries ≡ airings (did desk step).mux (did desk step).entries
 other_airings desk step legal h =

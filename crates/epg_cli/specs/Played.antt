@@ -8,7 +8,7 @@ use Rattle.version_book.specs.Airings.{Airing}
 use Rattle.air_model.specs.Air.{Aired, IsAirOf, airings_of, air_bytes}
 use Rattle.carousel_player.specs.Playing.{Playing, AtEnd}
 use Rattle.desk_core.specs.declared.step.Step.{Step}
-use Rattle.desk_core.specs.declared.step.Step.TheVariants.{Edit as edit, Publish, Swap}
+use Rattle.desk_core.specs.declared.step.Step.TheVariants.{Edit as edit, Tick, Publish, Swap}
 use Rattle.desk_core.specs.declared.step.Entry.{Entry}
 use Rattle.desk_core.specs.Journal.{Command, journal_after, outcome_of}
 use Rattle.desk_core.specs.Desks.{DeskState, and_entry, on_air_of}
@@ -59,6 +59,7 @@ abbrev pub is_swap : Step → Bool
 is_swap Swap = true
 is_swap Publish = false
 is_swap (edit feed e) = false
+is_swap (Tick at) = false
 
 -- the desk did a step of caller 0
 abbrev pub did : DeskState → Step → DeskState

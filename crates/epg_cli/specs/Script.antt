@@ -1,10 +1,10 @@
 -- The script of a text: the multiplex that its first four lines describe, and the commands behind them.
-use Rattle.std.specs.Prelude.{◌≡◌, ℕ, ◌+◌, Bool, false, ◌&&◌, List, [], ◌∷◌, Option, Some, None, if◌then◌else◌, codes, option_and_then, option_map}
+use Rattle.std.specs.Prelude.{◌≡◌, ℕ, ◌+◌, nat_le, Bool, false, ◌&&◌, List, [], ◌∷◌, Option, Some, None, if◌then◌else◌, codes, option_and_then, option_map}
 use Rattle.si_causes.specs.Text.{TextEnd, AtEnd, PastLimit, text_lines}
 use Rattle.mux_config.specs.declared.mux.MuxService.{MuxService}
 use Rattle.mux_config.specs.declared.mux.Mux.{Mux}
-use Rattle.feed_book.specs.Replies.{fits}
-use Rattle.feed_book.specs.declared.edit.Edit.TheVariants.{Name}
+use Rattle.si_text.specs.Coding.{coded_size}
+use Rattle.feed_edits.specs.declared.edit.Edit.TheVariants.{Name}
 use Rattle.desk_core.specs.declared.step.Step.{Step}
 use Rattle.desk_core.specs.declared.step.Step.TheVariants.{Edit as edit, Publish, Swap}
 use Rattle.desk_core.specs.Journal.{Command}
@@ -13,6 +13,10 @@ use Rattle.epg_cli.specs.declared.records.Stream.{Stream}
 use Rattle.epg_cli.specs.declared.records.Numbers.{Numbers}
 use Rattle.mux_config.specs.Sound.{Between, IsSoundService}
 use Rattle.epg_cli.specs.Fields.{readable_fields, number_in, is_word}
+
+-- a coded provider has 0 to 100 bytes, a coded name 1 to 100
+abbrev pub fits : ℕ → List ℕ → Bool
+fits least text = nat_le least (coded_size text) && nat_le (coded_size text) 100
 
 -- `feed,N,name,SERVICE,PROVIDER,NAME`
 abbrev pub name_edit : List ℕ → List ℕ → List ℕ → List ℕ → Option Step

@@ -2,6 +2,7 @@
 ghost use Rattle.std.specs.Prelude.{◌≡◌, true, false, IfOk, IfSome, IfNone};
 ghost use Rattle.si_text.specs.Coding.{coded_size};
 ghost use Rattle.mux_config.specs.Sound.{Between};
+ghost use Rattle.desk_core.specs.Steps.{IsStepWithin};
 ghost use Rattle.epg_cli.specs.Fields.{is_readable, readable_fields};
 ghost use Rattle.epg_cli.specs.Script.{IsBare, step_of, network_of, stream_of, service_of, is_end};
 
@@ -30,7 +31,8 @@ fn readable_text(line: &[u8]) -> Option<&str>
 
 /// The step of a line.
 pub(crate) fn step_line(alloc: Global, line: &[u8]) -> Result<Option<Step>, AllocError>
-    ensures { IfOk result (λ found. found ≡ step_of (readable_fields line.now)) }
+    ensures value { IfOk result (λ found. found ≡ step_of (readable_fields line.now)) }
+    ensures within { IfOk result (λ found. IfSome found IsStepWithin) }
 {
     let Some(text) = readable_text(line) else {
         return Ok(None);

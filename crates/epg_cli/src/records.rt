@@ -3,8 +3,8 @@ ghost use Rattle.std.specs.Prelude.{◌≡◌, ◌≤◌, true, map, length, IfO
 ghost use Rattle.std.specs.List.{list_all};
 ghost use Rattle.si_text.specs.Coding.{all_plain, coded_size};
 ghost use Rattle.mux_config.specs.Sound.{Between};
-ghost use Rattle.feed_book.specs.Replies.{fits};
-ghost use Rattle.epg_cli.specs.Script.{IsBare, step_of, name_edit as name_of, network_of, stream_of, service_of, is_end, numbers_of, AreWithin, service_in};
+ghost use Rattle.desk_core.specs.Steps.{IsStepWithin};
+ghost use Rattle.epg_cli.specs.Script.{fits, IsBare, step_of, name_edit as name_of, network_of, stream_of, service_of, is_end, numbers_of, AreWithin, service_in};
 
 use crate::fields::{is, number};
 use desk_core::Step;
@@ -77,7 +77,8 @@ fn name_edit(
 ) -> Result<Option<Step>, AllocError>
     requires provider { all_plain provider.now ≡ true }
     requires name { all_plain name.now ≡ true }
-    ensures { IfOk result (λ found. found ≡ name_of n.now service.now provider.now name.now) }
+    ensures value { IfOk result (λ found. found ≡ name_of n.now service.now provider.now name.now) }
+    ensures within { IfOk result (λ found. IfSome found IsStepWithin) }
 {
     let Some(feed) = number(n, 0, 255) else {
         return Ok(None);
@@ -93,7 +94,8 @@ fn name_edit(
 /// The step that the fields of a line are.
 pub(crate) fn read_step(alloc: Global, fields: &[&str]) -> Result<Option<Step>, AllocError>
     requires { list_all all_plain (map (λ x. x.now) fields.now) ≡ true }
-    ensures { IfOk result (λ found. found ≡ step_of (map (λ x. x.now) fields.now)) }
+    ensures value { IfOk result (λ found. found ≡ step_of (map (λ x. x.now) fields.now)) }
+    ensures within { IfOk result (λ found. IfSome found IsStepWithin) }
 {
     match fields {
         [word] => {

@@ -1,7 +1,7 @@
 // The service description table of a publication.
 ghost use Rattle.std.specs.Prelude.{◌≡◌, ◌≤◌, ◌+◌, ◌++◌, length, IfOk, OnOk};
 ghost use Rattle.si_text.specs.Coding.{coded_text, coded_size};
-ghost use Rattle.desk_core.specs.Publications.{AreFitNames, HasFitNames};
+ghost use Rattle.feed_book.specs.Limits.{IsGuideWithin, IsServiceWithin};
 ghost use Rattle.epg_cli.specs.Air.{service_descriptor, sdt_entry, sdt_body, tables_of};
 
 use guide_model::{Guide, ServiceGuide};
@@ -45,7 +45,7 @@ fn put_entry(
     service: &MuxService,
     names: &ServiceGuide,
 ) -> Result<(), AllocError>
-    requires { HasFitNames names.now }
+    requires { IsServiceWithin names.now }
     ensures { OnOk result (out.new.items ≡ out.old.items ++ sdt_entry service.now names.now) }
 {
     let provider = encode_text(alloc, names.provider.as_str())?;
@@ -61,7 +61,7 @@ fn put_entry(
 fn body_of(alloc: Global, mux: &Mux, guide: &Guide) -> Result<Bytes, AllocError>
     requires one_service { length mux.now.services ≡ 1 }
     requires one_guide { length guide.now.services ≡ 1 }
-    requires names { AreFitNames guide.now }
+    requires within { IsGuideWithin guide.now }
     ensures { IfOk result (λ body. body ≡ sdt_body mux.now guide.now) }
 {
     let services = mux.services.as_slice();
@@ -77,7 +77,7 @@ fn body_of(alloc: Global, mux: &Mux, guide: &Guide) -> Result<Bytes, AllocError>
 pub(crate) fn sub_tables(alloc: Global, mux: &Mux, guide: &Guide) -> Result<Tables, AllocError>
     requires one_service { length mux.now.services ≡ 1 }
     requires one_guide { length guide.now.services ≡ 1 }
-    requires names { AreFitNames guide.now }
+    requires within { IsGuideWithin guide.now }
     ensures { IfOk result (λ tables. tables.list ≡ tables_of mux.now guide.now) }
 {
     let body = body_of(alloc, mux, guide)?;

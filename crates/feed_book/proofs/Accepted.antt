@@ -93,12 +93,12 @@ off_day-word id day at (event ∷ events) read apart =
     none_left left e = left ∙ ap (unless_on day) (subst (λ n. with_id n events ≡ None) e (none_of_id event.id events (later_ids event events apart.1)))
 
 -- an accepted edit has no fault
-done_put : (o : Option DayFault) → put_reply o ≡ reply.Done → o ≡ None
+pub done_put : (o : Option DayFault) → put_reply o ≡ reply.Done → o ≡ None
 done_put None h = refl
 done_put (Some (fault.Range f)) h = absurd (let e : reply.Range f ≡ reply.Done = h in cc)
 done_put (Some (fault.Overlap id)) h = absurd (let e : reply.Overlap id ≡ reply.Done = h in cc)
 
-done_day : (o : Option (ℕ × DayFault)) → day_reply o ≡ reply.Done → o ≡ None
+pub done_day : (o : Option (ℕ × DayFault)) → day_reply o ≡ reply.Done → o ≡ None
 done_day None h = refl
 done_day (Some f) h = absurd (let e : reply.Member f.0 f.1 ≡ reply.Done = h in cc)
 

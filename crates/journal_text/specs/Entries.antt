@@ -1,28 +1,44 @@
 -- The text of a journal.
-use Rattle.std.specs.Prelude.{ℕ, ◌++◌, List, codes, decimal, flat_map}
+use Rattle.std.specs.Prelude.{ℕ, ◌++◌, List, [], ◌∷◌, codes, decimal, flat_map}
 use Rattle.std.specs.List.{AllByRecursion}
-use Rattle.feed_book.specs.declared.edit.Edit.{Edit}
-use Rattle.feed_book.specs.declared.edit.Edit.TheVariants.{Name as name_of}
+use Rattle.si_time.specs.Moments.{moment_text}
+use Rattle.feed_edits.specs.declared.edit.Item.{Item}
 use Rattle.desk_core.specs.declared.step.Step.{Step}
-use Rattle.desk_core.specs.declared.step.Step.TheVariants.{Edit as edit, Publish, Swap}
+use Rattle.desk_core.specs.declared.step.Step.TheVariants.{Edit as edit, Tick, Publish, Swap}
 use Rattle.desk_core.specs.declared.step.Entry.{Entry}
+use Rattle.desk_core.specs.Steps.{IsStepWithin}
+use Rattle.journal_text.specs.Edits.{edit_fields, items_of, line_text, item_text}
 use Rattle.journal_text.specs.Outcomes.{outcome_text, IsInWindow}
 
-abbrev pub edit_text : Edit → List ℕ
-edit_text (name_of service provider name) = codes "name," ++ decimal service ++ codes "," ++ provider ++ codes "," ++ name
+-- the fields of a step behind its caller's number
+abbrev pub step_fields : Step → List (List ℕ)
+step_fields (edit feed e) = codes "feed" ∷ decimal feed ∷ edit_fields e
+step_fields (Tick at) = codes "tick" ∷ moment_text at.0 ∷ []
+step_fields Publish = codes "publish" ∷ []
+step_fields Swap = codes "swap" ∷ []
 
-abbrev pub step_text : Step → List ℕ
-step_text (edit feed e) = codes "feed," ++ decimal feed ++ codes "," ++ edit_text e
-step_text Publish = codes "publish"
-step_text Swap = codes "swap"
+-- the items that stand on lines of their own behind it
+abbrev pub step_items : Step → List Item
+step_items (edit feed e) = items_of e
+step_items (Tick at) = []
+step_items Publish = []
+step_items Swap = []
 
--- an entry: the caller and the command on one line, the outcome on the next
+-- the caller and the step on one line, and the items of a day
+abbrev pub command_text : ℕ → Step → List ℕ
+command_text who step = line_text (decimal who ∷ step_fields step) ++ flat_map item_text (step_items step)
+
+-- an entry: its command, and the outcome on the next line
 abbrev pub entry_text : Entry → List ℕ
-entry_text entry = decimal entry.who ++ codes "," ++ step_text entry.step ++ codes "\n=," ++ outcome_text entry.outcome ++ codes "\n"
+entry_text entry = command_text entry.who entry.step ++ (codes "=," ++ outcome_text entry.outcome ++ codes "\n")
 
 abbrev pub journal_text : List Entry → List ℕ
 journal_text journal = flat_map entry_text journal
 
--- the moments of these entries can be written
+-- the moments of an entry can be written, and those of a journal
+pub record IsEntryInWindow (entry : Entry) : Type 0 where
+  pub step : IsStepWithin entry.step
+  pub outcome : IsInWindow entry.outcome
+
 abbrev pub AreInWindow : List Entry → Type 0
-AreInWindow entries = AllByRecursion (λ (entry : Entry). IsInWindow entry.outcome) entries
+AreInWindow entries = AllByRecursion IsEntryInWindow entries

@@ -1,3 +1,4 @@
+pub mod Edits
 pub mod Outcomes
 pub mod Entries
 mod Rows

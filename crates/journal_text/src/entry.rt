@@ -1,70 +1,88 @@
 // The text of a journal's entry.
-ghost use Rattle.std.specs.Prelude.{◌≡◌, ◌++◌, IfOk, OnOk, OnErr};
-ghost use Rattle.journal_text.specs.Outcomes.{IsInWindow};
-ghost use Rattle.journal_text.specs.Entries.{edit_text, step_text, entry_text};
+ghost use Rattle.std.specs.Prelude.{◌≡◌, ◌++◌, ◌∷◌, IfOk, OnOk, OnErr, codes, decimal};
+ghost use Rattle.desk_core.specs.Steps.{IsStepWithin};
+ghost use Rattle.journal_text.specs.Edits.{and_fields, IsOpenFor};
+ghost use Rattle.journal_text.specs.Outcomes.{outcome_text, IsInWindow};
+ghost use Rattle.journal_text.specs.Entries.{step_fields, step_items, command_text, entry_text, IsEntryInWindow};
 
-use crate::outcome::{put_number, put_outcome};
-use desk_core::{Entry, Step};
-use feed_book::Edit;
+use crate::edit::{add_edit, items_of, put_items};
+use crate::line::Row;
+use crate::outcome::put_outcome;
+use desk_core::{Entry, Outcome, Step};
+use feed_edits::Item;
+use si_time::write_moment;
 use std::alloc::{AllocError, Global};
 
-fn put_edit(alloc: Global, out: &mut Vec<u8>, edit: &Edit) -> Result<(), AllocError>
-    ensures { OnOk result (out.new.items ≡ out.old.items ++ edit_text edit.now) }
-{
-    match edit {
-        Edit::Name(service, provider, name) => {
-            out.extend_from_slice(b"name,")?;
-            put_number(alloc, out, *service as u64)?;
-            out.extend_from_slice(b",")?;
-            out.extend_from_slice(provider.as_str().as_bytes())?;
-            out.extend_from_slice(b",")?;
-            out.extend_from_slice(name.as_str().as_bytes())
-        }
-    }
-}
-
-fn put_step(alloc: Global, out: &mut Vec<u8>, step: &Step) -> Result<(), AllocError>
-    ensures { OnOk result (out.new.items ≡ out.old.items ++ step_text step.now) }
+// Adds the fields of a step.
+fn add_step(alloc: Global, row: &mut Row, step: &Step) -> Result<(), AllocError>
+    requires open { IsOpenFor 40 row.old }
+    requires within { IsStepWithin step.now }
+    ensures { OnOk result (row.new ≡ and_fields row.old (step_fields step.now)) }
 {
     match step {
         Step::Edit(feed, edit) => {
-            out.extend_from_slice(b"feed,")?;
-            put_number(alloc, out, *feed as u64)?;
-            out.extend_from_slice(b",")?;
-            put_edit(alloc, out, edit)
+            row.field(b"feed")?;
+            row.number(alloc, *feed as u64)?;
+            add_edit(alloc, row, edit)
         }
-        Step::Publish => out.extend_from_slice(b"publish"),
-        Step::Swap => out.extend_from_slice(b"swap"),
+        Step::Tick(at) => {
+            row.field(b"tick")?;
+            row.field(&write_moment(*at))
+        }
+        Step::Publish => row.field(b"publish"),
+        Step::Swap => row.field(b"swap"),
     }
 }
 
-fn put_entry(alloc: Global, out: &mut Vec<u8>, entry: &Entry) -> Result<(), AllocError>
-    requires { IsInWindow entry.now.outcome }
-    ensures { OnOk result (out.new.items ≡ out.old.items ++ entry_text entry.now) }
+// The items that stand on lines of their own.
+fn step_items(step: &Step) -> &[Item]
+    ensures { result.now ≡ step_items step.now }
 {
-    put_number(alloc, out, entry.who as u64)?;
-    out.extend_from_slice(b",")?;
-    put_step(alloc, out, &entry.step)?;
-    out.extend_from_slice(b"\n=,")?;
-    put_outcome(alloc, out, entry.outcome)?;
+    match step {
+        Step::Edit(_, edit) => items_of(edit),
+        _ => &[],
+    }
+}
+
+// Appends the lines of a command.
+fn put_command(alloc: Global, out: &mut Vec<u8>, who: u32, step: &Step) -> Result<(), AllocError>
+    requires { IsStepWithin step.now }
+    ensures { OnOk result (out.new.items ≡ out.old.items ++ command_text who step.now) }
+{
+    let mut row = Row::open(alloc);
+    row.number(alloc, who as u64)?;
+    add_step(alloc, &mut row, step)?;
+    row.end(out)?;
+    put_items(alloc, out, step_items(step))
+}
+
+// Appends the line of an outcome.
+fn put_outcome_line(alloc: Global, out: &mut Vec<u8>, outcome: Outcome) -> Result<(), AllocError>
+    requires { IsInWindow outcome }
+    ensures { OnOk result (out.new.items ≡ out.old.items ++ (codes "=," ++ outcome_text outcome ++ codes "\n")) }
+{
+    out.extend_from_slice(b"=,")?;
+    put_outcome(alloc, out, outcome)?;
     out.extend_from_slice(b"\n")
 }
 
 // The text of an entry in a list of its own.
 fn text_of(alloc: Global, entry: &Entry) -> Result<Vec<u8>, AllocError>
-    requires { IsInWindow entry.now.outcome }
+    requires { IsEntryInWindow entry.now }
     ensures { IfOk result (λ text. text.items ≡ entry_text entry.now) }
 {
     let mut text = Vec::new(alloc);
-    put_entry(alloc, &mut text, entry)?;
+    put_command(alloc, &mut text, entry.who, &entry.step)?;
+    put_outcome_line(alloc, &mut text, entry.outcome)?;
     Ok(text)
 }
 
-/// Appends the text of an entry: one line with its caller and its command, and one with its outcome behind `=,`. The moment of
-/// the outcome, where it has one, is in the window that 16 bits of days can say (EN 300 468, annex C). Want of memory leaves
-/// `out` with what it had.
+/// Appends the text of an entry: a line with its caller and its command, the lines of the items of a day, and a line with its
+/// outcome behind `=,`. The fields of a command are those of a record, as csv writes it. Its moments are in the window that
+/// 16 bits of days can say (EN 300 468, annex C), and a day has at most 2,000 items. Want of memory leaves `out` with what it
+/// had.
 pub fn write_entry(alloc: Global, entry: &Entry, out: &mut Vec<u8>) -> Result<(), AllocError>
-    requires window { IsInWindow entry.now.outcome }
+    requires window { IsEntryInWindow entry.now }
     ensures text { OnOk result (out.new.items ≡ out.old.items ++ entry_text entry.now) }
     ensures kept { OnErr result (out.new.items ≡ out.old.items) }
 {

@@ -4,7 +4,9 @@
 //! each call: what it appends is the text that the definitions say, or it finds no memory and appends nothing.
 #![tactic(auto)]
 
+mod edit;
 mod entry;
+mod line;
 mod outcome;
 #[cfg(test)]
 mod tests;

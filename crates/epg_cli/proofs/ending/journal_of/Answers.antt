@@ -6,4 +6,4 @@ use Rattle.epg_cli.proofs.ending.journal_of.Goals as goal
 
 pub text_of-requires : goal.text_of-requires
 text_of-requires c =
-    legal_window c.mux.result.now c.entries.result.now c.mux.ensures.sound (subst (λ (m : Mux). Legal m c.entries.result.now) (sym c.mux.ensures.value) c.entries.ensures.legal)
+    legal_window c.mux.result.now c.entries.result.now c.mux.ensures.sound c.entries.ensures.within (subst (λ (m : Mux). Legal m c.entries.result.now) (sym c.mux.ensures.value) c.entries.ensures.legal)

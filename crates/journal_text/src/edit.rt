@@ -1,0 +1,145 @@
+// The lines of an edit.
+ghost use Rattle.std.specs.Prelude.{◌≡◌, ◌++◌, ◌∷◌, [], length, ◌<◌, OnOk, IfOk, codes, decimal, flat_map};
+ghost use Rattle.journal_text.specs.Edits.{edit_fields, item_fields, item_text, items_of, genre_text, genres_text, country_text, value_text, line_text, and_field, and_fields, IsOpenFor};
+
+use crate::line::Row;
+use crate::outcome::put_number;
+use feed_edits::{Edit, Item, RawRating};
+use guide_model::Genre;
+use std::alloc::{AllocError, Global};
+
+// Appends a genre: its two levels and its user byte, with points between.
+fn put_genre(alloc: Global, out: &mut Vec<u8>, genre: Genre) -> Result<(), AllocError>
+    ensures { OnOk result (out.new.items ≡ out.old.items ++ genre_text genre) }
+{
+    put_number(alloc, out, u64::from(genre.level1))?;
+    out.extend_from_slice(b".")?;
+    put_number(alloc, out, u64::from(genre.level2))?;
+    out.extend_from_slice(b".")?;
+    put_number(alloc, out, u64::from(genre.user))
+}
+
+// Genres with a space between.
+fn text_of_genres(alloc: Global, genres: &[Genre]) -> Result<Vec<u8>, AllocError>
+    ensures { IfOk result (λ text. text.items ≡ genres_text genres.now) }
+{
+    let mut text = Vec::new(alloc);
+    let Some((first, rest)) = genres.split_first() else {
+        return Ok(text);
+    };
+    put_genre(alloc, &mut text, *first)?;
+    for genre in rest {
+        text.extend_from_slice(b" ")?;
+        put_genre(alloc, &mut text, *genre)?;
+    }
+    Ok(text)
+}
+
+fn country_of(rating: &Option<RawRating>) -> &[u8]
+    ensures { result.now ≡ country_text rating.now }
+{
+    match rating {
+        Some(rating) => rating.country.as_str().as_bytes(),
+        None => b"",
+    }
+}
+
+// Adds the value of a rating, or an empty field.
+fn add_value(alloc: Global, row: &mut Row, rating: &Option<RawRating>) -> Result<(), AllocError>
+    requires { IsOpenFor 0 row.old }
+    ensures { OnOk result (row.new ≡ and_field row.old (value_text rating.now)) }
+{
+    match rating {
+        Some(rating) => row.number(alloc, u64::from(rating.value)),
+        None => row.field(b""),
+    }
+}
+
+// Adds the fields of an item.
+fn add_item(alloc: Global, row: &mut Row, item: &Item) -> Result<(), AllocError>
+    requires { IsOpenFor 12 row.old }
+    ensures { OnOk result (row.new ≡ and_fields row.old (item_fields item.now)) }
+{
+    row.number(alloc, u64::from(item.id))?;
+    row.field(&item.start.0)?;
+    row.field(&item.length.0)?;
+    row.field(item.language.as_str().as_bytes())?;
+    row.field(item.name.as_str().as_bytes())?;
+    row.field(item.short.as_str().as_bytes())?;
+    row.field(item.extended.as_str().as_bytes())?;
+    row.field(country_of(&item.rating))?;
+    add_value(alloc, row, &item.rating)?;
+    let genres = text_of_genres(alloc, item.genres.as_slice())?;
+    row.field(&genres)
+}
+
+// Appends the line of an item of a day.
+fn put_item(alloc: Global, out: &mut Vec<u8>, item: &Item) -> Result<(), AllocError>
+    ensures { OnOk result (out.new.items ≡ out.old.items ++ item_text item.now) }
+{
+    let mut row = Row::open(alloc);
+    row.field(b"item")?;
+    add_item(alloc, &mut row, item)?;
+    row.end(out)
+}
+
+/// Appends the lines of items.
+pub(crate) fn put_items(alloc: Global, out: &mut Vec<u8>, items: &[Item]) -> Result<(), AllocError>
+    ensures { OnOk result (out.new.items ≡ out.old.items ++ flat_map item_text items.now) }
+{
+    for item in items {
+        put_item(alloc, out, item)?;
+    }
+    Ok(())
+}
+
+/// The items of a day; of another edit none.
+pub(crate) fn items_of(edit: &Edit) -> &[Item]
+    ensures { result.now ≡ items_of edit.now }
+{
+    match edit {
+        Edit::Day(_, _, items) => items.as_slice(),
+        _ => &[],
+    }
+}
+
+// Adds the fields of a put.
+fn add_put(alloc: Global, row: &mut Row, service: u16, item: &Item) -> Result<(), AllocError>
+    requires { IsOpenFor 20 row.old }
+    ensures { OnOk result (row.new ≡ and_fields row.old (codes "put" ∷ decimal service ∷ item_fields item.now)) }
+{
+    row.field(b"put")?;
+    row.number(alloc, u64::from(service))?;
+    add_item(alloc, row, item)
+}
+
+/// Adds the fields of an edit.
+pub(crate) fn add_edit(alloc: Global, row: &mut Row, edit: &Edit) -> Result<(), AllocError>
+    requires { IsOpenFor 20 row.old }
+    ensures { OnOk result (row.new ≡ and_fields row.old (edit_fields edit.now)) }
+{
+    match edit {
+        Edit::Put(service, item) => add_put(alloc, row, *service, item),
+        Edit::Withdraw(service, event) => {
+            row.field(b"withdraw")?;
+            row.number(alloc, u64::from(*service))?;
+            row.number(alloc, u64::from(*event))
+        }
+        Edit::Clear(service) => {
+            row.field(b"clear")?;
+            row.number(alloc, u64::from(*service))
+        }
+        Edit::Name(service, provider, name) => {
+            row.field(b"name")?;
+            row.number(alloc, u64::from(*service))?;
+            row.field(provider.as_str().as_bytes())?;
+            row.field(name.as_str().as_bytes())
+        }
+        Edit::Day(service, day, items) => {
+            row.field(b"day")?;
+            row.number(alloc, u64::from(*service))?;
+            row.field(&day.0)?;
+            row.number(alloc, items.len() as u64)
+        }
+    }
+}
