@@ -17,7 +17,7 @@ use std::marker::Model;
 
 /// A desk: its multiplex, and the journal of all that it was asked. It starts with an empty journal at the multiplex's start, with
 /// publication 0 (the names of the multiplex, and no event) as the latest and as the one on air.
-#[derive(Drop)]
+#[derive(Debug, Drop)]
 pub struct Desk {
     mux: Mux,
     entries: Vec<Entry>,

@@ -17,7 +17,7 @@ use si_time::Moment;
 use std::alloc::{AllocError, Global};
 
 /// What stands, the moment, how many publications were made, the latest of them, and the one on air.
-#[derive(Drop)]
+#[derive(Debug, Drop)]
 pub(crate) struct Held {
     pub(crate) book: Book,
     pub(crate) moment: Moment,
