@@ -209,15 +209,15 @@ reads-clean (c ∷ cs) ok s fields field cf f g =
     let more : Reads (encodes cs) = reads-clean cs rest in
     ⊎_elim
     (λ (low : c < 128).
-        let e = encode_ascii c low in
-        subst (λ (t : List ℕ). Clean-after s fields field (t ++ encodes cs)) (sym e)
-        (ascii-char c (encodes cs) s fields field more cf f (subst (λ (t : List ℕ). IsClean (field ++ t)) e (clean-more field c f plain)) g))
+    let e = encode_ascii c low in
+    subst (λ (t : List ℕ). Clean-after s fields field (t ++ encodes cs)) (sym e)
+    (ascii-char c (encodes cs) s fields field more cf f (subst (λ (t : List ℕ). IsClean (field ++ t)) e (clean-more field c f plain)) g))
     (λ (high : 128 ≤ c).
-        let (b, bs, e, h) = encode-high c high in
-        let joined : IsClean (field ++ (b ∷ bs)) = subst (λ (t : List ℕ). IsClean (field ++ t)) e (clean-more field c f plain) in
-        subst (λ (t : List ℕ). Clean-after s fields field (t ++ encodes cs)) (sym e)
-        (⊎_elim
-        (λ (i : step default_config s b ≡ (st.InField, act.Copy)). subst RecordClean (sym (high-run s st.InField b bs (encodes cs) fields field i (field-runs bs h.1))) (more st.InField fields (field ++ (b ∷ bs)) cf joined refl))
-        (λ (q : step default_config s b ≡ (st.InQuoted, act.Copy)). subst RecordClean (sym (high-run s st.InQuoted b bs (encodes cs) fields field q (quoted-runs bs h.1))) (more st.InQuoted fields (field ++ (b ∷ bs)) cf joined refl))
-        (high-step s b g h.0)))
+    let (b, bs, e, h) = encode-high c high in
+    let joined : IsClean (field ++ (b ∷ bs)) = subst (λ (t : List ℕ). IsClean (field ++ t)) e (clean-more field c f plain) in
+    subst (λ (t : List ℕ). Clean-after s fields field (t ++ encodes cs)) (sym e)
+    (⊎_elim
+    (λ (i : step default_config s b ≡ (st.InField, act.Copy)). subst RecordClean (sym (high-run s st.InField b bs (encodes cs) fields field i (field-runs bs h.1))) (more st.InField fields (field ++ (b ∷ bs)) cf joined refl))
+    (λ (q : step default_config s b ≡ (st.InQuoted, act.Copy)). subst RecordClean (sym (high-run s st.InQuoted b bs (encodes cs) fields field q (quoted-runs bs h.1))) (more st.InQuoted fields (field ++ (b ∷ bs)) cf joined refl))
+    (high-step s b g h.0)))
     (cases_lt c 128)

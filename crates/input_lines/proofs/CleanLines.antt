@@ -118,10 +118,13 @@ is_line_back bs e =
     let (u, n) = both (is_utf8 bs) (not (has_control bs)) r in
     record {
       short = leb-true (length bs) 16384 s;
-      kept = record { utf8 = IsUtf8-from_is_utf8 bs u; clean = elim (cases_Bool (has_control bs)) [
-        | inl c ↦ cc (rw c at n)
-        | inr c ↦ c
-      ] };
+      kept = record {
+        utf8 = IsUtf8-from_is_utf8 bs u;
+        clean = elim (cases_Bool (has_control bs)) [
+          | inl c ↦ cc (rw c at n)
+          | inr c ↦ c
+        ];
+      };
     }
 
 pub no_line_record : (bs : List ℕ) → (IsLine bs → ⊥) → record_of bs ≡ None

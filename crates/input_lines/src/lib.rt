@@ -5,12 +5,13 @@
 //! [`next_record_line`] goes on to the next line that is not passed over, in whatever pieces the source gives its text.
 #![tactic(auto)]
 
-
 mod numbers;
 mod reading;
 mod records;
 
-
 pub use numbers::{is_word, number, numeral};
 pub use reading::{next_record_line, passes_over};
 pub use records::{LineFields, fields};
+
+#[cfg(test)]
+mod tests;
