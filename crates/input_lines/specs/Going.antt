@@ -1,5 +1,5 @@
 -- How a reader goes on over the bytes that its source gives, whether or not the source tells them.
-use Rattle.std.specs.Prelude.{◌≡◌, ℕ, ◌+◌, ◌≤◌, true, false, List, [], ◌∷◌, ◌++◌, length, map, Option, Some, None, Ok, Err, Result}
+use Rattle.std.specs.Prelude.{◌≡◌, ℕ, ◌+◌, true, false, List, [], ◌∷◌, ◌++◌, length, map, Option, Some, None, Ok, Err, Result}
 use Rattle.std.specs.List.{list_all}
 use Rattle.std.specs.Io.KnownBytes.{Consumes, IsAtEnd}
 use Rattle.si_causes.specs.Causes.{Rose}
@@ -43,6 +43,8 @@ pub record FaultCame {S : Type 0} (left : S → Option (List ℕ)) (faults : S �
   pub whole : WereWhole left old new over
   pub cause : Rose (faults old.source) (faults new.source)
   pub count : new.number ≡ old.number + length over
+  -- the source had not told its end
+  pub unended : old.ended ≡ false
   pub stopped : new.stop ≡ Some Failed
 
 -- what a call tells where no earlier one stopped
