@@ -161,6 +161,7 @@ over_line left old now new n o next pass = record {
   number = let came = next.came.1 in omega (arith, came.count, line_count left old now new n o next);
   count = next.came.1.count;
   going = next.came.1.going;
+  unended = o.unended next.more_to_come;
   handed = line_out left old now new n o next;
 }
 

@@ -1,2 +1,4 @@
 pub mod Eight
 pub mod IndexFacts
+pub mod Ordering
+pub mod Reading

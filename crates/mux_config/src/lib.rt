@@ -8,6 +8,7 @@ mod fault;
 mod index;
 
 mod mux;
+mod read;
 mod record;
 mod rows;
 mod stop;
@@ -16,6 +17,7 @@ mod whole;
 pub use fault::{MuxFault, Word};
 pub use input_lines::{LineFields, fields};
 pub use mux::{Mux, MuxService, MuxServices};
+pub use read::read_mux;
 pub use record::{Numbered, Record};
 pub use stop::MuxStop;
 

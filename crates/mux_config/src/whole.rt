@@ -1,9 +1,11 @@
 // The multiplex that records make.
-ghost use Rattle.std.specs.Prelude.{◌≡◌, ◌≤◌, ◌∷◌, ◌++◌, ℕ, List, length, nat_lt, take, drop, IfOk, OnOk};
+ghost use Rattle.std.specs.Prelude.{◌≡◌, ◌≤◌, ◌∷◌, ◌++◌, [], ℕ, List, length, nat_lt, position, take, drop, IfOk, OnOk};
 ghost use Rattle.std.specs.Option.{unwrap_or};
 ghost use Rattle.mux_config.specs.declared.mux.MuxService.{MuxService};
-ghost use Rattle.mux_config.specs.Block.{all_of, cable_of as the_cable, ended, first, insert as inserted, is_network, is_stream, network_in, part_in, quota_of as the_quota, said, services_of as the_services, start_of as the_start, stream_in, with_parts as with_its_parts};
+ghost use Rattle.mux_config.specs.Block.{all_of, cable_of as the_cable, ended, first, insert as inserted, is_network, is_stream, network_in, part_in, quota_of as the_quota, said, service_in, services_of as the_services, start_of as the_start, stream_in, with_parts as with_its_parts};
+ghost use Rattle.mux_config.specs.Kinds.{put_service};
 ghost use Rattle.mux_config.specs.Reads.{Makes};
+ghost use Rattle.std.specs.List.{cons_option};
 
 use crate::fault::{MuxFault, Word};
 use crate::index::{Kind, first_of};
@@ -103,11 +105,19 @@ fn parts_of(alloc: Global, records: &[Numbered], service: u16) -> Result<Compone
 {
     let mut parts = Components::new(alloc);
     'records: for i in 0..records.len() {
-        if let Some(component) = part_of(service, &records[i].says) {
-            parts.push(component)?;
-        }
+        take_part(&mut parts, service, &records[i].says)?;
     }
     Ok(parts)
+}
+
+// Takes the component of a record, where it is one of this service.
+fn take_part(parts: &mut Components, service: u16, record: &Record) -> Result<(), AllocError>
+    ensures { OnOk result (parts.new ≡ parts.old ++ cons_option (part_in service record.now) []) }
+{
+    if let Some(component) = part_of(service, record) {
+        parts.push(component)?;
+    }
+    Ok(())
 }
 
 // A service with its components among the records.
@@ -135,12 +145,21 @@ fn place(services: &[MuxService], id: u16) -> usize
     ensures bound { result ≤ length services.now }
     ensures place { (s : MuxService) → s.service ≡ id → inserted s services.now ≡ take result services.now ++ s ∷ drop result services.now }
 {
-    match services.iter().position(|s: &MuxService| -> bool
-        ensures { result ≡ nat_lt id s.now.service }
-    { id < s.service }) {
+    match first_above(services, id) {
         Some(at) => at,
         None => services.len(),
     }
+}
+
+// The first service with a higher id.
+fn first_above(services: &[MuxService], id: u16) -> Option<usize>
+    ensures { result ≡ position (λ (t : MuxService). nat_lt id t.service) services.now }
+{
+    services.iter().position(
+        |t: &MuxService| -> bool
+            ensures { result ≡ nat_lt id t.now.service }
+        { id < t.service },
+    )
 }
 
 // Puts a service at its place among services that ascend.
@@ -158,12 +177,25 @@ fn services_of(alloc: Global, records: &[Numbered]) -> Result<MuxServices, Alloc
 {
     let mut services = Vec::new(alloc);
     'records: for i in 0..records.len() {
-        if let Record::Service(service) = &records[i].says {
-            let whole = with_parts(alloc, records, service)?;
-            insert(&mut services, whole)?;
-        }
+        take_service(alloc, records, &mut services, &records[i].says)?;
     }
     Ok(Items::of(services))
+}
+
+// Puts the service of a record, where it is one, at its place, with its components.
+fn take_service(
+    alloc: Global,
+    records: &[Numbered],
+    services: &mut Vec<MuxService>,
+    record: &Record,
+) -> Result<(), AllocError>
+    ensures { OnOk result (services.new.items ≡ put_service records.now services.old.items (service_in record.now)) }
+{
+    if let Record::Service(service) = record {
+        let whole = with_parts(alloc, records, service)?;
+        insert(services, whole)?;
+    }
+    Ok(())
 }
 
 /// The multiplex that these records make, or what is missing.
