@@ -18,6 +18,7 @@ use std::collections::BTreeMap;
 
 /// The most services of a multiplex, and the most components of a service.
 const MOST_SERVICES: u64 = 64;
+
 const MOST_PARTS: u64 = 16;
 
 // A kind of records: those that come once, and those that hold a PID as a PMT or in a service.

@@ -6,7 +6,6 @@
 
 mod fault;
 mod index;
-
 mod mux;
 mod read;
 mod record;
@@ -21,5 +20,7 @@ pub use read::read_mux;
 pub use record::{Numbered, Record};
 pub use stop::MuxStop;
 
+#[cfg(test)]
+mod read_tests;
 #[cfg(test)]
 mod tests;

@@ -1,9 +1,8 @@
 // The records of a description.
+use crate::mux::MuxService;
 use guide_model::{Cable, Component};
 use si_text::Txt;
 use si_time::Moment;
-
-use crate::mux::MuxService;
 
 /// What a line of the description says: the network's id and name; the stream's id and its original network; the cable
 /// delivery; a service, still without components; a component of a service; the moment at which the desk starts; the

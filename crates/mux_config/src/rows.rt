@@ -26,7 +26,11 @@ fn short(low: u32, high: u32, n: u32) -> Option<u16>
     ensures some { IfSome result (λ m. (in_range low high n ≡ true) × (m ≡ n)) }
     ensures none { IfNone result (in_range low high n ≡ false) }
 {
-    if is_in(low, high, n) { Some(n as u16) } else { None }
+    if is_in(low, high, n) {
+        Some(n as u16)
+    } else {
+        None
+    }
 }
 
 // A number of a range of 8 bits.
@@ -35,7 +39,11 @@ fn byte(low: u32, high: u32, n: u32) -> Option<u8>
     ensures some { IfSome result (λ m. (in_range low high n ≡ true) × (m ≡ n)) }
     ensures none { IfNone result (in_range low high n ≡ false) }
 {
-    if is_in(low, high, n) { Some(n as u8) } else { None }
+    if is_in(low, high, n) {
+        Some(n as u8)
+    } else {
+        None
+    }
 }
 
 // Whether the coded form of a text has a size in a range.
@@ -281,7 +289,11 @@ fn quota(quota: &Txt) -> Found
     let Some(n) = numeral(quota.as_str()) else {
         return Found::NoRecord;
     };
-    if is_in(1, 10_000, n) { Found::Is(Record::Quota(n)) } else { Found::OutOfRange }
+    if is_in(1, 10_000, n) {
+        Found::Is(Record::Quota(n))
+    } else {
+        Found::OutOfRange
+    }
 }
 
 // The record of two fields behind its word.
