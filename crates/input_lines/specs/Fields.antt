@@ -1,8 +1,10 @@
 -- The fields of an input line, by the words of csv.
 use Rattle.std.specs.Prelude.{◌≤◌, ℕ, Bool, ◌&&◌, not, nat_le, List, [], length, Option, Some, None, if◌then◌else◌}
 use Rattle.std.specs.Str.{is_utf8}
-use Rattle.csv.specs.Machine.{Read, next_record}
-use Rattle.csv.specs.Reading.{default_config, strip_bom}
+use Rattle.csv.specs.Machine.{Read}
+unfoldable pub use Rattle.csv.specs.Machine.{next_record}
+use Rattle.csv.specs.Reading.{default_config}
+unfoldable pub use Rattle.csv.specs.Reading.{strip_bom}
 use Rattle.csv.specs.declared.parser.State.TheVariants.{StartRecord}
 use Rattle.si_text.specs.Control.{has_control}
 use Rattle.si_text.specs.Decoding.{IsKept}

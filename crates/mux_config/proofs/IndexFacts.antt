@@ -44,21 +44,21 @@ or_none : (o : Option ℕ) → option_or o None ≡ o
 or_none None = refl
 or_none (Some n) = refl
 
-first_kept : (test : Record → Bool) (rs : List Numbered) (r : Numbered) → test r.says ≡ false → first_line test (rs ++ r ∷ []) ≡ first_line test rs
+pub first_kept : (test : Record → Bool) (rs : List Numbered) (r : Numbered) → test r.says ≡ false → first_line test (rs ++ r ∷ []) ≡ first_line test rs
 first_kept test rs r e = first_more test rs r ∙ ap (λ b. option_or (first_line test rs) (cond b (Some r.line) None)) e ∙ or_none (first_line test rs)
 
-all_kept : {X : Type 0} (kind : Record → Option X) (rs : List Numbered) (r : Numbered) → kind r.says ≡ None → all_of kind (rs ++ r ∷ []) ≡ all_of kind rs
+pub all_kept : {X : Type 0} (kind : Record → Option X) (rs : List Numbered) (r : Numbered) → kind r.says ≡ None → all_of kind (rs ++ r ∷ []) ≡ all_of kind rs
 all_kept kind rs r e = all_more kind rs r ∙ ap (λ o. all_of kind rs ++ cons_option o []) e ∙ append-nil (all_of kind rs)
 
-or_none_left : (a b : Option ℕ) → option_or a b ≡ None → a ≡ None
+pub or_none_left : (a b : Option ℕ) → option_or a b ≡ None → a ≡ None
 or_none_left None b e = refl
 or_none_left (Some n) b e = cc e
 
-or_none_right : (a b : Option ℕ) → option_or a b ≡ None → b ≡ None
+pub or_none_right : (a b : Option ℕ) → option_or a b ≡ None → b ≡ None
 or_none_right None b e = e
 or_none_right (Some n) b e = cc e
 
-first_before : (test : Record → Bool) (rs : List Numbered) (r : Numbered) → first_line test (rs ++ r ∷ []) ≡ None → first_line test rs ≡ None
+pub first_before : (test : Record → Bool) (rs : List Numbered) (r : Numbered) → first_line test (rs ++ r ∷ []) ≡ None → first_line test rs ≡ None
 first_before test rs r e = or_none_left (first_line test rs) (cond (test r.says) (Some r.line) None) (sym (first_more test rs r) ∙ e)
 
 -- a line holds a PID only where some line has it

@@ -2,3 +2,4 @@ pub mod Eight
 pub mod IndexFacts
 pub mod Ordering
 pub mod Reading
+pub mod Soundness

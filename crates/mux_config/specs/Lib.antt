@@ -1,7 +1,9 @@
 pub mod Sound
 pub mod Fields
 pub mod Block
+pub mod Fine
 pub mod Kinds
 pub mod Index
 pub mod Reads
-pub mod Rows
+mod Rows
+mod BlockRows

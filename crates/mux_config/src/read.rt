@@ -5,6 +5,8 @@ ghost use Rattle.input_lines.specs.Lines.{lines_of};
 ghost use Rattle.mux_config.specs.declared.stop.MuxStop.TheVariants.{Read};
 ghost use Rattle.mux_config.specs.Block.{is_end as ends_here};
 ghost use Rattle.mux_config.specs.Fields.{found_line as found_there};
+ghost use Rattle.mux_config.specs.Fine.{AreFine, IsFine, IsFineFound};
+ghost use Rattle.mux_config.specs.Sound.{IsSound};
 ghost use Rattle.mux_config.specs.Index.{IsIndexed};
 ghost use Rattle.mux_config.specs.Reads.{MuxCame, ReadMux, TookLine};
 ghost use Rattle.mux_config.specs.declared.record.Found.TheVariants.{Is};
@@ -22,7 +24,8 @@ use std::alloc::{AllocError, Global};
 
 // What a line says.
 fn found_line(alloc: Global, line: &[u8]) -> Result<Found, AllocError>
-    ensures { IfOk result (λ found. found ≡ found_there line.now) }
+    ensures value { IfOk result (λ found. found ≡ found_there line.now) }
+    ensures fine { IfOk result IsFineFound }
 {
     match fields(alloc, line)? {
         Some(fields) => found_in(alloc, fields.as_slice()),
@@ -46,6 +49,7 @@ fn take_line(
     requires { IsIndexed records.old.list.items records.old }
     ensures took { TookLine records.old.list.items number (found_there line.now) records.new.list.items result }
     ensures indexed { OnOk result (IsIndexed records.new.list.items records.new) }
+    ensures fine { OnOk result (AreFine records.old.list.items → AreFine records.new.list.items) }
 {
     let says = match found_line(alloc, line)? {
         Found::NoRecord => return Err(MuxStop::Fault(MuxFault::Line(number))),
@@ -57,9 +61,11 @@ fn take_line(
 
 // Takes the record of a line.
 fn take_record(records: &mut Records, number: u64, says: Record) -> Result<bool, MuxStop>
-    requires { IsIndexed records.old.list.items records.old }
+    requires indexed { IsIndexed records.old.list.items records.old }
+    requires fine { IsFine says }
     ensures took { TookLine records.old.list.items number (Is says) records.new.list.items result }
     ensures indexed { OnOk result (IsIndexed records.new.list.items records.new) }
+    ensures fine { OnOk result (AreFine records.old.list.items → AreFine records.new.list.items) }
 {
     if records.has_no_place(&says) {
         return Err(MuxStop::Fault(MuxFault::Range(number)));
@@ -83,6 +89,7 @@ pub fn read_mux<S: Source>(alloc: Global, lines: &mut LineReader<S>) -> Result<M
     ensures block { lines.old.stop ≡ None → (text : List ℕ) → text_left S.left lines.old ≡ Some text
         → ReadMux S.left lines.old lines.new (lines_of lines.old text) result }
     ensures came { lines.old.stop ≡ None → MuxCame S.left S.faults lines.old lines.new result }
+    ensures sound { IfOk result IsSound }
     ensures sticky { IfSome lines.old.stop (λ stop. (result ≡ Err (Read stop)) × (lines.new ≡ lines.old)) }
     ensures later { S.faults lines.old.source ≤ S.faults lines.new.source }
     ensures same { S.same lines.old.source lines.new.source }

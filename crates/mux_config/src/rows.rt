@@ -3,6 +3,8 @@ ghost use Rattle.std.specs.Prelude.{◌≡◌, ◌<◌, ◌∷◌, [], true, fal
 ghost use Rattle.si_text.specs.Coding.{coded_size};
 ghost use Rattle.input_lines.specs.Numbers.{in_range, is_word as is_service_word};
 ghost use Rattle.mux_config.specs.declared.record.Found.TheVariants.{NoRecord};
+ghost use Rattle.mux_config.specs.Fine.{IsFineFound};
+ghost use Rattle.mux_config.specs.Sound.{Between, HasSoundLanguage};
 ghost use Rattle.mux_config.specs.Fields.{network_in, stream_in, cable_in, delivery_with, numbers_in, service_with, service_of as numbers_service, bare_service, is_letter as is_small_letter, is_language as is_a_language, language_of, part_in, start_in, quota_in, found_in};
 
 use crate::mux::MuxService;
@@ -15,7 +17,8 @@ use std::alloc::{AllocError, Global};
 
 // Whether a number is in a range.
 fn is_in(low: u32, high: u32, n: u32) -> bool
-    ensures { result ≡ in_range low high n }
+    ensures value { result ≡ in_range low high n }
+    ensures bounds { result ≡ true → Between low high n }
 {
     low <= n && n <= high
 }
@@ -25,6 +28,7 @@ fn short(low: u32, high: u32, n: u32) -> Option<u16>
     requires { high < 65536 }
     ensures some { IfSome result (λ m. (in_range low high n ≡ true) × (m ≡ n)) }
     ensures none { IfNone result (in_range low high n ≡ false) }
+    ensures bounds { IfSome result (Between low high) }
 {
     if is_in(low, high, n) {
         Some(n as u16)
@@ -38,6 +42,7 @@ fn byte(low: u32, high: u32, n: u32) -> Option<u8>
     requires { high < 256 }
     ensures some { IfSome result (λ m. (in_range low high n ≡ true) × (m ≡ n)) }
     ensures none { IfNone result (in_range low high n ≡ false) }
+    ensures bounds { IfSome result (Between low high) }
 {
     if is_in(low, high, n) {
         Some(n as u8)
@@ -48,7 +53,8 @@ fn byte(low: u32, high: u32, n: u32) -> Option<u8>
 
 // Whether the coded form of a text has a size in a range.
 fn fits(low: usize, text: &Txt) -> bool
-    ensures { result ≡ in_range low 100 (coded_size text.now) }
+    ensures value { result ≡ in_range low 100 (coded_size text.now) }
+    ensures bounds { result ≡ true → Between low 100 (coded_size text.now) }
 {
     let size = coded_len(text.as_str());
     low <= size && size <= 100
@@ -56,7 +62,8 @@ fn fits(low: usize, text: &Txt) -> bool
 
 // `network,ID,NAME`
 fn network(id: &Txt, name: &Txt) -> Result<Found, AllocError>
-    ensures { IfOk result (λ found. found ≡ network_in id.now name.now) }
+    ensures value { IfOk result (λ found. found ≡ network_in id.now name.now) }
+    ensures fine { IfOk result IsFineFound }
 {
     let Some(id) = numeral(id.as_str()) else {
         return Ok(Found::NoRecord);
@@ -72,7 +79,8 @@ fn network(id: &Txt, name: &Txt) -> Result<Found, AllocError>
 
 // `stream,ID,ORIGINAL`
 fn stream(id: &Txt, original: &Txt) -> Found
-    ensures { result ≡ stream_in id.now original.now }
+    ensures value { result ≡ stream_in id.now original.now }
+    ensures fine { IsFineFound result }
 {
     let Some(id) = numeral(id.as_str()) else {
         return Found::NoRecord;
@@ -91,7 +99,8 @@ fn stream(id: &Txt, original: &Txt) -> Found
 
 // `cable,FREQUENCY,MODULATION,SYMBOLRATE,OUTER,INNER`
 fn cable(frequency: &Txt, modulation: &Txt, rate: &Txt, outer: &Txt, inner: &Txt) -> Found
-    ensures { result ≡ cable_in frequency.now modulation.now rate.now outer.now inner.now }
+    ensures value { result ≡ cable_in frequency.now modulation.now rate.now outer.now inner.now }
+    ensures fine { IsFineFound result }
 {
     let Some(frequency) = numeral(frequency.as_str()) else {
         return Found::NoRecord;
@@ -113,7 +122,8 @@ fn cable(frequency: &Txt, modulation: &Txt, rate: &Txt, outer: &Txt, inner: &Txt
 
 // The cable delivery of these numbers.
 fn delivery(frequency: u32, modulation: u32, symbol_rate: u32, outer: u32, inner: u32) -> Found
-    ensures { result ≡ delivery_with frequency modulation symbol_rate outer inner }
+    ensures value { result ≡ delivery_with frequency modulation symbol_rate outer inner }
+    ensures fine { IsFineFound result }
 {
     if !is_in(0, 99_999_999, frequency) {
         return Found::OutOfRange;
@@ -156,7 +166,8 @@ fn service_of(
     provider: &Txt,
     name: &Txt,
 ) -> Result<Found, AllocError>
-    ensures { IfOk result (λ found. found ≡ service_with (bare_service numbers.service numbers.feed numbers.kind numbers.pmt_pid numbers.pcr_pid provider.now name.now)) }
+    ensures value { IfOk result (λ found. found ≡ service_with (bare_service numbers.service numbers.feed numbers.kind numbers.pmt_pid numbers.pcr_pid provider.now name.now)) }
+    ensures fine { IfOk result IsFineFound }
 {
     let Some(service) = short(1, 65_535, numbers.service) else {
         return Ok(Found::OutOfRange);
@@ -229,7 +240,8 @@ fn is_letter(b: u8) -> bool
 // The language that a field is.
 fn language(field: &Txt) -> Option<[u8; 3]>
     requires { is_a_language field.now ≡ true }
-    ensures { result ≡ language_of field.now }
+    ensures value { result ≡ language_of field.now }
+    ensures sound { HasSoundLanguage result }
 {
     match field.as_str().as_bytes() {
         [a, b, c] => Some([*a, *b, *c]),
@@ -239,7 +251,8 @@ fn language(field: &Txt) -> Option<[u8; 3]>
 
 // `component,SERVICE,TYPE,PID,LANGUAGE`
 fn part(service: &Txt, kind: &Txt, pid: &Txt, spoken: &Txt) -> Found
-    ensures { result ≡ part_in service.now kind.now pid.now spoken.now }
+    ensures value { result ≡ part_in service.now kind.now pid.now spoken.now }
+    ensures fine { IsFineFound result }
 {
     let Some(service) = numeral(service.as_str()) else {
         return Found::NoRecord;
@@ -274,7 +287,8 @@ fn part(service: &Txt, kind: &Txt, pid: &Txt, spoken: &Txt) -> Found
 
 // `start,MOMENT`
 fn start(moment: &Txt) -> Found
-    ensures { result ≡ start_in moment.now }
+    ensures value { result ≡ start_in moment.now }
+    ensures fine { IsFineFound result }
 {
     match read_moment(moment.as_str().as_bytes()) {
         Some(moment) => Found::Is(Record::Start(moment)),
@@ -284,7 +298,8 @@ fn start(moment: &Txt) -> Found
 
 // `quota,N`
 fn quota(quota: &Txt) -> Found
-    ensures { result ≡ quota_in quota.now }
+    ensures value { result ≡ quota_in quota.now }
+    ensures fine { IsFineFound result }
 {
     let Some(n) = numeral(quota.as_str()) else {
         return Found::NoRecord;
@@ -298,7 +313,8 @@ fn quota(quota: &Txt) -> Found
 
 // The record of two fields behind its word.
 fn record_of_two(word: &Txt, a: &Txt, b: &Txt) -> Result<Found, AllocError>
-    ensures { IfOk result (λ found. found ≡ found_in (word.now ∷ a.now ∷ b.now ∷ [])) }
+    ensures value { IfOk result (λ found. found ≡ found_in (word.now ∷ a.now ∷ b.now ∷ [])) }
+    ensures fine { IfOk result IsFineFound }
 {
     if is_word(word.as_str(), "network") {
         return network(a, b);
@@ -311,7 +327,8 @@ fn record_of_two(word: &Txt, a: &Txt, b: &Txt) -> Result<Found, AllocError>
 
 // The record of one field behind its word.
 fn record_of_one(word: &Txt, a: &Txt) -> Found
-    ensures { result ≡ found_in (word.now ∷ a.now ∷ []) }
+    ensures value { result ≡ found_in (word.now ∷ a.now ∷ []) }
+    ensures fine { IsFineFound result }
 {
     if is_word(word.as_str(), "start") {
         return start(a);
@@ -330,7 +347,8 @@ fn record_of_eight(
     provider: &Txt,
     name: &Txt,
 ) -> Result<Found, AllocError>
-    ensures { IfOk result (λ found. found ≡ (if is_service_word (codes "service") word.now then numbers_service numbers provider.now name.now else NoRecord)) }
+    ensures value { IfOk result (λ found. found ≡ (if is_service_word (codes "service") word.now then numbers_service numbers provider.now name.now else NoRecord)) }
+    ensures fine { IfOk result IsFineFound }
 {
     if !is_word(word.as_str(), "service") {
         return Ok(Found::NoRecord);
@@ -343,7 +361,8 @@ fn record_of_eight(
 
 /// What the fields of a line say.
 pub(crate) fn found_in(alloc: Global, fields: &[Txt]) -> Result<Found, AllocError>
-    ensures { IfOk result (λ found. found ≡ found_in fields.now) }
+    ensures value { IfOk result (λ found. found ≡ found_in fields.now) }
+    ensures fine { IfOk result IsFineFound }
 {
     match fields {
         [word] => {

@@ -7,6 +7,8 @@ use Rattle.mux_config.specs.Block.{and_found, ended, fault_of, is_end}
 use Rattle.mux_config.specs.Fields.{found_line}
 use Rattle.mux_config.specs.Reads.{Makes, TookLine}
 use Rattle.mux_config.proofs.Reading.{NextLine, Taken, taken_none, taken_more, ended_read, ended_came, line_read, line_came, stop_came, stop_read, took_on, took_end}
+use Rattle.mux_config.specs.Fine.{AreFine}
+use Rattle.mux_config.proofs.Soundness.{fine_none, sound_made}
 use Rattle.mux_config.proofs.read.read_mux.Goals as goal
 
 pub lines-init : goal.lines-init
@@ -14,6 +16,7 @@ lines-init g c = record {
   stuck = stuck_at c.args.lines.now.stop c.args.lines.now;
   same = g.met.S.Source.same_at_once c.args.lines.now.source;
   later = omega arith;
+  fine = subst AreFine (sym c.new-records.ensures.none) fine_none;
   indexed = c.new-records.ensures.indexed;
   taken = λ going. subst (Taken g.S.Source.left c.args.lines.now c.args.lines.now) (sym c.new-records.ensures.none) (taken_none g.S.Source.left c.args.lines.now going);
 }
@@ -26,6 +29,7 @@ lines-preserved g c =
       stuck = stays_stuck c.args.lines.now.stop c.args.lines.now c.lines.lines c.next_record_line.new.lines c.in-Ok-Some.number refl i.stuck e.sticky;
       same = g.met.S.Source.same_later c.args.lines.now.source c.lines.lines.source c.next_record_line.new.lines.source i.same e.same;
       later = omega (arith, i.later, e.later);
+      fine = c.in-Ok-false.ensures.fine i.fine;
       indexed = c.in-Ok-false.ensures.indexed;
       taken = λ going.
           let t = i.taken going in
@@ -58,3 +62,7 @@ returns-in-Err-clause-came g c = λ going.
     let i = c.lines.invariant in
     let t = i.taken going in
     stop_came g.S.Source.left g.S.Source.faults c.args.lines.now c.lines.lines c.next_record_line.new.lines c.lines.records.list.items c.in-Err.stop t (c.in-Err.ensures.came t.going) i.later
+
+pub returns-in-Ok-true-clause-sound : goal.returns-in-Ok-true-clause-sound
+returns-in-Ok-true-clause-sound g c = sound_made c.deref.result.now c.multiplex.result
+    (subst AreFine (sym c.deref.ensures.value) (c.in-Ok-true.ensures.fine c.lines.invariant.fine)) c.multiplex.ensures
