@@ -1,0 +1,4 @@
+pub mod Items
+pub mod Heads
+pub mod Ahead
+pub mod Edits
