@@ -55,8 +55,9 @@ rating_of [] [] = Some None
 rating_of [] (v ∷ vs) = None
 rating_of (c ∷ cs) value = option_map (λ n. Some (rating_with (c ∷ cs) n)) (number_in 0 255 value)
 
-abbrev pub item_with : List ℕ → List ℕ → List ℕ → List ℕ → ℕ → Stamp → Length → Option RawRating → List Genre → Item
-item_with language name short extended id start length rating genres = record {
+-- the event of these texts and values, where each value is there
+abbrev pub item_with : List ℕ → List ℕ → List ℕ → List ℕ → Option ℕ → Option Stamp → Option Length → Option (Option RawRating) → Option (List Genre) → Option Item
+item_with language name short extended (Some id) (Some start) (Some length) (Some rating) (Some genres) = Some (record {
   id = id;
   start = start;
   length = length;
@@ -66,14 +67,13 @@ item_with language name short extended id start length rating genres = record {
   extended = extended;
   rating = rating;
   genres = genres;
-}
+})
+item_with language name short extended id start length rating genres = None
 
 -- EVENT,START,DURATION,LANGUAGE,NAME,SHORT,EXTENDED,COUNTRY,RATING,GENRES
 unfoldable pub item_of : List (List ℕ) → Option Item
 item_of (event ∷ start ∷ length ∷ language ∷ name ∷ short ∷ extended ∷ country ∷ rating ∷ genres ∷ []) =
-    option_and_then (λ i. option_and_then (λ s. option_and_then (λ l. option_and_then (λ r. option_map
-    (λ g. item_with language name short extended i s l r g)
-    (genres_of genres)) (rating_of country rating)) (length_of length)) (stamp_of start)) (number_in 0 65535 event)
+    item_with language name short extended (number_in 0 65535 event) (stamp_of start) (length_of length) (rating_of country rating) (genres_of genres)
 item_of fields = None
 
 -- `item,` and the fields of an event
