@@ -105,6 +105,7 @@ pub record Over {S : Type 0} (left : S → Known) (old now : Reading S) : Type 0
   pub passed : list_all is_passed over ≡ true
   pub going : now.stop ≡ None
   pub count : now.number ≡ old.number + length over
+  pub since : now.ended ≡ false → old.ended ≡ false
   pub handed : now.ended ≡ false → HandedOut left old now over
   pub told : (text : List ℕ) → text_left left old ≡ Some text → (rest : List ℕ) × (text_left left now ≡ Some rest) × (lines_of old text ≡ (over ++ (lines_of now rest).0, (lines_of now rest).1))
 
@@ -114,6 +115,7 @@ over_none left reader going = record {
   passed = refl;
   going = going;
   count = omega arith;
+  since = λ e. e;
   handed = λ e. handed_none left reader;
   told = λ text told. (text, told, refl);
 }
@@ -145,6 +147,7 @@ over_more left old now new n o next pass = record {
   passed = passed_more o.over new.line o.passed pass;
   going = next.came.1.going;
   count = omega (arith, line_count left old now new n o next, length-append o.over (new.line ∷ []));
+  since = λ e. o.since next.more_to_come;
   handed = line_out left old now new n o next;
   told = λ text told.
       let t = line_told left old now new n o next text told in
@@ -160,6 +163,7 @@ over_line left old now new n o next pass = record {
   number = let came = next.came.1 in omega (arith, came.count, line_count left old now new n o next);
   count = next.came.1.count;
   going = next.came.1.going;
+  unended = o.since next.more_to_come;
   handed = line_out left old now new n o next;
 }
 
@@ -179,6 +183,7 @@ over_first left old now new n o next pass text told =
           ∙ record_first n new.line (lines_of new t.0).0 pass;
       stop = ap (λ (q : Lines). q.1) t.2;
       count = came.count;
+      last = omega (arith, number, ap (λ (q : Lines). length q.0) t.2, length-append o.over (new.line ∷ (lines_of new t.0).0));
     }
 
 none_left : (n : ℕ) (over : List (List ℕ)) (all : Lines) (end : TextEnd) → list_all is_passed over ≡ true → all ≡ (over ++ [], end) → record_lines n all.0 ≡ []
@@ -217,6 +222,7 @@ over_fault left faults old now new o came unended rose = record {
   over = o.over;
   passed = o.passed;
   whole = subst (WereWhole left old new) (append-nil o.over) (whole_more left old now new o.over [] (o.handed unended) (failed_whole left faults now new came));
+  unended = o.since unended;
   cause = rose;
   count = omega (arith, came.count, o.count);
   stopped = came.stopped;

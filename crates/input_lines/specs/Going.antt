@@ -33,6 +33,8 @@ pub record LineCame {S : Type 0} (left : S → Option (List ℕ)) (old new : Rea
   pub number : n ≡ old.number + length over + 1
   pub count : new.number ≡ n
   pub going : new.stop ≡ None
+  -- the source had not told its end before
+  pub unended : old.ended ≡ false
   -- a line without an LF is the last
   pub handed : new.ended ≡ false → HandedOut left old new (over ++ new.line ∷ [])
 
@@ -41,6 +43,8 @@ pub record FaultCame {S : Type 0} (left : S → Option (List ℕ)) (faults : S �
   pub over : List (List ℕ)
   pub passed : list_all is_passed over ≡ true
   pub whole : WereWhole left old new over
+  -- the source had not told its end before
+  pub unended : old.ended ≡ false
   pub cause : Rose (faults old.source) (faults new.source)
   pub count : new.number ≡ old.number + length over
   pub stopped : new.stop ≡ Some Failed
