@@ -2,3 +2,4 @@ pub mod Items
 pub mod Heads
 pub mod Ahead
 pub mod Edits
+pub mod Reads

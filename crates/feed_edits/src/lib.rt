@@ -9,7 +9,9 @@
 mod edit;
 mod heads;
 mod items;
+mod reading;
 mod stop;
 
 pub use edit::{DayItems, DayText, Edit, Item, Length, RawRating, Stamp};
+pub use reading::{next_edit, read_edit};
 pub use stop::EditStop;
