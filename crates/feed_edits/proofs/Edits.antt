@@ -99,7 +99,7 @@ pub made_none : {S : Type 0} (left : S → Known) (count : ℕ) (items : List It
 made_none left count items reader e =
     let all : count ≡ count - 0 = omega arith in
     let same : (a : Ahead) → items_of count a ≡ onto items (items_of (count - 0) a) =
-      λ a. onto_nil (items_of count a) ∙ ap (λ (l : List Item). onto l (items_of count a)) (sym e) ∙ ap (λ k. onto items (items_of k a)) all in
+    λ a. onto_nil (items_of count a) ∙ ap (λ (l : List Item). onto l (items_of count a)) (sym e) ∙ ap (λ k. onto items (items_of k a)) all in
     record {
       gives = λ going text told. leaves_same left (items_of count) (λ a. onto items (items_of (count - 0) a)) reader text told same;
       takes = λ going. passes_same left (items_of count) (λ a. onto items (items_of (count - 0) a)) reader going same;
@@ -122,7 +122,7 @@ made_more left faults count counter items longer item old now new lt e m next =
     let g : Ahead → Found (List Item) = λ a. onto longer (items_of (count - (counter + 1)) a) in
     let fewer : count - counter ≡ suc (count - (counter + 1)) = omega arith in
     let goes : (a b : Ahead) → first_item a ≡ Came item b → f a ≡ g b =
-      λ a b h. more_items (count - counter) (count - (counter + 1)) items item fewer a b h ∙ ap (λ (l : List Item). onto l (items_of (count - (counter + 1)) b)) (sym e) in
+    λ a b h. more_items (count - counter) (count - (counter + 1)) items item fewer a b h ∙ ap (λ (l : List Item). onto l (items_of (count - (counter + 1)) b)) (sym e) in
     record {
       gives = λ going text told.
           let l = m.gives going text told in
@@ -144,8 +144,8 @@ made_all left faults count counter items old now e m =
 pub made_stop : {S : Type 0} (left : S → Known) (faults : S → ℕ) (count counter : ℕ) (items : List Item) (stop : EditStop) (old now new : Reading S) → counter < count → faults old.source ≤ faults now.source
     → Made left count counter items old now → NextItem left faults now new (Err stop)
     → (old.stop ≡ None → (text : List ℕ) → text_left left old ≡ Some text → Gives {T = List Item} left (items_of count) old new text (Err stop))
-      × (old.stop ≡ None → Takes {T = List Item} left faults (items_of count) old new (Err stop))
-      × IfSome old.stop (λ s. new ≡ old)
+    × (old.stop ≡ None → Takes {T = List Item} left faults (items_of count) old new (Err stop))
+    × IfSome old.stop (λ s. new ≡ old)
 made_stop left faults count counter items stop old now new lt later m next =
     let f : Ahead → Found (List Item) = λ a. onto items (items_of (count - counter) a) in
     let fewer : count - counter ≡ suc (count - (counter + 1)) = omega arith in

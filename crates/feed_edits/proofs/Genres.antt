@@ -68,7 +68,7 @@ three_parts a b u =
           let lt : position_or_len (λ c. c == 46) u < length u = grind (arith, nat_tests) in
           let behind = some_part (λ c. c == 46) (after_first (λ c. c == 46) u) in
           rw (slice_split_first (λ c. c == 46) u 0 lt, behind.2, pointed_is_none 0 255 u lt) (sym (none_last (number_in 0 255 a) (number_in 0 255 b)))
-        )
+          )
       | inr e ↦ (let eq : position_or_len (λ c. c == 46) u ≡ length u = grind (arith, nat_tests) in rw (one_part (λ c. c == 46) u eq) refl)
     ]
 

@@ -15,3 +15,6 @@ mod stop;
 pub use edit::{DayItems, DayText, Edit, Item, Length, RawRating, Stamp};
 pub use reading::{next_edit, read_edit};
 pub use stop::EditStop;
+
+#[cfg(test)]
+mod tests;

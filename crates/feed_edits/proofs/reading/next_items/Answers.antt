@@ -23,7 +23,7 @@ items-preserved g c =
     let kept = c.in_default.ensures.kept in
     record {
       made = made_more g.S.Source.left g.S.Source.faults c.args.count c.items.counter c.items.items c.keep.new.items c.in-Ok.item c.args.lines.now c.items.lines c.next_item.new.lines c.items-test.true kept i.made
-        (record { gives = e.gives; takes = e.takes; sticky = e.sticky });
+          (record { gives = e.gives; takes = e.takes; sticky = e.sticky });
       counted = omega (arith, i.counted, ap length kept, length-append c.items.items (c.in-Ok.item ∷ []));
       shaped = rw kept (All-push IsShapedItem c.items.items c.in-Ok.item i.shaped e.shaped);
       later = omega (arith, i.later, e.later);
@@ -35,7 +35,7 @@ returns-in-Err g c =
     let i = c.items.invariant in
     let e = c.in-Err.ensures in
     let stop = made_stop g.S.Source.left g.S.Source.faults c.args.count c.items.counter c.items.items c.in-Err.stop c.args.lines.now c.items.lines c.next_item.new.lines c.items-test.true i.later i.made
-        (record { gives = e.gives; takes = e.takes; sticky = e.sticky }) in
+    (record { gives = e.gives; takes = e.takes; sticky = e.sticky }) in
     record {
       gives = stop.0;
       takes = stop.1;
