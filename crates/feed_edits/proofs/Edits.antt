@@ -23,10 +23,10 @@ use Rattle.feed_edits.specs.Edits.{first_item, items_of, on_line, with_items, ed
 use Rattle.feed_edits.specs.Reads.{Leaves, Gives, Passes, Takes, Says}
 use Rattle.feed_edits.proofs.Turns.{Known, passes_step, leaves_step, row_passes, row_leaves, row_stop_takes, row_stop_gives, row_none, takes_stop, gives_stop, says_takes, says_gives, passes_same, leaves_same, passes_join, leaves_join, takes_join, gives_join, gives_same, stuck_at, stuck_on}
 
-abbrev item_in : List ℕ → Option Item
+abbrev pub item_in : List ℕ → Option Item
 item_in line = option_and_then item_line (record_of line)
 
-abbrev head_in : List ℕ → Option Head
+abbrev pub head_in : List ℕ → Option Head
 head_in line = option_and_then edit_head (record_of line)
 
 item_goes : (n : ℕ) (line : List ℕ) (a b : Ahead) → first_row missing_at a ≡ Came (n, line) b → first_item a ≡ on_line n (item_in line) b

@@ -3,3 +3,4 @@ pub mod Heads
 pub mod Ahead
 pub mod Edits
 pub mod Reads
+pub mod Back
