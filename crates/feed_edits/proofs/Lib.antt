@@ -4,3 +4,4 @@ pub mod Shapes
 pub mod Turns
 pub mod Edits
 pub mod Fewer
+pub mod Back

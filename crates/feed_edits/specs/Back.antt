@@ -13,7 +13,7 @@ use Rattle.feed_edits.specs.Edits.{read_edit, first_edit, and_edits, edits_ahead
 
 -- `a.b.u`, with points (46)
 abbrev pub genre_field : Genre → List ℕ
-genre_field g = decimal g.level1 ++ 46 ∷ decimal g.level2 ++ 46 ∷ decimal g.user
+genre_field g = decimal g.level1 ++ 46 ∷ (decimal g.level2 ++ 46 ∷ decimal g.user)
 
 -- GENRES, with single spaces (32) between
 abbrev pub genres_field : List Genre → List ℕ
