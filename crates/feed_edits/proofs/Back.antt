@@ -1,18 +1,17 @@
 -- What is written of an edit reads back as the edit.
-use Rattle.std.proofs.Common.{◌≡◌, ◌≢◌, ◌≤◌, ◌<◌, ◌^◌, ℕ, Bool, true, false, not, suc, List, [], ◌∷◌, ◌++◌, length, refl, ap, sym, ◌∙◌, arith, rules, inl, inr, lit<, append_assoc}
-use Rattle.std.specs.Prelude.{Option, Some, None, IfSome, codes, decimal, map, ◌==◌, ◌&&◌, nat_le, option_map, option_and_then}
-use Rattle.std.specs.List.{list_all, slice_split, All, AllByRecursion, join_with_byte}
+use Rattle.std.proofs.Common.{◌≡◌, ◌≢◌, ◌≤◌, ◌<◌, ◌^◌, ℕ, true, false, not, suc, List, [], ◌∷◌, ◌++◌, length, refl, ap, ◌∙◌, arith, rules, inl, inr, lit<}
+use Rattle.std.specs.Prelude.{Option, Some, None, IfSome, codes, decimal, map, ◌==◌, nat_le}
+use Rattle.std.specs.List.{list_all, slice_split, All, AllByRecursion}
 use Rattle.std.proofs.lemmas.Str.Parse.{IsNumeralModel, numerals_by_fold}
 use Rattle.std.proofs.lemmas.Fmt.{digits_decimal, digits_value-decimal, length-decimal-le, decimal_nonempty}
 use Rattle.std.proofs.lemmas.Bool.Decides.{nat_tests}
 use Rattle.std.proofs.lemmas.List.Folds.{list_all-append}
 use Rattle.si_text.proofs.PlainFacts.{and_left, and_right}
-use Rattle.si_time.specs.Readings.{has_shape}
 use Rattle.guide_model.specs.declared.event.Genre.{Genre}
-use Rattle.input_lines.specs.Numbers.{is_digit, is_numeral, value_from, number_in, is_word}
+use Rattle.input_lines.specs.Numbers.{is_digit, is_numeral, value_from, number_in}
 use Rattle.feed_edits.specs.declared.edit.RawRating.{RawRating}
 use Rattle.feed_edits.specs.declared.edit.Item.{Item}
-use Rattle.feed_edits.specs.Items.{genre_of, genre_from, genres_of, all_some, rating_of, stamp_of, length_of, day_of, item_of, item_line, IsShapedItem}
+use Rattle.feed_edits.specs.Items.{genre_of, genre_from, genres_of, all_some, rating_of, item_of, item_line, IsShapedItem}
 use Rattle.feed_edits.specs.declared.edit.Edit.{Edit}
 use Rattle.feed_edits.specs.declared.edit.Edit.TheVariants.{Put, Withdraw, Clear, Name, Day}
 use Rattle.feed_edits.specs.declared.heads.Head.{Head}
@@ -53,7 +52,6 @@ number_back n high le most =
 
 -- ---- parts
 
-
 -- what stands before the byte is the first part
 split_front : (c : ℕ) (xs ys : List ℕ) → list_all (λ b. not (b == c)) xs ≡ true → slice_split (λ b. b == c) (xs ++ c ∷ ys) ≡ xs ∷ slice_split (λ b. b == c) ys
 split_front c [] ys h = let e : (c == c) ≡ true = grind (arith, nat_tests) in rw e refl
@@ -88,8 +86,8 @@ genre_parts : (g : Genre) → HasGenreNumbers g → slice_split (λ b. b == 46) 
 genre_parts g h =
     split_front 46 (decimal g.level1) (middle g) (digits_lack 46 (decimal g.level1) (lit< tt) (digits_of g.level1 255 h.level1 (omega arith)))
     ∙ ap (λ (l : List (List ℕ)). decimal g.level1 ∷ l)
-      (split_front 46 (decimal g.level2) (decimal g.user) (digits_lack 46 (decimal g.level2) (lit< tt) (digits_of g.level2 255 h.level2 (omega arith)))
-      ∙ ap (λ (l : List (List ℕ)). decimal g.level2 ∷ l) (split_last 46 (decimal g.user) (digits_lack 46 (decimal g.user) (lit< tt) (digits_of g.user 255 h.user (omega arith)))))
+    (split_front 46 (decimal g.level2) (decimal g.user) (digits_lack 46 (decimal g.level2) (lit< tt) (digits_of g.level2 255 h.level2 (omega arith)))
+    ∙ ap (λ (l : List (List ℕ)). decimal g.level2 ∷ l) (split_last 46 (decimal g.user) (digits_lack 46 (decimal g.user) (lit< tt) (digits_of g.user 255 h.user (omega arith)))))
 
 pub genre_back : (g : Genre) → HasGenreNumbers g → genre_of (genre_field g) ≡ Some g
 genre_back g h =

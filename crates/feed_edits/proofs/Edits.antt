@@ -13,10 +13,10 @@ use Rattle.feed_edits.specs.declared.edit.DayText.{DayText}
 use Rattle.feed_edits.specs.declared.edit.Edit.{Edit}
 use Rattle.feed_edits.specs.declared.edit.Edit.TheVariants.{Day}
 use Rattle.feed_edits.specs.declared.heads.Head.{Head}
-use Rattle.feed_edits.specs.declared.heads.Head.TheVariants.{Whole, OfDay}
+use Rattle.feed_edits.specs.declared.heads.Head.TheVariants.{OfDay}
 use Rattle.feed_edits.specs.declared.stop.EditStop.{EditStop}
 use Rattle.feed_edits.specs.declared.stop.EditStop.TheVariants.{NoCommand as Refused, Read, Memory}
-use Rattle.feed_edits.specs.Ahead.{Ahead, Row, Tail, Found, Came, Stopped, Stop, End, NoCommand, and_then, first_row, missing_at, stop_at, ahead}
+use Rattle.feed_edits.specs.Ahead.{Ahead, Row, Found, Came, Stopped, Stop, End, NoCommand, and_then, first_row, missing_at, stop_at, ahead}
 use Rattle.feed_edits.specs.Items.{item_line}
 use Rattle.feed_edits.specs.Heads.{edit_head}
 use Rattle.feed_edits.specs.Edits.{first_item, items_of, on_line, with_items, edit_from, first_edit, read_edit}

@@ -1,5 +1,5 @@
 -- What is ahead gets fewer lines with each edit.
-use Rattle.std.proofs.Common.{◌≡◌, ◌≤◌, ◌-◌, ℕ, zero, suc, List, [], ◌∷◌, length, refl, ap, sym, ◌∙◌, arith}
+use Rattle.std.proofs.Common.{◌≡◌, ◌≤◌, ◌-◌, ℕ, zero, suc, List, [], ◌∷◌, length, refl, ap, sym, arith}
 use Rattle.std.specs.Prelude.{Option, Some, None}
 use Rattle.feed_edits.specs.declared.edit.Item.{Item}
 use Rattle.feed_edits.specs.declared.edit.Edit.{Edit}

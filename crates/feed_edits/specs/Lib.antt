@@ -4,3 +4,4 @@ pub mod Ahead
 pub mod Edits
 pub mod Reads
 pub mod Back
+mod Rows

@@ -1,17 +1,15 @@
 -- Worked rows of the definitions.
 use Rattle.std.specs.Prelude.{◌≡◌, ℕ, List, [], ◌∷◌, ◌++◌, Some, None, refl, codes}
-use Rattle.std.specs.Str.{chars, is_utf8}
-use Rattle.csv.specs.Machine.{next_record}
-use Rattle.csv.specs.Reading.{strip_bom}
+use Rattle.std.specs.Fmt.{digits}
+use Rattle.input_lines.specs.Fields.{fields_compute}
 use Rattle.feed_edits.specs.declared.edit.Item.{Item}
-use Rattle.feed_edits.specs.declared.edit.RawRating.{RawRating}
-use Rattle.feed_edits.specs.declared.edit.Edit.TheVariants.{Put, Withdraw, Clear, Name, Day}
+use Rattle.feed_edits.specs.declared.edit.Edit.TheVariants.{Put, Withdraw, Clear, Day}
 use Rattle.feed_edits.specs.declared.heads.Head.TheVariants.{Whole, OfDay}
-use Rattle.feed_edits.specs.Ahead.{End, NoCommand, TooLong}
+use Rattle.feed_edits.specs.Ahead.{End, NoCommand}
 use Rattle.feed_edits.specs.Items.{genre_of, genres_of, rating_of, item_of, item_line}
 use Rattle.feed_edits.specs.Heads.{edit_head}
 use Rattle.feed_edits.specs.Edits.{items_of, edits_ahead, edits_of}
-use Rattle.feed_edits.specs.Back.{item_fields, edit_fields, genres_field}
+use Rattle.feed_edits.specs.Back.{edit_fields, genres_field}
 
 -- single spaces part genres, and points their numbers
 two_genres : genres_of (codes "1.2.255 03.0.0") ≡ Some (record { level1 = 1; level2 = 2; user = 255 } ∷ record { level1 = 3; level2 = 0; user = 0 } ∷ [])
@@ -93,22 +91,31 @@ day_of_2001 = refl
 
 -- edits of texts
 two_edits : edits_of (codes "#x\n\nclear,101\r\n\"withdraw\",2,03") ≡ (Clear 101 ∷ Withdraw 2 3 ∷ [], End)
-unfolding chars is_utf8 lib.Utf8.encode next_record strip_bom edit_head edits_ahead
+unfolding fields_compute edit_head edits_ahead
 two_edits = refl
 
 other_line : edits_of (codes "clear,101\nname,1,Acme\nclear,2\n") ≡ (Clear 101 ∷ [], NoCommand 2)
-unfolding chars is_utf8 lib.Utf8.encode next_record strip_bom edit_head edits_ahead
+unfolding fields_compute edit_head edits_ahead
 other_line = refl
 
 a_day : edits_of (codes "day,101,1993-10-13,1\n#\nitem,7,1993-10-13T13:00:00Z,00:30:00,eng,News,,,,,\n") ≡ (Day 101 (record { 0 = codes "1993-10-13" }) (news ∷ []) ∷ [], End)
-unfolding chars is_utf8 lib.Utf8.encode next_record strip_bom edit_head edits_ahead items_of item_line item_of
+unfolding fields_compute edit_head edits_ahead items_of item_line item_of
 a_day = refl
 
 -- where an item is missing, its line is the one that is no command
 missing_item : edits_of (codes "day,101,1993-10-13,2\n#\nitem,7,1993-10-13T13:00:00Z,00:30:00,eng,News,,,,,\n#\n\n") ≡ ([], NoCommand 6)
-unfolding chars is_utf8 lib.Utf8.encode next_record strip_bom edit_head edits_ahead items_of item_line item_of
+unfolding fields_compute edit_head edits_ahead items_of item_line item_of
 missing_item = refl
 
 bad_item : edits_of (codes "clear,3\nday,101,1993-10-13,2\n#\nclear,4\n") ≡ (Clear 3 ∷ [], NoCommand 4)
-unfolding chars is_utf8 lib.Utf8.encode next_record strip_bom edit_head edits_ahead items_of item_line item_of
+unfolding fields_compute edit_head edits_ahead items_of item_line item_of
 bad_item = refl
+
+-- the way back: decimal numbers without leading zeros
+put_fields : edit_fields (Put 101 news) ≡ codes "put" ∷ codes "101" ∷ codes "7" ∷ news_fields
+unfolding digits
+put_fields = refl
+
+genres_back : genres_field (record { level1 = 1; level2 = 2; user = 255 } ∷ record { level1 = 3; level2 = 0; user = 0 } ∷ []) ≡ codes "1.2.255 3.0.0"
+unfolding digits
+genres_back = refl

@@ -1,8 +1,8 @@
-use Rattle.std.proofs.Common.{◌≡◌, [], List, ℕ, sym, ap, ◌∙◌, refl}
+use Rattle.std.proofs.Common.{◌≡◌, sym, ap, ◌∙◌, refl}
 use Rattle.std.specs.Prelude.{None, Some}
 use Rattle.input_lines.specs.Numbers.{number_in}
-use Rattle.feed_edits.specs.Items.{item_of, item_with, stamp_of, length_of, rating_of, genres_of}
-use Rattle.feed_edits.proofs.Ten.{ten, item_of_ten, no_id, no_start, no_length, no_rating, no_genres}
+use Rattle.feed_edits.specs.Items.{stamp_of, length_of, rating_of, genres_of}
+use Rattle.feed_edits.proofs.Ten.{ten, item_of_ten, no_start, no_length, no_rating, no_genres}
 use Rattle.feed_edits.proofs.Shapes.{item_shaped}
 use Rattle.feed_edits.proofs.items.read_item.Goals as goal
 

@@ -1,9 +1,7 @@
-use Rattle.std.proofs.Common.{◌≡◌, ◌-◌, ◌∷◌, [], ℕ, length, arith, refl, sym, ap, ◌∙◌, subst, length-append}
-use Rattle.std.specs.Prelude.{Ok, Err}
-use Rattle.std.specs.List.{All}
+use Rattle.std.proofs.Common.{◌≡◌, ◌-◌, ◌∷◌, [], length, arith, refl, ap, length-append}
 use Rattle.std.proofs.lemmas.List.Elements.{All-push, All-nil}
 use Rattle.feed_edits.specs.Items.{IsShapedItem}
-use Rattle.feed_edits.proofs.Edits.{Made, NextItem, made_none, made_more, made_all, made_stop}
+use Rattle.feed_edits.proofs.Edits.{made_none, made_more, made_all, made_stop}
 use Rattle.feed_edits.proofs.Turns.{stuck_on}
 use Rattle.feed_edits.proofs.reading.next_items.Goals as goal
 
