@@ -1,0 +1,7 @@
+pub mod Genres
+pub mod Ten
+pub mod Shapes
+pub mod Turns
+pub mod Edits
+pub mod Fewer
+pub mod Back

@@ -1,0 +1,7 @@
+pub mod Items
+pub mod Heads
+pub mod Ahead
+pub mod Edits
+pub mod Reads
+pub mod Back
+mod Rows

@@ -181,6 +181,7 @@ over_first left old now new n o next pass text told =
           ∙ record_first n new.line (lines_of new t.0).0 pass;
       stop = ap (λ (q : Lines). q.1) t.2;
       count = came.count;
+      last = omega (arith, number, ap (λ (q : Lines). length q.0) t.2, length-append o.over (new.line ∷ (lines_of new t.0).0));
     }
 
 none_left : (n : ℕ) (over : List (List ℕ)) (all : Lines) (end : TextEnd) → list_all is_passed over ≡ true → all ≡ (over ++ [], end) → record_lines n all.0 ≡ []

@@ -13,6 +13,8 @@ pub record FirstRecord {S : Type 0} (left : S → Option (List ℕ)) (old new : 
   pub first : record_lines (old.number + 1) lines.0 ≡ (n, new.line) ∷ record_lines (n + 1) (lines_of new rest).0
   pub stop : lines.1 ≡ (lines_of new rest).1
   pub count : new.number ≡ n
+  -- the last line keeps its number
+  pub last : old.number + length lines.0 ≡ n + length (lines_of new rest).0
 
 -- no record was left, and the text ends
 pub record NoRecord {S : Type 0} (left : S → Option (List ℕ)) (old new : Reading S) (lines : Lines) : Type 0 where
