@@ -9,7 +9,7 @@ use Rattle.epg_cli.proofs.play.send.Goals as goal
 pub swap-requires-clause-fit : goal.swap-requires-clause-fit
 swap-requires-clause-fit g c =
     subst (λ (l : List SubTable). AreFit l) (sym c.in_ok-tables.ensures)
-    (tables_fit c.mux.result.now c.in_ok-airing.airing.guide (ap (λ (m : Mux). length m.services) c.mux.ensures.value ∙ c.requires.one_service) c.in_ok-airing.ensures.names)
+    (tables_fit c.mux.result.now c.in_ok-airing.airing.guide (ap (λ (m : Mux). length m.services) c.mux.ensures.value ∙ c.requires.one_service) c.in_ok-airing.ensures.within)
 
 pub returns-in-Ok-clause-sent : goal.returns-in-Ok-clause-sent
 returns-in-Ok-clause-sent g c = λ xs at_end.
