@@ -1,5 +1,5 @@
 -- A line of eight fields.
-use Rattle.std.proofs.Common.{◌≡◌, ◌∙◌, ap, Option, ℕ, ◌<◌, ◌≤◌, List, [], ◌∷◌, length, get_or, refl, arith}
+use Rattle.std.proofs.Common.{◌≡◌, ◌∙◌, ap, Option, ℕ, ◌<◌, ◌≤◌, List, [], ◌∷◌, length, get_or, arith}
 use Rattle.std.specs.Prelude.{if◌then◌else◌, codes}
 use Rattle.input_lines.specs.Numbers.{is_word}
 use Rattle.mux_config.specs.declared.rows.Numbers.{Numbers}

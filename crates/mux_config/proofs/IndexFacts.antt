@@ -3,7 +3,7 @@ use Rattle.std.proofs.Common.{◌≡◌, ℕ, ◌+◌, ◌==◌, Bool, true, fal
 use Rattle.std.specs.Prelude.{◌||◌, not, nat_le, option_map}
 use Rattle.std.specs.List.{list_any, cons_option}
 use Rattle.std.specs.Option.{option_or, is_some}
-use Rattle.std.specs.Ordering.{nat_cmp, eq_by_cmp}
+use Rattle.std.specs.Ordering.{nat_cmp}
 use Rattle.std.specs.Cmp.{unsigned_ties}
 use Rattle.std.specs.BTreeMap.{BTreeMap, get, is_at}
 use Rattle.std.proofs.lemmas.Bool.{cases_Bool, eqb-true}
@@ -15,7 +15,7 @@ use Rattle.mux_config.specs.declared.record.Record.TheVariants.{Network, Stream,
 use Rattle.mux_config.specs.declared.record.Numbered.{Numbered}
 use Rattle.mux_config.specs.declared.index.Records.{Records}
 use Rattle.mux_config.specs.declared.index.Standing.{Standing}
-use Rattle.mux_config.specs.Block.{all_of, first, first_line, has_id, has_pmt, has_pid, has_part, holds, part_in, service_in, has_no_place, repeated_at, numbered}
+use Rattle.mux_config.specs.Block.{all_of, first, first_line, has_id, has_pmt, has_pid, holds, part_in, service_in, repeated_at, numbered}
 use Rattle.mux_config.specs.Index.{IsIndexed, SetsAt, SetsFirst, lacks_room, parts, standing, with_part}
 
 -- ---- lists of records

@@ -1,24 +1,24 @@
 -- The lines of a description, one after another.
-use Rattle.std.proofs.Common.{◌≡◌, ℕ, ◌+◌, ◌≤◌, Bool, true, false, cond, List, [], ◌∷◌, ◌++◌, length, Option, Some, None, Ok, Err, refl, sym, ap, ◌∙◌, subst, arith, inl, inr, append-nil, append_assoc}
-use Rattle.std.specs.Prelude.{Result, IfSome}
+use Rattle.std.proofs.Common.{◌≡◌, ℕ, ◌+◌, ◌≤◌, true, false, List, [], ◌∷◌, ◌++◌, length, Option, Some, None, Ok, Err, refl, sym, ap, ◌∙◌, subst, arith, inl, inr, append-nil, append_assoc}
+use Rattle.std.specs.Prelude.{Result}
 use Rattle.std.specs.List.{list_all}
 use Rattle.si_causes.specs.Causes.{Rose}
 use Rattle.si_causes.specs.Reading.{Reading, text_left}
-use Rattle.si_causes.specs.Text.{TextEnd, AtEnd, PastLimit}
+use Rattle.si_causes.specs.Text.{TextEnd, AtEnd}
 use Rattle.si_causes.specs.declared.stop.ReadStop.{ReadStop}
 use Rattle.si_causes.specs.declared.stop.ReadStop.TheVariants.{Failed, TooLong}
-use Rattle.input_lines.specs.Lines.{Lines, is_passed, lines_of, record_lines}
-use Rattle.input_lines.specs.Going.{HandedOut, WereWhole, LineCame, RecordCame, FaultCame as ReadFault}
-use Rattle.input_lines.specs.Records.{FirstRecord, NoRecord, NoneInLimit, GivesRecord}
+use Rattle.input_lines.specs.Lines.{is_passed, lines_of, record_lines}
+use Rattle.input_lines.specs.Going.{HandedOut, LineCame, RecordCame}
+use Rattle.input_lines.specs.Records.{FirstRecord, NoRecord, GivesRecord}
 use Rattle.input_lines.proofs.Steps.{handed_none, handed_more, whole_more, records_past, record_first}
 use Rattle.mux_config.specs.declared.fault.MuxFault.{MuxFault}
 use Rattle.mux_config.specs.declared.mux.Mux.{Mux}
 use Rattle.mux_config.specs.declared.stop.MuxStop.{MuxStop}
 use Rattle.mux_config.specs.declared.stop.MuxStop.TheVariants.{Fault, Read, Memory}
 use Rattle.mux_config.specs.declared.record.Numbered.{Numbered}
-use Rattle.mux_config.specs.Block.{Block, Faulty, Whole, Unended, and_found, at_text_end, block_from, block_of, ended, fault_of, is_end, unless}
+use Rattle.mux_config.specs.Block.{Block, Faulty, Whole, Unended, and_found, at_text_end, block_from, block_of, ended, fault_of, is_end}
 use Rattle.mux_config.specs.Fields.{found_line}
-use Rattle.mux_config.specs.Reads.{Described, FaultCame, Makes, MuxCame, ReadMux, TookLine}
+use Rattle.mux_config.specs.Reads.{Makes, MuxCame, ReadMux, TookLine}
 
 abbrev Known : Type 0
 Known = Option (List ℕ)

@@ -1,11 +1,10 @@
 -- What holds of records that were taken, and of their multiplex.
 use Rattle.std.proofs.Common.{◌≡◌, ◌≢◌, ℕ, ◌+◌, ◌*◌, ◌<◌, ◌≤◌, ◌==◌, Bool, true, false, cond, List, [], ◌∷◌, ◌++◌, length, map, Option, Some, None, refl, sym, ap, ◌∙◌, subst, arith, inl, inr, append-nil, length-append, eq-eqb, lit<, lit≤, ◌⊎◌}
-use Rattle.std.specs.Prelude.{◌||◌, ◌&&◌, nat_lt, nat_le, Ok, Err, Result, IfOk, IfSome}
-use Rattle.std.specs.List.{AllByRecursion, cons_option, find, flat_map, fold}
-use Rattle.std.specs.Option.{option_or, unwrap_or}
+use Rattle.std.specs.Prelude.{◌||◌, ◌&&◌, nat_lt, nat_le, Ok, Err, Result, IfOk}
+use Rattle.std.specs.List.{AllByRecursion, cons_option, fold}
+use Rattle.std.specs.Option.{unwrap_or}
 use Rattle.std.proofs.lemmas.Bool.{cases_Bool, eqb-true, leb-true, false≢true}
 use Rattle.std.proofs.lemmas.Bool.Decides.{nat_tests}
-use Rattle.guide_model.specs.declared.stream.Cable.{Cable}
 use Rattle.guide_model.specs.declared.stream.Component.{Component}
 use Rattle.si_time.specs.declared.moment.Moment.{Moment}
 use Rattle.si_text.specs.Coding.{coded_size}
@@ -14,13 +13,12 @@ use Rattle.mux_config.specs.declared.mux.Mux.{Mux}
 use Rattle.mux_config.specs.declared.record.Record.{Record}
 use Rattle.mux_config.specs.declared.record.Record.TheVariants.{Network, Stream, Delivery, Service, Part, Start, Quota, End}
 use Rattle.mux_config.specs.declared.record.Numbered.{Numbered}
-use Rattle.mux_config.specs.Block.{Whole, all_of, cable_of, delivery_in, first, first_line, has_id, has_pmt, has_pid, has_part, holds, ended, is_stream, stream_in, with_network, with_services, with_stream, has_no_place, insert, is_delivery, is_network, is_quota, is_start, mux_with, network_in, numbered, part_in, quota_in, quota_of, repeated_at, said, service_in, services_of, sorted, start_in, start_of, with_parts}
+use Rattle.mux_config.specs.Block.{Whole, all_of, delivery_in, first, first_line, has_id, has_pmt, has_pid, holds, ended, is_stream, stream_in, with_network, with_services, with_stream, has_no_place, insert, is_delivery, is_network, is_quota, is_start, mux_with, network_in, numbered, part_in, quota_in, repeated_at, said, service_in, services_of, sorted, start_in, with_parts}
 use Rattle.mux_config.specs.Fine.{AreFine, IsApart, IsFine, IsFineService, in_order, parts_in}
-use Rattle.mux_config.specs.Index.{lacks_room, parts}
 use Rattle.mux_config.specs.Sound.{AreDifferent, Between, DoAscend, HasSoundCable, IsSound, IsSoundComponent, IsSoundService, all_component_pids, component_pids, pmt_pids}
 use Rattle.mux_config.specs.Reads.{Makes}
 use Rattle.mux_config.specs.declared.stop.MuxStop.{MuxStop}
-use Rattle.mux_config.proofs.IndexFacts.{all_more, first_more, or_none_left, or_none_right, first_before, first_kept, all_kept}
+use Rattle.mux_config.proofs.IndexFacts.{all_more, first_more, or_none_left, or_none_right, first_before, all_kept}
 use Rattle.mux_config.proofs.Ordering.{sorted_more}
 
 -- ---- lists

@@ -1,5 +1,5 @@
 -- Worked descriptions.
-use Rattle.std.specs.Prelude.{◌≡◌, ℕ, List, [], ◌∷◌, ◌++◌, Some, None, refl, codes}
+use Rattle.std.specs.Prelude.{◌≡◌, ℕ, List, [], ◌∷◌, Some, None, refl, codes}
 use Rattle.std.specs.Str.{chars, is_utf8}
 use Rattle.input_lines.specs.Fields.{next_record, strip_bom}
 use Rattle.guide_model.specs.declared.stream.Component.{Component}

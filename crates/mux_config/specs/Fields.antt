@@ -1,8 +1,6 @@
 -- What the fields of a line say.
-use Rattle.std.specs.Prelude.{ℕ, Bool, true, false, ◌&&◌, List, [], ◌∷◌, length, Option, Some, None, if◌then◌else◌, codes, option_map, option_and_then}
-use Rattle.std.specs.List.{list_all}
+use Rattle.std.specs.Prelude.{ℕ, Bool, true, false, ◌&&◌, List, [], ◌∷◌, Option, Some, None, if◌then◌else◌, codes, option_map, option_and_then}
 use Rattle.guide_model.specs.declared.stream.Cable.{Cable}
-use Rattle.guide_model.specs.declared.stream.Component.{Component}
 use Rattle.input_lines.specs.Fields.{record_of}
 use Rattle.input_lines.specs.Numbers.{is_word, numeral_of, in_range}
 use Rattle.mux_config.specs.declared.mux.MuxService.{MuxService}

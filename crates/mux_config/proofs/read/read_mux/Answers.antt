@@ -1,12 +1,9 @@
-use Rattle.std.proofs.Common.{◌≡◌, ◌≤◌, ◌<◌, ◌∙◌, ℕ, List, [], refl, sym, ap, subst, arith, true, false}
-use Rattle.std.specs.Prelude.{Some, None, Err}
-use Rattle.si_causes.specs.Reading.{room}
+use Rattle.std.proofs.Common.{◌∙◌, List, refl, sym, subst, arith}
 use Rattle.input_lines.proofs.Steps.{stuck_at, stays_stuck}
 use Rattle.mux_config.specs.declared.record.Numbered.{Numbered}
-use Rattle.mux_config.specs.Block.{and_found, ended, fault_of, is_end}
-use Rattle.mux_config.specs.Fields.{found_line}
-use Rattle.mux_config.specs.Reads.{Makes, TookLine}
-use Rattle.mux_config.proofs.Reading.{NextLine, Taken, taken_none, taken_more, ended_read, ended_came, line_read, line_came, stop_came, stop_read, took_on, took_end}
+use Rattle.mux_config.specs.Block.{ended}
+use Rattle.mux_config.specs.Reads.{Makes}
+use Rattle.mux_config.proofs.Reading.{NextLine, Taken, taken_none, taken_more, ended_read, ended_came, stop_came, took_on, took_end}
 use Rattle.mux_config.specs.Fine.{AreFine}
 use Rattle.mux_config.proofs.Soundness.{fine_none, sound_made}
 use Rattle.mux_config.proofs.read.read_mux.Goals as goal

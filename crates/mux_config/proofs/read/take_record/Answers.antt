@@ -1,4 +1,4 @@
-use Rattle.std.proofs.Common.{◌≡◌, ◌∙◌, sym, subst}
+use Rattle.std.proofs.Common.{◌∙◌, sym, subst}
 use Rattle.mux_config.specs.Fine.{AreFine}
 use Rattle.mux_config.proofs.Soundness.{fine_more}
 use Rattle.mux_config.proofs.read.take_record.Goals as goal

@@ -1,4 +1,4 @@
-use Rattle.std.proofs.Common.{◌≡◌, ◌∙◌, ◌++◌, [], List, sym, ap}
+use Rattle.std.proofs.Common.{◌∙◌, ◌++◌, [], List, sym, ap}
 use Rattle.std.specs.List.{cons_option}
 use Rattle.guide_model.specs.declared.stream.Component.{Component}
 use Rattle.mux_config.specs.declared.record.Numbered.{Numbered}

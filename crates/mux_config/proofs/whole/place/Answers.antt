@@ -1,4 +1,4 @@
-use Rattle.std.proofs.Common.{◌≡◌, ◌∙◌, sym}
+use Rattle.std.proofs.Common.{◌∙◌, sym}
 use Rattle.mux_config.proofs.Ordering.{place_found, place_none}
 use Rattle.mux_config.proofs.whole.place.Goals as goal
 

@@ -1,6 +1,4 @@
-use Rattle.std.proofs.Common.{◌≡◌, ◌∙◌, ◌++◌, ◌∷◌, [], List, refl, ap}
-use Rattle.mux_config.specs.declared.record.Numbered.{Numbered}
-use Rattle.mux_config.specs.declared.index.Records.{Records}
+use Rattle.std.proofs.Common.{◌∙◌, ◌++◌, ◌∷◌, [], refl, ap}
 use Rattle.mux_config.specs.Block.{numbered}
 use Rattle.mux_config.proofs.IndexFacts.{relisted}
 use Rattle.mux_config.proofs.index.Records.add.Goals as goal

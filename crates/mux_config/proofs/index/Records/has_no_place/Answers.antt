@@ -1,4 +1,4 @@
-use Rattle.std.proofs.Common.{◌≡◌, ◌∙◌, sym, ap}
+use Rattle.std.proofs.Common.{◌∙◌, sym, ap}
 use Rattle.mux_config.specs.Block.{has_no_place}
 use Rattle.mux_config.proofs.index.Records.has_no_place.Goals as goal
 

@@ -1,4 +1,4 @@
-use Rattle.std.proofs.Common.{◌≡◌, ◌∙◌, sym, ap, ℕ, List}
+use Rattle.std.proofs.Common.{◌∙◌, sym, ap}
 use Rattle.mux_config.proofs.IndexFacts.{lacks_room_is, room_by}
 use Rattle.mux_config.proofs.index.Records.has_no_room.Goals as goal
 

@@ -1,4 +1,4 @@
-use Rattle.std.proofs.Common.{◌≡◌, ◌∙◌, sym}
+use Rattle.std.proofs.Common.{◌∙◌, sym}
 use Rattle.mux_config.proofs.IndexFacts.{never_absent}
 use Rattle.mux_config.proofs.index.Records.index_part.Goals as goal
 

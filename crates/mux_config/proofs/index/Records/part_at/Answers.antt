@@ -1,4 +1,4 @@
-use Rattle.std.proofs.Common.{◌≡◌, ◌∙◌, sym, ap}
+use Rattle.std.proofs.Common.{◌∙◌, sym}
 use Rattle.mux_config.proofs.IndexFacts.{holds_none, neither}
 use Rattle.mux_config.proofs.index.Records.part_at.Goals as goal
 
