@@ -39,7 +39,7 @@ abbrev pub misses_day : Option ℕ → ℕ → Bool
 misses_day None start = false
 misses_day (Some day) start = not (midnight start == day)
 
--- what the item alone breaks: the first of its rules, in this order
+-- what the item alone breaks: the first of its rules, in this order (EN 300 468, 5.2.4, 6.2.9, 6.2.15, 6.2.28 and 6.2.37)
 abbrev pub field_fault : Option ℕ → Item → Option Field
 field_fault day item =
     let start = unwrap_or (read_moment item.start) 0 in
@@ -67,7 +67,8 @@ without id events = filter (λ event. not (event.id == id)) events
 abbrev pub put : Event → List Event → List Event
 put event events = placed event (without event.id events)
 
--- what the event breaks among those that stand, in ascending order of start: an overlap, then the number of events, then the size of its block
+-- what the event breaks among those that stand, in ascending order of start: an overlap, then the number of events, then
+-- the size of its block
 abbrev pub place_fault : List Event → Event → Option DayFault
 place_fault events event =
     let count = length (put event events) in

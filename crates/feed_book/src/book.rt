@@ -100,8 +100,8 @@ impl Book {
     /// `Foreign` with the service: the multiplex has no such service of this feed.
     ///
     /// `Put`, which makes the item's event stand in place of the event with its id: `Range` of `Start` (no moment is
-    /// read), `Duration` (no duration is read, or it is not 1 to 86,399 seconds), `Window` (it ends behind
-    /// 2038-04-22T23:59:59Z by more than a second), `Language` (not three letters `a` to `z`), `Name` (not 1 to 100
+    /// read), `Duration` (no duration is read, or it is not 1 to 86,399 seconds), `Window` (its end is
+    /// behind 2038-04-23T00:00:00Z), `Language` (not three letters `a` to `z`), `Name` (not 1 to 100
     /// coded bytes), `Short` (more than 150 coded bytes), `Extended` (more than 1,000 bytes of UTF-8), `Country` (not
     /// three letters `A` to `Z`), `Rating` (not 1 to 15) and `Genre` (more than 8, or a level above 15). `Overlap` with
     /// the id of the event of another id that has an instant in common, of several the one that starts first.
