@@ -1,0 +1,3 @@
+pub mod Genres
+pub mod Ten
+pub mod Shapes

@@ -1,0 +1,5 @@
+pub mod Items
+pub mod Heads
+pub mod Ahead
+pub mod Edits
+pub mod Reads

@@ -131,6 +131,14 @@ impl<S: Source> LineReader<S> {
         self.line.bytes()
     }
 
+    /// How many lines `next` gave: the number of the last of them. It takes no memory.
+    pub fn number(&self) -> u64
+        ensures value { result ≡ self.now.number }
+        ensures most { result ≤ 67108864 }
+    {
+        self.number
+    }
+
     /// Gives the source back. It takes no memory.
     pub fn close(self) -> S
         ensures { result ≡ self.source }

@@ -16,7 +16,7 @@ pub use coding::{append_text, coded_len, encode_text, is_plain_byte};
 pub use cutting::{cut_len, pieces_join};
 pub use decoding::{coded_texts_decode, decode_text};
 pub use shown::Shown;
-pub use txt::Txt;
+pub use txt::{Txt, has_control};
 
 #[cfg(test)]
 mod tests;

@@ -30,11 +30,19 @@ impl Txt {
     pub fn of(alloc: Global, text: &str) -> Result<Option<Txt>, AllocError>
         ensures { IfOk result (λ made. made ≡ (if has_control text.now then None else Some text.now)) }
     {
-        if is_controlled(text) {
+        if has_control(text) {
             return Ok(None);
         }
+        Ok(Some(Txt::of_kept(alloc, text)?))
+    }
+
+    /// The text, which is known to have no control character: it is not looked at again.
+    pub fn of_kept(alloc: Global, text: &str) -> Result<Txt, AllocError>
+        requires { has_control text.now ≡ false }
+        ensures { IfOk result (λ made. made ≡ text.now) }
+    {
         let text = String::from_str(alloc, text)?;
-        Ok(Some(Txt { text }))
+        Ok(Txt { text })
     }
 
     /// A copy.
@@ -62,7 +70,8 @@ fn is_control_char(c: char) -> bool
     matches!(c, '\0'..='\u{1F}' | '\u{7F}'..='\u{9F}' | '\u{E080}'..='\u{E09F}')
 }
 
-fn is_controlled(text: &str) -> bool
+/// Whether a text has a control character. It takes no memory.
+pub fn has_control(text: &str) -> bool
     ensures { result ≡ has_control text.now }
 {
     text.chars().any(

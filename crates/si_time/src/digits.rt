@@ -12,7 +12,7 @@ pub fn two_digits(number: u8) -> [u8; 2]
     [b'0' + number / 10, b'0' + number % 10]
 }
 
-/// Whether a text has a shape, in which `d` stands for any digit and any other byte for itself.
+/// Whether a text has a shape, in which `d` stands for any digit and any other byte for itself. It takes no memory.
 pub fn has_shape(shape: &[u8], text: &[u8]) -> bool
     ensures value { result ≡ has_shape shape.now text.now }
     ensures long { OnTrue result (length text.now ≡ length shape.now) }

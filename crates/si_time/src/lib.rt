@@ -8,6 +8,7 @@ mod duration;
 mod moment;
 mod readings;
 
+pub use digits::has_shape;
 pub use duration::{duration_bcd, duration_from_bcd, read_duration, write_duration};
 pub use moment::{
     Moment, block_of, from_bcd, midnight, read_day, read_moment, to_bcd, write_moment,

@@ -1,0 +1,76 @@
+-- What reading from the lines ahead tells, of a text that the source tells and of the bytes that it gave.
+use Rattle.std.specs.Prelude.{◌≡◌, ℕ, ◌+◌, false, List, [], ◌++◌, length, Option, Some, None, Ok, Err, Result}
+use Rattle.si_causes.specs.Reading.{Reading, text_left}
+use Rattle.si_causes.specs.Causes.{Rose}
+use Rattle.si_causes.specs.declared.stop.ReadStop.TheVariants.{Failed, TooLong as Overlong}
+use Rattle.input_lines.specs.Lines.{record_lines}
+use Rattle.input_lines.specs.Going.{HandedOut, WereWhole}
+use Rattle.feed_edits.specs.declared.edit.Edit.{Edit}
+use Rattle.feed_edits.specs.declared.stop.EditStop.{EditStop}
+use Rattle.feed_edits.specs.declared.stop.EditStop.TheVariants.{NoCommand as Refused, Read, Memory}
+use Rattle.feed_edits.specs.Ahead.{Ahead, Tail, Breaks, Found, Came, Stopped, Stop, End, NoCommand, TooLong, Unread, ahead}
+use Rattle.feed_edits.specs.Edits.{first_edit}
+
+-- Of a told text another is left, and what `first` reads of the one is what `next` reads of the other.
+pub record Leaves {S T : Type 0} (left : S → Option (List ℕ)) (first next : Ahead → Found T) (old new : Reading S) (text : List ℕ) : Type 0 where
+  pub rest : List ℕ
+  pub told : text_left left new ≡ Some rest
+  pub reads : first (ahead old text) ≡ next (ahead new rest)
+
+-- a value was read of a told text, or exactly this stop comes
+abbrev pub Gives : {S T : Type 0} → (S → Option (List ℕ)) → (Ahead → Found T) → Reading S → Reading S → List ℕ → Result T EditStop → Type 0
+Gives left first old new text (Ok value) = Leaves left first (Came value) old new text
+Gives left first old new text (Err (Refused n)) = first (ahead old text) ≡ Stopped (NoCommand n)
+Gives left first old new text (Err (Read Overlong)) = first (ahead old text) ≡ Stopped TooLong
+Gives left first old new text (Err (Read Failed)) = Unit {0}
+Gives left first old new text (Err Memory) = Unit {0}
+
+-- the same of the next edit, where there may be none
+abbrev pub GivesNext : {S : Type 0} → (S → Option (List ℕ)) → Reading S → Reading S → List ℕ → Result (Option Edit) EditStop → Type 0
+GivesNext left old new text (Ok (Some edit)) = Leaves left first_edit (Came edit) old new text
+GivesNext left old new text (Ok None) = (first_edit (ahead old text) ≡ Stopped End) × (text_left left new ≡ Some [])
+GivesNext left old new text (Err stop) = Gives left first_edit old new text (Err stop)
+
+-- these lines are ahead of a reader, and then this
+abbrev pub ahead_with : {S : Type 0} → Reading S → List (List ℕ) → Tail → Ahead
+ahead_with reader lines tail = record { rows = record_lines (reader.number + 1) lines; tail = tail }
+
+-- From old to new the reader handed out these lines. What `first` reads of them and of what is behind them, whatever
+-- that is, is what `next` reads of what is behind them.
+pub record Passes {S T : Type 0} (left : S → Option (List ℕ)) (first next : Ahead → Found T) (old new : Reading S) : Type 0 where
+  pub lines : List (List ℕ)
+  pub since : new.ended ≡ false → old.ended ≡ false
+  -- a line without an LF is the last
+  pub handed : new.ended ≡ false → HandedOut left old new lines
+  pub count : new.number ≡ old.number + length lines
+  pub going : new.stop ≡ None
+  pub reads : (more : List (List ℕ)) (tail : Tail) → first (ahead_with old (lines ++ more) tail) ≡ next (ahead_with new more tail)
+
+-- A read failed: the lines that were whole in the bytes taken are too few to read by, and no refusal stands in them.
+pub record Faulted {S T : Type 0} (left : S → Option (List ℕ)) (faults : S → ℕ) (first : Ahead → Found T) (old new : Reading S) : Type 0 where
+  pub lines : List (List ℕ)
+  pub whole : WereWhole left old new lines
+  pub unended : old.ended ≡ false
+  pub cause : Rose (faults old.source) (faults new.source)
+  pub stopped : new.stop ≡ Some Failed
+  pub reads : first (ahead_with old lines Breaks) ≡ Stopped Unread
+
+-- what reading a value tells of the bytes, whether or not the source tells its text
+abbrev pub Takes : {S T : Type 0} → (S → Option (List ℕ)) → (S → ℕ) → (Ahead → Found T) → Reading S → Reading S → Result T EditStop → Type 0
+Takes left faults first old new (Ok value) = Passes left first (Came value) old new
+Takes left faults first old new (Err (Refused n)) = new.stop ≡ None
+Takes left faults first old new (Err (Read Overlong)) = new.stop ≡ Some Overlong
+Takes left faults first old new (Err (Read Failed)) = Faulted left faults first old new
+Takes left faults first old new (Err Memory) = Unit {0}
+
+abbrev pub TakesNext : {S : Type 0} → (S → Option (List ℕ)) → (S → ℕ) → Reading S → Reading S → Result (Option Edit) EditStop → Type 0
+TakesNext left faults old new (Ok (Some edit)) = Passes left first_edit (Came edit) old new
+TakesNext left faults old new (Ok None) = new.stop ≡ None
+TakesNext left faults old new (Err stop) = Takes left faults first_edit old new (Err stop)
+
+-- what line n is, or the refusal of it
+abbrev pub Says : {T : Type 0} → ℕ → Option T → Result T EditStop → Type 0
+Says n found (Ok value) = found ≡ Some value
+Says n found (Err (Refused at)) = (at ≡ n) × (found ≡ None)
+Says n found (Err (Read stop)) = ⊥
+Says n found (Err Memory) = Unit {0}

@@ -1,0 +1,176 @@
+// Edits on the lines of a reader.
+ghost use Rattle.std.specs.Prelude.{◌≡◌, ◌≤◌, List, ℕ, Option, Some, None, Ok, Err, IfOk, IfSome, option_and_then, drop};
+ghost use Rattle.std.specs.List.{All};
+ghost use Rattle.si_causes.specs.Reading.{text_left};
+ghost use Rattle.input_lines.specs.Fields.{record_of};
+ghost use Rattle.feed_edits.specs.declared.stop.EditStop.TheVariants.{Read};
+ghost use Rattle.feed_edits.specs.Items.{IsShapedItem, item_line};
+ghost use Rattle.feed_edits.specs.Heads.{IsShaped, IsShapedHead, edit_head};
+ghost use Rattle.feed_edits.specs.Edits.{first_item, items_of, read_edit as edit_at, with_items as edit_with};
+ghost use Rattle.feed_edits.specs.Reads.{Gives, GivesNext, Says, Takes, TakesNext};
+
+use crate::edit::{DayItems, Edit, Item};
+use crate::heads::{Head, read_head};
+use crate::items::read_item_line;
+use crate::stop::EditStop;
+use input_lines::{LineFields, fields, next_record_line};
+use si_causes::{LineReader, Source};
+use si_text::Txt;
+use std::alloc::Global;
+
+// The item that line `at` is.
+fn item_on(alloc: Global, at: u64, line: &[u8]) -> Result<Item, EditStop>
+    ensures says { Says at (option_and_then item_line (record_of line.now)) result }
+    ensures shaped { IfOk result IsShapedItem }
+{
+    let Some(fields) = fields(alloc, line)? else {
+        return Err(EditStop::NoCommand(at));
+    };
+    match read_item_line(alloc, fields.as_slice())? {
+        Some(item) => Ok(item),
+        None => Err(EditStop::NoCommand(at)),
+    }
+}
+
+// The head that the fields of line `at` are.
+fn head_of(alloc: Global, at: u64, fields: &[Txt]) -> Result<Head, EditStop>
+    ensures says { Says at (edit_head fields.now) result }
+    ensures shaped { IfOk result IsShapedHead }
+{
+    match read_head(alloc, fields)? {
+        Some(head) => Ok(head),
+        None => Err(EditStop::NoCommand(at)),
+    }
+}
+
+// The head that line `at` is.
+fn head_on(alloc: Global, at: u64, line: &[u8]) -> Result<Head, EditStop>
+    ensures says { Says at (option_and_then edit_head (record_of line.now)) result }
+    ensures shaped { IfOk result IsShapedHead }
+{
+    let Some(fields) = fields(alloc, line)? else {
+        return Err(EditStop::NoCommand(at));
+    };
+    head_of(alloc, at, fields.as_slice())
+}
+
+// The item on the next line.
+fn next_item<S: Source>(alloc: Global, lines: &mut LineReader<S>) -> Result<Item, EditStop>
+    ensures gives { lines.old.stop ≡ None → (text : List ℕ) → text_left S.left lines.old ≡ Some text
+        → Gives S.left first_item lines.old lines.new text result }
+    ensures takes { lines.old.stop ≡ None → Takes S.left S.faults first_item lines.old lines.new result }
+    ensures shaped { IfOk result IsShapedItem }
+    ensures sticky { IfSome lines.old.stop (λ stop. (result ≡ Err (Read stop)) × (lines.new ≡ lines.old)) }
+    ensures later { S.faults lines.old.source ≤ S.faults lines.new.source }
+    ensures same { S.same lines.old.source lines.new.source }
+{
+    match next_record_line(lines) {
+        Ok(Some(at)) => item_on(alloc, at, lines.line()),
+        Ok(None) => Err(EditStop::NoCommand(lines.number() + 1)),
+        Err(stop) => Err(EditStop::Read(stop)),
+    }
+}
+
+// So many items, each on the next line.
+fn next_items<S: Source>(
+    alloc: Global,
+    count: u32,
+    lines: &mut LineReader<S>,
+) -> Result<DayItems, EditStop>
+    ensures gives { lines.old.stop ≡ None → (text : List ℕ) → text_left S.left lines.old ≡ Some text
+        → Gives S.left (items_of count) lines.old lines.new text result }
+    ensures takes { lines.old.stop ≡ None → Takes S.left S.faults (items_of count) lines.old lines.new result }
+    ensures shaped { IfOk result (All IsShapedItem) }
+    ensures sticky { IfSome lines.old.stop (λ stop. lines.new ≡ lines.old) }
+    ensures later { S.faults lines.old.source ≤ S.faults lines.new.source }
+    ensures same { S.same lines.old.source lines.new.source }
+{
+    let mut items = DayItems::new(alloc);
+    'items: for _ in 0..count {
+        let item = next_item(alloc, lines)?;
+        if items.push(item).is_err() {
+            return Err(EditStop::Memory);
+        }
+    }
+    Ok(items)
+}
+
+// The edit of a head, with the items of a day.
+fn with_items<S: Source>(
+    alloc: Global,
+    head: Head,
+    lines: &mut LineReader<S>,
+) -> Result<Edit, EditStop>
+    requires { IsShapedHead head }
+    ensures gives { lines.old.stop ≡ None → (text : List ℕ) → text_left S.left lines.old ≡ Some text
+        → Gives S.left (edit_with head) lines.old lines.new text result }
+    ensures takes { lines.old.stop ≡ None → Takes S.left S.faults (edit_with head) lines.old lines.new result }
+    ensures shaped { IfOk result IsShaped }
+    ensures sticky { IfSome lines.old.stop (λ stop. lines.new ≡ lines.old) }
+    ensures later { S.faults lines.old.source ≤ S.faults lines.new.source }
+    ensures same { S.same lines.old.source lines.new.source }
+{
+    match head {
+        Head::Whole(edit) => Ok(edit),
+        Head::OfDay(service, day, count) => {
+            let items = next_items(alloc, count, lines)?;
+            Ok(Edit::Day(service, day, items))
+        }
+    }
+}
+
+/// The edit whose fields stand in `fields` from index `from` on; `at` is the number of their line. The items of a day
+/// are read from `lines`, each on the next line that is not passed over. The items that are read are shaped: starts,
+/// durations and days have their shapes, a day has at most 2,000 items, and a rating names a country.
+///
+/// `NoCommand(at)` comes exactly where the fields are no edit. Where a line that is no item comes in place of an item,
+/// `NoCommand` has its number; where the end comes, that of the last line plus 1, lines that are passed over counted.
+/// `Read` comes as from [`LineReader::next`]. After a refusal the reader stands behind the line that was refused.
+pub fn read_edit<S: Source>(
+    alloc: Global,
+    fields: &LineFields,
+    from: usize,
+    at: u64,
+    lines: &mut LineReader<S>,
+) -> Result<Edit, EditStop>
+    ensures gives { lines.old.stop ≡ None → (text : List ℕ) → text_left S.left lines.old ≡ Some text
+        → Gives S.left (edit_at at (drop from fields.now)) lines.old lines.new text result }
+    ensures takes { lines.old.stop ≡ None
+        → Takes S.left S.faults (edit_at at (drop from fields.now)) lines.old lines.new result }
+    ensures shaped { IfOk result IsShaped }
+    ensures sticky { IfSome lines.old.stop (λ stop. lines.new ≡ lines.old) }
+    ensures later { S.faults lines.old.source ≤ S.faults lines.new.source }
+    ensures same { S.same lines.old.source lines.new.source }
+{
+    let head = match fields.as_slice().get(from..) {
+        Some(fields) => head_of(alloc, at, fields)?,
+        None => return Err(EditStop::NoCommand(at)),
+    };
+    with_items(alloc, head, lines)
+}
+
+/// The next edit, or `None` exactly at the end. Empty lines and lines that begin with `#` are passed over.
+///
+/// `NoCommand` has the number of the first line that is no edit there, as in [`read_edit`]. `Read` comes as from
+/// [`LineReader::next`], and after it each later call answers the same.
+pub fn next_edit<S: Source>(
+    alloc: Global,
+    lines: &mut LineReader<S>,
+) -> Result<Option<Edit>, EditStop>
+    ensures gives { lines.old.stop ≡ None → (text : List ℕ) → text_left S.left lines.old ≡ Some text
+        → GivesNext S.left lines.old lines.new text result }
+    ensures takes { lines.old.stop ≡ None → TakesNext S.left S.faults lines.old lines.new result }
+    ensures shaped { IfOk result (λ found. IfSome found IsShaped) }
+    ensures sticky { IfSome lines.old.stop (λ stop. (result ≡ Err (Read stop)) × (lines.new ≡ lines.old)) }
+    ensures later { S.faults lines.old.source ≤ S.faults lines.new.source }
+    ensures same { S.same lines.old.source lines.new.source }
+{
+    let at = match next_record_line(lines) {
+        Ok(Some(at)) => at,
+        Ok(None) => return Ok(None),
+        Err(stop) => return Err(EditStop::Read(stop)),
+    };
+    let head = head_on(alloc, at, lines.line())?;
+    let edit = with_items(alloc, head, lines)?;
+    Ok(Some(edit))
+}

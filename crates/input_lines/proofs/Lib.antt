@@ -1,0 +1,5 @@
+pub mod CleanText
+pub mod Clean
+pub mod CleanLines
+pub mod Numerals
+pub mod Steps

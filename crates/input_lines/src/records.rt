@@ -1,0 +1,68 @@
+// The fields of a line.
+ghost use Rattle.std.specs.Prelude.{◌≡◌, IfOk, IfSome, IfNone};
+ghost use Rattle.std.specs.List.{AllByRecursion};
+ghost use Rattle.csv.specs.Records.{fields_of};
+ghost use Rattle.si_text.specs.Decoding.{IsKept};
+ghost use Rattle.input_lines.specs.Fields.{IsLine, line_fields, record_of};
+
+use csv::{ReaderBuilder, StringRecord};
+use si_base::Items;
+use si_text::{Txt, has_control};
+use std::alloc::{AllocError, Global};
+
+/// The most bytes that a line may have.
+const LONGEST_LINE: usize = 16_384;
+
+/// The fields of a line.
+pub type LineFields = Items<Txt>;
+
+// The one record that csv reads of a line; a line of which it makes none has no fields.
+fn line_record(alloc: Global, line: &[u8]) -> Result<StringRecord, AllocError>
+    ensures { IfOk result (λ row. fields_of row ≡ line_fields line.now) }
+{
+    let mut reader = ReaderBuilder::new()
+        .has_headers(false)
+        .from_reader(alloc, line);
+    let mut row = StringRecord::new(alloc);
+    match reader.read_record(&mut row) {
+        Ok(true) => Ok(row),
+        Ok(false) => Ok(StringRecord::new(alloc)),
+        Err(_) => Err(AllocError),
+    }
+}
+
+// The fields of a record as texts. They are not looked at again.
+fn texts(alloc: Global, row: &StringRecord) -> Result<LineFields, AllocError>
+    requires { AllByRecursion IsKept (fields_of row.now) }
+    ensures { IfOk result (λ texts. texts ≡ fields_of row.now) }
+{
+    let mut texts = Items::new(alloc);
+    'fields: for i in 0..row.len() {
+        let Some(field) = row.get(i) else {
+            unreachable!()
+        };
+        texts.push(Txt::of_kept(alloc, field)?)?;
+    }
+    Ok(texts)
+}
+
+/// The fields of the one record that csv reads of a line, without header and with any number of fields; none where csv
+/// makes no record of it. `None` comes exactly where the line is longer than 16,384 bytes, is no UTF-8 or has a control
+/// character.
+pub fn fields(alloc: Global, line: &[u8]) -> Result<Option<LineFields>, AllocError>
+    ensures value { IfOk result (λ found. found ≡ record_of line.now) }
+    ensures some { IfOk result (λ found. IfSome found (λ fields. IsLine line.now × (fields ≡ line_fields line.now))) }
+    ensures none { IfOk result (λ found. IfNone found (¬ IsLine line.now)) }
+{
+    if line.len() > LONGEST_LINE {
+        return Ok(None);
+    }
+    let Ok(text) = str::from_utf8(line) else {
+        return Ok(None);
+    };
+    if has_control(text) {
+        return Ok(None);
+    }
+    let row = line_record(alloc, line)?;
+    Ok(Some(texts(alloc, &row)?))
+}
