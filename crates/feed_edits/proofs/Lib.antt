@@ -1,3 +1,5 @@
 pub mod Genres
 pub mod Ten
 pub mod Shapes
+pub mod Turns
+pub mod Edits

@@ -1,9 +1,9 @@
 // Edits on the lines of a reader.
-ghost use Rattle.std.specs.Prelude.{◌≡◌, ◌≤◌, List, ℕ, Option, Some, None, Ok, Err, IfOk, IfSome, option_and_then, drop};
+ghost use Rattle.std.specs.Prelude.{◌≡◌, ◌≤◌, ◌∷◌, ◌++◌, [], List, ℕ, None, Some, Ok, Err, IfErr, IfOk, IfSome, OnOk, option_and_then, drop, length};
 ghost use Rattle.std.specs.List.{All};
 ghost use Rattle.si_causes.specs.Reading.{text_left};
 ghost use Rattle.input_lines.specs.Fields.{record_of};
-ghost use Rattle.feed_edits.specs.declared.stop.EditStop.TheVariants.{Read};
+ghost use Rattle.feed_edits.specs.declared.stop.EditStop.TheVariants.{Memory, Read};
 ghost use Rattle.feed_edits.specs.Items.{IsShapedItem, item_line};
 ghost use Rattle.feed_edits.specs.Heads.{IsShaped, IsShapedHead, edit_head};
 ghost use Rattle.feed_edits.specs.Edits.{first_item, items_of, read_edit as edit_at, with_items as edit_with};
@@ -71,6 +71,17 @@ fn next_item<S: Source>(alloc: Global, lines: &mut LineReader<S>) -> Result<Item
     }
 }
 
+// One item more.
+fn keep(items: &mut DayItems, item: Item) -> Result<(), EditStop>
+    ensures kept { OnOk result (items.new ≡ items.old ++ item ∷ []) }
+    ensures memory { IfErr result (λ stop. stop ≡ Memory) }
+{
+    match items.push(item) {
+        Ok(()) => Ok(()),
+        Err(_) => Err(EditStop::Memory),
+    }
+}
+
 // So many items, each on the next line.
 fn next_items<S: Source>(
     alloc: Global,
@@ -81,15 +92,19 @@ fn next_items<S: Source>(
         → Gives S.left (items_of count) lines.old lines.new text result }
     ensures takes { lines.old.stop ≡ None → Takes S.left S.faults (items_of count) lines.old lines.new result }
     ensures shaped { IfOk result (All IsShapedItem) }
+    ensures counted { IfOk result (λ items. length items ≡ count) }
     ensures sticky { IfSome lines.old.stop (λ stop. lines.new ≡ lines.old) }
     ensures later { S.faults lines.old.source ≤ S.faults lines.new.source }
     ensures same { S.same lines.old.source lines.new.source }
 {
     let mut items = DayItems::new(alloc);
     'items: for _ in 0..count {
-        let item = next_item(alloc, lines)?;
-        if items.push(item).is_err() {
-            return Err(EditStop::Memory);
+        let item = match next_item(alloc, lines) {
+            Ok(item) => item,
+            Err(stop) => return Err(stop),
+        };
+        if let Err(stop) = keep(&mut items, item) {
+            return Err(stop);
         }
     }
     Ok(items)
@@ -112,10 +127,10 @@ fn with_items<S: Source>(
 {
     match head {
         Head::Whole(edit) => Ok(edit),
-        Head::OfDay(service, day, count) => {
-            let items = next_items(alloc, count, lines)?;
-            Ok(Edit::Day(service, day, items))
-        }
+        Head::OfDay(service, day, count) => match next_items(alloc, count, lines) {
+            Ok(items) => Ok(Edit::Day(service, day, items)),
+            Err(stop) => Err(stop),
+        },
     }
 }
 
@@ -142,11 +157,13 @@ pub fn read_edit<S: Source>(
     ensures later { S.faults lines.old.source ≤ S.faults lines.new.source }
     ensures same { S.same lines.old.source lines.new.source }
 {
-    let head = match fields.as_slice().get(from..) {
-        Some(fields) => head_of(alloc, at, fields)?,
-        None => return Err(EditStop::NoCommand(at)),
+    let Some(fields) = fields.as_slice().get(from..) else {
+        return Err(EditStop::NoCommand(at));
     };
-    with_items(alloc, head, lines)
+    match head_of(alloc, at, fields) {
+        Ok(head) => with_items(alloc, head, lines),
+        Err(stop) => Err(stop),
+    }
 }
 
 /// The next edit, or `None` exactly at the end. Empty lines and lines that begin with `#` are passed over.
@@ -170,7 +187,12 @@ pub fn next_edit<S: Source>(
         Ok(None) => return Ok(None),
         Err(stop) => return Err(EditStop::Read(stop)),
     };
-    let head = head_on(alloc, at, lines.line())?;
-    let edit = with_items(alloc, head, lines)?;
-    Ok(Some(edit))
+    let head = match head_on(alloc, at, lines.line()) {
+        Ok(head) => head,
+        Err(stop) => return Err(stop),
+    };
+    match with_items(alloc, head, lines) {
+        Ok(edit) => Ok(Some(edit)),
+        Err(stop) => Err(stop),
+    }
 }

@@ -1,6 +1,6 @@
 -- The fields that csv reads of a text with no control character have none.
-use Rattle.std.proofs.Common.{◌≡◌, ◌⊎◌, ◌==◌, ◌&&◌, ◌++◌, ◌∷◌, ◌∙◌, [], ℕ, ◌<◌, ◌≤◌, ◌+◌, ◌/◌, ◌%◌, List, Bool, Option, Some, None, refl, sym, ap, subst, true, false, append_assoc, inl, inr, arith, ⊎_elim}
-use Rattle.std.specs.Prelude.{if◌then◌else◌, ◌≢◌, ⊤}
+use Rattle.std.proofs.Common.{◌≡◌, ◌⊎◌, ◌==◌, ◌&&◌, ◌++◌, ◌∷◌, ◌∙◌, [], ℕ, ◌<◌, ◌≤◌, ◌+◌, ◌/◌, List, Bool, Some, refl, sym, ap, subst, true, false, append_assoc, inl, inr, arith, ⊎_elim}
+use Rattle.std.specs.Prelude.{if◌then◌else◌, ⊤}
 use Rattle.std.specs.List.{list_all}
 use Rattle.std.proofs.lemmas.List.{append-nil}
 use Rattle.std.proofs.lemmas.Bool.{cases_Bool, ne_eqb, cases_lt}
@@ -8,7 +8,7 @@ use Rattle.std.proofs.lemmas.Str.{encode_ascii, encodes-append}
 use lib.Dec.{ltb}
 use Rattle.std.proofs.lemmas.Bool.Decides.{nat_tests}
 use lib.Utf8.{encode, encodes, next}
-use Rattle.csv.specs.Machine.{Runs, Read, next_record, step, in_field, is_end, fields_after, field_after}
+use Rattle.csv.specs.Machine.{Runs, next_record, step, in_field, is_end, fields_after, field_after}
 use Rattle.csv.specs.Reading.{default_config}
 use Rattle.csv.specs.declared.parser.State.{State}
 use Rattle.csv.specs.declared.parser.State.TheVariants as st

@@ -1,11 +1,11 @@
 -- Facts on the fields of a clean line.
-use Rattle.std.proofs.Common.{◌≡◌, ◌⊎◌, ◌==◌, ◌&&◌, ◌||◌, ◌++◌, ◌∷◌, ◌∙◌, [], ℕ, suc, zero, ◌<◌, ◌+◌, List, Bool, Option, Some, None, refl, sym, ap, subst, true, false, inl, inr, take, length, arith, not}
+use Rattle.std.proofs.Common.{◌≡◌, ◌==◌, ◌&&◌, ◌||◌, ◌++◌, ◌∷◌, ◌∙◌, [], ℕ, suc, zero, List, Bool, Option, Some, None, refl, ap, subst, true, false, inl, inr, take, length, not}
 use Rattle.std.specs.List.{list_all, list_any}
 use Rattle.std.specs.Prelude.{nat_le}
 use Rattle.std.specs.Str.{IsUtf8, chars, is_utf8}
 use Rattle.std.proofs.lemmas.Bool.{cases_Bool, eqb-true, leb-true, le-leb}
 use Rattle.std.proofs.lemmas.Str.{encodes-chars, scalars-chars, chars-encodes, cons_from_encodes, is_utf8-from_IsUtf8, IsUtf8-from_is_utf8}
-use lib.Utf8.{encode, encodes, scalar, scalars}
+use lib.Utf8.{encode, scalar, scalars}
 use Rattle.csv.specs.Machine.{Read, next_record}
 use Rattle.csv.specs.Reading.{default_config, strip_bom, is_bom}
 use Rattle.csv.specs.Records.{field_at}

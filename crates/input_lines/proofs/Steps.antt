@@ -1,15 +1,13 @@
 -- Lines, one after another, of which some are passed over.
-use Rattle.std.proofs.Common.{◌≡◌, ℕ, ◌+◌, ◌≤◌, Bool, true, false, cond, List, [], ◌∷◌, ◌++◌, length, map, refl, sym, ap, ◌∙◌, subst, arith, inl, inr, append-nil, append_assoc, length-append}
+use Rattle.std.proofs.Common.{◌≡◌, ℕ, ◌+◌, ◌≤◌, Bool, true, false, List, [], ◌∷◌, ◌++◌, length, map, refl, sym, ap, ◌∙◌, subst, arith, inl, inr, append-nil, append_assoc, length-append}
 use Rattle.std.specs.Prelude.{Option, Some, None, Ok, Err, Result, IfSome}
 use Rattle.std.specs.List.{list_all}
-use Rattle.std.specs.Io.KnownBytes.{Consumes}
 use Rattle.std.proofs.KnownBytes.{Consumes-nil, Consumes-trans}
-use Rattle.std.proofs.lemmas.List.{map-append}
 use Rattle.std.proofs.lemmas.List.Folds.{list_all-append}
 use Rattle.si_causes.specs.Causes.{Rose}
-use Rattle.si_causes.specs.Lines.{first_line, after_line, has_end, shown, whole_lines}
-use Rattle.si_causes.specs.Reading.{Reading, LineCame as Came, EndCame, FailedCame, StopCame, GivesLine, room, text_left}
-use Rattle.si_causes.specs.Text.{TextEnd, AtEnd, PastLimit, lines_left}
+use Rattle.si_causes.specs.Lines.{first_line, after_line, has_end, shown}
+use Rattle.si_causes.specs.Reading.{Reading, LineCame as Came, EndCame, FailedCame, StopCame, GivesLine, text_left}
+use Rattle.si_causes.specs.Text.{TextEnd, AtEnd, PastLimit}
 use Rattle.si_causes.specs.declared.stop.ReadStop.{ReadStop}
 use Rattle.si_causes.specs.declared.stop.ReadStop.TheVariants.{Failed, TooLong}
 use Rattle.si_causes.proofs.LineFacts.{b_cases, whole_step, whole_none, first_of_front, after_of_front, end_of_front}
@@ -105,7 +103,7 @@ pub record Over {S : Type 0} (left : S → Known) (old now : Reading S) : Type 0
   pub passed : list_all is_passed over ≡ true
   pub going : now.stop ≡ None
   pub count : now.number ≡ old.number + length over
-  pub since : now.ended ≡ false → old.ended ≡ false
+  pub unended : now.ended ≡ false → old.ended ≡ false
   pub handed : now.ended ≡ false → HandedOut left old now over
   pub told : (text : List ℕ) → text_left left old ≡ Some text → (rest : List ℕ) × (text_left left now ≡ Some rest) × (lines_of old text ≡ (over ++ (lines_of now rest).0, (lines_of now rest).1))
 
@@ -115,7 +113,7 @@ over_none left reader going = record {
   passed = refl;
   going = going;
   count = omega arith;
-  since = λ e. e;
+  unended = λ e. e;
   handed = λ e. handed_none left reader;
   told = λ text told. (text, told, refl);
 }
@@ -147,7 +145,7 @@ over_more left old now new n o next pass = record {
   passed = passed_more o.over new.line o.passed pass;
   going = next.came.1.going;
   count = omega (arith, line_count left old now new n o next, length-append o.over (new.line ∷ []));
-  since = λ e. o.since next.more_to_come;
+  unended = λ e. o.unended next.more_to_come;
   handed = line_out left old now new n o next;
   told = λ text told.
       let t = line_told left old now new n o next text told in
@@ -163,7 +161,7 @@ over_line left old now new n o next pass = record {
   number = let came = next.came.1 in omega (arith, came.count, line_count left old now new n o next);
   count = next.came.1.count;
   going = next.came.1.going;
-  unended = o.since next.more_to_come;
+  unended = o.unended next.more_to_come;
   handed = line_out left old now new n o next;
 }
 
@@ -222,9 +220,9 @@ over_fault left faults old now new o came unended rose = record {
   over = o.over;
   passed = o.passed;
   whole = subst (WereWhole left old new) (append-nil o.over) (whole_more left old now new o.over [] (o.handed unended) (failed_whole left faults now new came));
-  unended = o.since unended;
   cause = rose;
   count = omega (arith, came.count, o.count);
+  unended = o.unended unended;
   stopped = came.stopped;
 }
 

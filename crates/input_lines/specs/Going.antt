@@ -1,5 +1,5 @@
 -- How a reader goes on over the bytes that its source gives, whether or not the source tells them.
-use Rattle.std.specs.Prelude.{◌≡◌, ℕ, ◌+◌, ◌≤◌, true, false, List, [], ◌∷◌, ◌++◌, length, map, Option, Some, None, Ok, Err, Result}
+use Rattle.std.specs.Prelude.{◌≡◌, ℕ, ◌+◌, true, false, List, [], ◌∷◌, ◌++◌, length, map, Option, Some, None, Ok, Err, Result}
 use Rattle.std.specs.List.{list_all}
 use Rattle.std.specs.Io.KnownBytes.{Consumes, IsAtEnd}
 use Rattle.si_causes.specs.Causes.{Rose}
@@ -33,7 +33,7 @@ pub record LineCame {S : Type 0} (left : S → Option (List ℕ)) (old new : Rea
   pub number : n ≡ old.number + length over + 1
   pub count : new.number ≡ n
   pub going : new.stop ≡ None
-  -- the source had not told its end before
+  -- the source had not told its end
   pub unended : old.ended ≡ false
   -- a line without an LF is the last
   pub handed : new.ended ≡ false → HandedOut left old new (over ++ new.line ∷ [])
@@ -43,10 +43,10 @@ pub record FaultCame {S : Type 0} (left : S → Option (List ℕ)) (faults : S �
   pub over : List (List ℕ)
   pub passed : list_all is_passed over ≡ true
   pub whole : WereWhole left old new over
-  -- the source had not told its end before
-  pub unended : old.ended ≡ false
   pub cause : Rose (faults old.source) (faults new.source)
   pub count : new.number ≡ old.number + length over
+  -- the source had not told its end
+  pub unended : old.ended ≡ false
   pub stopped : new.stop ≡ Some Failed
 
 -- what a call tells where no earlier one stopped

@@ -1,11 +1,11 @@
 -- Worked rows of the definitions.
-use Rattle.std.specs.Prelude.{◌≡◌, ℕ, List, [], ◌∷◌, ◌++◌, replicate, Some, None, true, false, refl, codes}
+use Rattle.std.specs.Prelude.{◌≡◌, [], ◌∷◌, ◌++◌, replicate, Some, None, true, false, refl, codes}
 use Rattle.std.specs.Str.{chars, is_utf8}
 use Rattle.csv.specs.Machine.{next_record}
 use Rattle.csv.specs.Reading.{strip_bom}
-use Rattle.input_lines.specs.Fields.{record_of, line_fields, is_line}
+use Rattle.input_lines.specs.Fields.{record_of, is_line}
 use Rattle.input_lines.specs.Numbers.{number_in, numeral_of, is_word}
-use Rattle.input_lines.specs.Lines.{is_passed, record_lines}
+use Rattle.input_lines.specs.Lines.{record_lines}
 use Rattle.input_lines.specs.Going.{shown_whole}
 
 -- fields are parted by commas; a quoted field is its text, with commas and doubled quotes

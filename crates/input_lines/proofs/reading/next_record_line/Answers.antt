@@ -1,7 +1,4 @@
-use Rattle.std.proofs.Common.{◌≡◌, ◌≤◌, ◌<◌, ◌∙◌, ℕ, List, refl, sym, ap, arith, true, false}
-use Rattle.std.specs.Prelude.{not, Some, None}
-use Rattle.si_causes.specs.Reading.{room}
-use Rattle.input_lines.specs.Lines.{is_passed}
+use Rattle.std.proofs.Common.{refl, arith, true, false}
 use Rattle.input_lines.proofs.Steps.{NextLine, not_ended, not_ended_stop, stuck_at, stays_stuck, over_none, over_more, over_line, over_first, over_end, over_stop, over_stop_records, found_passed}
 use Rattle.input_lines.proofs.reading.next_record_line.Goals as goal
 

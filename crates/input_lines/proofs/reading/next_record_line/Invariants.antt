@@ -1,9 +1,6 @@
-use Rattle.std.proofs.Common.{◌≡◌, ◌≤◌, ◌+◌, ◌++◌, List, ℕ, length, true}
-use Rattle.std.specs.Prelude.{Some, None, IfSome}
-use Rattle.std.specs.List.{list_all}
-use Rattle.si_causes.specs.Reading.{text_left, room}
-use Rattle.input_lines.specs.Lines.{is_passed, lines_of}
-use Rattle.input_lines.specs.Going.{HandedOut}
+use Rattle.std.proofs.Common.{◌≡◌, ◌≤◌}
+use Rattle.std.specs.Prelude.{None, IfSome}
+use Rattle.si_causes.specs.Reading.{room}
 use Rattle.input_lines.proofs.Steps.{Over}
 use Rattle.input_lines.proofs.reading.next_record_line.Given as goal
 

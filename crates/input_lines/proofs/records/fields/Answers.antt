@@ -1,4 +1,4 @@
-use Rattle.std.proofs.Common.{rules, arith, ◌≡◌, ◌∙◌, ap, sym, subst, false, Some, List, ℕ}
+use Rattle.std.proofs.Common.{◌≡◌, ◌∙◌, ap, sym, subst, false, Some}
 use Rattle.std.specs.List.{AllByRecursion}
 use Rattle.si_text.specs.Control.{has_control}
 use Rattle.si_text.specs.Decoding.{IsKept}

@@ -1,4 +1,4 @@
-use Rattle.std.proofs.Common.{rules, arith, ◌≡◌, ◌∙◌, ◌+◌, ◌∷◌, [], ◌++◌, ap, sym, suc, take, Some, None, option_map, ℕ, List, Bor}
+use Rattle.std.proofs.Common.{arith, ◌≡◌, ◌∙◌, ◌+◌, ◌∷◌, [], ◌++◌, ap, sym, suc, take, Some, None, option_map, ℕ, List, Bor}
 use Rattle.csv.specs.Records.{fields_of, field_at}
 use Rattle.csv.proofs.RecordFacts.{field-there}
 use Rattle.input_lines.proofs.CleanLines.{kept_at, take_more}

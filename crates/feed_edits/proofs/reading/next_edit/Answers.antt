@@ -1,0 +1,39 @@
+use Rattle.std.specs.Prelude.{Ok, Err}
+use Rattle.feed_edits.proofs.Turns.{never_line}
+use Rattle.feed_edits.proofs.Edits.{edit_gives, edit_takes, edit_stop_takes, head_refused_gives, head_refused_takes, line_leaves}
+use Rattle.feed_edits.proofs.reading.next_edit.Goals as goal
+
+pub returns-in-Err-clause-takes : goal.returns-in-Err-clause-takes
+returns-in-Err-clause-takes g c = λ going. edit_stop_takes g.S.Source.left g.S.Source.faults c.args.lines.now c.next_record_line.new.lines c.in-Err.stop (c.in-Err.ensures.came going)
+
+pub returns-in-Ok-with_items-clause-gives : goal.returns-in-Ok-with_items-clause-gives
+returns-in-Ok-with_items-clause-gives g c = λ going text told.
+    let e = rw c.in-Ok-Some.field-0-is at c.in-Ok-Some.ensures in
+    edit_gives g.S.Source.left c.args.lines.now c.next_record_line.new.lines c.with_items.new.lines text c.in-Ok-Some.at c.line.result.now c.in-Ok.head (Ok c.in-Ok-with_items.edit) c.line.ensures (e.records going text told) c.in-Ok.ensures.says
+    (c.in-Ok-with_items.ensures.gives (e.came going).going)
+
+pub returns-in-Ok-with_items-clause-takes : goal.returns-in-Ok-with_items-clause-takes
+returns-in-Ok-with_items-clause-takes g c = λ going.
+    let e = rw c.in-Ok-Some.field-0-is at c.in-Ok-Some.ensures in
+    edit_takes g.S.Source.left g.S.Source.faults c.args.lines.now c.next_record_line.new.lines c.with_items.new.lines c.in-Ok-Some.at c.line.result.now c.in-Ok.head (Ok c.in-Ok-with_items.edit) c.line.ensures (e.came going) c.in-Ok.ensures.says e.later c.in-Ok-with_items.ensures.takes
+
+pub returns-in-Ok-with_items-clause-sticky : goal.returns-in-Ok-with_items-clause-sticky
+returns-in-Ok-with_items-clause-sticky g c =
+    let e = rw c.in-Ok-Some.field-0-is at c.in-Ok-Some.ensures in
+    never_line c.args.lines.now.stop c.in-Ok-Some.at _ _ e.sticky
+
+pub returns-in-Err-with_items-clause-gives : goal.returns-in-Err-with_items-clause-gives
+returns-in-Err-with_items-clause-gives g c = λ going text told.
+    let e = rw c.in-Ok-Some.field-0-is at c.in-Ok-Some.ensures in
+    edit_gives g.S.Source.left c.args.lines.now c.next_record_line.new.lines c.with_items.new.lines text c.in-Ok-Some.at c.line.result.now c.in-Ok.head (Err c.in-Err-with_items.stop) c.line.ensures (e.records going text told) c.in-Ok.ensures.says
+    (c.in-Err-with_items.ensures.gives (e.came going).going)
+
+pub returns-in-Err-with_items-clause-takes : goal.returns-in-Err-with_items-clause-takes
+returns-in-Err-with_items-clause-takes g c = λ going.
+    let e = rw c.in-Ok-Some.field-0-is at c.in-Ok-Some.ensures in
+    edit_takes g.S.Source.left g.S.Source.faults c.args.lines.now c.next_record_line.new.lines c.with_items.new.lines c.in-Ok-Some.at c.line.result.now c.in-Ok.head (Err c.in-Err-with_items.stop) c.line.ensures (e.came going) c.in-Ok.ensures.says e.later c.in-Err-with_items.ensures.takes
+
+pub returns-in-Err-with_items-clause-sticky : goal.returns-in-Err-with_items-clause-sticky
+returns-in-Err-with_items-clause-sticky g c =
+    let e = rw c.in-Ok-Some.field-0-is at c.in-Ok-Some.ensures in
+    never_line c.args.lines.now.stop c.in-Ok-Some.at _ _ e.sticky

@@ -1,0 +1,60 @@
+use Rattle.std.proofs.Common.{◌≡◌, ◌-◌, ◌∷◌, [], ℕ, length, arith, refl, sym, ap, ◌∙◌, subst, length-append}
+use Rattle.std.specs.Prelude.{Ok, Err}
+use Rattle.std.specs.List.{All}
+use Rattle.std.proofs.lemmas.List.Elements.{All-push, All-nil}
+use Rattle.feed_edits.specs.Items.{IsShapedItem}
+use Rattle.feed_edits.proofs.Edits.{Made, NextItem, made_none, made_more, made_all, made_stop}
+use Rattle.feed_edits.proofs.Turns.{stuck_on}
+use Rattle.feed_edits.proofs.reading.next_items.Goals as goal
+
+pub items-init : goal.items-init
+items-init g c = record {
+  made = made_none g.S.Source.left c.args.count c.new-items.result c.args.lines.now c.new-items.ensures;
+  counted = ap length c.new-items.ensures;
+  shaped = rw c.new-items.ensures (All-nil IsShapedItem);
+  later = omega arith;
+  same = g.met.S.Source.same_at_once c.args.lines.now.source;
+}
+
+pub items-preserved : goal.items-preserved
+items-preserved g c =
+    let i = c.items.invariant in
+    let e = c.in-Ok.ensures in
+    let kept = c.in_default.ensures.kept in
+    record {
+      made = made_more g.S.Source.left g.S.Source.faults c.args.count c.items.counter c.items.items c.keep.new.items c.in-Ok.item c.args.lines.now c.items.lines c.next_item.new.lines c.items-test.true kept i.made
+        (record { gives = e.gives; takes = e.takes; sticky = e.sticky });
+      counted = omega (arith, i.counted, ap length kept, length-append c.items.items (c.in-Ok.item ∷ []));
+      shaped = rw kept (All-push IsShapedItem c.items.items c.in-Ok.item i.shaped e.shaped);
+      later = omega (arith, i.later, e.later);
+      same = g.met.S.Source.same_later c.args.lines.now.source c.items.lines.source c.next_item.new.lines.source i.same e.same;
+    }
+
+pub returns-in-Err : goal.returns-in-Err
+returns-in-Err g c =
+    let i = c.items.invariant in
+    let e = c.in-Err.ensures in
+    let stop = made_stop g.S.Source.left g.S.Source.faults c.args.count c.items.counter c.items.items c.in-Err.stop c.args.lines.now c.items.lines c.next_item.new.lines c.items-test.true i.later i.made
+        (record { gives = e.gives; takes = e.takes; sticky = e.sticky }) in
+    record {
+      gives = stop.0;
+      takes = stop.1;
+      shaped = tt;
+      counted = tt;
+      sticky = stop.2;
+      later = omega (arith, i.later, e.later);
+      same = g.met.S.Source.same_later c.args.lines.now.source c.items.lines.source c.next_item.new.lines.source i.same e.same;
+    }
+
+pub returns-in-Err-keep-clause-sticky : goal.returns-in-Err-keep-clause-sticky
+returns-in-Err-keep-clause-sticky g c = stuck_on c.args.lines.now.stop _ c.args.lines.now c.items.lines c.next_item.new.lines refl c.items.invariant.made.stuck c.in-Ok.ensures.sticky
+
+pub returns-clause-gives : goal.returns-clause-gives
+returns-clause-gives g c =
+    let none : c.args.count - c.items.counter ≡ 0 = omega arith in
+    (made_all g.S.Source.left g.S.Source.faults c.args.count c.items.counter c.items.items c.args.lines.now c.items.lines none c.items.invariant.made).0
+
+pub returns-clause-takes : goal.returns-clause-takes
+returns-clause-takes g c =
+    let none : c.args.count - c.items.counter ≡ 0 = omega arith in
+    (made_all g.S.Source.left g.S.Source.faults c.args.count c.items.counter c.items.items c.args.lines.now c.items.lines none c.items.invariant.made).1
