@@ -6,10 +6,14 @@
 
 mod edit;
 mod entry;
+mod kept;
 mod line;
 mod outcome;
+mod script;
 #[cfg(test)]
 mod tests;
 
 pub use entry::write_entry;
+pub use kept::read_outcome;
 pub use outcome::write_outcome;
+pub use script::{ScriptItem, next_item};
