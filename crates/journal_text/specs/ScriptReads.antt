@@ -8,6 +8,12 @@ use Rattle.journal_text.specs.declared.script.ScriptItem.{ScriptItem}
 use Rattle.journal_text.specs.declared.script.ScriptItem.TheVariants.{Step, Kept, End}
 use Rattle.journal_text.specs.Script.{first_script_item}
 
+-- an item that stands on lines
+abbrev pub IsRead : ScriptItem → Type 0
+IsRead (Step who step) = Unit {0}
+IsRead (Kept n outcome) = Unit {0}
+IsRead End = ⊥
+
 -- an item was read of a told text, or the text ends, or exactly this stop comes
 abbrev pub GivesItem : {S : Type 0} → (S → Option (List ℕ)) → Bool → Reading S → Reading S → List ℕ → Result ScriptItem EditStop → Type 0
 GivesItem left after old new text (Ok (Step who step)) = Leaves left (first_script_item after) (Came (Step who step)) old new text

@@ -6,8 +6,8 @@ ghost use Rattle.feed_edits.specs.declared.stop.EditStop.TheVariants.{Read};
 ghost use Rattle.feed_edits.specs.Reads.{Gives, Says, Takes};
 ghost use Rattle.desk_core.specs.Steps.{IsStepWithin};
 ghost use Rattle.journal_text.specs.Outcomes.{IsInWindow};
-ghost use Rattle.journal_text.specs.Script.{IsItemWithin, IsShapedItem, IsShapedStep, caller_of, command_of_caller, control_step, feed_of, is_outcome_line, is_swap, kept_in, read_command as command_at, short_step};
-ghost use Rattle.journal_text.specs.ScriptReads.{GivesItem, TakesItem};
+ghost use Rattle.journal_text.specs.Script.{IsItemWithin, IsShapedItem, IsShapedStep, caller_of, command_of_caller, control_step, feed_of, is_outcome_line, is_swap, kept_in, read_command as command_at, read_item, short_step};
+ghost use Rattle.journal_text.specs.ScriptReads.{GivesItem, IsRead, TakesItem};
 
 use crate::kept::read_outcome;
 use desk_core::{Control, Outcome, Step, read_control};
@@ -81,37 +81,38 @@ fn read_caller(fields: &[Txt]) -> Option<u32>
     }
 }
 
-// The command of a caller, whose fields stand in line `at` from index `from` on.
+// The command of a caller: `words` are the fields of line `at` from index `from` on.
 fn command_from<S: Source>(
     alloc: Global,
     who: u32,
     at: u64,
     fields: &LineFields,
+    words: &[Txt],
     from: usize,
     lines: &mut LineReader<S>,
 ) -> Result<(u32, Step), EditStop>
-    requires { from ≤ 1 }
+    requires few { from ≤ 1 }
+    requires words { words.now ≡ drop from fields.now }
     ensures gives { lines.old.stop ≡ None → (text : List ℕ) → text_left S.left lines.old ≡ Some text
-        → Gives S.left (command_of_caller who at (drop from fields.now)) lines.old lines.new text result }
+        → Gives S.left (command_of_caller who at words.now) lines.old lines.new text result }
     ensures takes { lines.old.stop ≡ None
-        → Takes S.left S.faults (command_of_caller who at (drop from fields.now)) lines.old lines.new result }
+        → Takes S.left S.faults (command_of_caller who at words.now) lines.old lines.new result }
     ensures within { IfOk result (λ command. IsStepWithin command.1) }
     ensures shaped { IfOk result (λ command. IsShapedStep command.1) }
     ensures sticky { IfSome lines.old.stop (λ stop. lines.new ≡ lines.old) }
     ensures later { S.faults lines.old.source ≤ S.faults lines.new.source }
     ensures same { S.same lines.old.source lines.new.source }
 {
-    let Some(words) = fields.as_slice().get(from..) else {
-        return Err(EditStop::NoCommand(at));
-    };
     if let Some(step) = read_short(words) {
         return Ok((who, step));
     }
     let Some(feed) = read_feed(words) else {
         return Err(EditStop::NoCommand(at));
     };
-    let edit = read_edit(alloc, fields, from + 2, at, lines)?;
-    Ok((who, Step::Edit(feed, edit)))
+    match read_edit(alloc, fields, from + 2, at, lines) {
+        Ok(edit) => Ok((who, Step::Edit(feed, edit))),
+        Err(stop) => Err(stop),
+    }
 }
 
 // The command of line `at`.
@@ -131,9 +132,15 @@ fn read_command<S: Source>(
     ensures later { S.faults lines.old.source ≤ S.faults lines.new.source }
     ensures same { S.same lines.old.source lines.new.source }
 {
-    match read_caller(fields.as_slice()) {
-        Some(who) => command_from(alloc, who, at, fields, 1, lines),
-        None => command_from(alloc, 0, at, fields, 0, lines),
+    let words = fields.as_slice();
+    match read_caller(words) {
+        Some(who) => {
+            let [_, words @ ..] = words else {
+                unreachable!()
+            };
+            command_from(alloc, who, at, fields, words, 1, lines)
+        }
+        None => command_from(alloc, 0, at, fields, words, 0, lines),
     }
 }
 
@@ -147,6 +154,7 @@ fn starts_outcome(fields: &[Txt]) -> bool
 }
 
 // The outcome that outcome line `at` keeps, where it may stand.
+#[tactic(auto, unfolding(crate::specs::Kept::outcome_of_fields))]
 fn kept_on(at: u64, fields: &[Txt], after: bool) -> Result<Outcome, EditStop>
     ensures says { Says at (kept_in after fields.now) result }
     ensures window { IfOk result IsInWindow }
@@ -154,7 +162,7 @@ fn kept_on(at: u64, fields: &[Txt], after: bool) -> Result<Outcome, EditStop>
     if !after {
         return Err(EditStop::NoCommand(at));
     }
-    let Some(rest) = fields.get(1..) else {
+    let [_, rest @ ..] = fields else {
         return Err(EditStop::NoCommand(at));
     };
     match read_outcome(rest) {
@@ -170,6 +178,37 @@ fn fields_on(alloc: Global, at: u64, line: &[u8]) -> Result<LineFields, EditStop
     match fields(alloc, line)? {
         Some(fields) => Ok(fields),
         None => Err(EditStop::NoCommand(at)),
+    }
+}
+
+// The item of line `at`.
+fn item_on<S: Source>(
+    alloc: Global,
+    at: u64,
+    fields: &LineFields,
+    after: bool,
+    lines: &mut LineReader<S>,
+) -> Result<ScriptItem, EditStop>
+    ensures gives { lines.old.stop ≡ None → (text : List ℕ) → text_left S.left lines.old ≡ Some text
+        → Gives S.left (read_item after at fields.now) lines.old lines.new text result }
+    ensures takes { lines.old.stop ≡ None
+        → Takes S.left S.faults (read_item after at fields.now) lines.old lines.new result }
+    ensures read { IfOk result IsRead }
+    ensures within { IfOk result IsItemWithin }
+    ensures shaped { IfOk result IsShapedItem }
+    ensures sticky { IfSome lines.old.stop (λ stop. lines.new ≡ lines.old) }
+    ensures later { S.faults lines.old.source ≤ S.faults lines.new.source }
+    ensures same { S.same lines.old.source lines.new.source }
+{
+    if starts_outcome(fields.as_slice()) {
+        return match kept_on(at, fields.as_slice(), after) {
+            Ok(outcome) => Ok(ScriptItem::Kept(at, outcome)),
+            Err(stop) => Err(stop),
+        };
+    }
+    match read_command(alloc, at, fields, lines) {
+        Ok(command) => Ok(ScriptItem::Step(command.0, command.1)),
+        Err(stop) => Err(stop),
     }
 }
 
@@ -202,11 +241,8 @@ pub fn next_item<S: Source>(
         Ok(None) => return Ok(ScriptItem::End),
         Err(stop) => return Err(EditStop::Read(stop)),
     };
-    let fields = fields_on(alloc, at, lines.line())?;
-    if starts_outcome(fields.as_slice()) {
-        let outcome = kept_on(at, fields.as_slice(), after)?;
-        return Ok(ScriptItem::Kept(at, outcome));
+    match fields_on(alloc, at, lines.line()) {
+        Ok(fields) => item_on(alloc, at, &fields, after, lines),
+        Err(stop) => Err(stop),
     }
-    let (who, step) = read_command(alloc, at, &fields, lines)?;
-    Ok(ScriptItem::Step(who, step))
 }
