@@ -6,6 +6,8 @@
 #![tactic(auto)]
 
 mod control;
+#[cfg(test)]
+mod control_tests;
 mod desk;
 mod held;
 mod laws;
