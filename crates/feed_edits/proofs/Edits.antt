@@ -13,20 +13,20 @@ use Rattle.feed_edits.specs.declared.edit.DayText.{DayText}
 use Rattle.feed_edits.specs.declared.edit.Edit.{Edit}
 use Rattle.feed_edits.specs.declared.edit.Edit.TheVariants.{Day}
 use Rattle.feed_edits.specs.declared.heads.Head.{Head}
-use Rattle.feed_edits.specs.declared.heads.Head.TheVariants.{Whole, OfDay}
+use Rattle.feed_edits.specs.declared.heads.Head.TheVariants.{OfDay}
 use Rattle.feed_edits.specs.declared.stop.EditStop.{EditStop}
 use Rattle.feed_edits.specs.declared.stop.EditStop.TheVariants.{NoCommand as Refused, Read, Memory}
-use Rattle.feed_edits.specs.Ahead.{Ahead, Row, Tail, Found, Came, Stopped, Stop, End, NoCommand, and_then, first_row, missing_at, stop_at, ahead}
+use Rattle.feed_edits.specs.Ahead.{Ahead, Row, Found, Came, Stopped, Stop, End, NoCommand, and_then, first_row, missing_at, stop_at, ahead}
 use Rattle.feed_edits.specs.Items.{item_line}
 use Rattle.feed_edits.specs.Heads.{edit_head}
 use Rattle.feed_edits.specs.Edits.{first_item, items_of, on_line, with_items, edit_from, first_edit, read_edit}
 use Rattle.feed_edits.specs.Reads.{Leaves, Gives, Passes, Takes, Says}
 use Rattle.feed_edits.proofs.Turns.{Known, passes_step, leaves_step, row_passes, row_leaves, row_stop_takes, row_stop_gives, row_none, takes_stop, gives_stop, says_takes, says_gives, passes_same, leaves_same, passes_join, leaves_join, takes_join, gives_join, gives_same, stuck_at, stuck_on}
 
-abbrev item_in : List ℕ → Option Item
+abbrev pub item_in : List ℕ → Option Item
 item_in line = option_and_then item_line (record_of line)
 
-abbrev head_in : List ℕ → Option Head
+abbrev pub head_in : List ℕ → Option Head
 head_in line = option_and_then edit_head (record_of line)
 
 item_goes : (n : ℕ) (line : List ℕ) (a b : Ahead) → first_row missing_at a ≡ Came (n, line) b → first_item a ≡ on_line n (item_in line) b
@@ -99,7 +99,7 @@ pub made_none : {S : Type 0} (left : S → Known) (count : ℕ) (items : List It
 made_none left count items reader e =
     let all : count ≡ count - 0 = omega arith in
     let same : (a : Ahead) → items_of count a ≡ onto items (items_of (count - 0) a) =
-      λ a. onto_nil (items_of count a) ∙ ap (λ (l : List Item). onto l (items_of count a)) (sym e) ∙ ap (λ k. onto items (items_of k a)) all in
+    λ a. onto_nil (items_of count a) ∙ ap (λ (l : List Item). onto l (items_of count a)) (sym e) ∙ ap (λ k. onto items (items_of k a)) all in
     record {
       gives = λ going text told. leaves_same left (items_of count) (λ a. onto items (items_of (count - 0) a)) reader text told same;
       takes = λ going. passes_same left (items_of count) (λ a. onto items (items_of (count - 0) a)) reader going same;
@@ -122,7 +122,7 @@ made_more left faults count counter items longer item old now new lt e m next =
     let g : Ahead → Found (List Item) = λ a. onto longer (items_of (count - (counter + 1)) a) in
     let fewer : count - counter ≡ suc (count - (counter + 1)) = omega arith in
     let goes : (a b : Ahead) → first_item a ≡ Came item b → f a ≡ g b =
-      λ a b h. more_items (count - counter) (count - (counter + 1)) items item fewer a b h ∙ ap (λ (l : List Item). onto l (items_of (count - (counter + 1)) b)) (sym e) in
+    λ a b h. more_items (count - counter) (count - (counter + 1)) items item fewer a b h ∙ ap (λ (l : List Item). onto l (items_of (count - (counter + 1)) b)) (sym e) in
     record {
       gives = λ going text told.
           let l = m.gives going text told in
@@ -144,8 +144,8 @@ made_all left faults count counter items old now e m =
 pub made_stop : {S : Type 0} (left : S → Known) (faults : S → ℕ) (count counter : ℕ) (items : List Item) (stop : EditStop) (old now new : Reading S) → counter < count → faults old.source ≤ faults now.source
     → Made left count counter items old now → NextItem left faults now new (Err stop)
     → (old.stop ≡ None → (text : List ℕ) → text_left left old ≡ Some text → Gives {T = List Item} left (items_of count) old new text (Err stop))
-      × (old.stop ≡ None → Takes {T = List Item} left faults (items_of count) old new (Err stop))
-      × IfSome old.stop (λ s. new ≡ old)
+    × (old.stop ≡ None → Takes {T = List Item} left faults (items_of count) old new (Err stop))
+    × IfSome old.stop (λ s. new ≡ old)
 made_stop left faults count counter items stop old now new lt later m next =
     let f : Ahead → Found (List Item) = λ a. onto items (items_of (count - counter) a) in
     let fewer : count - counter ≡ suc (count - (counter + 1)) = omega arith in

@@ -1,7 +1,7 @@
 -- The parts of a genre, and lists of genres.
-use Rattle.std.proofs.Common.{◌≡◌, ◌≢◌, ◌<◌, ◌≤◌, ◌⊎◌, inl, inr, ℕ, Bool, true, false, not, List, [], ◌∷◌, ◌++◌, length, refl, sym, ap, ◌∙◌, arith, append_assoc}
+use Rattle.std.proofs.Common.{◌≡◌, ◌≢◌, ◌<◌, ◌≤◌, ◌⊎◌, inl, inr, ℕ, Bool, true, false, List, [], ◌∷◌, ◌++◌, length, refl, sym, ap, ◌∙◌, arith, append_assoc}
 use Rattle.std.specs.Prelude.{Option, Some, None, ◌==◌, ◌&&◌, nat_le, nat_lt, option_map, option_and_then, map}
-use Rattle.std.specs.List.{slice_split, onto_first, position_or_len, before_first, after_first, list_all}
+use Rattle.std.specs.List.{slice_split, position_or_len, before_first, after_first, list_all}
 use Rattle.std.proofs.lemmas.List.Splits.{slice_split_first}
 use Rattle.std.proofs.lemmas.Bool.Decides.{nat_tests}
 use Rattle.si_text.proofs.PlainFacts.{and_left, and_right}
@@ -68,7 +68,7 @@ three_parts a b u =
           let lt : position_or_len (λ c. c == 46) u < length u = grind (arith, nat_tests) in
           let behind = some_part (λ c. c == 46) (after_first (λ c. c == 46) u) in
           rw (slice_split_first (λ c. c == 46) u 0 lt, behind.2, pointed_is_none 0 255 u lt) (sym (none_last (number_in 0 255 a) (number_in 0 255 b)))
-        )
+          )
       | inr e ↦ (let eq : position_or_len (λ c. c == 46) u ≡ length u = grind (arith, nat_tests) in rw (one_part (λ c. c == 46) u eq) refl)
     ]
 

@@ -3,3 +3,5 @@ pub mod Ten
 pub mod Shapes
 pub mod Turns
 pub mod Edits
+pub mod Fewer
+pub mod Back

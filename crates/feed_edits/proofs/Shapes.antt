@@ -1,15 +1,14 @@
 -- What is read has its shape.
-use Rattle.std.proofs.Common.{◌≡◌, ◌≢◌, ℕ, true, List, [], ◌∷◌, refl, subst, inl, inr, cond}
+use Rattle.std.proofs.Common.{◌≡◌, ◌≢◌, ℕ, true, List, [], ◌∷◌, subst, inl, inr}
 use Rattle.std.specs.Prelude.{Option, Some, None, IfSome, codes, option_map}
 use Rattle.si_time.specs.Readings.{has_shape}
 use Rattle.guide_model.specs.declared.event.Genre.{Genre}
 use Rattle.input_lines.specs.Numbers.{number_in}
 use Rattle.feed_edits.specs.declared.edit.Stamp.{Stamp}
 use Rattle.feed_edits.specs.declared.edit.Length.{Length}
-use Rattle.feed_edits.specs.declared.edit.DayText.{DayText}
 use Rattle.feed_edits.specs.declared.edit.RawRating.{RawRating}
 use Rattle.feed_edits.specs.declared.edit.Item.{Item}
-use Rattle.feed_edits.specs.Items.{IsShapedItem, item_of, item_with, stamp_of, length_of, day_of, rating_of, rating_with, genres_of}
+use Rattle.feed_edits.specs.Items.{IsShapedItem, item_of, item_with, stamp_of, length_of, rating_of, rating_with, genres_of}
 use Rattle.feed_edits.proofs.Genres.{b_cases}
 
 abbrev IsStamp : Stamp → Type 0

@@ -6,7 +6,6 @@ use Rattle.input_lines.specs.Numbers.{number_in}
 use Rattle.feed_edits.specs.declared.edit.Stamp.{Stamp}
 use Rattle.feed_edits.specs.declared.edit.Length.{Length}
 use Rattle.feed_edits.specs.declared.edit.RawRating.{RawRating}
-use Rattle.feed_edits.specs.declared.edit.Item.{Item}
 use Rattle.feed_edits.specs.Items.{item_of, item_with, stamp_of, length_of, rating_of, genres_of}
 
 abbrev Text : Type 0

@@ -1,17 +1,17 @@
 -- Values that are read from the lines ahead, one after another.
-use Rattle.std.proofs.Common.{◌≡◌, ◌≤◌, ℕ, ◌+◌, false, List, [], ◌∷◌, ◌++◌, length, refl, sym, ap, subst, ◌∙◌, inl, inr, arith, append-nil, append_assoc, length-append}
+use Rattle.std.proofs.Common.{◌≡◌, ◌≤◌, ℕ, ◌+◌, List, [], ◌∷◌, ◌++◌, length, refl, sym, ap, subst, ◌∙◌, inl, inr, arith, append-nil, append_assoc, length-append}
 use Rattle.std.specs.Prelude.{Option, Some, None, Ok, Err, Result, IfSome}
 use Rattle.si_causes.specs.Causes.{Rose}
 use Rattle.si_causes.specs.Reading.{Reading, text_left}
 use Rattle.si_causes.specs.declared.stop.ReadStop.{ReadStop}
 use Rattle.si_causes.specs.declared.stop.ReadStop.TheVariants.{Failed, TooLong as Overlong}
-use Rattle.input_lines.specs.Lines.{Lines, lines_of, record_lines}
+use Rattle.input_lines.specs.Lines.{lines_of, record_lines}
 use Rattle.input_lines.specs.Going.{LineCame, FaultCame, RecordCame}
 use Rattle.input_lines.specs.Records.{FirstRecord, NoRecord, NoneInLimit, GivesRecord}
 use Rattle.input_lines.proofs.Steps.{handed_none, handed_more, whole_more, records_past, record_first}
 use Rattle.feed_edits.specs.declared.stop.EditStop.{EditStop}
 use Rattle.feed_edits.specs.declared.stop.EditStop.TheVariants.{NoCommand as Refused, Read, Memory}
-use Rattle.feed_edits.specs.Ahead.{Ahead, Row, Tail, Ends, Exceeds, Breaks, Found, Came, Stopped, Stop, NoCommand, TooLong, Unread, and_then, first_row, row_of, tail_of, ahead}
+use Rattle.feed_edits.specs.Ahead.{Ahead, Row, Tail, Ends, Exceeds, Breaks, Found, Came, Stopped, Stop, NoCommand, TooLong, Unread, first_row, row_of, tail_of, ahead}
 use Rattle.feed_edits.specs.Edits.{on_line}
 use Rattle.feed_edits.specs.Reads.{Leaves, Gives, Passes, Faulted, Takes, Says, ahead_with}
 

@@ -1,5 +1,5 @@
 -- The line of an edit: a whole edit, or the head of a day, whose items follow on lines of their own.
-use Rattle.std.specs.Prelude.{◌≡◌, ◌≤◌, ℕ, true, List, [], ◌∷◌, length, Option, Some, None, option_map, option_and_then, if◌then◌else◌, codes}
+use Rattle.std.specs.Prelude.{◌≡◌, ◌≤◌, ℕ, true, List, [], ◌∷◌, length, Option, None, option_map, option_and_then, if◌then◌else◌, codes}
 use Rattle.std.specs.List.{All}
 use Rattle.si_time.specs.Readings.{has_shape}
 use Rattle.input_lines.specs.Numbers.{is_word, number_in}

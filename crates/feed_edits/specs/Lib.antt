@@ -3,3 +3,5 @@ pub mod Heads
 pub mod Ahead
 pub mod Edits
 pub mod Reads
+pub mod Back
+mod Rows

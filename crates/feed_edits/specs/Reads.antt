@@ -8,7 +8,7 @@ use Rattle.input_lines.specs.Going.{HandedOut, WereWhole}
 use Rattle.feed_edits.specs.declared.edit.Edit.{Edit}
 use Rattle.feed_edits.specs.declared.stop.EditStop.{EditStop}
 use Rattle.feed_edits.specs.declared.stop.EditStop.TheVariants.{NoCommand as Refused, Read, Memory}
-use Rattle.feed_edits.specs.Ahead.{Ahead, Tail, Breaks, Found, Came, Stopped, Stop, End, NoCommand, TooLong, Unread, ahead}
+use Rattle.feed_edits.specs.Ahead.{Ahead, Tail, Breaks, Found, Came, Stopped, End, NoCommand, TooLong, Unread, ahead}
 use Rattle.feed_edits.specs.Edits.{first_edit}
 
 -- Of a told text another is left, and what `first` reads of the one is what `next` reads of the other.

@@ -64,11 +64,7 @@ fn read_name(fields: &[Txt]) -> Result<Option<Head>, AllocError>
     let Some(service) = number(service.as_str(), 0, 65535) else {
         return Ok(None);
     };
-    Ok(Some(Head::Whole(Edit::Name(
-        service as u16,
-        provider.copy()?,
-        name.copy()?,
-    ))))
+    Ok(Some(Head::Whole(Edit::Name(service as u16, provider.copy()?, name.copy()?))))
 }
 
 fn read_day_head(fields: &[Txt]) -> Option<Head>

@@ -1,50 +1,50 @@
-use Rattle.std.proofs.Common.{◌≡◌, [], List, ℕ, sym, ap, ◌∙◌, refl}
+use Rattle.std.proofs.Common.{◌≡◌, sym, ap, ◌∙◌, refl}
 use Rattle.std.specs.Prelude.{None, Some}
 use Rattle.input_lines.specs.Numbers.{number_in}
-use Rattle.feed_edits.specs.Items.{item_of, item_with, stamp_of, length_of, rating_of, genres_of}
-use Rattle.feed_edits.proofs.Ten.{ten, item_of_ten, no_id, no_start, no_length, no_rating, no_genres}
+use Rattle.feed_edits.specs.Items.{stamp_of, length_of, rating_of, genres_of}
+use Rattle.feed_edits.proofs.Ten.{ten, item_of_ten, no_start, no_length, no_rating, no_genres}
 use Rattle.feed_edits.proofs.Shapes.{item_shaped}
 use Rattle.feed_edits.proofs.items.read_item.Goals as goal
 
 pub returns-in_default-number-clause-value : goal.returns-in_default-number-clause-value
 returns-in_default-number-clause-value c =
     let all = ten c.args.fields.now c.event-item.result c.start-item.result c.duration-item.result c.language-item.result c.name-item.result c.short-item.result c.extended-item.result c.country-item.result c.value-item.result c.groups-item.result
-      c.in-len10.len_at_least c.in-len10.len_below c.event-item.is c.start-item.is c.duration-item.is c.language-item.is c.name-item.is c.short-item.is c.extended-item.is c.country-item.is c.value-item.is c.groups-item.is in
+    c.in-len10.len_at_least c.in-len10.len_below c.event-item.is c.start-item.is c.duration-item.is c.language-item.is c.name-item.is c.short-item.is c.extended-item.is c.country-item.is c.value-item.is c.groups-item.is in
     let none : number_in 0 65535 c.event-item.result ≡ None = cc in
     rw (all, item_of_ten, none) refl
 
 pub returns-in_default-read_stamp-clause-value : goal.returns-in_default-read_stamp-clause-value
 returns-in_default-read_stamp-clause-value c =
     let all = ten c.args.fields.now c.event-item.result c.start-item.result c.duration-item.result c.language-item.result c.name-item.result c.short-item.result c.extended-item.result c.country-item.result c.value-item.result c.groups-item.result
-      c.in-len10.len_at_least c.in-len10.len_below c.event-item.is c.start-item.is c.duration-item.is c.language-item.is c.name-item.is c.short-item.is c.extended-item.is c.country-item.is c.value-item.is c.groups-item.is in
+    c.in-len10.len_at_least c.in-len10.len_below c.event-item.is c.start-item.is c.duration-item.is c.language-item.is c.name-item.is c.short-item.is c.extended-item.is c.country-item.is c.value-item.is c.groups-item.is in
     let none : stamp_of c.start-item.result ≡ None = cc in
     rw (all, item_of_ten, none, no_start) refl
 
 pub returns-in_default-read_length-clause-value : goal.returns-in_default-read_length-clause-value
 returns-in_default-read_length-clause-value c =
     let all = ten c.args.fields.now c.event-item.result c.start-item.result c.duration-item.result c.language-item.result c.name-item.result c.short-item.result c.extended-item.result c.country-item.result c.value-item.result c.groups-item.result
-      c.in-len10.len_at_least c.in-len10.len_below c.event-item.is c.start-item.is c.duration-item.is c.language-item.is c.name-item.is c.short-item.is c.extended-item.is c.country-item.is c.value-item.is c.groups-item.is in
+    c.in-len10.len_at_least c.in-len10.len_below c.event-item.is c.start-item.is c.duration-item.is c.language-item.is c.name-item.is c.short-item.is c.extended-item.is c.country-item.is c.value-item.is c.groups-item.is in
     let none : length_of c.duration-item.result ≡ None = cc in
     rw (all, item_of_ten, none, no_length) refl
 
 pub returns-in_default-2-clause-value : goal.returns-in_default-2-clause-value
 returns-in_default-2-clause-value c =
     let all = ten c.args.fields.now c.event-item.result c.start-item.result c.duration-item.result c.language-item.result c.name-item.result c.short-item.result c.extended-item.result c.country-item.result c.value-item.result c.groups-item.result
-      c.in-len10.len_at_least c.in-len10.len_below c.event-item.is c.start-item.is c.duration-item.is c.language-item.is c.name-item.is c.short-item.is c.extended-item.is c.country-item.is c.value-item.is c.groups-item.is in
+    c.in-len10.len_at_least c.in-len10.len_below c.event-item.is c.start-item.is c.duration-item.is c.language-item.is c.name-item.is c.short-item.is c.extended-item.is c.country-item.is c.value-item.is c.groups-item.is in
     let none : rating_of c.country-item.result c.value-item.result ≡ None = sym c.in_ok-rating.ensures ∙ c.in_default-2.is in
     rw (all, item_of_ten, none, no_rating) refl
 
 pub returns-in_default-3-clause-value : goal.returns-in_default-3-clause-value
 returns-in_default-3-clause-value c =
     let all = ten c.args.fields.now c.event-item.result c.start-item.result c.duration-item.result c.language-item.result c.name-item.result c.short-item.result c.extended-item.result c.country-item.result c.value-item.result c.groups-item.result
-      c.in-len10.len_at_least c.in-len10.len_below c.event-item.is c.start-item.is c.duration-item.is c.language-item.is c.name-item.is c.short-item.is c.extended-item.is c.country-item.is c.value-item.is c.groups-item.is in
+    c.in-len10.len_at_least c.in-len10.len_below c.event-item.is c.start-item.is c.duration-item.is c.language-item.is c.name-item.is c.short-item.is c.extended-item.is c.country-item.is c.value-item.is c.groups-item.is in
     let none : genres_of c.groups-item.result ≡ None = sym (ap genres_of c.as_str-4.ensures.value) ∙ sym c.in_ok-genres.ensures ∙ c.in_default-3.is in
     rw (all, item_of_ten, none, no_genres) refl
 
 pub returns-clause-value : goal.returns-clause-value
 returns-clause-value c =
     let all = ten c.args.fields.now c.event-item.result c.start-item.result c.duration-item.result c.language-item.result c.name-item.result c.short-item.result c.extended-item.result c.country-item.result c.value-item.result c.groups-item.result
-      c.in-len10.len_at_least c.in-len10.len_below c.event-item.is c.start-item.is c.duration-item.is c.language-item.is c.name-item.is c.short-item.is c.extended-item.is c.country-item.is c.value-item.is c.groups-item.is in
+    c.in-len10.len_at_least c.in-len10.len_below c.event-item.is c.start-item.is c.duration-item.is c.language-item.is c.name-item.is c.short-item.is c.extended-item.is c.country-item.is c.value-item.is c.groups-item.is in
     let id : number_in 0 65535 c.event-item.result ≡ Some c.in-Some.id = cc in
     let start : stamp_of c.start-item.result ≡ Some c.in-Some-read_stamp.start = cc in
     let length : length_of c.duration-item.result ≡ Some c.in-Some-read_length.length = cc in

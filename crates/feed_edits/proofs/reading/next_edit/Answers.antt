@@ -1,6 +1,6 @@
 use Rattle.std.specs.Prelude.{Ok, Err}
 use Rattle.feed_edits.proofs.Turns.{never_line}
-use Rattle.feed_edits.proofs.Edits.{edit_gives, edit_takes, edit_stop_takes, head_refused_gives, head_refused_takes, line_leaves}
+use Rattle.feed_edits.proofs.Edits.{edit_gives, edit_takes, edit_stop_takes}
 use Rattle.feed_edits.proofs.reading.next_edit.Goals as goal
 
 pub returns-in-Err-clause-takes : goal.returns-in-Err-clause-takes

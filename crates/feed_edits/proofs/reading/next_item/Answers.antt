@@ -1,4 +1,3 @@
-use Rattle.std.proofs.Common.{sym}
 use Rattle.feed_edits.proofs.Turns.{never_line}
 use Rattle.feed_edits.proofs.Edits.{item_takes, item_stop_takes}
 use Rattle.feed_edits.proofs.reading.next_item.Goals as goal

@@ -1,9 +1,7 @@
-use Rattle.std.proofs.Common.{◌≡◌, ◌-◌, ◌∷◌, [], ℕ, length, arith, refl, sym, ap, ◌∙◌, subst, length-append}
-use Rattle.std.specs.Prelude.{Ok, Err}
-use Rattle.std.specs.List.{All}
+use Rattle.std.proofs.Common.{◌≡◌, ◌-◌, ◌∷◌, [], length, arith, refl, ap, length-append}
 use Rattle.std.proofs.lemmas.List.Elements.{All-push, All-nil}
 use Rattle.feed_edits.specs.Items.{IsShapedItem}
-use Rattle.feed_edits.proofs.Edits.{Made, NextItem, made_none, made_more, made_all, made_stop}
+use Rattle.feed_edits.proofs.Edits.{made_none, made_more, made_all, made_stop}
 use Rattle.feed_edits.proofs.Turns.{stuck_on}
 use Rattle.feed_edits.proofs.reading.next_items.Goals as goal
 
@@ -23,7 +21,7 @@ items-preserved g c =
     let kept = c.in_default.ensures.kept in
     record {
       made = made_more g.S.Source.left g.S.Source.faults c.args.count c.items.counter c.items.items c.keep.new.items c.in-Ok.item c.args.lines.now c.items.lines c.next_item.new.lines c.items-test.true kept i.made
-        (record { gives = e.gives; takes = e.takes; sticky = e.sticky });
+          (record { gives = e.gives; takes = e.takes; sticky = e.sticky });
       counted = omega (arith, i.counted, ap length kept, length-append c.items.items (c.in-Ok.item ∷ []));
       shaped = rw kept (All-push IsShapedItem c.items.items c.in-Ok.item i.shaped e.shaped);
       later = omega (arith, i.later, e.later);
@@ -35,7 +33,7 @@ returns-in-Err g c =
     let i = c.items.invariant in
     let e = c.in-Err.ensures in
     let stop = made_stop g.S.Source.left g.S.Source.faults c.args.count c.items.counter c.items.items c.in-Err.stop c.args.lines.now c.items.lines c.next_item.new.lines c.items-test.true i.later i.made
-        (record { gives = e.gives; takes = e.takes; sticky = e.sticky }) in
+    (record { gives = e.gives; takes = e.takes; sticky = e.sticky }) in
     record {
       gives = stop.0;
       takes = stop.1;

@@ -1,0 +1,196 @@
+-- What is written of an edit reads back as the edit.
+use Rattle.std.proofs.Common.{◌≡◌, ◌≢◌, ◌≤◌, ◌<◌, ◌^◌, ℕ, true, false, not, suc, List, [], ◌∷◌, ◌++◌, length, refl, ap, ◌∙◌, arith, rules, inl, inr, lit<}
+use Rattle.std.specs.Prelude.{Option, Some, None, IfSome, codes, decimal, map, ◌==◌, nat_le}
+use Rattle.std.specs.List.{list_all, slice_split, All, AllByRecursion}
+use Rattle.std.proofs.lemmas.Str.Parse.{IsNumeralModel, numerals_by_fold}
+use Rattle.std.proofs.lemmas.Fmt.{digits_decimal, digits_value-decimal, length-decimal-le, decimal_nonempty}
+use Rattle.std.proofs.lemmas.Bool.Decides.{nat_tests}
+use Rattle.std.proofs.lemmas.List.Folds.{list_all-append}
+use Rattle.si_text.proofs.PlainFacts.{and_left, and_right}
+use Rattle.guide_model.specs.declared.event.Genre.{Genre}
+use Rattle.input_lines.specs.Numbers.{is_digit, is_numeral, value_from, number_in}
+use Rattle.feed_edits.specs.declared.edit.RawRating.{RawRating}
+use Rattle.feed_edits.specs.declared.edit.Item.{Item}
+use Rattle.feed_edits.specs.Items.{genre_of, genre_from, genres_of, all_some, rating_of, item_of, item_line, IsShapedItem}
+use Rattle.feed_edits.specs.declared.edit.Edit.{Edit}
+use Rattle.feed_edits.specs.declared.edit.Edit.TheVariants.{Put, Withdraw, Clear, Name, Day}
+use Rattle.feed_edits.specs.declared.heads.Head.{Head}
+use Rattle.feed_edits.specs.declared.heads.Head.TheVariants.{Whole, OfDay}
+use Rattle.input_lines.specs.Fields.{record_of}
+use Rattle.feed_edits.specs.Ahead.{Ahead, Row, Tail, Found, Came, and_then}
+use Rattle.feed_edits.specs.Heads.{edit_head, IsShaped}
+use Rattle.feed_edits.specs.Edits.{items_of, with_items, edit_from}
+use Rattle.feed_edits.specs.Back.{genre_field, genres_field, country_field, rating_field, item_fields, edit_fields, item_rows, HasGenreNumbers, HasItemNumbers, HasNumbers, HaveFields, EditsReadBack}
+use Rattle.feed_edits.proofs.Genres.{b_cases, genres_of_some}
+
+-- ---- numbers
+
+own : IsNumeralModel (λ ds. list_all is_digit ds ≡ true) (value_from 0)
+own = numerals_by_fold _ (search rules) value_from (search rules)
+
+low : (n high : ℕ) → n ≤ high → high ≤ 65535 → n < 2 ^ 64
+low n high le most = let k : n < 65536 = omega arith in let b : 65536 < 2 ^ 64 = lit< tt in omega (arith, k, b)
+
+pub digits_of : (n high : ℕ) → n ≤ high → high ≤ 65535 → list_all is_digit (decimal n) ≡ true
+digits_of n high le most = digits_decimal own n (low n high le most)
+
+numeral_back : (n high : ℕ) → n ≤ high → high ≤ 65535 → is_numeral (decimal n) ≡ true
+numeral_back n high le most =
+    let digits = digits_of n high le most in
+    let some : 0 < length (decimal n) = decimal_nonempty n (low n high le most) in
+    let few : length (decimal n) ≤ 5 = length-decimal-le 5 n (lit< tt) (let k : n < 65536 = omega arith in let b : 65536 < 10 ^ 5 = lit< tt in omega (arith, k, b)) (low n high le most) in
+    let one : nat_le 1 (length (decimal n)) ≡ true = grind (arith, nat_tests) in
+    let nine : nat_le (length (decimal n)) 9 ≡ true = grind (arith, nat_tests) in
+    rw (digits, one, nine) refl
+
+pub number_back : (n high : ℕ) → n ≤ high → high ≤ 65535 → number_in 0 high (decimal n) ≡ Some n
+number_back n high le most =
+    let value : value_from 0 (decimal n) ≡ n = digits_value-decimal own n (low n high le most) in
+    let zero : nat_le 0 n ≡ true = grind (arith, nat_tests) in
+    let within : nat_le n high ≡ true = grind (arith, nat_tests) in
+    rw (numeral_back n high le most, value, zero, within) refl
+
+-- ---- parts
+
+-- what stands before the byte is the first part
+split_front : (c : ℕ) (xs ys : List ℕ) → list_all (λ b. not (b == c)) xs ≡ true → slice_split (λ b. b == c) (xs ++ c ∷ ys) ≡ xs ∷ slice_split (λ b. b == c) ys
+split_front c [] ys h = let e : (c == c) ≡ true = grind (arith, nat_tests) in rw e refl
+split_front c (x ∷ xs) ys h =
+    elim (b_cases (x == c)) [
+      | inl e ↦ absurd (let k = rw e at h in cc)
+      | inr e ↦ (let more = split_front c xs ys (rw e at h) in rw (e, more) refl)
+    ]
+
+split_last : (c : ℕ) (xs : List ℕ) → list_all (λ b. not (b == c)) xs ≡ true → slice_split (λ b. b == c) xs ≡ xs ∷ []
+split_last c [] h = refl
+split_last c (x ∷ xs) h =
+    elim (b_cases (x == c)) [
+      | inl e ↦ absurd (let k = rw e at h in cc)
+      | inr e ↦ (let more = split_last c xs (rw e at h) in rw (e, more) refl)
+    ]
+
+digit_lacks : (c x : ℕ) → c < 48 → is_digit x ≡ true → (x == c) ≡ false
+digit_lacks c x lt h = grind (arith, nat_tests)
+
+digits_lack : (c : ℕ) (xs : List ℕ) → c < 48 → list_all is_digit xs ≡ true → list_all (λ b. not (b == c)) xs ≡ true
+digits_lack c [] lt h = refl
+digits_lack c (x ∷ xs) lt h =
+    rw (digit_lacks c x lt (and_left (is_digit x) (list_all is_digit xs) h)) (digits_lack c xs lt (and_right (is_digit x) (list_all is_digit xs) h))
+
+-- ---- genres
+
+abbrev middle : Genre → List ℕ
+middle g = decimal g.level2 ++ 46 ∷ decimal g.user
+
+genre_parts : (g : Genre) → HasGenreNumbers g → slice_split (λ b. b == 46) (genre_field g) ≡ decimal g.level1 ∷ decimal g.level2 ∷ decimal g.user ∷ []
+genre_parts g h =
+    split_front 46 (decimal g.level1) (middle g) (digits_lack 46 (decimal g.level1) (lit< tt) (digits_of g.level1 255 h.level1 (omega arith)))
+    ∙ ap (λ (l : List (List ℕ)). decimal g.level1 ∷ l)
+    (split_front 46 (decimal g.level2) (decimal g.user) (digits_lack 46 (decimal g.level2) (lit< tt) (digits_of g.level2 255 h.level2 (omega arith)))
+    ∙ ap (λ (l : List (List ℕ)). decimal g.level2 ∷ l) (split_last 46 (decimal g.user) (digits_lack 46 (decimal g.user) (lit< tt) (digits_of g.user 255 h.user (omega arith)))))
+
+pub genre_back : (g : Genre) → HasGenreNumbers g → genre_of (genre_field g) ≡ Some g
+genre_back g h =
+    ap genre_from (genre_parts g h)
+    ∙ rw (number_back g.level1 255 h.level1 (omega arith), number_back g.level2 255 h.level2 (omega arith), number_back g.user 255 h.user (omega arith)) refl
+
+-- a genre has no space
+genre_lacks : (g : Genre) → HasGenreNumbers g → list_all (λ b. not (b == 32)) (genre_field g) ≡ true
+genre_lacks g h =
+    let a = digits_lack 32 (decimal g.level1) (lit< tt) (digits_of g.level1 255 h.level1 (omega arith)) in
+    let b = digits_lack 32 (decimal g.level2) (lit< tt) (digits_of g.level2 255 h.level2 (omega arith)) in
+    let u = digits_lack 32 (decimal g.user) (lit< tt) (digits_of g.user 255 h.user (omega arith)) in
+    list_all-append (λ b. not (b == 32)) (decimal g.level1) (46 ∷ middle g)
+    ∙ rw (a, list_all-append (λ b. not (b == 32)) (decimal g.level2) (46 ∷ decimal g.user), b, u) refl
+
+genres_parts : (g : Genre) (gs : List Genre) → AllByRecursion HasGenreNumbers (g ∷ gs) → slice_split (λ b. b == 32) (genres_field (g ∷ gs)) ≡ map genre_field (g ∷ gs)
+genres_parts g [] h = split_last 32 (genre_field g) (genre_lacks g h.0)
+genres_parts g (k ∷ gs) h =
+    split_front 32 (genre_field g) (genres_field (k ∷ gs)) (genre_lacks g h.0)
+    ∙ ap (λ (l : List (List ℕ)). genre_field g ∷ l) (genres_parts k gs h.1)
+
+each_back : (gs : List Genre) → AllByRecursion HasGenreNumbers gs → all_some (map genre_of (map genre_field gs)) ≡ Some gs
+each_back [] h = refl
+each_back (g ∷ gs) h = rw (genre_back g h.0, each_back gs h.1) refl
+
+some_bytes : (xs ys : List ℕ) (b : ℕ) → xs ++ b ∷ ys ≢ []
+some_bytes [] ys b e = cc
+some_bytes (x ∷ xs) ys b e = cc
+
+field_some : (g : Genre) (gs : List Genre) → genres_field (g ∷ gs) ≢ []
+field_some g [] e = some_bytes (decimal g.level1) (middle g) 46 e
+field_some g (k ∷ gs) e = some_bytes (genre_field g) (genres_field (k ∷ gs)) 32 e
+
+pub genres_back : (gs : List Genre) → AllByRecursion HasGenreNumbers gs → genres_of (genres_field gs) ≡ Some gs
+genres_back [] h = refl
+genres_back (g ∷ gs) h =
+    genres_of_some (genres_field (g ∷ gs)) (field_some g gs)
+    ∙ ap (λ (l : List (List ℕ)). all_some (map genre_of l)) (genres_parts g gs h)
+    ∙ each_back (g ∷ gs) h
+
+-- ---- the other fields
+
+rating_some : (country : List ℕ) (value : ℕ) → country ≢ [] → value ≤ 255 → rating_of country (decimal value) ≡ Some (Some (record { country = country; value = value }))
+rating_some [] value some le = absurd (some refl)
+rating_some (c ∷ cs) value some le = rw (number_back value 255 le (omega arith)) refl
+
+rating_back : (r : Option RawRating) → IfSome r (λ x. x.country ≢ []) → IfSome r (λ x. x.value ≤ 255) → rating_of (country_field r) (rating_field r) ≡ Some r
+rating_back None h k = refl
+rating_back (Some r) h k = rating_some r.country r.value h k
+
+pub item_back : (item : Item) → IsShapedItem item → HasItemNumbers item → item_of (item_fields item) ≡ Some item
+unfolding item_of
+item_back item h k =
+    rw (number_back item.id 65535 k.id (omega arith), h.start, h.length, rating_back item.rating h.country k.rating, genres_back item.genres k.genres) refl
+
+pub item_line_back : (item : Item) → IsShapedItem item → HasItemNumbers item → item_line (codes "item" ∷ item_fields item) ≡ Some item
+unfolding item_line
+item_line_back item h k = item_back item h k
+
+-- ---- edits
+
+-- the head of an edit
+abbrev head_from : Edit → Head
+head_from (Put service item) = Whole (Put service item)
+head_from (Withdraw service event) = Whole (Withdraw service event)
+head_from (Clear service) = Whole (Clear service)
+head_from (Name service provider name) = Whole (Name service provider name)
+head_from (Day service date items) = OfDay service date (length items)
+
+head_back : (edit : Edit) → IsShaped edit → HasNumbers edit → edit_head (edit_fields edit) ≡ Some (head_from edit)
+unfolding edit_head
+head_back (Put service item) h k = rw (number_back service 65535 k.0 (omega arith), item_back item h k.1) refl
+head_back (Withdraw service event) h k = rw (number_back service 65535 k.0 (omega arith), number_back event 65535 k.1 (omega arith)) refl
+head_back (Clear service) h k = rw (number_back service 65535 k (omega arith)) refl
+head_back (Name service provider name) h k = rw (number_back service 65535 k (omega arith)) refl
+head_back (Day service date items) h k = rw (number_back service 65535 k.0 (omega arith), h.day, number_back (length items) 2000 h.count (omega arith)) refl
+
+no_rows : (rows more : List Row) (tail : Tail) → HaveFields rows [] → (let a : Ahead = record { rows = rows ++ more; tail = tail } in a) ≡ record { rows = more; tail = tail }
+no_rows [] more tail e = refl
+no_rows (row ∷ rows) more tail e = absurd cc
+
+items_back : (items : List Item) (rows more : List Row) (tail : Tail) → AllByRecursion IsShapedItem items → AllByRecursion HasItemNumbers items → HaveFields rows (map (λ item. codes "item" ∷ item_fields item) items)
+    → items_of (length items) (record { rows = rows ++ more; tail = tail }) ≡ Came items (record { rows = more; tail = tail })
+unfolding items_of
+items_back [] rows more tail h k e = ap (λ (a : Ahead). let r : Found (List Item) = Came [] a in r) (no_rows rows more tail e)
+items_back (item ∷ items) [] more tail h k e = absurd cc
+items_back (item ∷ items) (row ∷ rows) more tail h k e =
+    let first : record_of row.1 ≡ Some (codes "item" ∷ item_fields item) = cc in
+    let others : HaveFields rows (map (λ item. codes "item" ∷ item_fields item) items) = cc in
+    rw (first, item_line_back item h.0 k.0, items_back items rows more tail h.1 k.1 others) refl
+
+by_recursion : (items : List Item) → All IsShapedItem items → AllByRecursion IsShapedItem items
+by_recursion [] h = tt
+by_recursion (item ∷ items) h = (h 0 item (omega arith), by_recursion items (λ k d lt. h (suc k) d (omega arith)))
+
+back_from : (edit : Edit) (rows more : List Row) (tail : Tail) → IsShaped edit → HasNumbers edit → HaveFields rows (item_rows edit) → with_items (head_from edit) (record { rows = rows ++ more; tail = tail }) ≡ Came edit (record { rows = more; tail = tail })
+back_from (Put service item) rows more tail h k e = ap (λ (a : Ahead). let r : Found Edit = Came (Put service item) a in r) (no_rows rows more tail e)
+back_from (Withdraw service event) rows more tail h k e = ap (λ (a : Ahead). let r : Found Edit = Came (Withdraw service event) a in r) (no_rows rows more tail e)
+back_from (Clear service) rows more tail h k e = ap (λ (a : Ahead). let r : Found Edit = Came (Clear service) a in r) (no_rows rows more tail e)
+back_from (Name service provider name) rows more tail h k e = ap (λ (a : Ahead). let r : Found Edit = Came (Name service provider name) a in r) (no_rows rows more tail e)
+back_from (Day service date items) rows more tail h k e =
+    ap (λ (r : Found (List Item)). and_then r (λ l rest. Came (Day service date l) rest)) (items_back items rows more tail (by_recursion items h.items) k.1 e)
+
+pub edits_read_back : EditsReadBack
+edits_read_back edit h k at rows more tail e =
+    ap (λ o. edit_from at o (record { rows = rows ++ more; tail = tail })) (head_back edit h k) ∙ back_from edit rows more tail h k e

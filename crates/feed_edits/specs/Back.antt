@@ -1,0 +1,81 @@
+-- The fields of an edit's lines, which read back as the edit.
+use Rattle.std.specs.Prelude.{◌≡◌, ◌≤◌, ℕ, List, [], ◌∷◌, ◌++◌, length, map, Option, Some, None, IfSome, codes, decimal}
+use Rattle.std.specs.List.{AllByRecursion, join_with_byte}
+use Rattle.guide_model.specs.declared.event.Genre.{Genre}
+use Rattle.input_lines.specs.Fields.{record_of}
+use Rattle.feed_edits.specs.declared.edit.RawRating.{RawRating}
+use Rattle.feed_edits.specs.declared.edit.Item.{Item}
+use Rattle.feed_edits.specs.declared.edit.Edit.{Edit}
+use Rattle.feed_edits.specs.declared.edit.Edit.TheVariants.{Put, Withdraw, Clear, Name, Day}
+use Rattle.feed_edits.specs.Ahead.{Ahead, Row, Tail, Came}
+use Rattle.feed_edits.specs.Heads.{IsShaped}
+use Rattle.feed_edits.specs.Edits.{read_edit, first_edit, and_edits, edits_ahead}
+
+-- `a.b.u`, with points (46)
+abbrev pub genre_field : Genre → List ℕ
+genre_field g = decimal g.level1 ++ 46 ∷ (decimal g.level2 ++ 46 ∷ decimal g.user)
+
+-- GENRES, with single spaces (32) between
+abbrev pub genres_field : List Genre → List ℕ
+genres_field genres = join_with_byte 32 (map genre_field genres)
+
+abbrev pub country_field : Option RawRating → List ℕ
+country_field None = []
+country_field (Some rating) = rating.country
+
+abbrev pub rating_field : Option RawRating → List ℕ
+rating_field None = []
+rating_field (Some rating) = decimal rating.value
+
+-- EVENT,START,DURATION,LANGUAGE,NAME,SHORT,EXTENDED,COUNTRY,RATING,GENRES
+abbrev pub item_fields : Item → List (List ℕ)
+item_fields item =
+    decimal item.id ∷ item.start.0 ∷ item.length.0 ∷ item.language ∷ item.name ∷ item.short ∷ item.extended
+    ∷ country_field item.rating ∷ rating_field item.rating ∷ genres_field item.genres ∷ []
+
+-- the fields of an edit's line
+abbrev pub edit_fields : Edit → List (List ℕ)
+edit_fields (Put service item) = codes "put" ∷ decimal service ∷ item_fields item
+edit_fields (Withdraw service event) = codes "withdraw" ∷ decimal service ∷ decimal event ∷ []
+edit_fields (Clear service) = codes "clear" ∷ decimal service ∷ []
+edit_fields (Name service provider name) = codes "name" ∷ decimal service ∷ provider ∷ name ∷ []
+edit_fields (Day service date items) = codes "day" ∷ decimal service ∷ date.0 ∷ decimal (length items) ∷ []
+
+-- the fields of a day's item lines, a list for each line
+abbrev pub item_rows : Edit → List (List (List ℕ))
+item_rows (Put service item) = []
+item_rows (Withdraw service event) = []
+item_rows (Clear service) = []
+item_rows (Name service provider name) = []
+item_rows (Day service date items) = map (λ item. codes "item" ∷ item_fields item) items
+
+-- numbers of 8 and of 16 bits
+pub record HasGenreNumbers (g : Genre) : Type 0 where
+  pub level1 : g.level1 ≤ 255
+  pub level2 : g.level2 ≤ 255
+  pub user : g.user ≤ 255
+
+pub record HasItemNumbers (item : Item) : Type 0 where
+  pub id : item.id ≤ 65535
+  pub rating : IfSome item.rating (λ rating. rating.value ≤ 255)
+  pub genres : AllByRecursion HasGenreNumbers item.genres
+
+abbrev pub HasNumbers : Edit → Type 0
+HasNumbers (Put service item) = (service ≤ 65535) × HasItemNumbers item
+HasNumbers (Withdraw service event) = (service ≤ 65535) × (event ≤ 65535)
+HasNumbers (Clear service) = service ≤ 65535
+HasNumbers (Name service provider name) = service ≤ 65535
+HasNumbers (Day service date items) = (service ≤ 65535) × AllByRecursion HasItemNumbers items
+
+-- these are the fields of these lines
+abbrev pub HaveFields : List Row → List (List (List ℕ)) → Type 0
+HaveFields rows fields = map (λ row. record_of row.1) rows ≡ map (λ f. Some f) fields
+
+-- A shaped edit is what its fields and its item lines are read as, whatever stands behind them.
+abbrev pub EditsReadBack : Type 0
+EditsReadBack = (edit : Edit) → IsShaped edit → HasNumbers edit → (at : ℕ) (rows more : List Row) (tail : Tail) → HaveFields rows (item_rows edit)
+    → read_edit at (edit_fields edit) (record { rows = rows ++ more; tail = tail }) ≡ Came edit (record { rows = more; tail = tail })
+
+-- The edits ahead are the first of them and those of what is ahead behind it.
+abbrev pub EditsGoOn : Type 0
+EditsGoOn = (lines : Ahead) → edits_ahead lines ≡ and_edits (first_edit lines) edits_ahead
