@@ -4,3 +4,4 @@ pub mod Holding
 pub mod Desks
 pub mod Rows
 pub mod Steps
+pub mod Controls

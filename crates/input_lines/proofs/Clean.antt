@@ -18,7 +18,7 @@ use Rattle.csv.proofs.ReadFacts.{run-copies}
 use Rattle.input_lines.proofs.CleanText.{is_plain_char, IsClean, AllClean, RecordClean}
 
 -- bytes that stand in characters past ASCII
-abbrev High : List ℕ → Type 0
+abbrev pub High : List ℕ → Type 0
 High [] = ⊤
 High (b ∷ bs) = (128 ≤ b) × High bs
 
@@ -149,7 +149,7 @@ not-below : (a b : ℕ) → b ≤ a → ltb a b ≡ false
 not-below a b h = grind (arith, nat_tests)
 
 -- a character past ASCII has high bytes alone
-encode-high : (c : ℕ) → 128 ≤ c → (b : ℕ) × (bs : List ℕ) × (encode c ≡ b ∷ bs) × High (b ∷ bs)
+pub encode-high : (c : ℕ) → 128 ≤ c → (b : ℕ) × (bs : List ℕ) × (encode c ≡ b ∷ bs) × High (b ∷ bs)
 unfolding encode
 encode-high c h = rw (not-below c 128 h) (elim (cases_Bool (ltb c 2048)) [
   | inl two ↦ (192 + c / 64, next c ∷ [], rw two refl, (omega arith, (omega arith, tt)))

@@ -1,4 +1,7 @@
 pub mod Edits
 pub mod Outcomes
 pub mod Entries
+pub mod Kept
+pub mod Script
+pub mod ScriptReads
 mod Rows

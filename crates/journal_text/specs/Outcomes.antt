@@ -1,5 +1,5 @@
--- The text of an outcome, as an outcome line has it behind `=,`.
-use Rattle.std.specs.Prelude.{ℕ, ◌*◌, ◌<◌, ◌++◌, List, codes, decimal}
+-- The text of an outcome, as an outcome line has it behind `=,`, and its fields.
+use Rattle.std.specs.Prelude.{ℕ, ◌*◌, ◌<◌, ◌++◌, List, [], ◌∷◌, codes, decimal, flat_map}
 use Rattle.si_time.specs.Moments.{moment_text}
 use Rattle.feed_book.specs.declared.reply.Field.{Field}
 use Rattle.feed_book.specs.declared.reply.Field.TheVariants.{Start, Duration, Window, Language, Name, Short, Extended, Country, Rating, Genre, Provider, ServiceName, Count, Segment}
@@ -43,6 +43,46 @@ outcome_text Ticked = codes "ticked"
 outcome_text (Late at) = codes "late," ++ moment_text at.0
 outcome_text (Published n) = codes "published," ++ decimal n
 outcome_text (Swapped n at) = codes "swapped," ++ decimal n ++ codes "," ++ moment_text at.0
+
+-- fields with commas between
+abbrev pub with_commas : List (List ℕ) → List ℕ
+with_commas [] = []
+with_commas (field ∷ fields) = field ++ flat_map (λ other. codes "," ++ other) fields
+
+abbrev pub field_fields : Field → List (List ℕ)
+field_fields Start = codes "start" ∷ []
+field_fields Duration = codes "duration" ∷ []
+field_fields Window = codes "window" ∷ []
+field_fields Language = codes "language" ∷ []
+field_fields Name = codes "name" ∷ []
+field_fields Short = codes "short" ∷ []
+field_fields Extended = codes "extended" ∷ []
+field_fields Country = codes "country" ∷ []
+field_fields Rating = codes "rating" ∷ []
+field_fields Genre = codes "genre" ∷ []
+field_fields Provider = codes "provider" ∷ []
+field_fields ServiceName = codes "servicename" ∷ []
+field_fields (Count n) = codes "count" ∷ decimal n ∷ []
+field_fields (Segment n) = codes "segment" ∷ decimal n ∷ []
+
+abbrev pub day_fault_fields : DayFault → List (List ℕ)
+day_fault_fields (BadField field) = codes "range" ∷ field_fields field
+day_fault_fields (Overlaps event) = codes "overlap" ∷ decimal event ∷ []
+
+abbrev pub reply_fields : Reply → List (List ℕ)
+reply_fields Done = codes "done" ∷ []
+reply_fields (Foreign service) = codes "foreign" ∷ decimal service ∷ []
+reply_fields (Range field) = codes "range" ∷ field_fields field
+reply_fields (Overlap event) = codes "overlap" ∷ decimal event ∷ []
+reply_fields (Member place fault) = codes "member" ∷ decimal place ∷ day_fault_fields fault
+
+-- the fields of an outcome line behind `=`
+abbrev pub outcome_fields : Outcome → List (List ℕ)
+outcome_fields (Edited reply) = reply_fields reply
+outcome_fields Ticked = codes "ticked" ∷ []
+outcome_fields (Late at) = codes "late" ∷ moment_text at.0 ∷ []
+outcome_fields (Published n) = codes "published" ∷ decimal n ∷ []
+outcome_fields (Swapped n at) = codes "swapped" ∷ decimal n ∷ moment_text at.0 ∷ []
 
 -- the moment of an outcome, where it has one, can be written: 16 bits say its day
 abbrev pub IsInWindow : Outcome → Type 0

@@ -1,15 +1,22 @@
 //! The journal's text: what the report says of each step of a desk and of its outcome.
 //!
 //! An entry is two lines: its caller's number and its command, and then its outcome behind `=,`. The layers above use one fact of
-//! each call: what it appends is the text that the definitions say, or it finds no memory and appends nothing.
+//! each call that writes: what it appends is the text that the definitions say, or it finds no memory and appends nothing.
+//! [`next_item`] reads a script, which is such lines: it gives exactly the commands and the kept outcomes of the lines ahead.
 #![tactic(auto)]
 
 mod edit;
 mod entry;
+mod kept;
 mod line;
 mod outcome;
+mod script;
+#[cfg(test)]
+mod script_tests;
 #[cfg(test)]
 mod tests;
 
 pub use entry::write_entry;
+pub use kept::read_outcome;
 pub use outcome::write_outcome;
+pub use script::{ScriptItem, next_item};
