@@ -1,8 +1,10 @@
 -- The fields of an input line, by the words of csv.
 use Rattle.std.specs.Prelude.{◌≤◌, ℕ, Bool, ◌&&◌, not, nat_le, List, [], length, Option, Some, None, if◌then◌else◌}
-use Rattle.std.specs.Str.{chars, is_utf8}
-use Rattle.csv.specs.Machine.{Read, next_record}
-use Rattle.csv.specs.Reading.{default_config, strip_bom}
+use Rattle.std.specs.Str.{is_utf8}
+use Rattle.csv.specs.Machine.{Read}
+unfoldable pub use Rattle.csv.specs.Machine.{next_record}
+use Rattle.csv.specs.Reading.{default_config}
+unfoldable pub use Rattle.csv.specs.Reading.{strip_bom}
 use Rattle.csv.specs.declared.parser.State.TheVariants.{StartRecord}
 use Rattle.si_text.specs.Control.{has_control}
 use Rattle.si_text.specs.Decoding.{IsKept}
@@ -26,8 +28,3 @@ is_line line = nat_le (length line) 16384 && (is_utf8 line && not (has_control l
 -- the fields of such a line
 abbrev pub record_of : List ℕ → Option (List (List ℕ))
 record_of line = if is_line line then Some (line_fields line) else None
-
--- a theorem whose `unfolding` line names this computes the fields of a line
-unfoldable pub fields_compute : Type 0
-unfolding chars is_utf8 lib.Utf8.encode next_record strip_bom
-fields_compute = Unit {0}

@@ -45,7 +45,6 @@ pub record FaultCame {S : Type 0} (left : S → Option (List ℕ)) (faults : S �
   pub whole : WereWhole left old new over
   pub cause : Rose (faults old.source) (faults new.source)
   pub count : new.number ≡ old.number + length over
-  -- the source had not told its end
   pub unended : old.ended ≡ false
   pub stopped : new.stop ≡ Some Failed
 

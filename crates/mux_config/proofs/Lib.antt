@@ -1,0 +1,5 @@
+pub mod Eight
+pub mod IndexFacts
+pub mod Ordering
+pub mod Reading
+pub mod Soundness

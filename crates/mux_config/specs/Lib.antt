@@ -1,2 +1,9 @@
 pub mod Sound
-pub mod Rows
+pub mod Fields
+pub mod Block
+pub mod Fine
+pub mod Kinds
+pub mod Index
+pub mod Reads
+mod Rows
+mod BlockRows

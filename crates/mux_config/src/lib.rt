@@ -1,13 +1,26 @@
 //! The description of a multiplex: its network, its stream and its services (EN 300 468, 5.2.1 and 5.2.3).
 //!
 //! The layers above use the records as they stand, what makes a multiplex sound, and that a copy equals its source.
+//! [`read_mux`] reads a description from the lines of a text, and gives its multiplex or its first fault.
 #![tactic(auto)]
 
 mod fault;
+mod index;
 mod mux;
+mod read;
+mod record;
+mod rows;
+mod stop;
+mod whole;
 
 pub use fault::{MuxFault, Word};
+pub use input_lines::{LineFields, fields};
 pub use mux::{Mux, MuxService, MuxServices};
+pub use read::read_mux;
+pub use record::{Numbered, Record};
+pub use stop::MuxStop;
 
+#[cfg(test)]
+mod read_tests;
 #[cfg(test)]
 mod tests;

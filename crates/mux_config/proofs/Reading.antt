@@ -1,0 +1,207 @@
+-- The lines of a description, one after another.
+use Rattle.std.proofs.Common.{◌≡◌, ℕ, ◌+◌, ◌≤◌, true, false, List, [], ◌∷◌, ◌++◌, length, Option, Some, None, Ok, Err, refl, sym, ap, ◌∙◌, subst, arith, inl, inr, append-nil, append_assoc}
+use Rattle.std.specs.Prelude.{Result}
+use Rattle.std.specs.List.{list_all}
+use Rattle.si_causes.specs.Causes.{Rose}
+use Rattle.si_causes.specs.Reading.{Reading, text_left}
+use Rattle.si_causes.specs.Text.{TextEnd, AtEnd}
+use Rattle.si_causes.specs.declared.stop.ReadStop.{ReadStop}
+use Rattle.si_causes.specs.declared.stop.ReadStop.TheVariants.{Failed, TooLong}
+use Rattle.input_lines.specs.Lines.{is_passed, lines_of, record_lines}
+use Rattle.input_lines.specs.Going.{HandedOut, LineCame, RecordCame}
+use Rattle.input_lines.specs.Records.{FirstRecord, NoRecord, GivesRecord}
+use Rattle.input_lines.proofs.Steps.{handed_none, handed_more, whole_more, records_past, record_first}
+use Rattle.mux_config.specs.declared.fault.MuxFault.{MuxFault}
+use Rattle.mux_config.specs.declared.mux.Mux.{Mux}
+use Rattle.mux_config.specs.declared.stop.MuxStop.{MuxStop}
+use Rattle.mux_config.specs.declared.stop.MuxStop.TheVariants.{Fault, Read, Memory}
+use Rattle.mux_config.specs.declared.record.Numbered.{Numbered}
+use Rattle.mux_config.specs.Block.{Block, Faulty, Whole, Unended, and_found, at_text_end, block_from, block_of, ended, fault_of, is_end}
+use Rattle.mux_config.specs.Fields.{found_line}
+use Rattle.mux_config.specs.Reads.{Makes, MuxCame, ReadMux, TookLine}
+
+abbrev Known : Type 0
+Known = Option (List ℕ)
+
+abbrev RecordLines : Type 0
+RecordLines = List (ℕ × List ℕ)
+
+-- ---- one line of a description
+
+pub line_goes_on : (before : List Numbered) (n : ℕ) (line : List ℕ) (rest : RecordLines) → fault_of before n (found_line line) ≡ None → is_end (found_line line) ≡ false
+    → block_from before ((n, line) ∷ rest) ≡ block_from (and_found before n (found_line line)) rest
+line_goes_on before n line rest f e = rw (f, e) refl
+
+pub line_ends : (before : List Numbered) (n : ℕ) (line : List ℕ) (rest : RecordLines) → fault_of before n (found_line line) ≡ None → is_end (found_line line) ≡ true → block_from before ((n, line) ∷ rest) ≡ ended before rest
+line_ends before n line rest f e = rw (f, e) refl
+
+pub line_fails : (before : List Numbered) (n : ℕ) (line : List ℕ) (rest : RecordLines) (f : MuxFault) → fault_of before n (found_line line) ≡ Some f → block_from before ((n, line) ∷ rest) ≡ Faulty f
+line_fails before n line rest f e = rw e refl
+
+-- ---- records that were taken
+
+-- from old to now the lines gave these records, and neither a fault nor the end
+pub record Taken {S : Type 0} (left : S → Known) (old now : Reading S) (records : List Numbered) : Type 0 where
+  pub going : now.stop ≡ None
+  pub handed : now.ended ≡ false → (lines : List (List ℕ)) × HandedOut left old now lines
+      × ((more : List (List ℕ)) → block_from [] (record_lines (old.number + 1) (lines ++ more)) ≡ block_from records (record_lines (now.number + 1) more))
+  pub told : (text : List ℕ) → text_left left old ≡ Some text → (rest : List ℕ) × (text_left left now ≡ Some rest)
+      × (block_from [] (record_lines (old.number + 1) (lines_of old text).0) ≡ block_from records (record_lines (now.number + 1) (lines_of now rest).0))
+      × ((lines_of old text).1 ≡ (lines_of now rest).1)
+
+pub taken_none : {S : Type 0} (left : S → Known) (reader : Reading S) → reader.stop ≡ None → Taken left reader reader []
+taken_none left reader going = record {
+  going = going;
+  handed = λ e. ([], handed_none left reader, λ more. refl);
+  told = λ text told. (text, told, refl, refl);
+}
+
+-- the next line, behind records that were taken
+pub record NextLine {S : Type 0} (left : S → Known) (now new : Reading S) (n : ℕ) : Type 0 where
+  pub came : LineCame left now new n
+  pub gives : (text : List ℕ) → text_left left now ≡ Some text → FirstRecord left now new (lines_of now text) n
+  pub more_to_come : now.ended ≡ false
+
+-- the lines up to it
+next_lines : {S : Type 0} (left : S → Known) (now new : Reading S) (n : ℕ) (next : NextLine left now new n) (more : List (List ℕ))
+    → record_lines (now.number + 1) ((next.came.over ++ new.line ∷ []) ++ more) ≡ (n, new.line) ∷ record_lines (n + 1) more
+next_lines left now new n next more =
+    let came = next.came in
+    let number : now.number + 1 + length came.over ≡ n = omega (arith, came.number) in
+    ap (record_lines (now.number + 1)) (append_assoc came.over (new.line ∷ []) more)
+    ∙ records_past (now.number + 1) came.over (new.line ∷ more) came.passed
+    ∙ ap (λ k. record_lines k (new.line ∷ more)) number
+    ∙ record_first n new.line more came.line
+
+-- one line more was taken
+pub taken_more : {S : Type 0} (left : S → Known) (old now new : Reading S) (n : ℕ) (records after : List Numbered) → Taken left old now records → NextLine left now new n
+    → fault_of records n (found_line new.line) ≡ None → is_end (found_line new.line) ≡ false → after ≡ and_found records n (found_line new.line) → Taken left old new after
+taken_more left old now new n records after t next f e is =
+    let step : (rest : RecordLines) → block_from records ((n, new.line) ∷ rest) ≡ block_from after rest = λ rest. line_goes_on records n new.line rest f e ∙ ap (λ (l : List Numbered). block_from l rest) (sym is) in
+    let count = next.came.count in
+    record {
+      going = next.came.going;
+      handed = λ open_end.
+          let h = t.handed next.more_to_come in
+          let lines = next.came.over ++ new.line ∷ [] in (
+            h.0 ++ lines,
+            handed_more left old now new h.0 lines h.1 (next.came.handed open_end),
+            λ more.
+                ap (λ l. block_from [] (record_lines (old.number + 1) l)) (append_assoc h.0 lines more)
+                ∙ h.2 (lines ++ more)
+                ∙ ap (block_from records) (next_lines left now new n next more)
+                ∙ step (record_lines (n + 1) more)
+                ∙ ap (λ k. block_from after (record_lines (k + 1) more)) (sym count),
+          );
+      told = λ text told.
+          let s = t.told text told in
+          let g = next.gives s.0 s.1 in (
+            g.rest,
+            g.told,
+            s.2 ∙ ap (block_from records) g.first ∙ step (record_lines (n + 1) (lines_of new g.rest).0) ∙ ap (λ k. block_from after (record_lines (k + 1) (lines_of new g.rest).0)) (sym count),
+            s.3 ∙ g.stop,
+          );
+    }
+
+at_end_whole : (block : Block) (end : TextEnd) (mux : Mux) (behind : RecordLines) → block ≡ Whole mux behind → at_text_end block end ≡ Whole mux behind
+at_end_whole block end mux behind e = ap (λ (b : Block). at_text_end b end) e
+
+at_end_faulty : (block : Block) (end : TextEnd) (f : MuxFault) → block ≡ Faulty f → at_text_end block end ≡ Faulty f
+at_end_faulty block end f e = ap (λ (b : Block). at_text_end b end) e
+
+-- the line that came, among those of the text
+line_told : {S : Type 0} (left : S → Known) (old now new : Reading S) (n : ℕ) (records : List Numbered) → Taken left old now records → NextLine left now new n → (text : List ℕ) → text_left left old ≡ Some text
+    → (rest : List ℕ) × (text_left left new ≡ Some rest) × (block_from [] (record_lines (old.number + 1) (lines_of old text).0) ≡ block_from records ((n, new.line) ∷ record_lines (n + 1) (lines_of new rest).0)) × ((lines_of old text).1 ≡ (lines_of new rest).1)
+line_told left old now new n records t next text told =
+    let s = t.told text told in
+    let g = next.gives s.0 s.1 in
+    (g.rest, g.told, s.2 ∙ ap (block_from records) g.first, s.3 ∙ g.stop)
+
+-- the line that came ends the description
+pub ended_read : {S : Type 0} (left : S → Known) (old now new : Reading S) (n : ℕ) (records : List Numbered) (result : Result Mux MuxStop) → Taken left old now records → NextLine left now new n
+    → fault_of records n (found_line new.line) ≡ None → is_end (found_line new.line) ≡ true → ((behind : RecordLines) → Makes (ended records behind) behind result)
+    → (text : List ℕ) → text_left left old ≡ Some text → ReadMux left old new (lines_of old text) result
+ended_read left old now new n records (Ok mux) t next f e makes text told =
+    let l = line_told left old now new n records t next text told in
+    let behind = record_lines (n + 1) (lines_of new l.0).0 in
+    record {
+      rest = l.0;
+      told = l.1;
+      whole =
+          at_end_whole _ (lines_of old text).1 mux behind (l.2 ∙ line_ends records n new.line behind f e ∙ makes behind)
+          ∙ ap (λ k. Whole mux (record_lines (k + 1) (lines_of new l.0).0)) (sym next.came.count);
+      stop = l.3;
+    }
+ended_read left old now new n records (Err (Fault g)) t next f e makes text told =
+    let l = line_told left old now new n records t next text told in
+    let behind = record_lines (n + 1) (lines_of new l.0).0 in
+    at_end_faulty _ (lines_of old text).1 g (l.2 ∙ line_ends records n new.line behind f e ∙ makes behind)
+ended_read left old now new n records (Err (Read stop)) t next f e makes text told = absurd (makes [])
+ended_read left old now new n records (Err Memory) t next f e makes text told = tt
+
+pub ended_came : {S : Type 0} (left : S → Known) (faults : S → ℕ) (old now new : Reading S) (n : ℕ) (block : RecordLines → Block) (result : Result Mux MuxStop) → NextLine left now new n
+    → ((behind : RecordLines) → Makes (block behind) behind result) → MuxCame left faults old new result
+ended_came left faults old now new n block (Ok mux) next makes = next.came.going
+ended_came left faults old now new n block (Err (Fault f)) next makes = next.came.going
+ended_came left faults old now new n block (Err (Read stop)) next makes = absurd (makes [])
+ended_came left faults old now new n block (Err Memory) next makes = tt
+
+-- the line that came stops the reading
+pub line_read : {S : Type 0} (left : S → Known) (old now new : Reading S) (n : ℕ) (records after : List Numbered) (stop : MuxStop) → Taken left old now records → NextLine left now new n
+    → TookLine records n (found_line new.line) after (Err stop) → (text : List ℕ) → text_left left old ≡ Some text → ReadMux left old new (lines_of old text) (Err stop)
+line_read left old now new n records after (Fault f) t next took text told =
+    let l = line_told left old now new n records t next text told in
+    at_end_faulty _ (lines_of old text).1 f (l.2 ∙ line_fails records n new.line _ f took)
+line_read left old now new n records after (Read stop) t next took text told = absurd took
+line_read left old now new n records after Memory t next took text told = tt
+
+pub line_came : {S : Type 0} (left : S → Known) (faults : S → ℕ) (old now new : Reading S) (n : ℕ) (records after : List Numbered) (stop : MuxStop) → NextLine left now new n
+    → TookLine records n (found_line new.line) after (Err stop) → MuxCame left faults old new (Err stop)
+line_came left faults old now new n records after (Fault f) next took = next.came.going
+line_came left faults old now new n records after (Read stop) next took = absurd took
+line_came left faults old now new n records after Memory next took = tt
+
+-- the text ends
+pub end_read : {S : Type 0} (left : S → Known) (old now new : Reading S) (records : List Numbered) → Taken left old now records → ((text : List ℕ) → text_left left now ≡ Some text → NoRecord left now new (lines_of now text))
+    → (text : List ℕ) → text_left left old ≡ Some text → block_of (old.number + 1) (lines_of old text) ≡ at_text_end Unended AtEnd
+end_read left old now new records t gives text told =
+    let s = t.told text told in
+    let g = gives s.0 s.1 in
+    ap (λ (b : Block). at_text_end b (lines_of old text).1) (s.2 ∙ ap (block_from records) g.none) ∙ ap (at_text_end Unended) (s.3 ∙ g.stop)
+
+-- the reader stops
+rose_since : {a b c : ℕ} → Rose b c → a ≤ b → Rose a c
+rose_since (inl more) le = inl (omega (arith, more, le))
+rose_since (inr last) le = inr last
+
+pub stop_read : {S : Type 0} (left : S → Known) (old now new : Reading S) (records : List Numbered) (stop : ReadStop) → Taken left old now records
+    → ((text : List ℕ) → text_left left now ≡ Some text → GivesRecord left now new (lines_of now text) (Err stop)) → (text : List ℕ) → text_left left old ≡ Some text → ReadMux left old new (lines_of old text) (Err (Read stop))
+stop_read left old now new records Failed t gives text told = tt
+stop_read left old now new records TooLong t gives text told =
+    let s = t.told text told in
+    let g = gives s.0 s.1 in
+    ap (λ (b : Block). at_text_end b (lines_of old text).1) (s.2 ∙ ap (block_from records) g.none) ∙ ap (at_text_end Unended) (s.3 ∙ g.stop)
+
+none_there : (n : ℕ) (over : List (List ℕ)) → list_all is_passed over ≡ true → record_lines n over ≡ []
+none_there n over passed = ap (record_lines n) (sym (append-nil over)) ∙ records_past n over [] passed
+
+pub stop_came : {S : Type 0} (left : S → Known) (faults : S → ℕ) (old now new : Reading S) (records : List Numbered) (stop : ReadStop) → Taken left old now records → RecordCame left faults now new (Err stop)
+    → faults old.source ≤ faults now.source → MuxCame left faults old new (Err (Read stop))
+stop_came left faults old now new records Failed t came later =
+    let h = t.handed came.unended in
+    record {
+      lines = h.0 ++ came.over;
+      whole = whole_more left old now new h.0 came.over h.1 came.whole;
+      unended = h.2 came.over ∙ ap (block_from records) (none_there (now.number + 1) came.over came.passed);
+      cause = rose_since came.cause later;
+    }
+stop_came left faults old now new records TooLong t came later = came
+
+-- what taking a line told, of the line that the reader shows
+pub took_on : (before : List Numbered) (n : ℕ) (shown line : List ℕ) (after : List Numbered) → shown ≡ line → TookLine before n (found_line shown) after (Ok false)
+    → (fault_of before n (found_line line) ≡ None) × (is_end (found_line line) ≡ false) × (after ≡ and_found before n (found_line line))
+took_on before n shown line after same took = subst (λ (l : List ℕ). TookLine before n (found_line l) after (Ok false)) same took
+
+pub took_end : (before : List Numbered) (n : ℕ) (shown line : List ℕ) (after : List Numbered) → shown ≡ line → TookLine before n (found_line shown) after (Ok true)
+    → (fault_of before n (found_line line) ≡ None) × (is_end (found_line line) ≡ true) × (after ≡ before)
+took_end before n shown line after same took = subst (λ (l : List ℕ). TookLine before n (found_line l) after (Ok true)) same took

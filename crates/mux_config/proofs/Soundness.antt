@@ -1,0 +1,440 @@
+-- What holds of records that were taken, and of their multiplex.
+use Rattle.std.proofs.Common.{◌≡◌, ◌≢◌, ℕ, ◌+◌, ◌*◌, ◌<◌, ◌≤◌, ◌==◌, Bool, true, false, cond, List, [], ◌∷◌, ◌++◌, length, map, Option, Some, None, refl, sym, ap, ◌∙◌, subst, arith, inl, inr, append-nil, length-append, eq-eqb, lit<, lit≤, ◌⊎◌}
+use Rattle.std.specs.Prelude.{◌||◌, ◌&&◌, nat_lt, nat_le, Ok, Err, Result, IfOk}
+use Rattle.std.specs.List.{AllByRecursion, cons_option, fold}
+use Rattle.std.specs.Option.{unwrap_or}
+use Rattle.std.proofs.lemmas.Bool.{cases_Bool, eqb-true, leb-true, false≢true}
+use Rattle.std.proofs.lemmas.Bool.Decides.{nat_tests}
+use Rattle.guide_model.specs.declared.stream.Component.{Component}
+use Rattle.si_time.specs.declared.moment.Moment.{Moment}
+use Rattle.si_text.specs.Coding.{coded_size}
+use Rattle.mux_config.specs.declared.mux.MuxService.{MuxService}
+use Rattle.mux_config.specs.declared.mux.Mux.{Mux}
+use Rattle.mux_config.specs.declared.record.Record.{Record}
+use Rattle.mux_config.specs.declared.record.Record.TheVariants.{Network, Stream, Delivery, Service, Part, Start, Quota, End}
+use Rattle.mux_config.specs.declared.record.Numbered.{Numbered}
+use Rattle.mux_config.specs.Block.{Whole, all_of, delivery_in, first, first_line, has_id, has_pmt, has_pid, holds, ended, is_stream, stream_in, with_network, with_services, with_stream, has_no_place, insert, is_delivery, is_network, is_quota, is_start, mux_with, network_in, numbered, part_in, quota_in, repeated_at, said, service_in, services_of, sorted, start_in, with_parts}
+use Rattle.mux_config.specs.Fine.{AreFine, IsApart, IsFine, IsFineService, in_order, parts_in}
+use Rattle.mux_config.specs.Sound.{AreDifferent, Between, DoAscend, HasSoundCable, IsSound, IsSoundComponent, IsSoundService, all_component_pids, component_pids, pmt_pids}
+use Rattle.mux_config.specs.Reads.{Makes}
+use Rattle.mux_config.specs.declared.stop.MuxStop.{MuxStop}
+use Rattle.mux_config.proofs.IndexFacts.{all_more, first_more, or_none_left, or_none_right, first_before, all_kept}
+use Rattle.mux_config.proofs.Ordering.{sorted_more}
+
+-- ---- lists
+
+pub all_insert : (P : MuxService → Type 0) (s : MuxService) (ts : List MuxService) → P s → AllByRecursion P ts → AllByRecursion P (insert s ts)
+all_insert P s [] p h = (p, tt)
+all_insert P s (t ∷ ts) p h = elim (cases_Bool (nat_lt s.service t.service)) [
+  | inl e ↦ rw e (p, h)
+  | inr e ↦ rw e (h.0, all_insert P s ts p h.1)
+]
+
+pub all_imp : {X : Type 0} (P Q : X → Type 0) (xs : List X) → ((x : X) → P x → Q x) → AllByRecursion P xs → AllByRecursion Q xs
+all_imp P Q [] f h = tt
+all_imp P Q (x ∷ xs) f h = (f x h.0, all_imp P Q xs f h.1)
+
+both_all : {X : Type 0} (P Q : X → Type 0) (xs : List X) → AllByRecursion P xs → AllByRecursion Q xs → AllByRecursion (λ x. P x × Q x) xs
+both_all P Q [] h k = tt
+both_all P Q (x ∷ xs) h k = ((h.0, k.0), both_all P Q xs h.1 k.1)
+
+all_map : {X : Type 0} (f : X → ℕ) (P : ℕ → Type 0) (xs : List X) → AllByRecursion (λ x. P (f x)) xs → AllByRecursion P (map f xs)
+all_map f P [] h = tt
+all_map f P (x ∷ xs) h = (h.0, all_map f P xs h.1)
+
+all_snoc : {X : Type 0} (P : X → Type 0) (xs : List X) (x : X) → AllByRecursion P xs → P x → AllByRecursion P (xs ++ x ∷ [])
+all_snoc P [] x h p = (p, tt)
+all_snoc P (y ∷ ys) x h p = (h.0, all_snoc P ys x h.1 p)
+
+-- what a list of PMT PIDs says of its services
+of_pids : (P : ℕ → Type 0) (ts : List MuxService) → AllByRecursion P (pmt_pids ts) → AllByRecursion (λ (t : MuxService). P t.pmt_pid) ts
+of_pids P [] h = tt
+of_pids P (t ∷ ts) h = (h.0, of_pids P ts h.1)
+
+-- a service whose PMT has another PID than those there
+pmts_insert : (s : MuxService) (ts : List MuxService) → AllByRecursion (λ (t : MuxService). s.pmt_pid ≢ t.pmt_pid) ts → AreDifferent (pmt_pids ts) → AreDifferent (pmt_pids (insert s ts))
+pmts_insert s [] new h = (tt, tt)
+pmts_insert s (t ∷ ts) new h = elim (cases_Bool (nat_lt s.service t.service)) [
+  | inl e ↦ rw e ((new.0, all_map (λ (u : MuxService). u.pmt_pid) (λ m. s.pmt_pid ≢ m) ts new.1), h)
+  | inr e ↦ rw e (
+    all_map (λ (u : MuxService). u.pmt_pid) (λ m. t.pmt_pid ≢ m) (insert s ts) (all_insert (λ (u : MuxService). t.pmt_pid ≢ u.pmt_pid) s ts (λ e. new.0 (sym e)) (of_pids (λ m. t.pmt_pid ≢ m) ts h.0)),
+    pmts_insert s ts new.1 h.1,
+  )
+]
+
+below_of : (m n : ℕ) → m ≤ n → n ≢ m → m < n
+below_of m n le ne = elim (cases_Bool (m == n)) [
+  | inl e ↦ absurd (ne (sym (eqb-true m n e)))
+  | inr e ↦ grind (arith, nat_tests)
+]
+
+-- a service with another id than those there
+ascend_insert : (s : MuxService) (ts : List MuxService) → AllByRecursion (λ (t : MuxService). s.service ≢ t.service) ts → DoAscend ts → DoAscend (insert s ts)
+ascend_insert s [] new h = (tt, tt)
+ascend_insert s (t ∷ ts) new h = elim (cases_Bool (nat_lt s.service t.service)) [
+  | inl e ↦
+      let below : s.service < t.service = grind (arith, nat_tests) in
+      rw e ((below, all_imp (λ (u : MuxService). t.service < u.service) (λ (u : MuxService). s.service < u.service) ts (λ u less. omega (arith, below, less)) h.0), h)
+  | inr e ↦
+      let above : t.service ≤ s.service = grind (arith, nat_tests) in
+      let less : t.service < s.service = below_of t.service s.service above new.0 in
+      rw e (all_insert (λ (u : MuxService). t.service < u.service) s ts less h.0, ascend_insert s ts new.1 h.1)
+]
+
+of_component_pids : (P : ℕ → Type 0) (xs : List Component) → AllByRecursion P (map (λ (x : Component). x.pid) xs) → AllByRecursion (λ (x : Component). P x.pid) xs
+of_component_pids P [] h = tt
+of_component_pids P (x ∷ xs) h = (h.0, of_component_pids P xs h.1)
+
+different_snoc : (xs : List Component) (c : Component) → AllByRecursion (λ (x : Component). x.pid ≢ c.pid) xs → AreDifferent (map (λ (x : Component). x.pid) xs) → AreDifferent (map (λ (x : Component). x.pid) (xs ++ c ∷ []))
+different_snoc [] c new h = (tt, tt)
+different_snoc (x ∷ xs) c new h = (
+  all_map (λ (y : Component). y.pid) (λ m. x.pid ≢ m) (xs ++ c ∷ []) (all_snoc (λ (y : Component). x.pid ≢ y.pid) xs c (of_component_pids (λ m. x.pid ≢ m) xs h.0) new.0),
+  different_snoc xs c new.1 h.1,
+)
+
+-- ---- records that were taken
+
+pub fine_none : AreFine []
+fine_none = record {
+  each = tt;
+  count = omega arith;
+  services = tt;
+  ascend = tt;
+  pmts = tt;
+  few = λ id. omega arith;
+  components = λ id. tt;
+  once = λ id. tt;
+  apart = λ id. tt;
+  ids = λ id e. tt;
+  pmt_pids = λ pid e. tt;
+  pids = λ pid id e. tt;
+  own = λ pid id e. tt;
+}
+
+-- the record behind is not found either
+not_last : (test : Record → Bool) (rs : List Numbered) (r : Numbered) → first_line test (rs ++ r ∷ []) ≡ None → test r.says ≡ false
+not_last test rs r e = elim (cases_Bool (test r.says)) [
+  | inl yes' ↦
+      let there : cond (test r.says) (Some r.line) None ≡ None = or_none_right (first_line test rs) _ (sym (first_more test rs r) ∙ e) in
+      cc (rw yes' at there)
+  | inr no' ↦ no'
+]
+
+differs : (m n : ℕ) → (m == n) ≡ false → n ≢ m
+differs m n e same = absurd (grind (arith, nat_tests))
+
+-- records that keep the services and the components
+pub fine_kept : (rs : List Numbered) (line : ℕ) (says : Record) → AreFine rs → IsFine says → service_in says ≡ None → ((id : ℕ) → part_in id says ≡ None) → AreFine (rs ++ numbered line says ∷ [])
+fine_kept rs line says f fine no_service no_part =
+    let r = numbered line says in
+    let services : in_order (rs ++ r ∷ []) ≡ in_order rs = ap sorted (all_kept service_in rs r no_service) in
+    let parts_same : (id : ℕ) → parts_in id (rs ++ r ∷ []) ≡ parts_in id rs = λ id. all_kept (part_in id) rs r (no_part id) in
+    record {
+      each = all_snoc (λ (x : Numbered). IsFine x.says) rs r f.each fine;
+      count = rw services f.count;
+      services = rw services f.services;
+      ascend = rw services f.ascend;
+      pmts = rw services f.pmts;
+      few = λ id. rw (parts_same id) (f.few id);
+      components = λ id. rw (parts_same id) (f.components id);
+      once = λ id. rw (parts_same id) (f.once id);
+      apart = λ id. rw (services, parts_same id) (f.apart id);
+      ids = λ id e. rw services (f.ids id (first_before (has_id id) rs r e));
+      pmt_pids = λ pid e. rw services (f.pmt_pids pid (first_before (has_pmt pid) rs r e));
+      pids = λ pid id e. rw (parts_same id) (f.pids pid id (first_before (has_pid pid) rs r e));
+      own = λ pid id e. rw (parts_same id) (f.own pid id (first_before (holds id pid) rs r e));
+    }
+
+length_insert : (s : MuxService) (ts : List MuxService) → length (insert s ts) ≡ length ts + 1
+length_insert s [] = refl
+length_insert s (t ∷ ts) = elim (cases_Bool (nat_lt s.service t.service)) [
+  | inl e ↦ rw e (omega arith)
+  | inr e ↦ rw e (omega (arith, length_insert s ts))
+]
+
+length_sorted_from : (xs done : List MuxService) → length (fold (λ (d : List MuxService) (x : MuxService). insert x d) done xs) ≡ length done + length xs
+length_sorted_from [] done = omega arith
+length_sorted_from (x ∷ xs) done = omega (arith, length_sorted_from xs (insert x done), length_insert x done)
+
+pub fine_service : (rs : List Numbered) (line : ℕ) (s : MuxService) → AreFine rs → IsFineService s → has_no_place rs (Service s) ≡ false → repeated_at rs (Service s) ≡ None → AreFine (rs ++ numbered line (Service s) ∷ [])
+fine_service rs line s f fine place once =
+    let r = numbered line (Service s) in
+    let services : in_order (rs ++ r ∷ []) ≡ insert s (in_order rs) = ap sorted (all_more service_in rs r) ∙ sorted_more (all_of service_in rs) s in
+    let parts_same : (id : ℕ) → parts_in id (rs ++ r ∷ []) ≡ parts_in id rs = λ id. all_kept (part_in id) rs r refl in
+    let no_id = or_none_left (first_line (has_id s.service) rs) _ once in
+    let no_pmt = or_none_left (first_line (has_pmt s.pmt_pid) rs) _ (or_none_right (first_line (has_id s.service) rs) _ once) in
+    let no_pid = or_none_right (first_line (has_pmt s.pmt_pid) rs) (first_line (has_pid s.pmt_pid) rs) (or_none_right (first_line (has_id s.service) rs) _ once) in
+    let room : length (all_of service_in rs) < 64 = grind (arith, nat_tests) in
+    record {
+      each = all_snoc (λ (x : Numbered). IsFine x.says) rs r f.each fine;
+      count = rw services (omega (arith, room, length_insert s (in_order rs), length_sorted_from (all_of service_in rs) []));
+      services = rw services (all_insert IsFineService s (in_order rs) fine f.services);
+      ascend = rw services (ascend_insert s (in_order rs) (f.ids s.service no_id) f.ascend);
+      pmts = rw services (pmts_insert s (in_order rs) (f.pmt_pids s.pmt_pid no_pmt) f.pmts);
+      few = λ id. rw (parts_same id) (f.few id);
+      components = λ id. rw (parts_same id) (f.components id);
+      once = λ id. rw (parts_same id) (f.once id);
+      apart = λ id. rw (services, parts_same id) (all_insert (IsApart (parts_in id rs)) s (in_order rs) (f.pids s.pmt_pid id no_pid) (f.apart id));
+      ids = λ id e. rw services (all_insert (λ (t : MuxService). id ≢ t.service) s (in_order rs) (differs s.service id (not_last (has_id id) rs r e)) (f.ids id (first_before (has_id id) rs r e)));
+      pmt_pids = λ pid e. rw services (all_insert (λ (t : MuxService). pid ≢ t.pmt_pid) s (in_order rs) (differs s.pmt_pid pid (not_last (has_pmt pid) rs r e)) (f.pmt_pids pid (first_before (has_pmt pid) rs r e)));
+      pids = λ pid id e. rw (parts_same id) (f.pids pid id (first_before (has_pid pid) rs r e));
+      own = λ pid id e. rw (parts_same id) (f.own pid id (first_before (holds id pid) rs r e));
+    }
+
+or_false_left : (a b : Bool) → (a || b) ≡ false → a ≡ false
+or_false_left false b e = refl
+or_false_left true b e = cc e
+
+fewer : (n : ℕ) → nat_le 16 n ≡ false → n < 16
+fewer n e = grind (arith, nat_tests)
+
+other_pid : (home id here pid : ℕ) → home ≡ id → (false || ((home == id) && (here == pid))) ≡ false → here ≢ pid
+other_pid home id here pid same e meets = false≢true (sym (rw (eq-eqb home id same, eq-eqb here pid meets) at e))
+
+or_false_right : (a b : Bool) → (a || b) ≡ false → b ≡ false
+or_false_right false b e = e
+or_false_right true b e = cc e
+
+-- a component, among those of a service
+parts_split : (rs : List Numbered) (line home : ℕ) (c : Component) (id : ℕ)
+    → ((home ≡ id) × (parts_in id (rs ++ numbered line (Part home c) ∷ []) ≡ parts_in id rs ++ c ∷ [])) ⊎ (((home == id) ≡ false) × (parts_in id (rs ++ numbered line (Part home c) ∷ []) ≡ parts_in id rs))
+parts_split rs line home c id =
+    let more = all_more (part_in id) rs (numbered line (Part home c)) in
+    elim (cases_Bool (home == id)) [
+      | inl e ↦ inl (eqb-true home id e, more ∙ ap (λ b. parts_in id rs ++ cons_option (cond b (Some c) None) []) e)
+      | inr e ↦ inr (e, more ∙ ap (λ b. parts_in id rs ++ cons_option (cond b (Some c) None) []) e ∙ append-nil (parts_in id rs))
+    ]
+
+-- what holds of a service's components and of one more holds of them with it
+parts_with : (P : List Component → Type 0) (rs : List Numbered) (line home : ℕ) (c : Component) (id : ℕ) → (home ≡ id → P (parts_in id rs ++ c ∷ [])) → P (parts_in id rs) → P (parts_in id (rs ++ numbered line (Part home c) ∷ []))
+parts_with P rs line home c id more kept = elim (parts_split rs line home c id) [
+  | inl (same, e) ↦ subst P (sym e) (more same)
+  | inr (other, e) ↦ subst P (sym e) kept
+]
+
+held_pmt : (id pid : ℕ) (r : Record) → holds id pid r ≡ false → has_pmt pid r ≡ false
+held_pmt id pid (Service s) e = or_false_left (s.pmt_pid == pid) _ e
+held_pmt id pid (Network n name) e = refl
+held_pmt id pid (Stream n o) e = refl
+held_pmt id pid (Delivery cable) e = refl
+held_pmt id pid (Part service c) e = refl
+held_pmt id pid (Start moment) e = refl
+held_pmt id pid (Quota n) e = refl
+held_pmt id pid End e = refl
+
+first_not : (test : Record → Bool) (r : Numbered) (rs : List Numbered) → first_line test (r ∷ rs) ≡ None → (test r.says ≡ false) × (first_line test rs ≡ None)
+first_not test r rs e = elim (cases_Bool (test r.says)) [
+  | inl yes' ↦ cc (rw yes' at e)
+  | inr no' ↦ (no', rw no' at e)
+]
+
+no_pmt_held : (id pid : ℕ) (rs : List Numbered) → first_line (holds id pid) rs ≡ None → first_line (has_pmt pid) rs ≡ None
+no_pmt_held id pid [] e = refl
+no_pmt_held id pid (r ∷ rs) e =
+    let (a, b) = first_not (holds id pid) r rs e in
+    rw (held_pmt id pid r.says a) (no_pmt_held id pid rs b)
+
+apart_more : (c : Component) (cs : List Component) (ss : List MuxService) → AllByRecursion (λ (s : MuxService). c.pid ≢ s.pmt_pid) ss → AllByRecursion (IsApart cs) ss → AllByRecursion (IsApart (cs ++ c ∷ [])) ss
+apart_more c cs [] new h = tt
+apart_more c cs (s ∷ ss) new h = (all_snoc (λ (x : Component). s.pmt_pid ≢ x.pid) cs c h.0 (λ e. new.0 (sym e)), apart_more c cs ss new.1 h.1)
+
+pub fine_part : (rs : List Numbered) (line home : ℕ) (c : Component) → AreFine rs → IsSoundComponent c → has_no_place rs (Part home c) ≡ false → repeated_at rs (Part home c) ≡ None → AreFine (rs ++ numbered line (Part home c) ∷ [])
+fine_part rs line home c f fine place once =
+    let r = numbered line (Part home c) in
+    let services : in_order (rs ++ r ∷ []) ≡ in_order rs = ap sorted (all_kept service_in rs r refl) in
+    let room : length (parts_in home rs) < 16 = fewer (length (parts_in home rs)) (or_false_right _ (nat_le 16 (length (parts_in home rs))) place) in
+    let no_pmt = f.pmt_pids c.pid (no_pmt_held home c.pid rs once) in
+    record {
+      each = all_snoc (λ (x : Numbered). IsFine x.says) rs r f.each fine;
+      count = rw services f.count;
+      services = rw services f.services;
+      ascend = rw services f.ascend;
+      pmts = rw services f.pmts;
+      few = λ id. parts_with (λ (cs : List Component). length cs ≤ 16) rs line home c id
+          (λ same. let few : length (parts_in id rs) < 16 = subst (λ (k : ℕ). length (parts_in k rs) < 16) same room in omega (arith, few, length-append (parts_in id rs) (c ∷ []))) (f.few id);
+      components = λ id. parts_with (AllByRecursion IsSoundComponent) rs line home c id (λ same. all_snoc IsSoundComponent (parts_in id rs) c (f.components id) fine) (f.components id);
+      once = λ id. parts_with (λ (cs : List Component). AreDifferent (map (λ (x : Component). x.pid) cs)) rs line home c id
+          (λ same. different_snoc (parts_in id rs) c (f.own c.pid id (subst (λ (k : ℕ). first_line (holds k c.pid) rs ≡ None) same once)) (f.once id)) (f.once id);
+      apart = λ id. rw services (parts_with (λ (cs : List Component). AllByRecursion (IsApart cs) (in_order rs)) rs line home c id (λ same. apart_more c (parts_in id rs) (in_order rs) no_pmt (f.apart id)) (f.apart id));
+      ids = λ id e. rw services (f.ids id (first_before (has_id id) rs r e));
+      pmt_pids = λ pid e. rw services (f.pmt_pids pid (first_before (has_pmt pid) rs r e));
+      pids = λ pid id e.
+          let before = f.pids pid id (first_before (has_pid pid) rs r e) in
+          parts_with (AllByRecursion (λ (x : Component). pid ≢ x.pid)) rs line home c id
+          (λ same. all_snoc (λ (x : Component). pid ≢ x.pid) (parts_in id rs) c before (differs c.pid pid (not_last (has_pid pid) rs r e))) before;
+      own = λ pid id e.
+          let before = f.own pid id (first_before (holds id pid) rs r e) in
+          parts_with (AllByRecursion (λ (x : Component). x.pid ≢ pid)) rs line home c id
+          (λ same. all_snoc (λ (x : Component). x.pid ≢ pid) (parts_in id rs) c before (other_pid home id c.pid pid same (not_last (holds id pid) rs r e))) before;
+    }
+
+-- one record more
+pub fine_more : (rs : List Numbered) (line : ℕ) (says : Record) → AreFine rs → IsFine says → has_no_place rs says ≡ false → repeated_at rs says ≡ None → AreFine (rs ++ numbered line says ∷ [])
+fine_more rs line (Network n name) f fine place once = fine_kept rs line (Network n name) f fine refl (λ id. refl)
+fine_more rs line (Stream n o) f fine place once = fine_kept rs line (Stream n o) f fine refl (λ id. refl)
+fine_more rs line (Delivery cable) f fine place once = fine_kept rs line (Delivery cable) f fine refl (λ id. refl)
+fine_more rs line (Service s) f fine place once = fine_service rs line s f fine place once
+fine_more rs line (Part id c) f fine place once = fine_part rs line id c f fine place once
+fine_more rs line (Start moment) f fine place once = fine_kept rs line (Start moment) f fine refl (λ id. refl)
+fine_more rs line (Quota n) f fine place once = fine_kept rs line (Quota n) f fine refl (λ id. refl)
+fine_more rs line End f fine place once = fine_kept rs line End f fine refl (λ id. refl)
+
+-- ---- the multiplex
+
+abbrev FineOption : Option Numbered → Type 0
+FineOption None = Unit {0}
+FineOption (Some r) = IsFine r.says
+
+first_fine : (test : Record → Bool) (rs : List Numbered) → AllByRecursion (λ (r : Numbered). IsFine r.says) rs → FineOption (first test rs)
+first_fine test [] h = tt
+first_fine test (r ∷ rs) h = elim (cases_Bool (test r.says)) [
+  | inl e ↦ rw e h.0
+  | inr e ↦ rw e (first_fine test rs h.1)
+]
+
+in_network : (says : Record) (n : ℕ × List ℕ) → IsFine says → network_in says ≡ Some n → Between 1 100 (coded_size n.1)
+in_network (Network id name) n h e = let same : name ≡ n.1 = cc e in subst (λ (t : List ℕ). Between 1 100 (coded_size t)) same h
+in_network (Stream id o) n h e = cc e
+in_network (Delivery cable) n h e = cc e
+in_network (Service s) n h e = cc e
+in_network (Part id c) n h e = cc e
+in_network (Start moment) n h e = cc e
+in_network (Quota q) n h e = cc e
+in_network End n h e = cc e
+
+network_fine : (o : Option Numbered) (n : ℕ × List ℕ) → FineOption o → said network_in o ≡ Some n → Between 1 100 (coded_size n.1)
+network_fine None n h e = cc e
+network_fine (Some r) n h e = in_network r.says n h e
+
+in_cable : (says : Record) → IsFine says → HasSoundCable (delivery_in says)
+in_cable (Network id name) h = tt
+in_cable (Stream id o) h = tt
+in_cable (Delivery cable) h = h
+in_cable (Service s) h = tt
+in_cable (Part id c) h = tt
+in_cable (Start moment) h = tt
+in_cable (Quota q) h = tt
+in_cable End h = tt
+
+cable_fine : (o : Option Numbered) → FineOption o → HasSoundCable (said delivery_in o)
+cable_fine None h = tt
+cable_fine (Some r) h = in_cable r.says h
+
+abbrev first_start : Moment
+first_start = record { 0 = 3506716800 }
+
+in_start : (says : Record) → IsFine says → (unwrap_or (start_in says) first_start).0 < 65536 * 86400
+in_start (Network id name) h = lit< tt
+in_start (Stream id o) h = lit< tt
+in_start (Delivery cable) h = lit< tt
+in_start (Service s) h = lit< tt
+in_start (Part id c) h = lit< tt
+in_start (Start moment) h = h
+in_start (Quota q) h = lit< tt
+in_start End h = lit< tt
+
+start_fine : (o : Option Numbered) → FineOption o → (unwrap_or (said start_in o) first_start).0 < 65536 * 86400
+start_fine None h = lit< tt
+start_fine (Some r) h = in_start r.says h
+
+in_quota : (says : Record) → IsFine says → Between 1 10000 (unwrap_or (quota_in says) 200)
+in_quota (Network id name) h = (lit≤ tt, lit≤ tt)
+in_quota (Stream id o) h = (lit≤ tt, lit≤ tt)
+in_quota (Delivery cable) h = (lit≤ tt, lit≤ tt)
+in_quota (Service s) h = (lit≤ tt, lit≤ tt)
+in_quota (Part id c) h = (lit≤ tt, lit≤ tt)
+in_quota (Start moment) h = (lit≤ tt, lit≤ tt)
+in_quota (Quota q) h = h
+in_quota End h = (lit≤ tt, lit≤ tt)
+
+quota_fine : (o : Option Numbered) → FineOption o → Between 1 10000 (unwrap_or (said quota_in o) 200)
+quota_fine None h = (lit≤ tt, lit≤ tt)
+quota_fine (Some r) h = in_quota r.says h
+
+all_served : (f : MuxService → MuxService) (P : MuxService → Type 0) (xs : List MuxService) → AllByRecursion (λ x. P (f x)) xs → AllByRecursion P (map f xs)
+all_served f P [] h = tt
+all_served f P (x ∷ xs) h = (h.0, all_served f P xs h.1)
+
+sound_services : (rs : List Numbered) (ts : List MuxService) → AreFine rs → AllByRecursion IsFineService ts → AllByRecursion IsSoundService (map (with_parts rs) ts)
+sound_services rs [] f h = tt
+sound_services rs (s ∷ ts) f h = (
+  record {
+    service = h.0.service;
+    feed = h.0.feed;
+    pmt_pid = h.0.pmt_pid;
+    pcr_pid = h.0.pcr_pid;
+    provider = h.0.provider;
+    name = h.0.name;
+    count = f.few s.service;
+    components = f.components s.service;
+    components_once = f.once s.service;
+  },
+  sound_services rs ts f h.1,
+)
+
+ascend_parts : (rs : List Numbered) (ts : List MuxService) → DoAscend ts → DoAscend (map (with_parts rs) ts)
+ascend_parts rs [] h = tt
+ascend_parts rs (t ∷ ts) h = (all_served (with_parts rs) (λ (u : MuxService). t.service < u.service) ts h.0, ascend_parts rs ts h.1)
+
+pmts_same : (rs : List Numbered) (ts : List MuxService) → pmt_pids (map (with_parts rs) ts) ≡ pmt_pids ts
+pmts_same rs [] = refl
+pmts_same rs (t ∷ ts) = ap (λ (l : List ℕ). t.pmt_pid ∷ l) (pmts_same rs ts)
+
+all_join : (P : ℕ → Type 0) (xs ys : List ℕ) → AllByRecursion P xs → AllByRecursion P ys → AllByRecursion P (xs ++ ys)
+all_join P [] ys h k = k
+all_join P (x ∷ xs) ys h k = (h.0, all_join P xs ys h.1 k)
+
+all_pids : (rs : List Numbered) (s : MuxService) (ts : List MuxService) → ((id : ℕ) → IsApart (parts_in id rs) s) → AllByRecursion (λ pid. s.pmt_pid ≢ pid) (all_component_pids (map (with_parts rs) ts))
+all_pids rs s [] h = tt
+all_pids rs s (t ∷ ts) h =
+    all_join (λ pid. s.pmt_pid ≢ pid) (component_pids (with_parts rs t)) (all_component_pids (map (with_parts rs) ts))
+    (all_map (λ (c : Component). c.pid) (λ pid. s.pmt_pid ≢ pid) (parts_in t.service rs) (h t.service)) (all_pids rs s ts h)
+
+for_each : (Q : ℕ → MuxService → Type 0) (xs : List MuxService) → ((id : ℕ) → AllByRecursion (Q id) xs) → AllByRecursion (λ s. (id : ℕ) → Q id s) xs
+for_each Q [] h = tt
+for_each Q (x ∷ xs) h = (λ id. (h id).0, for_each Q xs (λ id. (h id).1))
+
+apart_pids : (rs : List Numbered) → AreFine rs → AllByRecursion (λ pmt. AllByRecursion (λ pid. pmt ≢ pid) (all_component_pids (services_of rs))) (pmt_pids (services_of rs))
+apart_pids rs f =
+    let ts = in_order rs in
+    let each = for_each (λ (id : ℕ) (s : MuxService). IsApart (parts_in id rs) s) ts f.apart in
+    let all = all_imp (λ (s : MuxService). (id : ℕ) → IsApart (parts_in id rs) s) (λ (s : MuxService). AllByRecursion (λ pid. s.pmt_pid ≢ pid) (all_component_pids (services_of rs))) ts (λ s h. all_pids rs s ts h) each in
+    subst (AllByRecursion (λ pmt. AllByRecursion (λ pid. pmt ≢ pid) (all_component_pids (services_of rs)))) (sym (pmts_same rs ts)) (all_map (λ (s : MuxService). s.pmt_pid) (λ pmt. AllByRecursion (λ pid. pmt ≢ pid) (all_component_pids (services_of rs))) ts all)
+
+length_parts : (rs : List Numbered) (ts : List MuxService) → length (map (with_parts rs) ts) ≡ length ts
+length_parts rs [] = refl
+length_parts rs (t ∷ ts) = omega (arith, length_parts rs ts)
+
+pub sound_mux : (rs : List Numbered) (network : ℕ × List ℕ) (stream : ℕ × ℕ) → AreFine rs → said network_in (first is_network rs) ≡ Some network → 1 ≤ length (services_of rs) → IsSound (mux_with network stream rs)
+sound_mux rs network stream f named some = record {
+  network_name = network_fine (first is_network rs) network (first_fine is_network rs f.each) named;
+  cable = cable_fine (first is_delivery rs) (first_fine is_delivery rs f.each);
+  start = start_fine (first is_start rs) (first_fine is_start rs f.each);
+  quota = quota_fine (first is_quota rs) (first_fine is_quota rs f.each);
+  count = (some, omega (arith, f.count, length_parts rs (in_order rs)));
+  services = sound_services rs (in_order rs) f f.services;
+  ascend = ascend_parts rs (in_order rs) f.ascend;
+  pmts_once = subst AreDifferent (sym (pmts_same rs (in_order rs))) f.pmts;
+  apart = apart_pids rs f;
+}
+
+whole_services : (mux made : Mux) (behind : List (ℕ × List ℕ)) → with_services mux behind ≡ Whole made behind → (1 ≤ length mux.services) × (mux ≡ made)
+whole_services mux made behind e = elim (cases_Bool (nat_le 1 (length mux.services))) [
+  | inl some ↦ (leb-true 1 (length mux.services) some, let w : Whole mux behind ≡ Whole made behind = rw some at e in cc w)
+  | inr none ↦ cc (rw none at e)
+]
+
+whole_stream : (rs : List Numbered) (network : ℕ × List ℕ) (o : Option (ℕ × ℕ)) (made : Mux) (behind : List (ℕ × List ℕ)) → AreFine rs → said network_in (first is_network rs) ≡ Some network → with_stream rs network o behind ≡ Whole made behind → IsSound made
+whole_stream rs network None made behind f named e = cc e
+whole_stream rs network (Some stream) made behind f named e =
+    let w = whole_services (mux_with network stream rs) made behind e in
+    subst IsSound w.1 (sound_mux rs network stream f named w.0)
+
+whole_network : (rs : List Numbered) (o : Option (ℕ × List ℕ)) (made : Mux) (behind : List (ℕ × List ℕ)) → AreFine rs → said network_in (first is_network rs) ≡ o → with_network rs o behind ≡ Whole made behind → IsSound made
+whole_network rs None made behind f named e = cc e
+whole_network rs (Some network) made behind f named e = whole_stream rs network (said stream_in (first is_stream rs)) made behind f named e
+
+-- what is made of fine records is sound
+pub sound_made : (rs : List Numbered) (result : Result Mux MuxStop) → AreFine rs → ((behind : List (ℕ × List ℕ)) → Makes (ended rs behind) behind result) → IfOk result IsSound
+sound_made rs (Ok mux) f makes = whole_network rs (said network_in (first is_network rs)) mux [] f refl (makes [])
+sound_made rs (Err stop) f makes = tt

@@ -1,0 +1,234 @@
+-- The description of a multiplex: the first fault of its lines, or the multiplex that their records make.
+use Rattle.std.specs.Prelude.{ℕ, ◌==◌, nat_le, nat_lt, Bool, true, false, not, ◌&&◌, ◌||◌, List, [], ◌∷◌, ◌++◌, length, map, Option, Some, None, if◌then◌else◌, option_map}
+use Rattle.std.specs.Option.{option_or, unwrap_or}
+use Rattle.std.specs.List.{find, filter_map, list_any, fold}
+use Rattle.guide_model.specs.declared.stream.Cable.{Cable}
+use Rattle.guide_model.specs.declared.stream.Component.{Component}
+use Rattle.si_causes.specs.Text.{TextEnd, AtEnd, PastLimit}
+use Rattle.si_time.specs.declared.moment.Moment.{Moment}
+use Rattle.input_lines.specs.Lines.{Lines, record_lines}
+use Rattle.mux_config.specs.declared.fault.Word.TheVariants as word
+use Rattle.mux_config.specs.declared.fault.MuxFault.{MuxFault}
+use Rattle.mux_config.specs.declared.fault.MuxFault.TheVariants as fault
+use Rattle.mux_config.specs.declared.mux.MuxService.{MuxService}
+use Rattle.mux_config.specs.declared.mux.Mux.{Mux}
+use Rattle.mux_config.specs.declared.record.Record.{Record}
+use Rattle.mux_config.specs.declared.record.Record.TheVariants.{Network, Stream, Delivery, Service, Part, Start, Quota, End}
+use Rattle.mux_config.specs.declared.record.Numbered.{Numbered}
+use Rattle.mux_config.specs.declared.record.Found.{Found}
+use Rattle.mux_config.specs.declared.record.Found.TheVariants.{NoRecord, OutOfRange, Is}
+use Rattle.mux_config.specs.Fields.{found_line}
+
+-- ---- the records of a kind
+
+abbrev pub network_in : Record → Option (ℕ × List ℕ)
+network_in (Network id name) = Some (id, name)
+network_in r = None
+
+abbrev pub stream_in : Record → Option (ℕ × ℕ)
+stream_in (Stream id original) = Some (id, original)
+stream_in r = None
+
+abbrev pub delivery_in : Record → Option Cable
+delivery_in (Delivery cable) = Some cable
+delivery_in r = None
+
+abbrev pub service_in : Record → Option MuxService
+service_in (Service s) = Some s
+service_in r = None
+
+abbrev pub start_in : Record → Option Moment
+start_in (Start moment) = Some moment
+start_in r = None
+
+abbrev pub quota_in : Record → Option ℕ
+quota_in (Quota n) = Some n
+quota_in r = None
+
+-- the component, where the record is one of this service
+abbrev pub part_in : ℕ → Record → Option Component
+part_in service (Part id component) = if id == service then Some component else None
+part_in service r = None
+
+-- what those of a kind say, in their order
+abbrev pub all_of : {X : Type 0} → (Record → Option X) → List Numbered → List X
+all_of kind records = filter_map (λ (r : Numbered). kind r.says) records
+
+-- the first that passes, what it says, and its line
+abbrev pub first : (Record → Bool) → List Numbered → Option Numbered
+first test records = find (λ (r : Numbered). test r.says) records
+
+abbrev pub said : {X : Type 0} → (Record → Option X) → Option Numbered → Option X
+said kind None = None
+said kind (Some r) = kind r.says
+
+abbrev pub first_line : (Record → Bool) → List Numbered → Option ℕ
+first_line test records = option_map (λ (r : Numbered). r.line) (first test records)
+
+-- ---- the faults of a line
+
+abbrev pub is_network : Record → Bool
+is_network (Network id name) = true
+is_network r = false
+
+abbrev pub is_stream : Record → Bool
+is_stream (Stream id original) = true
+is_stream r = false
+
+abbrev pub is_delivery : Record → Bool
+is_delivery (Delivery cable) = true
+is_delivery r = false
+
+abbrev pub is_start : Record → Bool
+is_start (Start moment) = true
+is_start r = false
+
+abbrev pub is_quota : Record → Bool
+is_quota (Quota n) = true
+is_quota r = false
+
+-- a service with this id; with this PMT PID
+abbrev pub has_id : ℕ → Record → Bool
+has_id id (Service s) = s.service == id
+has_id id r = false
+
+abbrev pub has_pmt : ℕ → Record → Bool
+has_pmt pid (Service s) = s.pmt_pid == pid
+has_pmt pid r = false
+
+-- a component with this PID; one of this service
+abbrev pub has_pid : ℕ → Record → Bool
+has_pid pid (Part service c) = c.pid == pid
+has_pid pid r = false
+
+abbrev pub has_part : ℕ → ℕ → Record → Bool
+has_part id pid (Part service c) = service == id && c.pid == pid
+has_part id pid r = false
+
+-- a service whose PMT has this PID, or a component of this service that has it
+abbrev pub holds : ℕ → ℕ → Record → Bool
+holds id pid r = has_pmt pid r || has_part id pid r
+
+-- Whether the record has no place behind these: it is a 65th service, or a component of no earlier service, or the
+-- 17th of its service.
+abbrev pub has_no_place : List Numbered → Record → Bool
+has_no_place before (Service s) = nat_le 64 (length (all_of service_in before))
+has_no_place before (Part id c) = not (list_any (λ (r : Numbered). has_id id r.says) before) || nat_le 16 (length (all_of (part_in id) before))
+has_no_place before r = false
+
+-- The first line that has what the record repeats. Of a service these are tried in turn: its id, its PMT PID as a PMT
+-- PID, its PMT PID as a component's PID.
+abbrev pub repeated_at : List Numbered → Record → Option ℕ
+repeated_at before (Network id name) = first_line is_network before
+repeated_at before (Stream id original) = first_line is_stream before
+repeated_at before (Delivery cable) = first_line is_delivery before
+repeated_at before (Service s) = option_or (first_line (has_id s.service) before) (option_or (first_line (has_pmt s.pmt_pid) before) (first_line (has_pid s.pmt_pid) before))
+repeated_at before (Part id c) = first_line (holds id c.pid) before
+repeated_at before (Start moment) = first_line is_start before
+repeated_at before (Quota n) = first_line is_quota before
+repeated_at before End = None
+
+-- the fault of line n behind these records
+abbrev pub fault_of : List Numbered → ℕ → Found → Option MuxFault
+fault_of before n NoRecord = Some (fault.Line n)
+fault_of before n OutOfRange = Some (fault.Range n)
+fault_of before n (Is r) = if has_no_place before r then Some (fault.Range n) else option_map (fault.Twice n) (repeated_at before r)
+
+-- ---- the multiplex of records
+
+-- a service at its place among services that ascend
+abbrev pub insert : MuxService → List MuxService → List MuxService
+insert s [] = s ∷ []
+insert s (t ∷ ts) = if nat_lt s.service t.service then s ∷ t ∷ ts else t ∷ insert s ts
+
+abbrev pub sorted : List MuxService → List MuxService
+sorted services = fold (λ (done : List MuxService) (s : MuxService). insert s done) [] services
+
+-- a service with its components among the records
+abbrev pub with_parts : List Numbered → MuxService → MuxService
+with_parts records s = record s { components = all_of (part_in s.service) records }
+
+abbrev pub services_of : List Numbered → List MuxService
+services_of records = map (with_parts records) (sorted (all_of service_in records))
+
+abbrev pub cable_of : List Numbered → Option Cable
+cable_of records = said delivery_in (first is_delivery records)
+
+-- the start that is given, or 1970-01-01T00:00:00Z; the quota that is given, or 200
+abbrev pub start_of : List Numbered → Moment
+start_of records = unwrap_or (said start_in (first is_start records)) (record { 0 = 3506716800 })
+
+abbrev pub quota_of : List Numbered → ℕ
+quota_of records = unwrap_or (said quota_in (first is_quota records)) 200
+
+-- the multiplex of a network, a stream and the records
+abbrev pub mux_with : ℕ × List ℕ → ℕ × ℕ → List Numbered → Mux
+mux_with network stream records = record {
+  network = network.0;
+  network_name = network.1;
+  stream = stream.0;
+  original = stream.1;
+  cable = cable_of records;
+  start = start_of records;
+  quota = quota_of records;
+  services = services_of records;
+}
+
+-- ---- a description
+
+-- A description has a fault, or is whole and makes a multiplex, with the lines behind it that are records; or it has
+-- neither a fault nor an end.
+pub data Block : Type 0 where
+  Faulty : MuxFault → Block
+  Whole : Mux → List (ℕ × List ℕ) → Block
+  Unended : Block
+
+abbrev pub with_services : Mux → List (ℕ × List ℕ) → Block
+with_services mux behind = if nat_le 1 (length mux.services) then Whole mux behind else Faulty (fault.Missing word.Service)
+
+abbrev pub with_stream : List Numbered → ℕ × List ℕ → Option (ℕ × ℕ) → List (ℕ × List ℕ) → Block
+with_stream records network None behind = Faulty (fault.Missing word.Stream)
+with_stream records network (Some stream) behind = with_services (mux_with network stream records) behind
+
+abbrev pub with_network : List Numbered → Option (ℕ × List ℕ) → List (ℕ × List ℕ) → Block
+with_network records None behind = Faulty (fault.Missing word.Network)
+with_network records (Some network) behind = with_stream records network (said stream_in (first is_stream records)) behind
+
+-- the description that ends with these records
+abbrev pub ended : List Numbered → List (ℕ × List ℕ) → Block
+ended records behind = with_network records (said network_in (first is_network records)) behind
+
+abbrev pub is_end : Found → Bool
+is_end (Is End) = true
+is_end found = false
+
+abbrev pub numbered : ℕ → Record → Numbered
+numbered n r = record { line = n; says = r }
+
+-- the records with one more
+abbrev pub and_found : List Numbered → ℕ → Found → List Numbered
+and_found before n (Is r) = before ++ numbered n r ∷ []
+and_found before n found = before
+
+-- a line that has this fault or none, with what follows where it goes on
+abbrev pub unless : Option MuxFault → Block → Block
+unless (Some f) behind = Faulty f
+unless None behind = behind
+
+-- the description of the lines that are records, behind those that were read
+abbrev pub block_from : List Numbered → List (ℕ × List ℕ) → Block
+block_from before [] = Unended
+block_from before (line ∷ lines) =
+    unless (fault_of before line.0 (found_line line.1))
+    (if is_end (found_line line.1) then ended before lines else block_from (and_found before line.0 (found_line line.1)) lines)
+
+-- where the text ends, the end is missing
+abbrev pub at_text_end : Block → TextEnd → Block
+at_text_end Unended AtEnd = Faulty (fault.Missing word.End)
+at_text_end Unended PastLimit = Unended
+at_text_end (Faulty f) end = Faulty f
+at_text_end (Whole mux behind) end = Whole mux behind
+
+-- the description of lines of which the first has number n, and how their text ends
+abbrev pub block_of : ℕ → Lines → Block
+block_of n lines = at_text_end (block_from [] (record_lines n lines.0)) lines.1

@@ -1,0 +1,21 @@
+-- Kinds of records, as the code names them.
+use Rattle.std.specs.Prelude.{Bool, List, Option, Some, None}
+use Rattle.mux_config.specs.declared.mux.MuxService.{MuxService}
+use Rattle.mux_config.specs.declared.record.Numbered.{Numbered}
+use Rattle.mux_config.specs.declared.index.Kind.{Kind}
+use Rattle.mux_config.specs.declared.index.Kind.TheVariants.{Networks, Streams, Deliveries, Starts, Quotas, Holders}
+use Rattle.mux_config.specs.declared.record.Record.{Record}
+use Rattle.mux_config.specs.Block.{is_network, is_stream, is_delivery, is_start, is_quota, holds, insert, with_parts}
+
+abbrev pub is_of : Kind → Record → Bool
+is_of Networks = is_network
+is_of Streams = is_stream
+is_of Deliveries = is_delivery
+is_of Starts = is_start
+is_of Quotas = is_quota
+is_of (Holders id pid) = holds id pid
+
+-- a service, where there is one, at its place, with its components among the records
+abbrev pub put_service : List Numbered → List MuxService → Option MuxService → List MuxService
+put_service records done None = done
+put_service records done (Some s) = insert (with_parts records s) done

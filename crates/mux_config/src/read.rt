@@ -1,0 +1,111 @@
+// Reading a description from the lines of a text.
+ghost use Rattle.std.specs.Prelude.{◌≡◌, ◌≤◌, List, ℕ, Some, None, Ok, Err, IfOk, IfSome, OnOk};
+ghost use Rattle.si_causes.specs.Reading.{text_left};
+ghost use Rattle.input_lines.specs.Lines.{lines_of};
+ghost use Rattle.mux_config.specs.declared.stop.MuxStop.TheVariants.{Read};
+ghost use Rattle.mux_config.specs.Block.{is_end as ends_here};
+ghost use Rattle.mux_config.specs.Fields.{found_line as found_there};
+ghost use Rattle.mux_config.specs.Fine.{AreFine, IsFine, IsFineFound};
+ghost use Rattle.mux_config.specs.Sound.{IsSound};
+ghost use Rattle.mux_config.specs.Index.{IsIndexed};
+ghost use Rattle.mux_config.specs.Reads.{MuxCame, ReadMux, TookLine};
+ghost use Rattle.mux_config.specs.declared.record.Found.TheVariants.{Is};
+
+use crate::fault::{MuxFault, Word};
+use crate::index::Records;
+use crate::mux::Mux;
+use crate::record::{Found, Record};
+use crate::rows::found_in;
+use crate::stop::MuxStop;
+use crate::whole::multiplex;
+use input_lines::{fields, next_record_line};
+use si_causes::{LineReader, Source};
+use std::alloc::{AllocError, Global};
+
+// What a line says.
+fn found_line(alloc: Global, line: &[u8]) -> Result<Found, AllocError>
+    ensures value { IfOk result (λ found. found ≡ found_there line.now) }
+    ensures fine { IfOk result IsFineFound }
+{
+    match fields(alloc, line)? {
+        Some(fields) => found_in(alloc, fields.as_slice()),
+        None => Ok(Found::NoRecord),
+    }
+}
+
+fn is_end(says: &Record) -> bool
+    ensures { result ≡ ends_here (Is says.now) }
+{
+    matches!(says, Record::End)
+}
+
+// Takes a line, which has this number, into the records, and tells whether it ends them.
+fn take_line(
+    alloc: Global,
+    records: &mut Records,
+    number: u64,
+    line: &[u8],
+) -> Result<bool, MuxStop>
+    requires { IsIndexed records.old.list.items records.old }
+    ensures took { TookLine records.old.list.items number (found_there line.now) records.new.list.items result }
+    ensures indexed { OnOk result (IsIndexed records.new.list.items records.new) }
+    ensures fine { OnOk result (AreFine records.old.list.items → AreFine records.new.list.items) }
+{
+    let says = match found_line(alloc, line)? {
+        Found::NoRecord => return Err(MuxStop::Fault(MuxFault::Line(number))),
+        Found::OutOfRange => return Err(MuxStop::Fault(MuxFault::Range(number))),
+        Found::Is(says) => says,
+    };
+    take_record(records, number, says)
+}
+
+// Takes the record of a line.
+fn take_record(records: &mut Records, number: u64, says: Record) -> Result<bool, MuxStop>
+    requires indexed { IsIndexed records.old.list.items records.old }
+    requires fine { IsFine says }
+    ensures took { TookLine records.old.list.items number (Is says) records.new.list.items result }
+    ensures indexed { OnOk result (IsIndexed records.new.list.items records.new) }
+    ensures fine { OnOk result (AreFine records.old.list.items → AreFine records.new.list.items) }
+{
+    if records.has_no_place(&says) {
+        return Err(MuxStop::Fault(MuxFault::Range(number)));
+    }
+    if let Some(earlier) = records.repeated_at(&says) {
+        return Err(MuxStop::Fault(MuxFault::Twice(number, earlier)));
+    }
+    if is_end(&says) {
+        return Ok(true);
+    }
+    records.add(number, says)?;
+    Ok(false)
+}
+
+/// Reads the description of a multiplex up to its `end` line, and leaves the lines behind it in the reader.
+///
+/// It gives the multiplex of the description's lines, which is sound, or their first fault. Lines count from the
+/// reader's first; those that are passed over count too. `Read` tells that the reader stopped: where a read of the
+/// source failed, the lines that were whole in the bytes taken have neither a fault nor the end.
+pub fn read_mux<S: Source>(alloc: Global, lines: &mut LineReader<S>) -> Result<Mux, MuxStop>
+    ensures block { lines.old.stop ≡ None → (text : List ℕ) → text_left S.left lines.old ≡ Some text
+        → ReadMux S.left lines.old lines.new (lines_of lines.old text) result }
+    ensures came { lines.old.stop ≡ None → MuxCame S.left S.faults lines.old lines.new result }
+    ensures sound { IfOk result IsSound }
+    ensures sticky { IfSome lines.old.stop (λ stop. (result ≡ Err (Read stop)) × (lines.new ≡ lines.old)) }
+    ensures later { S.faults lines.old.source ≤ S.faults lines.new.source }
+    ensures same { S.same lines.old.source lines.new.source }
+{
+    let mut records = Records::new(alloc);
+    'lines: loop {
+        match next_record_line(lines) {
+            Ok(Some(number)) => {
+                match take_line(alloc, &mut records, number, lines.line()) {
+                    Ok(true) => return multiplex(alloc, &records.list),
+                    Ok(false) => {}
+                    Err(stop) => return Err(stop),
+                }
+            }
+            Ok(None) => return Err(MuxStop::Fault(MuxFault::Missing(Word::End))),
+            Err(stop) => return Err(MuxStop::Read(stop)),
+        }
+    }
+}

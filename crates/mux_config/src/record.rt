@@ -1,0 +1,35 @@
+// The records of a description.
+use crate::mux::MuxService;
+use guide_model::{Cable, Component};
+use si_text::Txt;
+use si_time::Moment;
+
+/// What a line of the description says: the network's id and name; the stream's id and its original network; the cable
+/// delivery; a service, still without components; a component of a service; the moment at which the desk starts; the
+/// quota; the end.
+#[derive(Debug, Drop)]
+pub enum Record {
+    Network(u16, Txt),
+    Stream(u16, u16),
+    Delivery(Cable),
+    Service(MuxService),
+    Part(u16, Component),
+    Start(Moment),
+    Quota(u32),
+    End,
+}
+
+/// A record and the number of its line.
+#[derive(Debug, Drop)]
+pub struct Numbered {
+    pub line: u64,
+    pub says: Record,
+}
+
+// What was found in a line: no record, a record with a field outside its range, or this one.
+#[derive(Debug, Drop)]
+pub(crate) enum Found {
+    NoRecord,
+    OutOfRange,
+    Is(Record),
+}

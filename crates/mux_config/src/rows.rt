@@ -1,0 +1,397 @@
+// What the fields of a line say.
+ghost use Rattle.std.specs.Prelude.{◌≡◌, ◌<◌, ◌∷◌, [], true, false, IfOk, IfSome, IfNone, if◌then◌else◌, codes};
+ghost use Rattle.si_text.specs.Coding.{coded_size};
+ghost use Rattle.input_lines.specs.Numbers.{in_range, is_word as is_service_word};
+ghost use Rattle.mux_config.specs.declared.record.Found.TheVariants.{NoRecord};
+ghost use Rattle.mux_config.specs.Fine.{IsFineFound};
+ghost use Rattle.mux_config.specs.Sound.{Between, HasSoundLanguage};
+ghost use Rattle.mux_config.specs.Fields.{network_in, stream_in, cable_in, delivery_with, numbers_in, service_with, service_of as numbers_service, bare_service, is_letter as is_small_letter, is_language as is_a_language, language_of, part_in, start_in, quota_in, found_in};
+
+use crate::mux::MuxService;
+use crate::record::{Found, Record};
+use guide_model::{Cable, Component, Components};
+use input_lines::{is_word, numeral};
+use si_text::{Txt, coded_len};
+use si_time::read_moment;
+use std::alloc::{AllocError, Global};
+
+// Whether a number is in a range.
+fn is_in(low: u32, high: u32, n: u32) -> bool
+    ensures value { result ≡ in_range low high n }
+    ensures bounds { result ≡ true → Between low high n }
+{
+    low <= n && n <= high
+}
+
+// A number of a range of 16 bits.
+fn short(low: u32, high: u32, n: u32) -> Option<u16>
+    requires { high < 65536 }
+    ensures some { IfSome result (λ m. (in_range low high n ≡ true) × (m ≡ n)) }
+    ensures none { IfNone result (in_range low high n ≡ false) }
+    ensures bounds { IfSome result (Between low high) }
+{
+    if is_in(low, high, n) {
+        Some(n as u16)
+    } else {
+        None
+    }
+}
+
+// A number of a range of 8 bits.
+fn byte(low: u32, high: u32, n: u32) -> Option<u8>
+    requires { high < 256 }
+    ensures some { IfSome result (λ m. (in_range low high n ≡ true) × (m ≡ n)) }
+    ensures none { IfNone result (in_range low high n ≡ false) }
+    ensures bounds { IfSome result (Between low high) }
+{
+    if is_in(low, high, n) {
+        Some(n as u8)
+    } else {
+        None
+    }
+}
+
+// Whether the coded form of a text has a size in a range.
+fn fits(low: usize, text: &Txt) -> bool
+    ensures value { result ≡ in_range low 100 (coded_size text.now) }
+    ensures bounds { result ≡ true → Between low 100 (coded_size text.now) }
+{
+    let size = coded_len(text.as_str());
+    low <= size && size <= 100
+}
+
+// `network,ID,NAME`
+fn network(id: &Txt, name: &Txt) -> Result<Found, AllocError>
+    ensures value { IfOk result (λ found. found ≡ network_in id.now name.now) }
+    ensures fine { IfOk result IsFineFound }
+{
+    let Some(id) = numeral(id.as_str()) else {
+        return Ok(Found::NoRecord);
+    };
+    let Some(id) = short(0, 65_535, id) else {
+        return Ok(Found::OutOfRange);
+    };
+    if !fits(1, name) {
+        return Ok(Found::OutOfRange);
+    }
+    Ok(Found::Is(Record::Network(id, name.copy()?)))
+}
+
+// `stream,ID,ORIGINAL`
+fn stream(id: &Txt, original: &Txt) -> Found
+    ensures value { result ≡ stream_in id.now original.now }
+    ensures fine { IsFineFound result }
+{
+    let Some(id) = numeral(id.as_str()) else {
+        return Found::NoRecord;
+    };
+    let Some(original) = numeral(original.as_str()) else {
+        return Found::NoRecord;
+    };
+    let Some(id) = short(0, 65_535, id) else {
+        return Found::OutOfRange;
+    };
+    let Some(original) = short(0, 65_535, original) else {
+        return Found::OutOfRange;
+    };
+    Found::Is(Record::Stream(id, original))
+}
+
+// `cable,FREQUENCY,MODULATION,SYMBOLRATE,OUTER,INNER`
+fn cable(frequency: &Txt, modulation: &Txt, rate: &Txt, outer: &Txt, inner: &Txt) -> Found
+    ensures value { result ≡ cable_in frequency.now modulation.now rate.now outer.now inner.now }
+    ensures fine { IsFineFound result }
+{
+    let Some(frequency) = numeral(frequency.as_str()) else {
+        return Found::NoRecord;
+    };
+    let Some(modulation) = numeral(modulation.as_str()) else {
+        return Found::NoRecord;
+    };
+    let Some(rate) = numeral(rate.as_str()) else {
+        return Found::NoRecord;
+    };
+    let Some(outer) = numeral(outer.as_str()) else {
+        return Found::NoRecord;
+    };
+    let Some(inner) = numeral(inner.as_str()) else {
+        return Found::NoRecord;
+    };
+    delivery(frequency, modulation, rate, outer, inner)
+}
+
+// The cable delivery of these numbers.
+fn delivery(frequency: u32, modulation: u32, symbol_rate: u32, outer: u32, inner: u32) -> Found
+    ensures value { result ≡ delivery_with frequency modulation symbol_rate outer inner }
+    ensures fine { IsFineFound result }
+{
+    if !is_in(0, 99_999_999, frequency) {
+        return Found::OutOfRange;
+    }
+    let Some(modulation) = byte(0, 255, modulation) else {
+        return Found::OutOfRange;
+    };
+    if !is_in(0, 9_999_999, symbol_rate) {
+        return Found::OutOfRange;
+    }
+    let Some(fec_outer) = byte(0, 15, outer) else {
+        return Found::OutOfRange;
+    };
+    let Some(fec_inner) = byte(0, 15, inner) else {
+        return Found::OutOfRange;
+    };
+    Found::Is(Record::Delivery(Cable {
+        frequency,
+        modulation,
+        symbol_rate,
+        fec_outer,
+        fec_inner,
+    }))
+}
+
+// The numbers of a service, as they are spelled.
+#[derive(Clone, Copy)]
+struct Numbers {
+    service: u32,
+    feed: u32,
+    kind: u32,
+    pmt_pid: u32,
+    pcr_pid: u32,
+}
+
+// The service of these numbers.
+fn service_of(
+    alloc: Global,
+    numbers: Numbers,
+    provider: &Txt,
+    name: &Txt,
+) -> Result<Found, AllocError>
+    ensures value { IfOk result (λ found. found ≡ service_with (bare_service numbers.service numbers.feed numbers.kind numbers.pmt_pid numbers.pcr_pid provider.now name.now)) }
+    ensures fine { IfOk result IsFineFound }
+{
+    let Some(service) = short(1, 65_535, numbers.service) else {
+        return Ok(Found::OutOfRange);
+    };
+    let Some(feed) = byte(1, 16, numbers.feed) else {
+        return Ok(Found::OutOfRange);
+    };
+    let Some(kind) = byte(0, 255, numbers.kind) else {
+        return Ok(Found::OutOfRange);
+    };
+    let Some(pmt_pid) = short(32, 8_190, numbers.pmt_pid) else {
+        return Ok(Found::OutOfRange);
+    };
+    let Some(pcr_pid) = short(32, 8_191, numbers.pcr_pid) else {
+        return Ok(Found::OutOfRange);
+    };
+    if !fits(0, provider) {
+        return Ok(Found::OutOfRange);
+    }
+    if !fits(1, name) {
+        return Ok(Found::OutOfRange);
+    }
+    Ok(Found::Is(Record::Service(MuxService {
+        service,
+        feed,
+        kind,
+        pmt_pid,
+        pcr_pid,
+        provider: provider.copy()?,
+        name: name.copy()?,
+        components: Components::new(alloc),
+    })))
+}
+
+// The numbers of a service, where each is spelled as one.
+fn service_numbers(id: &Txt, feed: &Txt, kind: &Txt, pmt: &Txt, pcr: &Txt) -> Option<Numbers>
+    ensures { result ≡ numbers_in id.now feed.now kind.now pmt.now pcr.now }
+{
+    let service = numeral(id.as_str())?;
+    let feed = numeral(feed.as_str())?;
+    let kind = numeral(kind.as_str())?;
+    let pmt_pid = numeral(pmt.as_str())?;
+    let pcr_pid = numeral(pcr.as_str())?;
+    Some(Numbers {
+        service,
+        feed,
+        kind,
+        pmt_pid,
+        pcr_pid,
+    })
+}
+
+// Whether a field is no language, or three letters.
+fn is_language(field: &Txt) -> bool
+    ensures { result ≡ is_a_language field.now }
+{
+    match field.as_str().as_bytes() {
+        [] => true,
+        [a, b, c] => is_letter(*a) && (is_letter(*b) && is_letter(*c)),
+        _ => false,
+    }
+}
+
+fn is_letter(b: u8) -> bool
+    ensures { result ≡ is_small_letter b }
+{
+    b'a' <= b && b <= b'z'
+}
+
+// The language that a field is.
+fn language(field: &Txt) -> Option<[u8; 3]>
+    requires { is_a_language field.now ≡ true }
+    ensures value { result ≡ language_of field.now }
+    ensures sound { HasSoundLanguage result }
+{
+    match field.as_str().as_bytes() {
+        [a, b, c] => Some([*a, *b, *c]),
+        _ => None,
+    }
+}
+
+// `component,SERVICE,TYPE,PID,LANGUAGE`
+fn part(service: &Txt, kind: &Txt, pid: &Txt, spoken: &Txt) -> Found
+    ensures value { result ≡ part_in service.now kind.now pid.now spoken.now }
+    ensures fine { IsFineFound result }
+{
+    let Some(service) = numeral(service.as_str()) else {
+        return Found::NoRecord;
+    };
+    let Some(kind) = numeral(kind.as_str()) else {
+        return Found::NoRecord;
+    };
+    let Some(pid) = numeral(pid.as_str()) else {
+        return Found::NoRecord;
+    };
+    let Some(service) = short(0, 65_535, service) else {
+        return Found::OutOfRange;
+    };
+    let Some(stream_type) = byte(0, 255, kind) else {
+        return Found::OutOfRange;
+    };
+    let Some(pid) = short(32, 8_190, pid) else {
+        return Found::OutOfRange;
+    };
+    if !is_language(spoken) {
+        return Found::OutOfRange;
+    }
+    Found::Is(Record::Part(
+        service,
+        Component {
+            stream_type,
+            pid,
+            language: language(spoken),
+        },
+    ))
+}
+
+// `start,MOMENT`
+fn start(moment: &Txt) -> Found
+    ensures value { result ≡ start_in moment.now }
+    ensures fine { IsFineFound result }
+{
+    match read_moment(moment.as_str().as_bytes()) {
+        Some(moment) => Found::Is(Record::Start(moment)),
+        None => Found::OutOfRange,
+    }
+}
+
+// `quota,N`
+fn quota(quota: &Txt) -> Found
+    ensures value { result ≡ quota_in quota.now }
+    ensures fine { IsFineFound result }
+{
+    let Some(n) = numeral(quota.as_str()) else {
+        return Found::NoRecord;
+    };
+    if is_in(1, 10_000, n) {
+        Found::Is(Record::Quota(n))
+    } else {
+        Found::OutOfRange
+    }
+}
+
+// The record of two fields behind its word.
+fn record_of_two(word: &Txt, a: &Txt, b: &Txt) -> Result<Found, AllocError>
+    ensures value { IfOk result (λ found. found ≡ found_in (word.now ∷ a.now ∷ b.now ∷ [])) }
+    ensures fine { IfOk result IsFineFound }
+{
+    if is_word(word.as_str(), "network") {
+        return network(a, b);
+    }
+    if is_word(word.as_str(), "stream") {
+        return Ok(stream(a, b));
+    }
+    Ok(Found::NoRecord)
+}
+
+// The record of one field behind its word.
+fn record_of_one(word: &Txt, a: &Txt) -> Found
+    ensures value { result ≡ found_in (word.now ∷ a.now ∷ []) }
+    ensures fine { IsFineFound result }
+{
+    if is_word(word.as_str(), "start") {
+        return start(a);
+    }
+    if is_word(word.as_str(), "quota") {
+        return quota(a);
+    }
+    Found::NoRecord
+}
+
+// The record of eight fields, five of which are these numbers.
+fn record_of_eight(
+    alloc: Global,
+    word: &Txt,
+    numbers: Option<Numbers>,
+    provider: &Txt,
+    name: &Txt,
+) -> Result<Found, AllocError>
+    ensures value { IfOk result (λ found. found ≡ (if is_service_word (codes "service") word.now then numbers_service numbers provider.now name.now else NoRecord)) }
+    ensures fine { IfOk result IsFineFound }
+{
+    if !is_word(word.as_str(), "service") {
+        return Ok(Found::NoRecord);
+    }
+    match numbers {
+        Some(numbers) => service_of(alloc, numbers, provider, name),
+        None => Ok(Found::NoRecord),
+    }
+}
+
+/// What the fields of a line say.
+pub(crate) fn found_in(alloc: Global, fields: &[Txt]) -> Result<Found, AllocError>
+    ensures value { IfOk result (λ found. found ≡ found_in fields.now) }
+    ensures fine { IfOk result IsFineFound }
+{
+    match fields {
+        [word] => {
+            if is_word(word.as_str(), "end") {
+                Ok(Found::Is(Record::End))
+            } else {
+                Ok(Found::NoRecord)
+            }
+        }
+        [word, a] => Ok(record_of_one(word, a)),
+        [word, a, b] => record_of_two(word, a, b),
+        [word, a, b, c, d] => {
+            if is_word(word.as_str(), "component") {
+                Ok(part(a, b, c, d))
+            } else {
+                Ok(Found::NoRecord)
+            }
+        }
+        [word, a, b, c, d, e] => {
+            if is_word(word.as_str(), "cable") {
+                Ok(cable(a, b, c, d, e))
+            } else {
+                Ok(Found::NoRecord)
+            }
+        }
+        [word, id, feed, kind, pmt, pcr, provider, name] => {
+            let numbers = service_numbers(id, feed, kind, pmt, pcr);
+            record_of_eight(alloc, word, numbers, provider, name)
+        }
+        _ => Ok(Found::NoRecord),
+    }
+}

@@ -1,0 +1,225 @@
+// The multiplex that records make.
+ghost use Rattle.std.specs.Prelude.{◌≡◌, ◌≤◌, ◌∷◌, ◌++◌, [], ℕ, List, length, nat_lt, position, take, drop, IfOk, OnOk};
+ghost use Rattle.std.specs.Option.{unwrap_or};
+ghost use Rattle.mux_config.specs.declared.mux.MuxService.{MuxService};
+ghost use Rattle.mux_config.specs.Block.{all_of, cable_of as the_cable, ended, first, insert as inserted, is_network, is_stream, network_in, part_in, quota_of as the_quota, said, service_in, services_of as the_services, start_of as the_start, stream_in, with_parts as with_its_parts};
+ghost use Rattle.mux_config.specs.Kinds.{put_service};
+ghost use Rattle.mux_config.specs.Reads.{Makes};
+ghost use Rattle.std.specs.List.{cons_option};
+
+use crate::fault::{MuxFault, Word};
+use crate::index::{Kind, first_of};
+use crate::mux::{Mux, MuxService, MuxServices};
+use crate::record::{Numbered, Record};
+use crate::stop::MuxStop;
+use guide_model::{Cable, Component, Components};
+use si_base::Items;
+use si_text::Txt;
+use si_time::Moment;
+use std::alloc::{AllocError, Global};
+
+/// The moment at which a desk starts, 1970-01-01T00:00:00Z, in seconds since Modified Julian Date 0.
+const START: u64 = 3_506_716_800;
+/// The packets between two repeats of the frequent tables.
+const QUOTA: u32 = 200;
+
+fn network_of(records: &[Numbered]) -> Result<Option<(u16, Txt)>, AllocError>
+    ensures { IfOk result (λ found. found ≡ said network_in (first is_network records.now)) }
+{
+    match first_of(Kind::Networks, records) {
+        Some(found) => match &found.says {
+            Record::Network(id, name) => Ok(Some((*id, name.copy()?))),
+            _ => Ok(None),
+        },
+        None => Ok(None),
+    }
+}
+
+fn stream_of(records: &[Numbered]) -> Option<(u16, u16)>
+    ensures { result ≡ said stream_in (first is_stream records.now) }
+{
+    match first_of(Kind::Streams, records) {
+        Some(found) => match &found.says {
+            Record::Stream(id, original) => Some((*id, *original)),
+            _ => None,
+        },
+        None => None,
+    }
+}
+
+fn cable_of(records: &[Numbered]) -> Option<Cable>
+    ensures { result ≡ the_cable records.now }
+{
+    match first_of(Kind::Deliveries, records) {
+        Some(found) => match &found.says {
+            Record::Delivery(cable) => Some(*cable),
+            _ => None,
+        },
+        None => None,
+    }
+}
+
+fn start_of(records: &[Numbered]) -> Moment
+    ensures { result ≡ the_start records.now }
+{
+    match first_of(Kind::Starts, records) {
+        Some(found) => match &found.says {
+            Record::Start(moment) => *moment,
+            _ => Moment(START),
+        },
+        None => Moment(START),
+    }
+}
+
+fn quota_of(records: &[Numbered]) -> u32
+    ensures { result ≡ the_quota records.now }
+{
+    match first_of(Kind::Quotas, records) {
+        Some(found) => match &found.says {
+            Record::Quota(quota) => *quota,
+            _ => QUOTA,
+        },
+        None => QUOTA,
+    }
+}
+
+// The component of a record, where it is one of this service.
+fn part_of(service: u16, record: &Record) -> Option<Component>
+    ensures { result ≡ part_in service record.now }
+{
+    match record {
+        Record::Part(id, component) => {
+            if *id == service {
+                Some(*component)
+            } else {
+                None
+            }
+        }
+        _ => None,
+    }
+}
+
+// The components of a service.
+fn parts_of(alloc: Global, records: &[Numbered], service: u16) -> Result<Components, AllocError>
+    ensures { IfOk result (λ parts. parts ≡ all_of (part_in service) records.now) }
+{
+    let mut parts = Components::new(alloc);
+    'records: for i in 0..records.len() {
+        take_part(&mut parts, service, &records[i].says)?;
+    }
+    Ok(parts)
+}
+
+// Takes the component of a record, where it is one of this service.
+fn take_part(parts: &mut Components, service: u16, record: &Record) -> Result<(), AllocError>
+    ensures { OnOk result (parts.new ≡ parts.old ++ cons_option (part_in service record.now) []) }
+{
+    if let Some(component) = part_of(service, record) {
+        parts.push(component)?;
+    }
+    Ok(())
+}
+
+// A service with its components among the records.
+fn with_parts(
+    alloc: Global,
+    records: &[Numbered],
+    service: &MuxService,
+) -> Result<MuxService, AllocError>
+    ensures { IfOk result (λ whole. whole ≡ with_its_parts records.now service.now) }
+{
+    Ok(MuxService {
+        service: service.service,
+        feed: service.feed,
+        kind: service.kind,
+        pmt_pid: service.pmt_pid,
+        pcr_pid: service.pcr_pid,
+        provider: service.provider.copy()?,
+        name: service.name.copy()?,
+        components: parts_of(alloc, records, service.service)?,
+    })
+}
+
+// The place of an id among services that ascend.
+fn place(services: &[MuxService], id: u16) -> usize
+    ensures bound { result ≤ length services.now }
+    ensures place { (s : MuxService) → s.service ≡ id → inserted s services.now ≡ take result services.now ++ s ∷ drop result services.now }
+{
+    match first_above(services, id) {
+        Some(at) => at,
+        None => services.len(),
+    }
+}
+
+// The first service with a higher id.
+fn first_above(services: &[MuxService], id: u16) -> Option<usize>
+    ensures { result ≡ position (λ (t : MuxService). nat_lt id t.service) services.now }
+{
+    services.iter().position(
+        |t: &MuxService| -> bool
+            ensures { result ≡ nat_lt id t.now.service }
+        { id < t.service },
+    )
+}
+
+// Puts a service at its place among services that ascend.
+fn insert(services: &mut Vec<MuxService>, service: MuxService) -> Result<(), AllocError>
+    ensures { OnOk result (services.new.items ≡ inserted service services.old.items) }
+{
+    let at = place(services, service.service);
+    services.insert(at, service)?;
+    Ok(())
+}
+
+// The services, in ascending order, each with its components.
+fn services_of(alloc: Global, records: &[Numbered]) -> Result<MuxServices, AllocError>
+    ensures { IfOk result (λ services. services ≡ the_services records.now) }
+{
+    let mut services = Vec::new(alloc);
+    'records: for i in 0..records.len() {
+        take_service(alloc, records, &mut services, &records[i].says)?;
+    }
+    Ok(Items::of(services))
+}
+
+// Puts the service of a record, where it is one, at its place, with its components.
+fn take_service(
+    alloc: Global,
+    records: &[Numbered],
+    services: &mut Vec<MuxService>,
+    record: &Record,
+) -> Result<(), AllocError>
+    ensures { OnOk result (services.new.items ≡ put_service records.now services.old.items (service_in record.now)) }
+{
+    if let Record::Service(service) = record {
+        let whole = with_parts(alloc, records, service)?;
+        insert(services, whole)?;
+    }
+    Ok(())
+}
+
+/// The multiplex that these records make, or what is missing.
+pub(crate) fn multiplex(alloc: Global, records: &[Numbered]) -> Result<Mux, MuxStop>
+    ensures { (behind : List (ℕ × List ℕ)) → Makes (ended records.now behind) behind result }
+{
+    let Some((network, network_name)) = network_of(records)? else {
+        return Err(MuxStop::Fault(MuxFault::Missing(Word::Network)));
+    };
+    let Some((stream, original)) = stream_of(records) else {
+        return Err(MuxStop::Fault(MuxFault::Missing(Word::Stream)));
+    };
+    let services = services_of(alloc, records)?;
+    if services.is_empty() {
+        return Err(MuxStop::Fault(MuxFault::Missing(Word::Service)));
+    }
+    Ok(Mux {
+        network,
+        network_name,
+        stream,
+        original,
+        cable: cable_of(records),
+        start: start_of(records),
+        quota: quota_of(records),
+        services,
+    })
+}
