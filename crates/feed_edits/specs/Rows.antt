@@ -1,7 +1,8 @@
 -- Worked rows of the definitions.
 use Rattle.std.specs.Prelude.{◌≡◌, ℕ, List, [], ◌∷◌, ◌++◌, Some, None, refl, codes}
 use Rattle.std.specs.Fmt.{digits}
-use Rattle.input_lines.specs.Fields.{fields_compute}
+use Rattle.std.specs.Str.{chars, is_utf8}
+use Rattle.input_lines.specs.Fields.{next_record, strip_bom}
 use Rattle.feed_edits.specs.declared.edit.Item.{Item}
 use Rattle.feed_edits.specs.declared.edit.Edit.TheVariants.{Put, Withdraw, Clear, Day}
 use Rattle.feed_edits.specs.declared.heads.Head.TheVariants.{Whole, OfDay}
@@ -91,24 +92,24 @@ day_of_2001 = refl
 
 -- edits of texts
 two_edits : edits_of (codes "#x\n\nclear,101\r\n\"withdraw\",2,03") ≡ (Clear 101 ∷ Withdraw 2 3 ∷ [], End)
-unfolding fields_compute edit_head edits_ahead
+unfolding chars is_utf8 lib.Utf8.encode next_record strip_bom edit_head edits_ahead
 two_edits = refl
 
 other_line : edits_of (codes "clear,101\nname,1,Acme\nclear,2\n") ≡ (Clear 101 ∷ [], NoCommand 2)
-unfolding fields_compute edit_head edits_ahead
+unfolding chars is_utf8 lib.Utf8.encode next_record strip_bom edit_head edits_ahead
 other_line = refl
 
 a_day : edits_of (codes "day,101,1993-10-13,1\n#\nitem,7,1993-10-13T13:00:00Z,00:30:00,eng,News,,,,,\n") ≡ (Day 101 (record { 0 = codes "1993-10-13" }) (news ∷ []) ∷ [], End)
-unfolding fields_compute edit_head edits_ahead items_of item_line item_of
+unfolding chars is_utf8 lib.Utf8.encode next_record strip_bom edit_head edits_ahead items_of item_line item_of
 a_day = refl
 
 -- where an item is missing, its line is the one that is no command
 missing_item : edits_of (codes "day,101,1993-10-13,2\n#\nitem,7,1993-10-13T13:00:00Z,00:30:00,eng,News,,,,,\n#\n\n") ≡ ([], NoCommand 6)
-unfolding fields_compute edit_head edits_ahead items_of item_line item_of
+unfolding chars is_utf8 lib.Utf8.encode next_record strip_bom edit_head edits_ahead items_of item_line item_of
 missing_item = refl
 
 bad_item : edits_of (codes "clear,3\nday,101,1993-10-13,2\n#\nclear,4\n") ≡ (Clear 3 ∷ [], NoCommand 4)
-unfolding fields_compute edit_head edits_ahead items_of item_line item_of
+unfolding chars is_utf8 lib.Utf8.encode next_record strip_bom edit_head edits_ahead items_of item_line item_of
 bad_item = refl
 
 -- the way back: decimal numbers without leading zeros
