@@ -1,8 +1,8 @@
 -- After an accepted edit the events are apart, and their last words are those of the longer list.
-use Rattle.std.proofs.Common.{◌≡◌, ℕ, ◌+◌, ◌<◌, ◌≤◌, Bool, true, false, not, cond, ◌&&◌, ◌||◌, ◌⊎◌, inl, inr, List, [], ◌∷◌, ◌++◌, length, map, reverse, Option, Some, None, eqb, ltb, leb, refl, sym, ◌∙◌, ap, subst, arith}
-use Rattle.std.specs.Prelude.{unwrap_or, option_map, is_none}
-use Rattle.std.specs.List.{AllByRecursion, filter, find, filter_map, flat_map, list_any, cons_option}
-use Rattle.std.proofs.lemmas.Bool.{eqb-true, eqb-false, eq-eqb, ne_eqb, leb-true, leb-false, ltb-false, cases_Bool, cases_eq, cond-true, cond-false, cond_both, and_parts, or_parts, and_left, and_right, or_right, or_left}
+use Rattle.std.proofs.Common.{◌≡◌, ℕ, ◌+◌, ◌<◌, Bool, true, false, not, cond, ◌&&◌, inl, inr, List, [], ◌∷◌, ◌++◌, reverse, Option, Some, None, eqb, refl, sym, ◌∙◌, ap, subst}
+use Rattle.std.specs.Prelude.{unwrap_or, option_map}
+use Rattle.std.specs.List.{filter_map, flat_map, cons_option}
+use Rattle.std.proofs.lemmas.Bool.{eqb-true, eqb-false, eq-eqb, ne_eqb, cases_Bool, cases_eq, cond-true, cond-false, and_left}
 use Rattle.std.proofs.lemmas.List.{reverse-append}
 use Rattle.std.proofs.lemmas.List.Elements.{filter_map-append}
 use Rattle.guide_model.specs.declared.event.Event.{Event}
@@ -10,21 +10,19 @@ use Rattle.feed_edits.specs.declared.edit.Item.{Item}
 use Rattle.feed_edits.specs.declared.edit.DayText.{DayText}
 use Rattle.feed_edits.specs.declared.edit.Edit.{Edit}
 use Rattle.feed_edits.specs.declared.edit.Edit.TheVariants.{Put, Withdraw, Clear, Name, Day}
-use Rattle.feed_book.specs.declared.reply.Field.{Field}
 use Rattle.feed_book.specs.declared.reply.Field.TheVariants as field
 use Rattle.mux_config.specs.declared.mux.MuxService.{MuxService}
 use Rattle.feed_book.specs.declared.reply.DayFault.{DayFault}
 use Rattle.feed_book.specs.declared.reply.DayFault.TheVariants as fault
-use Rattle.feed_book.specs.declared.reply.Reply.{Reply}
 use Rattle.feed_book.specs.declared.reply.Reply.TheVariants as reply
-use Rattle.feed_book.specs.Events.{start_of, end_of, midnight}
-use Rattle.feed_book.specs.Readings.{event_of, read_moment, read_duration, read_day}
-use Rattle.feed_book.specs.Standing.{or_else, is_on, unless_on, last_item, word_of, sought, last_word, ids_in, once, placed, by_start, standing_sought, standing, Names, last_or, names_in, names_of}
-use Rattle.feed_book.specs.Replies.{refused_if, is_outside, without, put, off_day, field_fault, place_fault, item_fault, day_fault, put_reply, day_reply, read_day_reply, reply_over, service_of}
+use Rattle.feed_book.specs.Events.{start_of, midnight}
+use Rattle.feed_book.specs.Readings.{event_of, read_day}
+use Rattle.feed_book.specs.Standing.{or_else, is_on, unless_on, last_item, word_of, sought, ids_in, once, by_start, standing_sought, standing, Names, last_or, names_in, names_of}
+use Rattle.feed_book.specs.Replies.{without, put, off_day, field_fault, place_fault, item_fault, day_fault, put_reply, day_reply, read_day_reply, reply_over, service_of}
 use Rattle.feed_book.specs.Changes.{puts, day_put, events_with, kept_with}
 use Rattle.feed_book.specs.Kept.{Kept}
 use Rattle.feed_book.specs.Books.{kept_after}
-use Rattle.feed_book.specs.Sound.{with_id, IsBefore, AreApart}
+use Rattle.feed_book.specs.Sound.{with_id, AreApart}
 use Rattle.feed_book.proofs.Timeline.{apart-filter, apart-placed, clear_from_none, with_id-placed, with_id-cons_other, with_id-without_same, with_id-without_other, others-without, none_of_id, later_ids}
 use Rattle.feed_book.proofs.Faults.{none_else, none_map, within_from}
 use Rattle.feed_book.proofs.LastWords.{standing_is, standing-word, last_word-push}
