@@ -1,9 +1,9 @@
 -- The book as a list of services: the one that is found, and the book after an accepted edit.
-use Rattle.std.proofs.Common.{◌≡◌, ℕ, zero, suc, ◌+◌, ◌<◌, ◌≤◌, Bool, true, false, not, cond, ◌&&◌, ◌||◌, List, [], ◌∷◌, ◌++◌, length, map, take, get_or, set, Option, Some, None, eqb, refl, sym, ◌∙◌, ap, subst, arith, ◌⊎◌, inl, inr}
+use Rattle.std.proofs.Common.{◌≡◌, ℕ, zero, suc, ◌+◌, ◌<◌, ◌≤◌, Bool, true, false, not, cond, ◌&&◌, ◌||◌, List, [], ◌∷◌, ◌++◌, length, map, take, get_or, set, Option, Some, None, eqb, refl, sym, ◌∙◌, ap, subst, arith, inl, inr}
 use Rattle.std.specs.List.{AllByRecursion, find, position_or_len, list_any}
 use Rattle.std.specs.Prelude.{Result, Ok, Err, IfOk, OnErr}
 use Rattle.std.proofs.lemmas.List.{take_all}
-use Rattle.std.proofs.lemmas.Bool.{cases_Bool, cond-true, cond-false, eqb-true, eqb-false, ne_eqb, and_parts, and_left, or_left, or_parts, and_from, eq-eqb}
+use Rattle.std.proofs.lemmas.Bool.{cases_Bool, cond-true, cond-false, eqb-true, ne_eqb, and_parts, and_left, or_left}
 use Rattle.mux_config.specs.declared.mux.MuxService.{MuxService}
 use Rattle.mux_config.specs.Sound.{DoAscend}
 use Rattle.guide_model.specs.declared.guide.ServiceGuide.{ServiceGuide}
@@ -15,7 +15,7 @@ use Rattle.feed_book.specs.Kept.{Kept}
 use Rattle.feed_book.specs.Standing.{standing, is_done}
 use Rattle.feed_book.specs.Replies.{reply_over, service_of}
 use Rattle.feed_book.specs.Changes.{kept_with, is_owned, found_reply, reply_in, book_with, services_of}
-use Rattle.feed_book.specs.Books.{owns, reply_to, kept_after, book_after, Stands}
+use Rattle.feed_book.specs.Books.{reply_to, kept_after, book_after, Stands}
 use Rattle.feed_book.specs.Sound.{AreApart, AreAscending}
 use Rattle.feed_book.specs.Limits.{IsServiceWithin, IsGuideWithin}
 use Rattle.feed_book.proofs.LastWords.{AreOnce}

@@ -1,12 +1,11 @@
-use Rattle.std.proofs.Common.{◌≡◌, ℕ, ◌+◌, ◌<◌, List, length, map, None, Some, refl, sym, ◌∙◌, ap, subst, arith}
+use Rattle.std.proofs.Common.{◌≡◌, ◌+◌, List, map, None, Some, refl, sym, ◌∙◌, ap, subst, arith}
 use Rattle.guide_model.specs.declared.event.Event.{Event}
 use Rattle.feed_book.specs.declared.fresh.Fresh.{Fresh}
 use Rattle.feed_book.specs.Readings.{event_of}
 use Rattle.feed_book.specs.Replies.{off_day, item_fault}
-use Rattle.feed_book.specs.Changes.{puts}
 use Rattle.feed_book.specs.Days.{event_puts}
 use Rattle.feed_book.specs.Sound.{AreApart}
-use Rattle.feed_book.specs.Slots.{slot_of, AreIndexed}
+use Rattle.feed_book.specs.Slots.{slot_of}
 use Rattle.feed_book.proofs.IndexLemmas.{rising_starts, rising_ends}
 use Rattle.feed_book.proofs.Indexed.{early_slots, small_slots, few_slots, fault_is, indexed-put}
 use Rattle.feed_book.proofs.DaySteps.{so_far, faulty, fine_on, so_far_more, so_far_all, fresh_more, all_fresh, no_fault, puttable_all, event_puts-map, off-index, indexed-off, indexed-by}

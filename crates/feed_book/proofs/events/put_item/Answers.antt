@@ -1,8 +1,7 @@
-use Rattle.std.proofs.Common.{◌≡◌, List, length, map, None, Some, sym, ◌∙◌, ap, arith}
+use Rattle.std.proofs.Common.{◌≡◌, List, map, None, Some, sym, ◌∙◌, ap}
 use Rattle.feed_book.specs.Replies.{put_reply, put}
 use Rattle.guide_model.specs.declared.event.Event.{Event}
 use Rattle.feed_book.specs.Slots.{slot_of}
-use Rattle.feed_book.specs.Readings.{event_of}
 use Rattle.feed_book.proofs.IndexLemmas.{rising_starts, rising_ends}
 use Rattle.feed_book.proofs.Indexed.{early_slots, small_slots, few_slots, fault_is, indexed-put}
 use Rattle.feed_book.proofs.events.put_item.Goals as goal
