@@ -62,168 +62,162 @@ fn parts(mux: &Mux) -> u64 {
     parts
 }
 
+// Descriptions, each behind the numbers of what it gives. A slash stands for LF.
+const DESCRIPTIONS: &str =
+    "0 1 0|network,40,Demo/stream,1,1/service,101,1,1,256,257,Acme,One/end/\n\
+4 1 0|end/\n\
+4 4 0|\n\
+4 2 0|network,40,Demo/end\n\
+4 2 0|network,40,Demo/service,101,1,1,256,257,Acme,One/end/\n\
+4 3 0|network,40,Demo/stream,1,1/end/\n\
+4 4 0|network,40,Demo/stream,1,1/service,101,1,1,256,257,Acme,One/\n\
+4 1 0|stream,1,1/service,101,1,1,256,257,Acme,One/end/\n\
+3 4 3|network,40,Demo/stream,1,1/service,101,1,1,256,257,Acme,One/service,101,1,1,256,257,Acme,One/end/\n\
+1 1 0|network,40/end/\n\
+1 3 0|/#/network,40/\n\
+1 1 0|\u{FEFF}#/\n\
+1 1 0|\u{FEFF}/end/\n\
+1 1 0|end,/\n\
+1 1 0|END/\n\
+1 1 0| end/\n\
+4 1 0|\"end\"/\n\
+1 1 0|e\u{7F}nd/";
+
+// Lines, each as the whole of a text.
+const LINES: &str = "4 4 0|network,65535,N\n\
+2 1 0|network,65536,N\n\
+1 1 0|network,x,N\n\
+2 1 0|network,65536,\n\
+2 1 0|network,1,\n\
+1 1 0|network,,N\n\
+1 1 0|network,0000000001,N\n\
+4 4 0|network,000000001,N\n\
+4 4 0|network,1,\"a,b\"\n\
+4 4 0|stream,65535,65535\n\
+2 1 0|stream,65536,0\n\
+2 1 0|stream,0,65536\n\
+1 1 0|stream,65536,x\n\
+1 1 0|stream,0,-1\n\
+4 4 0|cable,99999999,255,9999999,15,15\n\
+2 1 0|cable,100000000,255,9999999,15,15\n\
+2 1 0|cable,99999999,256,9999999,15,15\n\
+2 1 0|cable,99999999,255,10000000,15,15\n\
+2 1 0|cable,99999999,255,9999999,16,15\n\
+2 1 0|cable,99999999,255,9999999,15,16\n\
+1 1 0|cable,100000000,255,9999999,15,x\n\
+1 1 0|cable,1,2,3,4\n\
+4 4 0|start,1970-01-01T00:00:00Z\n\
+2 1 0|start,1970-01-01\n\
+2 1 0|start,\n\
+2 1 0|start,2038-04-23T00:00:00Z\n\
+1 1 0|start\n\
+4 4 0|quota,1\n\
+4 4 0|quota,10000\n\
+2 1 0|quota,0\n\
+2 1 0|quota,10001\n\
+1 1 0|quota,ten\n\
+1 1 0|quota,1,1\n\
+2 1 0|component,1,2,40,\n\
+1 1 0|component,1,x,40,\n\
+4 4 0|service,1,1,0,32,32,,N\n\
+4 4 0|service,65535,16,255,8190,8191,P,N\n\
+2 1 0|service,0,1,0,32,32,,N\n\
+2 1 0|service,65536,1,0,32,32,,N\n\
+2 1 0|service,1,0,0,32,32,,N\n\
+2 1 0|service,1,17,0,32,32,,N\n\
+2 1 0|service,1,1,256,32,32,,N\n\
+2 1 0|service,1,1,0,31,32,,N\n\
+2 1 0|service,1,1,0,8191,32,,N\n\
+2 1 0|service,1,1,0,32,31,,N\n\
+2 1 0|service,1,1,0,32,8192,,N\n\
+2 1 0|service,1,1,0,32,32,,\n\
+1 1 0|service,1,1,0,32,x,,\n\
+1 1 0|service,1,1,0,32,32,N";
+
+// A description of two services, without its end.
+const TWO_SERVICES: &str =
+    "network,40,Demo/stream,1,1/cable,1,2,3,4,5/start,1970-01-01T00:00:01Z/quota,7/service,9,1,1,100,100,P,N/service,5,1,1,101,100,P,N/component,9,2,200,/component,5,2,201,deu/component,5,2,200,/";
+
+// Lines behind these, and what the description with such a line and an end gives.
+const LINES_MORE: &str = "0 2 3|\n\
+3 11 1|network,1,N\n\
+2 11 0|network,1,\n\
+3 11 2|stream,1,1\n\
+3 11 3|cable,1,1,1,1,1\n\
+3 11 4|start,1970-01-01T00:00:00Z\n\
+2 11 0|start,\n\
+3 11 5|quota,8\n\
+3 11 6|service,9,1,1,300,300,P,N\n\
+3 11 7|service,5,1,1,100,300,P,N\n\
+3 11 6|service,6,1,1,100,300,P,N\n\
+3 11 8|service,6,1,1,200,300,P,N\n\
+3 11 9|service,6,1,1,201,300,P,N\n\
+0 3 3|service,6,1,1,202,200,P,N\n\
+3 11 6|component,9,2,100,\n\
+3 11 7|component,9,2,101,\n\
+3 11 8|component,9,2,200,\n\
+3 11 10|component,5,2,200,\n\
+0 2 4|component,9,2,201,\n\
+2 11 0|component,8,2,200,\n\
+0 2 4|component,9,2,202,deu\n\
+2 11 0|component,9,2,202,de\n\
+2 11 0|component,9,2,202,Deu\n\
+2 11 0|component,9,2,202,deut\n\
+2 11 0|component,9,2,31,\n\
+2 11 0|component,9,2,8191,\n\
+2 11 0|component,9,256,202,";
+
+// Appends a text, in which a slash stands for LF.
+fn append(bytes: &mut Vec<u8>, text: &str) -> Result<(), AllocError> {
+    for b in text.as_bytes() {
+        bytes.push(if *b == b'/' { b'\n' } else { *b })?;
+    }
+    Ok(())
+}
+
+// The numbers of what a description gives, as text.
+fn numbers(alloc: Global, found: (u64, u64, u64)) -> Result<Vec<u8>, AllocError> {
+    let mut text = Vec::new(alloc);
+    text.extend_from_slice(found.0.to_string(alloc)?.as_bytes())?;
+    text.push(b' ')?;
+    text.extend_from_slice(found.1.to_string(alloc)?.as_bytes())?;
+    text.push(b' ')?;
+    text.extend_from_slice(found.2.to_string(alloc)?.as_bytes())?;
+    Ok(text)
+}
+
+// Whether the text of a case, between two others, gives its numbers, in pieces of this size.
+fn gives(
+    alloc: Global,
+    before: &str,
+    case: &str,
+    behind: &str,
+    piece: usize,
+) -> Result<bool, AllocError> {
+    let Some((wanted, text)) = case.split_once('|') else {
+        return Ok(false);
+    };
+    let mut bytes = Vec::new(alloc);
+    append(&mut bytes, before)?;
+    append(&mut bytes, text)?;
+    append(&mut bytes, behind)?;
+    let found = numbers(alloc, outcome(alloc, &bytes, piece, 99)?)?;
+    Ok(found.as_slice() == wanted.as_bytes())
+}
+
 #[test]
 fn first_faults(rt: HostRuntime) -> Result<(), Fail> {
     let alloc = rt.alloc();
-    for (text, kind, line, earlier) in [
-        (
-            "network,40,Demo\nstream,1,1\nservice,101,1,1,256,257,Acme,One\nend\n",
-            0,
-            1,
-            0,
-        ),
-        ("end\n", 4, 1, 0),
-        ("", 4, 4, 0),
-        ("network,40,Demo\nend", 4, 2, 0),
-        (
-            "network,40,Demo\nservice,101,1,1,256,257,Acme,One\nend\n",
-            4,
-            2,
-            0,
-        ),
-        ("network,40,Demo\nstream,1,1\nend\n", 4, 3, 0),
-        (
-            "network,40,Demo\nstream,1,1\nservice,101,1,1,256,257,Acme,One\n",
-            4,
-            4,
-            0,
-        ),
-        (
-            "stream,1,1\nservice,101,1,1,256,257,Acme,One\nend\n",
-            4,
-            1,
-            0,
-        ),
-        (
-            "network,40,Demo\nstream,1,1\nservice,101,1,1,256,257,Acme,One\nservice,101,1,1,256,257,Acme,One\nend\n",
-            3,
-            4,
-            3,
-        ),
-        ("network,40\nend\n", 1, 1, 0),
-        ("\n#\nnetwork,40\n", 1, 3, 0),
-        ("\u{FEFF}#\n", 1, 1, 0),
-        ("\u{FEFF}\nend\n", 1, 1, 0),
-        ("end,\n", 1, 1, 0),
-        ("END\n", 1, 1, 0),
-        (" end\n", 1, 1, 0),
-        ("\"end\"\n", 4, 1, 0),
-        ("e\u{7F}nd\n", 1, 1, 0),
-    ] {
+    for case in DESCRIPTIONS.split('\n') {
         for piece in [1, 7, 4096] {
-            assert_eq!(rt;
-                outcome(alloc, text.as_bytes(), piece, 99)?,
-                (kind, line, earlier)
-            );
+            assert!(rt; gives(alloc, "", case, "", piece)?, "{case}");
         }
     }
-    Ok(())
-}
-
-#[test]
-fn fields_outside(rt: HostRuntime) -> Result<(), Fail> {
-    let alloc = rt.alloc();
-    for (text, kind) in [
-        ("network,65535,N", 4),
-        ("network,65536,N", 2),
-        ("network,x,N", 1),
-        ("network,65536,", 2),
-        ("network,1,", 2),
-        ("network,,N", 1),
-        ("network,0000000001,N", 1),
-        ("network,000000001,N", 4),
-        ("network,1,\"a,b\"", 4),
-        ("stream,65535,65535", 4),
-        ("stream,65536,0", 2),
-        ("stream,0,65536", 2),
-        ("stream,65536,x", 1),
-        ("stream,0,-1", 1),
-        ("cable,99999999,255,9999999,15,15", 4),
-        ("cable,100000000,255,9999999,15,15", 2),
-        ("cable,99999999,256,9999999,15,15", 2),
-        ("cable,99999999,255,10000000,15,15", 2),
-        ("cable,99999999,255,9999999,16,15", 2),
-        ("cable,99999999,255,9999999,15,16", 2),
-        ("cable,100000000,255,9999999,15,x", 1),
-        ("cable,1,2,3,4", 1),
-        ("start,1970-01-01T00:00:00Z", 4),
-        ("start,1970-01-01", 2),
-        ("start,", 2),
-        ("start,2038-04-23T00:00:00Z", 2),
-        ("start", 1),
-        ("quota,1", 4),
-        ("quota,10000", 4),
-        ("quota,0", 2),
-        ("quota,10001", 2),
-        ("quota,ten", 1),
-        ("quota,1,1", 1),
-        ("component,1,2,40,", 2),
-        ("component,1,x,40,", 1),
-        ("service,1,1,0,32,32,,N", 4),
-        ("service,65535,16,255,8190,8191,P,N", 4),
-        ("service,0,1,0,32,32,,N", 2),
-        ("service,65536,1,0,32,32,,N", 2),
-        ("service,1,0,0,32,32,,N", 2),
-        ("service,1,17,0,32,32,,N", 2),
-        ("service,1,1,256,32,32,,N", 2),
-        ("service,1,1,0,31,32,,N", 2),
-        ("service,1,1,0,8191,32,,N", 2),
-        ("service,1,1,0,32,31,,N", 2),
-        ("service,1,1,0,32,8192,,N", 2),
-        ("service,1,1,0,32,32,,", 2),
-        ("service,1,1,0,32,x,,", 1),
-        ("service,1,1,0,32,32,N", 1),
-    ] {
-        let line = if kind == 4 { 4 } else { 1 };
-        assert_eq!(rt; outcome(alloc, text.as_bytes(), 4096, 99)?, (kind, line, 0));
+    for case in LINES.split('\n') {
+        assert!(rt; gives(alloc, "", case, "", 4096)?, "{case}");
     }
-    Ok(())
-}
-
-// A description of three services and one line more.
-fn with_line(alloc: Global, line: &str) -> Result<(u64, u64, u64), AllocError> {
-    let mut text = Vec::from_slice(
-        alloc,
-        b"network,40,Demo\nstream,1,1\ncable,1,2,3,4,5\nstart,1970-01-01T00:00:01Z\nquota,7\nservice,9,1,1,100,100,P,N\nservice,5,1,1,101,100,P,N\ncomponent,9,2,200,\ncomponent,5,2,201,deu\ncomponent,5,2,200,\n",
-    )?;
-    text.extend_from_slice(line.as_bytes())?;
-    text.extend_from_slice(b"\nend\n")?;
-    outcome(alloc, &text, 4096, 99)
-}
-
-#[test]
-fn one_line_more(rt: HostRuntime) -> Result<(), Fail> {
-    let alloc = rt.alloc();
-    for (line, kind, number, earlier) in [
-        ("", 0, 2, 3),
-        ("network,1,N", 3, 11, 1),
-        ("network,1,", 2, 11, 0),
-        ("stream,1,1", 3, 11, 2),
-        ("cable,1,1,1,1,1", 3, 11, 3),
-        ("start,1970-01-01T00:00:00Z", 3, 11, 4),
-        ("start,", 2, 11, 0),
-        ("quota,8", 3, 11, 5),
-        ("service,9,1,1,300,300,P,N", 3, 11, 6),
-        ("service,5,1,1,100,300,P,N", 3, 11, 7),
-        ("service,6,1,1,100,300,P,N", 3, 11, 6),
-        ("service,6,1,1,200,300,P,N", 3, 11, 8),
-        ("service,6,1,1,201,300,P,N", 3, 11, 9),
-        ("service,6,1,1,202,200,P,N", 0, 3, 3),
-        ("component,9,2,100,", 3, 11, 6),
-        ("component,9,2,101,", 3, 11, 7),
-        ("component,9,2,200,", 3, 11, 8),
-        ("component,5,2,200,", 3, 11, 10),
-        ("component,9,2,201,", 0, 2, 4),
-        ("component,8,2,200,", 2, 11, 0),
-        ("component,9,2,202,deu", 0, 2, 4),
-        ("component,9,2,202,de", 2, 11, 0),
-        ("component,9,2,202,Deu", 2, 11, 0),
-        ("component,9,2,202,deut", 2, 11, 0),
-        ("component,9,2,31,", 2, 11, 0),
-        ("component,9,2,8191,", 2, 11, 0),
-        ("component,9,256,202,", 2, 11, 0),
-    ] {
-        assert_eq!(rt; with_line(alloc, line)?, (kind, number, earlier));
+    for case in LINES_MORE.split('\n') {
+        assert!(rt; gives(alloc, TWO_SERVICES, case, "/end/", 4096)?, "{case}");
     }
     Ok(())
 }
