@@ -5,3 +5,6 @@ pub mod LineBack
 pub mod CleanRows
 pub mod RowBack
 pub mod OutcomeBack
+pub mod EntryRows
+pub mod EntryFields
+pub mod EntryBack

@@ -34,6 +34,9 @@ low n le = let k : n < 1000000000 = omega arith in let b : 1000000000 < 2 ^ 64 =
 pub digits_of : (n : ℕ) → IsNumeralNumber n → list_all is_digit (decimal n) ≡ true
 digits_of n le = digits_decimal own n (low n le)
 
+pub decimal_some : (n : ℕ) → IsNumeralNumber n → 0 < length (decimal n)
+decimal_some n le = decimal_nonempty n (low n le)
+
 pub is_numeral_back : (n : ℕ) → IsNumeralNumber n → is_numeral (decimal n) ≡ true
 is_numeral_back n le =
     let digits = digits_of n le in

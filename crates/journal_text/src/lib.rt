@@ -19,6 +19,6 @@ mod tests;
 
 pub use entry::write_entry;
 pub use kept::read_outcome;
-pub use laws::{outcomes_read_back, rows_read_back};
+pub use laws::{entries_read_back, outcomes_read_back, rows_read_back};
 pub use outcome::write_outcome;
 pub use script::{ScriptItem, next_item};
