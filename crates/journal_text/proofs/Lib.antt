@@ -1,3 +1,10 @@
 pub mod LineFacts
 pub mod WindowFacts
 pub mod ScriptFacts
+pub mod LineBack
+pub mod CleanRows
+pub mod RowBack
+pub mod OutcomeBack
+pub mod EntryRows
+pub mod EntryFields
+pub mod EntryBack

@@ -4,4 +4,5 @@ pub mod Entries
 pub mod Kept
 pub mod Script
 pub mod ScriptReads
+pub mod Back
 mod Rows

@@ -1,5 +1,5 @@
 -- The text of an outcome, as an outcome line has it behind `=,`, and its fields.
-use Rattle.std.specs.Prelude.{ℕ, ◌*◌, ◌<◌, ◌++◌, List, [], ◌∷◌, codes, decimal, flat_map}
+use Rattle.std.specs.Prelude.{ℕ, ◌*◌, ◌<◌, ◌++◌, List, [], ◌∷◌, codes, decimal}
 use Rattle.si_time.specs.Moments.{moment_text}
 use Rattle.feed_book.specs.declared.reply.Field.{Field}
 use Rattle.feed_book.specs.declared.reply.Field.TheVariants.{Start, Duration, Window, Language, Name, Short, Extended, Country, Rating, Genre, Provider, ServiceName, Count, Segment}
@@ -44,10 +44,11 @@ outcome_text (Late at) = codes "late," ++ moment_text at.0
 outcome_text (Published n) = codes "published," ++ decimal n
 outcome_text (Swapped n at) = codes "swapped," ++ decimal n ++ codes "," ++ moment_text at.0
 
--- fields with commas between
+-- fields with commas (44) between
 abbrev pub with_commas : List (List ℕ) → List ℕ
 with_commas [] = []
-with_commas (field ∷ fields) = field ++ flat_map (λ other. codes "," ++ other) fields
+with_commas (field ∷ []) = field
+with_commas (field ∷ other ∷ fields) = field ++ 44 ∷ with_commas (other ∷ fields)
 
 abbrev pub field_fields : Field → List (List ℕ)
 field_fields Start = codes "start" ∷ []

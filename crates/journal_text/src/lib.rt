@@ -8,6 +8,7 @@
 mod edit;
 mod entry;
 mod kept;
+mod laws;
 mod line;
 mod outcome;
 mod script;
@@ -18,5 +19,6 @@ mod tests;
 
 pub use entry::write_entry;
 pub use kept::read_outcome;
+pub use laws::{entries_read_back, outcomes_read_back, rows_read_back};
 pub use outcome::write_outcome;
 pub use script::{ScriptItem, next_item};

@@ -1,0 +1,137 @@
+-- The fields of a command are texts, and those that an edit reads back from.
+use Rattle.std.proofs.Common.{◌≡◌, ◌≢◌, ◌==◌, ◌&&◌, ◌∙◌, ◌<◌, ◌≤◌, ◌++◌, ◌∷◌, [], ℕ, List, Bool, Option, Some, None, refl, sym, ap, true, false, arith, length, map, append-nil, append_assoc}
+use Rattle.std.specs.Prelude.{codes, decimal, flat_map, IfSome}
+use Rattle.std.specs.List.{list_all, AllByRecursion, join_with_byte}
+use Rattle.std.proofs.lemmas.Bool.Decides.{nat_tests}
+use Rattle.std.proofs.lemmas.List.Folds.{list_all-append}
+use Rattle.si_text.specs.Decoding.{IsKept}
+use Rattle.input_lines.specs.Numbers.{is_digit}
+use Rattle.guide_model.specs.declared.event.Genre.{Genre}
+use Rattle.feed_edits.specs.declared.edit.RawRating.{RawRating}
+use Rattle.feed_edits.specs.declared.edit.Item.{Item}
+use Rattle.feed_edits.specs.declared.edit.Edit.{Edit}
+use Rattle.feed_edits.specs.declared.edit.Edit.TheVariants.{Put, Withdraw, Clear, Name, Day}
+use Rattle.feed_edits.specs.Items.{IsShapedItem}
+use Rattle.feed_edits.specs.Heads.{IsShaped}
+use Rattle.feed_edits.specs.Back.{genre_field, genres_field, country_field, rating_field, HasGenreNumbers, HasItemNumbers, HasNumbers}
+use Rattle.feed_edits.specs.Back.{item_fields as item_given, edit_fields as edit_given}
+use Rattle.desk_core.specs.declared.step.Step.{Step}
+use Rattle.desk_core.specs.declared.step.Step.TheVariants.{Edit as edit, Tick, Publish, Swap}
+use Rattle.desk_core.specs.Steps.{IsStepWithin}
+use Rattle.journal_text.specs.Edits.{genre_text, genres_text, country_text, value_text, item_fields, edit_fields, items_of}
+use Rattle.journal_text.specs.Entries.{step_fields}
+use Rattle.journal_text.specs.Script.{IsShapedStep}
+use Rattle.journal_text.specs.Back.{IsNumeralNumber, IsFront, IsFronted, IsTypedEdit, IsTypedStep, item_texts, edit_texts, item_row, command_row}
+use Rattle.journal_text.proofs.OutcomeBack.{digits_of, decimal_some}
+use Rattle.journal_text.proofs.EntryRows.{is_printing, is_written, all_more, printing_kept, digits_printing, shape_written, written_kept, moment_written, number_kept}
+
+both : (a b : Bool) → (a && b) ≡ true → (a ≡ true) × (b ≡ true)
+both true b e = (refl, e)
+both false b e = cc e
+
+-- ---- the fields are those that an edit reads back from
+
+genre_same : (g : Genre) → genre_text g ≡ genre_field g
+genre_same g =
+    append_assoc (decimal g.level1 ++ codes "." ++ decimal g.level2) (46 ∷ []) (decimal g.user)
+    ∙ append_assoc (decimal g.level1 ++ codes ".") (decimal g.level2) (46 ∷ decimal g.user)
+    ∙ append_assoc (decimal g.level1) (46 ∷ []) (decimal g.level2 ++ 46 ∷ decimal g.user)
+
+genres_join : (g : Genre) (gs : List Genre) → genre_text g ++ flat_map (λ k. codes " " ++ genre_text k) gs ≡ join_with_byte 32 (map genre_field (g ∷ gs))
+genres_join g [] = append-nil (genre_text g) ∙ genre_same g
+genres_join g (k ∷ gs) =
+    ap (λ (l : List ℕ). l ++ 32 ∷ (genre_text k ++ flat_map (λ j. codes " " ++ genre_text j) gs)) (genre_same g)
+    ∙ ap (λ (l : List ℕ). genre_field g ++ 32 ∷ l) (genres_join k gs)
+
+genres_same : (gs : List Genre) → genres_text gs ≡ genres_field gs
+genres_same [] = refl
+genres_same (g ∷ gs) = genres_join g gs
+
+country_same : (r : Option RawRating) → country_text r ≡ country_field r
+country_same None = refl
+country_same (Some r) = refl
+
+value_same : (r : Option RawRating) → value_text r ≡ rating_field r
+value_same None = refl
+value_same (Some r) = refl
+
+pub item_same : (item : Item) → item_fields item ≡ item_given item
+item_same item = rw (country_same item.rating, value_same item.rating, genres_same item.genres) refl
+
+pub edit_same : (e : Edit) → edit_fields e ≡ edit_given e
+edit_same (Put service item) = ap (λ (l : List (List ℕ)). codes "put" ∷ decimal service ∷ l) (item_same item)
+edit_same (Withdraw service event) = refl
+edit_same (Clear service) = refl
+edit_same (Name service provider name) = refl
+edit_same (Day service day items) = refl
+
+-- ---- they are texts
+
+genre_printing : (g : Genre) → HasGenreNumbers g → list_all is_printing (genre_field g) ≡ true
+genre_printing g h =
+    let a = digits_printing (decimal g.level1) (digits_of g.level1 (let k = h.level1 in omega arith)) in
+    let b = digits_printing (decimal g.level2) (digits_of g.level2 (let k = h.level2 in omega arith)) in
+    let u = digits_printing (decimal g.user) (digits_of g.user (let k = h.user in omega arith)) in
+    list_all-append is_printing (decimal g.level1) (46 ∷ (decimal g.level2 ++ 46 ∷ decimal g.user))
+    ∙ rw (a, list_all-append is_printing (decimal g.level2) (46 ∷ decimal g.user), b, u) refl
+
+genres_printing : (gs : List Genre) → AllByRecursion HasGenreNumbers gs → list_all is_printing (genres_field gs) ≡ true
+genres_printing [] h = refl
+genres_printing (g ∷ []) h = genre_printing g h.0
+genres_printing (g ∷ k ∷ gs) h =
+    list_all-append is_printing (genre_field g) (32 ∷ genres_field (k ∷ gs)) ∙ rw (genre_printing g h.0, genres_printing (k ∷ gs) h.1) refl
+
+genres_kept : (gs : List Genre) → AllByRecursion HasGenreNumbers gs → IsKept (genres_text gs)
+genres_kept gs h = rw (genres_same gs) (printing_kept (genres_field gs) (genres_printing gs h))
+
+small_kept : (n high : ℕ) → n ≤ high → high ≤ 65535 → IsKept (decimal n)
+small_kept n high le most = number_kept n (omega arith)
+
+value_kept : (r : Option RawRating) → IfSome r (λ x. x.value ≤ 255) → IsKept (value_text r)
+value_kept None h = written_kept [] refl
+value_kept (Some r) h = small_kept r.value 255 h (omega arith)
+
+pub item_kept : (item : Item) → IsShapedItem item → HasItemNumbers item → AllByRecursion IsKept (item_texts item) → AllByRecursion IsKept (item_fields item)
+item_kept item h k t =
+    (small_kept item.id 65535 k.id (omega arith), (written_kept item.start.0 (shape_written (codes "dddd-dd-ddTdd:dd:ddZ") item.start.0 refl h.start), (written_kept item.length.0 (shape_written (codes "dd:dd:dd") item.length.0 refl h.length), (t.0, (t.1.0, (t.1.1.0, (t.1.1.1.0, (t.1.1.1.1.0, (value_kept item.rating k.rating, (genres_kept item.genres k.genres, tt))))))))))
+
+word_kept : (word : List ℕ) → list_all is_written word ≡ true → IsKept word
+word_kept = written_kept
+
+pub item_row_kept : (item : Item) → IsShapedItem item → HasItemNumbers item → AllByRecursion IsKept (item_texts item) → AllByRecursion IsKept (item_row item)
+item_row_kept item h k t = (word_kept (codes "item") refl, item_kept item h k t)
+
+edit_kept : (e : Edit) → IsShaped e → IsTypedEdit e → AllByRecursion IsKept (edit_fields e)
+edit_kept (Put service item) h k = (word_kept (codes "put") refl, (small_kept service 65535 k.numbers.0 (omega arith), item_kept item h k.numbers.1 k.texts))
+edit_kept (Withdraw service event) h k = (word_kept (codes "withdraw") refl, (small_kept service 65535 k.numbers.0 (omega arith), (small_kept event 65535 k.numbers.1 (omega arith), tt)))
+edit_kept (Clear service) h k = (word_kept (codes "clear") refl, (small_kept service 65535 k.numbers (omega arith), tt))
+edit_kept (Name service provider name) h k = (word_kept (codes "name") refl, (small_kept service 65535 k.numbers (omega arith), k.texts))
+edit_kept (Day service day items) h k =
+    (word_kept (codes "day") refl, (small_kept service 65535 k.numbers.0 (omega arith), (written_kept day.0 (shape_written (codes "dddd-dd-dd") day.0 refl h.day), (small_kept (length items) 2000 h.count (omega arith), tt))))
+
+step_kept : (s : Step) → IsShapedStep s → IsStepWithin s → IsTypedStep s → AllByRecursion IsKept (step_fields s)
+step_kept (edit feed e) h w k = (word_kept (codes "feed") refl, (small_kept feed 255 k.0 (omega arith), edit_kept e h k.1))
+step_kept (Tick at) h w k = (word_kept (codes "tick") refl, (written_kept _ (moment_written at.0 w), tt))
+step_kept Publish h w k = (word_kept (codes "publish") refl, tt)
+step_kept Swap h w k = (word_kept (codes "swap") refl, tt)
+
+pub command_kept : (who : ℕ) (s : Step) → IsNumeralNumber who → IsShapedStep s → IsStepWithin s → IsTypedStep s → AllByRecursion IsKept (command_row who s)
+command_kept who s n h w k = (number_kept who n, step_kept s h w k)
+
+-- ---- a number may begin a line
+
+digit_front : (b : ℕ) → is_digit b ≡ true → ((b == 35) ≡ false) × ((b == 0xEF) ≡ false)
+digit_front b h = (grind (arith, nat_tests), grind (arith, nat_tests))
+
+digits_front : (xs : List ℕ) → 0 < length xs → list_all is_digit xs ≡ true → IsFront xs
+digits_front [] some h = absurd (omega arith)
+digits_front (x ∷ xs) some h = digit_front x (both (is_digit x) (list_all is_digit xs) h).0
+
+number_front : (n : ℕ) → IsNumeralNumber n → IsFront (decimal n)
+number_front n h = digits_front (decimal n) (decimal_some n h) (digits_of n h)
+
+pub command_front : (who : ℕ) (s : Step) → IsNumeralNumber who → IsFronted (command_row who s)
+command_front who (edit feed e) h = number_front who h
+command_front who (Tick at) h = number_front who h
+command_front who Publish h = number_front who h
+command_front who Swap h = number_front who h

@@ -1,0 +1,208 @@
+-- The lines of an entry are rows.
+use Rattle.std.proofs.Common.{◌≡◌, ◌≢◌, ◌==◌, ◌&&◌, ◌∙◌, ◌<◌, ◌≤◌, ◌+◌, ◌*◌, ◌++◌, ◌∷◌, [], ℕ, zero, suc, List, Bool, Option, Some, None, refl, sym, ap, subst, true, false, inl, inr, arith, length, map, append-nil, append_assoc, lit<}
+use Rattle.std.specs.Prelude.{codes, decimal, flat_map, nat_le, nat_lt, not, IfSome, if◌then◌else◌}
+use Rattle.std.specs.Char.{is_ascii_digit}
+use Rattle.std.specs.List.{list_all, list_any, AllByRecursion, join_with_byte}
+use Rattle.std.proofs.lemmas.Bool.{cases_Bool, ne_eqb, eqb-true}
+use Rattle.std.proofs.lemmas.Bool.Decides.{nat_tests}
+use Rattle.std.proofs.lemmas.List.Folds.{list_all-append}
+use Rattle.csv.specs.Writing.{default_writer, field_text, fields_text, needs_byte, row_body}
+use Rattle.si_time.specs.Readings.{has_shape, moment_in}
+use Rattle.si_time.specs.Moments.{moment_text}
+use Rattle.si_text.specs.Decoding.{IsKept}
+use Rattle.input_lines.specs.Numbers.{is_digit}
+use Rattle.input_lines.proofs.CleanText.{is_plain_char, IsClean, AllClean}
+use Rattle.input_lines.proofs.CleanLines.{clean_from, kept_from}
+use Rattle.si_time.proofs.TextFacts.{moment_in-only, moment_in-moment_text}
+use Rattle.feed_book.specs.declared.reply.Field.{Field}
+use Rattle.feed_book.specs.declared.reply.Field.TheVariants.{Start, Duration, Window, Language, Name, Short, Extended, Country, Rating, Genre, Provider, ServiceName, Count, Segment}
+use Rattle.feed_book.specs.declared.reply.DayFault.{DayFault}
+use Rattle.feed_book.specs.declared.reply.DayFault.TheVariants.{Range as BadField, Overlap as Overlaps}
+use Rattle.feed_book.specs.declared.reply.Reply.TheVariants.{Done, Foreign, Range, Overlap, Member}
+use Rattle.desk_core.specs.declared.step.Outcome.{Outcome}
+use Rattle.desk_core.specs.declared.step.Outcome.TheVariants.{Edited, Ticked, Late, Published, Swapped}
+use Rattle.journal_text.specs.Edits.{line_text}
+use Rattle.journal_text.specs.Outcomes.{field_fields, day_fault_fields, outcome_fields, outcome_text, with_commas}
+use Rattle.journal_text.specs.Back.{IsNumeralNumber, HasFieldNumber, HasDayFaultNumbers, IsFronted, IsReadableOutcome, row_line, outcome_row}
+use Rattle.journal_text.proofs.OutcomeBack.{digits_of, outcome_is}
+use Rattle.journal_text.proofs.CleanRows.{clean_append, clean_none, clean_byte}
+
+both : (a b : Bool) → (a && b) ≡ true → (a ≡ true) × (b ≡ true)
+both true b e = (refl, e)
+both false b e = cc e
+
+-- ---- bytes that stand for themselves
+
+-- a printing byte of ASCII
+abbrev pub is_printing : ℕ → Bool
+is_printing b = nat_le 32 b && nat_le b 126
+
+plain_printing : (b : ℕ) → is_printing b ≡ true → (b < 128) × (is_plain_char b ≡ true)
+plain_printing b h = (grind (arith, nat_tests), grind (arith, nat_tests))
+
+pub printing_clean : (xs : List ℕ) → list_all is_printing xs ≡ true → IsClean xs
+printing_clean [] h = clean_none
+printing_clean (x ∷ xs) h =
+    let (p, q) = both (is_printing x) (list_all is_printing xs) h in
+    let b = plain_printing x p in
+    clean_append (x ∷ []) xs (clean_byte x b.0 b.1) (printing_clean xs q)
+
+pub printing_kept : (xs : List ℕ) → list_all is_printing xs ≡ true → IsKept xs
+printing_kept xs h = kept_from xs (printing_clean xs h)
+
+digit_printing : (b : ℕ) → is_digit b ≡ true → is_printing b ≡ true
+digit_printing b h = grind (arith, nat_tests)
+
+pub digits_printing : (xs : List ℕ) → list_all is_digit xs ≡ true → list_all is_printing xs ≡ true
+digits_printing [] h = refl
+digits_printing (x ∷ xs) h =
+    let (p, q) = both (is_digit x) (list_all is_digit xs) h in
+    rw (digit_printing x p) (digits_printing xs q)
+
+-- a byte that no field is quoted for
+abbrev pub is_written : ℕ → Bool
+is_written b = nat_le 45 b && nat_le b 126
+
+written_printing : (b : ℕ) → is_written b ≡ true → is_printing b ≡ true
+written_printing b h = grind (arith, nat_tests)
+
+digit_written : (b : ℕ) → is_digit b ≡ true → is_written b ≡ true
+digit_written b h = grind (arith, nat_tests)
+
+pub all_more : (P Q : ℕ → Bool) → ((b : ℕ) → P b ≡ true → Q b ≡ true) → (xs : List ℕ) → list_all P xs ≡ true → list_all Q xs ≡ true
+all_more P Q f [] h = refl
+all_more P Q f (x ∷ xs) h =
+    let (p, q) = both (P x) (list_all P xs) h in
+    rw (f x p) (all_more P Q f xs q)
+
+pub digits_written : (xs : List ℕ) → list_all is_digit xs ≡ true → list_all is_written xs ≡ true
+digits_written = all_more is_digit is_written digit_written
+
+-- bytes of a shape of such bytes
+shape_byte : (s b : ℕ) → is_written s ≡ true → (if s == 100 then is_ascii_digit b else b == s) ≡ true → is_written b ≡ true
+shape_byte s b p h = elim (cases_Bool (s == 100)) [
+  | inl e ↦ (let d : is_ascii_digit b ≡ true = rw e at h in grind (arith, nat_tests))
+  | inr e ↦ (let d : (b == s) ≡ true = rw e at h in let same : b ≡ s = eqb-true b s d in rw same p)
+]
+
+pub shape_written : (shape xs : List ℕ) → list_all is_written shape ≡ true → has_shape shape xs ≡ true → list_all is_written xs ≡ true
+shape_written [] [] p h = refl
+shape_written [] (x ∷ xs) p h = cc h
+shape_written (s ∷ shape) [] p h = cc h
+shape_written (s ∷ shape) (x ∷ xs) p h =
+    let (a, b) = both (is_written s) (list_all is_written shape) p in
+    let (c, d) = both (if s == 100 then is_ascii_digit x else x == s) (has_shape shape xs) h in
+    rw (shape_byte s x a c) (shape_written shape xs b d)
+
+pub written_kept : (xs : List ℕ) → list_all is_written xs ≡ true → IsKept xs
+written_kept xs h = printing_kept xs (all_more is_written is_printing written_printing xs h)
+
+pub moment_written : (t : ℕ) → t < 65536 * 86400 → list_all is_written (moment_text t) ≡ true
+moment_written t h = shape_written (codes "dddd-dd-ddTdd:dd:ddZ") (moment_text t) refl (moment_in-only (moment_text t) t (moment_in-moment_text t h)).shape
+
+pub number_written : (n : ℕ) → IsNumeralNumber n → list_all is_written (decimal n) ≡ true
+number_written n le = digits_written (decimal n) (digits_of n le)
+
+pub number_kept : (n : ℕ) → IsNumeralNumber n → IsKept (decimal n)
+number_kept n le = written_kept (decimal n) (number_written n le)
+
+-- ---- the line of an outcome
+
+abbrev pub all_written : List (List ℕ) → Bool
+all_written fields = list_all (λ (f : List ℕ). list_all is_written f) fields
+
+plain_byte : (b : ℕ) → is_written b ≡ true → needs_byte default_writer b ≡ false
+plain_byte b h =
+    let comma : (b == 44) ≡ false = grind (arith, nat_tests) in
+    let mark : (b == 34) ≡ false = grind (arith, nat_tests) in
+    let cr : (b == 13) ≡ false = grind (arith, nat_tests) in
+    let lf : (b == 10) ≡ false = grind (arith, nat_tests) in
+    rw (comma, mark, cr, lf) refl
+
+plain_text : (xs : List ℕ) → list_all is_written xs ≡ true → list_any (needs_byte default_writer) xs ≡ false
+plain_text [] h = refl
+plain_text (x ∷ xs) h =
+    let (p, q) = both (is_written x) (list_all is_written xs) h in
+    rw (plain_byte x p) (plain_text xs q)
+
+plain_field : (xs : List ℕ) → list_all is_written xs ≡ true → field_text default_writer xs ≡ xs
+plain_field xs h = rw (plain_text xs h) refl
+
+plain_fields : (f : List ℕ) (fs : List (List ℕ)) → all_written (f ∷ fs) ≡ true → fields_text default_writer (f ∷ fs) ≡ 44 ∷ with_commas (f ∷ fs)
+unfolding fields_text
+plain_fields f [] h =
+    let (p, q) = both (list_all is_written f) true h in
+    ap (λ (l : List ℕ). 44 ∷ l) (append-nil (field_text default_writer f) ∙ plain_field f p)
+plain_fields f (g ∷ fs) h =
+    let (p, q) = both (list_all is_written f) (all_written (g ∷ fs)) h in
+    ap (λ (l : List ℕ). 44 ∷ (l ++ fields_text default_writer (g ∷ fs))) (plain_field f p) ∙ ap (λ (l : List ℕ). 44 ∷ (f ++ l)) (plain_fields g fs q)
+
+field_written : (f : Field) → HasFieldNumber f → all_written (field_fields f) ≡ true
+field_written Start h = refl
+field_written Duration h = refl
+field_written Window h = refl
+field_written Language h = refl
+field_written Name h = refl
+field_written Short h = refl
+field_written Extended h = refl
+field_written Country h = refl
+field_written Rating h = refl
+field_written Genre h = refl
+field_written Provider h = refl
+field_written ServiceName h = refl
+field_written (Count n) h = rw (number_written n h) refl
+field_written (Segment n) h = rw (number_written n h) refl
+
+id_written : (n : ℕ) → n ≤ 65535 → list_all is_written (decimal n) ≡ true
+id_written n le = number_written n (omega arith)
+
+fault_written : (fault : DayFault) → HasDayFaultNumbers fault → all_written (day_fault_fields fault) ≡ true
+fault_written (BadField f) h = field_written f h
+fault_written (Overlaps e) h = rw (id_written e h) refl
+
+pub outcome_written : (o : Outcome) → IsReadableOutcome o → all_written (outcome_fields o) ≡ true
+outcome_written (Edited Done) h = refl
+outcome_written (Edited (Foreign s)) h = rw (id_written s h.numbers) refl
+outcome_written (Edited (Range f)) h = field_written f h.numbers
+outcome_written (Edited (Overlap e)) h = rw (id_written e h.numbers) refl
+outcome_written (Edited (Member i fault)) h = rw (id_written i h.numbers.0) (fault_written fault h.numbers.1)
+outcome_written Ticked h = refl
+outcome_written (Late at) h = rw (moment_written at.0 h.window) refl
+outcome_written (Published n) h = rw (number_written n h.numbers) refl
+outcome_written (Swapped n at) h = rw (number_written n h.numbers, moment_written at.0 h.window) refl
+
+some_written : (fs : List (List ℕ)) → fs ≢ [] → all_written fs ≡ true → fields_text default_writer fs ≡ 44 ∷ with_commas fs
+some_written [] n h = absurd (n refl)
+some_written (f ∷ fs) n h = plain_fields f fs h
+
+pub outcome_some : (o : Outcome) → outcome_fields o ≢ []
+outcome_some (Edited Done) = λ e. cc
+outcome_some (Edited (Foreign s)) = λ e. cc
+outcome_some (Edited (Range f)) = λ e. cc
+outcome_some (Edited (Overlap x)) = λ e. cc
+outcome_some (Edited (Member i fault)) = λ e. cc
+outcome_some Ticked = λ e. cc
+outcome_some (Late at) = λ e. cc
+outcome_some (Published n) = λ e. cc
+outcome_some (Swapped n at) = λ e. cc
+
+-- the line of an outcome is the text of the row
+pub outcome_line : (o : Outcome) → IsReadableOutcome o → codes "=," ++ outcome_text o ++ codes "\n" ≡ line_text (outcome_row o)
+outcome_line o h =
+    let body : row_line (outcome_row o) ≡ codes "=," ++ outcome_text o =
+      ap (λ (l : List ℕ). 61 ∷ l) (some_written (outcome_fields o) (outcome_some o) (outcome_written o h)) ∙ ap (λ (l : List ℕ). 61 ∷ 44 ∷ l) (sym (outcome_is o)) in
+    ap (λ (l : List ℕ). l ++ 10 ∷ []) (sym body)
+
+all_written_kept : (fs : List (List ℕ)) → all_written fs ≡ true → AllByRecursion IsKept fs
+all_written_kept [] h = tt
+all_written_kept (f ∷ fs) h = (let (p, q) = both (list_all is_written f) (all_written fs) h in (written_kept f p, all_written_kept fs q))
+
+pub outcome_row_kept : (o : Outcome) → IsReadableOutcome o → AllByRecursion IsKept (outcome_row o)
+outcome_row_kept o h = (written_kept (codes "=") refl, all_written_kept (outcome_fields o) (outcome_written o h))
+
+fronted : (fs : List (List ℕ)) → fs ≢ [] → IsFronted (codes "=" ∷ fs)
+fronted [] n = absurd (n refl)
+fronted (f ∷ fs) n = (refl, refl)
+
+pub outcome_front : (o : Outcome) → IsFronted (outcome_row o)
+outcome_front o = fronted (outcome_fields o) (outcome_some o)

@@ -1,0 +1,189 @@
+-- What is written reads back: rows, outcomes and entries.
+use Rattle.std.specs.Prelude.{◌≡◌, ◌≤◌, ◌+◌, ℕ, true, false, ◌==◌, List, [], ◌∷◌, ◌++◌, length, map, Option, Some, codes, decimal}
+use Rattle.std.specs.List.{AllByRecursion}
+use Rattle.csv.specs.Writing.{default_writer, row_body}
+use Rattle.si_causes.specs.Lines.{raw_lines, shown}
+use Rattle.si_text.specs.Decoding.{IsKept}
+use Rattle.input_lines.specs.Fields.{record_of}
+use Rattle.input_lines.specs.Lines.{is_passed, record_lines}
+use Rattle.feed_book.specs.declared.reply.Field.{Field}
+use Rattle.feed_book.specs.declared.reply.Field.TheVariants.{Start, Duration, Window, Language, Name, Short, Extended, Country, Rating, Genre, Provider, ServiceName, Count, Segment}
+use Rattle.feed_book.specs.declared.reply.DayFault.{DayFault}
+use Rattle.feed_book.specs.declared.reply.DayFault.TheVariants.{Range as BadField, Overlap as Overlaps}
+use Rattle.feed_book.specs.declared.reply.Reply.{Reply}
+use Rattle.feed_book.specs.declared.reply.Reply.TheVariants.{Done, Foreign, Range, Overlap, Member}
+use Rattle.desk_core.specs.declared.step.Outcome.{Outcome}
+use Rattle.desk_core.specs.declared.step.Outcome.TheVariants.{Edited, Ticked, Late, Published, Swapped}
+use Rattle.feed_edits.specs.declared.edit.Item.{Item}
+use Rattle.feed_edits.specs.declared.edit.Edit.{Edit}
+use Rattle.feed_edits.specs.declared.edit.Edit.TheVariants.{Put, Withdraw, Clear, Name as Named, Day}
+use Rattle.feed_edits.specs.Ahead.{Ahead, Tail, Came}
+use Rattle.feed_edits.specs.Back.{HasNumbers}
+use Rattle.desk_core.specs.declared.step.Step.{Step}
+use Rattle.desk_core.specs.declared.step.Step.TheVariants.{Edit as edit, Tick, Publish, Swap}
+use Rattle.desk_core.specs.declared.step.Entry.{Entry}
+use Rattle.desk_core.specs.Steps.{IsStepWithin}
+use Rattle.journal_text.specs.declared.script.ScriptItem.TheVariants.{Step as step, Kept}
+use Rattle.journal_text.specs.Edits.{line_text, item_fields, items_of, country_text}
+use Rattle.journal_text.specs.Entries.{step_fields, step_items, entry_text}
+use Rattle.journal_text.specs.Script.{first_script_item, IsShapedStep}
+use Rattle.journal_text.specs.Outcomes.{outcome_text, outcome_fields, with_commas, IsInWindow}
+use Rattle.journal_text.specs.Kept.{outcome_of_fields}
+
+-- ---- rows
+
+-- the line of these fields, without its LF
+abbrev pub row_line : List (List ℕ) → List ℕ
+row_line fields = row_body default_writer fields
+
+-- a field that a line may begin with: its first byte is neither that of a line that is passed over nor of a byte order mark
+abbrev pub IsFront : List ℕ → Type 0
+IsFront [] = ⊥
+IsFront (b ∷ bs) = ((b == 35) ≡ false) × ((b == 0xEF) ≡ false)
+
+-- at least two fields, of which the first may begin a line
+abbrev pub IsFronted : List (List ℕ) → Type 0
+IsFronted [] = ⊥
+IsFronted (field ∷ []) = ⊥
+IsFronted (field ∷ other ∷ fields) = IsFront field
+
+-- fields that read back from their line
+pub record IsRow (fields : List (List ℕ)) : Type 0 where
+  pub front : IsFronted fields
+  pub kept : AllByRecursion IsKept fields
+  pub short : length (row_line fields) ≤ 16384
+
+-- the lines of a text, as a reader shows them
+abbrev pub shown_lines : List ℕ → List (List ℕ)
+shown_lines text = map shown (raw_lines text)
+
+-- The line of a row comes first, whatever text stands behind it; it is not passed over, and its fields are those of the row.
+pub record ReadsBack (fields : List (List ℕ)) (rest : List ℕ) : Type 0 where
+  pub line : shown_lines (line_text fields ++ rest) ≡ row_line fields ∷ shown_lines rest
+  pub passed : is_passed (row_line fields) ≡ false
+  pub fields_are : record_of (row_line fields) ≡ Some fields
+
+abbrev pub RowsReadBack : Type 0
+RowsReadBack = (fields : List (List ℕ)) → IsRow fields → (rest : List ℕ) → ReadsBack fields rest
+
+-- ---- outcomes
+
+-- a number of at most nine digits
+abbrev pub IsNumeralNumber : ℕ → Type 0
+IsNumeralNumber n = n ≤ 999999999
+
+abbrev pub HasFieldNumber : Field → Type 0
+HasFieldNumber (Count n) = IsNumeralNumber n
+HasFieldNumber (Segment n) = IsNumeralNumber n
+HasFieldNumber Start = Unit {0}
+HasFieldNumber Duration = Unit {0}
+HasFieldNumber Window = Unit {0}
+HasFieldNumber Language = Unit {0}
+HasFieldNumber Name = Unit {0}
+HasFieldNumber Short = Unit {0}
+HasFieldNumber Extended = Unit {0}
+HasFieldNumber Country = Unit {0}
+HasFieldNumber Rating = Unit {0}
+HasFieldNumber Genre = Unit {0}
+HasFieldNumber Provider = Unit {0}
+HasFieldNumber ServiceName = Unit {0}
+
+-- ids and places are numbers of 16 bits
+abbrev pub HasDayFaultNumbers : DayFault → Type 0
+HasDayFaultNumbers (BadField field) = HasFieldNumber field
+HasDayFaultNumbers (Overlaps event) = event ≤ 65535
+
+abbrev pub HasReplyNumbers : Reply → Type 0
+HasReplyNumbers Done = Unit {0}
+HasReplyNumbers (Foreign service) = service ≤ 65535
+HasReplyNumbers (Range field) = HasFieldNumber field
+HasReplyNumbers (Overlap event) = event ≤ 65535
+HasReplyNumbers (Member place fault) = (place ≤ 65535) × HasDayFaultNumbers fault
+
+abbrev pub HasOutcomeNumbers : Outcome → Type 0
+HasOutcomeNumbers (Edited reply) = HasReplyNumbers reply
+HasOutcomeNumbers Ticked = Unit {0}
+HasOutcomeNumbers (Late at) = Unit {0}
+HasOutcomeNumbers (Published n) = IsNumeralNumber n
+HasOutcomeNumbers (Swapped n at) = IsNumeralNumber n
+
+-- an outcome that reads back: its numbers have at most nine digits, and its moment can be written
+pub record IsReadableOutcome (outcome : Outcome) : Type 0 where
+  pub numbers : HasOutcomeNumbers outcome
+  pub window : IsInWindow outcome
+
+-- The text of an outcome is its fields with commas between, and these are read as the outcome.
+abbrev pub OutcomesReadBack : Type 0
+OutcomesReadBack = (outcome : Outcome) → IsReadableOutcome outcome → outcome_of_fields (outcome_fields outcome) ≡ Some outcome
+
+abbrev pub OutcomesAreFields : Type 0
+OutcomesAreFields = (outcome : Outcome) → outcome_text outcome ≡ with_commas (outcome_fields outcome)
+
+-- ---- entries
+
+-- the texts of an item that may be any texts
+abbrev pub item_texts : Item → List (List ℕ)
+item_texts item = item.language ∷ item.name ∷ item.short ∷ item.extended ∷ country_text item.rating ∷ []
+
+abbrev pub edit_texts : Edit → List (List ℕ)
+edit_texts (Put service item) = item_texts item
+edit_texts (Withdraw service event) = []
+edit_texts (Clear service) = []
+edit_texts (Named service provider name) = provider ∷ name ∷ []
+edit_texts (Day service day items) = []
+
+-- an edit as its type has it: numbers of 8 and 16 bits, and texts without a control character
+pub record IsTypedEdit (e : Edit) : Type 0 where
+  pub numbers : HasNumbers e
+  pub texts : AllByRecursion IsKept (edit_texts e)
+  pub items : AllByRecursion (λ (item : Item). AllByRecursion IsKept (item_texts item)) (items_of e)
+
+abbrev pub IsTypedStep : Step → Type 0
+IsTypedStep (edit feed e) = (feed ≤ 255) × IsTypedEdit e
+IsTypedStep (Tick at) = Unit {0}
+IsTypedStep Publish = Unit {0}
+IsTypedStep Swap = Unit {0}
+
+-- the fields of the lines of the items of a day
+abbrev pub item_row : Item → List (List ℕ)
+item_row item = codes "item" ∷ item_fields item
+
+abbrev pub command_row : ℕ → Step → List (List ℕ)
+command_row who s = decimal who ∷ step_fields s
+
+abbrev pub outcome_row : Outcome → List (List ℕ)
+outcome_row outcome = codes "=" ∷ outcome_fields outcome
+
+-- a line of at most 16,384 bytes
+abbrev pub IsShort : List (List ℕ) → Type 0
+IsShort fields = length (row_line fields) ≤ 16384
+
+-- An entry that reads back. Its caller's number and the numbers of its outcome have at most nine digits, its moments can be
+-- written, its starts, durations and days have their shapes, a rating names a country, a day has at most 2,000 items, and
+-- each of its lines has at most 16,384 bytes.
+pub record IsReadable (entry : Entry) : Type 0 where
+  pub who : IsNumeralNumber entry.who
+  pub shaped : IsShapedStep entry.step
+  pub within : IsStepWithin entry.step
+  pub typed : IsTypedStep entry.step
+  pub outcome : IsReadableOutcome entry.outcome
+  pub command_short : IsShort (command_row entry.who entry.step)
+  pub items_short : AllByRecursion (λ (item : Item). IsShort (item_row item)) (step_items entry.step)
+  pub outcome_short : IsShort (outcome_row entry.outcome)
+
+-- what is ahead in a text whose first line has number n, and then this
+abbrev pub ahead_of : ℕ → List ℕ → Tail → Ahead
+ahead_of n text tail = record { rows = record_lines n (shown_lines text); tail = tail }
+
+-- the lines of a command
+abbrev pub command_lines : Step → ℕ
+command_lines s = 1 + length (step_items s)
+
+-- The text of the entry reads as its step, and then as its outcome, whatever stands behind it.
+pub record EntryReadsBack (entry : Entry) (n : ℕ) (rest : List ℕ) (tail : Tail) : Type 0 where
+  pub behind : Ahead
+  pub command : first_script_item false (ahead_of n (entry_text entry ++ rest) tail) ≡ Came (step entry.who entry.step) behind
+  pub kept : first_script_item true behind ≡ Came (Kept (n + command_lines entry.step) entry.outcome) (ahead_of (n + command_lines entry.step + 1) rest tail)
+
+abbrev pub EntriesReadBack : Type 0
+EntriesReadBack = (entry : Entry) → IsReadable entry → (n : ℕ) (rest : List ℕ) (tail : Tail) → EntryReadsBack entry n rest tail

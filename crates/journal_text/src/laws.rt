@@ -1,0 +1,21 @@
+// What is written reads back.
+ghost use Rattle.journal_text.specs.Back.{EntriesReadBack, OutcomesAreFields, OutcomesReadBack, RowsReadBack};
+
+/// The law that a line of fields reads back as the fields, whatever text stands behind it: the fields are texts, at least two,
+/// the first may begin a line, and the line has at most 16,384 bytes.
+pub fn rows_read_back()
+    ensures rows { RowsReadBack }
+{}
+
+/// The law that the text of an outcome is its fields with commas between, and that these are read as the outcome, where its
+/// numbers have at most nine digits and its moment can be written.
+pub fn outcomes_read_back()
+    ensures fields { OutcomesAreFields }
+    ensures read { OutcomesReadBack }
+{}
+
+/// The law that the text of a readable entry reads back, whatever text stands behind it: first its step with its caller, and
+/// then its outcome, with what stands behind it still ahead.
+pub fn entries_read_back()
+    ensures entries { EntriesReadBack }
+{}
