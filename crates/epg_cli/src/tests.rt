@@ -109,8 +109,41 @@ fn words_end<W: Threads + Wait + Sync>(
     })
 }
 
+// Whether a run with so many words of a text, which bars part, ends with `Usage` alone.
+fn is_usage<W: Threads + Wait + Sync>(
+    rt: &W,
+    alloc: Global,
+    count: usize,
+    words: &str,
+) -> Result<bool, AllocError> {
+    let words: Vec<&str> = words.split('|').take(count).collect(alloc)?;
+    let left = words_end(rt, alloc, &words, MUX)?;
+    Ok(
+        left.status == Status::Usage
+            && left.air.taken().is_empty()
+            && left.report.taken() == b"fault: usage\n".as_slice(),
+    )
+}
+
 #[test]
-fn words_and_scripts(rt: HostRuntime) -> Result<(), Fail> {
+fn words_that_are_no_command(rt: HostRuntime) -> Result<(), Fail> {
+    let alloc = rt.alloc();
+    for (count, words) in [
+        (0, ""),
+        (1, "live"),
+        (2, "play|play"),
+        (1, "Play"),
+        (1, "pla"),
+        (1, "play "),
+        (1, ""),
+    ] {
+        assert!(rt; is_usage(&rt, alloc, count, words)?, "{words}");
+    }
+    Ok(())
+}
+
+#[test]
+fn the_word_play(rt: HostRuntime) -> Result<(), Fail> {
     let alloc = rt.alloc();
     let good = joined(alloc, &[MUX, STEPS])?;
     let journal = joined(alloc, &JOURNAL)?;
@@ -118,21 +151,35 @@ fn words_and_scripts(rt: HostRuntime) -> Result<(), Fail> {
     assert_eq!(rt; done.status, Status::Done);
     assert_eq!(rt; done.air.taken(), packet().as_slice());
     assert_eq!(rt; done.report.taken(), journal.as_bytes());
-    for words in [
-        &[][..],
-        &["live"],
-        &["play", "play"],
-        &["Play"],
-        &["pla"],
-        &["play "],
-        &[""],
-    ] {
-        let left = words_end(&rt, alloc, words, &good)?;
-        assert_eq!(rt; left.status, Status::Usage);
-        assert!(rt; left.air.taken().is_empty());
-        assert_eq!(rt; left.report.taken(), b"fault: usage\n".as_slice());
+    Ok(())
+}
+
+// The report of a script that stops at this line, behind so many entries of the journal.
+fn stopped(alloc: Global, line: u64, entries: usize) -> Result<String, AllocError> {
+    let mut report = String::new(alloc);
+    for entry in JOURNAL.iter().take(entries) {
+        report.push_str(entry)?;
     }
-    // a text, the line that stops it, and how many entries stand before
+    write!(report, "fault: input line {line} is no command\n")?;
+    Ok(report)
+}
+
+// Whether a text stops at this line, behind so many entries of the journal.
+fn stops_at(alloc: Global, text: &str, line: u64, entries: usize) -> Result<bool, AllocError> {
+    let left = played(alloc, text)?;
+    let report = stopped(alloc, line, entries)?;
+    let sent = if entries == 3 { 188 } else { 0 };
+    Ok(
+        left.status == Status::BadScript(line)
+            && left.air.taken().len() == sent
+            && left.report.taken() == report.as_bytes(),
+    )
+}
+
+#[test]
+fn scripts_that_stop(rt: HostRuntime) -> Result<(), Fail> {
+    let alloc = rt.alloc();
+    // a script, the line that stops it, and how many entries stand before
     for (script, line, entries) in [
         ("feed,1,name,101,Acme,News\npublish\nswop\n", 7, 2),
         ("feed,1,name,101,Acme,News\npublish\nswap\n\n", 8, 3),
@@ -140,26 +187,21 @@ fn words_and_scripts(rt: HostRuntime) -> Result<(), Fail> {
         ("feed,1,name,101,Acme\n", 5, 0),
         ("\n", 5, 0),
     ] {
-        let left = played(alloc, &joined(alloc, &[MUX, script])?)?;
-        let mut report = String::new(alloc);
-        for entry in JOURNAL.iter().take(entries) {
-            report.push_str(entry)?;
-        }
-        write!(report, "fault: input line {line} is no command\n")?;
-        assert_eq!(rt; left.status, Status::BadScript(line));
-        assert_eq!(rt; left.status.code(), 3);
-        assert_eq!(rt; left.air.taken().len(), if entries == 3 { 188 } else { 0 });
-        assert_eq!(rt; left.report.taken(), report.as_bytes());
+        let text = joined(alloc, &[MUX, script])?;
+        assert!(rt; stops_at(alloc, &text, line, entries)?, "{script}");
     }
-    // inputs that end before the description of the multiplex does
+    Ok(())
+}
+
+#[test]
+fn descriptions_that_stop(rt: HostRuntime) -> Result<(), Fail> {
+    let alloc = rt.alloc();
     for (text, line) in [
         ("", 1),
         ("network,40,Demo\nstream,1,1\n", 3),
         ("network,40,Demo\nend\n", 2),
     ] {
-        let left = played(alloc, text)?;
-        assert_eq!(rt; left.status, Status::BadScript(line));
-        assert!(rt; left.air.taken().is_empty());
+        assert!(rt; stops_at(alloc, text, line, 0)?, "{text}");
     }
     Ok(())
 }
