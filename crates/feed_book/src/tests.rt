@@ -18,6 +18,20 @@ const DAY: u64 = 4_257_187_200;
 
 const AT: Moment = Moment(4_257_233_100);
 
+type Tried = Result<(), Fail>;
+
+// What one case of a table has: feed, id, start, length; id, start, length; id, minute and lengths of texts; letters and
+// levels; feed, service and lengths of texts. Behind them the reply that is wanted.
+type Put = (u8, u16, &'static str, &'static str, Reply);
+
+type Timed = (u16, &'static str, &'static str);
+
+type Long = (u16, u16, usize, usize, Reply);
+
+type Named = (usize, usize, u8, u8, Reply);
+
+type Names = (u8, u16, usize, usize, usize, Reply);
+
 fn text(alloc: Global, text: &str) -> Result<Txt, Fail>
     ensures { IfOk result (λ made. made ≡ text.now) }
 {
@@ -126,24 +140,13 @@ fn news(alloc: Global, id: u16, from: &str, lasts: &str) -> Result<Item, Fail> {
 
 // ---- one case of a table each
 
-fn assert_reply(
-    rt: &impl Abort,
-    book: &mut Book,
-    feed: u8,
-    edit: &Edit,
-    want: Reply,
-) -> Result<(), Fail> {
+fn assert_reply(rt: &impl Abort, book: &mut Book, feed: u8, edit: &Edit, want: Reply) -> Tried {
     let reply = ask(book, feed, edit)?;
     assert_eq!(rt; reply, want);
     Ok(())
 }
 
-fn assert_put(
-    rt: &impl Abort,
-    alloc: Global,
-    book: &mut Book,
-    case: (u8, u16, &str, &str, Reply),
-) -> Result<(), Fail> {
+fn assert_put(rt: &impl Abort, alloc: Global, book: &mut Book, case: Put) -> Tried {
     let (feed, id, from, lasts, want) = case;
     let edit = Edit::Put(101, news(alloc, id, from, lasts)?);
     assert_reply(rt, book, feed, &edit, want)
@@ -153,9 +156,9 @@ fn assert_day(
     rt: &impl Abort,
     alloc: Global,
     book: &mut Book,
-    items: &[(u16, &str, &str)],
+    items: &[Timed],
     want: Reply,
-) -> Result<(), Fail> {
+) -> Tried {
     let mut made = Vec::new(alloc);
     for (id, from, lasts) in items {
         made.push(news(alloc, *id, *from, *lasts)?)?;
@@ -171,7 +174,7 @@ fn assert_event(rt: &impl Abort, event: &Event, want: &(u16, u64, u32)) {
 }
 
 // The id, start and length of each event of service 101.
-fn assert_events(rt: &impl Abort, book: &Book, want: &[(u16, u64, u32)]) -> Result<(), Fail> {
+fn assert_events(rt: &impl Abort, book: &Book, want: &[(u16, u64, u32)]) -> Tried {
     let guide = book.guide(AT)?;
     for service in guide.services.as_slice() {
         if service.service == 101 {
@@ -304,13 +307,7 @@ fn broken_from(alloc: Global, n: usize) -> Result<Item, Fail> {
     })
 }
 
-fn assert_rule(
-    rt: &impl Abort,
-    alloc: Global,
-    book: &mut Book,
-    n: usize,
-    want: Reply,
-) -> Result<(), Fail> {
+fn assert_rule(rt: &impl Abort, alloc: Global, book: &mut Book, n: usize, want: Reply) -> Tried {
     let made = broken_from(alloc, n)?;
     assert_reply(rt, book, 1, &Edit::Put(101, made), want)
 }
@@ -336,12 +333,7 @@ fn rules_in_their_order(rt: HostRuntime) -> Result<(), Fail> {
     assert_rule(&rt, alloc, &mut book, 10, Reply::Done)
 }
 
-fn assert_name(
-    rt: &impl Abort,
-    alloc: Global,
-    book: &mut Book,
-    case: (usize, usize, u8, u8, Reply),
-) -> Result<(), Fail> {
+fn assert_name(rt: &impl Abort, alloc: Global, book: &mut Book, case: Named) -> Tried {
     let (accents, plain, level1, level2, want) = case;
     let mut made = with_texts(alloc, 1, 0, 0, 0)?;
     made.name = letters(alloc, accents, plain)?;
@@ -369,12 +361,7 @@ fn coded_names(rt: HostRuntime) -> Result<(), Fail> {
 // ---- full blocks and services
 
 // An event of two minutes from a minute of the day on, with texts of so many letters.
-fn assert_long(
-    rt: &impl Abort,
-    alloc: Global,
-    book: &mut Book,
-    case: (u16, u16, usize, usize, Reply),
-) -> Result<(), Fail> {
+fn assert_long(rt: &impl Abort, alloc: Global, book: &mut Book, case: Long) -> Tried {
     let (id, minute, name, short, want) = case;
     let mut made = with_texts(alloc, id, name, short, 0)?;
     made.start = Stamp(write_moment(Moment(DAY + 60 * u64::from(minute))));
@@ -411,12 +398,8 @@ fn full_service(rt: HostRuntime) -> Result<(), Fail> {
     let alloc = rt.alloc();
     let mut book = open(alloc)?;
     for n in 0_u16..2_000 {
-        assert_long(
-            &rt,
-            alloc,
-            &mut book,
-            (n, 2 * (1_999 - n), 1, 0, Reply::Done),
-        )?;
+        let case = (n, 2 * (1_999 - n), 1, 0, Reply::Done);
+        assert_long(&rt, alloc, &mut book, case)?;
     }
     for case in [
         (2_000, 4_000, 1, 0, range(Field::Count(2_001))),
@@ -440,34 +423,20 @@ fn full_service(rt: HostRuntime) -> Result<(), Fail> {
 fn refused_days(rt: HostRuntime) -> Result<(), Fail> {
     let alloc = rt.alloc();
     let mut book = open(alloc)?;
-    assert_put(
-        &rt,
-        alloc,
-        &mut book,
-        (1, 1, "13T13:00:00", "00:30:00", Reply::Done),
-    )?;
+    let one = (1, 1, "13T13:00:00", "00:30:00", Reply::Done);
+    assert_put(&rt, alloc, &mut book, one)?;
     let next_day = [
         (5, "13T13:00:00", "00:30:00"),
         (6, "14T00:00:00", "00:30:00"),
     ];
-    assert_day(
-        &rt,
-        alloc,
-        &mut book,
-        &next_day,
-        Reply::Member(1, DayFault::Range(Field::Window)),
-    )?;
+    let window = Reply::Member(1, DayFault::Range(Field::Window));
+    assert_day(&rt, alloc, &mut book, &next_day, window)?;
     let overlap = [
         (5, "13T13:00:00", "00:30:00"),
         (6, "13T13:10:00", "00:30:00"),
     ];
-    assert_day(
-        &rt,
-        alloc,
-        &mut book,
-        &overlap,
-        Reply::Member(1, DayFault::Overlap(5)),
-    )?;
+    let fifth = Reply::Member(1, DayFault::Overlap(5));
+    assert_day(&rt, alloc, &mut book, &overlap, fifth)?;
     assert_events(&rt, &book, &[(1, DAY + 46_800, 1_800)])?;
     assert_day(&rt, alloc, &mut book, &[], Reply::Done)?;
     assert_events(&rt, &book, &[])
@@ -501,13 +470,8 @@ fn days(rt: HostRuntime) -> Result<(), Fail> {
         ],
     )?;
     let early = [(9, "13T00:29:59", "00:00:01")];
-    assert_day(
-        &rt,
-        alloc,
-        &mut book,
-        &early,
-        Reply::Member(0, DayFault::Overlap(8)),
-    )
+    let eighth = Reply::Member(0, DayFault::Overlap(8));
+    assert_day(&rt, alloc, &mut book, &early, eighth)
 }
 
 // 2,000 items of 43 seconds.
@@ -526,30 +490,16 @@ fn full_day(rt: HostRuntime) -> Result<(), Fail> {
     let alloc = rt.alloc();
     let mut book = open(alloc)?;
     let edit = Edit::Day(101, DayText(*b"1993-10-13"), whole_day(alloc)?);
-    assert_put(
-        &rt,
-        alloc,
-        &mut book,
-        (1, 2_000, "14T00:00:00", "00:30:00", Reply::Done),
-    )?;
-    assert_reply(
-        &rt,
-        &mut book,
-        1,
-        &edit,
-        Reply::Member(1_999, DayFault::Range(Field::Count(2_001))),
-    )?;
+    let other = (1, 2_000, "14T00:00:00", "00:30:00", Reply::Done);
+    assert_put(&rt, alloc, &mut book, other)?;
+    let last = Reply::Member(1_999, DayFault::Range(Field::Count(2_001)));
+    assert_reply(&rt, &mut book, 1, &edit, last)?;
     assert_events(&rt, &book, &[(2_000, DAY + 86_400, 1_800)])?;
     assert_reply(&rt, &mut book, 1, &Edit::Clear(101), Reply::Done)?;
     assert_reply(&rt, &mut book, 1, &edit, Reply::Done)?;
+    let too_many = range(Field::Count(2_001));
     for case in [
-        (
-            1,
-            2_000,
-            "13T23:53:20",
-            "00:00:01",
-            range(Field::Count(2_001)),
-        ),
+        (1, 2_000, "13T23:53:20", "00:00:01", too_many),
         (1, 2_000, "13T23:53:19", "00:00:01", Reply::Overlap(0)),
     ] {
         assert_put(&rt, alloc, &mut book, case)?;
@@ -594,19 +544,14 @@ fn event_of_an_item(rt: HostRuntime) -> Result<(), Fail> {
     assert_events(&rt, &book, &[(65_535, DAY + 45_900, 6_330)])
 }
 
-fn assert_name_edit(
-    rt: &impl Abort,
-    alloc: Global,
-    book: &mut Book,
-    case: (u8, u16, usize, usize, usize, Reply),
-) -> Result<(), Fail> {
+fn assert_name_edit(rt: &impl Abort, alloc: Global, book: &mut Book, case: Names) -> Tried {
     let (feed, service, provider, accents, plain, want) = case;
     let provider = letters(alloc, 0, provider)?;
     let name = letters(alloc, accents, plain)?;
     assert_reply(rt, book, feed, &Edit::Name(service, provider, name), want)
 }
 
-fn assert_names(rt: &impl Abort, book: &Book, want: [(u16, &str, &str); 2]) -> Result<(), Fail> {
+fn assert_names(rt: &impl Abort, book: &Book, want: [(u16, &str, &str); 2]) -> Tried {
     let guide = book.guide(AT)?;
     assert_eq!(rt; guide.services.len(), 2);
     for (found, (service, provider, name)) in guide.services.as_slice().iter().zip(want) {
