@@ -1,9 +1,8 @@
 -- A row of kept fields is a kept text, and a line of its own.
-use Rattle.std.proofs.Common.{◌≡◌, ◌==◌, ◌&&◌, ◌∙◌, ◌<◌, ◌≤◌, ◌-◌, ◌+◌, ◌++◌, ◌∷◌, [], ℕ, suc, zero, List, Bool, refl, sym, ap, subst, true, false, inl, inr, arith, length, take, ⊎_elim, append-nil, lit<}
-use Rattle.std.specs.Prelude.{not, slice_index, ◌||◌, nat_le}
+use Rattle.std.proofs.Common.{◌≡◌, ◌==◌, ◌&&◌, ◌∙◌, ◌<◌, ◌≤◌, ◌-◌, ◌++◌, ◌∷◌, [], ℕ, suc, zero, List, Bool, refl, sym, ap, subst, true, false, inl, inr, arith, length, take, ⊎_elim, append-nil, lit<}
+use Rattle.std.specs.Prelude.{not, slice_index}
 use Rattle.std.specs.List.{list_all, list_any, AllByRecursion}
 use Rattle.std.proofs.lemmas.Bool.{cases_Bool, cases_lt, ne_eqb, eqb-true}
-use Rattle.std.proofs.lemmas.Bool.Decides.{nat_tests}
 use Rattle.std.proofs.lemmas.List.{take_all}
 use Rattle.std.proofs.lemmas.List.Folds.{list_all-append}
 use Rattle.std.proofs.lemmas.Str.{encode_ascii, encodes-append}
@@ -122,9 +121,9 @@ chars_inner [] h = refl
 chars_inner (c ∷ cs) h =
     let (p, q) = both (is_plain_char c) (list_all is_plain_char cs) h in
     let first : list_all is_inner (encode c) ≡ true = ⊎_elim
-      (λ (low : c < 128). subst (λ (t : List ℕ). list_all is_inner t ≡ true) (sym (encode_ascii c low)) (rw (plain_inner c p) refl))
-      (λ (high : 128 ≤ c). let (b, bs, e, k) = encode-high c high in high_inner (encode c) (subst High (sym e) k))
-      (cases_lt c 128) in
+    (λ (low : c < 128). subst (λ (t : List ℕ). list_all is_inner t ≡ true) (sym (encode_ascii c low)) (rw (plain_inner c p) refl))
+    (λ (high : 128 ≤ c). let (b, bs, e, k) = encode-high c high in high_inner (encode c) (subst High (sym e) k))
+    (cases_lt c 128) in
     list_all-append is_inner (encode c) (encodes cs) ∙ rw (first, chars_inner cs q) refl
 
 pub clean_inner : (xs : List ℕ) → IsClean xs → list_all is_inner xs ≡ true

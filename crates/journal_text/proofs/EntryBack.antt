@@ -1,5 +1,5 @@
 -- Entries read back from their text.
-use Rattle.std.proofs.Common.{◌≡◌, ◌≢◌, ◌==◌, ◌&&◌, ◌∙◌, ◌<◌, ◌≤◌, ◌+◌, ◌*◌, ◌++◌, ◌∷◌, [], ℕ, zero, suc, List, Bool, Option, Some, None, refl, sym, ap, subst, true, false, arith, length, map, drop, append-nil, append_assoc}
+use Rattle.std.proofs.Common.{◌≡◌, ◌==◌, ◌&&◌, ◌∙◌, ◌<◌, ◌≤◌, ◌+◌, ◌*◌, ◌++◌, ◌∷◌, [], ℕ, suc, List, Bool, Option, Some, None, refl, ap, true, false, arith, length, map, append_assoc}
 use Rattle.std.specs.Prelude.{codes, decimal, flat_map, if◌then◌else◌}
 use Rattle.std.specs.List.{list_all, All, AllByRecursion}
 use Rattle.std.proofs.lemmas.Bool.Decides.{nat_tests}
@@ -7,35 +7,31 @@ use Rattle.si_text.specs.Decoding.{IsKept}
 use Rattle.si_time.specs.Moments.{moment_text}
 use Rattle.si_time.specs.declared.moment.Moment.{Moment}
 use Rattle.input_lines.specs.Fields.{record_of}
-use Rattle.input_lines.specs.Lines.{is_passed, record_lines}
-use Rattle.input_lines.specs.Numbers.{is_word, is_digit, numeral_of}
+use Rattle.input_lines.specs.Lines.{record_lines}
+use Rattle.input_lines.specs.Numbers.{is_word, is_digit}
 use Rattle.feed_edits.specs.declared.edit.Item.{Item}
 use Rattle.feed_edits.specs.declared.edit.Edit.{Edit}
 use Rattle.feed_edits.specs.declared.edit.Edit.TheVariants.{Put, Withdraw, Clear, Name, Day}
-use Rattle.feed_edits.specs.Ahead.{Ahead, Row, Tail, Found, Came, and_then, first_row, row_of, stop_at}
+use Rattle.feed_edits.specs.Ahead.{Ahead, Row, Tail, Came, and_then}
 use Rattle.feed_edits.specs.Edits.{on_line, read_edit}
 use Rattle.feed_edits.specs.Items.{IsShapedItem}
 use Rattle.feed_edits.specs.Heads.{IsShaped}
-use Rattle.feed_edits.specs.Back.{HaveFields, HasItemNumbers, HasNumbers, item_rows}
-use Rattle.feed_edits.specs.Back.{edit_fields as edit_given, item_fields as item_given}
+use Rattle.feed_edits.specs.Back.{HaveFields, HasItemNumbers, item_rows}
+use Rattle.feed_edits.specs.Back.{item_fields as item_given}
 use Rattle.feed_edits.proofs.Back.{edits_read_back, number_back}
 use Rattle.desk_core.specs.declared.step.Step.{Step}
 use Rattle.desk_core.specs.declared.step.Step.TheVariants.{Edit as edit, Tick, Publish, Swap}
 use Rattle.desk_core.specs.declared.step.Outcome.{Outcome}
 use Rattle.desk_core.specs.declared.step.Entry.{Entry}
 use Rattle.desk_core.specs.Controls.{control_of}
-use Rattle.desk_core.specs.Journal.{Command}
 use Rattle.desk_core.specs.Steps.{IsStepWithin}
-use Rattle.journal_text.specs.declared.script.ScriptItem.{ScriptItem}
 use Rattle.journal_text.specs.declared.script.ScriptItem.TheVariants.{Step as step, Kept}
-use Rattle.journal_text.specs.Edits.{line_text, item_text, item_fields, edit_fields, items_of}
-use Rattle.journal_text.specs.Entries.{step_fields, step_items, command_text, entry_text}
-use Rattle.journal_text.specs.Outcomes.{outcome_text, outcome_fields}
-use Rattle.journal_text.specs.Kept.{outcome_of_fields}
-use Rattle.journal_text.specs.Script.{is_outcome_line, caller_of, feed_of, feed_command, short_step, command_with, command_of_caller, command_by, read_command, kept_in, kept_item, step_item, read_item, item_on, first_script_item, IsShapedStep}
-use Rattle.journal_text.specs.Back.{IsNumeralNumber, IsFronted, IsRow, IsShort, IsTypedStep, IsTypedEdit, item_texts, item_row, command_row, outcome_row, row_line, shown_lines, ahead_of, command_lines, IsReadable, IsReadableOutcome, EntryReadsBack, EntriesReadBack, ReadsBack}
+use Rattle.journal_text.specs.Edits.{line_text, item_text, edit_fields, items_of}
+use Rattle.journal_text.specs.Entries.{step_fields, step_items, entry_text}
+use Rattle.journal_text.specs.Script.{feed_of, feed_command, short_step, command_with, command_of_caller, command_by, read_command, kept_in, kept_item, step_item, read_item, item_on, first_script_item, IsShapedStep}
+use Rattle.journal_text.specs.Back.{IsNumeralNumber, IsRow, IsShort, IsTypedStep, IsTypedEdit, item_texts, item_row, command_row, outcome_row, row_line, shown_lines, ahead_of, command_lines, IsReadableOutcome, EntriesReadBack}
 use Rattle.journal_text.proofs.RowBack.{rows_read_back}
-use Rattle.journal_text.proofs.OutcomeBack.{outcome_back, numeral_back, moment_back, digits_of, decimal_some}
+use Rattle.journal_text.proofs.OutcomeBack.{outcome_back, numeral_back, moment_back, digits_of}
 use Rattle.journal_text.proofs.EntryRows.{outcome_line, outcome_front, outcome_row_kept}
 use Rattle.journal_text.proofs.EntryFields.{item_same, edit_same, item_row_kept, command_kept, command_front}
 
@@ -73,7 +69,7 @@ items_have : (items : List Item) (n : ℕ) → AreRows items → HaveFields (num
 items_have [] n h = refl
 items_have (item ∷ items) n h =
     let first : record_of (row_line (item_row item)) ≡ Some (codes "item" ∷ item_given item) =
-      row_fields (item_row item) h.0 ∙ ap (λ (l : List (List ℕ)). let o : Option (List (List ℕ)) = Some (codes "item" ∷ l) in o) (item_same item) in
+    row_fields (item_row item) h.0 ∙ ap (λ (l : List (List ℕ)). let o : Option (List (List ℕ)) = Some (codes "item" ∷ l) in o) (item_same item) in
     rw (first, items_have items (n + 1) h.1) refl
 
 -- ---- a command
@@ -114,7 +110,7 @@ edit_reads who n feed e rows more tail h le k have =
     let fields = codes "feed" ∷ decimal feed ∷ edit_fields e in
     let number : feed_of fields ≡ Some feed = number_back feed 255 le (omega arith) in
     let back : read_edit n (edit_fields e) a ≡ Came e (record { rows = more; tail = tail }) =
-      ap (λ (l : List (List ℕ)). read_edit n l a) (edit_same e) ∙ edits_read_back e h k.numbers n rows more tail have in
+    ap (λ (l : List (List ℕ)). read_edit n l a) (edit_same e) ∙ edits_read_back e h k.numbers n rows more tail have in
     ap (λ o. command_with who n o fields a) (feed_short (decimal feed) (edit_fields e))
     ∙ ap (λ o. and_then (on_line n o a) (λ f more. feed_command who f (read_edit n (edit_fields e) more))) number
     ∙ ap (feed_command who feed) back
@@ -201,9 +197,9 @@ entries_read_back entry h n rest tail =
     let at = n + command_lines entry.step in
     let count : n + 1 + length items ≡ at = omega arith in
     let lines : lines_from n (entry_text entry ++ rest) ≡ (n, row_line command) ∷ (numbered (n + 1) items ++ lines_from at last) =
-      ap (lines_from n) (entry_parts entry rest h.outcome)
-      ∙ row_first command n (flat_map item_text items ++ last) is_row
-      ∙ ap (λ (l : List Row). (n, row_line command) ∷ l) (items_first items (n + 1) last rows ∙ ap (λ k. numbered (n + 1) items ++ lines_from k last) count) in
+    ap (lines_from n) (entry_parts entry rest h.outcome)
+    ∙ row_first command n (flat_map item_text items ++ last) is_row
+    ∙ ap (λ (l : List Row). (n, row_line command) ∷ l) (items_first items (n + 1) last rows ∙ ap (λ k. numbered (n + 1) items ++ lines_from k last) count) in
     record {
       behind = ahead_of at last tail;
       command =

@@ -1,5 +1,5 @@
 -- The fields of a command are texts, and those that an edit reads back from.
-use Rattle.std.proofs.Common.{◌≡◌, ◌≢◌, ◌==◌, ◌&&◌, ◌∙◌, ◌<◌, ◌≤◌, ◌++◌, ◌∷◌, [], ℕ, List, Bool, Option, Some, None, refl, sym, ap, true, false, arith, length, map, append-nil, append_assoc}
+use Rattle.std.proofs.Common.{◌≡◌, ◌==◌, ◌&&◌, ◌∙◌, ◌<◌, ◌≤◌, ◌++◌, ◌∷◌, [], ℕ, List, Bool, Option, Some, None, refl, ap, true, false, arith, length, map, append-nil, append_assoc}
 use Rattle.std.specs.Prelude.{codes, decimal, flat_map, IfSome}
 use Rattle.std.specs.List.{list_all, AllByRecursion, join_with_byte}
 use Rattle.std.proofs.lemmas.Bool.Decides.{nat_tests}
@@ -13,17 +13,17 @@ use Rattle.feed_edits.specs.declared.edit.Edit.{Edit}
 use Rattle.feed_edits.specs.declared.edit.Edit.TheVariants.{Put, Withdraw, Clear, Name, Day}
 use Rattle.feed_edits.specs.Items.{IsShapedItem}
 use Rattle.feed_edits.specs.Heads.{IsShaped}
-use Rattle.feed_edits.specs.Back.{genre_field, genres_field, country_field, rating_field, HasGenreNumbers, HasItemNumbers, HasNumbers}
+use Rattle.feed_edits.specs.Back.{genre_field, genres_field, country_field, rating_field, HasGenreNumbers, HasItemNumbers}
 use Rattle.feed_edits.specs.Back.{item_fields as item_given, edit_fields as edit_given}
 use Rattle.desk_core.specs.declared.step.Step.{Step}
 use Rattle.desk_core.specs.declared.step.Step.TheVariants.{Edit as edit, Tick, Publish, Swap}
 use Rattle.desk_core.specs.Steps.{IsStepWithin}
-use Rattle.journal_text.specs.Edits.{genre_text, genres_text, country_text, value_text, item_fields, edit_fields, items_of}
+use Rattle.journal_text.specs.Edits.{genre_text, genres_text, country_text, value_text, item_fields, edit_fields}
 use Rattle.journal_text.specs.Entries.{step_fields}
 use Rattle.journal_text.specs.Script.{IsShapedStep}
-use Rattle.journal_text.specs.Back.{IsNumeralNumber, IsFront, IsFronted, IsTypedEdit, IsTypedStep, item_texts, edit_texts, item_row, command_row}
+use Rattle.journal_text.specs.Back.{IsNumeralNumber, IsFront, IsFronted, IsTypedEdit, IsTypedStep, item_texts, item_row, command_row}
 use Rattle.journal_text.proofs.OutcomeBack.{digits_of, decimal_some}
-use Rattle.journal_text.proofs.EntryRows.{is_printing, is_written, all_more, printing_kept, digits_printing, shape_written, written_kept, moment_written, number_kept}
+use Rattle.journal_text.proofs.EntryRows.{is_printing, is_written, printing_kept, digits_printing, shape_written, written_kept, moment_written, number_kept}
 
 both : (a b : Bool) → (a && b) ≡ true → (a ≡ true) × (b ≡ true)
 both true b e = (refl, e)

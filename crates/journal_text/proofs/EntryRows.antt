@@ -1,18 +1,17 @@
 -- The lines of an entry are rows.
-use Rattle.std.proofs.Common.{◌≡◌, ◌≢◌, ◌==◌, ◌&&◌, ◌∙◌, ◌<◌, ◌≤◌, ◌+◌, ◌*◌, ◌++◌, ◌∷◌, [], ℕ, zero, suc, List, Bool, Option, Some, None, refl, sym, ap, subst, true, false, inl, inr, arith, length, map, append-nil, append_assoc, lit<}
-use Rattle.std.specs.Prelude.{codes, decimal, flat_map, nat_le, nat_lt, not, IfSome, if◌then◌else◌}
+use Rattle.std.proofs.Common.{◌≡◌, ◌≢◌, ◌==◌, ◌&&◌, ◌∙◌, ◌<◌, ◌≤◌, ◌*◌, ◌++◌, ◌∷◌, [], ℕ, List, Bool, refl, sym, ap, true, false, inl, inr, arith, append-nil}
+use Rattle.std.specs.Prelude.{codes, decimal, nat_le, if◌then◌else◌}
 use Rattle.std.specs.Char.{is_ascii_digit}
-use Rattle.std.specs.List.{list_all, list_any, AllByRecursion, join_with_byte}
-use Rattle.std.proofs.lemmas.Bool.{cases_Bool, ne_eqb, eqb-true}
+use Rattle.std.specs.List.{list_all, list_any, AllByRecursion}
+use Rattle.std.proofs.lemmas.Bool.{cases_Bool, eqb-true}
 use Rattle.std.proofs.lemmas.Bool.Decides.{nat_tests}
-use Rattle.std.proofs.lemmas.List.Folds.{list_all-append}
-use Rattle.csv.specs.Writing.{default_writer, field_text, fields_text, needs_byte, row_body}
-use Rattle.si_time.specs.Readings.{has_shape, moment_in}
+use Rattle.csv.specs.Writing.{default_writer, field_text, fields_text, needs_byte}
+use Rattle.si_time.specs.Readings.{has_shape}
 use Rattle.si_time.specs.Moments.{moment_text}
 use Rattle.si_text.specs.Decoding.{IsKept}
 use Rattle.input_lines.specs.Numbers.{is_digit}
-use Rattle.input_lines.proofs.CleanText.{is_plain_char, IsClean, AllClean}
-use Rattle.input_lines.proofs.CleanLines.{clean_from, kept_from}
+use Rattle.input_lines.proofs.CleanText.{is_plain_char, IsClean}
+use Rattle.input_lines.proofs.CleanLines.{kept_from}
 use Rattle.si_time.proofs.TextFacts.{moment_in-only, moment_in-moment_text}
 use Rattle.feed_book.specs.declared.reply.Field.{Field}
 use Rattle.feed_book.specs.declared.reply.Field.TheVariants.{Start, Duration, Window, Language, Name, Short, Extended, Country, Rating, Genre, Provider, ServiceName, Count, Segment}
@@ -190,7 +189,7 @@ outcome_some (Swapped n at) = λ e. cc
 pub outcome_line : (o : Outcome) → IsReadableOutcome o → codes "=," ++ outcome_text o ++ codes "\n" ≡ line_text (outcome_row o)
 outcome_line o h =
     let body : row_line (outcome_row o) ≡ codes "=," ++ outcome_text o =
-      ap (λ (l : List ℕ). 61 ∷ l) (some_written (outcome_fields o) (outcome_some o) (outcome_written o h)) ∙ ap (λ (l : List ℕ). 61 ∷ 44 ∷ l) (sym (outcome_is o)) in
+    ap (λ (l : List ℕ). 61 ∷ l) (some_written (outcome_fields o) (outcome_some o) (outcome_written o h)) ∙ ap (λ (l : List ℕ). 61 ∷ 44 ∷ l) (sym (outcome_is o)) in
     ap (λ (l : List ℕ). l ++ 10 ∷ []) (sym body)
 
 all_written_kept : (fs : List (List ℕ)) → all_written fs ≡ true → AllByRecursion IsKept fs

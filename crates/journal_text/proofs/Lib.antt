@@ -8,3 +8,4 @@ pub mod OutcomeBack
 pub mod EntryRows
 pub mod EntryFields
 pub mod EntryBack
+pub mod Journals

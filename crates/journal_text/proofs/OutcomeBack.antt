@@ -1,6 +1,6 @@
 -- Outcomes read back from their fields.
-use Rattle.std.proofs.Common.{◌≡◌, ◌≤◌, ◌<◌, ◌^◌, ◌*◌, ◌∙◌, ℕ, List, [], ◌∷◌, ◌++◌, length, Option, Some, true, refl, ap, arith, rules, lit<, lit≤, append_assoc}
-use Rattle.std.specs.Prelude.{codes, decimal, nat_le, ◌&&◌}
+use Rattle.std.proofs.Common.{◌≡◌, ◌≤◌, ◌<◌, ◌^◌, ◌*◌, ◌∙◌, ℕ, List, [], ◌∷◌, ◌++◌, length, Some, true, refl, ap, arith, rules, lit<, lit≤, append_assoc}
+use Rattle.std.specs.Prelude.{codes, decimal, nat_le}
 use Rattle.std.specs.List.{list_all}
 use Rattle.std.proofs.lemmas.Str.Parse.{IsNumeralModel, numerals_by_fold}
 use Rattle.std.proofs.lemmas.Fmt.{digits_decimal, digits_value-decimal, length-decimal-le, decimal_nonempty}
@@ -14,14 +14,13 @@ use Rattle.feed_book.specs.declared.reply.Field.{Field}
 use Rattle.feed_book.specs.declared.reply.Field.TheVariants.{Start, Duration, Window, Language, Name, Short, Extended, Country, Rating, Genre, Provider, ServiceName, Count, Segment}
 use Rattle.feed_book.specs.declared.reply.DayFault.{DayFault}
 use Rattle.feed_book.specs.declared.reply.DayFault.TheVariants.{Range as BadField, Overlap as Overlaps}
-use Rattle.feed_book.specs.declared.reply.Reply.{Reply}
 use Rattle.feed_book.specs.declared.reply.Reply.TheVariants.{Done, Foreign, Range, Overlap, Member}
 use Rattle.desk_core.specs.declared.step.Outcome.{Outcome}
 use Rattle.desk_core.specs.declared.step.Outcome.TheVariants.{Edited, Ticked, Late, Published, Swapped}
-use Rattle.desk_core.specs.Controls.{moment_at, moment_with}
-use Rattle.journal_text.specs.Outcomes.{field_text, field_fields, day_fault_text, day_fault_fields, outcome_text, outcome_fields, with_commas}
+use Rattle.desk_core.specs.Controls.{moment_at}
+use Rattle.journal_text.specs.Outcomes.{field_text, field_fields, day_fault_text, day_fault_fields, outcome_fields, with_commas}
 use Rattle.journal_text.specs.Kept.{field_of, day_fault_of, reply_of, outcome_of_fields}
-use Rattle.journal_text.specs.Back.{IsNumeralNumber, HasFieldNumber, HasDayFaultNumbers, HasReplyNumbers, HasOutcomeNumbers, IsReadableOutcome, OutcomesReadBack, OutcomesAreFields}
+use Rattle.journal_text.specs.Back.{IsNumeralNumber, HasFieldNumber, HasDayFaultNumbers, IsReadableOutcome, OutcomesAreFields}
 
 -- ---- numbers and moments
 

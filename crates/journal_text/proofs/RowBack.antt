@@ -1,18 +1,16 @@
 -- Rows read back from their lines.
-use Rattle.std.proofs.Common.{◌≡◌, ◌==◌, ◌&&◌, ◌∙◌, ◌≤◌, ◌++◌, ◌∷◌, [], ℕ, List, Bool, Option, Some, refl, sym, ap, subst, true, false, inl, inr, arith, length, map, append_assoc}
-use Rattle.std.specs.List.{list_any, AllByRecursion}
+use Rattle.std.proofs.Common.{◌≡◌, ◌==◌, ◌∙◌, ◌++◌, ◌∷◌, [], ℕ, List, Option, Some, refl, ap, false, inl, inr, arith, map, append_assoc}
+use Rattle.std.specs.List.{list_any}
 use Rattle.std.proofs.lemmas.Bool.{cases_Bool}
-use Rattle.csv.specs.Machine.{Read, next_record}
+use Rattle.csv.specs.Machine.{next_record}
 use Rattle.csv.specs.Reading.{default_config, strip_bom, is_bom}
-use Rattle.csv.specs.Writing.{default_writer, field_text, fields_text, needs_byte, row_body}
+use Rattle.csv.specs.Writing.{default_writer, field_text, fields_text, needs_byte}
 use Rattle.csv.specs.declared.parser.State.TheVariants as st
-use Rattle.si_causes.specs.Lines.{raw_lines, shown}
-use Rattle.si_text.specs.Decoding.{IsKept}
-use Rattle.input_lines.specs.Fields.{IsLine, line_fields, record_of, fields_or_none}
+use Rattle.si_causes.specs.Lines.{shown}
+use Rattle.input_lines.specs.Fields.{IsLine, line_fields, fields_or_none}
 use Rattle.input_lines.specs.Lines.{is_passed}
 use Rattle.input_lines.proofs.CleanLines.{kept_from, line_record_of}
-use Rattle.journal_text.specs.Edits.{line_text}
-use Rattle.journal_text.specs.Back.{row_line, IsFront, IsFronted, IsRow, shown_lines, ReadsBack, RowsReadBack}
+use Rattle.journal_text.specs.Back.{row_line, IsFront, IsFronted, shown_lines, RowsReadBack}
 use Rattle.journal_text.proofs.LineBack.{line-back}
 use Rattle.journal_text.proofs.CleanRows.{all_clean, row_clean, clean_inner, line_first, line_shown}
 

@@ -1,6 +1,6 @@
 -- Commands and kept outcomes, by the lines that they begin with.
 use Rattle.std.proofs.lemmas.List.{take_all, length-drop}
-use Rattle.std.proofs.Common.{◌≡◌, ◌≤◌, ◌+◌, ◌-◌, ℕ, List, [], ◌∷◌, length, take, drop, drop-drop, true, false, Bool, refl, sym, ap, subst, ◌∙◌, arith}
+use Rattle.std.proofs.Common.{◌≡◌, ◌≤◌, ◌+◌, ◌-◌, ℕ, List, length, take, drop, drop-drop, true, false, Bool, refl, sym, ap, subst, ◌∙◌, arith}
 use Rattle.std.specs.Prelude.{Option, Some, None, Ok, Err, Result, IfOk, if◌then◌else◌}
 use Rattle.si_causes.specs.Reading.{Reading, text_left}
 use Rattle.si_causes.specs.declared.stop.ReadStop.{ReadStop}
@@ -186,7 +186,7 @@ pub no_fields_gives : {S : Type 0} (left : S → Known) (after : Bool) (old new 
 no_fields_gives left after old new text n line stop e first says =
     let l = line_leaves left after old new text n first in
     let none : record_of new.line ≡ None → first_script_item after (ahead old text) ≡ Stopped (NoCommand n) =
-      λ h. l.reads ∙ ap (λ o. item_on after n o (ahead new l.rest)) h in
+    λ h. l.reads ∙ ap (λ o. item_on after n o (ahead new l.rest)) h in
     refused_gives left (first_script_item after) old new text n (record_of new.line) stop none (subst (λ (l : List ℕ). Says {T = List (List ℕ)} n (record_of l) (Err stop)) e says)
 
 pub item_stop_takes : {S : Type 0} (left : S → Known) (faults : S → ℕ) (after : Bool) (old new : Reading S) (s : ReadStop) → RecordCame left faults old new (Err s) → Takes {T = ScriptItem} left faults (first_script_item after) old new (Err (Read s))

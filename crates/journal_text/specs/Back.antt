@@ -1,5 +1,5 @@
 -- What is written reads back: rows, outcomes and entries.
-use Rattle.std.specs.Prelude.{◌≡◌, ◌≤◌, ◌+◌, ℕ, true, false, ◌==◌, List, [], ◌∷◌, ◌++◌, length, map, Option, Some, codes, decimal}
+use Rattle.std.specs.Prelude.{◌≡◌, ◌≤◌, ◌+◌, ℕ, true, false, ◌==◌, List, [], ◌∷◌, ◌++◌, length, map, Some, codes, decimal}
 use Rattle.std.specs.List.{AllByRecursion}
 use Rattle.csv.specs.Writing.{default_writer, row_body}
 use Rattle.si_causes.specs.Lines.{raw_lines, shown}
@@ -25,7 +25,7 @@ use Rattle.desk_core.specs.declared.step.Entry.{Entry}
 use Rattle.desk_core.specs.Steps.{IsStepWithin}
 use Rattle.journal_text.specs.declared.script.ScriptItem.TheVariants.{Step as step, Kept}
 use Rattle.journal_text.specs.Edits.{line_text, item_fields, items_of, country_text}
-use Rattle.journal_text.specs.Entries.{step_fields, step_items, entry_text}
+use Rattle.journal_text.specs.Entries.{step_fields, step_items, entry_text, journal_text}
 use Rattle.journal_text.specs.Script.{first_script_item, IsShapedStep}
 use Rattle.journal_text.specs.Outcomes.{outcome_text, outcome_fields, with_commas, IsInWindow}
 use Rattle.journal_text.specs.Kept.{outcome_of_fields}
@@ -187,3 +187,7 @@ pub record EntryReadsBack (entry : Entry) (n : ℕ) (rest : List ℕ) (tail : Ta
 
 abbrev pub EntriesReadBack : Type 0
 EntriesReadBack = (entry : Entry) → IsReadable entry → (n : ℕ) (rest : List ℕ) (tail : Tail) → EntryReadsBack entry n rest tail
+
+-- Journals of readable entries are equal where their texts are.
+abbrev pub JournalsDiffer : Type 0
+JournalsDiffer = (a b : List Entry) → AllByRecursion IsReadable a → AllByRecursion IsReadable b → journal_text a ≡ journal_text b → a ≡ b

@@ -45,7 +45,12 @@ fn step_items(step: &Step) -> &[Item]
 }
 
 /// Appends the lines of a command.
-pub(crate) fn put_command(alloc: Global, out: &mut Vec<u8>, who: u32, step: &Step) -> Result<(), AllocError>
+pub(crate) fn put_command(
+    alloc: Global,
+    out: &mut Vec<u8>,
+    who: u32,
+    step: &Step,
+) -> Result<(), AllocError>
     requires { IsStepWithin step.now }
     ensures { OnOk result (out.new.items ≡ out.old.items ++ command_text who step.now) }
 {

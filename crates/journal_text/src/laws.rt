@@ -1,5 +1,5 @@
 // What is written reads back.
-ghost use Rattle.journal_text.specs.Back.{EntriesReadBack, OutcomesAreFields, OutcomesReadBack, RowsReadBack};
+ghost use Rattle.journal_text.specs.Back.{EntriesReadBack, JournalsDiffer, OutcomesAreFields, OutcomesReadBack, RowsReadBack};
 
 /// The law that a line of fields reads back as the fields, whatever text stands behind it: the fields are texts, at least two,
 /// the first may begin a line, and the line has at most 16,384 bytes.
@@ -18,4 +18,9 @@ pub fn outcomes_read_back()
 /// then its outcome, with what stands behind it still ahead.
 pub fn entries_read_back()
     ensures entries { EntriesReadBack }
+{}
+
+/// The law that journals of readable entries have different texts where they differ.
+pub fn journals_differ_in_their_texts()
+    ensures journals { JournalsDiffer }
 {}

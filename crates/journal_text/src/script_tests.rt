@@ -201,7 +201,10 @@ fn days_and_kept_outcomes(rt: HostRuntime) -> Result<(), Fail> {
         ("publish\n1,=,done", "0,publish\n?2"),
     ] {
         for piece in [1, 4096] {
-            assert_eq!(rt; told(alloc, text, piece, 9999)?.as_slice(), wanted.as_bytes());
+            assert_eq!(rt;
+                told(alloc, text, piece, 9999)?.as_slice(),
+                wanted.as_bytes()
+            );
         }
     }
     assert_eq!(rt;
