@@ -208,8 +208,9 @@ pub indexed_service : (rs : List Numbered) (old new : Records) (line : ℕ) (s :
     → repeated_at rs (Service s) ≡ None → IsIndexed (rs ++ numbered line (Service s) ∷ []) new
 indexed_service rs old new line s i ids pmts pids services once =
     let r = numbered line (Service s) in
-    let no_id = or_none_left _ _ once in
-    let no_pmt = or_none_left _ _ (or_none_right _ _ once) in
+    let others = option_or (first_line (has_pmt s.pmt_pid) rs) (first_line (has_pid s.pmt_pid) rs) in
+    let no_id = or_none_left (first_line (has_id s.service) rs) others once in
+    let no_pmt = or_none_left (first_line (has_pmt s.pmt_pid) rs) (first_line (has_pid s.pmt_pid) rs) (or_none_right (first_line (has_id s.service) rs) others once) in
     record {
       ids = λ id.
           ids id ∙ at_key s.service id (let x : Standing = record { line = line; parts = 0 } in x) (get nat_cmp old.ids id)

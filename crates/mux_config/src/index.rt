@@ -33,23 +33,23 @@ pub(crate) enum Kind {
 }
 
 // Whether a record is of a kind.
-pub(crate) fn is_of_kind(kind: Kind, record: &Record) -> bool
-    ensures { result ≡ is_of kind record.now }
+pub(crate) fn is_of_kind(kind: Kind, says: &Record) -> bool
+    ensures { result ≡ is_of kind says.now }
 {
     match kind {
-        Kind::Networks => matches!(record, Record::Network(_, _)),
-        Kind::Streams => matches!(record, Record::Stream(_, _)),
-        Kind::Deliveries => matches!(record, Record::Delivery(_)),
-        Kind::Starts => matches!(record, Record::Start(_)),
-        Kind::Quotas => matches!(record, Record::Quota(_)),
-        Kind::Holders(id, pid) => is_holder(id, pid, record),
+        Kind::Networks => matches!(says, Record::Network(_, _)),
+        Kind::Streams => matches!(says, Record::Stream(_, _)),
+        Kind::Deliveries => matches!(says, Record::Delivery(_)),
+        Kind::Starts => matches!(says, Record::Start(_)),
+        Kind::Quotas => matches!(says, Record::Quota(_)),
+        Kind::Holders(id, pid) => is_holder(id, pid, says),
     }
 }
 
-fn is_holder(id: u16, pid: u16, record: &Record) -> bool
-    ensures { result ≡ is_of (Holders id pid) record.now }
+fn is_holder(id: u16, pid: u16, says: &Record) -> bool
+    ensures { result ≡ is_of (Holders id pid) says.now }
 {
-    match record {
+    match says {
         Record::Service(service) => service.pmt_pid == pid,
         Record::Part(service, component) => *service == id && component.pid == pid,
         _ => false,
@@ -110,11 +110,11 @@ impl Records {
     }
 
     /// Whether a record has no place behind these.
-    pub(crate) fn has_no_place(&self, record: &Record) -> bool
+    pub(crate) fn has_no_place(&self, says: &Record) -> bool
         requires { IsIndexed self.now.list.items self.now }
-        ensures { result ≡ is_outside self.now.list.items record.now }
+        ensures { result ≡ is_outside self.now.list.items says.now }
     {
-        match record {
+        match says {
             Record::Service(_) => MOST_SERVICES <= self.services,
             Record::Part(service, _) => self.has_no_room(*service),
             _ => false,
@@ -133,11 +133,11 @@ impl Records {
     }
 
     /// The first line that has what a record repeats.
-    pub(crate) fn repeated_at(&self, record: &Record) -> Option<u64>
+    pub(crate) fn repeated_at(&self, says: &Record) -> Option<u64>
         requires { IsIndexed self.now.list.items self.now }
-        ensures { result ≡ repeated_line self.now.list.items record.now }
+        ensures { result ≡ repeated_line self.now.list.items says.now }
     {
-        match record {
+        match says {
             Record::Network(_, _) => first_line(Kind::Networks, &self.list),
             Record::Stream(_, _) => first_line(Kind::Streams, &self.list),
             Record::Delivery(_) => first_line(Kind::Deliveries, &self.list),

@@ -84,10 +84,10 @@ fn quota_of(records: &[Numbered]) -> u32
 }
 
 // The component of a record, where it is one of this service.
-fn part_of(service: u16, record: &Record) -> Option<Component>
-    ensures { result ≡ part_in service record.now }
+fn part_of(service: u16, says: &Record) -> Option<Component>
+    ensures { result ≡ part_in service says.now }
 {
-    match record {
+    match says {
         Record::Part(id, component) => {
             if *id == service {
                 Some(*component)
@@ -111,10 +111,10 @@ fn parts_of(alloc: Global, records: &[Numbered], service: u16) -> Result<Compone
 }
 
 // Takes the component of a record, where it is one of this service.
-fn take_part(parts: &mut Components, service: u16, record: &Record) -> Result<(), AllocError>
-    ensures { OnOk result (parts.new ≡ parts.old ++ cons_option (part_in service record.now) []) }
+fn take_part(parts: &mut Components, service: u16, says: &Record) -> Result<(), AllocError>
+    ensures { OnOk result (parts.new ≡ parts.old ++ cons_option (part_in service says.now) []) }
 {
-    if let Some(component) = part_of(service, record) {
+    if let Some(component) = part_of(service, says) {
         parts.push(component)?;
     }
     Ok(())
@@ -187,11 +187,11 @@ fn take_service(
     alloc: Global,
     records: &[Numbered],
     services: &mut Vec<MuxService>,
-    record: &Record,
+    says: &Record,
 ) -> Result<(), AllocError>
-    ensures { OnOk result (services.new.items ≡ put_service records.now services.old.items (service_in record.now)) }
+    ensures { OnOk result (services.new.items ≡ put_service records.now services.old.items (service_in says.now)) }
 {
-    if let Record::Service(service) = record {
+    if let Record::Service(service) = says {
         let whole = with_parts(alloc, records, service)?;
         insert(services, whole)?;
     }
