@@ -29,10 +29,10 @@ use Rattle.journal_text.specs.declared.script.ScriptItem.TheVariants.{Step as st
 use Rattle.journal_text.specs.Edits.{line_text, item_text, edit_fields, items_of}
 use Rattle.journal_text.specs.Entries.{step_fields, step_items, entry_text}
 use Rattle.journal_text.specs.Script.{feed_of, feed_command, short_step, command_with, command_of_caller, command_by, read_command, kept_in, kept_item, step_item, read_item, item_on, first_script_item, IsShapedStep}
-use Rattle.journal_text.specs.Back.{IsNumeralNumber, IsRow, IsShort, IsTypedStep, IsTypedEdit, item_texts, item_row, command_row, outcome_row, row_line, shown_lines, ahead_of, command_lines, IsReadableOutcome, EntriesReadBack}
+use Rattle.journal_text.specs.Back.{IsNumeralNumber, IsRow, IsShort, IsTypedStep, IsTypedEdit, item_texts, item_row, command_row, outcome_row, row_line, shown_lines, ahead_of, command_lines, IsReadableOutcome, IsWritableOutcome, EntriesReadBack}
 use Rattle.journal_text.proofs.RowBack.{rows_read_back}
-use Rattle.journal_text.proofs.OutcomeBack.{outcome_back, numeral_back, moment_back, digits_of}
-use Rattle.journal_text.proofs.EntryRows.{outcome_line, outcome_front, outcome_row_kept}
+use Rattle.journal_text.proofs.OutcomeBack.{outcome_back, numeral_back, moment_back, digits_of, low}
+use Rattle.journal_text.proofs.EntryRows.{outcome_front, outcome_row_kept, outcome_line, readable_written}
 use Rattle.journal_text.proofs.EntryFields.{item_same, edit_same, item_row_kept, command_kept, command_front}
 
 -- ---- the lines of rows
@@ -85,19 +85,19 @@ rows_have (Day service day items) n h = items_have items n h
 abbrev behind_rows : List Row → List Row → Tail → Ahead
 behind_rows rows more tail = record { rows = rows ++ more; tail = tail }
 
-feed_short : (feed : List ℕ) (fields : List (List ℕ)) → short_step (codes "feed" ∷ feed ∷ fields) ≡ None
+pub feed_short : (feed : List ℕ) (fields : List (List ℕ)) → short_step (codes "feed" ∷ feed ∷ fields) ≡ None
 unfolding control_of
 feed_short feed fields = refl
 
-tick_short : (at : Moment) → at.0 < 65536 * 86400 → short_step (codes "tick" ∷ moment_text at.0 ∷ []) ≡ Some (Tick at)
+pub tick_short : (at : Moment) → at.0 < 65536 * 86400 → short_step (codes "tick" ∷ moment_text at.0 ∷ []) ≡ Some (Tick at)
 unfolding control_of
 tick_short at h = rw (moment_back at h) refl
 
-publish_short : short_step (codes "publish" ∷ []) ≡ Some Publish
+pub publish_short : short_step (codes "publish" ∷ []) ≡ Some Publish
 unfolding control_of
 publish_short = refl
 
-swap_short : short_step (codes "swap" ∷ []) ≡ Some Swap
+pub swap_short : short_step (codes "swap" ∷ []) ≡ Some Swap
 swap_short = refl
 
 short_reads : (who n : ℕ) (fields : List (List ℕ)) (s : Step) (a : Ahead) → short_step fields ≡ Some s → command_of_caller who n fields a ≡ Came (who, s) a
@@ -146,19 +146,19 @@ first_reads after n fields rows tail e = ap (λ o. item_on after n o (record { r
 
 step_reads : (after : Bool) (who n : ℕ) (s : Step) (a b : Ahead) → IsNumeralNumber who → read_command n (command_row who s) a ≡ Came (who, s) b → read_item after n (command_row who s) a ≡ Came (step who s) b
 step_reads after who n s a b w e =
-    ap (λ t. if t then kept_item n (on_line n (kept_in after (command_row who s)) a) else step_item (read_command n (command_row who s) a)) (no_outcome (decimal who) (digits_of who w))
+    ap (λ t. if t then kept_item n (on_line n (kept_in after (command_row who s)) a) else step_item (read_command n (command_row who s) a)) (no_outcome (decimal who) (digits_of who (low who w)))
     ∙ ap step_item e
 
 kept_reads : (n : ℕ) (o : Outcome) (a : Ahead) → IsReadableOutcome o → read_item true n (outcome_row o) a ≡ Came (Kept n o) a
 kept_reads n o a h = ap (λ k. kept_item n (on_line n k a)) (outcome_back o h)
 
 outcome_is_row : (o : Outcome) → IsReadableOutcome o → IsShort (outcome_row o) → IsRow (outcome_row o)
-outcome_is_row o h short = record { front = outcome_front o; kept = outcome_row_kept o h; short = short }
+outcome_is_row o h short = record { front = outcome_front o; kept = outcome_row_kept o (readable_written o h); short = short }
 
 command_is_row : (who : ℕ) (s : Step) → IsNumeralNumber who → IsShapedStep s → IsStepWithin s → IsTypedStep s → IsShort (command_row who s) → IsRow (command_row who s)
-command_is_row who s w h i k short = record { front = command_front who s w; kept = command_kept who s w h i k; short = short }
+command_is_row who s w h i k short = record { front = command_front who s (low who w); kept = command_kept who s (low who w) h i k; short = short }
 
-by_recursion : (items : List Item) → All IsShapedItem items → AllByRecursion IsShapedItem items
+pub by_recursion : (items : List Item) → All IsShapedItem items → AllByRecursion IsShapedItem items
 by_recursion [] h = tt
 by_recursion (item ∷ items) h = (h 0 item (omega arith), by_recursion items (λ k d lt. h (suc k) d (omega arith)))
 
@@ -177,7 +177,7 @@ step_rows Publish h k s = tt
 step_rows Swap h k s = tt
 
 -- the text of an entry, part by part
-entry_parts : (entry : Entry) (rest : List ℕ) → IsReadableOutcome entry.outcome
+pub entry_parts : (entry : Entry) (rest : List ℕ) → IsWritableOutcome entry.outcome
     → entry_text entry ++ rest ≡ line_text (command_row entry.who entry.step) ++ (flat_map item_text (step_items entry.step) ++ (line_text (outcome_row entry.outcome) ++ rest))
 entry_parts entry rest h =
     let first = line_text (command_row entry.who entry.step) in
@@ -197,7 +197,7 @@ entries_read_back entry h n rest tail =
     let at = n + command_lines entry.step in
     let count : n + 1 + length items ≡ at = omega arith in
     let lines : lines_from n (entry_text entry ++ rest) ≡ (n, row_line command) ∷ (numbered (n + 1) items ++ lines_from at last) =
-    ap (lines_from n) (entry_parts entry rest h.outcome)
+    ap (lines_from n) (entry_parts entry rest (readable_written entry.outcome h.outcome))
     ∙ row_first command n (flat_map item_text items ++ last) is_row
     ∙ ap (λ (l : List Row). (n, row_line command) ∷ l) (items_first items (n + 1) last rows ∙ ap (λ k. numbered (n + 1) items ++ lines_from k last) count) in
     record {

@@ -1,5 +1,5 @@
 -- The fields of a command are texts, and those that an edit reads back from.
-use Rattle.std.proofs.Common.{◌≡◌, ◌==◌, ◌&&◌, ◌∙◌, ◌<◌, ◌≤◌, ◌++◌, ◌∷◌, [], ℕ, List, Bool, Option, Some, None, refl, ap, true, false, arith, length, map, append-nil, append_assoc}
+use Rattle.std.proofs.Common.{◌≡◌, ◌==◌, ◌&&◌, ◌∙◌, ◌<◌, ◌≤◌, ◌^◌, ◌++◌, ◌∷◌, [], ℕ, List, Bool, Option, Some, None, refl, ap, true, false, arith, length, map, append-nil, append_assoc}
 use Rattle.std.specs.Prelude.{codes, decimal, flat_map, IfSome}
 use Rattle.std.specs.List.{list_all, AllByRecursion, join_with_byte}
 use Rattle.std.proofs.lemmas.Bool.Decides.{nat_tests}
@@ -21,8 +21,8 @@ use Rattle.desk_core.specs.Steps.{IsStepWithin}
 use Rattle.journal_text.specs.Edits.{genre_text, genres_text, country_text, value_text, item_fields, edit_fields}
 use Rattle.journal_text.specs.Entries.{step_fields}
 use Rattle.journal_text.specs.Script.{IsShapedStep}
-use Rattle.journal_text.specs.Back.{IsNumeralNumber, IsFront, IsFronted, IsTypedEdit, IsTypedStep, item_texts, item_row, command_row}
-use Rattle.journal_text.proofs.OutcomeBack.{digits_of, decimal_some}
+use Rattle.journal_text.specs.Back.{IsFront, IsFronted, IsTypedEdit, IsTypedStep, item_texts, item_row, command_row}
+use Rattle.journal_text.proofs.OutcomeBack.{digits_of, decimal_some, small}
 use Rattle.journal_text.proofs.EntryRows.{is_printing, is_written, printing_kept, digits_printing, shape_written, written_kept, moment_written, number_kept}
 
 both : (a b : Bool) → (a && b) ≡ true → (a ≡ true) × (b ≡ true)
@@ -85,7 +85,7 @@ genres_kept : (gs : List Genre) → AllByRecursion HasGenreNumbers gs → IsKept
 genres_kept gs h = rw (genres_same gs) (printing_kept (genres_field gs) (genres_printing gs h))
 
 small_kept : (n high : ℕ) → n ≤ high → high ≤ 65535 → IsKept (decimal n)
-small_kept n high le most = number_kept n (omega arith)
+small_kept n high le most = number_kept n (small n (omega arith))
 
 value_kept : (r : Option RawRating) → IfSome r (λ x. x.value ≤ 255) → IsKept (value_text r)
 value_kept None h = written_kept [] refl
@@ -115,7 +115,7 @@ step_kept (Tick at) h w k = (word_kept (codes "tick") refl, (written_kept _ (mom
 step_kept Publish h w k = (word_kept (codes "publish") refl, tt)
 step_kept Swap h w k = (word_kept (codes "swap") refl, tt)
 
-pub command_kept : (who : ℕ) (s : Step) → IsNumeralNumber who → IsShapedStep s → IsStepWithin s → IsTypedStep s → AllByRecursion IsKept (command_row who s)
+pub command_kept : (who : ℕ) (s : Step) → who < 2 ^ 64 → IsShapedStep s → IsStepWithin s → IsTypedStep s → AllByRecursion IsKept (command_row who s)
 command_kept who s n h w k = (number_kept who n, step_kept s h w k)
 
 -- ---- a number may begin a line
@@ -127,10 +127,10 @@ digits_front : (xs : List ℕ) → 0 < length xs → list_all is_digit xs ≡ tr
 digits_front [] some h = absurd (omega arith)
 digits_front (x ∷ xs) some h = digit_front x (both (is_digit x) (list_all is_digit xs) h).0
 
-number_front : (n : ℕ) → IsNumeralNumber n → IsFront (decimal n)
+number_front : (n : ℕ) → n < 2 ^ 64 → IsFront (decimal n)
 number_front n h = digits_front (decimal n) (decimal_some n h) (digits_of n h)
 
-pub command_front : (who : ℕ) (s : Step) → IsNumeralNumber who → IsFronted (command_row who s)
+pub command_front : (who : ℕ) (s : Step) → who < 2 ^ 64 → IsFronted (command_row who s)
 command_front who (edit feed e) h = number_front who h
 command_front who (Tick at) h = number_front who h
 command_front who Publish h = number_front who h

@@ -1,5 +1,5 @@
 -- The lines of an entry are rows.
-use Rattle.std.proofs.Common.{◌≡◌, ◌≢◌, ◌==◌, ◌&&◌, ◌∙◌, ◌<◌, ◌≤◌, ◌*◌, ◌++◌, ◌∷◌, [], ℕ, List, Bool, refl, sym, ap, true, false, inl, inr, arith, append-nil}
+use Rattle.std.proofs.Common.{◌≡◌, ◌≢◌, ◌==◌, ◌&&◌, ◌∙◌, ◌<◌, ◌≤◌, ◌*◌, ◌^◌, ◌++◌, ◌∷◌, [], ℕ, List, Bool, refl, sym, ap, true, false, inl, inr, arith, append-nil}
 use Rattle.std.specs.Prelude.{codes, decimal, nat_le, if◌then◌else◌}
 use Rattle.std.specs.Char.{is_ascii_digit}
 use Rattle.std.specs.List.{list_all, list_any, AllByRecursion}
@@ -22,8 +22,8 @@ use Rattle.desk_core.specs.declared.step.Outcome.{Outcome}
 use Rattle.desk_core.specs.declared.step.Outcome.TheVariants.{Edited, Ticked, Late, Published, Swapped}
 use Rattle.journal_text.specs.Edits.{line_text}
 use Rattle.journal_text.specs.Outcomes.{field_fields, day_fault_fields, outcome_fields, outcome_text, with_commas}
-use Rattle.journal_text.specs.Back.{IsNumeralNumber, HasFieldNumber, HasDayFaultNumbers, IsFronted, IsReadableOutcome, row_line, outcome_row}
-use Rattle.journal_text.proofs.OutcomeBack.{digits_of, outcome_is}
+use Rattle.journal_text.specs.Back.{HasFieldNumber, HasDayFaultNumbers, HasOutcomeNumbers, field_numbers, day_fault_numbers, outcome_numbers, IsFronted, IsReadableOutcome, IsWritableOutcome, row_line, outcome_row}
+use Rattle.journal_text.proofs.OutcomeBack.{digits_of, outcome_is, low, small}
 use Rattle.journal_text.proofs.CleanRows.{clean_append, clean_none, clean_byte}
 
 both : (a b : Bool) → (a && b) ≡ true → (a ≡ true) × (b ≡ true)
@@ -99,11 +99,11 @@ written_kept xs h = printing_kept xs (all_more is_written is_printing written_pr
 pub moment_written : (t : ℕ) → t < 65536 * 86400 → list_all is_written (moment_text t) ≡ true
 moment_written t h = shape_written (codes "dddd-dd-ddTdd:dd:ddZ") (moment_text t) refl (moment_in-only (moment_text t) t (moment_in-moment_text t h)).shape
 
-pub number_written : (n : ℕ) → IsNumeralNumber n → list_all is_written (decimal n) ≡ true
-number_written n le = digits_written (decimal n) (digits_of n le)
+pub number_written : (n : ℕ) → n < 2 ^ 64 → list_all is_written (decimal n) ≡ true
+number_written n lt = digits_written (decimal n) (digits_of n lt)
 
-pub number_kept : (n : ℕ) → IsNumeralNumber n → IsKept (decimal n)
-number_kept n le = written_kept (decimal n) (number_written n le)
+pub number_kept : (n : ℕ) → n < 2 ^ 64 → IsKept (decimal n)
+number_kept n lt = written_kept (decimal n) (number_written n lt)
 
 -- ---- the line of an outcome
 
@@ -136,7 +136,7 @@ plain_fields f (g ∷ fs) h =
     let (p, q) = both (list_all is_written f) (all_written (g ∷ fs)) h in
     ap (λ (l : List ℕ). 44 ∷ (l ++ fields_text default_writer (g ∷ fs))) (plain_field f p) ∙ ap (λ (l : List ℕ). 44 ∷ (f ++ l)) (plain_fields g fs q)
 
-field_written : (f : Field) → HasFieldNumber f → all_written (field_fields f) ≡ true
+field_written : (f : Field) → AllByRecursion (λ n. n < 2 ^ 64) (field_numbers f) → all_written (field_fields f) ≡ true
 field_written Start h = refl
 field_written Duration h = refl
 field_written Window h = refl
@@ -149,26 +149,23 @@ field_written Rating h = refl
 field_written Genre h = refl
 field_written Provider h = refl
 field_written ServiceName h = refl
-field_written (Count n) h = rw (number_written n h) refl
-field_written (Segment n) h = rw (number_written n h) refl
+field_written (Count n) h = rw (number_written n h.0) refl
+field_written (Segment n) h = rw (number_written n h.0) refl
 
-id_written : (n : ℕ) → n ≤ 65535 → list_all is_written (decimal n) ≡ true
-id_written n le = number_written n (omega arith)
-
-fault_written : (fault : DayFault) → HasDayFaultNumbers fault → all_written (day_fault_fields fault) ≡ true
+fault_written : (fault : DayFault) → AllByRecursion (λ n. n < 2 ^ 64) (day_fault_numbers fault) → all_written (day_fault_fields fault) ≡ true
 fault_written (BadField f) h = field_written f h
-fault_written (Overlaps e) h = rw (id_written e h) refl
+fault_written (Overlaps e) h = rw (number_written e h.0) refl
 
-pub outcome_written : (o : Outcome) → IsReadableOutcome o → all_written (outcome_fields o) ≡ true
+pub outcome_written : (o : Outcome) → IsWritableOutcome o → all_written (outcome_fields o) ≡ true
 outcome_written (Edited Done) h = refl
-outcome_written (Edited (Foreign s)) h = rw (id_written s h.numbers) refl
+outcome_written (Edited (Foreign s)) h = rw (number_written s h.numbers.0) refl
 outcome_written (Edited (Range f)) h = field_written f h.numbers
-outcome_written (Edited (Overlap e)) h = rw (id_written e h.numbers) refl
-outcome_written (Edited (Member i fault)) h = rw (id_written i h.numbers.0) (fault_written fault h.numbers.1)
+outcome_written (Edited (Overlap e)) h = rw (number_written e h.numbers.0) refl
+outcome_written (Edited (Member i fault)) h = rw (number_written i h.numbers.0) (fault_written fault h.numbers.1)
 outcome_written Ticked h = refl
 outcome_written (Late at) h = rw (moment_written at.0 h.window) refl
-outcome_written (Published n) h = rw (number_written n h.numbers) refl
-outcome_written (Swapped n at) h = rw (number_written n h.numbers, moment_written at.0 h.window) refl
+outcome_written (Published n) h = rw (number_written n h.numbers.0) refl
+outcome_written (Swapped n at) h = rw (number_written n h.numbers.0, moment_written at.0 h.window) refl
 
 some_written : (fs : List (List ℕ)) → fs ≢ [] → all_written fs ≡ true → fields_text default_writer fs ≡ 44 ∷ with_commas fs
 some_written [] n h = absurd (n refl)
@@ -186,7 +183,7 @@ outcome_some (Published n) = λ e. cc
 outcome_some (Swapped n at) = λ e. cc
 
 -- the line of an outcome is the text of the row
-pub outcome_line : (o : Outcome) → IsReadableOutcome o → codes "=," ++ outcome_text o ++ codes "\n" ≡ line_text (outcome_row o)
+pub outcome_line : (o : Outcome) → IsWritableOutcome o → codes "=," ++ outcome_text o ++ codes "\n" ≡ line_text (outcome_row o)
 outcome_line o h =
     let body : row_line (outcome_row o) ≡ codes "=," ++ outcome_text o =
     ap (λ (l : List ℕ). 61 ∷ l) (some_written (outcome_fields o) (outcome_some o) (outcome_written o h)) ∙ ap (λ (l : List ℕ). 61 ∷ 44 ∷ l) (sym (outcome_is o)) in
@@ -196,7 +193,7 @@ all_written_kept : (fs : List (List ℕ)) → all_written fs ≡ true → AllByR
 all_written_kept [] h = tt
 all_written_kept (f ∷ fs) h = (let (p, q) = both (list_all is_written f) (all_written fs) h in (written_kept f p, all_written_kept fs q))
 
-pub outcome_row_kept : (o : Outcome) → IsReadableOutcome o → AllByRecursion IsKept (outcome_row o)
+pub outcome_row_kept : (o : Outcome) → IsWritableOutcome o → AllByRecursion IsKept (outcome_row o)
 outcome_row_kept o h = (written_kept (codes "=") refl, all_written_kept (outcome_fields o) (outcome_written o h))
 
 fronted : (fs : List (List ℕ)) → fs ≢ [] → IsFronted (codes "=" ∷ fs)
@@ -205,3 +202,38 @@ fronted (f ∷ fs) n = (refl, refl)
 
 pub outcome_front : (o : Outcome) → IsFronted (outcome_row o)
 outcome_front o = fronted (outcome_fields o) (outcome_some o)
+
+-- what is readable can be written
+field_low : (f : Field) → HasFieldNumber f → AllByRecursion (λ n. n < 2 ^ 64) (field_numbers f)
+field_low (Count n) h = (low n h, tt)
+field_low (Segment n) h = (low n h, tt)
+field_low Start h = tt
+field_low Duration h = tt
+field_low Window h = tt
+field_low Language h = tt
+field_low Name h = tt
+field_low Short h = tt
+field_low Extended h = tt
+field_low Country h = tt
+field_low Rating h = tt
+field_low Genre h = tt
+field_low Provider h = tt
+field_low ServiceName h = tt
+
+fault_low : (fault : DayFault) → HasDayFaultNumbers fault → AllByRecursion (λ n. n < 2 ^ 64) (day_fault_numbers fault)
+fault_low (BadField f) h = field_low f h
+fault_low (Overlaps e) h = (small e h, tt)
+
+outcome_low : (o : Outcome) → HasOutcomeNumbers o → AllByRecursion (λ n. n < 2 ^ 64) (outcome_numbers o)
+outcome_low (Edited Done) h = tt
+outcome_low (Edited (Foreign s)) h = (small s h, tt)
+outcome_low (Edited (Range f)) h = field_low f h
+outcome_low (Edited (Overlap e)) h = (small e h, tt)
+outcome_low (Edited (Member i fault)) h = (small i h.0, fault_low fault h.1)
+outcome_low Ticked h = tt
+outcome_low (Late at) h = tt
+outcome_low (Published n) h = (low n h, tt)
+outcome_low (Swapped n at) h = (low n h, tt)
+
+pub readable_written : (o : Outcome) → IsReadableOutcome o → IsWritableOutcome o
+readable_written o h = record { numbers = outcome_low o h.numbers; window = h.window }

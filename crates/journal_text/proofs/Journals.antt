@@ -1,16 +1,289 @@
--- Readable journals that differ have different texts.
-use Rattle.std.proofs.Common.{◌≡◌, ◌∙◌, ◌+◌, ◌++◌, ◌∷◌, [], ℕ, List, false, true, refl, sym, ap}
+-- Journals whose edits were read from lines are equal where their texts are: the text gives the rows, and these the entries.
+use Rattle.std.proofs.Common.{◌≡◌, ◌==◌, ◌∙◌, ◌<◌, ◌≤◌, ◌^◌, ◌*◌, ◌++◌, ◌∷◌, [], ℕ, List, Option, Some, None, length, map, refl, sym, ap, arith, append_assoc}
+use Rattle.std.proofs.lemmas.List.{length-map}
+use Rattle.std.specs.Prelude.{codes, decimal, drop, flat_map, if◌then◌else◌, option_map}
 use Rattle.std.specs.List.{AllByRecursion}
-use Rattle.feed_edits.specs.Ahead.{Ahead, Tail, Ends, Found, Came}
+use Rattle.si_causes.specs.Lines.{raw_lines}
+use Rattle.si_text.specs.Decoding.{IsKept}
+use Rattle.si_time.specs.Moments.{moment_text}
+use Rattle.si_time.specs.declared.moment.Moment.{Moment}
+use Rattle.input_lines.specs.Fields.{line_fields}
+use Rattle.input_lines.specs.Numbers.{is_word, value_from}
+use Rattle.feed_book.specs.declared.reply.Field.{Field}
+use Rattle.feed_book.specs.declared.reply.Field.TheVariants.{Start, Duration, Window, Language, Name as NameField, Short, Extended, Country, Rating, Genre, Provider, ServiceName, Count, Segment}
+use Rattle.feed_book.specs.declared.reply.DayFault.{DayFault}
+use Rattle.feed_book.specs.declared.reply.DayFault.TheVariants.{Range as BadField, Overlap as Overlaps}
+use Rattle.feed_book.specs.declared.reply.Reply.{Reply}
+use Rattle.feed_book.specs.declared.reply.Reply.TheVariants.{Done, Foreign, Range, Overlap, Member}
+use Rattle.feed_edits.specs.declared.edit.Item.{Item}
+use Rattle.feed_edits.specs.declared.edit.Edit.{Edit}
+use Rattle.feed_edits.specs.declared.edit.Edit.TheVariants.{Put, Withdraw, Clear, Name, Day}
+use Rattle.feed_edits.specs.Items.{all_some, item_of, item_line, IsShapedItem}
+use Rattle.feed_edits.specs.Heads.{IsShaped}
+use Rattle.feed_edits.specs.Back.{HasNumbers, HasItemNumbers}
+use Rattle.feed_edits.proofs.Back.{number_back, item_back, item_line_back}
 use Rattle.desk_core.specs.declared.step.Step.{Step}
+use Rattle.desk_core.specs.declared.step.Step.TheVariants.{Edit as edit, Tick, Publish, Swap}
 use Rattle.desk_core.specs.declared.step.Outcome.{Outcome}
+use Rattle.desk_core.specs.declared.step.Outcome.TheVariants.{Edited, Ticked, Late, Published, Swapped}
 use Rattle.desk_core.specs.declared.step.Entry.{Entry}
-use Rattle.journal_text.specs.declared.script.ScriptItem.{ScriptItem}
-use Rattle.journal_text.specs.declared.script.ScriptItem.TheVariants.{Step as step, Kept}
-use Rattle.journal_text.specs.Entries.{entry_text, journal_text}
-use Rattle.journal_text.specs.Script.{first_script_item}
-use Rattle.journal_text.specs.Back.{ahead_of, command_lines, IsReadable, JournalsDiffer}
-use Rattle.journal_text.proofs.EntryBack.{entries_read_back}
+use Rattle.desk_core.specs.Steps.{IsStepWithin}
+use Rattle.desk_core.specs.Controls.{moment_at}
+use Rattle.journal_text.specs.Edits.{line_text, item_text, item_fields, edit_fields, items_of}
+use Rattle.journal_text.specs.Entries.{step_fields, step_items, entry_text, journal_text}
+use Rattle.journal_text.specs.Outcomes.{field_fields, day_fault_fields, outcome_fields}
+use Rattle.journal_text.specs.Kept.{event_word, other_word, or_else}
+use Rattle.journal_text.specs.Script.{short_step, feed_of, IsShapedStep}
+use Rattle.journal_text.specs.Back.{IsFronted, IsTypedEdit, IsTypedStep, IsWritableOutcome, IsOfLines, item_texts, item_row, command_row, outcome_row, row_line, field_numbers, day_fault_numbers, JournalsDiffer}
+use Rattle.journal_text.proofs.CleanRows.{row_clean, all_clean, clean_inner, line_first}
+use Rattle.journal_text.proofs.RowBack.{fields_back}
+use Rattle.journal_text.proofs.OutcomeBack.{value_back, small, moment_back}
+use Rattle.journal_text.proofs.EntryRows.{outcome_front, outcome_row_kept}
+use Rattle.journal_text.proofs.EntryFields.{item_same, item_row_kept, command_kept, command_front}
+use Rattle.journal_text.proofs.EntryBack.{feed_short, tick_short, publish_short, swap_short, by_recursion, entry_parts}
+
+-- ---- the rows of a text
+
+abbrev pub Row : Type 0
+Row = List (List ℕ)
+
+-- the fields of each line
+abbrev pub rows_in : List ℕ → List Row
+rows_in text = map line_fields (raw_lines text)
+
+row_in : (fields : Row) (rest : List ℕ) → IsFronted fields → AllByRecursion IsKept fields → rows_in (line_text fields ++ rest) ≡ fields ∷ rows_in rest
+row_in fields rest front kept =
+    let inner = clean_inner (row_line fields) (row_clean fields (all_clean fields kept)) in
+    ap rows_in (append_assoc (row_line fields) (10 ∷ []) rest)
+    ∙ ap (map line_fields) (line_first (row_line fields) rest inner)
+    ∙ ap (λ (l : Row). l ∷ rows_in rest) (fields_back fields front)
+
+-- items that can stand on lines
+abbrev pub AreItems : List Item → Type 0
+AreItems items = AllByRecursion (λ (item : Item). IsShapedItem item × HasItemNumbers item × AllByRecursion IsKept (item_texts item)) items
+
+items_in : (items : List Item) (rest : List ℕ) → AreItems items → rows_in (flat_map item_text items ++ rest) ≡ map item_row items ++ rows_in rest
+items_in [] rest h = refl
+items_in (item ∷ items) rest h =
+    ap rows_in (append_assoc (item_text item) (flat_map item_text items) rest)
+    ∙ row_in (item_row item) (flat_map item_text items ++ rest) (refl, refl) (item_row_kept item h.0.0 h.0.1 h.0.2)
+    ∙ ap (λ (l : List Row). item_row item ∷ l) (items_in items rest h.1)
+
+items_fit : (items : List Item) → AllByRecursion IsShapedItem items → AllByRecursion HasItemNumbers items → AllByRecursion (λ (item : Item). AllByRecursion IsKept (item_texts item)) items → AreItems items
+items_fit [] h k t = tt
+items_fit (item ∷ items) h k t = ((h.0, k.0, t.0), items_fit items h.1 k.1 t.1)
+
+step_fit : (s : Step) → IsShapedStep s → IsTypedStep s → AreItems (step_items s)
+step_fit (edit feed (Put service item)) h k = tt
+step_fit (edit feed (Withdraw service event)) h k = tt
+step_fit (edit feed (Clear service)) h k = tt
+step_fit (edit feed (Name service provider name)) h k = tt
+step_fit (edit feed (Day service day items)) h k = items_fit items (by_recursion items h.items) k.1.numbers.1 k.1.items
+step_fit (Tick at) h k = tt
+step_fit Publish h k = tt
+step_fit Swap h k = tt
+
+-- the rows of an entry, and then others
+abbrev pub rows_of : Entry → List Row → List Row
+rows_of entry rest = command_row entry.who entry.step ∷ (map item_row (step_items entry.step) ++ outcome_row entry.outcome ∷ rest)
+
+entry_in : (entry : Entry) (rest : List ℕ) → IsOfLines entry → rows_in (entry_text entry ++ rest) ≡ rows_of entry (rows_in rest)
+entry_in entry rest h =
+    let items = step_items entry.step in
+    let command = command_row entry.who entry.step in
+    let last = line_text (outcome_row entry.outcome) ++ rest in
+    ap rows_in (entry_parts entry rest h.outcome)
+    ∙ row_in command (flat_map item_text items ++ last) (command_front entry.who entry.step h.who) (command_kept entry.who entry.step h.who h.shaped h.within h.typed)
+    ∙ ap (λ (l : List Row). command ∷ l) (items_in items last (step_fit entry.step h.shaped h.typed)
+    ∙ ap (λ (l : List Row). map item_row items ++ l) (row_in (outcome_row entry.outcome) rest (outcome_front entry.outcome) (outcome_row_kept entry.outcome h.outcome)))
+
+-- ---- the step of rows
+
+-- the edit of the fields of its line, and of its item rows
+abbrev pub put_from : Row → Option Edit
+put_from [] = None
+put_from (service ∷ item) = option_map (λ (i : Item). Put (value_from 0 service) i) (item_of item)
+
+abbrev pub withdraw_from : Row → Option Edit
+withdraw_from (service ∷ event ∷ fields) = Some (Withdraw (value_from 0 service) (value_from 0 event))
+withdraw_from fields = None
+
+abbrev pub clear_from : Row → Option Edit
+clear_from [] = None
+clear_from (service ∷ fields) = Some (Clear (value_from 0 service))
+
+abbrev pub name_from : Row → Option Edit
+name_from (service ∷ provider ∷ name ∷ fields) = Some (Name (value_from 0 service) provider name)
+name_from fields = None
+
+abbrev pub day_with : List ℕ → List ℕ → List Item → Edit
+day_with service date items = Day (value_from 0 service) (record { 0 = date }) items
+
+abbrev pub day_from : Row → List Row → Option Edit
+day_from (service ∷ date ∷ fields) rows = option_map (day_with service date) (all_some (map item_line rows))
+day_from fields rows = None
+
+abbrev pub edit_from : Row → List Row → Option Edit
+edit_from [] rows = None
+edit_from (word ∷ fields) rows =
+    if is_word (codes "put") word then put_from fields
+    else (if is_word (codes "withdraw") word then withdraw_from fields
+    else (if is_word (codes "clear") word then clear_from fields
+    else (if is_word (codes "name") word then name_from fields
+    else day_from fields rows)))
+
+items_from : (items : List Item) → AreItems items → all_some (map item_line (map item_row items)) ≡ Some items
+items_from [] h = refl
+items_from (item ∷ items) h =
+    let one : item_line (item_row item) ≡ Some item = ap (λ (l : Row). item_line (codes "item" ∷ l)) (item_same item) ∙ item_line_back item h.0.0 h.0.1 in
+    rw (one, items_from items h.1) refl
+
+id_back : (n : ℕ) → n ≤ 65535 → value_from 0 (decimal n) ≡ n
+id_back n le = value_back n (small n le)
+
+edit_back : (e : Edit) → IsShaped e → HasNumbers e → AreItems (items_of e) → edit_from (edit_fields e) (map item_row (items_of e)) ≡ Some e
+edit_back (Put service item) h k t =
+    let read : item_of (item_fields item) ≡ Some item = ap item_of (item_same item) ∙ item_back item h k.1 in
+    rw (id_back service k.0, read) refl
+edit_back (Withdraw service event) h k t = rw (id_back service k.0, id_back event k.1) refl
+edit_back (Clear service) h k t = rw (id_back service k) refl
+edit_back (Name service provider name) h k t = rw (id_back service k) refl
+edit_back (Day service day items) h k t =
+    ap (option_map (day_with (decimal service) day.0)) (items_from items t)
+    ∙ ap (λ (n : ℕ). let o : Option Edit = Some (Day n day items) in o) (id_back service k.0)
+
+-- how many item rows stand behind a line
+abbrev pub day_count : Row → ℕ
+day_count (service ∷ date ∷ count ∷ fields) = value_from 0 count
+day_count fields = 0
+
+abbrev pub rows_behind : Row → ℕ
+rows_behind (word ∷ fields) = if is_word (codes "day") word then day_count fields else 0
+rows_behind [] = 0
+
+count_of : (e : Edit) → IsShaped e → rows_behind (edit_fields e) ≡ length (items_of e)
+count_of (Put service item) h = refl
+count_of (Withdraw service event) h = refl
+count_of (Clear service) h = refl
+count_of (Name service provider name) h = refl
+count_of (Day service day items) h = value_back (length items) (small (length items) (let n : length items ≤ 2000 = h.count in omega arith))
+
+abbrev pub step_with : Option Step → Option ℕ → Option Edit → Option Step
+step_with (Some s) feed e = Some s
+step_with None None e = None
+step_with None (Some feed) None = None
+step_with None (Some feed) (Some e) = Some (edit feed e)
+
+-- the step of these fields and of these item rows
+abbrev pub step_from : Row → List Row → Option Step
+step_from fields rows = step_with (short_step fields) (feed_of fields) (edit_from (drop 2 fields) rows)
+
+step_back : (s : Step) → IsShapedStep s → IsStepWithin s → IsTypedStep s → step_from (step_fields s) (map item_row (step_items s)) ≡ Some s
+step_back (edit feed e) h w k =
+    let rows = map item_row (items_of e) in
+    let number : feed_of (step_fields (edit feed e)) ≡ Some feed = number_back feed 255 k.0 (omega arith) in
+    ap (λ o. step_with o (feed_of (step_fields (edit feed e))) (edit_from (edit_fields e) rows)) (feed_short (decimal feed) (edit_fields e))
+    ∙ ap (λ o. step_with None o (edit_from (edit_fields e) rows)) number
+    ∙ ap (step_with None (Some feed)) (edit_back e h k.1.numbers (step_fit (edit feed e) h k))
+step_back (Tick at) h w k = ap (λ o. step_with o (feed_of (step_fields (Tick at))) (edit_from (drop 2 (step_fields (Tick at))) [])) (tick_short at w)
+step_back Publish h w k = ap (λ o. step_with o (feed_of (step_fields Publish)) (edit_from (drop 2 (step_fields Publish)) [])) publish_short
+step_back Swap h w k = ap (λ o. step_with o (feed_of (step_fields Swap)) (edit_from (drop 2 (step_fields Swap)) [])) swap_short
+
+count_back : (s : Step) → IsShapedStep s → rows_behind (drop 2 (step_fields s)) ≡ length (step_items s)
+count_back (edit feed e) h = count_of e h
+count_back (Tick at) h = refl
+count_back Publish h = refl
+count_back Swap h = refl
+
+-- ---- the outcome of a row
+
+abbrev pub number_from : Row → ℕ
+number_from [] = 0
+number_from (n ∷ fields) = value_from 0 n
+
+abbrev pub field_from : Row → Option Field
+field_from [] = None
+field_from (word ∷ []) = or_else (event_word word) (other_word word)
+field_from (word ∷ n ∷ fields) = if is_word (codes "count") word then Some (Count (value_from 0 n)) else Some (Segment (value_from 0 n))
+
+abbrev pub fault_from : Row → Option DayFault
+fault_from [] = None
+fault_from (word ∷ fields) = if is_word (codes "range") word then option_map BadField (field_from fields) else Some (Overlaps (number_from fields))
+
+abbrev pub member_from : Row → Option Reply
+member_from [] = None
+member_from (place ∷ fields) = option_map (Member (value_from 0 place)) (fault_from fields)
+
+abbrev pub reply_from : List ℕ → Row → Option Reply
+reply_from word fields =
+    if is_word (codes "done") word then Some Done
+    else (if is_word (codes "foreign") word then Some (Foreign (number_from fields))
+    else (if is_word (codes "range") word then option_map Range (field_from fields)
+    else (if is_word (codes "overlap") word then Some (Overlap (number_from fields))
+    else member_from fields)))
+
+abbrev pub late_from : Row → Option Outcome
+late_from [] = None
+late_from (moment ∷ fields) = option_map Late (moment_at moment)
+
+abbrev pub swapped_from : Row → Option Outcome
+swapped_from (n ∷ moment ∷ fields) = option_map (Swapped (value_from 0 n)) (moment_at moment)
+swapped_from fields = None
+
+abbrev pub outcome_from : Row → Option Outcome
+outcome_from [] = None
+outcome_from (word ∷ fields) =
+    if is_word (codes "ticked") word then Some Ticked
+    else (if is_word (codes "late") word then late_from fields
+    else (if is_word (codes "published") word then Some (Published (number_from fields))
+    else (if is_word (codes "swapped") word then swapped_from fields
+    else option_map Edited (reply_from word fields))))
+
+field_again : (f : Field) → AllByRecursion (λ n. n < 2 ^ 64) (field_numbers f) → field_from (field_fields f) ≡ Some f
+field_again Start h = refl
+field_again Duration h = refl
+field_again Window h = refl
+field_again Language h = refl
+field_again NameField h = refl
+field_again Short h = refl
+field_again Extended h = refl
+field_again Country h = refl
+field_again Rating h = refl
+field_again Genre h = refl
+field_again Provider h = refl
+field_again ServiceName h = refl
+field_again (Count n) h = rw (value_back n h.0) refl
+field_again (Segment n) h = rw (value_back n h.0) refl
+
+fault_again : (fault : DayFault) → AllByRecursion (λ n. n < 2 ^ 64) (day_fault_numbers fault) → fault_from (day_fault_fields fault) ≡ Some fault
+fault_again (BadField f) h = rw (field_again f h) refl
+fault_again (Overlaps e) h = rw (value_back e h.0) refl
+
+outcome_again : (o : Outcome) → IsWritableOutcome o → outcome_from (outcome_fields o) ≡ Some o
+outcome_again (Edited Done) h = refl
+outcome_again (Edited (Foreign s)) h = rw (value_back s h.numbers.0) refl
+outcome_again (Edited (Range f)) h = rw (field_again f h.numbers) refl
+outcome_again (Edited (Overlap e)) h = rw (value_back e h.numbers.0) refl
+outcome_again (Edited (Member i fault)) h = rw (value_back i h.numbers.0, fault_again fault h.numbers.1) refl
+outcome_again Ticked h = refl
+outcome_again (Late at) h = rw (moment_back at h.window) refl
+outcome_again (Published n) h = rw (value_back n h.numbers.0) refl
+outcome_again (Swapped n at) h = rw (value_back n h.numbers.0, moment_back at h.window) refl
+
+-- ---- equal rows are of equal entries
+
+some_same : {A : Type 0} {x y : A} → Some x ≡ Some y → x ≡ y
+some_same e = cc
+
+split_same : {A : Type 0} (xs ys us vs : List A) → length xs ≡ length ys → xs ++ us ≡ ys ++ vs → (xs ≡ ys) × (us ≡ vs)
+split_same [] [] us vs l e = (refl, e)
+split_same [] (y ∷ ys) us vs l e = absurd (omega (arith, l))
+split_same (x ∷ xs) [] us vs l e = absurd (omega (arith, l))
+split_same (x ∷ xs) (y ∷ ys) us vs l e =
+    let first : x ≡ y = cc e in
+    let others : xs ++ us ≡ ys ++ vs = cc e in
+    let parts = split_same xs ys us vs (omega (arith, l)) others in
+    (ap (λ a. a ∷ xs) first ∙ ap (λ l. y ∷ l) parts.0, parts.1)
 
 abbrev is_entry : ℕ → Step → Outcome → Entry
 is_entry who s o = record { who = who; step = s; outcome = o }
@@ -18,32 +291,31 @@ is_entry who s o = record { who = who; step = s; outcome = o }
 same_entry : (a b : Entry) → a.who ≡ b.who → a.step ≡ b.step → a.outcome ≡ b.outcome → a ≡ b
 same_entry a b w s o = ap (λ x. is_entry x a.step a.outcome) w ∙ ap (λ x. is_entry b.who x a.outcome) s ∙ ap (λ x. is_entry b.who b.step x) o
 
--- what stands behind one entry or another
-abbrev behind : ℕ → Step → List Entry → Tail → Ahead
-behind n s entries tail = ahead_of (n + command_lines s + 1) (journal_text entries) tail
+rows_same : (x y : Entry) (us vs : List Row) → IsOfLines x → IsOfLines y → rows_of x us ≡ rows_of y vs → (x ≡ y) × (us ≡ vs)
+rows_same x y us vs h k e =
+    let command : command_row x.who x.step ≡ command_row y.who y.step = cc e in
+    let behind : map item_row (step_items x.step) ++ outcome_row x.outcome ∷ us ≡ map item_row (step_items y.step) ++ outcome_row y.outcome ∷ vs = cc e in
+    let whos : decimal x.who ≡ decimal y.who = cc command in
+    let fields : step_fields x.step ≡ step_fields y.step = cc command in
+    let who : x.who ≡ y.who = sym (value_back x.who h.who) ∙ ap (value_from 0) whos ∙ value_back y.who k.who in
+    let count : length (map item_row (step_items x.step)) ≡ length (map item_row (step_items y.step)) =
+    length-map (step_items x.step) item_row ∙ sym (count_back x.step h.shaped) ∙ ap (λ (l : Row). rows_behind (drop 2 l)) fields ∙ count_back y.step k.shaped ∙ sym (length-map (step_items y.step) item_row) in
+    let parts = split_same (map item_row (step_items x.step)) (map item_row (step_items y.step)) (outcome_row x.outcome ∷ us) (outcome_row y.outcome ∷ vs) count behind in
+    let last : outcome_row x.outcome ∷ us ≡ outcome_row y.outcome ∷ vs = parts.1 in
+    let outcomes : outcome_fields x.outcome ≡ outcome_fields y.outcome = cc last in
+    let rest : us ≡ vs = cc last in
+    let step : x.step ≡ y.step =
+    some_same (sym (step_back x.step h.shaped h.within h.typed) ∙ ap (λ (l : Row). step_from l (map item_row (step_items x.step))) fields ∙ ap (step_from (step_fields y.step)) parts.0 ∙ step_back y.step k.shaped k.within k.typed) in
+    let outcome : x.outcome ≡ y.outcome = some_same (sym (outcome_again x.outcome h.outcome) ∙ ap outcome_from outcomes ∙ outcome_again y.outcome k.outcome) in
+    (same_entry x y who step outcome, rest)
 
-same_journal : (a b : List Entry) (n : ℕ) (tail : Tail) → AllByRecursion IsReadable a → AllByRecursion IsReadable b
-    → ahead_of n (journal_text a) tail ≡ ahead_of n (journal_text b) tail → a ≡ b
-same_journal [] [] n tail h k e = refl
-same_journal [] (y ∷ ys) n tail h k e =
-    let r = entries_read_back y k.0 n (journal_text ys) tail in
-    absurd (let never = ap (first_script_item false) e ∙ r.command in cc never)
-same_journal (x ∷ xs) [] n tail h k e =
-    let r = entries_read_back x h.0 n (journal_text xs) tail in
-    absurd (let never = sym (ap (first_script_item false) e) ∙ r.command in cc never)
-same_journal (x ∷ xs) (y ∷ ys) n tail h k e =
-    let p = entries_read_back x h.0 n (journal_text xs) tail in
-    let q = entries_read_back y k.0 n (journal_text ys) tail in
-    let first : (let r : Found ScriptItem = Came (step x.who x.step) p.behind in r) ≡ Came (step y.who y.step) q.behind = sym p.command ∙ ap (first_script_item false) e ∙ q.command in
-    let who : x.who ≡ y.who = cc first in
-    let same : x.step ≡ y.step = cc first in
-    let on : p.behind ≡ q.behind = cc first in
-    let second : (let r : Found ScriptItem = Came (Kept (n + command_lines x.step) x.outcome) (behind n x.step xs tail) in r) ≡ Came (Kept (n + command_lines y.step) y.outcome) (behind n y.step ys tail) =
-      sym p.kept ∙ ap (first_script_item true) on ∙ q.kept in
-    let outcome : x.outcome ≡ y.outcome = cc second in
-    let ahead : behind n x.step xs tail ≡ behind n y.step ys tail = cc second in
-    let rest : xs ≡ ys = same_journal xs ys (n + command_lines x.step + 1) tail h.1 k.1 (ahead ∙ ap (λ s. behind n s ys tail) (sym same)) in
-    ap (λ (l : Entry). l ∷ xs) (same_entry x y who same outcome) ∙ ap (λ (l : List Entry). y ∷ l) rest
+same_journal : (a b : List Entry) → AllByRecursion IsOfLines a → AllByRecursion IsOfLines b → rows_in (journal_text a) ≡ rows_in (journal_text b) → a ≡ b
+same_journal [] [] h k e = refl
+same_journal [] (y ∷ ys) h k e = absurd (let never = e ∙ entry_in y (journal_text ys) k.0 in cc never)
+same_journal (x ∷ xs) [] h k e = absurd (let never = sym e ∙ entry_in x (journal_text xs) h.0 in cc never)
+same_journal (x ∷ xs) (y ∷ ys) h k e =
+    let parts = rows_same x y (rows_in (journal_text xs)) (rows_in (journal_text ys)) h.0 k.0 (sym (entry_in x (journal_text xs) h.0) ∙ e ∙ entry_in y (journal_text ys) k.0) in
+    ap (λ (l : Entry). l ∷ xs) parts.0 ∙ ap (λ (l : List Entry). y ∷ l) (same_journal xs ys h.1 k.1 parts.1)
 
 pub journals_differ : JournalsDiffer
-journals_differ a b h k e = same_journal a b 1 (Ends 1) h k (ap (λ t. ahead_of 1 t (Ends 1)) e)
+journals_differ a b h k e = same_journal a b h k (ap rows_in e)

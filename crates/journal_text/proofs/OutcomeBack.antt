@@ -24,21 +24,28 @@ use Rattle.journal_text.specs.Back.{IsNumeralNumber, HasFieldNumber, HasDayFault
 
 -- ---- numbers and moments
 
-own : IsNumeralModel (λ ds. list_all is_digit ds ≡ true) (value_from 0)
+pub own : IsNumeralModel (λ ds. list_all is_digit ds ≡ true) (value_from 0)
 own = numerals_by_fold _ (search rules) value_from (search rules)
 
-low : (n : ℕ) → IsNumeralNumber n → n < 2 ^ 64
+pub low : (n : ℕ) → IsNumeralNumber n → n < 2 ^ 64
 low n le = let k : n < 1000000000 = omega arith in let b : 1000000000 < 2 ^ 64 = lit< tt in omega (arith, k, b)
 
-pub digits_of : (n : ℕ) → IsNumeralNumber n → list_all is_digit (decimal n) ≡ true
-digits_of n le = digits_decimal own n (low n le)
+pub digits_of : (n : ℕ) → n < 2 ^ 64 → list_all is_digit (decimal n) ≡ true
+digits_of n lt = digits_decimal own n lt
 
-pub decimal_some : (n : ℕ) → IsNumeralNumber n → 0 < length (decimal n)
-decimal_some n le = decimal_nonempty n (low n le)
+pub decimal_some : (n : ℕ) → n < 2 ^ 64 → 0 < length (decimal n)
+decimal_some n lt = decimal_nonempty n lt
+
+pub value_back : (n : ℕ) → n < 2 ^ 64 → value_from 0 (decimal n) ≡ n
+value_back n lt = digits_value-decimal own n lt
+
+-- an id or a place
+pub small : (n : ℕ) → n ≤ 65535 → n < 2 ^ 64
+small n le = let b : 65536 < 2 ^ 64 = lit< tt in omega (arith, b)
 
 pub is_numeral_back : (n : ℕ) → IsNumeralNumber n → is_numeral (decimal n) ≡ true
 is_numeral_back n le =
-    let digits = digits_of n le in
+    let digits = digits_of n (low n le) in
     let some : 0 < length (decimal n) = decimal_nonempty n (low n le) in
     let few : length (decimal n) ≤ 9 = length-decimal-le 9 n (lit< tt) (let k : n < 1000000000 = omega arith in let b : 1000000000 ≤ 10 ^ 9 = lit≤ tt in omega (arith, k, b)) (low n le) in
     let one : nat_le 1 (length (decimal n)) ≡ true = grind (arith, nat_tests) in

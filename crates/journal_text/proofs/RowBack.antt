@@ -46,7 +46,7 @@ back [] h = absurd h
 back (field ∷ []) h = absurd h
 back (field ∷ other ∷ fields) h = line-back field other fields
 
-fields_back : (fields : List (List ℕ)) → IsFronted fields → line_fields (row_line fields) ≡ fields
+pub fields_back : (fields : List (List ℕ)) → IsFronted fields → line_fields (row_line fields) ≡ fields
 fields_back fields h =
     ap (λ (l : List ℕ). fields_or_none (next_record default_config st.StartRecord [] [] l)) (front_strips (row_line fields) (front_row fields h))
     ∙ ap fields_or_none (back fields h)

@@ -1,5 +1,5 @@
 -- What is written reads back: rows, outcomes and entries.
-use Rattle.std.specs.Prelude.{◌≡◌, ◌≤◌, ◌+◌, ℕ, true, false, ◌==◌, List, [], ◌∷◌, ◌++◌, length, map, Some, codes, decimal}
+use Rattle.std.specs.Prelude.{◌≡◌, ◌≤◌, ◌<◌, ◌^◌, ◌+◌, ℕ, true, false, ◌==◌, List, [], ◌∷◌, ◌++◌, length, map, Some, codes, decimal}
 use Rattle.std.specs.List.{AllByRecursion}
 use Rattle.csv.specs.Writing.{default_writer, row_body}
 use Rattle.si_causes.specs.Lines.{raw_lines, shown}
@@ -188,6 +188,57 @@ pub record EntryReadsBack (entry : Entry) (n : ℕ) (rest : List ℕ) (tail : Ta
 abbrev pub EntriesReadBack : Type 0
 EntriesReadBack = (entry : Entry) → IsReadable entry → (n : ℕ) (rest : List ℕ) (tail : Tail) → EntryReadsBack entry n rest tail
 
--- Journals of readable entries are equal where their texts are.
+-- ---- journals
+
+-- the numbers of an outcome
+abbrev pub field_numbers : Field → List ℕ
+field_numbers (Count n) = n ∷ []
+field_numbers (Segment n) = n ∷ []
+field_numbers Start = []
+field_numbers Duration = []
+field_numbers Window = []
+field_numbers Language = []
+field_numbers Name = []
+field_numbers Short = []
+field_numbers Extended = []
+field_numbers Country = []
+field_numbers Rating = []
+field_numbers Genre = []
+field_numbers Provider = []
+field_numbers ServiceName = []
+
+abbrev pub day_fault_numbers : DayFault → List ℕ
+day_fault_numbers (BadField field) = field_numbers field
+day_fault_numbers (Overlaps event) = event ∷ []
+
+abbrev pub reply_numbers : Reply → List ℕ
+reply_numbers Done = []
+reply_numbers (Foreign service) = service ∷ []
+reply_numbers (Range field) = field_numbers field
+reply_numbers (Overlap event) = event ∷ []
+reply_numbers (Member place fault) = place ∷ day_fault_numbers fault
+
+abbrev pub outcome_numbers : Outcome → List ℕ
+outcome_numbers (Edited reply) = reply_numbers reply
+outcome_numbers Ticked = []
+outcome_numbers (Late at) = []
+outcome_numbers (Published n) = n ∷ []
+outcome_numbers (Swapped n at) = n ∷ []
+
+-- numbers of 64 bits, and a moment that can be written
+pub record IsWritableOutcome (outcome : Outcome) : Type 0 where
+  pub numbers : AllByRecursion (λ n. n < 2 ^ 64) (outcome_numbers outcome)
+  pub window : IsInWindow outcome
+
+-- An entry whose edit was read from lines: the edit has its shapes, whatever length its lines have in the journal; the step
+-- and the outcome have numbers as their types have them, and moments that can be written.
+pub record IsOfLines (entry : Entry) : Type 0 where
+  pub who : entry.who < 2 ^ 64
+  pub shaped : IsShapedStep entry.step
+  pub within : IsStepWithin entry.step
+  pub typed : IsTypedStep entry.step
+  pub outcome : IsWritableOutcome entry.outcome
+
+-- Journals whose edits were read from lines are equal where their texts are.
 abbrev pub JournalsDiffer : Type 0
-JournalsDiffer = (a b : List Entry) → AllByRecursion IsReadable a → AllByRecursion IsReadable b → journal_text a ≡ journal_text b → a ≡ b
+JournalsDiffer = (a b : List Entry) → AllByRecursion IsOfLines a → AllByRecursion IsOfLines b → journal_text a ≡ journal_text b → a ≡ b

@@ -20,7 +20,8 @@ pub fn entries_read_back()
     ensures entries { EntriesReadBack }
 {}
 
-/// The law that journals of readable entries have different texts where they differ.
+/// The law that journals whose edits were read from lines have different texts where they differ, whatever length their lines
+/// have.
 pub fn journals_differ_in_their_texts()
     ensures journals { JournalsDiffer }
 {}

@@ -213,3 +213,27 @@ fn days_and_kept_outcomes(rt: HostRuntime) -> Result<(), Fail> {
     );
     Ok(())
 }
+
+// Whether a name behind this front is read, where so many letters make it up.
+fn is_read(alloc: Global, front: &str, letters: usize) -> Result<bool, AllocError> {
+    let mut text = String::from_str(alloc, front)?;
+    for _ in 0..letters {
+        text.push('a')?;
+    }
+    Ok(told(alloc, text.as_str(), 4096, 99)?.as_slice() != b"?1".as_slice())
+}
+
+// A line of 16,384 bytes is read, and none of a byte more; the journal's line of the first has two bytes more.
+#[test]
+fn lines_at_the_limit(rt: HostRuntime) -> Result<(), Fail> {
+    let alloc = rt.alloc();
+    for (front, letters, wanted) in [
+        ("feed,1,name,101,Acme,", 16_363, true),
+        ("feed,1,name,101,Acme,", 16_364, false),
+        ("0,feed,1,name,101,Acme,", 16_361, true),
+        ("0,feed,1,name,101,Acme,", 16_363, false),
+    ] {
+        assert_eq!(rt; is_read(alloc, front, letters)?, wanted);
+    }
+    Ok(())
+}
