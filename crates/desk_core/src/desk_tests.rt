@@ -1,5 +1,6 @@
 // A desk step by step: ticks about midnight, names that go on air, and what is latest.
 ghost use Rattle.std.specs.Prelude.{◌<◌, ◌*◌};
+ghost use Rattle.desk_core.specs.Steps.{IsStepWithin};
 
 use super::*;
 use feed_book::{Edit, Reply};
@@ -31,59 +32,79 @@ fn tick(desk: &mut Desk, at: u64) -> Result<Outcome, Fail>
     Ok(desk.step(0, Step::Tick(Moment(at)))?)
 }
 
-// Gives the service this name, published under this number.
-fn publish(alloc: Global, desk: &mut Desk, name: &str) -> Result<Outcome, Fail> {
-    let Some(provider) = Txt::of(alloc, "Acme")? else {
-        return Err("a control character".into());
-    };
-    let Some(name) = Txt::of(alloc, name)? else {
-        return Err("a control character".into());
-    };
-    let named = desk.step(3, Step::Edit(1, Edit::Name(101, provider, name)))?;
-    if named != Outcome::Edited(Reply::Done) {
-        return Err("no name".into());
+// The text of a name.
+fn text(alloc: Global, text: &str) -> Result<Txt, Fail> {
+    match Txt::of(alloc, text)? {
+        Some(text) => Ok(text),
+        None => Err("a control character".into()),
     }
-    Ok(desk.step(0, Step::Publish)?)
 }
 
-// The number, the moment and the one name of what is on air, or latest.
+// Gives the service this name; whether that was done.
+fn named(alloc: Global, desk: &mut Desk, name: &str) -> Result<bool, Fail> {
+    let edit = Edit::Name(101, text(alloc, "")?, text(alloc, name)?);
+    Ok(desk.step(3, Step::Edit(1, edit))? == Outcome::Edited(Reply::Done))
+}
+
+fn step(desk: &mut Desk, step: Step) -> Result<Outcome, Fail>
+    requires { IsStepWithin step }
+{
+    Ok(desk.step(0, step)?)
+}
+
+// The number, the moment and the one name of an airing.
 fn is_airing(airing: &Airing, number: u64, moment: u64, name: &str) -> bool {
     if airing.number != number || airing.moment.0 != moment {
         return false;
     }
     match airing.guide.services.as_slice().first() {
-        Some(service) => service.name.as_str().as_bytes() == name.as_bytes(),
+        Some(service) => service.name.as_str() == name,
         None => false,
     }
+}
+
+fn is_latest(desk: &Desk, number: u64, moment: u64, name: &str) -> Result<bool, Fail> {
+    Ok(is_airing(&desk.latest()?, number, moment, name))
+}
+
+fn is_on_air(desk: &Desk, number: u64, moment: u64, name: &str) -> Result<bool, Fail> {
+    Ok(is_airing(&desk.on_air()?, number, moment, name))
+}
+
+// The digits of the outcomes of ticks at these seconds past midnight: 1 where it was taken, 0 where it was late.
+fn ticks(desk: &mut Desk, seconds: [u64; 3]) -> Result<[bool; 3], Fail> {
+    let mut taken = [false; 3];
+    for i in 0..3 {
+        taken[i] = tick(desk, MIDNIGHT + seconds[i] % 86_400)? == Outcome::Ticked;
+    }
+    Ok(taken)
 }
 
 #[test]
 fn ticks_about_midnight(rt: HostRuntime) -> Result<(), Fail> {
     let mut desk = desk(rt.alloc())?;
-    let quarter = Moment(MIDNIGHT + 900);
-    assert_eq!(rt; tick(&mut desk, MIDNIGHT + 900)?, Outcome::Ticked);
-    assert_eq!(rt; tick(&mut desk, MIDNIGHT + 899)?, Outcome::Late(quarter));
-    assert_eq!(rt; tick(&mut desk, MIDNIGHT + 900)?, Outcome::Ticked);
-    assert_eq!(rt; desk.now(), quarter);
-    assert_eq!(rt; desk.entries().len(), 3);
+    assert_eq!(rt; ticks(&mut desk, [900, 899, 900])?, [true, false, true]);
+    assert_eq!(rt; desk.now(), Moment(MIDNIGHT + 900));
     Ok(())
 }
 
 #[test]
-fn latest_and_on_air(rt: HostRuntime) -> Result<(), Fail> {
-    let alloc = rt.alloc();
-    let mut desk = desk(alloc)?;
-    let start = MIDNIGHT - 40_500;
-    assert!(rt; is_airing(&desk.latest()?, 0, start, "One"));
-    assert_eq!(rt; publish(alloc, &mut desk, "News")?, Outcome::Published(1));
+fn what_is_latest(rt: HostRuntime) -> Result<(), Fail> {
+    let mut desk = desk(rt.alloc())?;
+    assert!(rt; is_latest(&desk, 0, MIDNIGHT - 40_500, "One")?);
+    assert!(rt; named(rt.alloc(), &mut desk, "News")?);
+    assert_eq!(rt; step(&mut desk, Step::Publish)?, Outcome::Published(1));
+    assert!(rt; is_latest(&desk, 1, MIDNIGHT - 40_500, "News")?);
+    Ok(())
+}
+
+#[test]
+fn what_is_on_air(rt: HostRuntime) -> Result<(), Fail> {
+    let mut desk = desk(rt.alloc())?;
+    assert_eq!(rt; step(&mut desk, Step::Publish)?, Outcome::Published(1));
     assert_eq!(rt; tick(&mut desk, MIDNIGHT)?, Outcome::Ticked);
-    assert!(rt; is_airing(&desk.latest()?, 1, MIDNIGHT, "News"));
-    assert!(rt; is_airing(&desk.on_air()?, 0, start, "One"));
-    let swapped = desk.step(1, Step::Swap)?;
+    let swapped = step(&mut desk, Step::Swap)?;
     assert_eq!(rt; swapped, Outcome::Swapped(1, Moment(MIDNIGHT)));
-    assert_eq!(rt; publish(alloc, &mut desk, "Sport")?, Outcome::Published(2));
-    assert!(rt; is_airing(&desk.on_air()?, 1, MIDNIGHT, "News"));
-    assert!(rt; is_airing(&desk.latest()?, 2, MIDNIGHT, "Sport"));
-    assert_eq!(rt; desk.mux().network, 40);
+    assert!(rt; is_on_air(&desk, 1, MIDNIGHT, "One")?);
     Ok(())
 }
