@@ -1,7 +1,7 @@
 // Edits on the lines of a reader.
-ghost use Rattle.std.specs.Prelude.{◌≡◌, ◌≤◌, ◌∷◌, ◌++◌, [], List, ℕ, None, Some, Ok, Err, IfErr, IfOk, IfSome, OnOk, option_and_then, drop, length};
+ghost use Rattle.std.specs.Prelude.{◌≡◌, ◌≤◌, ◌<◌, ◌∷◌, ◌++◌, [], List, ℕ, None, Some, Ok, Err, IfErr, IfOk, IfSome, OnOk, option_and_then, drop, length};
 ghost use Rattle.std.specs.List.{All};
-ghost use Rattle.si_causes.specs.Reading.{text_left};
+ghost use Rattle.si_causes.specs.Reading.{room, text_left};
 ghost use Rattle.input_lines.specs.Fields.{record_of};
 ghost use Rattle.feed_edits.specs.declared.stop.EditStop.TheVariants.{Memory, Read};
 ghost use Rattle.feed_edits.specs.Items.{IsShapedItem, item_line};
@@ -61,6 +61,7 @@ fn next_item<S: Source>(alloc: Global, lines: &mut LineReader<S>) -> Result<Item
     ensures takes { lines.old.stop ≡ None → Takes S.left S.faults first_item lines.old lines.new result }
     ensures shaped { IfOk result IsShapedItem }
     ensures sticky { IfSome lines.old.stop (λ stop. (result ≡ Err (Read stop)) × (lines.new ≡ lines.old)) }
+    ensures falls { OnOk result (room lines.new < room lines.old) }
     ensures later { S.faults lines.old.source ≤ S.faults lines.new.source }
     ensures same { S.same lines.old.source lines.new.source }
 {
@@ -94,6 +95,7 @@ fn next_items<S: Source>(
     ensures shaped { IfOk result (All IsShapedItem) }
     ensures counted { IfOk result (λ items. length items ≡ count) }
     ensures sticky { IfSome lines.old.stop (λ stop. lines.new ≡ lines.old) }
+    ensures goes_on { OnOk result (room lines.new ≤ room lines.old) }
     ensures later { S.faults lines.old.source ≤ S.faults lines.new.source }
     ensures same { S.same lines.old.source lines.new.source }
 {
@@ -122,6 +124,7 @@ fn with_items<S: Source>(
     ensures takes { lines.old.stop ≡ None → Takes S.left S.faults (edit_with head) lines.old lines.new result }
     ensures shaped { IfOk result IsShaped }
     ensures sticky { IfSome lines.old.stop (λ stop. lines.new ≡ lines.old) }
+    ensures goes_on { OnOk result (room lines.new ≤ room lines.old) }
     ensures later { S.faults lines.old.source ≤ S.faults lines.new.source }
     ensures same { S.same lines.old.source lines.new.source }
 {
@@ -154,6 +157,7 @@ pub fn read_edit<S: Source>(
         → Takes S.left S.faults (edit_at at (drop from fields.now)) lines.old lines.new result }
     ensures shaped { IfOk result IsShaped }
     ensures sticky { IfSome lines.old.stop (λ stop. lines.new ≡ lines.old) }
+    ensures goes_on { OnOk result (room lines.new ≤ room lines.old) }
     ensures later { S.faults lines.old.source ≤ S.faults lines.new.source }
     ensures same { S.same lines.old.source lines.new.source }
 {
@@ -179,6 +183,7 @@ pub fn next_edit<S: Source>(
     ensures takes { lines.old.stop ≡ None → TakesNext S.left S.faults lines.old lines.new result }
     ensures shaped { IfOk result (λ found. IfSome found IsShaped) }
     ensures sticky { IfSome lines.old.stop (λ stop. (result ≡ Err (Read stop)) × (lines.new ≡ lines.old)) }
+    ensures falls { IfOk result (λ found. IfSome found (λ edit. room lines.new < room lines.old)) }
     ensures later { S.faults lines.old.source ≤ S.faults lines.new.source }
     ensures same { S.same lines.old.source lines.new.source }
 {

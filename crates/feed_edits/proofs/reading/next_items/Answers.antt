@@ -10,6 +10,7 @@ items-init g c = record {
   made = made_none g.S.Source.left c.args.count c.new-items.result c.args.lines.now c.new-items.ensures;
   counted = ap length c.new-items.ensures;
   shaped = rw c.new-items.ensures (All-nil IsShapedItem);
+  goes_on = omega arith;
   later = omega arith;
   same = g.met.S.Source.same_at_once c.args.lines.now.source;
 }
@@ -24,6 +25,7 @@ items-preserved g c =
           (record { gives = e.gives; takes = e.takes; sticky = e.sticky });
       counted = omega (arith, i.counted, ap length kept, length-append c.items.items (c.in-Ok.item ∷ []));
       shaped = rw kept (All-push IsShapedItem c.items.items c.in-Ok.item i.shaped e.shaped);
+      goes_on = omega (arith, i.goes_on, e.falls);
       later = omega (arith, i.later, e.later);
       same = g.met.S.Source.same_later c.args.lines.now.source c.items.lines.source c.next_item.new.lines.source i.same e.same;
     }
@@ -40,6 +42,7 @@ returns-in-Err g c =
       shaped = tt;
       counted = tt;
       sticky = stop.2;
+      goes_on = tt;
       later = omega (arith, i.later, e.later);
       same = g.met.S.Source.same_later c.args.lines.now.source c.items.lines.source c.next_item.new.lines.source i.same e.same;
     }

@@ -1,5 +1,6 @@
 use Rattle.std.proofs.Common.{◌≡◌, ◌≤◌, length}
 use Rattle.std.specs.List.{All}
+use Rattle.si_causes.specs.Reading.{room}
 use Rattle.feed_edits.specs.Items.{IsShapedItem}
 use Rattle.feed_edits.proofs.Edits.{Made}
 use Rattle.feed_edits.proofs.reading.next_items.Given as goal
@@ -9,6 +10,7 @@ invariant-items g l = record {
   made : Made g.S.Source.left l.fn.count l.counter l.items l.fn.lines l.lines;
   counted : length l.items ≡ l.counter;
   shaped : All IsShapedItem l.items;
+  goes_on : room l.lines ≤ room l.fn.lines;
   later : g.S.Source.faults l.fn.lines.source ≤ g.S.Source.faults l.lines.source;
   same : g.S.Source.same l.fn.lines.source l.lines.source;
 }
