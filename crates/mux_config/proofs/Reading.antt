@@ -1,5 +1,5 @@
 -- The lines of a description, one after another.
-use Rattle.std.proofs.Common.{◌≡◌, ℕ, ◌+◌, ◌≤◌, true, false, List, [], ◌∷◌, ◌++◌, length, Option, Some, None, Ok, Err, refl, sym, ap, ◌∙◌, subst, arith, inl, inr, append-nil, append_assoc}
+use Rattle.std.proofs.Common.{◌≡◌, ℕ, ◌+◌, ◌≤◌, true, false, List, [], ◌∷◌, ◌++◌, length, Option, Some, None, Ok, Err, refl, sym, ap, ◌∙◌, subst, arith, inl, inr, append-nil, append_assoc, length-append}
 use Rattle.std.specs.Prelude.{Result}
 use Rattle.std.specs.List.{list_all}
 use Rattle.si_causes.specs.Causes.{Rose}
@@ -18,7 +18,7 @@ use Rattle.mux_config.specs.declared.stop.MuxStop.TheVariants.{Fault, Read, Memo
 use Rattle.mux_config.specs.declared.record.Numbered.{Numbered}
 use Rattle.mux_config.specs.Block.{Block, Faulty, Whole, Unended, and_found, at_text_end, block_from, block_of, ended, fault_of, is_end}
 use Rattle.mux_config.specs.Fields.{found_line}
-use Rattle.mux_config.specs.Reads.{Makes, MuxCame, ReadMux, TookLine}
+use Rattle.mux_config.specs.Reads.{Makes, MuxCame, ReadMux, TookLine, WholeCame}
 
 abbrev Known : Type 0
 Known = Option (List ℕ)
@@ -42,18 +42,26 @@ line_fails before n line rest f e = rw e refl
 
 -- from old to now the lines gave these records, and neither a fault nor the end
 pub record Taken {S : Type 0} (left : S → Known) (old now : Reading S) (records : List Numbered) : Type 0 where
+  pub lines : List (List ℕ)
   pub going : now.stop ≡ None
-  pub handed : now.ended ≡ false → (lines : List (List ℕ)) × HandedOut left old now lines
-      × ((more : List (List ℕ)) → block_from [] (record_lines (old.number + 1) (lines ++ more)) ≡ block_from records (record_lines (now.number + 1) more))
+  pub since : now.ended ≡ false → old.ended ≡ false
+  pub handed : now.ended ≡ false → HandedOut left old now lines
+  pub count : now.number ≡ old.number + length lines
+  pub reads : (more : List (List ℕ)) → block_from [] (record_lines (old.number + 1) (lines ++ more)) ≡ block_from records (record_lines (now.number + 1) more)
   pub told : (text : List ℕ) → text_left left old ≡ Some text → (rest : List ℕ) × (text_left left now ≡ Some rest)
       × (block_from [] (record_lines (old.number + 1) (lines_of old text).0) ≡ block_from records (record_lines (now.number + 1) (lines_of now rest).0))
       × ((lines_of old text).1 ≡ (lines_of now rest).1)
+      × ((now.number + 1) + length (lines_of now rest).0 ≡ (old.number + 1) + length (lines_of old text).0)
 
 pub taken_none : {S : Type 0} (left : S → Known) (reader : Reading S) → reader.stop ≡ None → Taken left reader reader []
 taken_none left reader going = record {
+  lines = [];
   going = going;
-  handed = λ e. ([], handed_none left reader, λ more. refl);
-  told = λ text told. (text, told, refl, refl);
+  since = λ e. e;
+  handed = λ e. handed_none left reader;
+  count = omega arith;
+  reads = λ more. refl;
+  told = λ text told. (text, told, refl, refl, refl);
 }
 
 -- the next line, behind records that were taken
@@ -73,6 +81,39 @@ next_lines left now new n next more =
     ∙ ap (λ k. record_lines k (new.line ∷ more)) number
     ∙ record_first n new.line more came.line
 
+-- the lines that were handed out, with those up to the next
+abbrev lines_with : {S : Type 0} (left : S → Known) (old now new : Reading S) (n : ℕ) (records : List Numbered) → Taken left old now records → NextLine left now new n → List (List ℕ)
+lines_with left old now new n records t next = t.lines ++ (next.came.over ++ new.line ∷ [])
+
+lines_handed : {S : Type 0} (left : S → Known) (old now new : Reading S) (n : ℕ) (records : List Numbered) (t : Taken left old now records) (next : NextLine left now new n)
+    → new.ended ≡ false → HandedOut left old new (lines_with left old now new n records t next)
+lines_handed left old now new n records t next e =
+    handed_more left old now new t.lines (next.came.over ++ new.line ∷ []) (t.handed next.more_to_come) (next.came.handed e)
+
+lines_count : {S : Type 0} (left : S → Known) (old now new : Reading S) (n : ℕ) (records : List Numbered) (t : Taken left old now records) (next : NextLine left now new n)
+    → new.number ≡ old.number + length (lines_with left old now new n records t next)
+lines_count left old now new n records t next =
+    let came = next.came in
+    omega (arith, came.count, came.number, t.count, length-append t.lines (came.over ++ new.line ∷ []), length-append came.over (new.line ∷ []))
+
+-- what they say, whatever lines are behind them
+lines_read : {S : Type 0} (left : S → Known) (old now new : Reading S) (n : ℕ) (records : List Numbered) (t : Taken left old now records) (next : NextLine left now new n) (more : List (List ℕ))
+    → block_from [] (record_lines (old.number + 1) (lines_with left old now new n records t next ++ more)) ≡ block_from records ((n, new.line) ∷ record_lines (n + 1) more)
+lines_read left old now new n records t next more =
+    let lines = next.came.over ++ new.line ∷ [] in
+    ap (λ l. block_from [] (record_lines (old.number + 1) l)) (append_assoc t.lines lines more)
+    ∙ t.reads (lines ++ more)
+    ∙ ap (block_from records) (next_lines left now new n next more)
+
+-- the line that came, among those of the text
+line_told : {S : Type 0} (left : S → Known) (old now new : Reading S) (n : ℕ) (records : List Numbered) → Taken left old now records → NextLine left now new n → (text : List ℕ) → text_left left old ≡ Some text
+    → (rest : List ℕ) × (text_left left new ≡ Some rest) × (block_from [] (record_lines (old.number + 1) (lines_of old text).0) ≡ block_from records ((n, new.line) ∷ record_lines (n + 1) (lines_of new rest).0)) × ((lines_of old text).1 ≡ (lines_of new rest).1)
+    × ((new.number + 1) + length (lines_of new rest).0 ≡ (old.number + 1) + length (lines_of old text).0)
+line_told left old now new n records t next text told =
+    let s = t.told text told in
+    let g = next.gives s.0 s.1 in
+    (g.rest, g.told, s.2 ∙ ap (block_from records) g.first, s.3 ∙ g.stop, omega (arith, s.4, g.last, g.count))
+
 -- one line more was taken
 pub taken_more : {S : Type 0} (left : S → Known) (old now new : Reading S) (n : ℕ) (records after : List Numbered) → Taken left old now records → NextLine left now new n
     → fault_of records n (found_line new.line) ≡ None → is_end (found_line new.line) ≡ false → after ≡ and_found records n (found_line new.line) → Taken left old new after
@@ -80,27 +121,15 @@ taken_more left old now new n records after t next f e is =
     let step : (rest : RecordLines) → block_from records ((n, new.line) ∷ rest) ≡ block_from after rest = λ rest. line_goes_on records n new.line rest f e ∙ ap (λ (l : List Numbered). block_from l rest) (sym is) in
     let count = next.came.count in
     record {
+      lines = lines_with left old now new n records t next;
       going = next.came.going;
-      handed = λ open_end.
-          let h = t.handed next.more_to_come in
-          let lines = next.came.over ++ new.line ∷ [] in (
-            h.0 ++ lines,
-            handed_more left old now new h.0 lines h.1 (next.came.handed open_end),
-            λ more.
-                ap (λ l. block_from [] (record_lines (old.number + 1) l)) (append_assoc h.0 lines more)
-                ∙ h.2 (lines ++ more)
-                ∙ ap (block_from records) (next_lines left now new n next more)
-                ∙ step (record_lines (n + 1) more)
-                ∙ ap (λ k. block_from after (record_lines (k + 1) more)) (sym count),
-          );
+      since = λ open_end. t.since next.more_to_come;
+      handed = lines_handed left old now new n records t next;
+      count = lines_count left old now new n records t next;
+      reads = λ more. lines_read left old now new n records t next more ∙ step (record_lines (n + 1) more) ∙ ap (λ k. block_from after (record_lines (k + 1) more)) (sym count);
       told = λ text told.
-          let s = t.told text told in
-          let g = next.gives s.0 s.1 in (
-            g.rest,
-            g.told,
-            s.2 ∙ ap (block_from records) g.first ∙ step (record_lines (n + 1) (lines_of new g.rest).0) ∙ ap (λ k. block_from after (record_lines (k + 1) (lines_of new g.rest).0)) (sym count),
-            s.3 ∙ g.stop,
-          );
+          let l = line_told left old now new n records t next text told in
+          (l.0, l.1, l.2 ∙ step (record_lines (n + 1) (lines_of new l.0).0) ∙ ap (λ k. block_from after (record_lines (k + 1) (lines_of new l.0).0)) (sym count), l.3, l.4);
     }
 
 at_end_whole : (block : Block) (end : TextEnd) (mux : Mux) (behind : RecordLines) → block ≡ Whole mux behind → at_text_end block end ≡ Whole mux behind
@@ -108,14 +137,6 @@ at_end_whole block end mux behind e = ap (λ (b : Block). at_text_end b end) e
 
 at_end_faulty : (block : Block) (end : TextEnd) (f : MuxFault) → block ≡ Faulty f → at_text_end block end ≡ Faulty f
 at_end_faulty block end f e = ap (λ (b : Block). at_text_end b end) e
-
--- the line that came, among those of the text
-line_told : {S : Type 0} (left : S → Known) (old now new : Reading S) (n : ℕ) (records : List Numbered) → Taken left old now records → NextLine left now new n → (text : List ℕ) → text_left left old ≡ Some text
-    → (rest : List ℕ) × (text_left left new ≡ Some rest) × (block_from [] (record_lines (old.number + 1) (lines_of old text).0) ≡ block_from records ((n, new.line) ∷ record_lines (n + 1) (lines_of new rest).0)) × ((lines_of old text).1 ≡ (lines_of new rest).1)
-line_told left old now new n records t next text told =
-    let s = t.told text told in
-    let g = next.gives s.0 s.1 in
-    (g.rest, g.told, s.2 ∙ ap (block_from records) g.first, s.3 ∙ g.stop)
 
 -- the line that came ends the description
 pub ended_read : {S : Type 0} (left : S → Known) (old now new : Reading S) (n : ℕ) (records : List Numbered) (result : Result Mux MuxStop) → Taken left old now records → NextLine left now new n
@@ -131,6 +152,7 @@ ended_read left old now new n records (Ok mux) t next f e makes text told =
           at_end_whole _ (lines_of old text).1 mux behind (l.2 ∙ line_ends records n new.line behind f e ∙ makes behind)
           ∙ ap (λ k. Whole mux (record_lines (k + 1) (lines_of new l.0).0)) (sym next.came.count);
       stop = l.3;
+      count = l.4;
     }
 ended_read left old now new n records (Err (Fault g)) t next f e makes text told =
     let l = line_told left old now new n records t next text told in
@@ -139,12 +161,27 @@ ended_read left old now new n records (Err (Fault g)) t next f e makes text told
 ended_read left old now new n records (Err (Read stop)) t next f e makes text told = absurd (makes [])
 ended_read left old now new n records (Err Memory) t next f e makes text told = tt
 
-pub ended_came : {S : Type 0} (left : S → Known) (faults : S → ℕ) (old now new : Reading S) (n : ℕ) (block : RecordLines → Block) (result : Result Mux MuxStop) → NextLine left now new n
-    → ((behind : RecordLines) → Makes (block behind) behind result) → MuxCame left faults old new result
-ended_came left faults old now new n block (Ok mux) next makes = next.came.going
-ended_came left faults old now new n block (Err (Fault f)) next makes = next.came.going
-ended_came left faults old now new n block (Err (Read stop)) next makes = absurd (makes [])
-ended_came left faults old now new n block (Err Memory) next makes = tt
+-- the block of the lines that were handed out
+whole_read : {S : Type 0} (left : S → Known) (old now new : Reading S) (n : ℕ) (records : List Numbered) (mux : Mux) → Taken left old now records → NextLine left now new n
+    → fault_of records n (found_line new.line) ≡ None → is_end (found_line new.line) ≡ true → ((behind : RecordLines) → ended records behind ≡ Whole mux behind) → WholeCame left old new mux
+whole_read left old now new n records mux t next f e makes = record {
+  lines = lines_with left old now new n records t next;
+  since = λ open_end. t.since next.more_to_come;
+  handed = lines_handed left old now new n records t next;
+  count = lines_count left old now new n records t next;
+  going = next.came.going;
+  whole = λ more.
+      let behind = record_lines (n + 1) more in
+      lines_read left old now new n records t next more ∙ line_ends records n new.line behind f e ∙ makes behind
+      ∙ ap (λ k. Whole mux (record_lines (k + 1) more)) (sym next.came.count);
+}
+
+pub ended_came : {S : Type 0} (left : S → Known) (faults : S → ℕ) (old now new : Reading S) (n : ℕ) (records : List Numbered) (result : Result Mux MuxStop) → Taken left old now records → NextLine left now new n
+    → fault_of records n (found_line new.line) ≡ None → is_end (found_line new.line) ≡ true → ((behind : RecordLines) → Makes (ended records behind) behind result) → MuxCame left faults old new result
+ended_came left faults old now new n records (Ok mux) t next f e makes = whole_read left old now new n records mux t next f e makes
+ended_came left faults old now new n records (Err (Fault g)) t next f e makes = next.came.going
+ended_came left faults old now new n records (Err (Read stop)) t next f e makes = absurd (makes [])
+ended_came left faults old now new n records (Err Memory) t next f e makes = tt
 
 -- the line that came stops the reading
 pub line_read : {S : Type 0} (left : S → Known) (old now new : Reading S) (n : ℕ) (records after : List Numbered) (stop : MuxStop) → Taken left old now records → NextLine left now new n
@@ -187,14 +224,12 @@ none_there n over passed = ap (record_lines n) (sym (append-nil over)) ∙ recor
 
 pub stop_came : {S : Type 0} (left : S → Known) (faults : S → ℕ) (old now new : Reading S) (records : List Numbered) (stop : ReadStop) → Taken left old now records → RecordCame left faults now new (Err stop)
     → faults old.source ≤ faults now.source → MuxCame left faults old new (Err (Read stop))
-stop_came left faults old now new records Failed t came later =
-    let h = t.handed came.unended in
-    record {
-      lines = h.0 ++ came.over;
-      whole = whole_more left old now new h.0 came.over h.1 came.whole;
-      unended = h.2 came.over ∙ ap (block_from records) (none_there (now.number + 1) came.over came.passed);
-      cause = rose_since came.cause later;
-    }
+stop_came left faults old now new records Failed t came later = record {
+  lines = t.lines ++ came.over;
+  whole = whole_more left old now new t.lines came.over (t.handed came.unended) came.whole;
+  unended = t.reads came.over ∙ ap (block_from records) (none_there (now.number + 1) came.over came.passed);
+  cause = rose_since came.cause later;
+}
 stop_came left faults old now new records TooLong t came later = came
 
 -- what taking a line told, of the line that the reader shows

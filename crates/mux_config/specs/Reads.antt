@@ -1,10 +1,10 @@
 -- What reading a description tells.
-use Rattle.std.specs.Prelude.{◌≡◌, ℕ, ◌+◌, Bool, true, false, List, [], Option, Some, None, Ok, Err, Result}
+use Rattle.std.specs.Prelude.{◌≡◌, ℕ, ◌+◌, Bool, true, false, List, [], ◌++◌, length, Option, Some, None, Ok, Err, Result}
 use Rattle.si_causes.specs.Causes.{Rose}
 use Rattle.si_causes.specs.Reading.{Reading, text_left}
 use Rattle.si_causes.specs.declared.stop.ReadStop.TheVariants.{Failed, TooLong}
 use Rattle.input_lines.specs.Lines.{Lines, lines_of, record_lines}
-use Rattle.input_lines.specs.Going.{WereWhole}
+use Rattle.input_lines.specs.Going.{HandedOut, WereWhole}
 use Rattle.mux_config.specs.declared.mux.Mux.{Mux}
 use Rattle.mux_config.specs.declared.stop.MuxStop.{MuxStop}
 use Rattle.mux_config.specs.declared.stop.MuxStop.TheVariants.{Fault, Read, Memory}
@@ -27,20 +27,33 @@ TookLine before n found after (Err (Fault f)) = fault_of before n found ≡ Some
 TookLine before n found after (Err (Read stop)) = ⊥
 TookLine before n found after (Err Memory) = Unit {0}
 
--- the description is whole, and the reader has the lines behind it still to give
-pub record Described {S : Type 0} (left : S → Option (List ℕ)) (new : Reading S) (block : Block) (lines : Lines) (mux : Mux) : Type 0 where
+-- The description is whole, and the reader has the lines behind it still to give. Its own lines and those are all that
+-- there are.
+pub record Described {S : Type 0} (left : S → Option (List ℕ)) (old new : Reading S) (block : Block) (lines : Lines) (mux : Mux) : Type 0 where
   pub rest : List ℕ
   pub told : text_left left new ≡ Some rest
   pub whole : block ≡ Whole mux (record_lines (new.number + 1) (lines_of new rest).0)
   pub stop : lines.1 ≡ (lines_of new rest).1
+  pub count : (new.number + 1) + length (lines_of new rest).0 ≡ (old.number + 1) + length lines.0
 
 -- what reading a description tells of the lines of a text
 abbrev pub ReadMux : {S : Type 0} → (S → Option (List ℕ)) → Reading S → Reading S → Lines → Result Mux MuxStop → Type 0
-ReadMux left old new lines (Ok mux) = Described left new (block_of (old.number + 1) lines) lines mux
+ReadMux left old new lines (Ok mux) = Described left old new (block_of (old.number + 1) lines) lines mux
 ReadMux left old new lines (Err (Fault f)) = block_of (old.number + 1) lines ≡ Faulty f
 ReadMux left old new lines (Err (Read TooLong)) = block_of (old.number + 1) lines ≡ Unended
 ReadMux left old new lines (Err (Read Failed)) = Unit {0}
 ReadMux left old new lines (Err Memory) = Unit {0}
+
+-- From old to new the reader handed out these lines. The description is theirs, whatever lines are behind them, and
+-- leaves what is behind them.
+pub record WholeCame {S : Type 0} (left : S → Option (List ℕ)) (old new : Reading S) (mux : Mux) : Type 0 where
+  pub lines : List (List ℕ)
+  pub since : new.ended ≡ false → old.ended ≡ false
+  -- a line without an LF is the last
+  pub handed : new.ended ≡ false → HandedOut left old new lines
+  pub count : new.number ≡ old.number + length lines
+  pub going : new.stop ≡ None
+  pub whole : (more : List (List ℕ)) → block_from [] (record_lines (old.number + 1) (lines ++ more)) ≡ Whole mux (record_lines (new.number + 1) more)
 
 -- a read failed: the lines that were whole in the bytes taken have neither a fault nor the end
 pub record FaultCame {S : Type 0} (left : S → Option (List ℕ)) (faults : S → ℕ) (old new : Reading S) : Type 0 where
@@ -51,7 +64,7 @@ pub record FaultCame {S : Type 0} (left : S → Option (List ℕ)) (faults : S �
 
 -- what reading a description tells, whether or not the source tells its text
 abbrev pub MuxCame : {S : Type 0} → (S → Option (List ℕ)) → (S → ℕ) → Reading S → Reading S → Result Mux MuxStop → Type 0
-MuxCame left faults old new (Ok mux) = new.stop ≡ None
+MuxCame left faults old new (Ok mux) = WholeCame left old new mux
 MuxCame left faults old new (Err (Fault f)) = new.stop ≡ None
 MuxCame left faults old new (Err (Read Failed)) = FaultCame left faults old new
 MuxCame left faults old new (Err (Read TooLong)) = new.stop ≡ Some TooLong

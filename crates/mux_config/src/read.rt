@@ -85,7 +85,8 @@ fn take_record(records: &mut Records, number: u64, says: Record) -> Result<bool,
 /// It gives the multiplex of the description's lines, which is sound, or their first fault. Lines count from the
 /// reader's first; those that are passed over count too. `Read` tells that the reader stopped: where a read of the
 /// source failed, the lines that were whole in the bytes taken have neither a fault nor the end. Want of memory gives up
-/// what was read.
+/// what was read. The lines that were handed out make the multiplex whatever lines are behind them; they and the lines
+/// behind them are all that the text has.
 pub fn read_mux<S: Source>(alloc: Global, lines: &mut LineReader<S>) -> Result<Mux, MuxStop>
     ensures block { lines.old.stop ≡ None → (text : List ℕ) → text_left S.left lines.old ≡ Some text
         → ReadMux S.left lines.old lines.new (lines_of lines.old text) result }

@@ -52,7 +52,9 @@ returns-in-Ok-true-clause-came g c = λ going.
     let t = c.lines.invariant.taken going in
     let came = e.came t.going in
     let next : NextLine g.S.Source.left c.lines.lines c.next_record_line.new.lines c.in-Ok-Some.number = record { came = came; gives = e.records t.going; more_to_come = came.unended } in
-    ended_came g.S.Source.left g.S.Source.faults c.args.lines.now c.lines.lines c.next_record_line.new.lines c.in-Ok-Some.number (ended c.deref.result.now) c.multiplex.result next c.multiplex.ensures
+    let took = took_end c.lines.records.list.items c.in-Ok-Some.number c.line.result.now c.next_record_line.new.lines.line c.take_line.new.records.list.items c.line.ensures (rw c.in-Ok-true.field-0-test at c.in-Ok-true.ensures.took) in
+    ended_came g.S.Source.left g.S.Source.faults c.args.lines.now c.lines.lines c.next_record_line.new.lines c.in-Ok-Some.number c.lines.records.list.items c.multiplex.result t next took.0 took.1
+    (λ behind. subst (λ (rs : List Numbered). Makes (ended rs behind) behind c.multiplex.result) (c.deref.ensures.value ∙ took.2) (c.multiplex.ensures behind))
 
 pub returns-in-Err-clause-came : goal.returns-in-Err-clause-came
 returns-in-Err-clause-came g c = λ going.
