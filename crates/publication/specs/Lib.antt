@@ -1,0 +1,5 @@
+pub mod Runs
+pub mod Sdt
+pub mod Tables
+pub mod Laws
+pub mod Rows

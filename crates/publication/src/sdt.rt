@@ -1,0 +1,112 @@
+// The sections of the service description table.
+ghost use Rattle.std.specs.Prelude.{◌≡◌, ◌≤◌, ◌<◌, ◌+◌, ◌-◌, ◌∷◌, ◌++◌, [], length, map, drop, IfOk, OnOk};
+ghost use Rattle.si_text.specs.Coding.{coded_text, coded_size};
+ghost use Rattle.mux_config.specs.Sound.{IsSound};
+ghost use Rattle.feed_book.specs.Limits.{IsGuideWithin, IsServiceWithin};
+ghost use Rattle.publication.specs.Runs.{cut};
+ghost use Rattle.publication.specs.Sdt.{service_descriptor, sdt_entry, sdt_body, sdt_sections};
+
+use guide_model::{Guide, ServiceGuide};
+use mux_config::{Mux, MuxService};
+use section_codec::{NumberedBodies, NumberedBody};
+use si_base::Bytes;
+use si_text::encode_text;
+use std::alloc::{AllocError, Global};
+
+/// The tag of a service_descriptor (EN 300 468, 6.2.33).
+const SERVICE: u8 = 0x48;
+
+/// The longest body of a section of the SDT: 1,024 bytes without the eight before and the CRC.
+const LONGEST: usize = 1_012;
+
+// Appends a service descriptor.
+fn put_service_descriptor(
+    out: &mut Vec<u8>,
+    kind: u8,
+    provider: &[u8],
+    name: &[u8],
+) -> Result<(), AllocError>
+    requires provider { length provider.now ≤ 100 }
+    requires name { length name.now ≤ 100 }
+    ensures { OnOk result (out.new.items ≡ out.old.items ++ service_descriptor kind provider.now name.now) }
+{
+    out.push(SERVICE)?;
+    out.push(3 + provider.len() as u8 + name.len() as u8)?;
+    out.push(kind)?;
+    out.push(provider.len() as u8)?;
+    out.extend_from_slice(provider)?;
+    out.push(name.len() as u8)?;
+    out.extend_from_slice(name)
+}
+
+// The entry of a service with these names.
+fn entry_of(
+    alloc: Global,
+    service: &MuxService,
+    names: &ServiceGuide,
+) -> Result<Vec<u8>, AllocError>
+    requires { IsServiceWithin names.now }
+    ensures { IfOk result (λ entry. entry.items ≡ sdt_entry service.now names.now) }
+{
+    let provider = encode_text(alloc, names.provider.as_str())?;
+    let name = encode_text(alloc, names.name.as_str())?;
+    let size = 0x8000 + 5 + provider.len() as u16 + name.len() as u16;
+    let mut entry = Vec::new(alloc);
+    entry.extend_from_slice(&service.service.to_be_bytes())?;
+    entry.push(0xFF)?;
+    entry.extend_from_slice(&size.to_be_bytes())?;
+    put_service_descriptor(
+        &mut entry,
+        service.kind,
+        provider.as_slice(),
+        name.as_slice(),
+    )?;
+    Ok(entry)
+}
+
+// The body of a section before its first entry.
+fn fresh_body(alloc: Global, original: u16) -> Result<Vec<u8>, AllocError>
+    ensures { IfOk result (λ body. body.items ≡ sdt_body original []) }
+{
+    let mut body = Vec::new(alloc);
+    body.extend_from_slice(&original.to_be_bytes())?;
+    body.push(0xFF)?;
+    Ok(body)
+}
+
+// Appends a section with the next number.
+fn close(sections: &mut NumberedBodies, body: Vec<u8>) -> Result<(), AllocError>
+    requires { length sections.old < 256 }
+    ensures { OnOk result (sections.new ≡ sections.old ++ record { number = length sections.old; body = body.items } ∷ []) }
+{
+    let number = sections.len() as u8;
+    let body = Bytes::of(body);
+    sections.push(NumberedBody { number, body })?;
+    Ok(())
+}
+
+/// The sections of the SDT of this multiplex. A section is closed where the next entry does not fit.
+pub(crate) fn sdt_sections(
+    alloc: Global,
+    mux: &Mux,
+    guide: &Guide,
+) -> Result<NumberedBodies, AllocError>
+    requires sound { IsSound mux.now }
+    requires within { IsGuideWithin guide.now }
+    ensures { IfOk result (λ sections. sections ≡ sdt_sections mux.now guide.now) }
+{
+    let mut sections = NumberedBodies::new(alloc);
+    let mut body = fresh_body(alloc, mux.original)?;
+    let services = mux.services.as_slice();
+    let guides = guide.services.as_slice();
+    'services: for (service, names) in services.iter().zip(guides) {
+        let entry = entry_of(alloc, service, names)?;
+        if LONGEST < body.len() + entry.len() {
+            close(&mut sections, body)?;
+            body = fresh_body(alloc, mux.original)?;
+        }
+        body.extend_from_slice(&entry)?;
+    }
+    close(&mut sections, body)?;
+    Ok(sections)
+}

@@ -1,0 +1,1 @@
+// The bytes of an SDT, and where its sections are cut.
