@@ -2,7 +2,7 @@
 use Rattle.std.proofs.Common.{◌≡◌, ℕ, zero, suc, ◌+◌, ◌-◌, ◌<◌, ◌≤◌, Bool, true, false, List, [], ◌∷◌, ◌++◌, length, map, refl, sym, ap, ◌∙◌, subst, arith, inl, inr, ◌⊎◌, if◌then◌else◌, nat_le, sum_by}
 use Rattle.std.specs.Prelude.{flat_map}
 use Rattle.std.specs.List.{AllByRecursion}
-use Rattle.std.proofs.lemmas.Bool.{le-leb}
+use Rattle.std.proofs.lemmas.Bool.{le-leb, lt-leb}
 use Rattle.std.proofs.lemmas.Bool.Decides.{leb_tells}
 use Rattle.std.proofs.lemmas.List.Sums.{sum_by-append}
 use Rattle.publication.specs.Runs.{cut, longest_runs}
@@ -60,7 +60,4 @@ cut_joins size limit room run x xs fits =
 pub cut_begins : {X : Type 0} (size : X → ℕ) (limit room : ℕ) (run : List X) (x : X) (xs : List X) → room < size x
     → cut size limit room run (x ∷ xs) ≡ run ∷ cut size limit (limit - size x) (x ∷ []) xs
 cut_begins size limit room run x xs over =
-    elim (leb_tells (size x) room) [
-      | inl e ↦ absurd (omega (arith, e.1, over))
-      | inr e ↦ rw e.0 refl
-    ]
+    let e : nat_le (size x) room ≡ false = lt-leb (size x) room over in rw e refl

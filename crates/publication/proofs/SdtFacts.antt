@@ -80,7 +80,7 @@ ascend-numbered n (b ∷ c ∷ bs) = (omega arith, ascend-numbered (1 + n) (c �
 
 -- ---- bodies
 
-length-body : (original : ℕ) (entries : List (List ℕ)) → length (sdt_body original entries) ≡ 3 + sum_by length entries
+pub length-body : (original : ℕ) (entries : List (List ℕ)) → length (sdt_body original entries) ≡ 3 + sum_by length entries
 length-body original entries = omega (arith, length-two original, length-append (two original) (0xFF ∷ flat_map (λ (e : List ℕ). e) entries), length-flat_map (λ (e : List ℕ). e) entries)
 
 begins_with : (n : ℕ) (rest : List ℕ) → n < 65536 → two_at 0 (two n ++ rest) ≡ n
