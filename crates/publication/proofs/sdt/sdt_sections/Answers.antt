@@ -1,4 +1,9 @@
-use Rattle.std.proofs.Common.{◌≡◌, ℕ, ◌+◌, ◌≤◌, List, [], ◌∷◌, ◌++◌, length, drop, sym, ap, ◌∙◌, subst, subst₂, arith}
+use Rattle.std.proofs.Common.{◌≡◌, ℕ, ◌+◌, ◌≤◌, List, [], ◌∷◌, ◌++◌, length, drop, sym, ap, ◌∙◌, subst, subst₂, arith, Iter}
+use Rattle.std.specs.declared.iter.Zip.{Zip}
+use Rattle.std.specs.Iterator.Adapters.{zip_second}
+use Rattle.std.specs.Slice.Iter.{iter_rest}
+use Rattle.guide_model.specs.declared.guide.ServiceGuide.{ServiceGuide}
+use Rattle.mux_config.specs.declared.mux.MuxService.{MuxService}
 use Rattle.std.proofs.lemmas.List.{length_push}
 use Rattle.std.proofs.lemmas.Slice.Zip.{zip_turn, zip_end}
 use Rattle.section_codec.specs.declared.table.NumberedBody.{NumberedBody}
@@ -19,7 +24,9 @@ services-init c =
 
 pub put_entry-requires-clause-few : goal.put_entry-requires-clause-few
 put_entry-requires-clause-few c =
-    let turn = zip_turn c.args.mux.now.services c.args.guide.now.services c.services.yielded c.into_iter-service-iterator.result c.services.service-iterator c.next.new.self c.next.result (cc) (cc) c.services.yielded_by (c.in-Some.service, c.in-Some.names) c.in-Some.is c.next.ensures.steps in
+    let rest : iter_rest (zip_second c.zip-service-items.result) ≡ c.as_slice-guides.result.now = c.zip-service-items.ensures.second.0 in
+    let second = ap (λ (z : Zip (Iter MuxService) (Iter ServiceGuide)). iter_rest (zip_second z)) c.into_iter-service-iterator.ensures.into_iter_gives ∙ rest ∙ c.as_slice-guides.ensures in
+    let turn = zip_turn c.args.mux.now.services c.args.guide.now.services c.services.yielded c.into_iter-service-iterator.result c.services.service-iterator c.next.new.self c.next.result (cc) second c.services.yielded_by (c.in-Some.service, c.in-Some.names) c.in-Some.is c.next.ensures.steps in
     omega (arith, c.services.invariant.few, turn.0, c.requires.sound.count.1)
 
 pub services-preserved : goal.services-preserved
@@ -29,7 +36,9 @@ services-preserved c =
     let service = c.in-Some.service.now in
     let names = c.in-Some.names.now in
     let n = length c.services.yielded in
-    let turn = zip_turn mux.services guide.services c.services.yielded c.into_iter-service-iterator.result c.services.service-iterator c.next.new.self c.next.result (cc) (cc) c.services.yielded_by (c.in-Some.service, c.in-Some.names) c.in-Some.is c.next.ensures.steps in
+    let rest : iter_rest (zip_second c.zip-service-items.result) ≡ c.as_slice-guides.result.now = c.zip-service-items.ensures.second.0 in
+    let second = ap (λ (z : Zip (Iter MuxService) (Iter ServiceGuide)). iter_rest (zip_second z)) c.into_iter-service-iterator.ensures.into_iter_gives ∙ rest ∙ c.as_slice-guides.ensures in
+    let turn = zip_turn mux.services guide.services c.services.yielded c.into_iter-service-iterator.result c.services.service-iterator c.next.new.self c.next.result (cc) second c.services.yielded_by (c.in-Some.service, c.in-Some.names) c.in-Some.is c.next.ensures.steps in
     let next : length (c.services.yielded ++ (c.in-Some.service, c.in-Some.names) ∷ []) ≡ n + 1 = length_push c.services.yielded (c.in-Some.service, c.in-Some.names) in
     let left = sdt_entries (drop (n + 1) mux.services) (drop (n + 1) guide.services) in
     let here : sdt_entries (drop n mux.services) (drop n guide.services) ≡ c.deref.result.now ∷ left =
