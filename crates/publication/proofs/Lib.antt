@@ -1,0 +1,3 @@
+pub mod RunFacts
+pub mod SdtFacts
+pub mod WritingFacts

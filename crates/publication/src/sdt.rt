@@ -1,10 +1,11 @@
 // The sections of the service description table.
-ghost use Rattle.std.specs.Prelude.{◌≡◌, ◌≤◌, ◌<◌, ◌+◌, ◌-◌, ◌∷◌, ◌++◌, [], length, map, drop, IfOk, OnOk};
+ghost use Rattle.std.specs.Prelude.{◌≡◌, ◌≤◌, ◌<◌, ◌+◌, ◌∷◌, ◌++◌, [], ℕ, List, length, IfOk, OnOk};
 ghost use Rattle.si_text.specs.Coding.{coded_text, coded_size};
 ghost use Rattle.mux_config.specs.Sound.{IsSound};
 ghost use Rattle.feed_book.specs.Limits.{IsGuideWithin, IsServiceWithin};
-ghost use Rattle.publication.specs.Runs.{cut};
+ghost use Rattle.section_codec.specs.declared.table.NumberedBody.{NumberedBody as NumberedBodyShape};
 ghost use Rattle.publication.specs.Sdt.{service_descriptor, sdt_entry, sdt_body, sdt_sections};
+ghost use Rattle.publication.specs.Writing.{AreUnderWay};
 
 use guide_model::{Guide, ServiceGuide};
 use mux_config::{Mux, MuxService};
@@ -12,6 +13,7 @@ use section_codec::{NumberedBodies, NumberedBody};
 use si_base::Bytes;
 use si_text::encode_text;
 use std::alloc::{AllocError, Global};
+use std::mem;
 
 /// The tag of a service_descriptor (EN 300 468, 6.2.33).
 const SERVICE: u8 = 0x48;
@@ -46,7 +48,8 @@ fn entry_of(
     names: &ServiceGuide,
 ) -> Result<Vec<u8>, AllocError>
     requires { IsServiceWithin names.now }
-    ensures { IfOk result (λ entry. entry.items ≡ sdt_entry service.now names.now) }
+    ensures bytes { IfOk result (λ entry. entry.items ≡ sdt_entry service.now names.now) }
+    ensures size { IfOk result (λ entry. length entry.items ≤ 1009) }
 {
     let provider = encode_text(alloc, names.provider.as_str())?;
     let name = encode_text(alloc, names.name.as_str())?;
@@ -74,14 +77,35 @@ fn fresh_body(alloc: Global, original: u16) -> Result<Vec<u8>, AllocError>
     Ok(body)
 }
 
-// Appends a section with the next number.
-fn close(sections: &mut NumberedBodies, body: Vec<u8>) -> Result<(), AllocError>
-    requires { length sections.old < 256 }
-    ensures { OnOk result (sections.new ≡ sections.old ++ record { number = length sections.old; body = body.items } ∷ []) }
+// Closes a section: it gets the next number.
+fn close(closed: &mut NumberedBodies, body: Vec<u8>) -> Result<(), AllocError>
+    requires { length closed.old < 256 }
+    ensures { OnOk result (closed.new ≡ closed.old ++ record { number = length closed.old; body = body.items } ∷ []) }
 {
-    let number = sections.len() as u8;
+    let number = closed.len() as u8;
     let body = Bytes::of(body);
-    sections.push(NumberedBody { number, body })?;
+    closed.push(NumberedBody { number, body })?;
+    Ok(())
+}
+
+// Puts an entry into the section that is written, or, where it does not fit, into the next.
+fn put_entry(
+    alloc: Global,
+    original: u16,
+    closed: &mut NumberedBodies,
+    body: &mut Vec<u8>,
+    entry: &[u8],
+) -> Result<(), AllocError>
+    requires few { length closed.old < 256 }
+    requires fits { length entry.now ≤ 1009 }
+    ensures few { OnOk result (length closed.new ≤ 1 + length closed.old) }
+    ensures put { OnOk result ((left : List (List ℕ)) (all : List NumberedBodyShape) → AreUnderWay original (entry.now ∷ left) all closed.old body.old.items → AreUnderWay original left all closed.new body.new.items) }
+{
+    if LONGEST < body.len() + entry.len() {
+        let full = mem::replace(body, fresh_body(alloc, original)?);
+        close(closed, full)?;
+    }
+    body.extend_from_slice(entry)?;
     Ok(())
 }
 
@@ -95,18 +119,14 @@ pub(crate) fn sdt_sections(
     requires within { IsGuideWithin guide.now }
     ensures { IfOk result (λ sections. sections ≡ sdt_sections mux.now guide.now) }
 {
-    let mut sections = NumberedBodies::new(alloc);
+    let mut closed = NumberedBodies::new(alloc);
     let mut body = fresh_body(alloc, mux.original)?;
     let services = mux.services.as_slice();
     let guides = guide.services.as_slice();
     'services: for (service, names) in services.iter().zip(guides) {
         let entry = entry_of(alloc, service, names)?;
-        if LONGEST < body.len() + entry.len() {
-            close(&mut sections, body)?;
-            body = fresh_body(alloc, mux.original)?;
-        }
-        body.extend_from_slice(&entry)?;
+        put_entry(alloc, mux.original, &mut closed, &mut body, &entry)?;
     }
-    close(&mut sections, body)?;
-    Ok(sections)
+    close(&mut closed, body)?;
+    Ok(closed)
 }
