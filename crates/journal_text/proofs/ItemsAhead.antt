@@ -1,15 +1,16 @@
 -- The items ahead, one by one: which items come, that what is ahead gets fewer lines with each, and how they go on.
-use Rattle.std.proofs.Common.{◌≡◌, ◌≤◌, ◌-◌, ℕ, zero, suc, Bool, true, false, List, [], ◌∷◌, length, drop, refl, ap, sym, subst, ◌∙◌, arith}
-use Rattle.std.specs.Prelude.{Option, Some, None, if◌then◌else◌}
+use Rattle.std.proofs.Common.{◌≡◌, ◌≤◌, ◌<◌, ◌-◌, ℕ, zero, suc, Bool, true, false, List, [], ◌∷◌, length, drop, refl, ap, sym, subst, ◌∙◌, arith}
+use Rattle.std.specs.Prelude.{Option, Some, None, option_map, option_and_then, if◌then◌else◌, codes}
 use Rattle.input_lines.specs.Fields.{record_of}
+use Rattle.input_lines.specs.Numbers.{is_word, number_in}
+use Rattle.feed_edits.specs.declared.edit.DayText.{DayText}
 use Rattle.feed_edits.specs.declared.edit.Item.{Item}
 use Rattle.feed_edits.specs.declared.edit.Edit.{Edit}
 use Rattle.feed_edits.specs.declared.edit.Edit.TheVariants.{Day}
-use Rattle.feed_edits.specs.declared.heads.Head.{Head}
-use Rattle.feed_edits.specs.declared.heads.Head.TheVariants.{Whole, OfDay}
 use Rattle.feed_edits.specs.Ahead.{Ahead, Row, Tail, Found, Came, Stopped, Stop, and_then, first_row, row_of, stop_at, missing_at}
-use Rattle.feed_edits.specs.Heads.{edit_head}
-use Rattle.feed_edits.specs.Edits.{first_item, items_of, on_line, with_items, edit_from, read_edit}
+use Rattle.feed_edits.specs.Items.{item_of, day_of}
+use Rattle.feed_edits.specs.Heads.{edit_head, put_of, withdraw_of, clear_of, name_of, day_head_of}
+use Rattle.feed_edits.specs.Edits.{first_item, items_of, on_line, edit_from, read_edit}
 use Rattle.feed_edits.proofs.Edits.{item_in}
 use Rattle.desk_core.specs.declared.step.Step.{Step}
 use Rattle.desk_core.specs.declared.step.Step.TheVariants.{Edit as edit}
@@ -72,7 +73,7 @@ pub kept_is_behind : (after : Bool) (lines behind : Ahead) (n : ℕ) (outcome : 
 kept_is_behind after lines behind n outcome e = subst (Fits after) e (first_fits after lines)
 
 pub none_kept : (lines behind : Ahead) (n : ℕ) (outcome : Outcome) → first_script_item false lines ≡ Came (Kept n outcome) behind → ⊥
-none_kept lines behind n outcome e = absurd (kept_is_behind false lines behind n outcome e)
+none_kept lines behind n outcome e = absurd (let never : false ≡ true = kept_is_behind false lines behind n outcome e in cc)
 
 -- the end is no item of lines
 pub no_end : (after : Bool) (lines behind : Ahead) → first_script_item after lines ≡ Came End behind → ⊥
@@ -109,14 +110,68 @@ items_within k (suc n) lines h =
     then_within k k (first_item lines) (λ item behind. and_then (items_of n behind) (λ items rest. Came (item ∷ items) rest)) (item_within k lines h)
     (λ item behind le. then_within k k (items_of n behind) (λ items rest. let r : Found (List Item) = Came (item ∷ items) rest in r) (items_within k n behind le) (λ items rest le2. le2))
 
-head_within : (k : ℕ) (head : Head) (behind : Ahead) → length behind.rows ≤ k → Within k (with_items head behind)
-head_within k (Whole e) behind h = h
-head_within k (OfDay service day count) behind h =
+-- what holds of nothing, and of what is made of a value, holds of what may be made
+of_then : {A H : Type 0} (P : Option H → Type 0) (f : A → Option H) (found : Option A) → P None → ((value : A) → P (f value)) → P (option_and_then f found)
+of_then P f None h g = h
+of_then P f (Some value) h g = g value
+
+of_map : {A H : Type 0} (P : Option H → Type 0) (f : A → H) (found : Option A) → P None → ((value : A) → P (Some (f value))) → P (option_map f found)
+of_map P f None h g = h
+of_map P f (Some value) h g = g value
+
+of_if : {A : Type 0} (P : A → Type 0) (test : Bool) (a b : A) → P a → P b → P (if test then a else b)
+of_if P true a b h g = h
+of_if P false a b h g = g
+
+put_within : (k n : ℕ) (fields : List (List ℕ)) (behind : Ahead) → length behind.rows ≤ k → Within k (edit_from n (put_of fields) behind)
+put_within k n [] behind h = tt
+put_within k n (service ∷ item) behind h =
+    of_then (λ found. Within k (edit_from n found behind)) _ (number_in 0 65535 service) tt
+    (λ s. of_map (λ found. Within k (edit_from n found behind)) _ (item_of item) tt (λ i. h))
+
+withdraw_within : (k n : ℕ) (fields : List (List ℕ)) (behind : Ahead) → length behind.rows ≤ k → Within k (edit_from n (withdraw_of fields) behind)
+withdraw_within k n [] behind h = tt
+withdraw_within k n (service ∷ []) behind h = tt
+withdraw_within k n (service ∷ event ∷ []) behind h =
+    of_then (λ found. Within k (edit_from n found behind)) _ (number_in 0 65535 service) tt
+    (λ s. of_map (λ found. Within k (edit_from n found behind)) _ (number_in 0 65535 event) tt (λ e. h))
+withdraw_within k n (service ∷ event ∷ more ∷ fields) behind h = tt
+
+clear_within : (k n : ℕ) (fields : List (List ℕ)) (behind : Ahead) → length behind.rows ≤ k → Within k (edit_from n (clear_of fields) behind)
+clear_within k n [] behind h = tt
+clear_within k n (service ∷ []) behind h = of_map (λ found. Within k (edit_from n found behind)) _ (number_in 0 65535 service) tt (λ s. h)
+clear_within k n (service ∷ more ∷ fields) behind h = tt
+
+name_within : (k n : ℕ) (fields : List (List ℕ)) (behind : Ahead) → length behind.rows ≤ k → Within k (edit_from n (name_of fields) behind)
+name_within k n [] behind h = tt
+name_within k n (service ∷ []) behind h = tt
+name_within k n (service ∷ provider ∷ []) behind h = tt
+name_within k n (service ∷ provider ∷ name ∷ []) behind h = of_map (λ found. Within k (edit_from n found behind)) _ (number_in 0 65535 service) tt (λ s. h)
+name_within k n (service ∷ provider ∷ name ∷ more ∷ fields) behind h = tt
+
+listed_within : (k service : ℕ) (day : DayText) (count : ℕ) (behind : Ahead) → length behind.rows ≤ k → Within k (and_then (items_of count behind) (λ items rest. Came (Day service day items) rest))
+listed_within k service day count behind h =
     then_within k k (items_of count behind) (λ items rest. let r : Found Edit = Came (Day service day items) rest in r) (items_within k count behind h) (λ items rest le. le)
 
+day_within : (k n : ℕ) (fields : List (List ℕ)) (behind : Ahead) → length behind.rows ≤ k → Within k (edit_from n (day_head_of fields) behind)
+day_within k n [] behind h = tt
+day_within k n (service ∷ []) behind h = tt
+day_within k n (service ∷ date ∷ []) behind h = tt
+day_within k n (service ∷ date ∷ count ∷ []) behind h =
+    of_then (λ found. Within k (edit_from n found behind)) _ (number_in 0 65535 service) tt
+    (λ s. of_then (λ found. Within k (edit_from n found behind)) _ (day_of date) tt
+    (λ d. of_map (λ found. Within k (edit_from n found behind)) _ (number_in 0 2000 count) tt (λ c. listed_within k s d c behind h)))
+day_within k n (service ∷ date ∷ count ∷ more ∷ fields) behind h = tt
+
 edit_within : (k n : ℕ) (fields : List (List ℕ)) (behind : Ahead) → length behind.rows ≤ k → Within k (read_edit n fields behind)
-edit_within k n fields behind h =
-    then_within k k (on_line n (edit_head fields) behind) with_items (line_within k n (edit_head fields) behind h) (λ value rest le. head_within k value rest le)
+unfolding edit_head
+edit_within k n [] behind h = tt
+edit_within k n (word ∷ fields) behind h =
+    of_if (λ found. Within k (edit_from n found behind)) (is_word (codes "put") word) _ _ (put_within k n fields behind h)
+    (of_if (λ found. Within k (edit_from n found behind)) (is_word (codes "withdraw") word) _ _ (withdraw_within k n fields behind h)
+    (of_if (λ found. Within k (edit_from n found behind)) (is_word (codes "clear") word) _ _ (clear_within k n fields behind h)
+    (of_if (λ found. Within k (edit_from n found behind)) (is_word (codes "name") word) _ _ (name_within k n fields behind h)
+    (of_if (λ found. Within k (edit_from n found behind)) (is_word (codes "day") word) _ _ (day_within k n fields behind h) tt))))
 
 feed_within : (k who feed : ℕ) (r : Found Edit) → Within k r → Within k (feed_command who feed r)
 feed_within k who feed (Came e rest) h = h
@@ -189,9 +244,15 @@ pub items_go_on : ItemsGoOn
 unfolding items_ahead
 items_go_on after lines = go_on (length lines.rows) after lines (omega arith)
 
+came_fewer : (after : Bool) (rows : List Row) (tail : Tail) (behind : Ahead) (item : ScriptItem) → first_script_item after (record { rows = rows; tail = tail }) ≡ Came item behind → length behind.rows < length rows
+came_fewer after [] tail behind item e = absurd (let never : Stopped (stop_at tail) ≡ Came item behind = e in cc)
+came_fewer after (row ∷ rows) tail behind item e =
+    let le : length behind.rows ≤ length {A = Row} (row ∷ rows) - 1 = subst (Within (length {A = Row} (row ∷ rows) - 1)) e (first_within after (record { rows = row ∷ rows; tail = tail })) in
+    omega arith
+
 -- an item takes a line at least
-pub fewer_ahead : (after : Bool) (lines behind : Ahead) (item : ScriptItem) → first_script_item after lines ≡ Came item behind → length behind.rows ≤ length lines.rows - 1
-fewer_ahead after lines behind item e = subst (Within (length lines.rows - 1)) e (first_within after lines)
+pub fewer_ahead : (after : Bool) (lines behind : Ahead) (item : ScriptItem) → first_script_item after lines ≡ Came item behind → length behind.rows < length lines.rows
+fewer_ahead after lines behind item e = came_fewer after lines.rows lines.tail behind item e
 
 -- ---- by what comes first
 
