@@ -4,5 +4,6 @@ pub mod Entries
 pub mod Kept
 pub mod Script
 pub mod ScriptReads
+pub mod ScriptLaws
 pub mod Back
 mod Rows

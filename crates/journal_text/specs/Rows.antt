@@ -14,7 +14,7 @@ use Rattle.desk_core.specs.declared.step.Step.TheVariants.{Edit as edit, Publish
 use Rattle.desk_core.specs.declared.step.Outcome.TheVariants.{Edited, Published}
 use Rattle.desk_core.specs.Controls.{control_of}
 use Rattle.journal_text.specs.Kept.{field_of, day_fault_of, reply_of, outcome_of_fields}
-use Rattle.journal_text.specs.Script.{script_of}
+use Rattle.journal_text.specs.Script.{items_ahead, script_of}
 use Rattle.desk_core.specs.Rows.{row_journal}
 use Rattle.journal_text.specs.Entries.{journal_text}
 
@@ -38,15 +38,15 @@ row_more = refl
 
 -- a publish whose outcome is kept on line 2, and a swap of caller 7 on line 4
 row_script : script_of (codes "publish\n=,published,1\n#\n7,swap\n") ≡ (((0, Publish), Some (2, Published 1)) ∷ ((7, Swap), None) ∷ [], End)
-unfolding fields_compute control_of outcome_of_fields reply_of
+unfolding items_ahead fields_compute control_of outcome_of_fields reply_of
 row_script = refl
 
 -- a second outcome line behind one command
 row_twice : script_of (codes "3,feed,1,clear,101\n=,done\n=,done\n") ≡ (((3, edit 1 (Clear 101)), Some (2, Edited Done)) ∷ [], NoCommand 3)
-unfolding fields_compute control_of outcome_of_fields reply_of edit_head
+unfolding items_ahead fields_compute control_of outcome_of_fields reply_of edit_head
 row_twice = refl
 
 -- an outcome line before any command
 row_early : script_of (codes "=,done\n") ≡ ([], NoCommand 1)
-unfolding fields_compute
+unfolding items_ahead fields_compute
 row_early = refl

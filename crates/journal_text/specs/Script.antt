@@ -108,10 +108,13 @@ abbrev pub items_upto : ℕ → Bool → Ahead → List ScriptItem × Stop
 items_upto zero after lines = ([], stop_at lines.tail)
 items_upto (suc n) after lines = and_items (first_script_item after lines) (items_upto n)
 
--- the items of a script, which are no more than its lines, and its stop: the end, the first line that is no command or
--- outcome there, or the limit of a text
+-- the items ahead of a reader, which are no more than the lines, and why no more is read
+unfoldable pub items_ahead : Bool → Ahead → List ScriptItem × Stop
+items_ahead after lines = items_upto (length lines.rows) after lines
+
+-- the items of a script, and its stop: the end, the first line that is no command or outcome there, or the limit of a text
 abbrev pub script_items : List ℕ → List ScriptItem × Stop
-script_items text = (let lines = ahead_in 1 (text_lines text) in items_upto (length lines.rows) false lines)
+script_items text = items_ahead false (ahead_in 1 (text_lines text))
 
 -- a command, and the outcome that is kept behind it, with the number of its line
 abbrev pub Asked : Type 0

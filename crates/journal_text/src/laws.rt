@@ -1,5 +1,6 @@
-// What is written reads back.
+// What is written reads back, and a script is read item by item.
 ghost use Rattle.journal_text.specs.Back.{EntriesReadBack, JournalsDiffer, OutcomesAreFields, OutcomesReadBack, RowsReadBack};
+ghost use Rattle.journal_text.specs.ScriptLaws.{ItemsGoOn};
 
 /// The law that a line of fields reads back as the fields, whatever text stands behind it: the fields are texts, at least two,
 /// the first may begin a line, and the line has at most 16,384 bytes.
@@ -24,4 +25,10 @@ pub fn entries_read_back()
 /// have.
 pub fn journals_differ_in_their_texts()
     ensures journals { JournalsDiffer }
+{}
+
+/// The law that the items ahead of a reader are the first, as [`crate::next_item`] reads it, and then those of what is ahead
+/// behind it, whatever stands behind the lines.
+pub fn items_go_on()
+    ensures { ItemsGoOn }
 {}

@@ -20,7 +20,8 @@ mod tests;
 pub use entry::write_entry;
 pub use kept::read_outcome;
 pub use laws::{
-    entries_read_back, journals_differ_in_their_texts, outcomes_read_back, rows_read_back,
+    entries_read_back, items_go_on, journals_differ_in_their_texts, outcomes_read_back,
+    rows_read_back,
 };
 pub use outcome::write_outcome;
 pub use script::{ScriptItem, next_item};
