@@ -1,6 +1,6 @@
 -- What reading the next item of a script tells, of a text that the source tells and of the bytes that it gave.
-use Rattle.std.specs.Prelude.{◌≡◌, ℕ, Bool, List, [], Option, Some, None, Ok, Err, Result}
-use Rattle.si_causes.specs.Reading.{Reading, text_left}
+use Rattle.std.specs.Prelude.{◌≡◌, ◌<◌, ℕ, Bool, List, [], Option, Some, None, Ok, Err, Result}
+use Rattle.si_causes.specs.Reading.{Reading, room, text_left}
 use Rattle.feed_edits.specs.declared.stop.EditStop.{EditStop}
 use Rattle.feed_edits.specs.Ahead.{Came, Stopped, End as end, ahead}
 use Rattle.feed_edits.specs.Reads.{Gives, Leaves, Passes, Takes}
@@ -27,3 +27,9 @@ TakesItem left faults after old new (Ok (Step who step)) = Passes left (first_sc
 TakesItem left faults after old new (Ok (Kept n outcome)) = Passes left (first_script_item after) (Came (Kept n outcome)) old new
 TakesItem left faults after old new (Ok End) = new.stop ≡ None
 TakesItem left faults after old new (Err stop) = Takes left faults (first_script_item after) old new (Err stop)
+
+-- behind an item less of the text is left
+abbrev pub Falls : {S : Type 0} → ScriptItem → Reading S → Reading S → Type 0
+Falls (Step who step) old new = room new < room old
+Falls (Kept n outcome) old new = room new < room old
+Falls End old new = Unit {0}

@@ -1,13 +1,15 @@
 // The items of a script.
-ghost use Rattle.std.specs.Prelude.{◌≡◌, ◌≤◌, List, ℕ, Some, None, Err, IfOk, IfSome, drop, option_map};
-ghost use Rattle.si_causes.specs.Reading.{text_left};
+ghost use Rattle.std.specs.Prelude.{◌≡◌, ◌≤◌, List, ℕ, Some, None, Ok, Err, IfOk, IfSome, OnOk, drop, option_map};
+ghost use Rattle.std.specs.Io.KnownBytes.{IsAtEnd};
+ghost use Rattle.si_causes.specs.Reading.{room, text_left};
 ghost use Rattle.input_lines.specs.Fields.{record_of};
 ghost use Rattle.feed_edits.specs.declared.stop.EditStop.TheVariants.{Read};
 ghost use Rattle.feed_edits.specs.Reads.{Gives, Says, Takes};
 ghost use Rattle.desk_core.specs.Steps.{IsStepWithin};
 ghost use Rattle.journal_text.specs.Outcomes.{IsInWindow};
 ghost use Rattle.journal_text.specs.Script.{IsItemWithin, IsShapedItem, IsShapedStep, caller_of, command_of_caller, control_step, feed_of, is_outcome_line, is_swap, kept_in, read_command as command_at, read_item, short_step};
-ghost use Rattle.journal_text.specs.ScriptReads.{GivesItem, IsRead, TakesItem};
+ghost use Rattle.journal_text.specs.ScriptReads.{GivesItem, IsRead, TakesItem, Falls};
+ghost use Rattle.journal_text.specs.declared.script.ScriptItem.TheVariants.{End};
 
 use crate::kept::read_outcome;
 use desk_core::{Control, Outcome, Step, read_control};
@@ -100,6 +102,7 @@ fn command_from<S: Source>(
     ensures within { IfOk result (λ command. IsStepWithin command.1) }
     ensures shaped { IfOk result (λ command. IsShapedStep command.1) }
     ensures sticky { IfSome lines.old.stop (λ stop. lines.new ≡ lines.old) }
+    ensures goes_on { OnOk result (room lines.new ≤ room lines.old) }
     ensures later { S.faults lines.old.source ≤ S.faults lines.new.source }
     ensures same { S.same lines.old.source lines.new.source }
 {
@@ -129,6 +132,7 @@ fn read_command<S: Source>(
     ensures within { IfOk result (λ command. IsStepWithin command.1) }
     ensures shaped { IfOk result (λ command. IsShapedStep command.1) }
     ensures sticky { IfSome lines.old.stop (λ stop. lines.new ≡ lines.old) }
+    ensures goes_on { OnOk result (room lines.new ≤ room lines.old) }
     ensures later { S.faults lines.old.source ≤ S.faults lines.new.source }
     ensures same { S.same lines.old.source lines.new.source }
 {
@@ -197,6 +201,7 @@ fn item_on<S: Source>(
     ensures within { IfOk result IsItemWithin }
     ensures shaped { IfOk result IsShapedItem }
     ensures sticky { IfSome lines.old.stop (λ stop. lines.new ≡ lines.old) }
+    ensures goes_on { OnOk result (room lines.new ≤ room lines.old) }
     ensures later { S.faults lines.old.source ≤ S.faults lines.new.source }
     ensures same { S.same lines.old.source lines.new.source }
 {
@@ -233,6 +238,8 @@ pub fn next_item<S: Source>(
     ensures within { IfOk result IsItemWithin }
     ensures shaped { IfOk result IsShapedItem }
     ensures sticky { IfSome lines.old.stop (λ stop. (result ≡ Err (Read stop)) × (lines.new ≡ lines.old)) }
+    ensures falls { IfOk result (λ item. Falls item lines.old lines.new) }
+    ensures end { result ≡ Ok End → IsAtEnd (S.left lines.new.source) }
     ensures later { S.faults lines.old.source ≤ S.faults lines.new.source }
     ensures same { S.same lines.old.source lines.new.source }
 {
