@@ -439,9 +439,9 @@ sound_mux rs network stream f named some = record {
   apart = apart_pids rs f;
 }
 
-whole_services : (mux made : Mux) (behind : List (ℕ × List ℕ)) → with_services mux behind ≡ Whole made behind → (1 ≤ length mux.services) × (mux ≡ made)
-whole_services mux made behind e = elim (cases_Bool (nat_le 1 (length mux.services))) [
-  | inl some ↦ (leb-true 1 (length mux.services) some, let w : Whole mux behind ≡ Whole made behind = rw some at e in cc w)
+whole_services : (mux made : Mux) (behind more : List (ℕ × List ℕ)) → with_services mux behind ≡ Whole made more → (1 ≤ length mux.services) × (mux ≡ made)
+whole_services mux made behind more e = elim (cases_Bool (nat_le 1 (length mux.services))) [
+  | inl some ↦ (leb-true 1 (length mux.services) some, let w : Whole mux behind ≡ Whole made more = rw some at e in cc w)
   | inr none ↦ cc (rw none at e)
 ]
 
@@ -456,21 +456,21 @@ with_ids rs network stream f named streamed some =
       original = ids.1;
     }
 
-whole_stream : (rs : List Numbered) (network : ℕ × List ℕ) (o : Option (ℕ × ℕ)) (made : Mux) (behind : List (ℕ × List ℕ)) → AreFine rs → said network_in (first is_network rs) ≡ Some network → said stream_in (first is_stream rs) ≡ o
-    → with_stream rs network o behind ≡ Whole made behind → IsSoundWithIds made
-whole_stream rs network None made behind f named streamed e = cc e
-whole_stream rs network (Some stream) made behind f named streamed e =
-    let w = whole_services (mux_with network stream rs) made behind e in
+whole_stream : (rs : List Numbered) (network : ℕ × List ℕ) (o : Option (ℕ × ℕ)) (made : Mux) (behind more : List (ℕ × List ℕ)) → AreFine rs → said network_in (first is_network rs) ≡ Some network → said stream_in (first is_stream rs) ≡ o
+    → with_stream rs network o behind ≡ Whole made more → IsSoundWithIds made
+whole_stream rs network None made behind more f named streamed e = cc e
+whole_stream rs network (Some stream) made behind more f named streamed e =
+    let w = whole_services (mux_with network stream rs) made behind more e in
     subst IsSoundWithIds w.1 (with_ids rs network stream f named streamed w.0)
 
-whole_network : (rs : List Numbered) (o : Option (ℕ × List ℕ)) (made : Mux) (behind : List (ℕ × List ℕ)) → AreFine rs → said network_in (first is_network rs) ≡ o → with_network rs o behind ≡ Whole made behind → IsSoundWithIds made
-whole_network rs None made behind f named e = cc e
-whole_network rs (Some network) made behind f named e = whole_stream rs network (said stream_in (first is_stream rs)) made behind f named refl e
+whole_network : (rs : List Numbered) (o : Option (ℕ × List ℕ)) (made : Mux) (behind more : List (ℕ × List ℕ)) → AreFine rs → said network_in (first is_network rs) ≡ o → with_network rs o behind ≡ Whole made more → IsSoundWithIds made
+whole_network rs None made behind more f named e = cc e
+whole_network rs (Some network) made behind more f named e = whole_stream rs network (said stream_in (first is_stream rs)) made behind more f named refl e
 
-pub sound_end : (rs : List Numbered) (made : Mux) (behind : List (ℕ × List ℕ)) → AreFine rs → ended rs behind ≡ Whole made behind → IsSoundWithIds made
-sound_end rs made behind f e = whole_network rs (said network_in (first is_network rs)) made behind f refl e
+pub sound_end : (rs : List Numbered) (made : Mux) (behind more : List (ℕ × List ℕ)) → AreFine rs → ended rs behind ≡ Whole made more → IsSoundWithIds made
+sound_end rs made behind more f e = whole_network rs (said network_in (first is_network rs)) made behind more f refl e
 
 -- what is made of fine records is sound
 pub sound_made : (rs : List Numbered) (result : Result Mux MuxStop) → AreFine rs → ((behind : List (ℕ × List ℕ)) → Makes (ended rs behind) behind result) → IfOk result IsSound
-sound_made rs (Ok mux) f makes = (sound_end rs mux [] f (makes [])).sound
+sound_made rs (Ok mux) f makes = (sound_end rs mux [] [] f (makes [])).sound
 sound_made rs (Err stop) f makes = tt
