@@ -1,31 +1,28 @@
 -- A line says only what is in its range, so that a whole description is sound.
-use Rattle.std.proofs.Common.{◌≡◌, ℕ, ◌*◌, ◌<◌, ◌≤◌, Bool, true, false, cond, List, [], ◌∷◌, length, Option, Some, None, refl, sym, ap, ◌∙◌, subst, arith, inl, inr}
+use Rattle.std.proofs.Common.{◌≡◌, ℕ, ◌*◌, ◌<◌, Bool, true, false, cond, List, [], ◌∷◌, Option, Some, None, refl, arith}
 use Rattle.std.specs.Prelude.{◌&&◌, nat_le, codes, if◌then◌else◌, option_map}
-use Rattle.std.specs.List.{AllByRecursion}
-use Rattle.std.proofs.lemmas.Bool.{cases_Bool}
 use Rattle.std.proofs.lemmas.Bool.Decides.{nat_tests}
-use Rattle.guide_model.specs.declared.stream.Component.{Component}
 use Rattle.si_text.specs.Coding.{coded_size}
 use Rattle.si_time.specs.Readings.{moment_in}
 use Rattle.si_time.proofs.TextFacts.{moment_in-is}
 use Rattle.si_causes.specs.Text.{TextEnd, AtEnd, PastLimit}
 use Rattle.input_lines.specs.Fields.{record_of}
-use Rattle.input_lines.specs.Lines.{Lines, record_lines}
+use Rattle.input_lines.specs.Lines.{record_lines}
 use Rattle.input_lines.specs.Numbers.{in_range, is_word, numeral_of}
 use Rattle.mux_config.specs.declared.fault.MuxFault.{MuxFault}
 use Rattle.mux_config.specs.declared.mux.MuxService.{MuxService}
 use Rattle.mux_config.specs.declared.mux.Mux.{Mux}
 use Rattle.mux_config.specs.declared.rows.Numbers.{Numbers}
 use Rattle.mux_config.specs.declared.record.Record.{Record}
-use Rattle.mux_config.specs.declared.record.Record.TheVariants.{Network, Stream, Delivery, Service, Part, Start, Quota, End}
+use Rattle.mux_config.specs.declared.record.Record.TheVariants.{Network, Stream, Delivery, Service, Part, Quota, End}
 use Rattle.mux_config.specs.declared.record.Found.{Found}
 use Rattle.mux_config.specs.declared.record.Found.TheVariants.{NoRecord, OutOfRange, Is}
 use Rattle.mux_config.specs.declared.record.Numbered.{Numbered}
-use Rattle.mux_config.specs.Block.{Block, Faulty, Whole, Unended, and_found, at_text_end, block_from, block_of, ended, fault_of, has_no_place, is_end, repeated_at, unless}
-use Rattle.mux_config.specs.Fields.{cable_with, found_fields, found_in, found_line, found_with, is_language, is_letter, is_service_in_range, language_of, network_in, stream_in, cable_in, delivery_with, numbers_in, service_of, service_with, service_in, bare_service, part_in, start_with, start_in, quota_in, spelled, within}
+use Rattle.mux_config.specs.Block.{Block, Faulty, Whole, Unended, and_found, at_text_end, block_from, ended, fault_of, has_no_place, is_end, repeated_at, unless}
+use Rattle.mux_config.specs.Fields.{cable_with, found_fields, found_in, found_line, found_with, is_language, is_letter, is_service_in_range, language_of, network_in, stream_in, cable_in, delivery_with, numbers_in, service_of, service_in, bare_service, part_in, start_with, start_in, quota_in, spelled, within}
 use Rattle.mux_config.specs.Fine.{AreFine, IsFine, IsFineFound, IsFineService}
 use Rattle.mux_config.specs.Laws.{IsSoundWithIds, WholeDescriptionsAreSound}
-use Rattle.mux_config.specs.Sound.{Between, HasSoundLanguage, IsSoundCable, IsSoundComponent}
+use Rattle.mux_config.specs.Sound.{Between, HasSoundLanguage, IsSoundCable}
 use Rattle.mux_config.proofs.Soundness.{fine_none, fine_more, sound_end}
 
 -- ---- numbers in their ranges
@@ -67,26 +64,26 @@ fine_spelled field next h = fine_with (numeral_of field) next h
 
 fine_network : (id name : List ℕ) → IsFineFound (network_in id name)
 fine_network id name = fine_spelled id _ (λ n. fine_within (in_range 0 65535 n && in_range 1 100 (coded_size name)) (Network n name) (λ e. (
-    short_bound 0 n (and_left (in_range 0 65535 n) (in_range 1 100 (coded_size name)) e),
-    bounds 1 100 (coded_size name) (and_right (in_range 0 65535 n) (in_range 1 100 (coded_size name)) e),
+  short_bound 0 n (and_left (in_range 0 65535 n) (in_range 1 100 (coded_size name)) e),
+  bounds 1 100 (coded_size name) (and_right (in_range 0 65535 n) (in_range 1 100 (coded_size name)) e),
 )))
 
 fine_stream : (id original : List ℕ) → IsFineFound (stream_in id original)
 fine_stream id original = fine_spelled id _ (λ n. fine_spelled original _ (λ o. fine_within (in_range 0 65535 n && in_range 0 65535 o) (Stream n o) (λ e. (
-    short_bound 0 n (and_left (in_range 0 65535 n) (in_range 0 65535 o) e),
-    short_bound 0 o (and_right (in_range 0 65535 n) (in_range 0 65535 o) e),
+  short_bound 0 n (and_left (in_range 0 65535 n) (in_range 0 65535 o) e),
+  short_bound 0 o (and_right (in_range 0 65535 n) (in_range 0 65535 o) e),
 ))))
 
 sound_cable : (f m s o i : ℕ) → (in_range 0 99999999 f && (in_range 0 255 m && (in_range 0 9999999 s && (in_range 0 15 o && in_range 0 15 i)))) ≡ true → IsSoundCable (cable_with f m s o i)
 sound_cable f m s o i e =
     let behind = and_right (in_range 0 99999999 f) _ e in
     let rates = and_right (in_range 0 255 m) _ behind in
-    let codes' = and_right (in_range 0 9999999 s) _ rates in
+    let protections = and_right (in_range 0 9999999 s) _ rates in
     record {
       frequency = (bounds 0 99999999 f (and_left (in_range 0 99999999 f) _ e)).1;
       symbol_rate = (bounds 0 9999999 s (and_left (in_range 0 9999999 s) _ rates)).1;
-      fec_outer = (bounds 0 15 o (and_left (in_range 0 15 o) _ codes')).1;
-      fec_inner = (bounds 0 15 i (and_right (in_range 0 15 o) _ codes')).1;
+      fec_outer = (bounds 0 15 o (and_left (in_range 0 15 o) _ protections)).1;
+      fec_inner = (bounds 0 15 i (and_right (in_range 0 15 o) _ protections)).1;
     }
 
 fine_delivery : (f m s o i : ℕ) → IsFineFound (delivery_with f m s o i)
@@ -124,10 +121,10 @@ sound_language (a ∷ []) e = cc e
 sound_language (a ∷ b ∷ []) e = cc e
 sound_language (a ∷ b ∷ c ∷ []) e =
     let behind = and_right (is_letter a) _ e in
-    let a' = bounds 97 122 a (and_left (is_letter a) _ e) in
-    let b' = bounds 97 122 b (and_left (is_letter b) _ behind) in
-    let c' = bounds 97 122 c (and_right (is_letter b) _ behind) in
-    (refl, (a', (b', (c', tt))))
+    let one = bounds 97 122 a (and_left (is_letter a) _ e) in
+    let two = bounds 97 122 b (and_left (is_letter b) _ behind) in
+    let three = bounds 97 122 c (and_right (is_letter b) _ behind) in
+    (refl, (one, (two, (three, tt))))
 sound_language (a ∷ b ∷ c ∷ d ∷ letters) e = cc e
 
 sound_part : (s k p : ℕ) (language : List ℕ) → ((in_range 0 65535 s && (in_range 0 255 k && in_range 32 8190 p)) && is_language language) ≡ true → IsFine (Part s (record { stream_type = k; pid = p; language = language_of language }))
@@ -182,15 +179,15 @@ none_of f None e = refl
 none_of f (Some x) e = cc e
 
 -- a record that has no fault has a place, and repeats none
-placed : (b : Bool) (n : ℕ) (o : Option ℕ) (range : MuxFault) (twice : ℕ → MuxFault) → cond b (Some range) (option_map twice o) ≡ None → (b ≡ false) × (o ≡ None)
-placed true n o range twice e = cc e
-placed false n o range twice e = (refl, none_of twice o e)
+placed : (b : Bool) (o : Option ℕ) (range : MuxFault) (twice : ℕ → MuxFault) → cond b (Some range) (option_map twice o) ≡ None → (b ≡ false) × (o ≡ None)
+placed true o range twice e = cc e
+placed false o range twice e = (refl, none_of twice o e)
 
 fine_next : (before : List Numbered) (n : ℕ) (found : Found) → AreFine before → IsFineFound found → fault_of before n found ≡ None → AreFine (and_found before n found)
 fine_next before n NoRecord f fine e = f
 fine_next before n OutOfRange f fine e = f
 fine_next before n (Is r) f fine e =
-    let p = placed (has_no_place before r) n (repeated_at before r) _ _ e in
+    let p = placed (has_no_place before r) (repeated_at before r) _ _ e in
     fine_more before n r f fine p.0 p.1
 
 unless_whole : (o : Option MuxFault) (block : Block) (mux : Mux) (behind : List (ℕ × List ℕ)) → unless o block ≡ Whole mux behind → (o ≡ None) × (block ≡ Whole mux behind)
