@@ -3,3 +3,4 @@ pub mod IndexFacts
 pub mod Ordering
 pub mod Reading
 pub mod Soundness
+pub mod FineLines

@@ -17,6 +17,7 @@ use Rattle.mux_config.specs.Block.{Whole, all_of, delivery_in, first, first_line
 use Rattle.mux_config.specs.Fine.{AreFine, IsApart, IsFine, IsFineService, in_order, parts_in}
 use Rattle.mux_config.specs.Sound.{AreDifferent, Between, DoAscend, HasSoundCable, IsSound, IsSoundComponent, IsSoundService, all_component_pids, component_pids, pmt_pids}
 use Rattle.mux_config.specs.Reads.{Makes}
+use Rattle.mux_config.specs.Laws.{IsSoundWithIds}
 use Rattle.mux_config.specs.declared.stop.MuxStop.{MuxStop}
 use Rattle.mux_config.proofs.IndexFacts.{all_more, first_more, or_none_left, or_none_right, first_before, all_kept}
 use Rattle.mux_config.proofs.Ordering.{sorted_more}
@@ -292,8 +293,11 @@ first_fine test (r ∷ rs) h = elim (cases_Bool (test r.says)) [
   | inr e ↦ rw e (first_fine test rs h.1)
 ]
 
-in_network : (says : Record) (n : ℕ × List ℕ) → IsFine says → network_in says ≡ Some n → Between 1 100 (coded_size n.1)
-in_network (Network id name) n h e = let same : name ≡ n.1 = cc e in subst (λ (t : List ℕ). Between 1 100 (coded_size t)) same h
+abbrev IsFineNetwork : ℕ × List ℕ → Type 0
+IsFineNetwork n = (n.0 < 65536) × Between 1 100 (coded_size n.1)
+
+in_network : (says : Record) (n : ℕ × List ℕ) → IsFine says → network_in says ≡ Some n → IsFineNetwork n
+in_network (Network id name) n h e = let same : (id, name) ≡ n = cc e in subst IsFineNetwork same h
 in_network (Stream id o) n h e = cc e
 in_network (Delivery cable) n h e = cc e
 in_network (Service s) n h e = cc e
@@ -302,9 +306,26 @@ in_network (Start moment) n h e = cc e
 in_network (Quota q) n h e = cc e
 in_network End n h e = cc e
 
-network_fine : (o : Option Numbered) (n : ℕ × List ℕ) → FineOption o → said network_in o ≡ Some n → Between 1 100 (coded_size n.1)
+network_fine : (o : Option Numbered) (n : ℕ × List ℕ) → FineOption o → said network_in o ≡ Some n → IsFineNetwork n
 network_fine None n h e = cc e
 network_fine (Some r) n h e = in_network r.says n h e
+
+abbrev IsFineStream : ℕ × ℕ → Type 0
+IsFineStream s = (s.0 < 65536) × (s.1 < 65536)
+
+in_stream : (says : Record) (s : ℕ × ℕ) → IsFine says → stream_in says ≡ Some s → IsFineStream s
+in_stream (Network id name) s h e = cc e
+in_stream (Stream id o) s h e = let same : (id, o) ≡ s = cc e in subst IsFineStream same h
+in_stream (Delivery cable) s h e = cc e
+in_stream (Service t) s h e = cc e
+in_stream (Part id c) s h e = cc e
+in_stream (Start moment) s h e = cc e
+in_stream (Quota q) s h e = cc e
+in_stream End s h e = cc e
+
+stream_fine : (o : Option Numbered) (s : ℕ × ℕ) → FineOption o → said stream_in o ≡ Some s → IsFineStream s
+stream_fine None s h e = cc e
+stream_fine (Some r) s h e = in_stream r.says s h e
 
 in_cable : (says : Record) → IsFine says → HasSoundCable (delivery_in says)
 in_cable (Network id name) h = tt
@@ -407,7 +428,7 @@ length_parts rs (t ∷ ts) = omega (arith, length_parts rs ts)
 
 pub sound_mux : (rs : List Numbered) (network : ℕ × List ℕ) (stream : ℕ × ℕ) → AreFine rs → said network_in (first is_network rs) ≡ Some network → 1 ≤ length (services_of rs) → IsSound (mux_with network stream rs)
 sound_mux rs network stream f named some = record {
-  network_name = network_fine (first is_network rs) network (first_fine is_network rs f.each) named;
+  network_name = (network_fine (first is_network rs) network (first_fine is_network rs f.each) named).1;
   cable = cable_fine (first is_delivery rs) (first_fine is_delivery rs f.each);
   start = start_fine (first is_start rs) (first_fine is_start rs f.each);
   quota = quota_fine (first is_quota rs) (first_fine is_quota rs f.each);
@@ -418,23 +439,38 @@ sound_mux rs network stream f named some = record {
   apart = apart_pids rs f;
 }
 
-whole_services : (mux made : Mux) (behind : List (ℕ × List ℕ)) → with_services mux behind ≡ Whole made behind → (1 ≤ length mux.services) × (mux ≡ made)
-whole_services mux made behind e = elim (cases_Bool (nat_le 1 (length mux.services))) [
-  | inl some ↦ (leb-true 1 (length mux.services) some, let w : Whole mux behind ≡ Whole made behind = rw some at e in cc w)
+whole_services : (mux made : Mux) (behind more : List (ℕ × List ℕ)) → with_services mux behind ≡ Whole made more → (1 ≤ length mux.services) × (mux ≡ made)
+whole_services mux made behind more e = elim (cases_Bool (nat_le 1 (length mux.services))) [
+  | inl some ↦ (leb-true 1 (length mux.services) some, let w : Whole mux behind ≡ Whole made more = rw some at e in cc w)
   | inr none ↦ cc (rw none at e)
 ]
 
-whole_stream : (rs : List Numbered) (network : ℕ × List ℕ) (o : Option (ℕ × ℕ)) (made : Mux) (behind : List (ℕ × List ℕ)) → AreFine rs → said network_in (first is_network rs) ≡ Some network → with_stream rs network o behind ≡ Whole made behind → IsSound made
-whole_stream rs network None made behind f named e = cc e
-whole_stream rs network (Some stream) made behind f named e =
-    let w = whole_services (mux_with network stream rs) made behind e in
-    subst IsSound w.1 (sound_mux rs network stream f named w.0)
+with_ids : (rs : List Numbered) (network : ℕ × List ℕ) (stream : ℕ × ℕ) → AreFine rs → said network_in (first is_network rs) ≡ Some network → said stream_in (first is_stream rs) ≡ Some stream → 1 ≤ length (services_of rs)
+    → IsSoundWithIds (mux_with network stream rs)
+with_ids rs network stream f named streamed some =
+    let ids = stream_fine (first is_stream rs) stream (first_fine is_stream rs f.each) streamed in
+    record {
+      sound = sound_mux rs network stream f named some;
+      network = (network_fine (first is_network rs) network (first_fine is_network rs f.each) named).0;
+      stream = ids.0;
+      original = ids.1;
+    }
 
-whole_network : (rs : List Numbered) (o : Option (ℕ × List ℕ)) (made : Mux) (behind : List (ℕ × List ℕ)) → AreFine rs → said network_in (first is_network rs) ≡ o → with_network rs o behind ≡ Whole made behind → IsSound made
-whole_network rs None made behind f named e = cc e
-whole_network rs (Some network) made behind f named e = whole_stream rs network (said stream_in (first is_stream rs)) made behind f named e
+whole_stream : (rs : List Numbered) (network : ℕ × List ℕ) (o : Option (ℕ × ℕ)) (made : Mux) (behind more : List (ℕ × List ℕ)) → AreFine rs → said network_in (first is_network rs) ≡ Some network → said stream_in (first is_stream rs) ≡ o
+    → with_stream rs network o behind ≡ Whole made more → IsSoundWithIds made
+whole_stream rs network None made behind more f named streamed e = cc e
+whole_stream rs network (Some stream) made behind more f named streamed e =
+    let w = whole_services (mux_with network stream rs) made behind more e in
+    subst IsSoundWithIds w.1 (with_ids rs network stream f named streamed w.0)
+
+whole_network : (rs : List Numbered) (o : Option (ℕ × List ℕ)) (made : Mux) (behind more : List (ℕ × List ℕ)) → AreFine rs → said network_in (first is_network rs) ≡ o → with_network rs o behind ≡ Whole made more → IsSoundWithIds made
+whole_network rs None made behind more f named e = cc e
+whole_network rs (Some network) made behind more f named e = whole_stream rs network (said stream_in (first is_stream rs)) made behind more f named refl e
+
+pub sound_end : (rs : List Numbered) (made : Mux) (behind more : List (ℕ × List ℕ)) → AreFine rs → ended rs behind ≡ Whole made more → IsSoundWithIds made
+sound_end rs made behind more f e = whole_network rs (said network_in (first is_network rs)) made behind more f refl e
 
 -- what is made of fine records is sound
 pub sound_made : (rs : List Numbered) (result : Result Mux MuxStop) → AreFine rs → ((behind : List (ℕ × List ℕ)) → Makes (ended rs behind) behind result) → IfOk result IsSound
-sound_made rs (Ok mux) f makes = whole_network rs (said network_in (first is_network rs)) mux [] f refl (makes [])
+sound_made rs (Ok mux) f makes = (sound_end rs mux [] [] f (makes [])).sound
 sound_made rs (Err stop) f makes = tt

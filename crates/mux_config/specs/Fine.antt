@@ -5,7 +5,7 @@ use Rattle.guide_model.specs.declared.stream.Component.{Component}
 use Rattle.si_text.specs.Coding.{coded_size}
 use Rattle.mux_config.specs.declared.mux.MuxService.{MuxService}
 use Rattle.mux_config.specs.declared.record.Record.{Record}
-use Rattle.mux_config.specs.declared.record.Record.TheVariants.{Network, Delivery, Service, Part, Start, Quota}
+use Rattle.mux_config.specs.declared.record.Record.TheVariants.{Network, Stream, Delivery, Service, Part, Start, Quota}
 use Rattle.mux_config.specs.declared.record.Found.{Found}
 use Rattle.mux_config.specs.declared.record.Found.TheVariants.{Is}
 use Rattle.mux_config.specs.Sound.{AreDifferent, Between, DoAscend, IsSoundCable, IsSoundComponent, pmt_pids}
@@ -22,7 +22,8 @@ pub record IsFineService (s : MuxService) : Type 0 where
   pub name : Between 1 100 (coded_size s.name)
 
 abbrev pub IsFine : Record → Type 0
-IsFine (Network id name) = Between 1 100 (coded_size name)
+IsFine (Network id name) = (id < 65536) × Between 1 100 (coded_size name)
+IsFine (Stream id original) = (id < 65536) × (original < 65536)
 IsFine (Delivery cable) = IsSoundCable cable
 IsFine (Service s) = IsFineService s
 IsFine (Part id component) = IsSoundComponent component

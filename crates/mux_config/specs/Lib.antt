@@ -7,3 +7,4 @@ pub mod Index
 pub mod Reads
 mod Rows
 mod BlockRows
+pub mod Laws

@@ -6,6 +6,7 @@
 
 mod fault;
 mod index;
+mod laws;
 mod mux;
 mod read;
 mod record;
@@ -15,6 +16,7 @@ mod whole;
 
 pub use fault::{MuxFault, Word};
 pub use input_lines::{LineFields, fields};
+pub use laws::whole_descriptions_are_sound;
 pub use mux::{Mux, MuxService, MuxServices};
 pub use read::read_mux;
 pub use record::{Numbered, Record};
