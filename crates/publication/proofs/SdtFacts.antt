@@ -1,21 +1,18 @@
 -- The sections of an SDT can be sent.
-use Rattle.std.proofs.Common.{◌≡◌, ℕ, zero, suc, ◌+◌, ◌*◌, ◌<◌, ◌≤◌, Bool, true, false, List, [], ◌∷◌, ◌++◌, length, map, refl, sym, ap, ◌∙◌, subst, arith, lit<, length-append, inl, inr, ◌⊎◌, sum_by}
+use Rattle.std.proofs.Common.{◌≡◌, ℕ, ◌+◌, ◌<◌, ◌≤◌, Bool, true, false, List, [], ◌∷◌, ◌++◌, length, map, refl, ap, ◌∙◌, arith, length-append, inl, inr, ◌⊎◌, sum_by}
 use Rattle.std.specs.Prelude.{flat_map}
 use Rattle.std.specs.List.{AllByRecursion}
 use Rattle.std.proofs.lemmas.List.{length-map}
 use Rattle.std.proofs.lemmas.List.Concat.{length-flat_map}
 use Rattle.si_base.specs.Fields.{two, two_at}
 use Rattle.si_text.specs.Coding.{coded_text, coded_size, all_plain}
-use Rattle.guide_model.specs.declared.guide.Guide.{Guide}
 use Rattle.guide_model.specs.declared.guide.ServiceGuide.{ServiceGuide}
 use Rattle.mux_config.specs.declared.mux.MuxService.{MuxService}
-use Rattle.mux_config.specs.declared.mux.Mux.{Mux}
-use Rattle.mux_config.specs.Sound.{IsSound}
-use Rattle.feed_book.specs.Limits.{IsServiceWithin, IsGuideWithin}
+use Rattle.feed_book.specs.Limits.{IsServiceWithin}
 use Rattle.section_codec.specs.declared.table.NumberedBody.{NumberedBody}
 use Rattle.publication.specs.Runs.{longest_runs}
-use Rattle.publication.specs.Sdt.{service_descriptor, sdt_entry, sdt_entries, sdt_body, numbered, sdt_sections}
-use Rattle.publication.specs.Laws.{numbers_from, Ascend, IsSdtBody, AreSdt, SdtIsFit}
+use Rattle.publication.specs.Sdt.{service_descriptor, sdt_entry, sdt_entries, sdt_body, numbered}
+use Rattle.publication.specs.Laws.{numbers_from, Ascend, IsSdtBody, SdtIsFit}
 use Rattle.publication.proofs.RunFacts.{runs_some, runs_few, runs_fit}
 
 -- ---- entries
@@ -90,8 +87,7 @@ bodies_of : (original n : ℕ) (runs : List (List (List ℕ))) → original < 65
     → AllByRecursion (IsSdtBody original) (numbered n (map (sdt_body original) runs))
 bodies_of original n [] lt fit = tt
 bodies_of original n (r ∷ runs) lt fit =
-    let len = length-body original r in
-    (
+    let len = length-body original r in (
       record {
         least = omega (arith, len);
         most = omega (arith, len, fit.0);

@@ -42,7 +42,10 @@ fn one_service(rt: HostRuntime) -> Result<(), Fail> {
         0x65, 0x04, 0x4E, 0x65, 0x77, 0x73,
     ];
     for table in tables.list.as_slice() {
-        assert_eq!(rt; (table.key.pid, table.key.ext, table.key.network), (0x11, 2, 1));
+        assert_eq!(rt;
+            (table.key.pid, table.key.ext, table.key.network),
+            (0x11, 2, 1)
+        );
         for section in table.sections.as_slice() {
             assert_eq!(rt; section.body.as_slice(), body.as_slice());
         }
