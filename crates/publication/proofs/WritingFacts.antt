@@ -1,7 +1,6 @@
 -- An entry is put, and the last section is closed.
-use Rattle.std.proofs.Common.{◌≡◌, ℕ, zero, suc, ◌+◌, ◌-◌, ◌<◌, ◌≤◌, List, [], ◌∷◌, ◌++◌, length, map, drop, get_or, min, refl, sym, ap, ◌∙◌, subst, arith, length-append, append_assoc, append-nil, sum_by}
+use Rattle.std.proofs.Common.{◌≡◌, ℕ, zero, suc, ◌+◌, ◌-◌, ◌<◌, ◌≤◌, List, [], ◌∷◌, ◌++◌, length, map, drop, get_or, min, refl, sym, ap, ◌∙◌, arith, length-append, append_assoc, append-nil, sum_by}
 use Rattle.std.specs.Prelude.{flat_map}
-use Rattle.std.specs.List.{AllByRecursion}
 use Rattle.std.proofs.lemmas.Grind.{flat_map-append}
 use Rattle.std.proofs.lemmas.List.Sums.{sum_by-append}
 use Rattle.si_base.specs.Fields.{two}
@@ -9,7 +8,7 @@ use Rattle.guide_model.specs.declared.guide.ServiceGuide.{ServiceGuide}
 use Rattle.guide_model.specs.declared.guide.Guide.{Guide}
 use Rattle.mux_config.specs.declared.mux.MuxService.{MuxService}
 use Rattle.mux_config.specs.declared.mux.Mux.{Mux}
-use Rattle.feed_book.specs.Limits.{IsServiceWithin, IsGuideWithin}
+use Rattle.feed_book.specs.Limits.{IsGuideWithin}
 use Rattle.section_codec.specs.declared.table.NumberedBody.{NumberedBody}
 use Rattle.publication.specs.Runs.{cut}
 use Rattle.publication.specs.Sdt.{sdt_entry, sdt_entries, sdt_body, numbered, sdt_sections}

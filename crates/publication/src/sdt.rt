@@ -101,7 +101,8 @@ fn put_entry(
     ensures few { OnOk result (length closed.new ≤ 1 + length closed.old) }
     ensures put { OnOk result ((left : List (List ℕ)) (all : List NumberedBodyShape) → AreUnderWay original (entry.now ∷ left) all closed.old body.old.items → AreUnderWay original left all closed.new body.new.items) }
 {
-    if LONGEST < body.len() + entry.len() {
+    let size = body.len() + entry.len();
+    if LONGEST < size {
         let full = mem::replace(body, fresh_body(alloc, original)?);
         close(closed, full)?;
     }

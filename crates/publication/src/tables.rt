@@ -36,8 +36,11 @@ fn sdt_table(alloc: Global, mux: &Mux, guide: &Guide) -> Result<SubTable, AllocE
 }
 
 /// The sub-tables of a publication, in the order in which a cycle sends them: the SDT of this multiplex
-/// (EN 300 468, 5.2.3). Each of its sections holds as many next services as fit 1,024 bytes, which TR 101 211, 4.2
-/// leaves to the sender. It fails only for want of memory.
+/// (EN 300 468, 5.2.3), with the names of the guide. Each of its sections holds as many next services as fit 1,024
+/// bytes, so an SDT has 1 to 64 sections. A cycle repeats it with its frequent tables (TR 101 211, 4.4).
+///
+/// The guide is within its limits, and has the services of the multiplex in their order. It fails only for want of
+/// memory.
 pub fn build(alloc: Global, mux: &Mux, guide: &Guide) -> Result<Tables, AllocError>
     requires sound { IsSound mux.now }
     requires services { HasServicesOf mux.now guide.now }

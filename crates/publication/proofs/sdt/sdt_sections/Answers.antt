@@ -1,4 +1,4 @@
-use Rattle.std.proofs.Common.{◌≡◌, ℕ, ◌+◌, ◌≤◌, List, [], ◌∷◌, ◌++◌, length, drop, sym, ap, ◌∙◌, subst, subst₂, arith, Iter}
+use Rattle.std.proofs.Common.{◌≡◌, ℕ, ◌+◌, List, [], ◌∷◌, ◌++◌, length, drop, sym, ap, ◌∙◌, subst, subst₂, arith, Iter}
 use Rattle.std.specs.declared.iter.Zip.{Zip}
 use Rattle.std.specs.Iterator.Adapters.{zip_second}
 use Rattle.std.specs.Slice.Iter.{iter_rest}
@@ -7,7 +7,7 @@ use Rattle.mux_config.specs.declared.mux.MuxService.{MuxService}
 use Rattle.std.proofs.lemmas.List.{length_push}
 use Rattle.std.proofs.lemmas.Slice.Zip.{zip_turn, zip_end}
 use Rattle.section_codec.specs.declared.table.NumberedBody.{NumberedBody}
-use Rattle.publication.specs.Sdt.{sdt_entry, sdt_entries, sdt_body, sdt_sections}
+use Rattle.publication.specs.Sdt.{sdt_entries, sdt_sections}
 use Rattle.publication.specs.Writing.{AreUnderWay}
 use Rattle.publication.proofs.WritingFacts.{first_entries, last_closed, entries_from, entries_behind}
 use Rattle.publication.proofs.sdt.sdt_sections.Goals as goal

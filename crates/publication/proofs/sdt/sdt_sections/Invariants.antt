@@ -1,4 +1,4 @@
-use Rattle.std.proofs.Common.{◌≡◌, ◌≤◌, length, drop}
+use Rattle.std.proofs.Common.{◌≤◌, length, drop}
 use Rattle.publication.specs.Sdt.{sdt_entries, sdt_sections}
 use Rattle.publication.specs.Writing.{AreUnderWay}
 use Rattle.publication.proofs.sdt.sdt_sections.Given as goal
