@@ -1,12 +1,10 @@
 -- Journals whose edits were read from lines are equal where their texts are: the text gives the rows, and these the entries.
-use Rattle.std.proofs.Common.{◌≡◌, ◌==◌, ◌∙◌, ◌<◌, ◌≤◌, ◌^◌, ◌*◌, ◌++◌, ◌∷◌, [], ℕ, List, Option, Some, None, length, map, refl, sym, ap, arith, append_assoc}
+use Rattle.std.proofs.Common.{◌≡◌, ◌∙◌, ◌<◌, ◌≤◌, ◌^◌, ◌++◌, ◌∷◌, [], ℕ, List, Option, Some, None, length, map, refl, sym, ap, arith, append_assoc}
 use Rattle.std.proofs.lemmas.List.{length-map}
 use Rattle.std.specs.Prelude.{codes, decimal, drop, flat_map, if◌then◌else◌, option_map}
 use Rattle.std.specs.List.{AllByRecursion}
 use Rattle.si_causes.specs.Lines.{raw_lines}
 use Rattle.si_text.specs.Decoding.{IsKept}
-use Rattle.si_time.specs.Moments.{moment_text}
-use Rattle.si_time.specs.declared.moment.Moment.{Moment}
 use Rattle.input_lines.specs.Fields.{line_fields}
 use Rattle.input_lines.specs.Numbers.{is_word, value_from}
 use Rattle.feed_book.specs.declared.reply.Field.{Field}
@@ -34,7 +32,7 @@ use Rattle.journal_text.specs.Entries.{step_fields, step_items, entry_text, jour
 use Rattle.journal_text.specs.Outcomes.{field_fields, day_fault_fields, outcome_fields}
 use Rattle.journal_text.specs.Kept.{event_word, other_word, or_else}
 use Rattle.journal_text.specs.Script.{short_step, feed_of, IsShapedStep}
-use Rattle.journal_text.specs.Back.{IsFronted, IsTypedEdit, IsTypedStep, IsWritableOutcome, IsOfLines, item_texts, item_row, command_row, outcome_row, row_line, field_numbers, day_fault_numbers, JournalsDiffer}
+use Rattle.journal_text.specs.Back.{IsFronted, IsTypedStep, IsWritableOutcome, IsOfLines, item_texts, item_row, command_row, outcome_row, row_line, field_numbers, day_fault_numbers, JournalsDiffer}
 use Rattle.journal_text.proofs.CleanRows.{row_clean, all_clean, clean_inner, line_first}
 use Rattle.journal_text.proofs.RowBack.{fields_back}
 use Rattle.journal_text.proofs.OutcomeBack.{value_back, small, moment_back}
