@@ -1,5 +1,5 @@
 -- Entries read back from their text.
-use Rattle.std.proofs.Common.{◌≡◌, ◌==◌, ◌&&◌, ◌∙◌, ◌<◌, ◌≤◌, ◌+◌, ◌*◌, ◌++◌, ◌∷◌, [], ℕ, suc, List, Bool, Option, Some, None, refl, ap, true, false, arith, length, map, append_assoc}
+use Rattle.std.proofs.Common.{◌≡◌, ◌==◌, ◌&&◌, ◌∙◌, ◌<◌, ◌≤◌, ◌+◌, ◌*◌, ◌++◌, ◌∷◌, [], ℕ, suc, List, Bool, Some, None, refl, ap, true, false, arith, length, map, append_assoc}
 use Rattle.std.specs.Prelude.{codes, decimal, flat_map, if◌then◌else◌}
 use Rattle.std.specs.List.{list_all, All, AllByRecursion}
 use Rattle.std.proofs.lemmas.Bool.Decides.{nat_tests}
@@ -16,8 +16,7 @@ use Rattle.feed_edits.specs.Ahead.{Ahead, Row, Tail, Came, and_then}
 use Rattle.feed_edits.specs.Edits.{on_line, read_edit}
 use Rattle.feed_edits.specs.Items.{IsShapedItem}
 use Rattle.feed_edits.specs.Heads.{IsShaped}
-use Rattle.feed_edits.specs.Back.{HaveFields, HasItemNumbers, item_rows}
-use Rattle.feed_edits.specs.Back.{item_fields as item_given}
+use Rattle.feed_edits.specs.Back.{HaveFields, HasItemNumbers, edit_fields, item_rows}
 use Rattle.feed_edits.proofs.Back.{edits_read_back, number_back}
 use Rattle.desk_core.specs.declared.step.Step.{Step}
 use Rattle.desk_core.specs.declared.step.Step.TheVariants.{Edit as edit, Tick, Publish, Swap}
@@ -26,14 +25,14 @@ use Rattle.desk_core.specs.declared.step.Entry.{Entry}
 use Rattle.desk_core.specs.Controls.{control_of}
 use Rattle.desk_core.specs.Steps.{IsStepWithin}
 use Rattle.journal_text.specs.declared.script.ScriptItem.TheVariants.{Step as step, Kept}
-use Rattle.journal_text.specs.Edits.{line_text, item_text, edit_fields, items_of}
+use Rattle.journal_text.specs.Edits.{line_text, item_text, item_row, items_of}
 use Rattle.journal_text.specs.Entries.{step_fields, step_items, entry_text}
 use Rattle.journal_text.specs.Script.{feed_of, feed_command, short_step, command_with, command_of_caller, command_by, read_command, kept_in, kept_item, step_item, read_item, item_on, first_script_item, IsShapedStep}
-use Rattle.journal_text.specs.Back.{IsNumeralNumber, IsRow, IsShort, IsTypedStep, IsTypedEdit, item_texts, item_row, command_row, outcome_row, row_line, shown_lines, ahead_of, command_lines, IsReadableOutcome, IsWritableOutcome, EntriesReadBack}
+use Rattle.journal_text.specs.Back.{IsNumeralNumber, IsRow, IsShort, IsTypedStep, IsTypedEdit, item_texts, command_row, outcome_row, row_line, shown_lines, ahead_of, command_lines, IsReadableOutcome, IsWritableOutcome, EntriesReadBack}
 use Rattle.journal_text.proofs.RowBack.{rows_read_back}
 use Rattle.journal_text.proofs.OutcomeBack.{outcome_back, numeral_back, moment_back, digits_of, low}
 use Rattle.journal_text.proofs.EntryRows.{outcome_front, outcome_row_kept, outcome_line, readable_written}
-use Rattle.journal_text.proofs.EntryFields.{item_same, edit_same, item_row_kept, command_kept, command_front}
+use Rattle.journal_text.proofs.EntryFields.{item_row_kept, command_kept, command_front}
 
 -- ---- the lines of rows
 
@@ -65,12 +64,10 @@ items_first (item ∷ items) n rest h =
     ∙ row_first (item_row item) n (flat_map item_text items ++ rest) h.0
     ∙ ap (λ (l : List Row). (n, row_line (item_row item)) ∷ l) (items_first items (n + 1) rest h.1 ∙ ap (λ k. numbered (n + 1) items ++ lines_from k rest) count)
 
-items_have : (items : List Item) (n : ℕ) → AreRows items → HaveFields (numbered n items) (map (λ (item : Item). codes "item" ∷ item_given item) items)
+items_have : (items : List Item) (n : ℕ) → AreRows items → HaveFields (numbered n items) (map item_row items)
 items_have [] n h = refl
 items_have (item ∷ items) n h =
-    let first : record_of (row_line (item_row item)) ≡ Some (codes "item" ∷ item_given item) =
-    row_fields (item_row item) h.0 ∙ ap (λ (l : List (List ℕ)). let o : Option (List (List ℕ)) = Some (codes "item" ∷ l) in o) (item_same item) in
-    rw (first, items_have items (n + 1) h.1) refl
+    rw (row_fields (item_row item) h.0, items_have items (n + 1) h.1) refl
 
 -- ---- a command
 
@@ -109,11 +106,9 @@ edit_reads who n feed e rows more tail h le k have =
     let a = behind_rows rows more tail in
     let fields = codes "feed" ∷ decimal feed ∷ edit_fields e in
     let number : feed_of fields ≡ Some feed = number_back feed 255 le (omega arith) in
-    let back : read_edit n (edit_fields e) a ≡ Came e (record { rows = more; tail = tail }) =
-    ap (λ (l : List (List ℕ)). read_edit n l a) (edit_same e) ∙ edits_read_back e h k.numbers n rows more tail have in
     ap (λ o. command_with who n o fields a) (feed_short (decimal feed) (edit_fields e))
     ∙ ap (λ o. and_then (on_line n o a) (λ f more. feed_command who f (read_edit n (edit_fields e) more))) number
-    ∙ ap (feed_command who feed) back
+    ∙ ap (feed_command who feed) (edits_read_back e h k.numbers n rows more tail have)
 
 caller_reads : (who n : ℕ) (fields : List (List ℕ)) (a : Ahead) → IsNumeralNumber who → read_command n (decimal who ∷ fields) a ≡ command_of_caller who n fields a
 caller_reads who n fields a h = ap (λ o. command_by o n (decimal who ∷ fields) a) (numeral_back who h)

@@ -1,7 +1,7 @@
--- The fields of a command are texts, and those that an edit reads back from.
-use Rattle.std.proofs.Common.{◌≡◌, ◌==◌, ◌&&◌, ◌∙◌, ◌<◌, ◌≤◌, ◌^◌, ◌++◌, ◌∷◌, [], ℕ, List, Bool, Option, Some, None, refl, ap, true, false, arith, length, map, append-nil, append_assoc}
-use Rattle.std.specs.Prelude.{codes, decimal, flat_map, IfSome}
-use Rattle.std.specs.List.{list_all, AllByRecursion, join_with_byte}
+-- The fields of a command are texts, of which the first may begin a line.
+use Rattle.std.proofs.Common.{◌≡◌, ◌==◌, ◌&&◌, ◌∙◌, ◌<◌, ◌≤◌, ◌^◌, ◌++◌, ◌∷◌, [], ℕ, List, Bool, Option, Some, None, refl, true, false, arith, length}
+use Rattle.std.specs.Prelude.{codes, decimal, IfSome}
+use Rattle.std.specs.List.{list_all, AllByRecursion}
 use Rattle.std.proofs.lemmas.Bool.Decides.{nat_tests}
 use Rattle.std.proofs.lemmas.List.Folds.{list_all-append}
 use Rattle.si_text.specs.Decoding.{IsKept}
@@ -13,15 +13,14 @@ use Rattle.feed_edits.specs.declared.edit.Edit.{Edit}
 use Rattle.feed_edits.specs.declared.edit.Edit.TheVariants.{Put, Withdraw, Clear, Name, Day}
 use Rattle.feed_edits.specs.Items.{IsShapedItem}
 use Rattle.feed_edits.specs.Heads.{IsShaped}
-use Rattle.feed_edits.specs.Back.{genre_field, genres_field, country_field, rating_field, HasGenreNumbers, HasItemNumbers}
-use Rattle.feed_edits.specs.Back.{item_fields as item_given, edit_fields as edit_given}
+use Rattle.feed_edits.specs.Back.{genre_field, genres_field, rating_field, item_fields, edit_fields, HasGenreNumbers, HasItemNumbers}
 use Rattle.desk_core.specs.declared.step.Step.{Step}
 use Rattle.desk_core.specs.declared.step.Step.TheVariants.{Edit as edit, Tick, Publish, Swap}
 use Rattle.desk_core.specs.Steps.{IsStepWithin}
-use Rattle.journal_text.specs.Edits.{genre_text, genres_text, country_text, value_text, item_fields, edit_fields}
+use Rattle.journal_text.specs.Edits.{item_row}
 use Rattle.journal_text.specs.Entries.{step_fields}
 use Rattle.journal_text.specs.Script.{IsShapedStep}
-use Rattle.journal_text.specs.Back.{IsFront, IsFronted, IsTypedEdit, IsTypedStep, item_texts, item_row, command_row}
+use Rattle.journal_text.specs.Back.{IsFront, IsFronted, IsTypedEdit, IsTypedStep, item_texts, command_row}
 use Rattle.journal_text.proofs.OutcomeBack.{digits_of, decimal_some, small}
 use Rattle.journal_text.proofs.EntryRows.{is_printing, is_written, printing_kept, digits_printing, shape_written, written_kept, moment_written, number_kept}
 
@@ -29,43 +28,7 @@ both : (a b : Bool) → (a && b) ≡ true → (a ≡ true) × (b ≡ true)
 both true b e = (refl, e)
 both false b e = cc e
 
--- ---- the fields are those that an edit reads back from
-
-genre_same : (g : Genre) → genre_text g ≡ genre_field g
-genre_same g =
-    append_assoc (decimal g.level1 ++ codes "." ++ decimal g.level2) (46 ∷ []) (decimal g.user)
-    ∙ append_assoc (decimal g.level1 ++ codes ".") (decimal g.level2) (46 ∷ decimal g.user)
-    ∙ append_assoc (decimal g.level1) (46 ∷ []) (decimal g.level2 ++ 46 ∷ decimal g.user)
-
-genres_join : (g : Genre) (gs : List Genre) → genre_text g ++ flat_map (λ k. codes " " ++ genre_text k) gs ≡ join_with_byte 32 (map genre_field (g ∷ gs))
-genres_join g [] = append-nil (genre_text g) ∙ genre_same g
-genres_join g (k ∷ gs) =
-    ap (λ (l : List ℕ). l ++ 32 ∷ (genre_text k ++ flat_map (λ j. codes " " ++ genre_text j) gs)) (genre_same g)
-    ∙ ap (λ (l : List ℕ). genre_field g ++ 32 ∷ l) (genres_join k gs)
-
-genres_same : (gs : List Genre) → genres_text gs ≡ genres_field gs
-genres_same [] = refl
-genres_same (g ∷ gs) = genres_join g gs
-
-country_same : (r : Option RawRating) → country_text r ≡ country_field r
-country_same None = refl
-country_same (Some r) = refl
-
-value_same : (r : Option RawRating) → value_text r ≡ rating_field r
-value_same None = refl
-value_same (Some r) = refl
-
-pub item_same : (item : Item) → item_fields item ≡ item_given item
-item_same item = rw (country_same item.rating, value_same item.rating, genres_same item.genres) refl
-
-pub edit_same : (e : Edit) → edit_fields e ≡ edit_given e
-edit_same (Put service item) = ap (λ (l : List (List ℕ)). codes "put" ∷ decimal service ∷ l) (item_same item)
-edit_same (Withdraw service event) = refl
-edit_same (Clear service) = refl
-edit_same (Name service provider name) = refl
-edit_same (Day service day items) = refl
-
--- ---- they are texts
+-- ---- the fields of an edit are texts
 
 genre_printing : (g : Genre) → HasGenreNumbers g → list_all is_printing (genre_field g) ≡ true
 genre_printing g h =
@@ -81,13 +44,13 @@ genres_printing (g ∷ []) h = genre_printing g h.0
 genres_printing (g ∷ k ∷ gs) h =
     list_all-append is_printing (genre_field g) (32 ∷ genres_field (k ∷ gs)) ∙ rw (genre_printing g h.0, genres_printing (k ∷ gs) h.1) refl
 
-genres_kept : (gs : List Genre) → AllByRecursion HasGenreNumbers gs → IsKept (genres_text gs)
-genres_kept gs h = rw (genres_same gs) (printing_kept (genres_field gs) (genres_printing gs h))
+genres_kept : (gs : List Genre) → AllByRecursion HasGenreNumbers gs → IsKept (genres_field gs)
+genres_kept gs h = printing_kept (genres_field gs) (genres_printing gs h)
 
 small_kept : (n high : ℕ) → n ≤ high → high ≤ 65535 → IsKept (decimal n)
 small_kept n high le most = number_kept n (small n (omega arith))
 
-value_kept : (r : Option RawRating) → IfSome r (λ x. x.value ≤ 255) → IsKept (value_text r)
+value_kept : (r : Option RawRating) → IfSome r (λ x. x.value ≤ 255) → IsKept (rating_field r)
 value_kept None h = written_kept [] refl
 value_kept (Some r) h = small_kept r.value 255 h (omega arith)
 

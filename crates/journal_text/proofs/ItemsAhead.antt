@@ -13,7 +13,6 @@ use Rattle.feed_edits.specs.Heads.{edit_head, put_of, withdraw_of, clear_of, nam
 use Rattle.feed_edits.specs.Edits.{first_item, items_of, on_line, edit_from, read_edit}
 use Rattle.feed_edits.proofs.Edits.{item_in}
 use Rattle.desk_core.specs.declared.step.Step.{Step}
-use Rattle.desk_core.specs.declared.step.Step.TheVariants.{Edit as edit}
 use Rattle.desk_core.specs.declared.step.Outcome.{Outcome}
 use Rattle.desk_core.specs.Journal.{Command}
 use Rattle.journal_text.specs.declared.script.ScriptItem.{ScriptItem}

@@ -1,12 +1,10 @@
 -- Journals whose edits were read from lines are equal where their texts are: the text gives the rows, and these the entries.
-use Rattle.std.proofs.Common.{◌≡◌, ◌==◌, ◌∙◌, ◌<◌, ◌≤◌, ◌^◌, ◌*◌, ◌++◌, ◌∷◌, [], ℕ, List, Option, Some, None, length, map, refl, sym, ap, arith, append_assoc}
+use Rattle.std.proofs.Common.{◌≡◌, ◌∙◌, ◌<◌, ◌≤◌, ◌^◌, ◌++◌, ◌∷◌, [], ℕ, List, Option, Some, None, length, map, refl, sym, ap, arith, append_assoc}
 use Rattle.std.proofs.lemmas.List.{length-map}
 use Rattle.std.specs.Prelude.{codes, decimal, drop, flat_map, if◌then◌else◌, option_map}
 use Rattle.std.specs.List.{AllByRecursion}
 use Rattle.si_causes.specs.Lines.{raw_lines}
 use Rattle.si_text.specs.Decoding.{IsKept}
-use Rattle.si_time.specs.Moments.{moment_text}
-use Rattle.si_time.specs.declared.moment.Moment.{Moment}
 use Rattle.input_lines.specs.Fields.{line_fields}
 use Rattle.input_lines.specs.Numbers.{is_word, value_from}
 use Rattle.feed_book.specs.declared.reply.Field.{Field}
@@ -20,7 +18,7 @@ use Rattle.feed_edits.specs.declared.edit.Edit.{Edit}
 use Rattle.feed_edits.specs.declared.edit.Edit.TheVariants.{Put, Withdraw, Clear, Name, Day}
 use Rattle.feed_edits.specs.Items.{all_some, item_of, item_line, IsShapedItem}
 use Rattle.feed_edits.specs.Heads.{IsShaped}
-use Rattle.feed_edits.specs.Back.{HasNumbers, HasItemNumbers}
+use Rattle.feed_edits.specs.Back.{HasNumbers, HasItemNumbers, edit_fields}
 use Rattle.feed_edits.proofs.Back.{number_back, item_back, item_line_back}
 use Rattle.desk_core.specs.declared.step.Step.{Step}
 use Rattle.desk_core.specs.declared.step.Step.TheVariants.{Edit as edit, Tick, Publish, Swap}
@@ -29,17 +27,17 @@ use Rattle.desk_core.specs.declared.step.Outcome.TheVariants.{Edited, Ticked, La
 use Rattle.desk_core.specs.declared.step.Entry.{Entry}
 use Rattle.desk_core.specs.Steps.{IsStepWithin}
 use Rattle.desk_core.specs.Controls.{moment_at}
-use Rattle.journal_text.specs.Edits.{line_text, item_text, item_fields, edit_fields, items_of}
+use Rattle.journal_text.specs.Edits.{line_text, item_text, item_row, items_of}
 use Rattle.journal_text.specs.Entries.{step_fields, step_items, entry_text, journal_text}
 use Rattle.journal_text.specs.Outcomes.{field_fields, day_fault_fields, outcome_fields}
 use Rattle.journal_text.specs.Kept.{event_word, other_word, or_else}
 use Rattle.journal_text.specs.Script.{short_step, feed_of, IsShapedStep}
-use Rattle.journal_text.specs.Back.{IsFronted, IsTypedEdit, IsTypedStep, IsWritableOutcome, IsOfLines, item_texts, item_row, command_row, outcome_row, row_line, field_numbers, day_fault_numbers, JournalsDiffer}
+use Rattle.journal_text.specs.Back.{IsFronted, IsTypedStep, IsWritableOutcome, IsOfLines, item_texts, command_row, outcome_row, row_line, field_numbers, day_fault_numbers, JournalsDiffer}
 use Rattle.journal_text.proofs.CleanRows.{row_clean, all_clean, clean_inner, line_first}
 use Rattle.journal_text.proofs.RowBack.{fields_back}
 use Rattle.journal_text.proofs.OutcomeBack.{value_back, small, moment_back}
 use Rattle.journal_text.proofs.EntryRows.{outcome_front, outcome_row_kept}
-use Rattle.journal_text.proofs.EntryFields.{item_same, item_row_kept, command_kept, command_front}
+use Rattle.journal_text.proofs.EntryFields.{item_row_kept, command_kept, command_front}
 use Rattle.journal_text.proofs.EntryBack.{feed_short, tick_short, publish_short, swap_short, by_recursion, entry_parts}
 
 -- ---- the rows of a text
@@ -135,16 +133,14 @@ edit_from (word ∷ fields) rows =
 items_from : (items : List Item) → AreItems items → all_some (map item_line (map item_row items)) ≡ Some items
 items_from [] h = refl
 items_from (item ∷ items) h =
-    let one : item_line (item_row item) ≡ Some item = ap (λ (l : Row). item_line (codes "item" ∷ l)) (item_same item) ∙ item_line_back item h.0.0 h.0.1 in
-    rw (one, items_from items h.1) refl
+    rw (item_line_back item h.0.0 h.0.1, items_from items h.1) refl
 
 id_back : (n : ℕ) → n ≤ 65535 → value_from 0 (decimal n) ≡ n
 id_back n le = value_back n (small n le)
 
 edit_back : (e : Edit) → IsShaped e → HasNumbers e → AreItems (items_of e) → edit_from (edit_fields e) (map item_row (items_of e)) ≡ Some e
 edit_back (Put service item) h k t =
-    let read : item_of (item_fields item) ≡ Some item = ap item_of (item_same item) ∙ item_back item h k.1 in
-    rw (id_back service k.0, read) refl
+    rw (id_back service k.0, item_back item h k.1) refl
 edit_back (Withdraw service event) h k t = rw (id_back service k.0, id_back event k.1) refl
 edit_back (Clear service) h k t = rw (id_back service k) refl
 edit_back (Name service provider name) h k t = rw (id_back service k) refl

@@ -18,13 +18,13 @@ use Rattle.feed_edits.specs.declared.edit.Item.{Item}
 use Rattle.feed_edits.specs.declared.edit.Edit.{Edit}
 use Rattle.feed_edits.specs.declared.edit.Edit.TheVariants.{Put, Withdraw, Clear, Name as Named, Day}
 use Rattle.feed_edits.specs.Ahead.{Ahead, Tail, Came}
-use Rattle.feed_edits.specs.Back.{HasNumbers}
+use Rattle.feed_edits.specs.Back.{HasNumbers, country_field}
 use Rattle.desk_core.specs.declared.step.Step.{Step}
 use Rattle.desk_core.specs.declared.step.Step.TheVariants.{Edit as edit, Tick, Publish, Swap}
 use Rattle.desk_core.specs.declared.step.Entry.{Entry}
 use Rattle.desk_core.specs.Steps.{IsStepWithin}
 use Rattle.journal_text.specs.declared.script.ScriptItem.TheVariants.{Step as step, Kept}
-use Rattle.journal_text.specs.Edits.{line_text, item_fields, items_of, country_text}
+use Rattle.journal_text.specs.Edits.{line_text, items_of, item_row}
 use Rattle.journal_text.specs.Entries.{step_fields, step_items, entry_text, journal_text}
 use Rattle.journal_text.specs.Script.{first_script_item, IsShapedStep}
 use Rattle.journal_text.specs.Outcomes.{outcome_text, outcome_fields, with_commas, IsInWindow}
@@ -123,7 +123,7 @@ OutcomesAreFields = (outcome : Outcome) → outcome_text outcome ≡ with_commas
 
 -- the texts of an item that may be any texts
 abbrev pub item_texts : Item → List (List ℕ)
-item_texts item = item.language ∷ item.name ∷ item.short ∷ item.extended ∷ country_text item.rating ∷ []
+item_texts item = item.language ∷ item.name ∷ item.short ∷ item.extended ∷ country_field item.rating ∷ []
 
 abbrev pub edit_texts : Edit → List (List ℕ)
 edit_texts (Put service item) = item_texts item
@@ -143,10 +143,6 @@ IsTypedStep (edit feed e) = (feed ≤ 255) × IsTypedEdit e
 IsTypedStep (Tick at) = Unit {0}
 IsTypedStep Publish = Unit {0}
 IsTypedStep Swap = Unit {0}
-
--- the fields of the lines of the items of a day
-abbrev pub item_row : Item → List (List ℕ)
-item_row item = codes "item" ∷ item_fields item
 
 abbrev pub command_row : ℕ → Step → List (List ℕ)
 command_row who s = decimal who ∷ step_fields s

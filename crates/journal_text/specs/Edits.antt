@@ -1,44 +1,14 @@
--- The fields of the lines of an edit.
-use Rattle.std.specs.Prelude.{◌≡◌, ◌<◌, ℕ, ◌++◌, ◌+◌, ◌-◌, List, [], ◌∷◌, Option, Some, None, codes, decimal, flat_map, length}
+-- The lines of fields, and the items of an edit, which have lines of their own.
+use Rattle.std.specs.Prelude.{◌≡◌, ◌<◌, ℕ, ◌++◌, ◌+◌, ◌-◌, List, [], ◌∷◌, codes}
 use Rattle.std.specs.Prelude.{Vec}
 use Rattle.std.specs.declared.alloc.Global.{Global}
 use Rattle.csv.specs.Writing.{default_writer, row_body, next_sep, field_text, writer_under, writer_pending, fields_written, writer_setup}
 use Rattle.csv.specs.declared.writer.WriterBuilder.{WriterBuilder}
 use Rattle.csv.specs.declared.writer.Writer.{Writer}
-use Rattle.guide_model.specs.declared.event.Genre.{Genre}
-use Rattle.feed_edits.specs.declared.edit.RawRating.{RawRating}
 use Rattle.feed_edits.specs.declared.edit.Item.{Item}
 use Rattle.feed_edits.specs.declared.edit.Edit.{Edit}
 use Rattle.feed_edits.specs.declared.edit.Edit.TheVariants.{Put, Withdraw, Clear, Name, Day}
-
--- a genre: its two levels and its user byte, with points between
-abbrev pub genre_text : Genre → List ℕ
-genre_text genre = decimal genre.level1 ++ codes "." ++ decimal genre.level2 ++ codes "." ++ decimal genre.user
-
--- genres, with a space between
-abbrev pub genres_text : List Genre → List ℕ
-genres_text [] = []
-genres_text (genre ∷ genres) = genre_text genre ++ flat_map (λ g. codes " " ++ genre_text g) genres
-
-abbrev pub country_text : Option RawRating → List ℕ
-country_text None = []
-country_text (Some rating) = rating.country
-
-abbrev pub value_text : Option RawRating → List ℕ
-value_text None = []
-value_text (Some rating) = decimal rating.value
-
-abbrev pub item_fields : Item → List (List ℕ)
-item_fields item =
-    decimal item.id ∷ item.start.0 ∷ item.length.0 ∷ item.language ∷ item.name ∷ item.short ∷ item.extended
-    ∷ country_text item.rating ∷ value_text item.rating ∷ genres_text item.genres ∷ []
-
-abbrev pub edit_fields : Edit → List (List ℕ)
-edit_fields (Put service item) = codes "put" ∷ decimal service ∷ item_fields item
-edit_fields (Withdraw service event) = codes "withdraw" ∷ decimal service ∷ decimal event ∷ []
-edit_fields (Clear service) = codes "clear" ∷ decimal service ∷ []
-edit_fields (Name service provider name) = codes "name" ∷ decimal service ∷ provider ∷ name ∷ []
-edit_fields (Day service day items) = codes "day" ∷ decimal service ∷ day.0 ∷ decimal (length items) ∷ []
+use Rattle.feed_edits.specs.Back.{item_fields}
 
 -- the items of a day
 abbrev pub items_of : Edit → List Item
@@ -86,6 +56,9 @@ and_fields line (field ∷ fields) = and_fields (and_field line field) fields
 abbrev pub line_text : List (List ℕ) → List ℕ
 line_text fields = row_body default_writer fields ++ 10 ∷ []
 
--- the line of an item of a day
+-- the fields of the line of an item of a day
+abbrev pub item_row : Item → List (List ℕ)
+item_row item = codes "item" ∷ item_fields item
+
 abbrev pub item_text : Item → List ℕ
-item_text item = line_text (codes "item" ∷ item_fields item)
+item_text item = line_text (item_row item)

@@ -3,11 +3,12 @@ use Rattle.std.specs.Prelude.{ℕ, ◌++◌, List, [], ◌∷◌, codes, decimal
 use Rattle.std.specs.List.{AllByRecursion}
 use Rattle.si_time.specs.Moments.{moment_text}
 use Rattle.feed_edits.specs.declared.edit.Item.{Item}
+use Rattle.feed_edits.specs.Back.{edit_fields}
 use Rattle.desk_core.specs.declared.step.Step.{Step}
 use Rattle.desk_core.specs.declared.step.Step.TheVariants.{Edit as edit, Tick, Publish, Swap}
 use Rattle.desk_core.specs.declared.step.Entry.{Entry}
 use Rattle.desk_core.specs.Steps.{IsStepWithin}
-use Rattle.journal_text.specs.Edits.{edit_fields, items_of, line_text, item_text}
+use Rattle.journal_text.specs.Edits.{items_of, line_text, item_text}
 use Rattle.journal_text.specs.Outcomes.{outcome_text, IsInWindow}
 
 -- the fields of a step behind its caller's number

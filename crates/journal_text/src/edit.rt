@@ -1,6 +1,7 @@
 // The lines of an edit.
-ghost use Rattle.std.specs.Prelude.{◌≡◌, ◌++◌, ◌∷◌, [], length, ◌<◌, OnOk, IfOk, codes, decimal, flat_map};
-ghost use Rattle.journal_text.specs.Edits.{edit_fields, item_fields, item_text, items_of, genre_text, genres_text, country_text, value_text, line_text, and_field, and_fields, IsOpenFor};
+ghost use Rattle.std.specs.Prelude.{◌≡◌, ◌++◌, ◌∷◌, OnOk, IfOk, codes, decimal, flat_map};
+ghost use Rattle.feed_edits.specs.Back.{country_field, edit_fields, genre_field, genres_field, item_fields, rating_field};
+ghost use Rattle.journal_text.specs.Edits.{and_field, and_fields, item_text, items_of, IsOpenFor};
 
 use crate::line::Row;
 use crate::outcome::put_number;
@@ -10,7 +11,7 @@ use std::alloc::{AllocError, Global};
 
 // Appends a genre: its two levels and its user byte, with points between.
 fn put_genre(alloc: Global, out: &mut Vec<u8>, genre: Genre) -> Result<(), AllocError>
-    ensures { OnOk result (out.new.items ≡ out.old.items ++ genre_text genre) }
+    ensures { OnOk result (out.new.items ≡ out.old.items ++ genre_field genre) }
 {
     put_number(alloc, out, u64::from(genre.level1))?;
     out.extend_from_slice(b".")?;
@@ -21,7 +22,7 @@ fn put_genre(alloc: Global, out: &mut Vec<u8>, genre: Genre) -> Result<(), Alloc
 
 // Genres with a space between.
 fn text_of_genres(alloc: Global, genres: &[Genre]) -> Result<Vec<u8>, AllocError>
-    ensures { IfOk result (λ text. text.items ≡ genres_text genres.now) }
+    ensures { IfOk result (λ text. text.items ≡ genres_field genres.now) }
 {
     let mut text = Vec::new(alloc);
     let Some((first, rest)) = genres.split_first() else {
@@ -36,7 +37,7 @@ fn text_of_genres(alloc: Global, genres: &[Genre]) -> Result<Vec<u8>, AllocError
 }
 
 fn country_of(rating: &Option<RawRating>) -> &[u8]
-    ensures { result.now ≡ country_text rating.now }
+    ensures { result.now ≡ country_field rating.now }
 {
     match rating {
         Some(rating) => rating.country.as_str().as_bytes(),
@@ -47,7 +48,7 @@ fn country_of(rating: &Option<RawRating>) -> &[u8]
 // Adds the value of a rating, or an empty field.
 fn add_value(alloc: Global, row: &mut Row, rating: &Option<RawRating>) -> Result<(), AllocError>
     requires { IsOpenFor 0 row.old }
-    ensures { OnOk result (row.new ≡ and_field row.old (value_text rating.now)) }
+    ensures { OnOk result (row.new ≡ and_field row.old (rating_field rating.now)) }
 {
     match rating {
         Some(rating) => row.number(alloc, u64::from(rating.value)),

@@ -1,4 +1,6 @@
 // Scripts and outcomes as they are read.
+ghost use Rattle.journal_text.specs.Script.{IsItemWithin};
+
 use super::*;
 use crate::entry::put_command;
 use feed_edits::EditStop;
@@ -21,30 +23,42 @@ fn add_stop(all: &mut Vec<u8>, stop: EditStop) -> Result<(), AllocError> {
     }
 }
 
-// The items of a text that is cut into pieces: commands as they are written, outcomes behind the number of their line, and
-// then the stop; `.` is the end.
-fn told(alloc: Global, text: &str, piece: usize, fail_at: u64) -> Result<Vec<u8>, AllocError> {
-    let text = Vec::from_slice(alloc, text.as_bytes())?;
+// Appends an item: a command as it is written, an outcome behind the number of its line, a `.` for the end. Whether an
+// outcome may be kept behind it; none for the end.
+fn add_item(alloc: Global, all: &mut Vec<u8>, item: ScriptItem) -> Result<Option<bool>, AllocError>
+    requires { IsItemWithin item }
+{
+    match item {
+        ScriptItem::Step(who, step) => {
+            put_command(alloc, all, who, &step)?;
+            Ok(Some(true))
+        }
+        ScriptItem::Kept(at, outcome) => {
+            all.extend_from_slice(&[digit(at), b'='])?;
+            write_outcome(alloc, &outcome, all)?;
+            all.push(b'\n')?;
+            Ok(Some(false))
+        }
+        ScriptItem::End => {
+            all.push(b'.')?;
+            Ok(None)
+        }
+    }
+}
+
+// The items of a text that is cut into pieces, and then the stop.
+fn told(alloc: Global, text: &[u8], piece: usize, fail_at: u64) -> Result<Vec<u8>, AllocError> {
+    let text = Vec::from_slice(alloc, text)?;
     let source = MemSource::open(text, piece.max(1), vec![in alloc; fail_at; 1]?);
     let mut lines = LineReader::open(alloc, source)?;
     let mut all = Vec::new(alloc);
     let mut after = false;
     for _ in 0..20 {
         match next_item(alloc, &mut lines, after) {
-            Ok(ScriptItem::Step(who, step)) => {
-                put_command(alloc, &mut all, who, &step)?;
-                after = true;
-            }
-            Ok(ScriptItem::Kept(at, outcome)) => {
-                all.extend_from_slice(&[digit(at), b'='])?;
-                write_outcome(alloc, &outcome, &mut all)?;
-                all.extend_from_slice(b"\n")?;
-                after = false;
-            }
-            Ok(ScriptItem::End) => {
-                all.push(b'.')?;
-                break;
-            }
+            Ok(item) => match add_item(alloc, &mut all, item)? {
+                Some(next) => after = next,
+                None => break,
+            },
             Err(stop) => {
                 add_stop(&mut all, stop)?;
                 break;
@@ -52,6 +66,25 @@ fn told(alloc: Global, text: &str, piece: usize, fail_at: u64) -> Result<Vec<u8>
         }
     }
     Ok(all)
+}
+
+// A text, in which a slash stands for LF.
+fn text_of(alloc: Global, text: &str) -> Result<Vec<u8>, AllocError> {
+    let mut bytes = Vec::new(alloc);
+    for b in text.as_bytes() {
+        bytes.push(if *b == b'/' { b'\n' } else { *b })?;
+    }
+    Ok(bytes)
+}
+
+// Whether the script behind `|` gives the items before it, in pieces of this size.
+fn gives(alloc: Global, case: &str, piece: usize) -> Result<bool, AllocError> {
+    let Some((wanted, script)) = case.split_once('|') else {
+        return Ok(false);
+    };
+    let wanted = text_of(alloc, wanted)?;
+    let script = text_of(alloc, script)?;
+    Ok(told(alloc, &script, piece, 9999)?.as_slice() == wanted.as_slice())
 }
 
 // The outcome that the fields of a line are, as it is written; `?` where they are none.
@@ -67,148 +100,147 @@ fn outcome(alloc: Global, line: &str) -> Result<Vec<u8>, AllocError> {
     Ok(all)
 }
 
+// Whether the line behind `|` is read as the outcome before it.
+fn is_read_as(alloc: Global, case: &str) -> Result<bool, AllocError> {
+    let Some((wanted, line)) = case.split_once('|') else {
+        return Ok(false);
+    };
+    Ok(outcome(alloc, line)?.as_slice() == wanted.as_bytes())
+}
+
+// Outcomes as they are written.
+const OUTCOMES: &str = "done\n\
+foreign,65535\n\
+range,start\n\
+range,duration\n\
+range,window\n\
+range,language\n\
+range,name\n\
+range,short\n\
+range,extended\n\
+range,country\n\
+range,rating\n\
+range,genre\n\
+range,provider\n\
+range,servicename\n\
+range,count,2001\n\
+range,segment,999999999\n\
+overlap,0\n\
+member,0,range,window\n\
+member,65535,range,segment,20001\n\
+member,3,overlap,7\n\
+ticked\n\
+late,1993-10-13T12:45:00Z\n\
+published,1\n\
+swapped,0,1858-11-17T00:00:00Z\n\
+swapped,999999999,2038-04-22T23:59:59Z";
+
 #[test]
 fn outcomes_both_ways(rt: HostRuntime) -> Result<(), Fail> {
     let alloc = rt.alloc();
-    for line in [
-        "done",
-        "foreign,65535",
-        "range,start",
-        "range,duration",
-        "range,window",
-        "range,language",
-        "range,name",
-        "range,short",
-        "range,extended",
-        "range,country",
-        "range,rating",
-        "range,genre",
-        "range,provider",
-        "range,servicename",
-        "range,count,2001",
-        "range,segment,999999999",
-        "overlap,0",
-        "member,0,range,window",
-        "member,65535,range,segment,20001",
-        "member,3,overlap,7",
-        "ticked",
-        "late,1993-10-13T12:45:00Z",
-        "published,1",
-        "swapped,0,1858-11-17T00:00:00Z",
-        "swapped,999999999,2038-04-22T23:59:59Z",
-    ] {
+    for line in OUTCOMES.split('\n') {
         assert_eq!(rt; outcome(alloc, line)?.as_slice(), line.as_bytes());
     }
     Ok(())
 }
 
+// Lines, each behind the outcome that it is read as.
+const LINES: &str = "done|\"done\"\n\
+overlap,7|overlap,000000007\n\
+published,0|published,0\n\
+?|done,\n\
+?|Done\n\
+?|\n\
+?|foreign\n\
+?|foreign,65536\n\
+?|foreign,1,2\n\
+?|range\n\
+?|range,begin\n\
+?|range,count\n\
+?|range,start,1\n\
+?|range,count,1000000000\n\
+?|range,segment,1,2\n\
+?|member,65536,overlap,7\n\
+?|member,3\n\
+?|member,3,done\n\
+?|member,range,window\n\
+?|member,1,member,1,overlap,7\n\
+?|ticked,1\n\
+?|late\n\
+?|late,1993-10-13T24:00:00Z\n\
+?|published,\n\
+?|swapped,1\n\
+?|swapped,1,1993-10-13";
+
 #[test]
 fn outcomes_that_are_read(rt: HostRuntime) -> Result<(), Fail> {
     let alloc = rt.alloc();
-    for (line, wanted) in [
-        ("\"done\"", "done"),
-        ("overlap,000000007", "overlap,7"),
-        ("published,0", "published,0"),
-        ("done,", "?"),
-        ("Done", "?"),
-        ("", "?"),
-        ("foreign", "?"),
-        ("foreign,65536", "?"),
-        ("foreign,1,2", "?"),
-        ("range", "?"),
-        ("range,begin", "?"),
-        ("range,count", "?"),
-        ("range,start,1", "?"),
-        ("range,count,1000000000", "?"),
-        ("range,segment,1,2", "?"),
-        ("member,65536,overlap,7", "?"),
-        ("member,3", "?"),
-        ("member,3,done", "?"),
-        ("member,range,window", "?"),
-        ("member,1,member,1,overlap,7", "?"),
-        ("ticked,1", "?"),
-        ("late", "?"),
-        ("late,1993-10-13T24:00:00Z", "?"),
-        ("published,", "?"),
-        ("swapped,1", "?"),
-        ("swapped,1,1993-10-13", "?"),
-    ] {
-        assert_eq!(rt; outcome(alloc, line)?.as_slice(), wanted.as_bytes());
+    for case in LINES.split('\n') {
+        assert!(rt; is_read_as(alloc, case)?, "{case}");
     }
     Ok(())
 }
 
-#[test]
-fn commands_of_scripts(rt: HostRuntime) -> Result<(), Fail> {
-    let alloc = rt.alloc();
-    for (text, wanted) in [
-        ("", "."),
-        ("publish\n#\n\nswap\n", "0,publish\n0,swap\n."),
-        ("\"swap\"\n\u{FEFF}swap", "0,swap\n0,swap\n."),
-        ("007,publish", "7,publish\n."),
-        ("999999999,swap", "999999999,swap\n."),
-        ("0000000007,swap", "?1"),
-        ("7,7,swap", "?1"),
-        ("7", "?1"),
-        (
-            "02,tick,1993-10-13T12:45:00Z",
-            "2,tick,1993-10-13T12:45:00Z\n.",
-        ),
-        ("tick,1993-10-13T12:45:60Z", "?1"),
-        ("tick", "?1"),
-        ("tick,1993-10-13T12:45:00Z,", "?1"),
-        ("publish,", "?1"),
-        ("swap,1", "?1"),
-        ("swap ", "?1"),
-        (
-            "feed,1,name,101,Acme,\"A,\"\"B\"\"\"",
-            "0,feed,1,name,101,Acme,\"A,\"\"B\"\"\"\n.",
-        ),
-        ("5,feed,0255,clear,00101", "5,feed,255,clear,101\n."),
-        ("feed,256,clear,101", "?1"),
-        ("feed,,clear,101", "?1"),
-        ("feed,1", "?1"),
-        ("feed,1,swap", "?1"),
-        ("feed,1,item,7", "?1"),
-        ("clear,101", "?1"),
-        ("publish\nfeed,1,clear", "0,publish\n?2"),
-    ] {
-        assert_eq!(rt; told(alloc, text, 7, 99)?.as_slice(), wanted.as_bytes());
-    }
-    Ok(())
-}
+// Scripts, each behind its items.
+const SCRIPTS: &str = ".|\n\
+0,publish/0,swap/.|publish/#//swap/\n\
+0,swap/0,swap/.|\"swap\"/\u{FEFF}swap\n\
+7,publish/.|007,publish\n\
+999999999,swap/.|999999999,swap\n\
+?1|0000000007,swap\n\
+?1|7,7,swap\n\
+?1|7\n\
+2,tick,1993-10-13T12:45:00Z/.|02,tick,1993-10-13T12:45:00Z\n\
+?1|tick,1993-10-13T12:45:60Z\n\
+?1|tick\n\
+?1|tick,1993-10-13T12:45:00Z,\n\
+?1|publish,\n\
+?1|swap,1\n\
+?1|swap \n\
+0,feed,1,name,101,Acme,\"A,\"\"B\"\"\"/.|feed,1,name,101,Acme,\"A,\"\"B\"\"\"\n\
+5,feed,255,clear,101/.|5,feed,0255,clear,00101\n\
+?1|feed,256,clear,101\n\
+?1|feed,,clear,101\n\
+?1|feed,1\n\
+?1|feed,1,swap\n\
+?1|feed,1,item,7\n\
+?1|clear,101\n\
+0,publish/?2|publish/feed,1,clear\n\
+?2|feed,1,day,101,1993-10-13,1/swap\n\
+?2|feed,1,day,101,1993-10-13,2/\n\
+?1|item,7,1993-10-13T13:00:00Z,00:30:00,eng,A,,,,,\n\
+?1|1,item,7,1993-10-13T13:00:00Z,00:30:00,eng,A,,,,,\n\
+0,publish/3=published,7/0,swap/5=done/.|publish//=,published,0007/swap/\"=\",done\n\
+?1|=,done\n\
+0,publish/2=done/?3|publish/=,done/=,done\n\
+0,publish/?2|publish/=,nothing\n\
+0,publish/?2|publish/=\n\
+0,publish/?2|publish/1,=,done";
 
 #[test]
-fn days_and_kept_outcomes(rt: HostRuntime) -> Result<(), Fail> {
+fn items_of_scripts(rt: HostRuntime) -> Result<(), Fail> {
     let alloc = rt.alloc();
-    for (text, wanted) in [
-        (
-            "feed,1,day,101,1993-10-13,1\n#\n\nitem,7,1993-10-13T13:00:00Z,00:30:00,eng,A,,,,,\n=,member,0,overlap,7\nswap",
-            "0,feed,1,day,101,1993-10-13,1\nitem,7,1993-10-13T13:00:00Z,00:30:00,eng,A,,,,,\n5=member,0,overlap,7\n0,swap\n.",
-        ),
-        ("feed,1,day,101,1993-10-13,1\nswap", "?2"),
-        ("feed,1,day,101,1993-10-13,2\n", "?2"),
-        ("item,7,1993-10-13T13:00:00Z,00:30:00,eng,A,,,,,", "?1"),
-        ("1,item,7,1993-10-13T13:00:00Z,00:30:00,eng,A,,,,,", "?1"),
-        (
-            "publish\n\n=,published,0007\nswap\n\"=\",done",
-            "0,publish\n3=published,7\n0,swap\n5=done\n.",
-        ),
-        ("=,done", "?1"),
-        ("publish\n=,done\n=,done", "0,publish\n2=done\n?3"),
-        ("publish\n=,nothing", "0,publish\n?2"),
-        ("publish\n=", "0,publish\n?2"),
-        ("publish\n1,=,done", "0,publish\n?2"),
-    ] {
-        for piece in [1, 4096] {
-            assert_eq!(rt;
-                told(alloc, text, piece, 9999)?.as_slice(),
-                wanted.as_bytes()
-            );
+    for case in SCRIPTS.split('\n') {
+        for piece in [1, 7, 4096] {
+            assert!(rt; gives(alloc, case, piece)?, "{case}");
         }
     }
+    Ok(())
+}
+
+// A day with an item, what is kept of it, and a swap.
+const DAY: &str =
+    "0,feed,1,day,101,1993-10-13,1/item,7,1993-10-13T13:00:00Z,00:30:00,eng,A,,,,,/5=member,0,overlap,7/0,swap/.|\
+feed,1,day,101,1993-10-13,1/#//item,7,1993-10-13T13:00:00Z,00:30:00,eng,A,,,,,/=,member,0,overlap,7/swap";
+
+#[test]
+fn a_day_and_a_failed_read(rt: HostRuntime) -> Result<(), Fail> {
+    let alloc = rt.alloc();
+    for piece in [1, 4096] {
+        assert!(rt; gives(alloc, DAY, piece)?);
+    }
     assert_eq!(rt;
-        told(alloc, "publish\nswap\n", 8, 1)?.as_slice(),
+        told(alloc, b"publish\nswap\n", 8, 1)?.as_slice(),
         b"0,publish\n!".as_slice()
     );
     Ok(())
@@ -220,20 +252,16 @@ fn is_read(alloc: Global, front: &str, letters: usize) -> Result<bool, AllocErro
     for _ in 0..letters {
         text.push('a')?;
     }
-    Ok(told(alloc, text.as_str(), 4096, 99)?.as_slice() != b"?1".as_slice())
+    Ok(told(alloc, text.as_bytes(), 4096, 99)?.as_slice() != b"?1".as_slice())
 }
 
 // A line of 16,384 bytes is read, and none of a byte more; the journal's line of the first has two bytes more.
 #[test]
 fn lines_at_the_limit(rt: HostRuntime) -> Result<(), Fail> {
     let alloc = rt.alloc();
-    for (front, letters, wanted) in [
-        ("feed,1,name,101,Acme,", 16_363, true),
-        ("feed,1,name,101,Acme,", 16_364, false),
-        ("0,feed,1,name,101,Acme,", 16_361, true),
-        ("0,feed,1,name,101,Acme,", 16_363, false),
-    ] {
-        assert_eq!(rt; is_read(alloc, front, letters)?, wanted);
-    }
+    assert!(rt; is_read(alloc, "feed,1,name,101,Acme,", 16_363)?);
+    assert!(rt; !is_read(alloc, "feed,1,name,101,Acme,", 16_364)?);
+    assert!(rt; is_read(alloc, "0,feed,1,name,101,Acme,", 16_361)?);
+    assert!(rt; !is_read(alloc, "0,feed,1,name,101,Acme,", 16_363)?);
     Ok(())
 }

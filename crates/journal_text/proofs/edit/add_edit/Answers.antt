@@ -1,6 +1,7 @@
 use Rattle.std.proofs.Common.{◌≡◌, OnOk, sym, subst}
 use Rattle.feed_edits.specs.declared.edit.Edit.{Edit}
-use Rattle.journal_text.specs.Edits.{edit_fields, and_fields}
+use Rattle.feed_edits.specs.Back.{edit_fields}
+use Rattle.journal_text.specs.Edits.{and_fields}
 use Rattle.journal_text.proofs.edit.add_edit.Goals as goal
 
 pub returns-in-Put : goal.returns-in-Put
