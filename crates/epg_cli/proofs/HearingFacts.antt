@@ -1,69 +1,41 @@
 -- What `play` sends, `listen` hears.
-use Rattle.std.proofs.Common.{◌≡◌, ℕ, zero, suc, ◌-◌, ◌<◌, ◌≤◌, List, [], ◌∷◌, ◌++◌, Bool, true, false, ◌&&◌, ◌==◌, Option, Some, None, length, map, refl, sym, ap, ap₂, ◌∙◌, subst, arith, lit<, take, drop, eq-eqb}
-use Rattle.std.specs.Prelude.{if◌then◌else◌, flat_map, filter_map, slice_index}
-use Rattle.std.specs.List.{AllByRecursion, cons_option}
+use Rattle.std.proofs.Common.{◌≡◌, ℕ, zero, suc, ◌+◌, ◌≤◌, List, [], ◌∷◌, ◌++◌, Bool, true, ◌&&◌, ◌==◌, Some, length, map, refl, ap, ap₂, ◌∙◌, subst, arith, take, drop, eq-eqb}
+use Rattle.std.specs.Prelude.{flat_map, slice_index}
+use Rattle.std.specs.List.{AllByRecursion}
 use Rattle.std.proofs.lemmas.List.{take_at, drop_at}
-use Rattle.si_base.specs.Fields.{two, two_at}
-use Rattle.si_time.specs.declared.moment.Moment.{Moment}
-use Rattle.guide_model.specs.declared.guide.Guide.{Guide}
+use Rattle.si_causes.specs.Text.{text_lines}
+use Rattle.input_lines.specs.Lines.{record_lines}
 use Rattle.mux_config.specs.declared.mux.Mux.{Mux}
-use Rattle.section_codec.specs.declared.table.Tier3.TheVariants.{Fast}
-use Rattle.section_codec.specs.Section.{longest_body}
+use Rattle.mux_config.specs.Block.{Block, Faulty, Whole, Unended, block_from}
+use Rattle.mux_config.specs.Laws.{IsSoundWithIds}
+use Rattle.mux_config.proofs.FineLines.{block_sound}
+use Rattle.feed_edits.specs.Ahead.{Tail, tail_of}
 use Rattle.ts_packets.specs.Bytes.{Packet, bytes_of_packet}
 use Rattle.packet_reader.specs.Recordings.{RecordingEnd, RecordingEnd.AtEnd, is_packet, and_packet, packets_in, packet_limit, recording}
 use Rattle.packet_reader.proofs.RecordingFacts.{packet_step}
-use Rattle.feed_book.specs.Limits.{IsGuideWithin}
-use Rattle.desk_core.specs.declared.step.Entry.{Entry}
-use Rattle.desk_core.specs.Journal.{LegalAfter, journal_of}
-use Rattle.desk_core.specs.Publications.{publication, aired_by}
+use Rattle.desk_core.specs.Journal.{journal_of}
 use Rattle.desk_core.proofs.JournalFacts.{journal_legal}
-use Rattle.desk_core.proofs.WithinFacts.{publications_within}
 use Rattle.air_model.specs.Air.{air, air_bytes}
 use Rattle.air_model.proofs.Airs.{air-whole}
 use Rattle.guide_receiver.specs.Texts.{done_lines}
 use Rattle.air_hearing.specs.Changes.{CarriesSdt}
 use Rattle.air_hearing.proofs.Told.{changes-heard}
-use Rattle.epg_cli.specs.Air.{airings, airing_with, sdt_entries, sdt_body, tables_of}
+use Rattle.publication.specs.Tables.{sdt_key}
+use Rattle.headend_live.specs.Air.{airings}
+use Rattle.headend_live.proofs.CarryFacts.{airings_carry}
 use Rattle.epg_cli.specs.Listen.{heard_text}
-use Rattle.epg_cli.specs.Hearing.{sdt_key, PlayIsHeard}
-use Rattle.epg_cli.proofs.AirFacts.{tables_fit}
-use Rattle.epg_cli.proofs.ScriptFacts.{IsOfScript, of_script}
+use Rattle.epg_cli.specs.Script.{script_with}
+use Rattle.epg_cli.specs.Hearing.{PlayIsHeard}
 
--- ---- each airing carries the SDT of the multiplex
+-- ---- the multiplex of a script
 
-begins_with : (n : ℕ) (rest : List ℕ) → n < 65536 → two_at 0 (two n ++ rest) ≡ n
-begins_with n rest lt = omega (arith, lt)
+mux_with : (block : Block) (tail : Tail) (mux : Mux) → ((m : Mux) (behind : List (ℕ × List ℕ)) → block ≡ Whole m behind → IsSoundWithIds m) → (script_with block tail).mux ≡ Some mux → IsSoundWithIds mux
+mux_with (Faulty fault) tail mux sound e = cc
+mux_with (Whole m behind) tail mux sound e = (let same : m ≡ mux = cc in subst IsSoundWithIds same (sound m behind refl))
+mux_with Unended tail mux sound e = cc
 
-carries_sdt : (mux : Mux) (guide : Guide) (moment : ℕ) → IsOfScript mux → IsGuideWithin guide → CarriesSdt (sdt_key mux) (record { tables = tables_of mux guide; moment = moment })
-carries_sdt mux guide moment is names =
-    let fit = (tables_fit mux guide is.one names).each 0 (record { key = sdt_key mux; tier = Fast; sections = [] }) (lit< tt) in
-    let within : length (sdt_body mux guide) ≤ longest_body 0x42 = fit.bodies 0 (record { number = 0; body = [] }) (lit< tt) in
-    record {
-      table = record { key = sdt_key mux; tier = Fast; sections = record { number = 0; body = sdt_body mux guide } ∷ [] };
-      alone = refl;
-      keyed = refl;
-      fit = record { table = λ e. absurd (omega arith); bodies = (within, tt) };
-      is_sdt = record {
-        pid = refl;
-        table = refl;
-        ext = is.stream;
-        stream = refl;
-        numbered = refl;
-        some = lit< tt;
-        most = omega arith;
-        bodies = (record { has_network = omega arith; begins = begins_with mux.original (0xFF ∷ sdt_entries mux.services guide.services) is.original }, tt);
-      };
-    }
-
-airings_carry : (mux : Mux) (journal entries : List Entry) → IsOfScript mux → LegalAfter mux [] journal
-    → AllByRecursion (CarriesSdt (sdt_key mux)) (filter_map (λ (entry : Entry). airing_with mux journal (aired_by entry.outcome)) entries)
-airings_carry mux journal [] is legal = tt
-airings_carry mux journal (entry ∷ entries) is legal = go (aired_by entry.outcome) (airings_carry mux journal entries is legal)
-  where
-    go : (o : Option (ℕ × Moment)) → AllByRecursion (CarriesSdt (sdt_key mux)) (filter_map (λ (entry : Entry). airing_with mux journal (aired_by entry.outcome)) entries)
-        → AllByRecursion (CarriesSdt (sdt_key mux)) (cons_option (airing_with mux journal o) (filter_map (λ (entry : Entry). airing_with mux journal (aired_by entry.outcome)) entries))
-    go None all = all
-    go (Some aired) all = (carries_sdt mux (publication mux journal aired.0) aired.1.0 is (publications_within mux journal aired.0 is.services is.ascend legal), all)
+mux_of_script : (lines : List (List ℕ)) (tail : Tail) (mux : Mux) → (script_with (block_from [] (record_lines 1 lines)) tail).mux ≡ Some mux → IsSoundWithIds mux
+mux_of_script lines tail mux e = mux_with (block_from [] (record_lines 1 lines)) tail mux (λ m behind is. block_sound 1 lines m behind is) e
 
 -- ---- an air as a recording
 
@@ -84,9 +56,9 @@ recorded (suc n) (p ∷ ps) all le =
 
 pub play-heard : PlayIsHeard
 play-heard text mux commands xs script is_air few =
-    let is = of_script text mux script in
+    let is = (let lines = text_lines text in mux_of_script lines.0 (tail_of (1 + length lines.0) lines.1) mux script) in
     let journal = journal_of mux commands in
-    let carry : AllByRecursion (CarriesSdt (sdt_key mux)) (airings mux journal) = airings_carry mux journal journal is (journal_legal mux [] commands) in
+    let carry : AllByRecursion (CarriesSdt (sdt_key mux)) (airings mux journal) = airings_carry mux journal is.sound is.stream is.original (journal_legal mux [] commands) in
     let record_is : recording (air_bytes xs) ≡ (map bytes_of_packet (air xs), AtEnd) = recorded packet_limit (air xs) (air-whole (airings mux journal) xs is_air) few in (
       ap (λ (r : List (List ℕ) × RecordingEnd). r.1) record_is,
       ap (λ (r : List (List ℕ) × RecordingEnd). heard_text r.0) record_is ∙ ap done_lines (changes-heard (sdt_key mux) (airings mux journal) xs is_air carry),

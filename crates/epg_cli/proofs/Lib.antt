@@ -1,11 +1,5 @@
-pub mod Numerals
-pub mod Plain
-pub mod Eight
-pub mod BlockFacts
-pub mod AirFacts
-pub mod SwapFacts
-pub mod RestFacts
+pub mod WindowFacts
+pub mod CourseFacts
 pub mod RunFacts
 pub mod ListenFacts
-pub mod ScriptFacts
 pub mod HearingFacts

@@ -1,33 +1,45 @@
 -- From what was played, and how its report ended, to what a run leaves.
-use Rattle.std.proofs.Common.{◌≡◌, ℕ, List, [], ◌∷◌, ◌++◌, take, refl, sym, ap, ◌∙◌, subst, append-nil, inl, inr}
+use Rattle.std.proofs.Common.{◌≡◌, ◌≢◌, ℕ, ◌+◌, List, [], ◌∷◌, ◌++◌, length, take, refl, sym, ap, ◌∙◌, subst, append-nil, inl, inr, ◌⊎◌, arith}
 use Rattle.std.specs.Prelude.{Option, Some, None, Ok, Err, Result, OnOk, OnErr, true, false}
 use Rattle.std.specs.Result.{result_err}
-use Rattle.std.specs.Io.KnownBytes.{Appends}
+use Rattle.std.specs.Io.KnownBytes.{Appends, Consumes}
 use Rattle.si_causes.specs.Causes.{Rose, AppendsFront}
-use Rattle.si_causes.specs.Reading.{Reading, fresh as unread, text_left}
+use Rattle.si_causes.specs.Text.{TextEnd, AtEnd, PastLimit, text_lines}
+use Rattle.si_causes.specs.Reading.{Reading, fresh as unread, text_left, room}
 use Rattle.si_causes.proofs.TextFacts.{fresh_text}
 use Rattle.si_causes.specs.declared.stop.ReadStop.TheVariants.{Failed, TooLong as Overlong}
+use Rattle.input_lines.specs.Lines.{lines_of, record_lines}
+use Rattle.input_lines.specs.Going.{WereWhole, shown_whole}
+use Rattle.input_lines.proofs.Steps.{whole_more}
+use Rattle.mux_config.specs.declared.fault.MuxFault.{MuxFault}
+use Rattle.mux_config.specs.declared.mux.Mux.{Mux}
+use Rattle.mux_config.specs.declared.stop.MuxStop.{MuxStop}
+use Rattle.mux_config.specs.declared.stop.MuxStop.TheVariants as mux
+use Rattle.mux_config.specs.Block.{Block, Faulty, Whole, Unended, at_text_end, block_from, block_of}
+use Rattle.mux_config.specs.Reads.{Described, MuxCame, ReadMux, WholeCame}
+use Rattle.feed_edits.specs.Ahead.{Ahead, Tail, Ends, Exceeds, Breaks, ahead, tail_of}
+use Rattle.feed_edits.specs.Reads.{ahead_with}
 use Rattle.version_book.specs.Airings.{Airing}
 use Rattle.air_model.specs.Air.{IsAirOf}
 use Rattle.air_model.proofs.Airs.{IsAirOf-none}
-use Rattle.carousel_player.specs.Playing.{Playing, AtEnd}
-use Rattle.mux_config.specs.declared.mux.Mux.{Mux}
+use Rattle.carousel_player.specs.Playing.{Playing, AtEnd as AllSent}
 use Rattle.desk_core.specs.declared.step.Entry.{Entry}
 use Rattle.desk_core.specs.Journal.{Command, journal_of}
 use Rattle.desk_core.specs.Desks.{DeskState, fresh}
+use Rattle.journal_text.specs.Entries.{journal_text}
+use Rattle.headend_live.specs.Air.{airings}
+use Rattle.headend_live.specs.OnAir.{HasAired, HasAiredFront, IsOnAir}
 use Rattle.epg_cli.specs.declared.stop.PlayStop.{PlayStop}
-use Rattle.epg_cli.specs.declared.stop.PlayStop.TheVariants.{NoCommand as Refused, Read, Air as OnAir, Memory as NoMemory}
+use Rattle.epg_cli.specs.declared.stop.PlayStop.TheVariants.{NoMux as Undescribed, NoCommand as Refused, Disagrees as Differs, Read, Air as OnAir, Memory as NoMemory}
 use Rattle.epg_cli.specs.declared.status.Status.{Status}
 use Rattle.epg_cli.specs.declared.status.Status.TheVariants.{Done, Usage, BadScript, Disagrees, BadMux, BadFeed, BadStream, TooLong as PastLimit, OpenFault, ReadFault, WriteFault, Memory}
 use Rattle.epg_cli.specs.declared.status.Origin.TheVariants.{Input, Feed}
 use Rattle.epg_cli.specs.declared.status.Outlet.TheVariants.{Air, Report}
-use Rattle.epg_cli.specs.Air.{airings}
-use Rattle.epg_cli.specs.Script.{Script, Stop, NoCommand, TooLong, no_mux, with_commands, script_in, script_of}
-use Rattle.epg_cli.specs.Reads.{ReadBlock, IsNoAirStop, lines_of}
-use Rattle.epg_cli.specs.Played.{desk_after, RestDid, AiredTo, HasAired, HasAiredFront, IsOnAir}
-use Rattle.journal_text.specs.Entries.{journal_text}
+use Rattle.epg_cli.specs.Script.{Script, Stop, Ended, NoMux, NoCommand, Disagreed, TooLong, Unread, no_mux, script_in, script_of, script_taken, script_with, with_commands}
+use Rattle.epg_cli.specs.Played.{AiredTo, PlayedWhole, RestDid, RestTaken, course, desk_after}
 use Rattle.epg_cli.specs.Texts.{fault_line}
-use Rattle.epg_cli.specs.Run.{Told, IsAired, IsAiredFront, HasPlayed, Finished, FinishedBy, Leaves, Completes, journal_for, entries_of, status_for, stop_text, Reported, airings_for, HasAirStopCause}
+use Rattle.epg_cli.specs.Run.{Told, IsAired, IsAiredFront, HasPlayed, HasPlayedAll, HasPlayedTaken, Finished, FinishedBy, Leaves, LeavesAll, Completes, CanBeTold, journal_for, whole_journal, first_journal, entries_of, status_for, stop_text, mux_stop, Reported, airings_for, HasAirStopCause, HasStopCause}
+use Rattle.epg_cli.proofs.CourseFacts.{Rest}
 
 pub appends_nil : (w : Option (List ℕ)) → Appends w w []
 appends_nil None = tt
@@ -48,17 +60,93 @@ none_aired script air same = record {
   bytes = subst (λ (w : Option (List ℕ)). Appends air.old w []) same (appends_nil air.old);
 }
 
--- ---- nothing was played
+-- ---- the script of a text, by what reading its description told
 
-pub no_block : {S : Type 0} (left : S → Option (List ℕ)) (new : Reading S) (script : Script) (air : Told) (stop : PlayStop) → air.old ≡ air.new → ReadBlock left new script (Err stop) → HasPlayed script air None (Some stop)
-no_block left new script air (Refused n) same e = subst (λ (s : Script). HasPlayed s air None (Some (Refused n))) (sym e) (refl, none_aired (no_mux (NoCommand n)) air same, refl)
-no_block left new script air (Read Overlong) same e = subst (λ (s : Script). HasPlayed s air None (Some (Read Overlong))) (sym e) (refl, none_aired (no_mux TooLong) air same, refl)
-no_block left new script air (Read Failed) same e =
-    (0, subst (λ (l : List Entry). IsAired script l air) (sym (no_journal script.mux)) (none_aired script air same), sym (no_journal script.mux))
-no_block left new script air OnAir same e = absurd e
-no_block left new script air NoMemory same e = tt
+abbrev Known : Type 0
+Known = Option (List ℕ)
 
--- ---- the commands were played
+-- a reader that has read nothing
+pub record IsUnread {S : Type 0} (reader : Reading S) : Type 0 where
+  pub held : reader.held ≡ []
+  pub number : reader.number ≡ 0
+  pub lines : (text : List ℕ) → lines_of reader text ≡ text_lines text
+
+pub is_unread : {S : Type 0} (reader : Reading S) (source : S) → reader ≡ unread source → IsUnread reader
+is_unread reader source e = record { held = ap (λ r. r.held) e; number = ap (λ r. r.number) e; lines = λ text. ap (λ r. lines_of r text) e }
+
+pub unread_going : {S : Type 0} (reader : Reading S) (source : S) → reader ≡ unread source → reader.stop ≡ None
+unread_going reader source e = ap (λ r. r.stop) e
+
+pub unread_told : {S : Type 0} (left : S → Known) (reader : Reading S) (source : S) (text : List ℕ) → reader ≡ unread source → left source ≡ Some text → text_left left reader ≡ Some text
+unread_told left reader source text e tells = ap (text_left left) e ∙ fresh_text left source ∙ tells
+
+-- the script of lines of a text, where the block of its lines is this one
+faulty_script : (block : Block) (end : TextEnd) (n : ℕ) (fault : MuxFault) → at_text_end block end ≡ Faulty fault → script_with block (tail_of n end) ≡ no_mux (NoMux fault)
+faulty_script Unended AtEnd n fault e = cc
+faulty_script Unended PastLimit n fault e = cc
+faulty_script (Faulty f) end n fault e = cc
+faulty_script (Whole mux behind) end n fault e = cc
+
+unended_script : (block : Block) (end : TextEnd) (n : ℕ) → at_text_end block end ≡ Unended → script_with block (tail_of n end) ≡ no_mux TooLong
+unended_script Unended AtEnd n e = cc
+unended_script Unended PastLimit n e = refl
+unended_script (Faulty f) end n e = cc
+unended_script (Whole mux behind) end n e = cc
+
+whole_block : (block : Block) (end : TextEnd) (mux : Mux) (behind : List (ℕ × List ℕ)) → at_text_end block end ≡ Whole mux behind → block ≡ Whole mux behind
+whole_block Unended AtEnd mux behind e = cc
+whole_block Unended PastLimit mux behind e = cc
+whole_block (Faulty f) end mux behind e = cc
+whole_block (Whole m b) end mux behind e = e
+
+-- the block of the lines of a text
+first_block : {S : Type 0} (old : Reading S) (text : List ℕ) → IsUnread old → block_of (old.number + 1) (lines_of old text) ≡ block_of 1 (text_lines text)
+first_block old text is = ap (λ k. block_of (k + 1) (lines_of old text)) is.number ∙ ap (block_of 1) (is.lines text)
+
+-- a multiplex was described, and this is ahead behind it
+described : {S : Type 0} (left : S → Known) (old mid : Reading S) (text : List ℕ) (mux : Mux) → IsUnread old
+    → (d : Described left old mid (block_of (old.number + 1) (lines_of old text)) (lines_of old text) mux)
+    → script_in text ≡ with_commands mux (course mux [] None (ahead mid d.rest))
+described left old mid text mux is d =
+    let lines = text_lines text in
+    let behind = record_lines (mid.number + 1) (lines_of mid d.rest).0 in
+    let whole : block_from [] (record_lines 1 lines.0) ≡ Whole mux behind = whole_block _ lines.1 mux behind (sym (first_block old text is) ∙ d.whole) in
+    let number : 1 + length lines.0 ≡ (mid.number + 1) + length (lines_of mid d.rest).0 =
+    ap (λ k. k + 1 + length lines.0) (sym is.number) ∙ ap (λ l. (old.number + 1) + length l.0) (sym (is.lines text)) ∙ sym d.count in
+    let stop : lines.1 ≡ (lines_of mid d.rest).1 = ap (λ l. l.1) (sym (is.lines text)) ∙ d.stop in
+    ap (λ (b : Block). script_with b (tail_of (1 + length lines.0) lines.1)) whole
+    ∙ ap (λ k. script_with (Whole mux behind) (tail_of k lines.1)) number
+    ∙ ap (λ (e : TextEnd). script_with (Whole mux behind) (tail_of ((mid.number + 1) + length (lines_of mid d.rest).0) e)) stop
+
+-- ---- what was played
+
+nothing_played : (script : Script) (stop : Stop) (air : Told) → script ≡ no_mux stop → air.old ≡ air.new → HasPlayedAll script stop air None
+nothing_played script stop air e same = subst (λ (s : Script). HasPlayedAll s stop air None) (sym e) (record { stopped = refl; air_is = none_aired (no_mux stop) air same; journal = refl })
+
+-- of known bytes some were taken, and the others are left
+bytes_left : (left : Known) (text taken : List ℕ) → Consumes (Some text) left taken → (behind : List ℕ) × (text ≡ taken ++ behind) × (left ≡ Some behind)
+bytes_left None text taken h = absurd h
+bytes_left (Some behind) text taken h = (behind, h, refl)
+
+taken_played : (text taken : List ℕ) (old left : Known) (air : Told) (desk : Option DeskState) → old ≡ Some text → Consumes old left taken → HasPlayedAll (script_taken taken) Unread air desk → HasPlayedTaken text left air desk
+taken_played text taken old left air desk told gave all =
+    let b = bytes_left left text taken (subst (λ (o : Known). Consumes o left taken) told gave) in
+    record { taken = taken; behind = b.0; text_is = b.1; left_is = b.2; all = all }
+
+-- the description was not read
+pub no_block : {S : Type 0} (left : S → Known) (faults : S → ℕ) (old new : Reading S) (text : List ℕ) (air : Told) (stop : MuxStop) → IsUnread old → left old.source ≡ Some text → air.old ≡ air.new
+    → ReadMux {S = S} left old new (lines_of old text) (Err stop) → MuxCame left faults old new (Err stop) → HasPlayed text (left new.source) air None (Some (mux_stop stop))
+no_block left faults old new text air (mux.Fault fault) is told same e came =
+    nothing_played (script_in text) (NoMux fault) air (let lines = text_lines text in faulty_script (block_from [] (record_lines 1 lines.0)) lines.1 (1 + length lines.0) fault (sym (first_block old text is) ∙ e)) same
+no_block left faults old new text air (mux.Read Overlong) is told same e came =
+    nothing_played (script_in text) TooLong air (let lines = text_lines text in unended_script (block_from [] (record_lines 1 lines.0)) lines.1 (1 + length lines.0) (sym (first_block old text is) ∙ e)) same
+no_block left faults old new text air (mux.Read Failed) is told same e came =
+    let lines : shown_whole came.whole.more ≡ came.lines = ap (λ l. shown_whole (l ++ came.whole.more)) (sym is.held) ∙ came.whole.whole in
+    let short : block_from [] (record_lines 1 (shown_whole came.whole.more)) ≡ Unended =
+    ap (λ l. block_from [] (record_lines 1 l)) lines ∙ ap (λ k. block_from [] (record_lines (k + 1) came.lines)) (sym is.number) ∙ came.unended in
+    taken_played text came.whole.more (left old.source) (left new.source) air None told came.whole.gave
+    (nothing_played (script_taken came.whole.more) Unread air (ap (λ (b : Block). script_with b Breaks) short) same)
+no_block left faults old new text air mux.Memory is told same e came = tt
 
 aired_is : (mux : Mux) (desk : DeskState) (player : Playing) (rest : List Command × Stop) (commands : List Command) (air : Told) → desk ≡ desk_after (fresh mux) commands → HasAired desk player air.old air.new
     → IsAired (with_commands mux rest) (journal_of mux commands) air
@@ -83,89 +171,147 @@ front_is mux desk rest commands air d f = record {
   bytes = f.bytes;
 }
 
-played_rest : (r : Result (Unit {0}) PlayStop) (mux : Mux) (rest : List Command × Stop) (desk : DeskState) (player : Playing) (air : Told) → RestDid rest (fresh mux) desk r → AiredTo desk player air.old air.new r
-    → HasPlayed (with_commands mux rest) air (Some desk) (result_err r)
-played_rest (Ok u) mux rest desk player air did aired = (did.0, aired_is mux desk player rest rest.0 air did.1 aired, ap (λ (x : DeskState). x.entries) did.1)
-played_rest (Err (Refused n)) mux rest desk player air did aired = (did.0, aired_is mux desk player rest rest.0 air did.1 aired, ap (λ (x : DeskState). x.entries) did.1)
-played_rest (Err (Read Overlong)) mux rest desk player air did aired = (did.0, aired_is mux desk player rest rest.0 air did.1 aired, ap (λ (x : DeskState). x.entries) did.1)
-played_rest (Err (Read Failed)) mux rest desk player air did aired = (did.0, aired_is mux desk player rest (take did.0 rest.0) air did.1 aired, ap (λ (x : DeskState). x.entries) did.1)
-played_rest (Err OnAir) mux rest desk player air did aired = (did.0, front_is mux desk rest (take did.0 rest.0) air did.1 aired, ap (λ (x : DeskState). x.entries) did.1)
-played_rest (Err NoMemory) mux rest desk player air did aired = tt
+-- all commands were played
+played_all : (script : Script) (stop : Stop) (mux : Mux) (rest : Rest) (desk : DeskState) (player : Playing) (air : Told) → script ≡ with_commands mux rest → (rest.1 ≡ stop) × (desk ≡ desk_after (fresh mux) rest.0)
+    → HasAired desk player air.old air.new → HasPlayedAll script stop air (Some desk)
+played_all script stop mux rest desk player air e did aired =
+    subst (λ (s : Script). HasPlayedAll s stop air (Some desk)) (sym e)
+    (record { stopped = did.0; air_is = aired_is mux desk player rest rest.0 air did.1 aired; journal = ap (λ (x : DeskState). x.entries) did.1 })
 
-pub played_all : (r : Result (Unit {0}) PlayStop) (script : Script) (mux : Mux) (rest : List Command × Stop) (desk : DeskState) (player : Playing) (air : Told) → script ≡ with_commands mux rest
-    → RestDid rest (fresh mux) desk r → AiredTo desk player air.old air.new r → HasPlayed script air (Some desk) (result_err r)
-played_all r script mux rest desk player air e did aired = subst (λ (s : Script). HasPlayed s air (Some desk) (result_err r)) (sym e) (played_rest r mux rest desk player air did aired)
+-- those of the lines that were whole, where a read failed
+played_taken : {S : Type 0} (left : S → Known) (old mid new : Reading S) (text : List ℕ) (mux : Mux) (desk : DeskState) (player : Playing) (air : Told) → IsUnread old → left old.source ≡ Some text
+    → WholeCame left old mid mux → PlayedWhole left mid new (fresh mux) desk → HasAired desk player air.old air.new → HasPlayedTaken text (left new.source) air (Some desk)
+played_taken left old mid new text mux desk player air is told came p aired =
+    let both : WereWhole left old new (came.lines ++ p.lines) = whole_more left old mid new came.lines p.lines (came.handed p.unended) p.whole in
+    let lines : shown_whole both.more ≡ came.lines ++ p.lines = ap (λ l. shown_whole (l ++ both.more)) (sym is.held) ∙ both.whole in
+    let block : block_from [] (record_lines 1 (shown_whole both.more)) ≡ Whole mux (record_lines (mid.number + 1) p.lines) =
+    ap (λ l. block_from [] (record_lines 1 l)) lines ∙ ap (λ k. block_from [] (record_lines (k + 1) (came.lines ++ p.lines))) (sym is.number) ∙ came.whole p.lines in
+    let script : script_taken both.more ≡ with_commands mux (course mux [] None (ahead_with mid p.lines Breaks)) = ap (λ (b : Block). script_with b Breaks) block in
+    taken_played text both.more (left old.source) (left new.source) air (Some desk) told both.gave
+    (played_all (script_taken both.more) Unread mux (course mux [] None (ahead_with mid p.lines Breaks)) desk player air script (p.stop, p.did) aired)
+
+-- what was played behind the description of a multiplex
+pub played_behind : {S : Type 0} (left : S → Known) (old mid new : Reading S) (text : List ℕ) (mux : Mux) (desk : DeskState) (player : Playing) (air : Told) (r : Result (Unit {0}) PlayStop) → IsUnread old → left old.source ≡ Some text
+    → ReadMux {S = S} left old mid (lines_of old text) (Ok mux) → WholeCame left old mid mux
+    → ((rest : List ℕ) → text_left left mid ≡ Some rest → RestDid (course mux [] None (ahead mid rest)) (fresh mux) desk r) → RestTaken left mid new (fresh mux) desk r → AiredTo desk player air.old air.new r
+    → HasPlayed text (left new.source) air (Some desk) (result_err r)
+played_behind left old mid new text mux desk player air (Ok u) is told d came did taken aired =
+    played_all (script_in text) Ended mux (course mux [] None (ahead mid d.rest)) desk player air (described left old mid text mux is d) (did d.rest d.told) aired
+played_behind left old mid new text mux desk player air (Err (Undescribed fault)) is told d came did taken aired = absurd (did d.rest d.told)
+played_behind left old mid new text mux desk player air (Err (Refused n)) is told d came did taken aired =
+    played_all (script_in text) (NoCommand n) mux (course mux [] None (ahead mid d.rest)) desk player air (described left old mid text mux is d) (did d.rest d.told) aired
+played_behind left old mid new text mux desk player air (Err (Differs n kept found)) is told d came did taken aired =
+    played_all (script_in text) (Disagreed n kept found) mux (course mux [] None (ahead mid d.rest)) desk player air (described left old mid text mux is d) (did d.rest d.told) aired
+played_behind left old mid new text mux desk player air (Err (Read Overlong)) is told d came did taken aired =
+    played_all (script_in text) TooLong mux (course mux [] None (ahead mid d.rest)) desk player air (described left old mid text mux is d) (did d.rest d.told) aired
+played_behind left old mid new text mux desk player air (Err (Read Failed)) is told d came did taken aired = played_taken left old mid new text mux desk player air is told came taken aired
+played_behind left old mid new text mux desk player air (Err OnAir) is told d came did taken aired =
+    let rest = course mux [] None (ahead mid d.rest) in
+    let script = described left old mid text mux is d in
+    let k = (did d.rest d.told).0 in
+    let desk_is = (did d.rest d.told).1 in (
+      k,
+      subst (λ (s : Script). IsAiredFront s (first_journal k s) air) (sym script) (front_is mux desk rest (take k rest.0) air desk_is aired),
+      subst (λ (s : Script). desk.entries ≡ first_journal k s) (sym script) (ap (λ (x : DeskState). x.entries) desk_is),
+    )
+played_behind left old mid new text mux desk player air (Err NoMemory) is told d came did taken aired = tt
 
 -- ---- the run is over
 
-finished_whole : (script : Script) (air report : Told) (desk : Option DeskState) (status : Status) → HasPlayed script air desk None → FinishedBy None (entries_of desk) report status → Leaves script air report status
-finished_whole script air report desk Done played finished =
-    record { ended = played.0; air_is = played.1; report_is = subst (λ (l : List Entry). Appends report.old report.new (journal_text l)) played.2 finished }
-finished_whole script air report desk (WriteFault Report) played finished =
-    record { ended = played.0; air_is = played.1; report_is = subst (λ (l : List Entry). AppendsFront report.old report.new (journal_text l)) played.2 finished.0 }
-finished_whole script air report desk (WriteFault Air) played finished = absurd finished
-finished_whole script air report desk Usage played finished = absurd finished
-finished_whole script air report desk (BadScript n) played finished = absurd finished
-finished_whole script air report desk (Disagrees n kept found) played finished = absurd finished
-finished_whole script air report desk (BadMux fault) played finished = absurd finished
-finished_whole script air report desk (BadFeed f n) played finished = absurd finished
-finished_whole script air report desk (BadStream n) played finished = absurd finished
-finished_whole script air report desk (PastLimit origin) played finished = absurd finished
-finished_whole script air report desk (OpenFault f) played finished = absurd finished
-finished_whole script air report desk (ReadFault origin) played finished = absurd finished
-finished_whole script air report desk Memory played finished = absurd finished
+finished_whole : (text : List ℕ) (left : Known) (air report : Told) (desk : Option DeskState) (status : Status) → HasPlayed text left air desk None → FinishedBy None (entries_of desk) report status → Leaves text left air report status
+finished_whole text left air report desk Done played finished =
+    record { ended = played.stopped; air_is = played.air_is; report_is = subst (λ (l : List Entry). Appends report.old report.new (journal_text l)) played.journal finished }
+finished_whole text left air report desk (WriteFault Report) played finished =
+    record { ended = played.stopped; air_is = played.air_is; report_is = subst (λ (l : List Entry). AppendsFront report.old report.new (journal_text l)) played.journal finished.0 }
+finished_whole text left air report desk (WriteFault Air) played finished = absurd finished
+finished_whole text left air report desk Usage played finished = absurd finished
+finished_whole text left air report desk (BadScript n) played finished = absurd finished
+finished_whole text left air report desk (Disagrees n kept found) played finished = absurd finished
+finished_whole text left air report desk (BadMux fault) played finished = absurd finished
+finished_whole text left air report desk (BadFeed f n) played finished = absurd finished
+finished_whole text left air report desk (BadStream n) played finished = absurd finished
+finished_whole text left air report desk (PastLimit origin) played finished = absurd finished
+finished_whole text left air report desk (OpenFault f) played finished = absurd finished
+finished_whole text left air report desk (ReadFault origin) played finished = absurd finished
+finished_whole text left air report desk Memory played finished = absurd finished
 
 reported_of : (report : Told) (old new : List Entry) (text : List ℕ) → old ≡ new → Reported report (journal_text old ++ text) → Reported report (journal_text new ++ text)
 reported_of report old new text e r = subst (λ (l : List Entry). Reported report (journal_text l ++ text)) e r
 
-finished_stop : (stop : PlayStop) (script : Script) (air report : Told) (desk : Option DeskState) → HasPlayed script air desk (Some stop) → Reported report (journal_text (entries_of desk) ++ fault_line (stop_text stop))
-    → Leaves script air report (status_for stop)
-finished_stop (Refused n) script air report desk played reported = (played.0, record { air_is = played.1; report_is = reported_of report _ _ (fault_line (stop_text (Refused n))) played.2 reported })
-finished_stop (Read Overlong) script air report desk played reported = (played.0, record { air_is = played.1; report_is = reported_of report _ _ (fault_line (stop_text (Read Overlong))) played.2 reported })
-finished_stop (Read Failed) script air report desk played reported = record { k = played.0; air_is = played.1; report_is = reported_of report _ _ (fault_line (stop_text (Read Failed))) played.2 reported }
-finished_stop OnAir script air report desk played reported = record { k = played.0; air_is = played.1; report_is = reported_of report _ _ (fault_line (stop_text OnAir)) played.2 reported }
-finished_stop NoMemory script air report desk played reported = tt
+finished_all : (script : Script) (stop : Stop) (fault : List ℕ) (air report : Told) (desk : Option DeskState) → HasPlayedAll script stop air desk → Reported report (journal_text (entries_of desk) ++ fault_line fault)
+    → LeavesAll script stop fault air report
+finished_all script stop fault air report desk played reported =
+    record { stopped = played.stopped; air_is = played.air_is; report_is = reported_of report _ _ (fault_line fault) played.journal reported }
 
-pub leaves : (stop : Option PlayStop) (script : Script) (air report : Told) (desk : Option DeskState) (status : Status) → HasPlayed script air desk stop → Finished stop (entries_of desk) report status → Leaves script air report status
-leaves stop script air report desk status played (inl memory) = subst (λ (s : Status). Leaves script air report s) (sym memory) tt
-leaves None script air report desk status played (inr finished) = finished_whole script air report desk status played finished
-leaves (Some stop) script air report desk status played (inr finished) = subst (λ (s : Status). Leaves script air report s) (sym finished.0) (finished_stop stop script air report desk played finished.1)
+finished_stop : (stop : PlayStop) (text : List ℕ) (left : Known) (air report : Told) (desk : Option DeskState) → HasPlayed text left air desk (Some stop)
+    → Reported report (journal_text (entries_of desk) ++ fault_line (stop_text stop)) → Leaves text left air report (status_for stop)
+finished_stop (Undescribed fault) text left air report desk played reported = finished_all (script_in text) (NoMux fault) (stop_text (Undescribed fault)) air report desk played reported
+finished_stop (Refused n) text left air report desk played reported = finished_all (script_in text) (NoCommand n) (stop_text (Refused n)) air report desk played reported
+finished_stop (Differs n kept found) text left air report desk played reported =
+    finished_all (script_in text) (Disagreed n kept found) (stop_text (Differs n kept found)) air report desk played reported
+finished_stop (Read Overlong) text left air report desk played reported = finished_all (script_in text) TooLong (stop_text (Read Overlong)) air report desk played reported
+finished_stop (Read Failed) text left air report desk played reported = record {
+  taken = played.taken;
+  behind = played.behind;
+  text_is = played.text_is;
+  left_is = played.left_is;
+  leaves = finished_all (script_taken played.taken) Unread (stop_text (Read Failed)) air report desk played.all reported;
+}
+finished_stop OnAir text left air report desk played reported = record { k = played.0; air_is = played.1; report_is = reported_of report _ _ (fault_line (stop_text OnAir)) played.2 reported }
+finished_stop NoMemory text left air report desk played reported = tt
 
-pub no_air_cause : (before now : ℕ) (stop : PlayStop) → IsNoAirStop (let r : Result (Unit {0}) PlayStop = Err stop in r) → HasAirStopCause before now (Some stop)
-no_air_cause before now (Refused n) h = tt
-no_air_cause before now (Read stop) h = tt
-no_air_cause before now OnAir h = absurd h
-no_air_cause before now NoMemory h = tt
+pub leaves : (stop : Option PlayStop) (text : List ℕ) (left : Known) (air report : Told) (desk : Option DeskState) (status : Status) → HasPlayed text left air desk stop → Finished stop (entries_of desk) report status
+    → Leaves text left air report status
+leaves stop text left air report desk status played (inl memory) = subst (λ (s : Status). Leaves text left air report s) (sym memory) tt
+leaves None text left air report desk status played (inr finished) = finished_whole text left air report desk status played finished
+leaves (Some stop) text left air report desk status played (inr finished) = subst (λ (s : Status). Leaves text left air report s) (sym finished.0) (finished_stop stop text left air report desk played finished.1)
 
-pub start_aired : (mux : Mux) (desk : DeskState) (player : Playing) (w : Option (List ℕ)) → desk ≡ fresh mux → AtEnd [] player → HasAired desk player w w
+-- the same of an input that is the source which the reader gave back
+pub leaves_input : {S : Type 0} (left_of : S → Known) (source input : S) (stop : Option PlayStop) (text : List ℕ) (air report : Told) (desk : Option DeskState) (status : Status) → input ≡ source
+    → HasPlayed text (left_of source) air desk stop → Finished stop (entries_of desk) report status → Leaves text (left_of input) air report status
+leaves_input {S = S} left_of source input stop text air report desk status e played finished =
+    subst (λ (s : S). Leaves text (left_of s) air report status) (sym e) (leaves stop text (left_of source) air report desk status played finished)
+
+pub start_aired : (mux : Mux) (desk : DeskState) (player : Playing) (w : Option (List ℕ)) → desk ≡ fresh mux → AllSent [] player → HasAired desk player w w
 start_aired mux desk player w d end = ([], end, sym (ap (λ (x : DeskState). airings x.mux x.entries) d), appends_nil w)
 
-pub start_on_air : (mux : Mux) (desk : DeskState) (player : Playing) → desk ≡ fresh mux → AtEnd [] player → IsOnAir desk player
+pub start_on_air : (mux : Mux) (desk : DeskState) (player : Playing) → desk ≡ fresh mux → AllSent [] player → IsOnAir desk player
 start_on_air mux desk player d end = ([], end, sym (ap (λ (x : DeskState). airings x.mux x.entries) d))
 
--- a reader at the front of its source has the whole text to give
-pub started : {S : Type 0} (left : S → Option (List ℕ)) (reader : Reading S) (source : S) (text : List ℕ) → reader ≡ unread source → left source ≡ Some text
-    → (text_left left reader ≡ Some text) × (script_of (lines_of reader text) ≡ script_in text)
-started left reader source text e tells =
-    (ap (text_left left) e ∙ fresh_text left source ∙ tells, ap (λ r. script_of (lines_of r text)) e)
-
 -- where nothing fails, the script's stop decides
-pub completes : (script : Script) (air report : Told) (status : Status) → Leaves script air report status → (status ≡ ReadFault Input → ⊥) → (status ≡ WriteFault Air → ⊥) → (status ≡ WriteFault Report → ⊥) → Completes script status
-completes script air report Done leave r a w = leave.ended
-completes script air report (BadScript n) leave r a w = leave.0
-completes script air report (PastLimit Input) leave r a w = leave.0
-completes script air report (PastLimit (Feed f)) leave r a w = absurd leave
-completes script air report (ReadFault Input) leave r a w = absurd (r refl)
-completes script air report (ReadFault (Feed f)) leave r a w = absurd leave
-completes script air report (WriteFault Air) leave r a w = absurd (a refl)
-completes script air report (WriteFault Report) leave r a w = absurd (w refl)
-completes script air report Memory leave r a w = tt
-completes script air report Usage leave r a w = absurd leave
-completes script air report (Disagrees n kept found) leave r a w = absurd leave
-completes script air report (BadMux fault) leave r a w = absurd leave
-completes script air report (BadFeed f n) leave r a w = absurd leave
-completes script air report (BadStream n) leave r a w = absurd leave
-completes script air report (OpenFault f) leave r a w = absurd leave
+pub completes : (text : List ℕ) (left : Known) (air report : Told) (status : Status) → Leaves text left air report status → (status ≡ ReadFault Input → ⊥) → (status ≡ WriteFault Air → ⊥) → (status ≡ WriteFault Report → ⊥)
+    → Completes (script_in text).stop status
+completes text left air report Done leave r a w = leave.ended
+completes text left air report (BadMux fault) leave r a w = leave.stopped
+completes text left air report (BadScript n) leave r a w = leave.stopped
+completes text left air report (Disagrees n kept found) leave r a w = leave.stopped
+completes text left air report (PastLimit Input) leave r a w = leave.stopped
+completes text left air report (PastLimit (Feed f)) leave r a w = absurd leave
+completes text left air report (ReadFault Input) leave r a w = absurd (r refl)
+completes text left air report (ReadFault (Feed f)) leave r a w = absurd leave
+completes text left air report (WriteFault Air) leave r a w = absurd (a refl)
+completes text left air report (WriteFault Report) leave r a w = absurd (w refl)
+completes text left air report Memory leave r a w = tt
+completes text left air report Usage leave r a w = absurd leave
+completes text left air report (BadFeed f n) leave r a w = absurd leave
+completes text left air report (BadStream n) leave r a w = absurd leave
+completes text left air report (OpenFault f) leave r a w = absurd leave
+
+-- and so a script that is whole is played to its end
+pub whole : (stop : Stop) (status : Status) → stop ≡ Ended → Completes stop status → (status ≡ Done) ⊎ (status ≡ Memory)
+whole stop Done e h = inl refl
+whole stop Memory e h = inr refl
+whole stop (BadMux fault) e h = cc
+whole stop (BadScript n) e h = cc
+whole stop (Disagrees n kept found) e h = cc
+whole stop (PastLimit Input) e h = cc
+whole stop (PastLimit (Feed f)) e h = absurd h
+whole stop (ReadFault origin) e h = absurd h
+whole stop (WriteFault outlet) e h = absurd h
+whole stop Usage e h = absurd h
+whole stop (BadFeed f n) e h = absurd h
+whole stop (BadStream n) e h = absurd h
+whole stop (OpenFault f) e h = absurd h
 
 pub reported : {E : Type 0} (r : Result (Unit {0}) E) (t : Told) (text : List ℕ) → OnOk r (Appends t.old t.new text) → OnErr r (AppendsFront t.old t.new text) → OnErr r (Rose t.faults_old t.faults_new) → Reported t text
 reported (Ok u) t text done failed cause = inl done

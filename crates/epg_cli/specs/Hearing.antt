@@ -1,19 +1,15 @@
 -- What `listen` hears of what `play` sent.
 use Rattle.std.specs.Prelude.{◌≡◌, ℕ, ◌≤◌, List, [], length, Some}
-use Rattle.section_codec.specs.declared.table.Key.{Key}
 use Rattle.mux_config.specs.declared.mux.Mux.{Mux}
 use Rattle.desk_core.specs.Journal.{Command, journal_of}
 use Rattle.packet_reader.specs.Recordings.{RecordingEnd.AtEnd, packet_limit, recording}
 use Rattle.guide_receiver.specs.Texts.{done_lines}
 use Rattle.air_model.specs.Air.{Aired, IsAirOf, air, air_bytes}
 use Rattle.air_hearing.specs.Changes.{changes_told}
-use Rattle.epg_cli.specs.Air.{airings}
+use Rattle.publication.specs.Tables.{sdt_key}
+use Rattle.headend_live.specs.Air.{airings}
 use Rattle.epg_cli.specs.Script.{script_in}
 use Rattle.epg_cli.specs.Listen.{heard_text}
-
--- the key of the SDT of a multiplex
-abbrev pub sdt_key : Mux → Key
-sdt_key mux = record { pid = 0x0011; table = 0x42; ext = mux.stream; stream = 0; network = mux.original }
 
 -- the lines of the version changes of an air, each with the last packet of its cycle
 abbrev pub changes_text : Mux → List Aired → List ℕ

@@ -1,9 +1,7 @@
-pub mod Fields
+pub mod Outcomes
 pub mod Codes
 pub mod Script
 pub mod Texts
-pub mod Air
-pub mod Reads
 pub mod Played
 pub mod Run
 pub mod Listen

@@ -13,7 +13,7 @@ use Rattle.epg_cli.specs.declared.status.Status.{Status}
 use Rattle.epg_cli.specs.declared.status.Status.TheVariants.{Done, BadStream, TooLong, ReadFault, WriteFault, Memory}
 use Rattle.epg_cli.specs.declared.status.Origin.TheVariants.{Input}
 use Rattle.epg_cli.specs.declared.status.Outlet.TheVariants.{Report}
-use Rattle.epg_cli.specs.Fields.{is_word}
+use Rattle.input_lines.specs.Numbers.{is_word}
 use Rattle.epg_cli.specs.Texts.{fault_line}
 use Rattle.epg_cli.specs.Run.{Told, Reported}
 

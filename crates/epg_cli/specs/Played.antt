@@ -1,85 +1,95 @@
--- What playing the commands of a script leaves: the desk, the player, and what the air took.
-use Rattle.std.specs.Prelude.{◌≡◌, Bool, true, false, ℕ, ◌<◌, List, [], ◌∷◌, ◌++◌, length, take, flat_map, Option, Some, None, Ok, Err, Result}
-use Rattle.std.specs.Io.KnownBytes.{Appends}
+-- What playing the commands of a script leaves: the desk, and what the air took.
+use Rattle.std.specs.Prelude.{◌≡◌, ℕ, false, is_some, List, [], ◌++◌, take, Option, Some, None, Ok, Err, Result}
 use Rattle.si_causes.specs.Causes.{Rose}
+use Rattle.si_causes.specs.Reading.{Reading}
 use Rattle.si_causes.specs.declared.stop.ReadStop.TheVariants.{Failed, TooLong as Overlong}
-use Rattle.ts_packets.specs.Bytes.{bytes_of_packet}
-use Rattle.version_book.specs.Airings.{Airing}
-use Rattle.air_model.specs.Air.{Aired, IsAirOf, airings_of, air_bytes}
-use Rattle.carousel_player.specs.Playing.{Playing, AtEnd}
+use Rattle.input_lines.specs.Going.{WereWhole}
+use Rattle.carousel_player.specs.Playing.{Playing}
+use Rattle.mux_config.specs.declared.mux.Mux.{Mux}
+use Rattle.feed_edits.specs.declared.stop.EditStop.{EditStop}
+use Rattle.feed_edits.specs.declared.stop.EditStop.TheVariants as edits
+use Rattle.feed_edits.specs.Ahead.{Ahead, Breaks}
+use Rattle.feed_edits.specs.Ahead as reading
+use Rattle.feed_edits.specs.Reads.{ahead_with}
 use Rattle.desk_core.specs.declared.step.Step.{Step}
-use Rattle.desk_core.specs.declared.step.Step.TheVariants.{Edit as edit, Tick, Publish, Swap}
+use Rattle.desk_core.specs.declared.step.Outcome.{Outcome}
 use Rattle.desk_core.specs.declared.step.Entry.{Entry}
-use Rattle.desk_core.specs.Journal.{Command, journal_after, outcome_of}
-use Rattle.desk_core.specs.Desks.{DeskState, and_entry, on_air_of}
+use Rattle.desk_core.specs.Journal.{Command, journal_after}
+use Rattle.desk_core.specs.Desks.{DeskState}
+use Rattle.journal_text.specs.declared.script.ScriptItem.{ScriptItem}
+use Rattle.journal_text.specs.Outcomes.{IsInWindow}
+use Rattle.journal_text.specs.Script.{items_ahead, kept_first}
+use Rattle.headend_live.specs.OnAir.{HasAired, HasAiredFront, and_step}
 use Rattle.epg_cli.specs.declared.stop.PlayStop.{PlayStop}
-use Rattle.epg_cli.specs.declared.stop.PlayStop.TheVariants.{NoCommand as Refused, Read, Air, Memory}
-use Rattle.epg_cli.specs.Air.{airings, tables_of}
-use Rattle.epg_cli.specs.Script.{Stop, Ended, NoCommand, TooLong}
+use Rattle.epg_cli.specs.declared.stop.PlayStop.TheVariants.{NoMux as Undescribed, NoCommand as Refused, Disagrees, Read, Air, Memory}
+use Rattle.epg_cli.specs.Script.{Stop, Ended, NoCommand, Disagreed, TooLong, Unread, difference, played_items}
 
--- the bytes of one cycle
-abbrev pub cycle_bytes : Aired → List ℕ
-cycle_bytes x = flat_map bytes_of_packet x.packets
+-- ---- one step
 
--- the airing of what is on air at a desk
-abbrev pub airing_on : DeskState → Airing
-airing_on desk = record { tables = tables_of desk.mux (on_air_of desk).guide; moment = (on_air_of desk).moment.0 }
+-- what doing a step leaves of a desk
+abbrev pub StepDid : ℕ → Step → DeskState → DeskState → Result (Unit {0}) PlayStop → Type 0
+StepDid who step old new (Ok u) = new ≡ and_step old who step
+StepDid who step old new (Err Air) = new ≡ and_step old who step
+StepDid who step old new (Err Memory) = Unit {0}
+StepDid who step old new (Err (Undescribed fault)) = ⊥
+StepDid who step old new (Err (Refused n)) = ⊥
+StepDid who step old new (Err (Disagrees n kept found)) = ⊥
+StepDid who step old new (Err (Read stop)) = ⊥
 
--- the player has sent the cycles of the desk's journal
-abbrev pub IsOnAir : DeskState → Playing → Type 0
-IsOnAir desk player = (xs : List Aired) × AtEnd xs player × (airings_of xs ≡ airings desk.mux desk.entries)
-
--- and the air took them, from `before` to `now`
-abbrev pub HasAired : DeskState → Playing → Option (List ℕ) → Option (List ℕ) → Type 0
-HasAired desk player before now = (xs : List Aired) × AtEnd xs player × (airings_of xs ≡ airings desk.mux desk.entries) × Appends before now (air_bytes xs)
-
--- The air took whole cycles for all swaps but the last, which is the last entry, and a proper front of its cycle.
-pub record HasAiredFront (desk : DeskState) (before now : Option (List ℕ)) : Type 0 where
-  pub front : List Entry
-  pub last : Entry
-  pub entries : desk.entries ≡ front ++ last ∷ []
-  pub is_swap : last.step ≡ Swap
-  pub whole : List Aired
-  pub cut : Aired
-  pub is_air : IsAirOf (airings desk.mux desk.entries) (whole ++ cut ∷ [])
-  pub taken : ℕ
-  pub proper : taken < length (cycle_bytes cut)
-  pub bytes : Appends before now (air_bytes whole ++ take taken (cycle_bytes cut))
-
--- what sending the cycle of an airing leaves
-abbrev pub SentCycle : List Aired → Airing → Playing → Option (List ℕ) → Option (List ℕ) → Result (Unit {0}) PlayStop → Type 0
-SentCycle xs a player old new (Ok u) = (x : Aired) × (x.airing ≡ a) × AtEnd (xs ++ x ∷ []) player × Appends old new (cycle_bytes x)
-SentCycle xs a player old new (Err Air) =
-    (x : Aired) × (x.airing ≡ a) × IsAirOf (airings_of (xs ++ x ∷ [])) (xs ++ x ∷ []) × ((n : ℕ) × (n < length (cycle_bytes x)) × Appends old new (take n (cycle_bytes x)))
-SentCycle xs a player old new (Err Memory) = Unit {0}
-SentCycle xs a player old new (Err (Refused n)) = ⊥
-SentCycle xs a player old new (Err (Read stop)) = ⊥
-
-abbrev pub is_swap : Step → Bool
-is_swap Swap = true
-is_swap Publish = false
-is_swap (edit feed e) = false
-is_swap (Tick at) = false
-
--- the desk did a step of caller 0
-abbrev pub did : DeskState → Step → DeskState
-did desk step = and_entry desk 0 step (outcome_of desk.mux desk.entries step)
-
--- what a line that is this step, or none, does to the desk
-abbrev pub LineDid : Option Step → ℕ → DeskState → DeskState → Result (Unit {0}) PlayStop → Type 0
-LineDid found number old new (Ok u) = (step : Step) × (found ≡ Some step) × (new ≡ did old step)
-LineDid found number old new (Err (Refused n)) = (n ≡ number) × (found ≡ None) × (new ≡ old)
-LineDid found number old new (Err Air) = (step : Step) × (found ≡ Some step) × (new ≡ did old step)
-LineDid found number old new (Err Memory) = Unit {0}
-LineDid found number old new (Err (Read stop)) = ⊥
-
--- what is on air once a script is played as far as this
-abbrev pub AiredTo : DeskState → Playing → Option (List ℕ) → Option (List ℕ) → Result (Unit {0}) PlayStop → Type 0
+-- what the air has, once a script is played as far as this
+abbrev pub AiredTo : {T : Type 0} → DeskState → Playing → Option (List ℕ) → Option (List ℕ) → Result T PlayStop → Type 0
 AiredTo desk player before now (Ok u) = HasAired desk player before now
-AiredTo desk player before now (Err (Refused n)) = HasAired desk player before now
-AiredTo desk player before now (Err (Read stop)) = HasAired desk player before now
 AiredTo desk player before now (Err Air) = HasAiredFront desk before now
 AiredTo desk player before now (Err Memory) = Unit {0}
+AiredTo desk player before now (Err (Undescribed fault)) = HasAired desk player before now
+AiredTo desk player before now (Err (Refused n)) = HasAired desk player before now
+AiredTo desk player before now (Err (Disagrees n kept found)) = HasAired desk player before now
+AiredTo desk player before now (Err (Read stop)) = HasAired desk player before now
+
+-- a stop by a failed write has its cause, and one by a failed read
+abbrev pub HasAirCause : {T : Type 0} → ℕ → ℕ → Result T PlayStop → Type 0
+HasAirCause before now (Err Air) = Rose before now
+HasAirCause before now result = Unit {0}
+
+abbrev pub HasReadCause : {T : Type 0} → ℕ → ℕ → Result T PlayStop → Type 0
+HasReadCause before now (Err (Read Failed)) = Rose before now
+HasReadCause before now result = Unit {0}
+
+-- the outcomes of a disagreement can be written
+abbrev pub IsStopInWindow : PlayStop → Type 0
+IsStopInWindow (Disagrees n kept found) = IsInWindow kept × IsInWindow found
+IsStopInWindow stop = Unit {0}
+
+-- the stop of a call that reads
+abbrev pub read_stop : EditStop → PlayStop
+read_stop (edits.NoCommand n) = Refused n
+read_stop (edits.Read stop) = Read stop
+read_stop edits.Memory = Memory
+
+-- ---- the rest of a script
+
+-- what is kept behind an outcome that was made just before, where it is another
+abbrev pub late_difference : Option Outcome → Option (ℕ × Outcome) → Option Stop
+late_difference None kept = None
+late_difference (Some found) kept = difference kept found
+
+-- the stop at a difference, and none where there is none
+abbrev pub IsDifference : Option Stop → Option PlayStop → Type 0
+IsDifference stop None = stop ≡ None
+IsDifference stop (Some (Disagrees n kept found)) = stop ≡ Some (Disagreed n kept found)
+IsDifference stop (Some other) = ⊥
+
+abbrev pub unless_late : Option Stop → List Command × Stop → List Command × Stop
+unless_late (Some stop) played = ([], stop)
+unless_late None played = played
+
+-- Of these items, what is played behind these entries; `made` is the outcome of the last, where it was made just before.
+abbrev pub course_of : Mux → List Entry → Option Outcome → List ScriptItem × reading.Stop → List Command × Stop
+course_of mux before made items = unless_late (late_difference made (kept_first items.0)) (played_items mux before items)
+
+-- the same of what is ahead
+abbrev pub course : Mux → List Entry → Option Outcome → Ahead → List Command × Stop
+course mux before made lines = course_of mux before made (items_ahead (is_some made) lines)
 
 -- the desk after these commands
 abbrev pub desk_after : DeskState → List Command → DeskState
@@ -88,13 +98,23 @@ desk_after desk commands = record { mux = desk.mux; entries = desk.entries ++ jo
 -- what playing the rest of a script does to the desk
 abbrev pub RestDid : List Command × Stop → DeskState → DeskState → Result (Unit {0}) PlayStop → Type 0
 RestDid rest old new (Ok u) = (rest.1 ≡ Ended) × (new ≡ desk_after old rest.0)
+RestDid rest old new (Err (Undescribed fault)) = ⊥
 RestDid rest old new (Err (Refused n)) = (rest.1 ≡ NoCommand n) × (new ≡ desk_after old rest.0)
+RestDid rest old new (Err (Disagrees n kept found)) = (rest.1 ≡ Disagreed n kept found) × (new ≡ desk_after old rest.0)
 RestDid rest old new (Err (Read Overlong)) = (rest.1 ≡ TooLong) × (new ≡ desk_after old rest.0)
-RestDid rest old new (Err (Read Failed)) = (k : ℕ) × (new ≡ desk_after old (take k rest.0))
+RestDid rest old new (Err (Read Failed)) = Unit {0}
 RestDid rest old new (Err Air) = (k : ℕ) × (new ≡ desk_after old (take k rest.0))
 RestDid rest old new (Err Memory) = Unit {0}
 
--- a stop by a failed write has its cause
-abbrev pub HasAirCause : {T : Type 0} → ℕ → ℕ → Result T PlayStop → Type 0
-HasAirCause before now (Err Air) = Rose before now
-HasAirCause before now result = Unit {0}
+-- A read failed: of the lines that were whole in the bytes taken all commands were played.
+pub record PlayedWhole {S : Type 0} (left : S → Option (List ℕ)) (old new : Reading S) (desk after : DeskState) : Type 0 where
+  pub lines : List (List ℕ)
+  pub whole : WereWhole left old new lines
+  pub unended : old.ended ≡ false
+  pub stop : (course desk.mux desk.entries None (ahead_with old lines Breaks)).1 ≡ Unread
+  pub did : after ≡ desk_after desk (course desk.mux desk.entries None (ahead_with old lines Breaks)).0
+
+-- what playing the rest of a script tells of the bytes that the source gave
+abbrev pub RestTaken : {S : Type 0} → (S → Option (List ℕ)) → Reading S → Reading S → DeskState → DeskState → Result (Unit {0}) PlayStop → Type 0
+RestTaken left old new desk after (Err (Read Failed)) = PlayedWhole left old new desk after
+RestTaken left old new desk after result = Unit {0}

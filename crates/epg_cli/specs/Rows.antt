@@ -1,36 +1,57 @@
--- The first worked example, from the text to the commands.
-use Rattle.std.specs.Prelude.{◌≡◌, ℕ, List, [], ◌++◌, Some, refl, codes}
-use Rattle.si_causes.specs.Lines.{raw_lines}
-use Rattle.si_causes.specs.Text.{AtEnd, PastLimit}
+-- Worked scripts.
+use Rattle.std.specs.Prelude.{◌≡◌, List, ℕ, [], ◌∷◌, ◌++◌, Some, None, refl, codes}
+use Rattle.input_lines.specs.Fields.{fields_compute}
+use Rattle.mux_config.specs.declared.fault.Word.TheVariants as word
+use Rattle.mux_config.specs.declared.fault.MuxFault.TheVariants.{Line, Twice, Missing}
+use Rattle.feed_edits.specs.declared.edit.Edit.TheVariants.{Name}
+use Rattle.feed_edits.specs.Heads.{edit_head}
+use Rattle.desk_core.specs.declared.step.Outcome.TheVariants.{Published}
+use Rattle.desk_core.specs.declared.step.Step.TheVariants.{Edit as edit, Publish, Swap}
+use Rattle.desk_core.specs.Controls.{control_of}
 use Rattle.desk_core.specs.Rows.{row_mux, row_commands}
-use Rattle.epg_cli.specs.Script.{script_of, Ended, NoCommand, TooLong, no_mux}
+use Rattle.journal_text.specs.Kept.{outcome_of_fields, reply_of}
+use Rattle.journal_text.specs.Script.{items_ahead}
+use Rattle.epg_cli.specs.Script.{Script, Ended, NoMux, NoCommand, Disagreed, Unread, no_mux, script_in, script_taken}
 
 abbrev pub row_block : List ℕ
 row_block = codes "network,40,Demo\nstream,1,1\nservice,101,1,1,256,257,Acme,One\nend\n"
 
-row_script : script_of (raw_lines (row_block ++ codes "feed,1,name,101,Acme,News\npublish\nswap\n"), AtEnd) ≡ record { mux = Some row_mux; commands = row_commands; stop = Ended }
+row_script : script_in (row_block ++ codes "feed,1,name,101,Acme,News\npublish\nswap\n") ≡ record { mux = Some row_mux; commands = row_commands; stop = Ended }
+unfolding items_ahead fields_compute control_of edit_head
 row_script = refl
 
--- a line that is no command stops the script
-row_swop : (script_of (raw_lines (row_block ++ codes "feed,1,name,101,Acme,News\npublish\nswop\n"), AtEnd)).stop ≡ NoCommand 7
+-- a line that is no command
+row_swop : script_in (row_block ++ codes "feed,1,name,101,Acme,News\npublish\nswop\n") ≡ record { mux = Some row_mux; commands = (0, edit 1 (Name 101 (codes "Acme") (codes "News"))) ∷ (0, Publish) ∷ []; stop = NoCommand 7 }
+unfolding items_ahead fields_compute control_of edit_head
 row_swop = refl
 
--- an input that ends before its multiplex does
-row_short : script_of (raw_lines (codes "network,40,Demo\nstream,1,1\n"), AtEnd) ≡ no_mux (NoCommand 3)
+-- a kept outcome is compared as a value; a step behind one that differs is not played
+row_kept : script_in (row_block ++ codes "publish\n=,published,001\n3,publish\n=,published,1\nswap\n")
+    ≡ record { mux = Some row_mux; commands = (0, Publish) ∷ (3, Publish) ∷ []; stop = Disagreed 8 (Published 1) (Published 2) }
+unfolding items_ahead fields_compute control_of outcome_of_fields reply_of
+row_kept = refl
+
+-- what was whole when a read failed
+row_taken : script_taken (row_block ++ codes "publish\n=,published,1\n\nswap\nswa") ≡ record { mux = Some row_mux; commands = (0, Publish) ∷ (0, Swap) ∷ []; stop = Unread }
+unfolding items_ahead fields_compute control_of outcome_of_fields reply_of
+row_taken = refl
+
+row_short : script_taken (codes "network,40,Demo\nstream,1,1\nservice") ≡ no_mux Unread
+unfolding fields_compute
 row_short = refl
 
-row_empty : script_of ([], AtEnd) ≡ no_mux (NoCommand 1)
+-- faults of the description
+row_lacks : script_in (codes "network,40,Demo\nservice,101,1,1,256,257,Acme,One\nend\n") ≡ no_mux (NoMux (Missing word.Stream))
+unfolding fields_compute
+row_lacks = refl
+
+row_repeats : script_in (codes "network,40,Demo\nstream,1,1\nservice,101,1,1,256,257,Acme,One\nservice,101,1,1,256,257,Acme,One\nend\n") ≡ no_mux (NoMux (Twice 4 3))
+unfolding fields_compute
+row_repeats = refl
+
+row_unreadable : script_in (codes "network,40\n") ≡ no_mux (NoMux (Line 1))
+unfolding fields_compute
+row_unreadable = refl
+
+row_empty : script_in [] ≡ no_mux (NoMux (Missing word.End))
 row_empty = refl
-
-row_too_long : script_of (raw_lines (codes "network,40,Demo\n"), PastLimit) ≡ no_mux TooLong
-row_too_long = refl
-
--- ranges, numerals and the plain set
-row_feed_out : script_of (raw_lines (codes "network,40,Demo\nstream,1,1\nservice,101,17,1,256,257,Acme,One\nend\n"), AtEnd) ≡ no_mux (NoCommand 3)
-row_feed_out = refl
-
-row_ten_digits : script_of (raw_lines (codes "network,0000000040,Demo\n"), AtEnd) ≡ no_mux (NoCommand 1)
-row_ten_digits = refl
-
-row_quote : script_of (raw_lines (codes "network,40,\"Demo\"\n"), AtEnd) ≡ no_mux (NoCommand 1)
-row_quote = refl

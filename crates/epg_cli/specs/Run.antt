@@ -3,25 +3,29 @@ use Rattle.std.specs.Prelude.{◌≡◌, ◌⊎◌, ℕ, ◌<◌, Bool, false, L
 use Rattle.std.specs.Io.KnownBytes.{Appends}
 use Rattle.si_causes.specs.Causes.{Rose, AppendsFront}
 use Rattle.si_causes.specs.declared.stop.ReadStop.TheVariants.{Failed, TooLong as Overlong}
+use Rattle.input_lines.specs.Numbers.{is_word}
+use Rattle.mux_config.specs.declared.mux.Mux.{Mux}
+use Rattle.mux_config.specs.declared.stop.MuxStop.{MuxStop}
+use Rattle.mux_config.specs.declared.stop.MuxStop.TheVariants as mux
 use Rattle.version_book.specs.Airings.{Airing}
 use Rattle.air_model.specs.Air.{Aired, IsAirOf, air_bytes}
-use Rattle.mux_config.specs.declared.mux.Mux.{Mux}
 use Rattle.desk_core.specs.declared.step.Step.TheVariants.{Swap}
 use Rattle.desk_core.specs.declared.step.Entry.{Entry}
 use Rattle.desk_core.specs.Journal.{Command, journal_of}
 use Rattle.desk_core.specs.Desks.{DeskState}
+use Rattle.journal_text.specs.Outcomes.{outcome_text}
+use Rattle.journal_text.specs.Entries.{journal_text}
+use Rattle.headend_live.specs.Air.{airings}
+use Rattle.headend_live.specs.OnAir.{cycle_bytes}
 use Rattle.epg_cli.specs.declared.stop.PlayStop.{PlayStop}
-use Rattle.epg_cli.specs.declared.stop.PlayStop.TheVariants.{NoCommand as Refused, Read, Air as OnAir, Memory as NoMemory}
+use Rattle.epg_cli.specs.declared.stop.PlayStop.TheVariants.{NoMux as Undescribed, NoCommand as Refused, Disagrees as Differs, Read, Air as OnAir, Memory as NoMemory}
 use Rattle.epg_cli.specs.declared.status.Status.{Status}
-use Rattle.epg_cli.specs.declared.status.Status.TheVariants.{Done, BadScript, TooLong as PastLimit, ReadFault, WriteFault, Memory}
+use Rattle.epg_cli.specs.declared.status.Status.TheVariants.{Done, BadScript, Disagrees, BadMux, TooLong as PastLimit, ReadFault, WriteFault, Memory}
 use Rattle.epg_cli.specs.declared.status.Origin.TheVariants.{Input}
 use Rattle.epg_cli.specs.declared.status.Outlet.TheVariants.{Air, Report}
-use Rattle.epg_cli.specs.Air.{airings}
-use Rattle.epg_cli.specs.Fields.{is_word}
-use Rattle.epg_cli.specs.Played.{cycle_bytes}
-use Rattle.epg_cli.specs.Script.{Script, Ended, NoCommand, TooLong}
-use Rattle.journal_text.specs.Entries.{journal_text}
-use Rattle.epg_cli.specs.Texts.{fault_line}
+use Rattle.epg_cli.specs.Played.{IsStopInWindow}
+use Rattle.epg_cli.specs.Script.{Script, Stop, Ended, NoMux, NoCommand, Disagreed, TooLong, Unread, script_in, script_taken}
+use Rattle.epg_cli.specs.Texts.{fault_line, mux_fault_text}
 
 -- What a sink told before and after a call: the bytes that it took, and the count of its faults.
 pub record Told : Type 0 where
@@ -77,7 +81,9 @@ Reported report text = Appends report.old report.new text ⊎ (Rose report.fault
 
 -- what the line of a stop says
 abbrev pub stop_text : PlayStop → List ℕ
+stop_text (Undescribed fault) = mux_fault_text fault
 stop_text (Refused n) = codes "input line " ++ decimal n ++ codes " is no command"
+stop_text (Differs n kept found) = codes "input line " ++ decimal n ++ codes " kept " ++ outcome_text kept ++ codes " found " ++ outcome_text found
 stop_text (Read Overlong) = codes "input too long"
 stop_text (Read Failed) = codes "input not read"
 stop_text OnAir = codes "air not written"
@@ -90,7 +96,9 @@ ending_text (Some stop) = fault_line (stop_text stop)
 
 -- the status of a stop
 abbrev pub status_for : PlayStop → Status
+status_for (Undescribed fault) = BadMux fault
 status_for (Refused n) = BadScript n
+status_for (Differs n kept found) = Disagrees n kept found
 status_for (Read Overlong) = PastLimit Input
 status_for (Read Failed) = ReadFault Input
 status_for OnAir = WriteFault Air
@@ -105,15 +113,19 @@ pub record LeavesDone (script : Script) (air report : Told) : Type 0 where
   pub report_is : Appends report.old report.new (journal_text (whole_journal script))
 
 -- with a fault behind all commands of the script: the air is that of their journal, and the report is the journal and the fault line
-pub record LeavesAll (script : Script) (fault : List ℕ) (air report : Told) : Type 0 where
+pub record LeavesAll (script : Script) (stop : Stop) (fault : List ℕ) (air report : Told) : Type 0 where
+  pub stopped : script.stop ≡ stop
   pub air_is : IsAired script (whole_journal script) air
   pub report_is : Reported report (journal_text (whole_journal script) ++ fault_line fault)
 
--- with a fault behind the first k commands of the script
-pub record LeavesFirst (script : Script) (fault : List ℕ) (air report : Told) : Type 0 where
-  pub k : ℕ
-  pub air_is : IsAired script (first_journal k script) air
-  pub report_is : Reported report (journal_text (first_journal k script) ++ fault_line fault)
+-- With a failed read: these bytes were taken from the input, and the others are left. The commands are exactly those whose lines all
+-- ended in the bytes taken.
+pub record LeavesUnread (text : List ℕ) (left : Option (List ℕ)) (air report : Told) : Type 0 where
+  pub taken : List ℕ
+  pub behind : List ℕ
+  pub text_is : text ≡ taken ++ behind
+  pub left_is : left ≡ Some behind
+  pub leaves : LeavesAll (script_taken taken) Unread (stop_text (Read Failed)) air report
 
 -- with a fault in the cycle of the last of the first k commands
 pub record LeavesCut (script : Script) (fault : List ℕ) (air report : Told) : Type 0 where
@@ -127,21 +139,25 @@ pub record LeavesUnreported (script : Script) (air report : Told) : Type 0 where
   pub air_is : IsAired script (whole_journal script) air
   pub report_is : AppendsFront report.old report.new (journal_text (whole_journal script))
 
--- What a run of `play` leaves with each status, for a script. No other status comes.
-abbrev pub Leaves : Script → Told → Told → Status → Type 0
-Leaves script air report Done = LeavesDone script air report
-Leaves script air report (BadScript n) = (script.stop ≡ NoCommand n) × LeavesAll script (stop_text (Refused n)) air report
-Leaves script air report (PastLimit Input) = (script.stop ≡ TooLong) × LeavesAll script (stop_text (Read Overlong)) air report
-Leaves script air report (ReadFault Input) = LeavesFirst script (stop_text (Read Failed)) air report
-Leaves script air report (WriteFault Air) = LeavesCut script (stop_text OnAir) air report
-Leaves script air report (WriteFault Report) = LeavesUnreported script air report
-Leaves script air report Memory = Unit {0}
-Leaves script air report status = ⊥
+-- What a run of `play` leaves with each status, of a text, and of what is left of it. No other status comes.
+abbrev pub Leaves : List ℕ → Option (List ℕ) → Told → Told → Status → Type 0
+Leaves text left air report Done = LeavesDone (script_in text) air report
+Leaves text left air report (BadMux fault) = LeavesAll (script_in text) (NoMux fault) (stop_text (Undescribed fault)) air report
+Leaves text left air report (BadScript n) = LeavesAll (script_in text) (NoCommand n) (stop_text (Refused n)) air report
+Leaves text left air report (Disagrees n kept found) = LeavesAll (script_in text) (Disagreed n kept found) (stop_text (Differs n kept found)) air report
+Leaves text left air report (PastLimit Input) = LeavesAll (script_in text) TooLong (stop_text (Read Overlong)) air report
+Leaves text left air report (ReadFault Input) = LeavesUnread text left air report
+Leaves text left air report (WriteFault Air) = LeavesCut (script_in text) (stop_text OnAir) air report
+Leaves text left air report (WriteFault Report) = LeavesUnreported (script_in text) air report
+Leaves text left air report Memory = Unit {0}
+Leaves text left air report status = ⊥
 
 -- the statuses of `play`
 abbrev pub IsOfPlay : Status → Type 0
 IsOfPlay Done = Unit {0}
+IsOfPlay (BadMux fault) = Unit {0}
 IsOfPlay (BadScript n) = Unit {0}
+IsOfPlay (Disagrees n kept found) = Unit {0}
 IsOfPlay (PastLimit Input) = Unit {0}
 IsOfPlay (ReadFault Input) = Unit {0}
 IsOfPlay (WriteFault outlet) = Unit {0}
@@ -149,12 +165,14 @@ IsOfPlay Memory = Unit {0}
 IsOfPlay status = ⊥
 
 -- What a run answers where neither the input nor a sink fails: the stop of the script decides, but for want of memory.
-abbrev pub Completes : Script → Status → Type 0
-Completes script Done = script.stop ≡ Ended
-Completes script (BadScript n) = script.stop ≡ NoCommand n
-Completes script (PastLimit Input) = script.stop ≡ TooLong
-Completes script Memory = Unit {0}
-Completes script status = ⊥
+abbrev pub Completes : Stop → Status → Type 0
+Completes stop Done = stop ≡ Ended
+Completes stop (BadMux fault) = stop ≡ NoMux fault
+Completes stop (BadScript n) = stop ≡ NoCommand n
+Completes stop (Disagrees n kept found) = stop ≡ Disagreed n kept found
+Completes stop (PastLimit Input) = stop ≡ TooLong
+Completes stop Memory = Unit {0}
+Completes stop status = ⊥
 
 -- whether the words are the one word `play`
 abbrev pub are_play : List (List ℕ) → Bool
@@ -176,14 +194,41 @@ abbrev pub HasAirStopCause : ℕ → ℕ → Option PlayStop → Type 0
 HasAirStopCause before now (Some OnAir) = Rose before now
 HasAirStopCause before now stop = Unit {0}
 
--- what was played, and why it was not played on
-abbrev pub HasPlayed : Script → Told → Option DeskState → Option PlayStop → Type 0
-HasPlayed script air desk None = (script.stop ≡ Ended) × IsAired script (whole_journal script) air × (entries_of desk ≡ whole_journal script)
-HasPlayed script air desk (Some (Refused n)) = (script.stop ≡ NoCommand n) × IsAired script (whole_journal script) air × (entries_of desk ≡ whole_journal script)
-HasPlayed script air desk (Some (Read Overlong)) = (script.stop ≡ TooLong) × IsAired script (whole_journal script) air × (entries_of desk ≡ whole_journal script)
-HasPlayed script air desk (Some (Read Failed)) = (k : ℕ) × IsAired script (first_journal k script) air × (entries_of desk ≡ first_journal k script)
-HasPlayed script air desk (Some OnAir) = (k : ℕ) × IsAiredFront script (first_journal k script) air × (entries_of desk ≡ first_journal k script)
-HasPlayed script air desk (Some NoMemory) = Unit {0}
+-- the stop of a call that reads the description
+abbrev pub mux_stop : MuxStop → PlayStop
+mux_stop (mux.Fault fault) = Undescribed fault
+mux_stop (mux.Read stop) = Read stop
+mux_stop mux.Memory = NoMemory
+
+-- the outcomes that the line of a stop tells can be written
+abbrev pub CanBeTold : Option PlayStop → Type 0
+CanBeTold None = Unit {0}
+CanBeTold (Some stop) = IsStopInWindow stop
+
+-- all commands of the script were played
+pub record HasPlayedAll (script : Script) (stop : Stop) (air : Told) (desk : Option DeskState) : Type 0 where
+  pub stopped : script.stop ≡ stop
+  pub air_is : IsAired script (whole_journal script) air
+  pub journal : entries_of desk ≡ whole_journal script
+
+-- and then a read failed
+pub record HasPlayedTaken (text : List ℕ) (left : Option (List ℕ)) (air : Told) (desk : Option DeskState) : Type 0 where
+  pub taken : List ℕ
+  pub behind : List ℕ
+  pub text_is : text ≡ taken ++ behind
+  pub left_is : left ≡ Some behind
+  pub all : HasPlayedAll (script_taken taken) Unread air desk
+
+-- what was played of a text, and why it was not played on
+abbrev pub HasPlayed : List ℕ → Option (List ℕ) → Told → Option DeskState → Option PlayStop → Type 0
+HasPlayed text left air desk None = HasPlayedAll (script_in text) Ended air desk
+HasPlayed text left air desk (Some (Undescribed fault)) = HasPlayedAll (script_in text) (NoMux fault) air desk
+HasPlayed text left air desk (Some (Refused n)) = HasPlayedAll (script_in text) (NoCommand n) air desk
+HasPlayed text left air desk (Some (Differs n kept found)) = HasPlayedAll (script_in text) (Disagreed n kept found) air desk
+HasPlayed text left air desk (Some (Read Overlong)) = HasPlayedAll (script_in text) TooLong air desk
+HasPlayed text left air desk (Some (Read Failed)) = HasPlayedTaken text left air desk
+HasPlayed text left air desk (Some OnAir) = (k : ℕ) × IsAiredFront (script_in text) (first_journal k (script_in text)) air × (entries_of desk ≡ first_journal k (script_in text))
+HasPlayed text left air desk (Some NoMemory) = Unit {0}
 
 -- how the report of what was played ends
 abbrev pub FinishedBy : Option PlayStop → List Entry → Told → Status → Type 0

@@ -1,44 +1,24 @@
 // The commands of a script, done one after the other.
-ghost use Rattle.std.specs.Prelude.{◌≡◌, ◌+◌, ◌≤◌, [], List, ℕ, Option, None, Some, OnOk, length};
-ghost use Rattle.air_model.specs.Air.{Aired};
-ghost use Rattle.carousel_player.specs.Playing.{AtEnd};
-ghost use Rattle.epg_cli.specs.Fields.{readable_fields};
+ghost use Rattle.std.specs.Prelude.{◌≡◌, ◌≤◌, ◌++◌, ◌∷◌, [], List, ℕ, Option, None, Some, IfErr, IfSome, OnOk};
 ghost use Rattle.std.specs.Io.KnownBytes.{IsAtEnd};
 ghost use Rattle.si_causes.specs.Reading.{text_left};
-ghost use Rattle.epg_cli.specs.Reads.{lines_of, HasReadCause};
-ghost use Rattle.epg_cli.specs.Script.{step_of, commands_of};
-ghost use Rattle.epg_cli.specs.Played.{SentCycle, LineDid, AiredTo, HasAired, IsOnAir, HasAirCause, airing_on, is_swap, RestDid};
+ghost use Rattle.feed_edits.specs.Ahead.{ahead};
+ghost use Rattle.desk_core.specs.declared.step.Entry.{Entry as AnEntry};
 ghost use Rattle.desk_core.specs.Journal.{Legal};
+ghost use Rattle.desk_core.specs.Steps.{IsStepWithin};
+ghost use Rattle.journal_text.specs.Outcomes.{IsInWindow};
+ghost use Rattle.headend_live.specs.OnAir.{HasAired, IsOnAir, is_swap};
+ghost use Rattle.epg_cli.specs.Outcomes.{is_outcome};
+ghost use Rattle.epg_cli.specs.Played.{AiredTo, HasAirCause, HasReadCause, IsDifference, IsStopInWindow, RestDid, RestTaken, StepDid, course, late_difference, read_stop};
 
-use crate::lines::step_line;
-use crate::sdt::sub_tables;
 use crate::stop::PlayStop;
 use carousel_player::Player;
-use desk_core::{Desk, Step};
+use desk_core::{Desk, Outcome, Step};
+use feed_edits::EditStop;
+use headend_live::{SendStop, send_cycle};
+use journal_text::{ScriptItem, next_item};
 use si_causes::{LineReader, Sink, Source};
 use std::alloc::Global;
-
-// Sends the cycle of what is on air.
-fn send<A: Sink>(
-    alloc: Global,
-    desk: &Desk,
-    player: &mut Player,
-    air: &mut A,
-) -> Result<(), PlayStop>
-    requires at_end { player.old.left ≡ [] }
-    requires one_service { length desk.now.mux.services ≡ 1 }
-    ensures sent { (xs : List Aired) → AtEnd xs player.old → SentCycle xs (airing_on desk.now) player.new (A.written air.old) (A.written air.new) result }
-    ensures cause { HasAirCause (A.faults air.old) (A.faults air.new) result }
-    ensures later { A.faults air.old ≤ A.faults air.new }
-{
-    let airing = desk.on_air()?;
-    let tables = sub_tables(alloc, desk.mux(), &airing.guide)?;
-    player.swap(tables, airing.number, airing.moment)?;
-    match player.play_cycle(air) {
-        Ok(()) => Ok(()),
-        Err(_) => Err(PlayStop::Air),
-    }
-}
 
 fn swaps(step: &Step) -> bool
     ensures { result ≡ is_swap step.now }
@@ -46,39 +26,79 @@ fn swaps(step: &Step) -> bool
     matches!(step, Step::Swap)
 }
 
-// Does the command of a line, which has this number.
-fn play_line<A: Sink>(
+// Does a step for a caller; a swap sends its cycle.
+fn do_step<A: Sink>(
     alloc: Global,
     desk: &mut Desk,
     player: &mut Player,
     air: &mut A,
-    line: &[u8],
-    number: u64,
+    who: u32,
+    step: Step,
 ) -> Result<(), PlayStop>
+    requires within { IsStepWithin step }
     requires on_air { IsOnAir desk.old player.old }
     requires legal { Legal desk.old.mux desk.old.entries }
-    requires one_service { length desk.old.mux.services ≡ 1 }
-    ensures did { LineDid (step_of (readable_fields line.now)) number desk.old desk.new result }
+    ensures did { StepDid who step desk.old desk.new result }
     ensures aired { (before : Option (List ℕ)) → HasAired desk.old player.old before (A.written air.old) → AiredTo desk.new player.new before (A.written air.new) result }
     ensures on_air { OnOk result (IsOnAir desk.new player.new) }
     ensures legal { OnOk result (Legal desk.new.mux desk.new.entries) }
-    ensures mux { OnOk result (desk.new.mux ≡ desk.old.mux) }
     ensures cause { HasAirCause (A.faults air.old) (A.faults air.new) result }
     ensures later { A.faults air.old ≤ A.faults air.new }
 {
-    let Some(step) = step_line(alloc, line)? else {
-        return Err(PlayStop::NoCommand(number));
-    };
     let is_swap = swaps(&step);
-    desk.step(0, step)?;
-    if is_swap {
-        return send(alloc, desk, player, air);
+    desk.step(who, step)?;
+    if !is_swap {
+        return Ok(());
     }
-    Ok(())
+    match send_cycle(alloc, desk, player, air) {
+        Ok(()) => Ok(()),
+        Err(SendStop::Air) => Err(PlayStop::Air),
+        Err(SendStop::Memory) => Err(PlayStop::Memory),
+    }
 }
 
-/// Does the commands of all lines that are left, up to the first that is none; each swap sends its cycle before the next
-/// line is read.
+// The outcome of the desk's last entry. It can be written.
+fn last_outcome(desk: &Desk) -> Option<Outcome>
+    ensures value { (front : List AnEntry) (last : AnEntry) → desk.now.entries ≡ front ++ last ∷ [] → result ≡ Some last.outcome }
+    ensures window { IfSome result IsInWindow }
+{
+    let _ = desk.mux();
+    let last = desk.entries().last()?;
+    Some(last.outcome)
+}
+
+fn agree(kept: Outcome, found: Outcome) -> bool
+    ensures { result ≡ is_outcome kept found }
+{
+    kept == found
+}
+
+// The stop at outcome line `number`, where it keeps another outcome than the one that was made just before.
+fn disagreement(made: Option<Outcome>, number: u64, kept: Outcome) -> Option<PlayStop>
+    requires kept { IsInWindow kept }
+    requires made { IfSome made IsInWindow }
+    ensures stop { IsDifference (late_difference made (Some (number, kept))) result }
+    ensures window { IfSome result IsStopInWindow }
+{
+    let found = made?;
+    if agree(kept, found) {
+        return None;
+    }
+    Some(PlayStop::Disagrees(number, kept, found))
+}
+
+fn stop_of(stop: EditStop) -> PlayStop
+    ensures { result ≡ read_stop stop }
+{
+    match stop {
+        EditStop::NoCommand(number) => PlayStop::NoCommand(number),
+        EditStop::Read(stop) => PlayStop::Read(stop),
+        EditStop::Memory => PlayStop::Memory,
+    }
+}
+
+/// Does the commands that are left, up to the first line that is none, or that keeps another outcome than the desk's; each swap
+/// sends its cycle before the next line is read.
 pub(crate) fn play_rest<S: Source, A: Sink>(
     alloc: Global,
     lines: &mut LineReader<S>,
@@ -89,9 +109,10 @@ pub(crate) fn play_rest<S: Source, A: Sink>(
     requires going { lines.old.stop ≡ None }
     requires on_air { IsOnAir desk.old player.old }
     requires legal { Legal desk.old.mux desk.old.entries }
-    requires one_service { length desk.old.mux.services ≡ 1 }
-    ensures did { (text : List ℕ) → text_left S.left lines.old ≡ Some text → RestDid (commands_of (lines.old.number + 1) (lines_of lines.old text)) desk.old desk.new result }
+    ensures did { (text : List ℕ) → text_left S.left lines.old ≡ Some text → RestDid (course desk.old.mux desk.old.entries None (ahead lines.old text)) desk.old desk.new result }
+    ensures taken { RestTaken S.left lines.old lines.new desk.old desk.new result }
     ensures aired { (before : Option (List ℕ)) → HasAired desk.old player.old before (A.written air.old) → AiredTo desk.new player.new before (A.written air.new) result }
+    ensures window { IfErr result IsStopInWindow }
     ensures end { OnOk result (IsAtEnd (S.left lines.new.source)) }
     ensures read_cause { HasReadCause (S.faults lines.old.source) (S.faults lines.new.source) result }
     ensures air_cause { HasAirCause (A.faults air.old) (A.faults air.new) result }
@@ -99,15 +120,23 @@ pub(crate) fn play_rest<S: Source, A: Sink>(
     ensures air_later { A.faults air.old ≤ A.faults air.new }
     ensures same { S.same lines.old.source lines.new.source }
 {
-    'lines: loop {
-        match lines.next() {
-            Ok(Some(number)) => {
-                if let Err(stop) = play_line(alloc, desk, player, air, lines.line(), number) {
+    let mut made = None;
+    'items: loop {
+        match next_item(alloc, lines, made.is_some()) {
+            Ok(ScriptItem::Step(who, step)) => {
+                if let Err(stop) = do_step(alloc, desk, player, air, who, step) {
                     return Err(stop);
                 }
+                made = last_outcome(desk);
             }
-            Ok(None) => return Ok(()),
-            Err(stop) => return Err(PlayStop::Read(stop)),
+            Ok(ScriptItem::Kept(number, kept)) => {
+                if let Some(stop) = disagreement(made, number, kept) {
+                    return Err(stop);
+                }
+                made = None;
+            }
+            Ok(ScriptItem::End) => return Ok(()),
+            Err(stop) => return Err(stop_of(stop)),
         }
     }
 }

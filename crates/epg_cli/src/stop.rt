@@ -2,13 +2,18 @@
 ghost use Rattle.std.specs.Prelude.{◌≡◌};
 ghost use Rattle.epg_cli.specs.declared.stop.PlayStop.TheVariants.{Memory};
 
+use desk_core::Outcome;
+use mux_config::MuxFault;
 use si_causes::ReadStop;
 use std::alloc::AllocError;
 
-/// Why a script is not played on: a line that is no command there, the input, the air, or want of memory.
+/// Why a script is not played on: the description of the multiplex has a fault; a line that is no command there; an outcome line
+/// that keeps another outcome (the first) than the desk's; the input; the air; or want of memory.
 #[derive(Debug, Clone, Copy, PartialEq, Eq)]
 pub(crate) enum PlayStop {
+    NoMux(MuxFault),
     NoCommand(u64),
+    Disagrees(u64, Outcome, Outcome),
     Read(ReadStop),
     Air,
     Memory,

@@ -2,18 +2,15 @@
 ghost use Rattle.std.specs.Prelude.{◌≡◌, ◌≤◌, ◌↔◌, ◌⊎◌, List, ℕ, Option, None, Some, true, false, map, string_bytes, codes};
 ghost use Rattle.std.specs.Io.KnownBytes.{IsAtEnd};
 ghost use Rattle.si_causes.specs.Causes.{Rose};
-ghost use Rattle.si_causes.specs.Reading.{text_left};
+ghost use Rattle.si_causes.specs.Reading.{fresh};
 ghost use Rattle.epg_cli.specs.declared.status.Origin.{Origin as AnOrigin};
 ghost use Rattle.epg_cli.specs.Texts.{fault_line};
-ghost use Rattle.epg_cli.specs.Script.{script_in, script_of};
-ghost use Rattle.epg_cli.specs.Reads.{lines_of};
+ghost use Rattle.epg_cli.specs.Script.{Ended, script_in};
 ghost use Rattle.packet_reader.specs.Recordings.{recording};
 ghost use Rattle.epg_cli.specs.Listen.{LeavesHeard, IsOfListen, HearsThrough, are_listen};
-ghost use Rattle.epg_cli.specs.Run.{Leaves, IsOfPlay, Completes, Reported, HasPlayed, are_play, told, HasStopCause, HasAirStopCause};
+ghost use Rattle.epg_cli.specs.Run.{Leaves, IsOfPlay, Completes, Reported, HasPlayed, CanBeTold, mux_stop, are_play, told, HasStopCause, HasAirStopCause};
 
-use crate::block::read_block;
 use crate::ending::{Played, finish, out_of_memory};
-use crate::fields::is;
 use crate::listen::{end_report, hear_all};
 use crate::play::play_rest;
 use crate::status::{Origin, Outlet, Status};
@@ -21,6 +18,8 @@ use crate::stop::PlayStop;
 use carousel_player::Player;
 use desk_core::Desk;
 use guide_receiver::Receiver;
+use input_lines::is_word;
+use mux_config::{MuxStop, read_mux};
 use packet_reader::PacketReader;
 use si_causes::{Gate, LineReader, Opener, Sink, Source, write_all};
 use std::alloc::Global;
@@ -28,23 +27,34 @@ use std::marker::{Send, Sync};
 use std::sync::Wait;
 use std::thread::Threads;
 
+// Why the description of the multiplex was not read.
+fn stop_of(stop: MuxStop) -> PlayStop
+    ensures { result ≡ mux_stop stop }
+{
+    match stop {
+        MuxStop::Fault(fault) => PlayStop::NoMux(fault),
+        MuxStop::Read(stop) => PlayStop::Read(stop),
+        MuxStop::Memory => PlayStop::Memory,
+    }
+}
+
 // Reads the description of the multiplex, and then does the commands behind it.
 fn play<S: Source, A: Sink>(alloc: Global, lines: &mut LineReader<S>, air: &mut A) -> Played
-    requires going { lines.old.stop ≡ None }
-    requires number { lines.old.number ≡ 0 }
-    ensures played { (text : List ℕ) → text_left S.left lines.old ≡ Some text
-        → HasPlayed (script_of (lines_of lines.old text)) (told A.written A.faults air.old air.new) result.desk result.stop }
+    requires unread { lines.old ≡ fresh lines.old.source }
+    ensures played { (text : List ℕ) → S.left lines.old.source ≡ Some text
+        → HasPlayed text (S.left lines.new.source) (told A.written A.faults air.old air.new) result.desk result.stop }
+    ensures window { CanBeTold result.stop }
     ensures end { result.stop ≡ None → IsAtEnd (S.left lines.new.source) }
     ensures read_cause { HasStopCause (S.faults lines.old.source) (S.faults lines.new.source) result.stop }
     ensures air_cause { HasAirStopCause (A.faults air.old) (A.faults air.new) result.stop }
     ensures same { S.same lines.old.source lines.new.source }
 {
-    let mux = match read_block(alloc, lines) {
+    let mux = match read_mux(alloc, lines) {
         Ok(mux) => mux,
         Err(stop) => {
             return Played {
                 desk: None,
-                stop: Some(stop),
+                stop: Some(stop_of(stop)),
             };
         }
     };
@@ -71,7 +81,7 @@ fn play_through<S: Source, A: Sink, R: Sink>(
     report: &mut R,
 ) -> Status
     ensures leaves { (text : List ℕ) → S.left input.old ≡ Some text
-        → Leaves (script_in text) (told A.written A.faults air.old air.new) (told R.written R.faults report.old report.new) result }
+        → Leaves text (S.left input.new) (told A.written A.faults air.old air.new) (told R.written R.faults report.old report.new) result }
     ensures status { IsOfPlay result }
     ensures end { result ≡ Status.Done → IsAtEnd (S.left input.new) }
     ensures input { result ≡ Status.ReadFault Origin.Input → Rose (S.faults input.old) (S.faults input.new) }
@@ -95,10 +105,13 @@ pub fn run_play<S: Source, A: Sink, R: Sink>(
     report: &mut R,
 ) -> Status
     ensures leaves { (text : List ℕ) → S.left input.old ≡ Some text
-        → Leaves (script_in text) (told A.written A.faults air.old air.new) (told R.written R.faults report.old report.new) result }
+        → Leaves text (S.left input.new) (told A.written A.faults air.old air.new) (told R.written R.faults report.old report.new) result }
     // Where neither the input nor a sink fails, the script decides the status, but for want of memory.
     ensures completes { (text : List ℕ) → S.left input.old ≡ Some text → ¬ (Rose (S.faults input.old) (S.faults input.new))
-        → ¬ (Rose (A.faults air.old) (A.faults air.new)) → ¬ (Rose (R.faults report.old) (R.faults report.new)) → Completes (script_in text) result }
+        → ¬ (Rose (A.faults air.old) (A.faults air.new)) → ¬ (Rose (R.faults report.old) (R.faults report.new)) → Completes (script_in text).stop result }
+    // And so a script that is whole is played to its end.
+    ensures whole { (text : List ℕ) → S.left input.old ≡ Some text → (script_in text).stop ≡ Ended → ¬ (Rose (S.faults input.old) (S.faults input.new))
+        → ¬ (Rose (A.faults air.old) (A.faults air.new)) → ¬ (Rose (R.faults report.old) (R.faults report.new)) → (result ≡ Status.Done) ⊎ (result ≡ Status.Memory) }
     ensures status { IsOfPlay result }
     ensures end { result ≡ Status.Done → IsAtEnd (S.left input.new) }
     ensures input { result ≡ Status.ReadFault Origin.Input → Rose (S.faults input.old) (S.faults input.new) }
@@ -148,7 +161,7 @@ fn is_listen(words: &[String]) -> bool
     ensures { result ≡ are_listen (map string_bytes words.now) }
 {
     match words {
-        [word] => is(word.as_str(), "listen"),
+        [word] => is_word(word.as_str(), "listen"),
         _ => false,
     }
 }
@@ -158,7 +171,7 @@ fn is_play(words: &[String]) -> bool
     ensures { result ≡ are_play (map string_bytes words.now) }
 {
     match words {
-        [word] => is(word.as_str(), "play"),
+        [word] => is_word(word.as_str(), "play"),
         _ => false,
     }
 }
@@ -181,9 +194,12 @@ pub fn run<W: Threads + Wait + Sync, O: Opener, S: Source + Send, A: Sink + Send
         × Reported (told R.written R.faults report.old report.new) (fault_line (codes "usage")) }
     // What is left with each status of `play`: the journal that the report has, and the air.
     ensures leaves { are_play (map string_bytes words.now) ≡ true → (text : List ℕ) → S.left input.old ≡ Some text
-        → Leaves (script_in text) (told A.written A.faults air.old air.new) (told R.written R.faults report.old report.new) result }
+        → Leaves text (S.left input.new) (told A.written A.faults air.old air.new) (told R.written R.faults report.old report.new) result }
     ensures completes { are_play (map string_bytes words.now) ≡ true → (text : List ℕ) → S.left input.old ≡ Some text → ¬ (Rose (S.faults input.old) (S.faults input.new))
-        → ¬ (Rose (A.faults air.old) (A.faults air.new)) → ¬ (Rose (R.faults report.old) (R.faults report.new)) → Completes (script_in text) result }
+        → ¬ (Rose (A.faults air.old) (A.faults air.new)) → ¬ (Rose (R.faults report.old) (R.faults report.new)) → Completes (script_in text).stop result }
+    // And so a script that is whole is played to its end.
+    ensures whole { are_play (map string_bytes words.now) ≡ true → (text : List ℕ) → S.left input.old ≡ Some text → (script_in text).stop ≡ Ended → ¬ (Rose (S.faults input.old) (S.faults input.new))
+        → ¬ (Rose (A.faults air.old) (A.faults air.new)) → ¬ (Rose (R.faults report.old) (R.faults report.new)) → (result ≡ Status.Done) ⊎ (result ≡ Status.Memory) }
     ensures status { are_play (map string_bytes words.now) ≡ true → IsOfPlay result }
     // What is left with each status of `listen`: the completions that the report has. Nothing is sent.
     ensures listen_leaves { are_listen (map string_bytes words.now) ≡ true → (bytes : List ℕ) → S.left input.old ≡ Some bytes

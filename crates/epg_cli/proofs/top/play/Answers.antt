@@ -1,31 +1,42 @@
-use Rattle.std.proofs.Common.{◌+◌, refl, sym, ap, subst}
+use Rattle.std.proofs.Common.{◌≡◌, List, ℕ, refl, sym, subst}
+use Rattle.std.specs.Prelude.{Option, Some, None}
 use Rattle.desk_core.specs.Desks.{DeskState}
-use Rattle.std.specs.Prelude.{Option, Some}
 use Rattle.epg_cli.specs.declared.stop.PlayStop.{PlayStop}
-use Rattle.epg_cli.specs.Script.{commands_of, script_of}
-use Rattle.epg_cli.specs.Reads.{lines_of}
-use Rattle.epg_cli.specs.Played.{RestDid}
+use Rattle.epg_cli.specs.Played.{RestDid, RestTaken, course}
+use Rattle.feed_edits.specs.Ahead.{ahead}
+use Rattle.si_causes.specs.Reading.{text_left}
 use Rattle.epg_cli.specs.Run.{HasPlayed, told}
-use Rattle.epg_cli.proofs.RunFacts.{no_block, played_all, start_aired, no_air_cause}
-use Rattle.epg_cli.proofs.RestFacts.{Rest}
+use Rattle.epg_cli.proofs.RunFacts.{is_unread, unread_going, unread_told, no_block, played_behind, start_aired}
 use Rattle.epg_cli.proofs.top.play.Goals as goal
 
 pub returns-in-Err-clause-played : goal.returns-in-Err-clause-played
 returns-in-Err-clause-played g c = λ text tells.
-    no_block g.S.Source.left c.read_block.new.lines (script_of (lines_of c.args.lines.now text)) (told g.A.Sink.written g.A.Sink.faults c.args.air.now c.args.air.now) c.in-Err.stop refl (c.in-Err.ensures.block text tells)
-
-pub returns-in-Err-clause-air_cause : goal.returns-in-Err-clause-air_cause
-returns-in-Err-clause-air_cause g c = no_air_cause (g.A.Sink.faults c.args.air.now) (g.A.Sink.faults c.args.air.now) c.in-Err.stop c.in-Err.ensures.no_air
+    let old = c.args.lines.now in
+    let unread = c.requires.unread in
+    let going = unread_going old old.source unread in
+    let air = told g.A.Sink.written g.A.Sink.faults c.args.air.now c.args.air.now in
+    subst (λ (s : PlayStop). HasPlayed text (g.S.Source.left c.read_mux.new.lines.source) air None (Some s)) (sym c.stop_of.ensures)
+    (no_block g.S.Source.left g.S.Source.faults old c.read_mux.new.lines text air c.in-Err.stop (is_unread old old.source unread) tells refl
+    (c.in-Err.ensures.block going text (unread_told g.S.Source.left old old.source text unread tells)) (c.in-Err.ensures.came going))
 
 pub returns-clause-played : goal.returns-clause-played
 returns-clause-played g c = λ text tells.
-    let block = c.in-Ok.ensures.block text tells in
+    let old = c.args.lines.now in
+    let mid = c.read_mux.new.lines in
+    let new = c.play_rest.new.lines in
+    let unread = c.requires.unread in
+    let going = unread_going old old.source unread in
     let desk = c.in-Ok-open.ensures in
-    let number = ap (λ k. commands_of (k + 1) (lines_of c.read_block.new.lines block.0)) c.in-Ok.ensures.going.1 in
+    let mux = c.in-Ok.mux in
     let air = told g.A.Sink.written g.A.Sink.faults c.args.air.now c.play_rest.new.air in
-    let did = c.play_rest.ensures.did block.0 block.1 in
-    let did_all = subst (λ (d : DeskState). RestDid (commands_of 5 (lines_of c.read_block.new.lines block.0)) d c.play_rest.new.desk c.play_rest.result) desk
-    (subst (λ (rest : Rest). RestDid rest c.in-Ok-open.desk c.play_rest.new.desk c.play_rest.result) number did) in
-    let aired = c.play_rest.ensures.aired (g.A.Sink.written c.args.air.now) (start_aired c.in-Ok.mux c.in-Ok-open.desk c.open-player.result (g.A.Sink.written c.args.air.now) desk c.open-player.ensures) in
-    subst (λ (o : Option PlayStop). HasPlayed (script_of (lines_of c.args.lines.now text)) air (Some c.play_rest.new.desk) o) (sym c.err-stop.ensures.value)
-    (played_all c.play_rest.result (script_of (lines_of c.args.lines.now text)) c.in-Ok.mux (commands_of 5 (lines_of c.read_block.new.lines block.0)) c.play_rest.new.desk c.play_rest.new.player air block.2 did_all aired)
+    let after = c.play_rest.new.desk in
+    let r = c.play_rest.result in
+    let did = subst (λ (d : DeskState). (rest : List ℕ) → text_left g.S.Source.left mid ≡ Some rest → RestDid (course d.mux d.entries None (ahead mid rest)) d after r) desk c.play_rest.ensures.did in
+    let taken = subst (λ (d : DeskState). RestTaken g.S.Source.left mid new d after r) desk c.play_rest.ensures.taken in
+    let aired = c.play_rest.ensures.aired (g.A.Sink.written c.args.air.now) (start_aired mux c.in-Ok-open.desk c.open-player.result (g.A.Sink.written c.args.air.now) desk c.open-player.ensures) in
+    subst (λ (o : Option PlayStop). HasPlayed text (g.S.Source.left new.source) air (Some after) o) (sym c.err-stop.ensures.value)
+    (played_behind g.S.Source.left old mid new text mux after c.play_rest.new.player air r (is_unread old old.source unread) tells
+    (c.in-Ok.ensures.block going text (unread_told g.S.Source.left old old.source text unread tells)) (c.in-Ok.ensures.came going) did taken aired)
+
+pub returns-clause-same : goal.returns-clause-same
+returns-clause-same g c = g.met.S.Source.same_later c.args.lines.now.source c.read_mux.new.lines.source c.play_rest.new.lines.source c.in-Ok.ensures.same c.play_rest.ensures.same

@@ -1,9 +1,15 @@
 use Rattle.epg_cli.specs.Script.{script_in}
 use Rattle.epg_cli.specs.Run.{told}
-use Rattle.epg_cli.proofs.RunFacts.{completes}
+use Rattle.epg_cli.proofs.RunFacts.{completes, whole}
 use Rattle.epg_cli.proofs.top.run_play.Goals as goal
 
 pub returns-clause-completes : goal.returns-clause-completes
 returns-clause-completes g c = λ text tells no_read no_air no_report.
-    completes (script_in text) (told g.A.Sink.written g.A.Sink.faults c.args.air.now c.play_through.new.air) (told g.R.Sink.written g.R.Sink.faults c.args.report.now c.play_through.new.report) c.play_through.result
+    completes text (g.S.Source.left c.play_through.new.input) (told g.A.Sink.written g.A.Sink.faults c.args.air.now c.play_through.new.air) (told g.R.Sink.written g.R.Sink.faults c.args.report.now c.play_through.new.report) c.play_through.result
     (c.play_through.ensures.leaves text tells) (λ e. no_read (c.play_through.ensures.input e)) (λ e. no_air (c.play_through.ensures.air e)) (λ e. no_report (c.play_through.ensures.report e))
+
+pub returns-clause-whole : goal.returns-clause-whole
+returns-clause-whole g c = λ text tells ended no_read no_air no_report.
+    whole (script_in text).stop c.play_through.result ended
+    (completes text (g.S.Source.left c.play_through.new.input) (told g.A.Sink.written g.A.Sink.faults c.args.air.now c.play_through.new.air) (told g.R.Sink.written g.R.Sink.faults c.args.report.now c.play_through.new.report) c.play_through.result
+    (c.play_through.ensures.leaves text tells) (λ e. no_read (c.play_through.ensures.input e)) (λ e. no_air (c.play_through.ensures.air e)) (λ e. no_report (c.play_through.ensures.report e)))

@@ -1,9 +1,0 @@
-use Rattle.std.proofs.Common.{refl}
-use Rattle.epg_cli.proofs.Numerals.{field_read}
-use Rattle.epg_cli.proofs.fields.numeral.Goals as goal
-
-pub unwrap-requires : goal.unwrap-requires
-unwrap-requires c = rw (field_read c.args.field.now c.parse.result c.parse.ensures.value.0 c.requires) refl
-
-pub returns : goal.returns
-returns c = let e = field_read c.args.field.now c.parse.result c.parse.ensures.value.0 c.requires in cc

@@ -1,0 +1,9 @@
+//! Worked examples of whole runs, as tests alone: what `run` leaves in the air and in the report, and its status.
+//!
+//! They stand on the contract of `epg_cli` and on sources and sinks in memory. Each end fails at each of its calls in turn.
+#![tactic(auto)]
+
+#[cfg(test)]
+mod listen_tests;
+#[cfg(test)]
+mod play_tests;
