@@ -25,6 +25,7 @@ use Rattle.publication.specs.Runs.{longest_runs}
 use Rattle.publication.specs.Sdt.{sdt_entries, sdt_body, numbered}
 use Rattle.publication.specs.Tables.{HasServicesOf, tables_of}
 use Rattle.publication.proofs.RunFacts.{runs_some, runs_fit}
+use Rattle.publication.proofs.TableFacts.{guides_have}
 use Rattle.publication.proofs.SdtFacts.{length-body, length-numbered, ascend-numbered, entries_fit}
 use Rattle.desk_core.specs.declared.step.Airing.{Airing as OnAir}
 use Rattle.desk_core.specs.declared.step.Entry.{Entry}
@@ -35,13 +36,8 @@ use Rattle.headend_live.specs.OnAir.{airing_on, cycle_bytes}
 
 -- ---- the sub-tables of a publication
 
-guide_services : (services : List MuxService) (past : List Edit) (moment : Moment)
-    → map (λ (s : ServiceGuide). s.service) (guide_of (book_after services past) moment).services ≡ map (λ (s : MuxService). s.service) services
-guide_services [] past moment = refl
-guide_services (s ∷ ss) past moment = ap (λ (l : List ℕ). s.service ∷ l) (guide_services ss past moment)
-
 published_services : (mux : Mux) (journal : List Entry) (n : ℕ) → HasServicesOf mux (publication mux journal n)
-published_services mux journal n = (let before = if n == 0 then [] else before_publish n journal in guide_services mux.services (accepted before) (moment_of mux before))
+published_services mux journal n = (let before = if n == 0 then [] else before_publish n journal in guides_have mux (accepted before) (moment_of mux before))
 
 -- what is on air at a desk has the services of its multiplex
 pub on_air_services : (desk : DeskState) (mux : Mux) (on : OnAir) → mux ≡ desk.mux → on ≡ on_air_of desk → HasServicesOf mux on.guide
