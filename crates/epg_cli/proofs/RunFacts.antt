@@ -1,11 +1,11 @@
 -- From what was played, and how its report ended, to what a run leaves.
-use Rattle.std.proofs.Common.{◌≡◌, ◌≢◌, ℕ, ◌+◌, List, [], ◌∷◌, ◌++◌, length, take, refl, sym, ap, ◌∙◌, subst, append-nil, inl, inr, ◌⊎◌, arith}
+use Rattle.std.proofs.Common.{◌≡◌, ℕ, ◌+◌, List, [], ◌∷◌, ◌++◌, length, take, refl, sym, ap, ◌∙◌, subst, append-nil, inl, inr, ◌⊎◌}
 use Rattle.std.specs.Prelude.{Option, Some, None, Ok, Err, Result, OnOk, OnErr, true, false}
 use Rattle.std.specs.Result.{result_err}
 use Rattle.std.specs.Io.KnownBytes.{Appends, Consumes}
 use Rattle.si_causes.specs.Causes.{Rose, AppendsFront}
 use Rattle.si_causes.specs.Text.{TextEnd, AtEnd, PastLimit, text_lines}
-use Rattle.si_causes.specs.Reading.{Reading, fresh as unread, text_left, room}
+use Rattle.si_causes.specs.Reading.{Reading, fresh as unread, text_left}
 use Rattle.si_causes.proofs.TextFacts.{fresh_text}
 use Rattle.si_causes.specs.declared.stop.ReadStop.TheVariants.{Failed, TooLong as Overlong}
 use Rattle.input_lines.specs.Lines.{lines_of, record_lines}
@@ -17,7 +17,7 @@ use Rattle.mux_config.specs.declared.stop.MuxStop.{MuxStop}
 use Rattle.mux_config.specs.declared.stop.MuxStop.TheVariants as mux
 use Rattle.mux_config.specs.Block.{Block, Faulty, Whole, Unended, at_text_end, block_from, block_of}
 use Rattle.mux_config.specs.Reads.{Described, MuxCame, ReadMux, WholeCame}
-use Rattle.feed_edits.specs.Ahead.{Ahead, Tail, Ends, Exceeds, Breaks, ahead, tail_of}
+use Rattle.feed_edits.specs.Ahead.{Breaks, ahead, tail_of}
 use Rattle.feed_edits.specs.Reads.{ahead_with}
 use Rattle.version_book.specs.Airings.{Airing}
 use Rattle.air_model.specs.Air.{IsAirOf}
@@ -35,10 +35,10 @@ use Rattle.epg_cli.specs.declared.status.Status.{Status}
 use Rattle.epg_cli.specs.declared.status.Status.TheVariants.{Done, Usage, BadScript, Disagrees, BadMux, BadFeed, BadStream, TooLong as PastLimit, OpenFault, ReadFault, WriteFault, Memory}
 use Rattle.epg_cli.specs.declared.status.Origin.TheVariants.{Input, Feed}
 use Rattle.epg_cli.specs.declared.status.Outlet.TheVariants.{Air, Report}
-use Rattle.epg_cli.specs.Script.{Script, Stop, Ended, NoMux, NoCommand, Disagreed, TooLong, Unread, no_mux, script_in, script_of, script_taken, script_with, with_commands}
+use Rattle.epg_cli.specs.Script.{Script, Stop, Ended, NoMux, NoCommand, Disagreed, TooLong, Unread, no_mux, script_in, script_taken, script_with, with_commands}
 use Rattle.epg_cli.specs.Played.{AiredTo, PlayedWhole, RestDid, RestTaken, course, desk_after}
 use Rattle.epg_cli.specs.Texts.{fault_line}
-use Rattle.epg_cli.specs.Run.{Told, IsAired, IsAiredFront, HasPlayed, HasPlayedAll, HasPlayedTaken, Finished, FinishedBy, Leaves, LeavesAll, Completes, CanBeTold, journal_for, whole_journal, first_journal, entries_of, status_for, stop_text, mux_stop, Reported, airings_for, HasAirStopCause, HasStopCause}
+use Rattle.epg_cli.specs.Run.{Told, IsAired, IsAiredFront, HasPlayed, HasPlayedAll, HasPlayedTaken, Finished, FinishedBy, Leaves, LeavesAll, Completes, journal_for, first_journal, entries_of, status_for, stop_text, mux_stop, Reported, airings_for}
 use Rattle.epg_cli.proofs.CourseFacts.{Rest}
 
 pub appends_nil : (w : Option (List ℕ)) → Appends w w []

@@ -1,6 +1,6 @@
 -- The outcome of each entry of a journal can be written.
 use Rattle.std.proofs.Common.{◌≡◌, ℕ, zero, suc, List, [], ◌∷◌, subst}
-use Rattle.std.specs.Prelude.{Option, Some, None}
+use Rattle.std.specs.Prelude.{Some}
 use Rattle.std.specs.List.{slice_get}
 use Rattle.desk_core.specs.declared.step.Entry.{Entry}
 use Rattle.journal_text.specs.Outcomes.{IsInWindow}

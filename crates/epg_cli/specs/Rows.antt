@@ -1,5 +1,5 @@
 -- Worked scripts.
-use Rattle.std.specs.Prelude.{◌≡◌, List, ℕ, [], ◌∷◌, ◌++◌, Some, None, refl, codes}
+use Rattle.std.specs.Prelude.{◌≡◌, List, ℕ, [], ◌∷◌, ◌++◌, Some, refl, codes}
 use Rattle.input_lines.specs.Fields.{fields_compute}
 use Rattle.mux_config.specs.declared.fault.Word.TheVariants as word
 use Rattle.mux_config.specs.declared.fault.MuxFault.TheVariants.{Line, Twice, Missing}
@@ -11,7 +11,7 @@ use Rattle.desk_core.specs.Controls.{control_of}
 use Rattle.desk_core.specs.Rows.{row_mux, row_commands}
 use Rattle.journal_text.specs.Kept.{outcome_of_fields, reply_of}
 use Rattle.journal_text.specs.Script.{items_ahead}
-use Rattle.epg_cli.specs.Script.{Script, Ended, NoMux, NoCommand, Disagreed, Unread, no_mux, script_in, script_taken}
+use Rattle.epg_cli.specs.Script.{Ended, NoMux, NoCommand, Disagreed, Unread, no_mux, script_in, script_taken}
 
 abbrev pub row_block : List ℕ
 row_block = codes "network,40,Demo\nstream,1,1\nservice,101,1,1,256,257,Acme,One\nend\n"

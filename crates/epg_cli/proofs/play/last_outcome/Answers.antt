@@ -1,5 +1,4 @@
 use Rattle.std.proofs.Common.{sym, subst}
-use Rattle.std.specs.Prelude.{Some}
 use Rattle.mux_config.specs.declared.mux.Mux.{Mux}
 use Rattle.desk_core.specs.Journal.{Legal}
 use Rattle.journal_text.proofs.WindowFacts.{legal_window}

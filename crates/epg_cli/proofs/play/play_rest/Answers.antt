@@ -1,4 +1,4 @@
-use Rattle.std.proofs.Common.{◌≡◌, ◌∙◌, sym, ap, subst, arith}
+use Rattle.std.proofs.Common.{sym, ap, subst, arith}
 use Rattle.std.specs.Prelude.{None, Err}
 use Rattle.feed_edits.specs.Ahead.{ahead}
 use Rattle.desk_core.specs.Journal.{entry_after}

@@ -1,4 +1,4 @@
-use Rattle.std.proofs.Common.{ap, sym, ◌∙◌, subst, rules}
+use Rattle.std.proofs.Common.{ap, ◌∙◌, rules}
 use Rattle.epg_cli.specs.Run.{told}
 use Rattle.epg_cli.proofs.RunFacts.{leaves_input}
 use Rattle.epg_cli.proofs.top.play_through.Goals as goal

@@ -1,9 +1,7 @@
-use Rattle.std.proofs.Common.{ap, sym, ◌∙◌, subst, arith}
+use Rattle.std.proofs.Common.{sym, subst}
 use Rattle.std.specs.Prelude.{List}
-use Rattle.mux_config.specs.declared.mux.Mux.{Mux}
 use Rattle.section_codec.specs.declared.table.SubTable.{SubTable}
 use Rattle.carousel_player.specs.Playing.{AreFit}
-use Rattle.publication.specs.Tables.{HasServicesOf}
 use Rattle.headend_live.proofs.AirFacts.{on_air_services, tables_fit, airing_is, cycle_sent, cycle_cut}
 use Rattle.headend_live.proofs.send.send_cycle.Goals as goal
 
