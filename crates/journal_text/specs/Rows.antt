@@ -1,10 +1,10 @@
 -- Worked rows: the text of the first example's journal, outcomes of fields, and scripts.
-use Rattle.std.specs.Prelude.{◌≡◌, [], ◌∷◌, Some, None, refl, codes}
+use Rattle.std.specs.Prelude.{◌≡◌, [], ◌∷◌, Some, None, true, false, refl, codes}
 use Rattle.std.specs.Fmt.{digits}
 use Rattle.csv.specs.Writing.{fields_text}
 use Rattle.si_time.specs.Moments.{moments_compute}
 use Rattle.input_lines.specs.Fields.{fields_compute}
-use Rattle.feed_edits.specs.Ahead.{End, NoCommand}
+use Rattle.feed_edits.specs.Ahead.{End, NoCommand, Ends, Breaks, Unread}
 use Rattle.feed_edits.specs.Heads.{edit_head}
 use Rattle.feed_edits.specs.declared.edit.Edit.TheVariants.{Clear}
 use Rattle.feed_book.specs.declared.reply.Field.TheVariants.{Segment}
@@ -13,6 +13,7 @@ use Rattle.feed_book.specs.declared.reply.Reply.TheVariants.{Done, Member}
 use Rattle.desk_core.specs.declared.step.Step.TheVariants.{Edit as edit, Publish, Swap}
 use Rattle.desk_core.specs.declared.step.Outcome.TheVariants.{Edited, Published}
 use Rattle.desk_core.specs.Controls.{control_of}
+use Rattle.journal_text.specs.declared.script.ScriptItem.TheVariants.{Step as step, Kept}
 use Rattle.journal_text.specs.Kept.{field_of, day_fault_of, reply_of, outcome_of_fields}
 use Rattle.journal_text.specs.Script.{items_ahead, script_of}
 use Rattle.desk_core.specs.Rows.{row_journal}
@@ -50,3 +51,13 @@ row_twice = refl
 row_early : script_of (codes "=,done\n") ≡ ([], NoCommand 1)
 unfolding items_ahead fields_compute
 row_early = refl
+
+-- a read that failed behind the line of a publish
+row_broken : items_ahead false (record { rows = (1, codes "publish") ∷ []; tail = Breaks }) ≡ (step 0 Publish ∷ [], Unread)
+unfolding items_ahead fields_compute control_of
+row_broken = refl
+
+-- what stands behind a command that was read before
+row_behind : items_ahead true (record { rows = (7, codes "=,done") ∷ []; tail = Ends 8 }) ≡ (Kept 7 (Edited Done) ∷ [], End)
+unfolding items_ahead fields_compute outcome_of_fields reply_of
+row_behind = refl
