@@ -3,3 +3,4 @@ pub mod CourseFacts
 pub mod RunFacts
 pub mod ListenFacts
 pub mod HearingFacts
+pub mod AgainFacts

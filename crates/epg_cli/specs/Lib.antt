@@ -6,4 +6,5 @@ pub mod Played
 pub mod Run
 pub mod Listen
 pub mod Hearing
+pub mod Again
 pub mod Rows

@@ -8,7 +8,11 @@ use Rattle.feed_edits.specs.Heads.{edit_head}
 use Rattle.desk_core.specs.declared.step.Outcome.TheVariants.{Published}
 use Rattle.desk_core.specs.declared.step.Step.TheVariants.{Edit as edit, Publish, Swap}
 use Rattle.desk_core.specs.Controls.{control_of}
-use Rattle.desk_core.specs.Rows.{row_mux, row_commands}
+use Rattle.si_time.specs.Readings.{readings_compute}
+use Rattle.std.specs.Fmt.{digits}
+use Rattle.csv.specs.Writing.{fields_text}
+use Rattle.journal_text.specs.Entries.{journal_text}
+use Rattle.desk_core.specs.Rows.{row_mux, row_commands, row_journal}
 use Rattle.journal_text.specs.Kept.{outcome_of_fields, reply_of}
 use Rattle.journal_text.specs.Script.{items_ahead}
 use Rattle.epg_cli.specs.Script.{Ended, NoMux, NoCommand, Disagreed, Unread, no_mux, script_in, script_taken}
@@ -55,3 +59,8 @@ row_unreadable = refl
 
 row_empty : script_in [] ≡ no_mux (NoMux (Missing word.End))
 row_empty = refl
+
+-- the printed journal, as a script
+row_again : script_in (row_block ++ journal_text row_journal) ≡ record { mux = Some row_mux; commands = row_commands; stop = Ended }
+unfolding items_ahead fields_compute control_of edit_head outcome_of_fields reply_of digits readings_compute fields_text
+row_again = refl

@@ -1,8 +1,16 @@
-// What the two words of the program have to do with each other.
+// What the two words of the program have to do with each other, and what a report has to do with an input.
+ghost use Rattle.epg_cli.specs.Again.{JournalsPlayAgain};
 ghost use Rattle.epg_cli.specs.Hearing.{PlayIsHeard};
 
 /// What `play` sends, `listen` hears: where an air of a journal of a script, as `play` leaves one, is the recording, each piece of
 /// it is a packet, and just the version changes of the airing list are reported, in order, each with the last packet of its cycle.
 pub fn play_is_heard()
     ensures { PlayIsHeard }
+{}
+
+/// A printed journal is a script: behind the description of its multiplex, the text of a legal journal whose entries can be read is
+/// played to its end, and its journal is this journal again. An entry can be read where its lines have at most 16,384 bytes, and its
+/// numbers nine digits (`IsReadable` of `journal_text`).
+pub fn journals_play_again()
+    ensures { JournalsPlayAgain }
 {}

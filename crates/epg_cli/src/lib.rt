@@ -1,11 +1,12 @@
 //! The top call. With `play` it reads a script, keeps one desk, sends one cycle to the air at each swap, and reports the journal of
 //! all steps done. With `listen` it hears the packets of a recording, and reports each sub-table that is complete.
 //!
-//! The promise is on `run`, in four texts: what was left in the input, what the air and the report took, and the status. Where
-//! a run ends with status Done, the input holds a description of the multiplex and a script of which each line is a command or an
-//! outcome that the desk gave, the air took the packets of the cycles of that script, whole, and the report took its journal. For each
-//! other status a clause says what was left: never the cycle of a step that the journal does not hold, and no step twice. Where a recording is heard with status
-//! Done, each piece of it is a packet, and the report took the completions of all of them.
+//! The promise is on `run`, in four texts: what was left in the input, what the air and the report took, and the status. Where a run
+//! ends with status Done, the input holds a description of the multiplex and a script of which each line is passed over, or is part of
+//! a command, or keeps an outcome that the desk gave; the air took the packets of the cycles of that script, whole, and the report took
+//! its journal. For each other status but Memory a clause says what was left: never the cycle of a step that the journal does not hold,
+//! and no step twice. Where a recording is heard with status Done, each piece of it is a packet, and the report took the completions of
+//! all of them.
 #![tactic(auto)]
 
 mod ending;
@@ -16,6 +17,6 @@ mod status;
 mod stop;
 mod top;
 
-pub use laws::play_is_heard;
+pub use laws::{journals_play_again, play_is_heard};
 pub use status::{Origin, Outlet, Status};
 pub use top::{run, run_listen, run_play};

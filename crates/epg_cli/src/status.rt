@@ -26,7 +26,7 @@ pub enum Status {
     Done,
     /// The words are no command line.
     Usage,
-    /// This line of the script, from 1, is the first that is no command there.
+    /// This line of the input, from 1, is the first behind the description of the multiplex that is no command there.
     BadScript(u64),
     /// The outcome line with this number keeps the first outcome, and the desk's is the second.
     Disagrees(u64, Outcome, Outcome),

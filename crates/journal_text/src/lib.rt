@@ -1,7 +1,7 @@
 //! The journal's text: what the report says of each step of a desk and of its outcome.
 //!
-//! An entry is two lines: its caller's number and its command, and then its outcome behind `=,`. The layers above use one fact of
-//! each call that writes: what it appends is the text that the definitions say, or it finds no memory and appends nothing.
+//! An entry is the line of its command behind its caller's number, the lines of a day's items, and the line of its outcome behind
+//! `=,`. The layers above use one fact of each call that writes: what it appends is the text that the definitions say, or it finds no memory and appends nothing.
 //! [`next_item`] reads a script, which is such lines: it gives exactly the commands and the kept outcomes of the lines ahead.
 #![tactic(auto)]
 

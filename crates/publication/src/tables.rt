@@ -37,7 +37,7 @@ fn sdt_table(alloc: Global, mux: &Mux, guide: &Guide) -> Result<SubTable, AllocE
 
 /// The sub-tables of a publication, in the order in which a cycle sends them: the SDT of this multiplex
 /// (EN 300 468, 5.2.3), with the names of the guide. Each of its sections holds as many next services as fit 1,024
-/// bytes, so an SDT has 1 to 64 sections. A cycle repeats it with its frequent tables (TR 101 211, 4.4).
+/// bytes, so an SDT has 1 to 64 sections.
 ///
 /// The guide is within its limits, and has the services of the multiplex in their order. It fails only for want of
 /// memory.

@@ -1,0 +1,30 @@
+-- A printed journal is a script that prints it again.
+use Rattle.std.specs.Prelude.{◌≡◌, ◌≤◌, ℕ, List, [], ◌∷◌, ◌++◌, length, map, Some}
+use Rattle.std.specs.List.{AllByRecursion}
+use Rattle.si_causes.specs.Text.{text_limit}
+use Rattle.input_lines.specs.Lines.{record_lines}
+use Rattle.mux_config.specs.declared.mux.Mux.{Mux}
+use Rattle.mux_config.specs.Block.{Whole, block_from}
+use Rattle.desk_core.specs.declared.step.Entry.{Entry}
+use Rattle.desk_core.specs.Journal.{Legal, command_of}
+use Rattle.journal_text.specs.Back.{IsReadable, shown_lines}
+use Rattle.journal_text.specs.Entries.{journal_text}
+use Rattle.epg_cli.specs.Script.{Script, Ended, script_in}
+use Rattle.epg_cli.specs.Run.{whole_journal}
+
+-- The text describes this multiplex, with an LF behind its `end`, and nothing else.
+pub record Describes (text : List ℕ) (mux : Mux) : Type 0 where
+  pub front : List ℕ
+  pub closed : text ≡ front ++ 10 ∷ []
+  pub whole : block_from [] (record_lines 1 (shown_lines text)) ≡ Whole mux []
+
+-- The script of a description and of the text of a legal journal of its multiplex, whose entries can be read: all its steps are
+-- played, each outcome is the one that is kept, and the journal is this one.
+pub record PlaysAgain (mux : Mux) (journal : List Entry) (script : Script) : Type 0 where
+  pub script_is : script ≡ record { mux = Some mux; commands = map command_of journal; stop = Ended }
+  pub journal_is : whole_journal script ≡ journal
+
+abbrev pub JournalsPlayAgain : Type 0
+JournalsPlayAgain =
+    (mux : Mux) (block : List ℕ) (journal : List Entry) → Describes block mux → Legal mux journal → AllByRecursion IsReadable journal
+    → length (block ++ journal_text journal) ≤ text_limit → PlaysAgain mux journal (script_in (block ++ journal_text journal))
