@@ -31,7 +31,7 @@ use Rattle.journal_text.specs.Entries.{entry_text, journal_text}
 use Rattle.journal_text.proofs.EntryBack.{entries_read_back}
 use Rattle.headend_live.specs.OnAir.{and_step}
 use Rattle.epg_cli.specs.Outcomes.{is_day_fault, is_field, is_outcome, is_reply}
-use Rattle.epg_cli.specs.Script.{Script, Stop, Ended, Disagreed, difference, script_in, script_of, script_with}
+use Rattle.epg_cli.specs.Script.{Script, Stop, Ended, Disagreed, difference, script_in, script_of_lines, script_with}
 use Rattle.epg_cli.specs.Run.{whole_journal}
 use Rattle.epg_cli.specs.Again.{Describes, JournalsPlayAgain}
 use Rattle.epg_cli.proofs.CourseFacts.{Rest, and_command, course_at, step_ahead, agreed_ahead, stop_ahead}
@@ -198,7 +198,7 @@ script_again mux block journal d legal readable le =
     ∙ map-append shown (raw_lines (d.front ++ 10 ∷ [])) (raw_lines (journal_text journal)) ∙ ap (λ (b : List ℕ). shown_lines b ++ behind) (sym d.closed) in
     let rows : record_lines 1 lines ≡ record_lines 1 (shown_lines block) ++ record_lines n behind = ap (record_lines 1) parts ∙ records_joined 1 (shown_lines block) behind in
     let whole : block_from [] (record_lines 1 lines) ≡ Whole mux (record_lines n behind) = ap (block_from []) rows ∙ block_more [] (record_lines 1 (shown_lines block)) [] (record_lines n behind) mux d.whole in
-    ap (λ l. script_of l.0 (tail_of (1 + length l.0) l.1)) (lines_within text le)
+    ap (λ l. script_of_lines l.0 (tail_of (1 + length l.0) l.1)) (lines_within text le)
     ∙ ap (λ (b : Block). script_with b (Ends (1 + length lines))) whole
     ∙ ap (λ (r : Rest). let s : Script = record { mux = Some mux; commands = r.0; stop = r.1 } in s) (again (fresh mux) journal n (1 + length lines) legal readable)
 

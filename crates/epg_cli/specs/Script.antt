@@ -98,13 +98,13 @@ script_with (Whole mux behind) tail = with_commands mux (played_items mux [] (it
 script_with Unended tail = no_mux (short_of tail)
 
 -- the script of lines, and of what stands behind them
-abbrev pub script_of : List (List ℕ) → Tail → Script
-script_of lines tail = script_with (block_from [] (record_lines 1 lines)) tail
+abbrev pub script_of_lines : List (List ℕ) → Tail → Script
+script_of_lines lines tail = script_with (block_from [] (record_lines 1 lines)) tail
 
 -- the script of a text
 abbrev pub script_in : List ℕ → Script
-script_in text = (let lines = text_lines text in script_of lines.0 (tail_of (1 + length lines.0) lines.1))
+script_in text = (let lines = text_lines text in script_of_lines lines.0 (tail_of (1 + length lines.0) lines.1))
 
 -- the script of the lines that are whole in bytes, behind which a read failed
 abbrev pub script_taken : List ℕ → Script
-script_taken bytes = script_of (shown_whole bytes) Breaks
+script_taken bytes = script_of_lines (shown_whole bytes) Breaks
