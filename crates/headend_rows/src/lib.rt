@@ -4,6 +4,16 @@
 #![tactic(auto)]
 
 #[cfg(test)]
-mod listen_tests;
+mod airs;
 #[cfg(test)]
-mod play_tests;
+mod failing;
+#[cfg(test)]
+mod faults;
+#[cfg(test)]
+mod hearing;
+#[cfg(test)]
+mod journals;
+#[cfg(test)]
+mod runs;
+#[cfg(test)]
+mod words;

@@ -1,5 +1,6 @@
 // Runs of `listen` over recordings in memory, whose report is looked at.
 
+use crate::runs::{MUX, NEVER, packet};
 use epg_cli::{Origin, Outlet, Status, run_listen, run_play};
 use si_base::crc32;
 use si_causes::{MemSink, MemSource};
@@ -7,23 +8,7 @@ use std::alloc::{AllocError, Global};
 use std::fmt::Write;
 use std::test::Fail;
 
-// The front of the one packet of an SDT; fill bytes follow.
-const PACKET: [u8; 38] = [
-    0x47, 0x40, 0x11, 0x10, 0x00, 0x42, 0xF0, 0x1E, 0x00, 0x01, 0xC1, 0x00, 0x00, 0x00, 0x01, 0xFF,
-    0x00, 0x65, 0xFF, 0x80, 0x0D, 0x48, 0x0B, 0x01, 0x04, b'A', b'c', b'm', b'e', 0x04, b'N', b'e',
-    b'w', b's', 0xB5, 0x82, 0xAF, 0xDD,
-];
-
 const DONE: &str = "done\t0\t17\t66\t1\t0\t1\t0\n";
-
-const MUX: &str = "network,40,Demo\nstream,1,1\nservice,101,1,1,256,257,Acme,One\nend\n";
-
-// That packet.
-fn packet() -> [u8; 188] {
-    let mut packet = [0xFF; 188];
-    packet[..38].copy_from_slice(&PACKET);
-    packet
-}
 
 // So many bytes of that packet, again and again.
 fn recording(alloc: Global, len: usize) -> Result<Vec<u8>, AllocError> {
@@ -41,9 +26,6 @@ struct Left {
     status: Status,
     report: MemSink,
 }
-
-// No call with this number is made.
-const NEVER: u64 = 1_000_000_000;
 
 // A run over these bytes. Each end moves at most `piece` bytes a call; the read and the write with these numbers fail.
 fn heard(

@@ -1,0 +1,131 @@
+// Journals that print themselves: as scripts they keep the outcomes that they have.
+use crate::runs::{joined, played};
+use epg_cli::Status;
+use std::alloc::{AllocError, Global};
+use std::fmt::Write;
+use std::test::Fail;
+
+// The same multiplex, which starts a quarter of an hour before one.
+const LATE_MUX: &str =
+    "network,40,Demo\nstream,1,1\nservice,101,1,1,256,257,Acme,One\nstart,1993-10-13T12:45:00Z\nend\n";
+
+// Whether the script of a multiplex is played to its end, and the journal is this text.
+fn prints(alloc: Global, mux: &str, script: &str, journal: &str) -> Result<bool, AllocError> {
+    let text = joined(alloc, &[mux, script])?;
+    let left = played(alloc, &text)?;
+    Ok(left.status == Status::Done && left.report.taken() == journal.as_bytes())
+}
+
+// Whether a journal, as a script, is played to its end and printed again: each outcome is the one that it keeps.
+pub(crate) fn prints_itself(alloc: Global, journal: &str) -> Result<bool, AllocError> {
+    prints(alloc, LATE_MUX, journal, journal)
+}
+
+// Journals of the multiplex that starts at 12:45; an empty line parts them.
+const JOURNALS: &str = "\
+0,feed,1,put,101,1,1993-10-13T13:00:00Z,00:30:00,eng,News,,,,,
+=,done
+0,feed,1,put,101,2,1993-10-13T13:30:00Z,00:30:00,eng,News,,,,,
+=,done
+0,feed,1,put,101,3,1993-10-13T12:30:00Z,00:30:01,eng,News,,,,,
+=,overlap,1
+0,feed,1,put,101,3,1993-10-13T12:30:00Z,00:30:00,eng,News,,,,,
+=,done
+0,feed,1,put,101,2,1993-10-13T13:31:00Z,00:29:00,eng,News,,,,,
+=,done
+0,feed,1,withdraw,101,2
+=,done
+0,feed,1,withdraw,101,2
+=,done
+
+0,feed,2,put,101,9,1993-10-13T13:00:00Z,00:00:00,eng,News,,,,,
+=,foreign,101
+0,feed,1,put,101,9,1993-10-13T13:00:00Z,00:00:00,eng,News,,,,,
+=,range,duration
+0,feed,1,name,101,Acme,
+=,range,servicename
+
+0,feed,1,put,101,1,1993-10-13T13:00:00Z,00:30:00,eng,News,,,,,
+=,done
+0,feed,1,day,101,1993-10-13,2
+item,5,1993-10-13T13:00:00Z,00:30:00,eng,A,,,,,
+item,6,1993-10-14T00:00:00Z,00:30:00,eng,B,,,,,
+=,member,1,range,window
+0,feed,1,day,101,1993-10-13,2
+item,5,1993-10-13T13:00:00Z,00:30:00,eng,A,,,,,
+item,6,1993-10-13T13:10:00Z,00:30:00,eng,B,,,,,
+=,member,1,overlap,5
+0,feed,1,put,101,2,1993-10-13T13:29:59Z,00:30:00,eng,News,,,,,
+=,overlap,1
+0,feed,1,day,101,1993-10-13,0
+=,done
+0,feed,1,put,101,2,1993-10-13T13:29:59Z,00:30:00,eng,News,,,,,
+=,done
+
+0,feed,1,put,101,1,2038-04-22T23:59:59Z,00:00:01,eng,News,,,,,
+=,done
+0,feed,1,put,101,2,2038-04-22T23:59:59Z,00:00:02,eng,News,,,,,
+=,range,window
+0,feed,1,put,101,3,2038-04-23T00:00:00Z,00:00:01,eng,News,,,,,
+=,range,start
+
+0,feed,1,put,101,1,1993-10-13T13:00:00Z,00:30:00,eng,ééééééééééééééééééééééééééééééééééééééééééééééééééééa,,,,,
+=,range,name
+0,feed,1,put,101,1,1993-10-13T13:00:00Z,00:30:00,eng,ééééééééééééééééééééééééééééééééééééééééééééééééééé,,,,,
+=,range,name
+0,feed,1,put,101,1,1993-10-13T13:00:00Z,00:30:00,eng,éééééééééééééééééééééééééééééééééééééééééééééééééa,,,,,
+=,done
+
+7,tick,1993-10-13T12:45:00Z
+=,ticked
+7,tick,1993-10-13T12:44:59Z
+=,late,1993-10-13T12:45:00Z
+999999999,swap
+=,swapped,0,1993-10-13T12:45:00Z
+0,feed,1,name,101,\"A, B\",\"\"\"Q\"\"\"
+=,done
+1,publish
+=,published,1
+2,publish
+=,published,2
+0,swap
+=,swapped,2,1993-10-13T12:45:00Z";
+
+#[test]
+fn journals_that_print_themselves(rt: HostRuntime) -> Result<(), Fail> {
+    let alloc = rt.alloc();
+    for journal in JOURNALS.split("\n\n") {
+        let journal = joined(alloc, &[journal, "\n"])?;
+        assert!(rt; prints_itself(alloc, journal.as_str())?, "{journal}");
+    }
+    Ok(())
+}
+
+// 74 events of two minutes with entries of 269 bytes, and then one with a name of so many bytes, which gets this outcome.
+fn full_block(alloc: Global, name: usize, outcome: &str) -> Result<String, AllocError> {
+    let mut text = String::new(alloc);
+    for i in 0..74_u32 {
+        let (hour, minute) = (i / 30, 2 * (i % 30));
+        write!(
+            text,
+            "0,feed,1,put,101,{i},1993-10-13T{hour:02}:{minute:02}:00Z,00:02:00,eng,{:n<100},{:s<150},,,,\n=,done\n",
+            "", ""
+        )?;
+    }
+    write!(
+        text,
+        "0,feed,1,put,101,99,1993-10-13T02:28:00Z,00:02:00,eng,{:n<name$},,,,,\n=,{outcome}\n",
+        ""
+    )?;
+    Ok(text)
+}
+
+#[test]
+fn a_full_block(rt: HostRuntime) -> Result<(), Fail> {
+    let alloc = rt.alloc();
+    let full = full_block(alloc, 75, "done")?;
+    assert!(rt; prints_itself(alloc, &full)?);
+    let over = full_block(alloc, 76, "range,segment,20001")?;
+    assert!(rt; prints_itself(alloc, &over)?);
+    Ok(())
+}
