@@ -26,7 +26,7 @@ fn versions_and_counters(rt: HostRuntime) -> Result<(), Fail> {
     let mut text = joined(alloc, &[MUX])?;
     renamed(&mut text, 0, 1)?;
     renamed(&mut text, 1, 40)?;
-    let left = played(alloc, &text)?;
+    let left = played(&rt, alloc, &text)?;
     assert_eq!(rt; left.status, Status::Done);
     assert_eq!(rt; left.air.taken().len(), 2 * 188);
     assert_eq!(rt; numbers(left.air.taken(), 0), Some((0, 0)));
@@ -37,7 +37,7 @@ fn versions_and_counters(rt: HostRuntime) -> Result<(), Fail> {
         renamed(&mut text, i, 1)?;
     }
     text.push_str("swap\n")?;
-    let left = played(alloc, &text)?;
+    let left = played(&rt, alloc, &text)?;
     assert_eq!(rt; left.status, Status::Done);
     let air = left.air.taken();
     assert_eq!(rt; air.len(), 34 * 188);
@@ -74,7 +74,7 @@ fn a_section_of_two_packets(rt: HostRuntime) -> Result<(), Fail> {
     bytes.extend_from_slice(&[b'n'; 38])?;
     bytes.extend_from_slice(&[0x23, 0x50, 0x63, 0x1D])?;
     bytes.extend_from_slice(&[0xFF; 142])?;
-    let left = played(alloc, &text)?;
+    let left = played(&rt, alloc, &text)?;
     assert_eq!(rt; left.status, Status::Done);
     assert_eq!(rt; left.air.taken(), bytes.as_slice());
     Ok(())
@@ -99,7 +99,7 @@ fn five_services(alloc: Global) -> Result<String, AllocError> {
 fn a_table_of_two_sections(rt: HostRuntime) -> Result<(), Fail> {
     let alloc = rt.alloc();
     let text = five_services(alloc)?;
-    let left = played(alloc, &text)?;
+    let left = played(&rt, alloc, &text)?;
     assert_eq!(rt; left.status, Status::Done);
     let air = left.air.taken();
     // four entries of 210 bytes in five packets, and then one in two

@@ -3,7 +3,10 @@ use crate::journals::prints_itself;
 use crate::runs::{Left, NEVER, played, ran};
 use epg_cli::{Origin, Outlet, Status};
 use std::alloc::{AllocError, Global};
+use std::marker::Sync;
+use std::sync::Wait;
 use std::test::Fail;
+use std::thread::Threads;
 
 // A script of every kind of line, and two swaps.
 const EVERY: &str = "\
@@ -120,25 +123,32 @@ fn report_of(alloc: Global, entries: usize, fault: &str) -> Result<String, Alloc
 }
 
 // The run of the script in which call `n` of an end fails.
-fn run_failing(alloc: Global, piece: usize, end: End, n: usize) -> Result<Left, AllocError> {
+fn run_failing<W: Threads + Wait + Sync>(
+    rt: &W,
+    alloc: Global,
+    piece: usize,
+    end: End,
+    n: usize,
+) -> Result<Left, AllocError> {
     let call = n as u64;
     let fails = match end {
         End::Read => [call, NEVER, NEVER],
         End::Air => [NEVER, call, NEVER],
         End::Report => [NEVER, NEVER, call],
     };
-    ran(alloc, EVERY, piece, fails)
+    ran(rt, alloc, EVERY, piece, fails)
 }
 
 // The run with call `n` of an end failing leaves what is due; `whole` is the whole air.
-fn fails_as_due(
+fn fails_as_due<W: Threads + Wait + Sync>(
+    rt: &W,
     alloc: Global,
     whole: &[u8],
     piece: usize,
     end: End,
     n: usize,
 ) -> Result<bool, AllocError> {
-    let left = run_failing(alloc, piece, end, n)?;
+    let left = run_failing(rt, alloc, piece, end, n)?;
     let expected = due(end, n, piece);
     let report = report_of(alloc, expected.entries, expected.fault)?;
     let told = if end == End::Report {
@@ -154,7 +164,8 @@ fn fails_as_due(
 }
 
 // Whether each of the first `calls` calls of an end, failing, leaves what is due, and the call behind them is not made.
-fn each_fails(
+fn each_fails<W: Threads + Wait + Sync>(
+    rt: &W,
     alloc: Global,
     whole: &[u8],
     piece: usize,
@@ -162,18 +173,18 @@ fn each_fails(
     calls: usize,
 ) -> Result<bool, AllocError> {
     for n in 0..calls {
-        if !fails_as_due(alloc, whole, piece, end, n)? {
+        if !fails_as_due(rt, alloc, whole, piece, end, n)? {
             return Ok(false);
         }
     }
-    let left = run_failing(alloc, piece, end, calls)?;
+    let left = run_failing(rt, alloc, piece, end, calls)?;
     Ok(left.status == Status::Done)
 }
 
 #[test]
 fn each_call_fails_in_turn(rt: HostRuntime) -> Result<(), Fail> {
     let alloc = rt.alloc();
-    let left = played(alloc, EVERY)?;
+    let left = played(&rt, alloc, EVERY)?;
     let journal = report_of(alloc, 6, "")?;
     assert_eq!(rt; left.status, Status::Done);
     assert_eq!(rt; left.report.taken(), journal.as_bytes());
@@ -182,6 +193,7 @@ fn each_call_fails_in_turn(rt: HostRuntime) -> Result<(), Fail> {
     for piece in [5, 188, 65_536] {
         assert!(rt;
             each_fails(
+                &rt,
                 alloc,
                 whole,
                 piece,
@@ -189,9 +201,19 @@ fn each_call_fails_in_turn(rt: HostRuntime) -> Result<(), Fail> {
                 EVERY.len().div_ceil(piece) + 1
             )?
         );
-        assert!(rt; each_fails(alloc, whole, piece, End::Air, 2 * 188_usize.div_ceil(piece))?);
         assert!(rt;
             each_fails(
+                &rt,
+                alloc,
+                whole,
+                piece,
+                End::Air,
+                2 * 188_usize.div_ceil(piece)
+            )?
+        );
+        assert!(rt;
+            each_fails(
+                &rt,
                 alloc,
                 whole,
                 piece,
@@ -207,6 +229,6 @@ fn each_call_fails_in_turn(rt: HostRuntime) -> Result<(), Fail> {
 fn a_printed_journal_is_a_script(rt: HostRuntime) -> Result<(), Fail> {
     let alloc = rt.alloc();
     let journal = report_of(alloc, 6, "")?;
-    assert!(rt; prints_itself(alloc, &journal)?);
+    assert!(rt; prints_itself(&rt, alloc, &journal)?);
     Ok(())
 }

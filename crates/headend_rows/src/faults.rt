@@ -4,7 +4,10 @@ use desk_core::Outcome;
 use epg_cli::Status;
 use mux_config::MuxFault;
 use std::alloc::{AllocError, Global};
+use std::marker::Sync;
+use std::sync::Wait;
 use std::test::Fail;
+use std::thread::Threads;
 
 // Inputs that stop: an exit status, the input, and the report behind `>`; an empty line parts them.
 const FAULTS: &str = "\
@@ -117,14 +120,18 @@ end
 >fault: mux line 3 out of range";
 
 // Whether the input of a row stops as the row says, and nothing is sent.
-fn stops_so(alloc: Global, row: &str) -> Result<bool, AllocError> {
+fn stops_so<W: Threads + Wait + Sync>(
+    rt: &W,
+    alloc: Global,
+    row: &str,
+) -> Result<bool, AllocError> {
     let Some((code, rest)) = row.split_once("\n") else {
         return Ok(false);
     };
     let Some((input, report)) = rest.split_once(">") else {
         return Ok(false);
     };
-    let left = played(alloc, input)?;
+    let left = played(rt, alloc, input)?;
     let report = joined(alloc, &[report, "\n"])?;
     let code_is = code.as_bytes() == [b'0' + left.status.code() % 10].as_slice();
     Ok(code_is && left.air.taken().is_empty() && left.report.taken() == report.as_bytes())
@@ -134,7 +141,7 @@ fn stops_so(alloc: Global, row: &str) -> Result<bool, AllocError> {
 fn inputs_that_stop(rt: HostRuntime) -> Result<(), Fail> {
     let alloc = rt.alloc();
     for row in FAULTS.split("\n\n") {
-        assert!(rt; stops_so(alloc, row)?, "{row}");
+        assert!(rt; stops_so(&rt, alloc, row)?, "{row}");
     }
     Ok(())
 }
@@ -143,12 +150,12 @@ fn inputs_that_stop(rt: HostRuntime) -> Result<(), Fail> {
 fn the_stop_is_told(rt: HostRuntime) -> Result<(), Fail> {
     let alloc = rt.alloc();
     let text = joined(alloc, &[MUX, "publish\n=,published,2\n"])?;
-    let left = played(alloc, &text)?;
+    let left = played(&rt, alloc, &text)?;
     assert_eq!(rt;
         left.status,
         Status::Disagrees(6, Outcome::Published(2), Outcome::Published(1))
     );
-    let left = played(alloc, "network,40\n")?;
+    let left = played(&rt, alloc, "network,40\n")?;
     assert_eq!(rt; left.status, Status::BadMux(MuxFault::Line(1)));
     Ok(())
 }

@@ -3,22 +3,35 @@ use crate::runs::{joined, played};
 use epg_cli::Status;
 use std::alloc::{AllocError, Global};
 use std::fmt::Write;
+use std::marker::Sync;
+use std::sync::Wait;
 use std::test::Fail;
+use std::thread::Threads;
 
 // The same multiplex, which starts a quarter of an hour before one.
 const LATE_MUX: &str =
     "network,40,Demo\nstream,1,1\nservice,101,1,1,256,257,Acme,One\nstart,1993-10-13T12:45:00Z\nend\n";
 
 // Whether the script of a multiplex is played to its end, and the journal is this text.
-fn prints(alloc: Global, mux: &str, script: &str, journal: &str) -> Result<bool, AllocError> {
+fn prints<W: Threads + Wait + Sync>(
+    rt: &W,
+    alloc: Global,
+    mux: &str,
+    script: &str,
+    journal: &str,
+) -> Result<bool, AllocError> {
     let text = joined(alloc, &[mux, script])?;
-    let left = played(alloc, &text)?;
+    let left = played(rt, alloc, &text)?;
     Ok(left.status == Status::Done && left.report.taken() == journal.as_bytes())
 }
 
 // Whether a journal, as a script, is played to its end and printed again: each outcome is the one that it keeps.
-pub(crate) fn prints_itself(alloc: Global, journal: &str) -> Result<bool, AllocError> {
-    prints(alloc, LATE_MUX, journal, journal)
+pub(crate) fn prints_itself<W: Threads + Wait + Sync>(
+    rt: &W,
+    alloc: Global,
+    journal: &str,
+) -> Result<bool, AllocError> {
+    prints(rt, alloc, LATE_MUX, journal, journal)
 }
 
 // Journals of the multiplex that starts at 12:45; an empty line parts them.
@@ -96,7 +109,7 @@ fn journals_that_print_themselves(rt: HostRuntime) -> Result<(), Fail> {
     let alloc = rt.alloc();
     for journal in JOURNALS.split("\n\n") {
         let journal = joined(alloc, &[journal, "\n"])?;
-        assert!(rt; prints_itself(alloc, journal.as_str())?, "{journal}");
+        assert!(rt; prints_itself(&rt, alloc, journal.as_str())?, "{journal}");
     }
     Ok(())
 }
@@ -124,8 +137,8 @@ fn full_block(alloc: Global, name: usize, outcome: &str) -> Result<String, Alloc
 fn a_full_block(rt: HostRuntime) -> Result<(), Fail> {
     let alloc = rt.alloc();
     let full = full_block(alloc, 75, "done")?;
-    assert!(rt; prints_itself(alloc, &full)?);
+    assert!(rt; prints_itself(&rt, alloc, &full)?);
     let over = full_block(alloc, 76, "range,segment,20001")?;
-    assert!(rt; prints_itself(alloc, &over)?);
+    assert!(rt; prints_itself(&rt, alloc, &over)?);
     Ok(())
 }

@@ -1,9 +1,12 @@
-// Runs of `play` over sources and sinks in memory.
+// Runs of the word `play` over sources and sinks in memory.
 ghost use Rattle.std.specs.Prelude.{◌≤◌};
 
-use epg_cli::{Status, run_play};
-use si_causes::{MemSink, MemSource};
+use epg_cli::{Status, run};
+use si_causes::{MemSink, MemSource, NoFiles, OpenGate};
 use std::alloc::{AllocError, Global};
+use std::marker::Sync;
+use std::sync::Wait;
+use std::thread::Threads;
 
 // A network, a stream and a service, and then a name on the air.
 pub(crate) const MUX: &str = "network,40,Demo\nstream,1,1\nservice,101,1,1,256,257,Acme,One\nend\n";
@@ -23,9 +26,17 @@ pub(crate) struct Left {
     pub(crate) report: MemSink,
 }
 
+// The one word of the command line.
+fn play_word(alloc: Global) -> Result<Vec<String>, AllocError> {
+    let mut words = Vec::new(alloc);
+    words.push(String::from_str(alloc, "play")?)?;
+    Ok(words)
+}
+
 // A run over this text. Each end moves at most `piece` bytes a call; the read, the write to the air and the write to the report with
 // these numbers fail.
-pub(crate) fn ran(
+pub(crate) fn ran<W: Threads + Wait + Sync>(
+    rt: &W,
     alloc: Global,
     text: &str,
     piece: usize,
@@ -36,7 +47,18 @@ pub(crate) fn ran(
     let mut input = MemSource::open(text, piece.max(1), vec![in alloc; read; 1]?);
     let mut air = MemSink::open(alloc, piece.max(1), vec![in alloc; sent; 1]?);
     let mut report = MemSink::open(alloc, piece.max(1), vec![in alloc; told; 1]?);
-    let status = run_play(alloc, &mut input, &mut air, &mut report);
+    let words = play_word(alloc)?;
+    let mut files = NoFiles::new();
+    let status = run(
+        rt,
+        alloc,
+        &words,
+        &mut files,
+        &mut input,
+        &mut air,
+        &mut report,
+        &OpenGate,
+    );
     Ok(Left {
         status,
         air,
@@ -48,8 +70,12 @@ pub(crate) fn ran(
 pub(crate) const NEVER: u64 = 1_000_000_000;
 
 // A run in which no end fails.
-pub(crate) fn played(alloc: Global, text: &str) -> Result<Left, AllocError> {
-    ran(alloc, text, 65_536, [NEVER; 3])
+pub(crate) fn played<W: Threads + Wait + Sync>(
+    rt: &W,
+    alloc: Global,
+    text: &str,
+) -> Result<Left, AllocError> {
+    ran(rt, alloc, text, 65_536, [NEVER; 3])
 }
 
 // A text of parts.
