@@ -7,13 +7,14 @@ ghost use Rattle.feed_book.specs.Readings.{event_of as event_given};
 ghost use Rattle.feed_book.specs.Standing.{is_done};
 ghost use Rattle.feed_book.specs.Replies.{item_fault, put_reply};
 ghost use Rattle.feed_book.specs.Slots.{slot_of as slot_of_event, AreIndexed};
-ghost use Rattle.std.specs.Prelude.{IfOk, OnErr, Some, None, [], if◌then◌else◌};
+ghost use Rattle.std.specs.Prelude.{IfOk, OnOk, OnErr, Some, None, [], if◌then◌else◌};
 
 use crate::reading::{event_of, field_fault};
 use crate::reply::{DayFault, Reply};
 use crate::slots::{Slot, place_fault, place_of_id, place_of_start, slot_of};
 use feed_edits::Item;
 use guide_model::Event;
+use page_share::Page;
 use std::alloc::AllocError;
 
 // An insertion for which there is room.
@@ -102,17 +103,37 @@ fn reply_of(fault: DayFault) -> Reply
     }
 }
 
+// Puts an event in place of the one of its id.
+fn put_fresh(
+    events: &mut Vec<Event>,
+    slots: &mut Vec<Slot>,
+    event: Event,
+    slot: Slot,
+) -> Result<(), AllocError>
+    requires apart { AreApart events.old.items }
+    requires index { slots.old.items ≡ map slot_of_event events.old.items }
+    requires slot { slot ≡ slot_of_event event }
+    ensures events { OnOk result (events.new.items ≡ put event events.old.items) }
+    ensures index { OnOk result (slots.new.items ≡ map slot_of_event (put event events.old.items)) }
+    ensures memory { OnErr result ((events.new.items ≡ events.old.items) × (slots.new.items ≡ slots.old.items)) }
+{
+    events.reserve(1)?;
+    slots.reserve(1)?;
+    put_in(events, slots, event, slot);
+    Ok(())
+}
+
 /// Puts an item, or says by which rule not.
 pub(crate) fn put_item(
-    events: &mut Vec<Event>,
+    page: &mut Page,
     slots: &mut Vec<Slot>,
     item: &Item,
 ) -> Result<Reply, AllocError>
-    requires { AreIndexed events.old.items slots.old.items }
-    ensures reply { IfOk result (λ reply. reply ≡ put_reply (item_fault None events.old.items item.now)) }
-    ensures events { IfOk result (λ reply. events.new.items ≡ (if is_done reply then put (event_given item.now) events.old.items else events.old.items)) }
-    ensures memory { OnErr result (events.new.items ≡ events.old.items) }
-    ensures indexed { AreIndexed events.new.items slots.new.items }
+    requires { AreIndexed page.old.guide.events slots.old.items }
+    ensures reply { IfOk result (λ reply. reply ≡ put_reply (item_fault None page.old.guide.events item.now)) }
+    ensures guide { IfOk result (λ reply. page.new.guide ≡ (if is_done reply then record page.old.guide { events = put (event_given item.now) page.old.guide.events } else page.old.guide)) }
+    ensures memory { OnErr result (page.new.guide ≡ page.old.guide) }
+    ensures indexed { AreIndexed page.new.guide.events slots.new.items }
 {
     if let Some(field) = field_fault(item, None) {
         return Ok(Reply::Range(field));
@@ -122,26 +143,39 @@ pub(crate) fn put_item(
     if let Some(fault) = place_fault(slots, &slot) {
         return Ok(reply_of(fault));
     }
-    events.reserve(1)?;
-    slots.reserve(1)?;
-    put_in(events, slots, event, slot);
+    page.own()?;
+    let events = &mut page.change().events;
+    put_fresh(&mut events.items, slots, event, slot)?;
     Ok(Reply::Done)
 }
 
-/// Takes the event of an id out of an index of events.
-pub(crate) fn withdraw(events: &mut Vec<Event>, slots: &mut Vec<Slot>, id: u16)
-    requires { AreIndexed events.old.items slots.old.items }
-    ensures events { events.new.items ≡ without id events.old.items }
-    ensures indexed { AreIndexed events.new.items slots.new.items }
+/// Takes the event of an id out. The page stays shared where there is none.
+pub(crate) fn withdraw(page: &mut Page, slots: &mut Vec<Slot>, id: u16) -> Result<(), AllocError>
+    requires { AreIndexed page.old.guide.events slots.old.items }
+    ensures guide { OnOk result (page.new.guide ≡ record page.old.guide { events = without id page.old.guide.events }) }
+    ensures memory { OnErr result (page.new.guide ≡ page.old.guide) }
+    ensures indexed { AreIndexed page.new.guide.events slots.new.items }
 {
-    take_out(events, slots, id);
+    let at = place_of_id(slots, id);
+    if at == slots.len() {
+        return Ok(());
+    }
+    page.own()?;
+    let events = &mut page.change().events;
+    take_out(&mut events.items, slots, id);
+    Ok(())
 }
 
 /// Takes all events out.
-pub(crate) fn clear(events: &mut Vec<Event>, slots: &mut Vec<Slot>)
-    ensures events { events.new.items ≡ [] }
-    ensures indexed { AreIndexed events.new.items slots.new.items }
+pub(crate) fn clear(page: &mut Page, slots: &mut Vec<Slot>) -> Result<(), AllocError>
+    requires { AreIndexed page.old.guide.events slots.old.items }
+    ensures guide { OnOk result (page.new.guide ≡ record page.old.guide { events = [] }) }
+    ensures memory { OnErr result (page.new.guide ≡ page.old.guide) }
+    ensures indexed { AreIndexed page.new.guide.events slots.new.items }
 {
-    events.clear();
+    page.own()?;
+    let events = &mut page.change().events;
+    events.items.clear();
     slots.clear();
+    Ok(())
 }
