@@ -19,7 +19,7 @@ use ts_packets::{packets_of, put_packet};
 use version_book::VersionBook;
 
 /// A section of the cycle: its PID, and where its bytes stand.
-#[derive(Debug, Clone, Copy, PartialEq, Eq)]
+#[derive(Clone, Copy, PartialEq, Eq)]
 pub(crate) struct Placed {
     pub(crate) pid: u16,
     pub(crate) start: usize,

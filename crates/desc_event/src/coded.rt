@@ -11,7 +11,7 @@ use std::marker::Model;
 const UTF8: u8 = 0x15;
 
 /// The bytes of a coded text, which contracts see as their list.
-#[derive(Debug, Drop)]
+#[derive(Drop)]
 pub(crate) struct Coded<'a> {
     is_utf8: bool,
     bytes: &'a [u8],

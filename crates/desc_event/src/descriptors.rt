@@ -6,7 +6,7 @@ use si_base::{Bytes, Items};
 use std::alloc::{AllocError, Global};
 
 /// A descriptor: descriptor_tag and the bytes behind descriptor_length (EN 300 468, 6.1).
-#[derive(Debug, Drop)]
+#[derive(Drop)]
 pub struct RawDesc {
     pub tag: u8,
     pub body: Bytes,

@@ -10,7 +10,7 @@ use std::alloc::{AllocError, Global};
 
 /// What an extended_event_descriptor holds: descriptor_number and last_descriptor_number (4 bits each), the language
 /// (three letters) and the coded bytes of its piece of the text. Items are in no value (EN 300 468, 6.2.15).
-#[derive(Debug, Drop)]
+#[derive(Drop)]
 pub struct ExtendedPiece {
     pub number: u8,
     pub last: u8,

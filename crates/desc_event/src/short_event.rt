@@ -11,7 +11,7 @@ use std::alloc::{AllocError, Global};
 
 /// What a short_event_descriptor holds: the language of its texts (three letters), the name of the event and a short
 /// text (EN 300 468, 6.2.37).
-#[derive(Debug, Drop)]
+#[derive(Drop)]
 pub struct ShortEvent {
     pub language: [u8; 3],
     pub name: Shown,

@@ -3,7 +3,7 @@ use guide_model::ScreenEvents;
 
 /// What a body begins with: transport_stream_id (`stream`), original_network_id, segment_last_section_number and
 /// last_table_id (EN 300 468, 5.2.4).
-#[derive(Debug, Clone, Copy, PartialEq, Eq)]
+#[derive(Clone, Copy, PartialEq, Eq)]
 pub struct EitHead {
     pub stream: u16,
     pub original: u16,
@@ -12,7 +12,7 @@ pub struct EitHead {
 }
 
 /// The body of an event information section as it was heard.
-#[derive(Debug, Drop)]
+#[derive(Drop)]
 pub struct Eit {
     pub head: EitHead,
     pub events: ScreenEvents,

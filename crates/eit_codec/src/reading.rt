@@ -75,7 +75,7 @@ fn read_events(alloc: Global, bytes: &[u8]) -> Result<Option<ScreenEvents>, Allo
 }
 
 /// An entry of an event as it stands in a body, its descriptors not read yet. Contracts see it as an `Entry`.
-#[derive(Debug, Drop)]
+#[derive(Drop)]
 pub(crate) struct RawEntry<'a> {
     pub(crate) id: u16,
     pub(crate) time: [u8; 5],

@@ -17,7 +17,7 @@ use si_causes::{Sink, Source, write_all};
 use std::alloc::{AllocError, Global};
 
 /// Why a recording is not heard on: no further packet, the report, or want of memory.
-#[derive(Debug, Clone, Copy, PartialEq, Eq)]
+#[derive(Clone, Copy, PartialEq, Eq)]
 pub(crate) enum ListenStop {
     Read(PacketStop),
     Report,

@@ -6,21 +6,21 @@ use desk_core::Outcome;
 use mux_config::MuxFault;
 
 /// A text that is read: the input, or the text of a feed, by its number.
-#[derive(Debug, Clone, Copy, PartialEq, Eq)]
+#[derive(Clone, Copy, PartialEq, Eq)]
 pub enum Origin {
     Input,
     Feed(u8),
 }
 
 /// Where bytes go: to the air, or to the report.
-#[derive(Debug, Clone, Copy, PartialEq, Eq)]
+#[derive(Clone, Copy, PartialEq, Eq)]
 pub enum Outlet {
     Air,
     Report,
 }
 
 /// How a run ended.
-#[derive(Debug, Clone, Copy, PartialEq, Eq)]
+#[derive(Clone, Copy, PartialEq, Eq)]
 pub enum Status {
     /// Valid input, read to its end, and no fault.
     Done,

@@ -9,7 +9,7 @@ use std::alloc::AllocError;
 
 /// Why a script is not played on: the description of the multiplex has a fault; a line that is no command there; an outcome line
 /// that keeps another outcome (the first) than the desk's; the input; the air; or want of memory.
-#[derive(Debug, Clone, Copy, PartialEq, Eq)]
+#[derive(Clone, Copy, PartialEq, Eq)]
 pub(crate) enum PlayStop {
     NoMux(MuxFault),
     NoCommand(u64),

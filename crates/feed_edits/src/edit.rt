@@ -5,21 +5,21 @@ use si_text::Txt;
 
 /// A start_time as it is given (EN 300 468, 5.2.4): the text `YYYY-MM-DDThh:mm:ssZ`. Any bytes are a stamp;
 /// `si_time::read_moment` reads those that are a moment.
-#[derive(Debug, Clone, Copy, PartialEq, Eq)]
+#[derive(Clone, Copy, PartialEq, Eq)]
 pub struct Stamp(pub [u8; 20]);
 
 /// A duration as it is given (EN 300 468, 5.2.4): the text `hh:mm:ss`. Any bytes are a length;
 /// `si_time::read_duration` reads those that are a duration.
-#[derive(Debug, Clone, Copy, PartialEq, Eq)]
+#[derive(Clone, Copy, PartialEq, Eq)]
 pub struct Length(pub [u8; 8]);
 
 /// A day in UTC as it is given: the text `YYYY-MM-DD`. Any bytes are such a text; `si_time::read_day` reads those that
 /// are a day.
-#[derive(Debug, Clone, Copy, PartialEq, Eq)]
+#[derive(Clone, Copy, PartialEq, Eq)]
 pub struct DayText(pub [u8; 10]);
 
 /// A parental rating as it is given (EN 300 468, 6.2.28): a country code and a value, neither held to its limits.
-#[derive(Debug, Drop)]
+#[derive(Drop)]
 pub struct RawRating {
     pub country: Txt,
     pub value: u8,
@@ -28,7 +28,7 @@ pub struct RawRating {
 /// An event as a feed gives it (EN 300 468, 5.2.4): its event_id, start and duration, the language code of its texts
 /// (6.2.37), its name and short text (short_event, 6.2.37), its extended text (6.2.15), its parental rating where it has
 /// one, and its genres (content, 6.2.9). Nothing but the id is held to its limits yet.
-#[derive(Debug, Drop)]
+#[derive(Drop)]
 pub struct Item {
     pub id: u16,
     pub start: Stamp,
@@ -46,7 +46,7 @@ pub type DayItems = Items<Item>;
 
 /// What a feed asks for: an edit of the service with the service_id that stands first. An event is identified by its
 /// service and its event_id.
-#[derive(Debug, Drop)]
+#[derive(Drop)]
 pub enum Edit {
     /// The item's event stands, in place of the event of its id.
     Put(u16, Item),

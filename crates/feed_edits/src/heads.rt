@@ -9,7 +9,7 @@ use si_text::Txt;
 use std::alloc::{AllocError, Global};
 
 // What the line of an edit gives: a whole edit, or a day and how many items follow on lines of their own.
-#[derive(Debug, Drop)]
+#[derive(Drop)]
 pub(crate) enum Head {
     Whole(Edit),
     OfDay(u16, DayText, u32),

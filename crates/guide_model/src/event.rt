@@ -5,7 +5,7 @@ use si_time::Moment;
 use std::alloc::AllocError;
 
 /// A class of content: two levels of nibbles and a user byte (EN 300 468, 6.2.9).
-#[derive(Debug, Clone, Copy, PartialEq, Eq)]
+#[derive(Clone, Copy, PartialEq, Eq)]
 pub struct Genre {
     pub level1: u8,
     pub level2: u8,
@@ -16,7 +16,7 @@ pub struct Genre {
 pub type Genres = Items<Genre>;
 
 /// A parental rating in one country: three letters and a value (EN 300 468, 6.2.28).
-#[derive(Debug, Clone, Copy, PartialEq, Eq)]
+#[derive(Clone, Copy, PartialEq, Eq)]
 pub struct Rating {
     pub country: [u8; 3],
     pub value: u8,
@@ -24,7 +24,7 @@ pub struct Rating {
 
 /// An event: its id, start, duration in seconds, the language of its texts (three letters), its texts, and where
 /// they are given its rating and genres.
-#[derive(Debug, Drop)]
+#[derive(Drop)]
 pub struct Event {
     pub id: u16,
     pub start: Moment,

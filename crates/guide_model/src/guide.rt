@@ -8,7 +8,7 @@ use si_time::Moment;
 use std::alloc::AllocError;
 
 /// The names and the events of a service.
-#[derive(Debug, Drop)]
+#[derive(Drop)]
 pub struct ServiceGuide {
     pub service: u16,
     pub provider: Txt,
@@ -20,7 +20,7 @@ pub struct ServiceGuide {
 pub type ServiceGuides = Items<ServiceGuide>;
 
 /// What is published: the moment of the publication, and each service's names and events.
-#[derive(Debug, Drop)]
+#[derive(Drop)]
 pub struct Guide {
     pub moment: Moment,
     pub services: ServiceGuides,

@@ -7,7 +7,7 @@ use si_time::Moment;
 
 /// An event as it was heard: its id, start, duration in seconds, the language of its texts (three letters), its
 /// texts, and where they were heard its rating and genres (EN 300 468, 5.2.4, 6.2.9, 6.2.15, 6.2.28, 6.2.37).
-#[derive(Debug, Drop)]
+#[derive(Drop)]
 pub struct ScreenEvent {
     pub id: u16,
     pub start: Moment,
@@ -26,7 +26,7 @@ pub type ScreenEvents = Items<ScreenEvent>;
 /// A service as it was heard: its service_id, its service_type (`kind`), the names of its provider and its own, the
 /// PIDs of its PMT and its PCR where a program gives them, its components, its present and following event, and the
 /// events of its schedule (ISO/IEC 13818-1, 2.4.4.3 and 2.4.4.8; EN 300 468, 5.2.3, 5.2.4 and 6.2.33).
-#[derive(Debug, Drop)]
+#[derive(Drop)]
 pub struct ScreenService {
     pub service: u16,
     pub kind: u8,
@@ -46,7 +46,7 @@ pub type ScreenServices = Items<ScreenService>;
 /// What a receiver shows of a multiplex: the last moment that it heard, network_id and name of the network,
 /// transport_stream_id (`stream`) and original_network_id, how the stream is sent by cable where it is told, and the
 /// services (EN 300 468, 5.2.1, 5.2.3 and 5.2.5).
-#[derive(Debug, Drop)]
+#[derive(Drop)]
 pub struct Screen {
     pub clock: Moment,
     pub network: u16,

@@ -4,7 +4,7 @@ use std::alloc::AllocError;
 
 /// How a multiplex is sent by cable (EN 300 468, 6.2.13.1): frequency in units of 100 Hz (8 decimal digits), modulation,
 /// symbol rate in units of 100 symbols a second (7 decimal digits), outer and inner error protection (4 bits each).
-#[derive(Debug, Clone, Copy, PartialEq, Eq)]
+#[derive(Clone, Copy, PartialEq, Eq)]
 pub struct Cable {
     pub frequency: u32,
     pub modulation: u8,
@@ -15,7 +15,7 @@ pub struct Cable {
 
 /// An elementary stream of a service (ISO/IEC 13818-1, 2.4.4.8): its stream_type, its PID and, where it is given,
 /// its language (three letters).
-#[derive(Debug, Clone, Copy, PartialEq, Eq)]
+#[derive(Clone, Copy, PartialEq, Eq)]
 pub struct Component {
     pub stream_type: u8,
     pub pid: u16,

@@ -8,7 +8,7 @@ use si_base::Items;
 use std::alloc::{AllocError, Global};
 
 /// A completion that is shown: the key of the sub-table, and the version_number that was heard whole.
-#[derive(Debug, Clone, Copy, PartialEq, Eq)]
+#[derive(Clone, Copy, PartialEq, Eq)]
 pub struct DoneKey {
     pub key: Key,
     pub version: u8,

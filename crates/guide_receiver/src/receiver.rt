@@ -16,7 +16,7 @@ use ts_demux::{Demux, RawSection};
 use ts_packets::read_packet;
 
 /// Why a packet is not heard: its first byte is not the sync_byte 0x47, or want of memory.
-#[derive(Debug, Clone, Copy, PartialEq, Eq)]
+#[derive(Clone, Copy, PartialEq, Eq)]
 pub enum HearStop {
     Sync,
     Memory,
@@ -24,7 +24,7 @@ pub enum HearStop {
 
 /// A receiver of a transport stream. It stands for the packets that it heard, and keeps of each PID the section that is open, and
 /// of each sub-table its present run of sections and its latest completion. It keeps its allocator.
-#[derive(Debug, Drop)]
+#[derive(Drop)]
 pub struct Receiver {
     alloc: Global,
     demux: Demux,

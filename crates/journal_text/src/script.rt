@@ -21,7 +21,7 @@ use std::alloc::Global;
 
 /// An item of a script: a command, with its caller's number; the outcome that is kept behind a command, with the number
 /// of its line; or the end.
-#[derive(Debug, Drop)]
+#[derive(Drop)]
 pub enum ScriptItem {
     Step(u32, Step),
     Kept(u64, Outcome),

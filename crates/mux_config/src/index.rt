@@ -78,7 +78,7 @@ fn first_line(kind: Kind, records: &[Numbered]) -> Option<u64>
 }
 
 // The line of a service, and how many components it has.
-#[derive(Debug, Clone, Copy)]
+#[derive(Clone, Copy)]
 pub(crate) struct Standing {
     line: u64,
     parts: u64,

@@ -9,7 +9,7 @@ use std::alloc::AllocError;
 
 /// A service of the multiplex: its service_id, the number of the feed that edits it, its service_type (EN 300 468, 6.2.33),
 /// the PIDs of its PMT and of its clock reference (ISO/IEC 13818-1, 2.4.4.8), its first names and its components.
-#[derive(Debug, Drop)]
+#[derive(Drop)]
 pub struct MuxService {
     pub service: u16,
     pub feed: u8,
@@ -27,7 +27,7 @@ pub type MuxServices = Items<MuxService>;
 /// A multiplex: network_id and network name, transport_stream_id, original_network_id, its cable delivery where it is
 /// given, the moment at which its desk starts, the number of packets between two repeats of its frequent tables, and its
 /// services.
-#[derive(Debug, Drop)]
+#[derive(Drop)]
 pub struct Mux {
     pub network: u16,
     pub network_name: Txt,

@@ -7,7 +7,7 @@ use si_time::Moment;
 /// What a line of the description says: the network's id and name; the stream's id and its original network; the cable
 /// delivery; a service, still without components; a component of a service; the moment at which the desk starts; the
 /// quota; the end.
-#[derive(Debug, Drop)]
+#[derive(Drop)]
 pub enum Record {
     Network(u16, Txt),
     Stream(u16, u16),
@@ -20,14 +20,14 @@ pub enum Record {
 }
 
 /// A record and the number of its line.
-#[derive(Debug, Drop)]
+#[derive(Drop)]
 pub struct Numbered {
     pub line: u64,
     pub says: Record,
 }
 
 // What was found in a line: no record, a record with a field outside its range, or this one.
-#[derive(Debug, Drop)]
+#[derive(Drop)]
 pub(crate) enum Found {
     NoRecord,
     OutOfRange,

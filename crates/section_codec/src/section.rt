@@ -3,7 +3,7 @@ use si_base::Bytes;
 
 /// The header of a section in the long form: table_id, table_id_extension, version_number (below 32),
 /// current_next_indicator, section_number and last_section_number.
-#[derive(Debug, Clone, Copy, PartialEq, Eq)]
+#[derive(Clone, Copy, PartialEq, Eq)]
 pub struct LongHeader {
     pub table: u8,
     pub ext: u16,
@@ -14,14 +14,14 @@ pub struct LongHeader {
 }
 
 /// A section: in the long form with its header and body, or in the short form with its table_id and body.
-#[derive(Debug, Drop)]
+#[derive(Drop)]
 pub enum Section {
     Long(LongHeader, Bytes),
     Short(u8, Bytes),
 }
 
 /// Why bytes are no section: their length, their CRC (kept, found), their syntax, or want of memory.
-#[derive(Debug, Clone, Copy, PartialEq, Eq)]
+#[derive(Clone, Copy, PartialEq, Eq)]
 pub enum BadSection {
     Length,
     Crc(u32, u32),

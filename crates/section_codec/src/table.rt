@@ -3,7 +3,7 @@ use si_base::{Bytes, Items};
 
 /// What names a sub-table on the wire: its PID, table_id and table_id_extension and, where the table has
 /// them, transport_stream_id and original_network_id (else 0).
-#[derive(Debug, Clone, Copy, PartialEq, Eq, PartialOrd, Ord)]
+#[derive(Clone, Copy, PartialEq, Eq, PartialOrd, Ord)]
 pub struct Key {
     pub pid: u16,
     pub table: u8,
@@ -13,7 +13,7 @@ pub struct Key {
 }
 
 /// The section_number and the body of a section.
-#[derive(Debug, Drop)]
+#[derive(Drop)]
 pub struct NumberedBody {
     pub number: u8,
     pub body: Bytes,
@@ -23,7 +23,7 @@ pub struct NumberedBody {
 pub type NumberedBodies = Items<NumberedBody>;
 
 /// How often a cycle repeats a sub-table.
-#[derive(Debug, Clone, Copy, PartialEq, Eq)]
+#[derive(Clone, Copy, PartialEq, Eq)]
 pub enum Tier3 {
     Fast,
     Near,
@@ -31,7 +31,7 @@ pub enum Tier3 {
 }
 
 /// A sub-table with its content.
-#[derive(Debug, Drop)]
+#[derive(Drop)]
 pub struct SubTable {
     pub key: Key,
     pub tier: Tier3,
@@ -42,7 +42,7 @@ pub struct SubTable {
 pub type SubTables = Items<SubTable>;
 
 /// The sub-tables of one publication.
-#[derive(Debug, Drop)]
+#[derive(Drop)]
 pub struct Tables {
     pub list: SubTables,
 }

@@ -30,13 +30,13 @@ mod tests {
     use std::alloc::Global;
     use std::test::Fail;
 
-    #[derive(Debug, Drop)]
+    #[derive(Drop)]
     struct Line {
         number: u16,
         letters: Items<Letter>,
     }
 
-    #[derive(Debug, Clone, Copy, PartialEq, Eq)]
+    #[derive(Clone, Copy, PartialEq, Eq)]
     struct Letter(u8);
 
     impl Copies for Letter {

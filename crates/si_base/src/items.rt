@@ -6,7 +6,7 @@ use std::marker::Model;
 
 /// A list over a `Vec`, which contracts see as the list of its elements alone: two lists are equal
 /// where their elements are, whatever room each has. It keeps the allocator of its `Vec`.
-#[derive(Debug, Drop)]
+#[derive(Drop)]
 pub struct Items<T> {
     /// The elements, in a `Vec` of which contracts see the elements alone.
     pub items: Vec<T>,

@@ -4,7 +4,7 @@ ghost use Rattle.std.specs.Prelude.{◌≡◌, ◌<◌, ◌↔◌, length, take,
 use std::marker::Model;
 
 /// A reader of bytes from their front. Contracts see it as the bytes that are left.
-#[derive(Debug, Drop)]
+#[derive(Drop)]
 pub struct Reader<'a> {
     rest: &'a [u8],
 }

@@ -3,7 +3,7 @@ use std::marker::Sync;
 
 /// A place in a run of `live`: before or after an edit, with the number of its feed and its place in that feed
 /// from 1, or before or after a swap, with its place from 1.
-#[derive(Debug, Clone, Copy, PartialEq, Eq)]
+#[derive(Clone, Copy, PartialEq, Eq)]
 pub enum Place {
     BeforeEdit(u8, u64),
     AfterEdit(u8, u64),
@@ -18,7 +18,7 @@ pub trait Gate: Sync {
 }
 
 /// The gate that holds nothing.
-#[derive(Debug, Clone, Copy, PartialEq, Eq)]
+#[derive(Clone, Copy, PartialEq, Eq)]
 pub struct OpenGate;
 
 impl Gate for OpenGate {

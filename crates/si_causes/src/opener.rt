@@ -47,7 +47,7 @@ pub trait Opener {
 }
 
 /// An opener without files, which does not tell the paths asked for.
-#[derive(Debug, Drop)]
+#[derive(Drop)]
 pub struct NoFiles {
     faults: u64,
 }

@@ -9,7 +9,7 @@ use std::alloc::AllocError;
 
 /// What the bytes of a coded text are shown as: their text, or all the bytes where they are of no text that may be
 /// kept (EN 300 468, annex A).
-#[derive(Debug, Drop)]
+#[derive(Drop)]
 pub enum Shown {
     Text(Txt),
     Hex(Bytes),

@@ -9,7 +9,7 @@ use std::marker::Model;
 
 /// A text without control characters (U+0000 to U+001F, U+007F to U+009F and U+E080 to U+E09F), which contracts
 /// see as its UTF-8 bytes.
-#[derive(Debug, Drop)]
+#[derive(Drop)]
 pub struct Txt {
     text: String,
 }

@@ -10,7 +10,7 @@ use crate::readings::{day_in, moment_from_bcd, moment_in};
 
 /// A moment in UTC: the seconds since Modified Julian Date 0, 1858-11-17T00:00:00Z, below 65,536 × 86,400
 /// (EN 300 468, annex C).
-#[derive(Debug, Clone, Copy, PartialEq, Eq)]
+#[derive(Clone, Copy, PartialEq, Eq)]
 pub struct Moment(pub u64);
 
 /// The 40 bits of a start_time or UTC_time: 16 bits of Modified Julian Date and six BCD digits hhmmss

@@ -19,7 +19,7 @@ use std::marker::Model;
 /// What was heard of sub-tables. It stands for the counted sections that were taken, in the order in which
 /// they ended: it keeps, of each key, the latest bodies of the present run and the latest completion.
 /// Contracts see it as these, in the order of the keys. It keeps its allocator.
-#[derive(Debug, Drop)]
+#[derive(Drop)]
 pub struct Collector {
     alloc: Global,
     slots: BTreeMap<Key, Slot>,
@@ -35,7 +35,7 @@ impl Model for Collector {
 }
 
 // What is kept of a key: its present run, and its latest completion.
-#[derive(Debug, Drop)]
+#[derive(Drop)]
 pub struct Slot {
     pub run: Run,
     pub latest: Option<Completed>,
@@ -157,7 +157,7 @@ mod tests {
 
     // A section: its table_id, version_number, section_number, last_section_number and the one byte of its
     // body, and whether it shows a completion.
-    #[derive(Debug, Clone, Copy)]
+    #[derive(Clone, Copy)]
     struct Heard(u8, u8, u8, u8, u8, bool);
 
     fn key_with(table: u8) -> Key {

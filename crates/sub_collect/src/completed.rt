@@ -7,7 +7,7 @@ use section_codec::{Key, NumberedBodies, NumberedBody};
 
 /// A sub-table that was heard whole: its key, its version_number, and its content, which is the bodies of
 /// its sections in ascending order of their numbers (EN 300 468, 5.1.1).
-#[derive(Debug, Drop)]
+#[derive(Drop)]
 pub struct Completed {
     pub key: Key,
     pub version: u8,

@@ -13,7 +13,7 @@ use std::collections::BTreeMap;
 
 // The version of the run, the last_section_number of its latest section, the latest body of each number that
 // it holds, and how many numbers it holds from 0 on.
-#[derive(Debug, Drop)]
+#[derive(Drop)]
 pub struct Run {
     pub version: u8,
     pub last: u8,

@@ -15,7 +15,7 @@ use ts_packets::Shape;
 /// A demultiplexer of sections: it hears the packets of a transport stream, whatever packets come, and gives the
 /// sections that they carry, of every PID. It stands for the packets that it has heard, and keeps of each PID the last
 /// load and the section that is open. It keeps its allocator.
-#[derive(Debug, Drop)]
+#[derive(Drop)]
 pub struct Demux {
     alloc: Global,
     places: Places,

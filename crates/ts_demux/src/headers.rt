@@ -4,7 +4,7 @@ ghost use Rattle.ts_demux.specs.Hearing.{size_in};
 ghost use Rattle.ts_demux.specs.Reaching.{reach_of};
 
 // How far the section that some bytes begin with reaches.
-#[derive(Debug, Clone, Copy, PartialEq, Eq)]
+#[derive(Clone, Copy, PartialEq, Eq)]
 pub(crate) enum Reach {
     // It ends within them, and has so many bytes.
     Ends(usize),

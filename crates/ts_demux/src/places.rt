@@ -12,7 +12,7 @@ use std::marker::Model;
 
 // A place for each PID, in the order of the PIDs; none at all before the first load. A place is filled at the first load
 // of its PID.
-#[derive(Debug, Drop)]
+#[derive(Drop)]
 pub(crate) struct Places {
     slots: Vec<Option<Box<Slot>>>,
 }

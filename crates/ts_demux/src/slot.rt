@@ -13,7 +13,7 @@ use std::alloc::{AllocError, Global};
 use std::marker::Model;
 
 // What the shape of a packet tells of its load.
-#[derive(Debug, Clone, Copy)]
+#[derive(Clone, Copy)]
 pub(crate) struct LoadShape {
     pub(crate) pid: u16,
     pub(crate) start: bool,
@@ -22,7 +22,7 @@ pub(crate) struct LoadShape {
 }
 
 // A load, as its packet and the place of the payload's first byte.
-#[derive(Debug, Clone, Copy)]
+#[derive(Clone, Copy)]
 pub(crate) struct LastLoad {
     counter: u8,
     at: u8,
@@ -31,7 +31,7 @@ pub(crate) struct LastLoad {
 }
 
 // What is kept of a PID: its last load, and the first bytes of the section that is open.
-#[derive(Debug, Drop)]
+#[derive(Drop)]
 pub(crate) struct Slot {
     last: Option<LastLoad>,
     section: Option<Bytes>,

@@ -3,7 +3,7 @@ ghost use Rattle.std.specs.Prelude.{◌≡◌};
 ghost use Rattle.ts_packets.specs.Bytes.{shape_in};
 
 /// What a packet is to a receiver of sections (ISO/IEC 13818-1, 2.4.3.2).
-#[derive(Debug, Clone, Copy, PartialEq, Eq)]
+#[derive(Clone, Copy, PartialEq, Eq)]
 pub enum Shape {
     /// Nothing of a section: a null packet, or one without payload.
     Pass,
@@ -20,7 +20,7 @@ pub enum Shape {
 }
 
 /// Why 188 bytes are no packet: the first byte is not the sync_byte 0x47.
-#[derive(Debug, Clone, Copy, PartialEq, Eq)]
+#[derive(Clone, Copy, PartialEq, Eq)]
 pub enum BadPacket {
     Sync,
 }

@@ -4,7 +4,7 @@ ghost use Rattle.ts_packets.specs.Packets.{filled, alone, packets_of};
 ghost use Rattle.ts_packets.specs.Bytes.{bytes_of_packet, packets_alone};
 
 /// A packet of a transport stream: its 188 bytes.
-#[derive(Debug, Clone, Copy, PartialEq, Eq)]
+#[derive(Clone, Copy, PartialEq, Eq)]
 pub struct TsPacket(pub [u8; 188]);
 
 /// The number of packets of a section of `len` bytes that begins in a packet of its own. It takes no memory.

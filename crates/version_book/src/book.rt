@@ -18,7 +18,7 @@ use std::marker::Model;
 /// The versions of sub-tables. It stands for the airings that were assigned: it keeps, of each key that
 /// an airing ever carried, the version and the content that the key was last given. Contracts see it as
 /// these, in the order of the keys. It keeps its allocator.
-#[derive(Debug, Drop)]
+#[derive(Drop)]
 pub struct VersionBook {
     alloc: Global,
     slots: Slots,

@@ -5,7 +5,7 @@ use section_codec::{Key, NumberedBodies};
 use std::collections::BTreeMap;
 
 // The version and the content that a key was last given.
-#[derive(Debug, Drop)]
+#[derive(Drop)]
 pub struct Held {
     pub version: u8,
     pub content: NumberedBodies,
