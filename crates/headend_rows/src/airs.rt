@@ -1,82 +1,105 @@
 // The packets of an air: versions, continuity counters, and sections of more than one packet.
-use crate::runs::{MUX, joined, played};
-use epg_cli::Status;
+use crate::runs::{MUX, air_of, joined, spelled};
 use std::alloc::{AllocError, Global};
 use std::fmt::Write;
+use std::marker::Sync;
+use std::sync::Wait;
 use std::test::Fail;
+use std::thread::Threads;
 
 // The version and the counter of packet `i` of an air, each section of which has one packet.
-fn numbers(air: &[u8], i: usize) -> Option<(u8, u8)> {
+fn numbers(air: &[u8], i: usize) -> Option<(usize, usize)> {
     let packet = air.chunks(188).nth(i)?;
-    Some(((packet.get(10)? >> 1) & 31, packet.get(3)? & 15))
+    let version = (packet.get(10)? >> 1) & 31;
+    let counter = packet.get(3)? & 15;
+    Some((version as usize, counter as usize))
 }
 
-// A name, a publish, so often, and a swap behind.
-fn renamed(text: &mut String, from: u32, count: u32) -> Result<(), AllocError> {
-    for i in from..from.saturating_add(count) {
-        write!(text, "feed,1,name,101,Acme,News {i}\npublish\n")?;
+// Whether an air has so many packets, whose versions rise up to the last and then stay, and whose counters go on.
+fn has_versions(air: &[u8], packets: usize, last: usize) -> bool {
+    air.len() == packets.saturating_mul(188)
+        && (0..packets).all(|i| numbers(air, i) == Some((i.min(last) % 32, i % 16)))
+}
+
+// A script that for each count makes so many publications, each of a new name, and one swap.
+pub(crate) fn renamed(alloc: Global, counts: &[u32]) -> Result<String, AllocError> {
+    let mut text = joined(alloc, &[MUX])?;
+    let mut name = 0u32;
+    for count in counts {
+        for _ in 0..*count {
+            write!(text, "feed,1,name,101,Acme,News {name}\npublish\n")?;
+            name = name.saturating_add(1);
+        }
+        text.push_str("swap\n")?;
     }
-    text.push_str("swap\n")
+    Ok(text)
+}
+
+// Whether the air of this script has versions up to the last.
+fn counts_versions<W: Threads + Wait + Sync>(
+    rt: &W,
+    alloc: Global,
+    counts: &[u32],
+    last: usize,
+) -> Result<bool, AllocError> {
+    let text = renamed(alloc, counts)?;
+    let air = air_of(rt, alloc, &text)?;
+    Ok(has_versions(&air, counts.len(), last))
 }
 
 #[test]
-fn versions_and_counters(rt: HostRuntime) -> Result<(), Fail> {
-    let alloc = rt.alloc();
-    // forty publications between two swaps raise the version by one
-    let mut text = joined(alloc, &[MUX])?;
-    renamed(&mut text, 0, 1)?;
-    renamed(&mut text, 1, 40)?;
-    let left = played(&rt, alloc, &text)?;
-    assert_eq!(rt; left.status, Status::Done);
-    assert_eq!(rt; left.air.taken().len(), 2 * 188);
-    assert_eq!(rt; numbers(left.air.taken(), 0), Some((0, 0)));
-    assert_eq!(rt; numbers(left.air.taken(), 1), Some((1, 1)));
-    // 33 swaps, each of a new publication, and then one more
-    let mut text = joined(alloc, &[MUX])?;
-    for i in 0..33 {
-        renamed(&mut text, i, 1)?;
-    }
-    text.push_str("swap\n")?;
-    let left = played(&rt, alloc, &text)?;
-    assert_eq!(rt; left.status, Status::Done);
-    let air = left.air.taken();
-    assert_eq!(rt; air.len(), 34 * 188);
-    for i in 0..34 {
-        let version: u8 = if i < 33 { i } else { 32 };
-        assert_eq!(rt; numbers(air, i as usize), Some((version % 32, i % 16)));
-    }
-    // the last swap repeats the section of the one before
-    let sections = (air.get(32 * 188 + 4..33 * 188), air.get(33 * 188 + 4..));
-    assert_eq!(rt; sections.0, sections.1);
+fn publications_between_two_swaps_raise_the_version_once(rt: HostRuntime) -> Result<(), Fail> {
+    assert!(rt; counts_versions(&rt, rt.alloc(), &[1, 40], 1)?);
     Ok(())
 }
 
+// 33 swaps, each of a new publication, and then one more.
+fn many_swaps() -> [u32; 34] {
+    let mut counts = [1; 34];
+    counts[33] = 0;
+    counts
+}
+
 #[test]
-fn a_section_of_two_packets(rt: HostRuntime) -> Result<(), Fail> {
-    let alloc = rt.alloc();
+fn versions_and_counters_start_again(rt: HostRuntime) -> Result<(), Fail> {
+    assert!(rt; counts_versions(&rt, rt.alloc(), &many_swaps(), 32)?);
+    Ok(())
+}
+
+// Whether the last packet has the section of the one before, with the next counter.
+fn repeats_the_last<W: Threads + Wait + Sync>(rt: &W, alloc: Global) -> Result<bool, AllocError> {
+    let text = renamed(alloc, &many_swaps())?;
+    let air = air_of(rt, alloc, &text)?;
+    let section = air.get(33 * 188 + 4..);
+    Ok(section.is_some() && air.get(32 * 188 + 4..33 * 188) == section)
+}
+
+#[test]
+fn a_swap_without_a_publication_repeats_the_section(rt: HostRuntime) -> Result<(), Fail> {
+    assert!(rt; repeats_the_last(&rt, rt.alloc())?);
+    Ok(())
+}
+
+// An SDT section of 225 bytes, in two packets: a provider's and a service's name of 100 bytes each.
+const TWO_PACKETS: &str =
+    "47 40 11 10  00  42 F0 DE 00 01 C1 00 00  00 01 FF  00 65 FF 80 CD  48 CB 01 64 70*100 64 6E*62 \
+     47 00 11 11  6E*38  23 50 63 1D  FF*142";
+
+// Whether the air of these names is those two packets.
+fn takes_two_packets<W: Threads + Wait + Sync>(rt: &W, alloc: Global) -> Result<bool, AllocError> {
     let mut text = joined(alloc, &[MUX])?;
     write!(
         text,
         "feed,1,name,101,{:p<100},{:n<100}\npublish\nswap\n",
         "", ""
     )?;
-    let mut bytes = Vec::new(alloc);
-    bytes.extend_from_slice(&[
-        0x47, 0x40, 0x11, 0x10, 0x00, 0x42, 0xF0, 0xDE, 0x00, 0x01, 0xC1, 0x00, 0x00,
-    ])?;
-    bytes.extend_from_slice(&[
-        0x00, 0x01, 0xFF, 0x00, 0x65, 0xFF, 0x80, 0xCD, 0x48, 0xCB, 0x01, 0x64,
-    ])?;
-    bytes.extend_from_slice(&[b'p'; 100])?;
-    bytes.push(0x64)?;
-    bytes.extend_from_slice(&[b'n'; 62])?;
-    bytes.extend_from_slice(&[0x47, 0x00, 0x11, 0x11])?;
-    bytes.extend_from_slice(&[b'n'; 38])?;
-    bytes.extend_from_slice(&[0x23, 0x50, 0x63, 0x1D])?;
-    bytes.extend_from_slice(&[0xFF; 142])?;
-    let left = played(&rt, alloc, &text)?;
-    assert_eq!(rt; left.status, Status::Done);
-    assert_eq!(rt; left.air.taken(), bytes.as_slice());
+    let air = air_of(rt, alloc, &text)?;
+    Ok(air.as_slice() == spelled(alloc, TWO_PACKETS)?.as_slice())
+}
+
+#[test]
+fn a_section_of_two_packets(rt: HostRuntime) -> Result<(), Fail> {
+    assert!(rt; takes_two_packets(&rt, rt.alloc())?);
     Ok(())
 }
 
@@ -95,22 +118,21 @@ fn five_services(alloc: Global) -> Result<String, AllocError> {
     Ok(text)
 }
 
+// Whether an air has four entries of 210 bytes in five packets, and then one in two: the heads of its two sections.
+fn has_two_sections(air: &[u8]) -> bool {
+    air.len() == 7 * 188
+        && air.get(5..13) == Some([0x42, 0xF3, 0x54, 0x00, 0x01, 0xC1, 0x00, 0x01].as_slice())
+        && air.get(945..953) == Some([0x42, 0xF0, 0xDE, 0x00, 0x01, 0xC1, 0x01, 0x01].as_slice())
+}
+
+fn takes_two_sections<W: Threads + Wait + Sync>(rt: &W, alloc: Global) -> Result<bool, AllocError> {
+    let text = five_services(alloc)?;
+    let air = air_of(rt, alloc, &text)?;
+    Ok(has_two_sections(&air))
+}
+
 #[test]
 fn a_table_of_two_sections(rt: HostRuntime) -> Result<(), Fail> {
-    let alloc = rt.alloc();
-    let text = five_services(alloc)?;
-    let left = played(&rt, alloc, &text)?;
-    assert_eq!(rt; left.status, Status::Done);
-    let air = left.air.taken();
-    // four entries of 210 bytes in five packets, and then one in two
-    assert_eq!(rt; air.len(), 7 * 188);
-    assert_eq!(rt;
-        air.get(5..13),
-        Some([0x42, 0xF3, 0x54, 0x00, 0x01, 0xC1, 0x00, 0x01].as_slice())
-    );
-    assert_eq!(rt;
-        air.get(5 * 188 + 5..5 * 188 + 13),
-        Some([0x42, 0xF0, 0xDE, 0x00, 0x01, 0xC1, 0x01, 0x01].as_slice())
-    );
+    assert!(rt; takes_two_sections(&rt, rt.alloc())?);
     Ok(())
 }

@@ -1,6 +1,6 @@
-// Runs in which one call of an end fails.
+// Runs of `play` in which one call of an end fails.
 use crate::journals::prints_itself;
-use crate::runs::{Left, NEVER, played, ran};
+use crate::runs::{Left, NEVER, PLAY, Run, air_of, joined, leaves};
 use epg_cli::{Origin, Outlet, Status};
 use std::alloc::{AllocError, Global};
 use std::marker::Sync;
@@ -48,7 +48,7 @@ const LAST_LINES: [usize; 6] = [8, 13, 15, 16, 18, 20];
 const CYCLES: [usize; 7] = [0, 0, 0, 0, 0, 1, 2];
 
 // Which end fails in a run.
-#[derive(Debug, Clone, Copy, PartialEq, Eq)]
+#[derive(Clone, Copy)]
 enum End {
     Read,
     Air,
@@ -70,42 +70,38 @@ fn aired_before(n: usize, piece: usize) -> usize {
         .saturating_add((n % calls).saturating_mul(piece))
 }
 
-// What a run is to leave where call `n` of an end fails: how many entries, how many bytes of the air and of the report, and
-// the status with its line.
-#[derive(Drop)]
+// What a run is to leave where a call of an end fails: how many entries, how many bytes of the air and of the report, and the
+// status with its line.
+#[derive(Clone, Copy)]
 struct Expected {
     entries: usize,
     sent: usize,
+    told: usize,
     status: Status,
     fault: &'static str,
 }
 
-fn due(end: End, n: usize, piece: usize) -> Expected {
+fn expected_of(end: End, n: usize, piece: usize) -> Expected {
     let moved = n.saturating_mul(piece);
     match end {
-        End::Read => {
-            let entries = commands_in(moved);
-            let cycles = CYCLES.get(entries).copied().unwrap_or(0);
-            Expected {
-                entries,
-                sent: cycles.saturating_mul(188),
-                status: Status::ReadFault(Origin::Input),
-                fault: "fault: input not read\n",
-            }
-        }
-        End::Air => {
-            let sent = aired_before(n, piece);
-            let entries = if sent < 188 { 5 } else { 6 };
-            Expected {
-                entries,
-                sent,
-                status: Status::WriteFault(Outlet::Air),
-                fault: "fault: air not written\n",
-            }
-        }
+        End::Read => Expected {
+            entries: commands_in(moved),
+            sent: 188_usize.saturating_mul(CYCLES.get(commands_in(moved)).copied().unwrap_or(0)),
+            told: usize::MAX,
+            status: Status::ReadFault(Origin::Input),
+            fault: "fault: input not read\n",
+        },
+        End::Air => Expected {
+            entries: if aired_before(n, piece) < 188 { 5 } else { 6 },
+            sent: aired_before(n, piece),
+            told: usize::MAX,
+            status: Status::WriteFault(Outlet::Air),
+            fault: "fault: air not written\n",
+        },
         End::Report => Expected {
             entries: 6,
             sent: 2 * 188,
+            told: moved,
             status: Status::WriteFault(Outlet::Report),
             fault: "",
         },
@@ -123,23 +119,21 @@ fn report_of(alloc: Global, entries: usize, fault: &str) -> Result<String, Alloc
 }
 
 // The run of the script in which call `n` of an end fails.
-fn run_failing<W: Threads + Wait + Sync>(
-    rt: &W,
-    alloc: Global,
-    piece: usize,
-    end: End,
-    n: usize,
-) -> Result<Left, AllocError> {
+fn run_failing(piece: usize, end: End, n: usize) -> Run<'static> {
     let call = n as u64;
-    let fails = match end {
-        End::Read => [call, NEVER, NEVER],
-        End::Air => [NEVER, call, NEVER],
-        End::Report => [NEVER, NEVER, call],
-    };
-    ran(rt, alloc, EVERY, piece, fails)
+    Run {
+        words: PLAY,
+        input: EVERY.as_bytes(),
+        piece,
+        fails: match end {
+            End::Read => [call, NEVER, NEVER],
+            End::Air => [NEVER, call, NEVER],
+            End::Report => [NEVER, NEVER, call],
+        },
+    }
 }
 
-// The run with call `n` of an end failing leaves what is due; `whole` is the whole air.
+// Whether the run with call `n` of an end failing leaves what is due; `whole` is the whole air.
 fn fails_as_due<W: Threads + Wait + Sync>(
     rt: &W,
     alloc: Global,
@@ -148,19 +142,15 @@ fn fails_as_due<W: Threads + Wait + Sync>(
     end: End,
     n: usize,
 ) -> Result<bool, AllocError> {
-    let left = run_failing(rt, alloc, piece, end, n)?;
-    let expected = due(end, n, piece);
-    let report = report_of(alloc, expected.entries, expected.fault)?;
-    let told = if end == End::Report {
-        n.saturating_mul(piece)
-    } else {
-        report.len()
+    let due = expected_of(end, n, piece);
+    let report = report_of(alloc, due.entries, due.fault)?;
+    let report = report.as_bytes();
+    let left = Left {
+        status: due.status,
+        air: whole.get(..due.sent).unwrap_or(&[]),
+        report: report.get(..due.told).unwrap_or(report),
     };
-    Ok(
-        left.status == expected.status
-            && whole.get(..expected.sent) == Some(left.air.taken())
-            && report.as_bytes().get(..told) == Some(left.report.taken()),
-    )
+    leaves(rt, alloc, &run_failing(piece, end, n), &left)
 }
 
 // Whether each of the first `calls` calls of an end, failing, leaves what is due, and the call behind them is not made.
@@ -177,58 +167,45 @@ fn each_fails<W: Threads + Wait + Sync>(
             return Ok(false);
         }
     }
-    let left = run_failing(rt, alloc, piece, end, calls)?;
-    Ok(left.status == Status::Done)
+    let journal = report_of(alloc, 6, "")?;
+    let left = Left {
+        status: Status::Done,
+        air: whole,
+        report: journal.as_bytes(),
+    };
+    leaves(rt, alloc, &run_failing(piece, end, calls), &left)
+}
+
+// Whether each call of each end, failing, leaves what is due, where each call moves so many bytes.
+fn all_fail<W: Threads + Wait + Sync>(
+    rt: &W,
+    alloc: Global,
+    whole: &[u8],
+    piece: usize,
+) -> Result<bool, AllocError> {
+    let reads = EVERY.len().div_ceil(piece) + 1;
+    let sent = 2 * 188_usize.div_ceil(piece);
+    let told = report_of(alloc, 6, "")?.len().div_ceil(piece);
+    Ok(
+        each_fails(rt, alloc, whole, piece, End::Read, reads)?
+            && each_fails(rt, alloc, whole, piece, End::Air, sent)?
+            && each_fails(rt, alloc, whole, piece, End::Report, told)?,
+    )
 }
 
 #[test]
 fn each_call_fails_in_turn(rt: HostRuntime) -> Result<(), Fail> {
-    let alloc = rt.alloc();
-    let left = played(&rt, alloc, EVERY)?;
-    let journal = report_of(alloc, 6, "")?;
-    assert_eq!(rt; left.status, Status::Done);
-    assert_eq!(rt; left.report.taken(), journal.as_bytes());
-    let whole = left.air.taken();
-    assert_eq!(rt; whole.len(), 2 * 188);
+    let whole = air_of(&rt, rt.alloc(), EVERY)?;
+    assert!(rt; whole.len() == 2 * 188);
     for piece in [5, 188, 65_536] {
-        assert!(rt;
-            each_fails(
-                &rt,
-                alloc,
-                whole,
-                piece,
-                End::Read,
-                EVERY.len().div_ceil(piece) + 1
-            )?
-        );
-        assert!(rt;
-            each_fails(
-                &rt,
-                alloc,
-                whole,
-                piece,
-                End::Air,
-                2 * 188_usize.div_ceil(piece)
-            )?
-        );
-        assert!(rt;
-            each_fails(
-                &rt,
-                alloc,
-                whole,
-                piece,
-                End::Report,
-                journal.len().div_ceil(piece)
-            )?
-        );
+        assert!(rt; all_fail(&rt, rt.alloc(), &whole, piece)?, "{piece}");
     }
     Ok(())
 }
 
 #[test]
 fn a_printed_journal_is_a_script(rt: HostRuntime) -> Result<(), Fail> {
-    let alloc = rt.alloc();
-    let journal = report_of(alloc, 6, "")?;
-    assert!(rt; prints_itself(&rt, alloc, &journal)?);
+    let journal = joined(rt.alloc(), &ENTRIES)?;
+    assert!(rt; prints_itself(&rt, rt.alloc(), &journal)?);
     Ok(())
 }

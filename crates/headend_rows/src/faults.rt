@@ -1,5 +1,5 @@
 // Inputs that stop at one of their lines.
-use crate::runs::{MUX, joined, played};
+use crate::runs::{MUX, joined, playing, status_of};
 use desk_core::Outcome;
 use epg_cli::Status;
 use mux_config::MuxFault;
@@ -131,31 +131,45 @@ fn stops_so<W: Threads + Wait + Sync>(
     let Some((input, report)) = rest.split_once(">") else {
         return Ok(false);
     };
-    let left = played(rt, alloc, input)?;
     let report = joined(alloc, &[report, "\n"])?;
-    let code_is = code.as_bytes() == [b'0' + left.status.code() % 10].as_slice();
-    Ok(code_is && left.air.taken().is_empty() && left.report.taken() == report.as_bytes())
+    let status = status_of(rt, alloc, &playing(input), Some(&[]), report.as_bytes())?;
+    Ok(status.map(|status| status.code()) == code.parse::<u8>().ok())
 }
 
 #[test]
 fn inputs_that_stop(rt: HostRuntime) -> Result<(), Fail> {
-    let alloc = rt.alloc();
     for row in FAULTS.split("\n\n") {
-        assert!(rt; stops_so(&rt, alloc, row)?, "{row}");
+        assert!(rt; stops_so(&rt, rt.alloc(), row)?, "{row}");
     }
     Ok(())
 }
 
+// The status of `play` over this script, which leaves this report and sends nothing.
+fn stop_of<W: Threads + Wait + Sync>(
+    rt: &W,
+    alloc: Global,
+    mux: &str,
+    script: &str,
+    report: &str,
+) -> Result<Option<Status>, AllocError> {
+    let input = joined(alloc, &[mux, script])?;
+    status_of(rt, alloc, &playing(&input), Some(&[]), report.as_bytes())
+}
+
 #[test]
-fn the_stop_is_told(rt: HostRuntime) -> Result<(), Fail> {
-    let alloc = rt.alloc();
-    let text = joined(alloc, &[MUX, "publish\n=,published,2\n"])?;
-    let left = played(&rt, alloc, &text)?;
-    assert_eq!(rt;
-        left.status,
-        Status::Disagrees(6, Outcome::Published(2), Outcome::Published(1))
-    );
-    let left = played(&rt, alloc, "network,40\n")?;
-    assert_eq!(rt; left.status, Status::BadMux(MuxFault::Line(1)));
+fn a_disagreement_is_told(rt: HostRuntime) -> Result<(), Fail> {
+    let script = "publish\n=,published,2\n";
+    let report =
+        "0,publish\n=,published,1\nfault: input line 6 kept published,2 found published,1\n";
+    let status = Status::Disagrees(6, Outcome::Published(2), Outcome::Published(1));
+    assert!(rt; stop_of(&rt, rt.alloc(), MUX, script, report)? == Some(status));
+    Ok(())
+}
+
+#[test]
+fn a_fault_of_the_description_is_told(rt: HostRuntime) -> Result<(), Fail> {
+    let report = "fault: mux line 1 unreadable\n";
+    let status = Status::BadMux(MuxFault::Line(1));
+    assert!(rt; stop_of(&rt, rt.alloc(), "network,40\n", "", report)? == Some(status));
     Ok(())
 }

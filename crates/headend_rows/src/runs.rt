@@ -1,6 +1,4 @@
-// Runs of the word `play` over sources and sinks in memory.
-ghost use Rattle.std.specs.Prelude.{◌≤◌};
-
+// Runs over sources and sinks in memory, and what they leave.
 use epg_cli::{Status, run};
 use si_causes::{MemSink, MemSource, NoFiles, OpenGate};
 use std::alloc::{AllocError, Global};
@@ -8,74 +6,136 @@ use std::marker::Sync;
 use std::sync::Wait;
 use std::thread::Threads;
 
-// A network, a stream and a service, and then a name on the air.
+// A network, a stream and a service.
 pub(crate) const MUX: &str = "network,40,Demo\nstream,1,1\nservice,101,1,1,256,257,Acme,One\nend\n";
 
-// The front of the one packet; fill bytes follow.
-pub(crate) const PACKET: [u8; 38] = [
-    0x47, 0x40, 0x11, 0x10, 0x00, 0x42, 0xF0, 0x1E, 0x00, 0x01, 0xC1, 0x00, 0x00, 0x00, 0x01, 0xFF,
-    0x00, 0x65, 0xFF, 0x80, 0x0D, 0x48, 0x0B, 0x01, 0x04, b'A', b'c', b'm', b'e', 0x04, b'N', b'e',
-    b'w', b's', 0xB5, 0x82, 0xAF, 0xDD,
-];
+// The packet of the SDT that names this service `News`, as it is first sent (EN 300 468, 5.2.3).
+pub(crate) const PACKET: &str =
+    "47 40 11 10  00  42 F0 1E 00 01 C1 00 00  00 01 FF  00 65 FF 80 0D  48 0B 01 \
+     04 41 63 6D 65 04 4E 65 77 73  B5 82 AF DD  FF*150";
 
-// What a run left.
-#[derive(Drop)]
-pub(crate) struct Left {
+// No call has this number.
+pub(crate) const NEVER: u64 = 1_000_000_000;
+
+// The two words, each as a whole command line.
+pub(crate) const PLAY: &[&str] = &["play"];
+
+pub(crate) const LISTEN: &[&str] = &["listen"];
+
+// A run: the words of its command line, its input, how many bytes each end moves at most in a call, and the numbers of the read,
+// of the write to the air and of the write to the report that fail.
+#[derive(Clone, Copy)]
+pub(crate) struct Run<'a> {
+    pub(crate) words: &'a [&'a str],
+    pub(crate) input: &'a [u8],
+    pub(crate) piece: usize,
+    pub(crate) fails: [u64; 3],
+}
+
+// What a run is to leave.
+#[derive(Clone, Copy)]
+pub(crate) struct Left<'a> {
     pub(crate) status: Status,
-    pub(crate) air: MemSink,
-    pub(crate) report: MemSink,
+    pub(crate) air: &'a [u8],
+    pub(crate) report: &'a [u8],
 }
 
-// The one word of the command line.
-fn play_word(alloc: Global) -> Result<Vec<String>, AllocError> {
-    let mut words = Vec::new(alloc);
-    words.push(String::from_str(alloc, "play")?)?;
-    Ok(words)
+// The ends of a run.
+#[derive(Drop)]
+struct Ends {
+    input: MemSource,
+    air: MemSink,
+    report: MemSink,
 }
 
-// A run over this text. Each end moves at most `piece` bytes a call; the read, the write to the air and the write to the report with
-// these numbers fail.
-pub(crate) fn ran<W: Threads + Wait + Sync>(
-    rt: &W,
-    alloc: Global,
-    text: &str,
-    piece: usize,
-    fails: [u64; 3],
-) -> Result<Left, AllocError> {
-    let [read, sent, told] = fails;
-    let text = Vec::from_slice(alloc, text.as_bytes())?;
-    let mut input = MemSource::open(text, piece.max(1), vec![in alloc; read; 1]?);
-    let mut air = MemSink::open(alloc, piece.max(1), vec![in alloc; sent; 1]?);
-    let mut report = MemSink::open(alloc, piece.max(1), vec![in alloc; told; 1]?);
-    let words = play_word(alloc)?;
-    let mut files = NoFiles::new();
-    let status = run(
-        rt,
-        alloc,
-        &words,
-        &mut files,
-        &mut input,
-        &mut air,
-        &mut report,
-        &OpenGate,
-    );
-    Ok(Left {
-        status,
-        air,
-        report,
+fn ends_of(alloc: Global, run: &Run) -> Result<Ends, AllocError> {
+    let [read, sent, told] = run.fails;
+    let piece = run.piece.max(1);
+    let input = Vec::from_slice(alloc, run.input)?;
+    Ok(Ends {
+        input: MemSource::open(input, piece, vec![in alloc; read; 1]?),
+        air: MemSink::open(alloc, piece, vec![in alloc; sent; 1]?),
+        report: MemSink::open(alloc, piece, vec![in alloc; told; 1]?),
     })
 }
 
-// No call with this number is made.
-pub(crate) const NEVER: u64 = 1_000_000_000;
+fn line_of(alloc: Global, words: &[&str]) -> Result<Vec<String>, AllocError> {
+    let mut line = Vec::new(alloc);
+    for word in words {
+        line.push(String::from_str(alloc, word)?)?;
+    }
+    Ok(line)
+}
 
-// A run in which no end fails.
-pub(crate) fn played<W: Threads + Wait + Sync>(
+// Runs these words over these ends.
+fn run_over<W: Threads + Wait + Sync>(
     rt: &W,
     alloc: Global,
-    text: &str,
-) -> Result<Left, AllocError> {
-    ran(rt, alloc, text, 65_536, [NEVER; 3])
+    words: &[&str],
+    ends: &mut Ends,
+) -> Result<Status, AllocError> {
+    let line = line_of(alloc, words)?;
+    Ok(run(
+        rt,
+        alloc,
+        &line,
+        &mut NoFiles::new(),
+        &mut ends.input,
+        &mut ends.air,
+        &mut ends.report,
+        &OpenGate,
+    ))
+}
+
+// The status of a run that leaves this report and, where one is given, this air; none where it leaves others.
+pub(crate) fn status_of<W: Threads + Wait + Sync>(
+    rt: &W,
+    alloc: Global,
+    run: &Run,
+    air: Option<&[u8]>,
+    report: &[u8],
+) -> Result<Option<Status>, AllocError> {
+    let mut ends = ends_of(alloc, run)?;
+    let status = run_over(rt, alloc, run.words, &mut ends)?;
+    let is_left = match air {
+        Some(air) => ends.air.taken() == air,
+        None => true,
+    } && ends.report.taken() == report;
+    Ok(if is_left { Some(status) } else { None })
+}
+
+// Whether a run leaves just this.
+pub(crate) fn leaves<W: Threads + Wait + Sync>(
+    rt: &W,
+    alloc: Global,
+    run: &Run,
+    left: &Left,
+) -> Result<bool, AllocError> {
+    Ok(status_of(rt, alloc, run, Some(left.air), left.report)? == Some(left.status))
+}
+
+// The run of `play` over this input.
+pub(crate) fn playing(input: &str) -> Run<'_> {
+    Run {
+        words: PLAY,
+        input: input.as_bytes(),
+        piece: 65_536,
+        fails: [NEVER; 3],
+    }
+}
+
+// The air that `play` leaves where it plays this input to its end, else none.
+pub(crate) fn air_of<W: Threads + Wait + Sync>(
+    rt: &W,
+    alloc: Global,
+    input: &str,
+) -> Result<Vec<u8>, AllocError> {
+    let mut ends = ends_of(alloc, &playing(input))?;
+    let air = match run_over(rt, alloc, PLAY, &mut ends)? {
+        Status::Done => ends.air.taken(),
+        _ => &[],
+    };
+    Vec::from_slice(alloc, air)
 }
 
 // A text of parts.
@@ -87,9 +147,15 @@ pub(crate) fn joined(alloc: Global, parts: &[&str]) -> Result<String, AllocError
     Ok(text)
 }
 
-// The one packet.
-pub(crate) fn packet() -> [u8; 188] {
-    let mut packet = [0xFF; 188];
-    packet[..38].copy_from_slice(&PACKET);
-    packet
+// The bytes that a text spells: each word is a byte in hex, and behind a star how often it stands.
+pub(crate) fn spelled(alloc: Global, text: &str) -> Result<Vec<u8>, AllocError> {
+    let mut bytes = Vec::new(alloc);
+    for word in text.split_whitespace() {
+        let (byte, count) = word.split_once('*').unwrap_or((word, "1"));
+        let byte = u8::from_str_radix(byte, 16).unwrap_or(0);
+        for _ in 0..count.parse::<usize>().unwrap_or(0) {
+            bytes.push(byte)?;
+        }
+    }
+    Ok(bytes)
 }

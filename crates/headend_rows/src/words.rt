@@ -1,7 +1,6 @@
 // The words of a command line.
-use crate::runs::{Left, MUX, joined, packet};
-use epg_cli::{Status, run};
-use si_causes::{MemSink, MemSource, NoFiles, OpenGate};
+use crate::runs::{LISTEN, Left, MUX, NEVER, PACKET, PLAY, Run, joined, leaves, spelled};
+use epg_cli::Status;
 use std::alloc::{AllocError, Global};
 use std::marker::Sync;
 use std::sync::Wait;
@@ -17,36 +16,14 @@ const JOURNAL: [&str; 3] = [
     "0,swap\n=,swapped,1,1970-01-01T00:00:00Z\n",
 ];
 
-// What the words of a command line end with, over this text.
-fn words_end<W: Threads + Wait + Sync>(
-    rt: &W,
-    alloc: Global,
-    words: &[&str],
-    text: &str,
-) -> Result<Left, AllocError> {
-    let mut line = Vec::new(alloc);
-    for word in words {
-        line.push(String::from_str(alloc, word)?)?;
+// The run of these words over this input, cut into pieces.
+fn run_of<'a>(words: &'a [&'a str], input: &'a str) -> Run<'a> {
+    Run {
+        words,
+        input: input.as_bytes(),
+        piece: 7,
+        fails: [NEVER; 3],
     }
-    let mut input = MemSource::open(Vec::from_slice(alloc, text.as_bytes())?, 7, Vec::new(alloc));
-    let mut air = MemSink::open(alloc, 188, Vec::new(alloc));
-    let mut report = MemSink::open(alloc, 9, Vec::new(alloc));
-    let mut files = NoFiles::new();
-    let status = run(
-        rt,
-        alloc,
-        &line,
-        &mut files,
-        &mut input,
-        &mut air,
-        &mut report,
-        &OpenGate,
-    );
-    Ok(Left {
-        status,
-        air,
-        report,
-    })
 }
 
 // Whether a run with so many words of a text, which bars part, ends with `Usage` alone.
@@ -57,17 +34,16 @@ fn is_usage<W: Threads + Wait + Sync>(
     words: &str,
 ) -> Result<bool, AllocError> {
     let words: Vec<&str> = words.split('|').take(count).collect(alloc)?;
-    let left = words_end(rt, alloc, &words, MUX)?;
-    Ok(
-        left.status == Status::Usage
-            && left.air.taken().is_empty()
-            && left.report.taken() == b"fault: usage\n".as_slice(),
-    )
+    let left = Left {
+        status: Status::Usage,
+        air: &[],
+        report: b"fault: usage\n",
+    };
+    leaves(rt, alloc, &run_of(&words, MUX), &left)
 }
 
 #[test]
 fn words_that_are_no_command(rt: HostRuntime) -> Result<(), Fail> {
-    let alloc = rt.alloc();
     for (count, words) in [
         (0, ""),
         (1, "live"),
@@ -77,29 +53,37 @@ fn words_that_are_no_command(rt: HostRuntime) -> Result<(), Fail> {
         (1, "play "),
         (1, ""),
     ] {
-        assert!(rt; is_usage(&rt, alloc, count, words)?, "{words}");
+        assert!(rt; is_usage(&rt, rt.alloc(), count, words)?, "{words}");
     }
     Ok(())
 }
 
+// Whether `play` sends the one packet, and reports the journal.
+fn is_played<W: Threads + Wait + Sync>(rt: &W, alloc: Global) -> Result<bool, AllocError> {
+    let input = joined(alloc, &[MUX, STEPS])?;
+    let packet = spelled(alloc, PACKET)?;
+    let journal = joined(alloc, &JOURNAL)?;
+    let left = Left {
+        status: Status::Done,
+        air: &packet,
+        report: journal.as_bytes(),
+    };
+    leaves(rt, alloc, &run_of(PLAY, &input), &left)
+}
+
 #[test]
 fn the_word_play(rt: HostRuntime) -> Result<(), Fail> {
-    let alloc = rt.alloc();
-    let good = joined(alloc, &[MUX, STEPS])?;
-    let journal = joined(alloc, &JOURNAL)?;
-    let done = words_end(&rt, alloc, &["play"], &good)?;
-    assert_eq!(rt; done.status, Status::Done);
-    assert_eq!(rt; done.air.taken(), packet().as_slice());
-    assert_eq!(rt; done.report.taken(), journal.as_bytes());
+    assert!(rt; is_played(&rt, rt.alloc())?);
     Ok(())
 }
 
 #[test]
 fn the_word_listen(rt: HostRuntime) -> Result<(), Fail> {
-    let alloc = rt.alloc();
-    let heard = words_end(&rt, alloc, &["listen"], "")?;
-    assert_eq!(rt; heard.status, Status::Done);
-    assert!(rt; heard.air.taken().is_empty());
-    assert_eq!(rt; heard.report.taken(), b"end\n".as_slice());
+    let left = Left {
+        status: Status::Done,
+        air: &[],
+        report: b"end\n",
+    };
+    assert!(rt; leaves(&rt, rt.alloc(), &run_of(LISTEN, ""), &left)?);
     Ok(())
 }
