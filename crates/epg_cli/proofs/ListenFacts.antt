@@ -1,15 +1,16 @@
 -- Packets of a recording, one after another, and what is reported of them.
-use Rattle.std.proofs.Common.{◌≡◌, ℕ, ◌+◌, ◌-◌, ◌<◌, ◌≤◌, List, [], ◌∷◌, ◌++◌, length, take, map, get_or, refl, sym, ap, ◌∙◌, subst, arith, append-nil, append_assoc, length-append, inl, inr, true, codes}
+use Rattle.std.proofs.Common.{◌≡◌, ℕ, zero, suc, ◌+◌, ◌*◌, ◌/◌, ◌-◌, ◌<◌, ◌≤◌, List, [], ◌∷◌, ◌++◌, length, take, drop, slice_index, map, get_or, refl, sym, ap, ◌∙◌, subst, arith, append-nil, append_assoc, length-append, inl, inr, true, codes}
 use Rattle.std.specs.Prelude.{Option, Some, None, Ok, Err, Result}
-use Rattle.std.proofs.lemmas.List.{map_more, take_all, take-append-le}
-use Rattle.std.proofs.Math.Seq.{take-append_seam, take-append-add}
+use Rattle.std.proofs.lemmas.List.{map_more, take_at}
+use Rattle.std.proofs.Math.Seq.{take-append_seam, take-append-add, drop-append_seam}
 use Rattle.std.proofs.lemmas.Slice.Eq.{bytes_eq-Decides}
-use Rattle.std.specs.Io.KnownBytes.{Appends}
+use Rattle.std.specs.Io.KnownBytes.{Appends, Consumes, prepend_known}
 use Rattle.std.proofs.KnownBytes.{Appends-trans, prepend_known-nil}
 use Rattle.si_causes.proofs.CauseFacts.{Rose-from}
 use Rattle.si_causes.specs.Causes.{AppendsFront}
-use Rattle.packet_reader.specs.Recordings.{RecordingEnd, RecordingEnd.AtEnd, RecordingEnd.Broken, RecordingEnd.PastLimit, packet_limit, and_packet, packets_in, recording}
-use Rattle.packet_reader.specs.Reading.{Reading, GivesPacket, Counts, bytes_left, room, fresh}
+use Rattle.packet_reader.specs.Recordings.{RecordingEnd, RecordingEnd.AtEnd, RecordingEnd.Broken, RecordingEnd.PastLimit, packet_limit, is_packet, and_packet, packets_in, recording}
+use Rattle.packet_reader.specs.Reading.{Reading, GivesPacket, TakesPacket, Counts, bytes_left, room, fresh}
+use Rattle.packet_reader.proofs.RecordingFacts.{packet_step, broken_step, short_piece}
 use Rattle.packet_reader.specs.declared.stop.PacketStop.{PacketStop}
 use Rattle.packet_reader.specs.declared.stop.PacketStop.TheVariants as packet
 use Rattle.guide_receiver.specs.declared.done.DoneKey.{DoneKey}
@@ -115,42 +116,99 @@ front_heard all y heard e = ap (λ (r : Recording). take (length heard) r.0) e �
 text_is : (old new : Option (List ℕ)) (xs ys : List (List ℕ)) → xs ≡ ys → Appends old new (heard_text ys) → Appends old new (heard_text xs)
 text_is old new xs ys e done = subst (λ (l : List (List ℕ)). Appends old new (heard_text l)) (sym e) done
 
-pub heard_end : {S : Type 0} (left : S → Option (List ℕ)) (before after : Reading S) (all y : Recording) (heard : List (List ℕ)) (old new : Option (List ℕ))
-    → all ≡ (heard ++ y.0, y.1) → GivesPacket left before after y (Ok None) → Appends old new (heard_text heard) → HasHeard all old new (Ok tt)
-heard_end left before after all y heard old new e gives done =
-    let last = last_heard all y heard AtEnd e (given_end left before after y gives) in
-    (ap (λ (r : Recording). r.1) last, text_is old new all.0 heard (ap (λ (r : Recording). r.0) last) done)
+pub heard_end : {S : Type 0} (left : S → Option (List ℕ)) (before after : Reading S) (bytes : List ℕ) (y : Recording) (heard : List (List ℕ)) (old new : Option (List ℕ))
+    → recording bytes ≡ (heard ++ y.0, y.1) → GivesPacket left before after y (Ok None) → Appends old new (heard_text heard) → HasHeard bytes (left after.source) old new (Ok tt)
+heard_end left before after bytes y heard old new e gives done =
+    let last = last_heard (recording bytes) y heard AtEnd e (given_end left before after y gives) in
+    (ap (λ (r : Recording). r.1) last, text_is old new (recording bytes).0 heard (ap (λ (r : Recording). r.0) last) done)
 
-pub heard_stop : {S : Type 0} (left : S → Option (List ℕ)) (before after : Reading S) (s : PacketStop) (all y : Recording) (heard : List (List ℕ)) (old new : Option (List ℕ))
-    → all ≡ (heard ++ y.0, y.1) → before.number ≡ length heard → GivesPacket left before after y (Err s) → Counts before after (Err s) → Appends old new (heard_text heard)
-    → HasHeard all old new (Err (stop.Read s))
-heard_stop left before after (packet.Broken n) all y heard old new e count gives counts done =
-    let last = last_heard all y heard Broken e (given_broken left before after y n gives) in
-    (ap (λ (r : Recording). r.1) last, counts.0 ∙ count ∙ ap (λ (r : Recording). length r.0) (sym last), text_is old new all.0 heard (ap (λ (r : Recording). r.0) last) done)
-heard_stop left before after packet.TooLong all y heard old new e count gives counts done =
-    let last = last_heard all y heard PastLimit e (given_past left before after y gives) in
-    (ap (λ (r : Recording). r.1) last, text_is old new all.0 heard (ap (λ (r : Recording). r.0) last) done)
-heard_stop left before after packet.Failed all y heard old new e count gives counts done =
-    (length heard, text_is old new (take (length heard) all.0) heard (front_heard all y heard e) done)
+-- ---- what was taken
+
+-- bytes of a recording whose packets were heard, and those behind them, of which n packets may still come
+pub record HasParted (bytes done : List ℕ) (heard : List (List ℕ)) (n : ℕ) (rest : List ℕ) : Type 0 where
+  pub parted : bytes ≡ done ++ rest
+  pub size : length done ≡ 188 * length heard
+  pub packets : (more : List ℕ) → recording (done ++ more) ≡ (heard ++ (packets_in n more).0, (packets_in n more).1)
+
+pub start_parted : (n : ℕ) (bytes : List ℕ) → n ≡ 0 → HasParted bytes [] [] (packet_limit - n) bytes
+start_parted n bytes e = record { parted = refl; size = refl; packets = λ more. start_recording n more e }
+
+pub parted_recording : (bytes done rest : List ℕ) (heard : List (List ℕ)) (n : ℕ) → HasParted bytes done heard n rest → recording bytes ≡ (heard ++ (packets_in n rest).0, (packets_in n rest).1)
+parted_recording bytes done rest heard n parted = ap recording parted.parted ∙ parted.packets rest
+
+-- a packet in front of some bytes
+packet_front : (n : ℕ) (p more : List ℕ) → length p ≡ 188 → slice_index p 0 ≡ 0x47 → packets_in (suc n) (p ++ more) ≡ and_packet p (packets_in n more)
+packet_front n p more long sync =
+    let front : take 188 (p ++ more) ≡ p = take_at p more 188 long in
+    let rest : drop 188 (p ++ more) ≡ more = ap (λ k. drop k (p ++ more)) (sym long) ∙ drop-append_seam p more in
+    let is : is_packet (take 188 (p ++ more)) ≡ true = ap is_packet front ∙ (rw (long, sync) refl) in
+    packet_step n (p ++ more) is ∙ ap (λ l. and_packet l (packets_in n (drop 188 (p ++ more)))) front ∙ ap (λ l. and_packet p (packets_in n l)) rest
+
+pub more_parted : (bytes done rest : List ℕ) (heard : List (List ℕ)) (n : ℕ) (p behind : List ℕ) → HasParted bytes done heard (suc n) rest → rest ≡ p ++ behind → length p ≡ 188
+    → slice_index p 0 ≡ 0x47 → HasParted bytes (done ++ p) (heard ++ p ∷ []) n behind
+more_parted bytes done rest heard n p behind before is long sync = record {
+  parted = before.parted ∙ ap (λ l. done ++ l) is ∙ sym (append_assoc done p behind);
+  size = omega (arith, before.size, long, length-append done p, length-append heard (p ∷ []));
+  packets = λ more.
+      more_heard (recording ((done ++ p) ++ more)) (packets_in (suc n) (p ++ more)) (packets_in n more) heard p
+      (ap recording (append_assoc done p more) ∙ before.packets (p ++ more)) (packet_front n p more long sync);
+}
+
+-- fewer bytes than a packet has hold none
+none_in_short : (n : ℕ) (bytes : List ℕ) → length bytes < 188 → (packets_in n bytes).0 ≡ []
+none_in_short n [] lt = refl
+none_in_short zero (b ∷ bytes) lt = refl
+none_in_short (suc n) (b ∷ bytes) lt = ap (λ (r : Recording). r.0) (broken_step n (b ∷ bytes) (λ e. cc) (short_piece (b ∷ bytes) lt))
+
+whole_pieces : (k : ℕ) (done short : List ℕ) → length done ≡ 188 * k → length short < 188 → k ≡ length (done ++ short) / 188
+whole_pieces k done short size lt = omega (arith, size, lt, length-append done short)
+
+-- what is behind the bytes that a source gave
+left_behind : (before after : Option (List ℕ)) (held more rest : List ℕ) → prepend_known held before ≡ Some rest → Consumes before after more
+    → (behind : List ℕ) × (after ≡ Some behind) × (rest ≡ (held ++ more) ++ behind)
+left_behind None after held more rest e gave = cc
+left_behind (Some xs) None held more rest e gave = absurd gave
+left_behind (Some xs) (Some ys) held more rest e gave =
+    let same : held ++ xs ≡ rest = cc in
+    (ys, refl, sym same ∙ ap (λ l. held ++ l) gave ∙ sym (append_assoc held more ys))
+
+pub heard_stop : {S : Type 0} (left : S → Option (List ℕ)) (before after : Reading S) (s : PacketStop) (bytes done rest : List ℕ) (heard : List (List ℕ)) (old new : Option (List ℕ))
+    → bytes_left left before ≡ Some rest → HasParted bytes done heard (room before) rest → before.number ≡ length heard → GivesPacket left before after (packets_in (room before) rest) (Err s)
+    → TakesPacket left before after (Err s) → Counts before after (Err s) → Appends old new (heard_text heard) → HasHeard bytes (left after.source) old new (Err (stop.Read s))
+heard_stop left before after (packet.Broken n) bytes done rest heard old new tells parted count gives takes counts lines =
+    let last = last_heard (recording bytes) (packets_in (room before) rest) heard Broken (parted_recording bytes done rest heard (room before) parted) (given_broken left before after (packets_in (room before) rest) n gives) in
+    (ap (λ (r : Recording). r.1) last, counts.0 ∙ count ∙ ap (λ (r : Recording). length r.0) (sym last), text_is old new (recording bytes).0 heard (ap (λ (r : Recording). r.0) last) lines)
+heard_stop left before after packet.TooLong bytes done rest heard old new tells parted count gives takes counts lines =
+    let last = last_heard (recording bytes) (packets_in (room before) rest) heard PastLimit (parted_recording bytes done rest heard (room before) parted) (given_past left before after (packets_in (room before) rest) gives) in
+    (ap (λ (r : Recording). r.1) last, text_is old new (recording bytes).0 heard (ap (λ (r : Recording). r.0) last) lines)
+heard_stop left before after packet.Failed bytes done rest heard old new tells parted count gives takes counts lines =
+    let short = before.held ++ takes.0 in
+    let behind = left_behind (left before.source) (left after.source) before.held takes.0 rest tells takes.1 in
+    let none = ap (λ (r : Recording). r.0) (parted.packets short) ∙ ap (λ (l : List (List ℕ)). heard ++ l) (none_in_short (room before) short takes.2) ∙ append-nil heard in (
+      done ++ short,
+      record {
+        behind = behind.0;
+        bytes_are = parted.parted ∙ ap (λ l. done ++ l) behind.2 ∙ sym (append_assoc done short behind.0);
+        left_is = behind.1;
+        whole = ap (λ (l : List (List ℕ)). length l) none ∙ whole_pieces (length heard) done short parted.size takes.2;
+      },
+      text_is old new (recording (done ++ short)).0 heard none lines,
+    )
 
 -- a front that stands behind something is a front of both
 pub front_behind : (a b c : Option (List ℕ)) (xs ys : List ℕ) → Appends a b xs → AppendsFront b c ys → AppendsFront a c (xs ++ ys)
 front_behind a b c xs ys done (n, lt, front) =
     (length xs + n, omega (arith, lt, length-append xs ys), subst (Appends a c) (sym (take-append-add xs ys n)) (Appends-trans a b c xs (take n ys) done front))
 
--- a front is a front of what is longer
-front_longer : (a c : Option (List ℕ)) (xs ys : List ℕ) → AppendsFront a c xs → AppendsFront a c (xs ++ ys)
-front_longer a c xs ys (n, lt, front) = (n, omega (arith, lt, length-append xs ys), subst (Appends a c) (sym (take-append-le n xs ys (omega (arith, lt)))) front)
-
 -- the lines of a packet were not all written, or there was no memory for them
-pub heard_line : (s : ListenStop) (all y x : Recording) (heard : List (List ℕ)) (p : List ℕ) (n : ℕ) (a b c : Option (List ℕ))
-    → all ≡ (heard ++ y.0, y.1) → y ≡ and_packet p x → n ≡ length heard → Appends a b (heard_text heard)
-    → ReportsLines b c (done_lines (map (at_packet n) (dones_by heard p))) (Err s) → HasHeard all a c (Err s)
-heard_line (stop.Read s) all y x heard p n a b c e t number done reports = absurd reports
-heard_line stop.Memory all y x heard p n a b c e t number done reports = tt
-heard_line stop.Report all y x heard p n a b c e t number done reports =
+pub heard_line : (s : ListenStop) (bytes : List ℕ) (left : Option (List ℕ)) (y x : Recording) (heard : List (List ℕ)) (p : List ℕ) (n : ℕ) (a b c : Option (List ℕ))
+    → recording bytes ≡ (heard ++ y.0, y.1) → y ≡ and_packet p x → n ≡ length heard → Appends a b (heard_text heard)
+    → ReportsLines b c (done_lines (map (at_packet n) (dones_by heard p))) (Err s) → HasHeard bytes left a c (Err s)
+heard_line (stop.Read s) bytes left y x heard p n a b c e t number done reports = absurd reports
+heard_line stop.Memory bytes left y x heard p n a b c e t number done reports = tt
+heard_line stop.Report bytes left y x heard p n a b c e t number done reports =
     let lines = ap (λ k. done_lines (map (at_packet k) (dones_by heard p))) number in
-    let text = ap (λ l. heard_text heard ++ l) lines ∙ sym (text_push heard p) ∙ ap heard_text (sym (front_heard all x (heard ++ p ∷ []) (more_heard all y x heard p e t))) in
+    let text = ap (λ l. heard_text heard ++ l) lines ∙ sym (text_push heard p) ∙ ap heard_text (sym (front_heard (recording bytes) x (heard ++ p ∷ []) (more_heard (recording bytes) y x heard p e t))) in
     (length (heard ++ p ∷ []), subst (AppendsFront a c) text (front_behind a b c (heard_text heard) (done_lines (map (at_packet n) (dones_by heard p))) done reports))
 
 -- ---- the run is over
@@ -161,60 +219,54 @@ behind : (a b c : Option (List ℕ)) (f g h : ℕ) (xs ys : List ℕ) → f ≤ 
 behind a b c f g h xs ys le done (inl all) = inl (Appends-trans a b c xs ys done all)
 behind a b c f g h xs ys le done (inr (rose, front)) = inr (Rose-from f g h le rose, front_behind a b c xs ys done front)
 
-pub leaves_heard : (heard : Result (Unit {0}) ListenStop) (recording : Recording) (old mid new : Option (List ℕ)) (f g h : ℕ) (status : Status) → f ≤ g → HasHeard recording old mid heard
-    → EndsHeard heard (record { old = mid; new = new; faults_old = g; faults_new = h }) status → LeavesHeard recording (record { old = old; new = new; faults_old = f; faults_new = h }) status
-leaves_heard (Ok u) recording old mid new f g h Done le (ended, done) ends = record { ended = ended; report_is = Appends-trans old mid new (heard_text recording.0) end_line done ends }
-leaves_heard (Ok u) recording old mid new f g h (WriteFault Report) le (ended, done) ends = record {
-  k = length recording.0;
-  report_is = subst (λ (l : List (List ℕ)). AppendsFront old new (heard_text l ++ end_line)) (sym (take_all (length recording.0) recording.0 (omega arith))) (front_behind old mid new (heard_text recording.0) end_line done ends.0);
-}
-leaves_heard (Ok u) recording old mid new f g h (WriteFault Air) le has ends = absurd ends
-leaves_heard (Ok u) recording old mid new f g h Usage le has ends = absurd ends
-leaves_heard (Ok u) recording old mid new f g h (BadScript n) le has ends = absurd ends
-leaves_heard (Ok u) recording old mid new f g h (Disagrees n kept found) le has ends = absurd ends
-leaves_heard (Ok u) recording old mid new f g h (BadMux fault) le has ends = absurd ends
-leaves_heard (Ok u) recording old mid new f g h (BadFeed i n) le has ends = absurd ends
-leaves_heard (Ok u) recording old mid new f g h (BadStream n) le has ends = absurd ends
-leaves_heard (Ok u) recording old mid new f g h (TooLong origin) le has ends = absurd ends
-leaves_heard (Ok u) recording old mid new f g h (OpenFault i) le has ends = absurd ends
-leaves_heard (Ok u) recording old mid new f g h (ReadFault origin) le has ends = absurd ends
-leaves_heard (Ok u) recording old mid new f g h Memory le has ends = absurd ends
-leaves_heard (Err stop.Memory) recording old mid new f g h status le has ends = subst (LeavesHeard recording (record { old = old; new = new; faults_old = f; faults_new = h })) (sym ends) tt
-leaves_heard (Err stop.Report) recording old mid new f g h status le has ends =
+pub leaves_heard : (heard : Result (Unit {0}) ListenStop) (bytes : List ℕ) (left : Option (List ℕ)) (old mid new : Option (List ℕ)) (f g h : ℕ) (status : Status) → f ≤ g → HasHeard bytes left old mid heard
+    → EndsHeard heard (record { old = mid; new = new; faults_old = g; faults_new = h }) status → LeavesHeard bytes left (record { old = old; new = new; faults_old = f; faults_new = h }) status
+leaves_heard (Ok u) bytes left old mid new f g h Done le (ended, done) ends = record { ended = ended; report_is = Appends-trans old mid new (heard_text (recording bytes).0) end_line done ends }
+leaves_heard (Ok u) bytes left old mid new f g h (WriteFault Report) le (ended, done) ends = inr (ended, front_behind old mid new (heard_text (recording bytes).0) end_line done ends.0)
+leaves_heard (Ok u) bytes left old mid new f g h (WriteFault Air) le has ends = absurd ends
+leaves_heard (Ok u) bytes left old mid new f g h Usage le has ends = absurd ends
+leaves_heard (Ok u) bytes left old mid new f g h (BadScript n) le has ends = absurd ends
+leaves_heard (Ok u) bytes left old mid new f g h (Disagrees n kept found) le has ends = absurd ends
+leaves_heard (Ok u) bytes left old mid new f g h (BadMux fault) le has ends = absurd ends
+leaves_heard (Ok u) bytes left old mid new f g h (BadFeed i n) le has ends = absurd ends
+leaves_heard (Ok u) bytes left old mid new f g h (BadStream n) le has ends = absurd ends
+leaves_heard (Ok u) bytes left old mid new f g h (TooLong origin) le has ends = absurd ends
+leaves_heard (Ok u) bytes left old mid new f g h (OpenFault i) le has ends = absurd ends
+leaves_heard (Ok u) bytes left old mid new f g h (ReadFault origin) le has ends = absurd ends
+leaves_heard (Ok u) bytes left old mid new f g h Memory le has ends = absurd ends
+leaves_heard (Err stop.Memory) bytes left old mid new f g h status le has ends = subst (LeavesHeard bytes left (record { old = old; new = new; faults_old = f; faults_new = h })) (sym ends) tt
+leaves_heard (Err stop.Report) bytes left old mid new f g h status le has ends =
     let told : Told = record { old = old; new = new; faults_old = f; faults_new = h } in
-    subst (LeavesHeard recording told) (sym ends.0) (record {
-      k = has.0;
-      report_is = front_longer old new (heard_text (take has.0 recording.0)) end_line (subst (λ (w : Option (List ℕ)). AppendsFront old w (heard_text (take has.0 recording.0))) ends.1 has.1);
-    })
-leaves_heard (Err (stop.Read s)) recording old mid new f g h status le has (inl memory) = subst (LeavesHeard recording (record { old = old; new = new; faults_old = f; faults_new = h })) (sym memory) tt
-leaves_heard (Err (stop.Read (packet.Broken n))) recording old mid new f g h status le has (inr (is, reported)) =
-    subst (LeavesHeard recording (record { old = old; new = new; faults_old = f; faults_new = h })) (sym is) (has.0, has.1, behind old mid new f g h (heard_text recording.0) (fault_line (packet_stop_text (packet.Broken n))) le has.2 reported)
-leaves_heard (Err (stop.Read packet.TooLong)) recording old mid new f g h status le has (inr (is, reported)) =
-    subst (LeavesHeard recording (record { old = old; new = new; faults_old = f; faults_new = h })) (sym is) (has.0, behind old mid new f g h (heard_text recording.0) (fault_line (packet_stop_text packet.TooLong)) le has.1 reported)
-leaves_heard (Err (stop.Read packet.Failed)) recording old mid new f g h status le has (inr (is, reported)) =
-    subst (LeavesHeard recording (record { old = old; new = new; faults_old = f; faults_new = h })) (sym is) (record { k = has.0; report_is = behind old mid new f g h (heard_text (take has.0 recording.0)) (fault_line (packet_stop_text packet.Failed)) le has.1 reported })
+    subst (LeavesHeard bytes left told) (sym ends.0) (inl (has.0, subst (λ (w : Option (List ℕ)). AppendsFront old w (heard_text (take has.0 (recording bytes).0))) ends.1 has.1))
+leaves_heard (Err (stop.Read s)) bytes left old mid new f g h status le has (inl memory) = subst (LeavesHeard bytes left (record { old = old; new = new; faults_old = f; faults_new = h })) (sym memory) tt
+leaves_heard (Err (stop.Read (packet.Broken n))) bytes left old mid new f g h status le has (inr (is, reported)) =
+    subst (LeavesHeard bytes left (record { old = old; new = new; faults_old = f; faults_new = h })) (sym is) (has.0, has.1, behind old mid new f g h (heard_text (recording bytes).0) (fault_line (packet_stop_text (packet.Broken n))) le has.2 reported)
+leaves_heard (Err (stop.Read packet.TooLong)) bytes left old mid new f g h status le has (inr (is, reported)) =
+    subst (LeavesHeard bytes left (record { old = old; new = new; faults_old = f; faults_new = h })) (sym is) (has.0, behind old mid new f g h (heard_text (recording bytes).0) (fault_line (packet_stop_text packet.TooLong)) le has.1 reported)
+leaves_heard (Err (stop.Read packet.Failed)) bytes left old mid new f g h status le has (inr (is, reported)) =
+    subst (LeavesHeard bytes left (record { old = old; new = new; faults_old = f; faults_new = h })) (sym is) (record { taken = has.0; is_taken = has.1; report_is = behind old mid new f g h (heard_text (recording has.0).0) (fault_line (packet_stop_text packet.Failed)) le has.2 reported })
 
 -- a reader at the front of its source has the whole recording to give
 pub started : {S : Type 0} (left : S → Option (List ℕ)) (reader : Reading S) (source : S) (bytes : List ℕ) → reader ≡ fresh source → left source ≡ Some bytes → bytes_left left reader ≡ Some bytes
 started left reader source bytes e tells = ap (bytes_left left) e ∙ prepend_known-nil (left source) ∙ tells
 
 -- where nothing fails, the end of the recording decides
-pub hears_through : (recording : Recording) (report : Told) (status : Status) → LeavesHeard recording report status → (status ≡ ReadFault Input → ⊥) → (status ≡ WriteFault Report → ⊥) → HearsThrough recording status
-hears_through recording report Done leave r w = leave.ended
-hears_through recording report (BadStream n) leave r w = (leave.0, leave.1)
-hears_through recording report (TooLong Input) leave r w = leave.0
-hears_through recording report (TooLong (Feed f)) leave r w = absurd leave
-hears_through recording report (ReadFault Input) leave r w = absurd (r refl)
-hears_through recording report (ReadFault (Feed f)) leave r w = absurd leave
-hears_through recording report (WriteFault Report) leave r w = absurd (w refl)
-hears_through recording report (WriteFault Air) leave r w = absurd leave
-hears_through recording report Memory leave r w = tt
-hears_through recording report Usage leave r w = absurd leave
-hears_through recording report (BadScript n) leave r w = absurd leave
-hears_through recording report (Disagrees n kept found) leave r w = absurd leave
-hears_through recording report (BadMux fault) leave r w = absurd leave
-hears_through recording report (BadFeed f n) leave r w = absurd leave
-hears_through recording report (OpenFault f) leave r w = absurd leave
+pub hears_through : (bytes : List ℕ) (left : Option (List ℕ)) (report : Told) (status : Status) → LeavesHeard bytes left report status → (status ≡ ReadFault Input → ⊥) → (status ≡ WriteFault Report → ⊥) → HearsThrough (recording bytes) status
+hears_through bytes left report Done leave r w = leave.ended
+hears_through bytes left report (BadStream n) leave r w = (leave.0, leave.1)
+hears_through bytes left report (TooLong Input) leave r w = leave.0
+hears_through bytes left report (TooLong (Feed f)) leave r w = absurd leave
+hears_through bytes left report (ReadFault Input) leave r w = absurd (r refl)
+hears_through bytes left report (ReadFault (Feed f)) leave r w = absurd leave
+hears_through bytes left report (WriteFault Report) leave r w = absurd (w refl)
+hears_through bytes left report (WriteFault Air) leave r w = absurd leave
+hears_through bytes left report Memory leave r w = tt
+hears_through bytes left report Usage leave r w = absurd leave
+hears_through bytes left report (BadScript n) leave r w = absurd leave
+hears_through bytes left report (Disagrees n kept found) leave r w = absurd leave
+hears_through bytes left report (BadMux fault) leave r w = absurd leave
+hears_through bytes left report (BadFeed f n) leave r w = absurd leave
+hears_through bytes left report (OpenFault f) leave r w = absurd leave
 
 pub no_read_cause : (before now : ℕ) (s : ListenStop) → IsNoReadStop (let r : Result (Unit {0}) ListenStop = Err s in r) → HasReadCause before now (Err s)
 no_read_cause before now (stop.Read s) none = absurd none

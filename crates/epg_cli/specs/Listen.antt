@@ -1,8 +1,8 @@
 -- What a run of `listen` leaves, for each status.
-use Rattle.std.specs.Prelude.{◌≡◌, ℕ, ◌⊎◌, ◌++◌, List, length, take, Bool, false, [], ◌∷◌, Option, Ok, Err, Result, codes, decimal}
+use Rattle.std.specs.Prelude.{◌≡◌, ℕ, ◌/◌, ◌⊎◌, ◌++◌, List, length, take, Bool, false, [], ◌∷◌, Option, Some, Ok, Err, Result, codes, decimal}
 use Rattle.std.specs.Io.KnownBytes.{Appends}
 use Rattle.si_causes.specs.Causes.{Rose, AppendsFront}
-use Rattle.packet_reader.specs.Recordings.{RecordingEnd, RecordingEnd.AtEnd, RecordingEnd.Broken, RecordingEnd.PastLimit}
+use Rattle.packet_reader.specs.Recordings.{RecordingEnd, RecordingEnd.AtEnd, RecordingEnd.Broken, RecordingEnd.PastLimit, recording}
 use Rattle.packet_reader.specs.declared.stop.PacketStop.{PacketStop}
 use Rattle.packet_reader.specs.declared.stop.PacketStop.TheVariants as packet
 use Rattle.guide_receiver.specs.Heard.{dones_of}
@@ -50,25 +50,35 @@ pub record HeardWhole (recording : Recording) (report : Told) : Type 0 where
 abbrev pub HeardAll : Recording → List ℕ → Told → Type 0
 HeardAll recording fault report = Reported report (heard_text recording.0 ++ fault_line fault)
 
--- with a fault behind the first k packets
-pub record HeardFirst (recording : Recording) (fault : List ℕ) (report : Told) : Type 0 where
-  pub k : ℕ
-  pub report_is : Reported report (heard_text (take k recording.0) ++ fault_line fault)
+-- These bytes were taken from the input, and the others are left; each whole piece that was taken is a packet.
+pub record WasTaken (bytes : List ℕ) (left : Option (List ℕ)) (taken : List ℕ) : Type 0 where
+  pub behind : List ℕ
+  pub bytes_are : bytes ≡ taken ++ behind
+  pub left_is : left ≡ Some behind
+  pub whole : length (recording taken).0 ≡ length taken / 188
 
--- with a fault of the report: a proper front of what is reported of the first k packets
-pub record HeardUnreported (recording : Recording) (report : Told) : Type 0 where
-  pub k : ℕ
-  pub report_is : AppendsFront report.old report.new (heard_text (take k recording.0) ++ end_line)
+-- with a failed read: the completions of the whole packets that were taken, and the fault
+pub record HeardTaken (bytes : List ℕ) (left : Option (List ℕ)) (report : Told) : Type 0 where
+  pub taken : List ℕ
+  pub is_taken : WasTaken bytes left taken
+  pub report_is : Reported report (heard_text (recording taken).0 ++ fault_line (packet_stop_text packet.Failed))
 
--- What a run of `listen` leaves with each status, for a recording. No other status comes.
-abbrev pub LeavesHeard : Recording → Told → Status → Type 0
-LeavesHeard recording report Done = HeardWhole recording report
-LeavesHeard recording report (BadStream n) = (recording.1 ≡ Broken) × (n ≡ length recording.0) × HeardAll recording (packet_stop_text (packet.Broken n)) report
-LeavesHeard recording report (TooLong Input) = (recording.1 ≡ PastLimit) × HeardAll recording (packet_stop_text packet.TooLong) report
-LeavesHeard recording report (ReadFault Input) = HeardFirst recording (packet_stop_text packet.Failed) report
-LeavesHeard recording report (WriteFault Report) = HeardUnreported recording report
-LeavesHeard recording report Memory = Unit {0}
-LeavesHeard recording report status = ⊥
+-- With a fault of the report no fault of the recording was met: the report has a proper front of the completions of the first k packets,
+-- or, where the recording was heard to its end, of all completions and the end.
+abbrev pub HeardUnreported : Recording → Told → Type 0
+HeardUnreported recording report =
+    ((k : ℕ) × AppendsFront report.old report.new (heard_text (take k recording.0)))
+    ⊎ ((recording.1 ≡ AtEnd) × AppendsFront report.old report.new (heard_text recording.0 ++ end_line))
+
+-- What a run of `listen` leaves with each status, of the bytes of a recording, and of what is left of them. No other status comes.
+abbrev pub LeavesHeard : List ℕ → Option (List ℕ) → Told → Status → Type 0
+LeavesHeard bytes left report Done = HeardWhole (recording bytes) report
+LeavesHeard bytes left report (BadStream n) = ((recording bytes).1 ≡ Broken) × (n ≡ length (recording bytes).0) × HeardAll (recording bytes) (packet_stop_text (packet.Broken n)) report
+LeavesHeard bytes left report (TooLong Input) = ((recording bytes).1 ≡ PastLimit) × HeardAll (recording bytes) (packet_stop_text packet.TooLong) report
+LeavesHeard bytes left report (ReadFault Input) = HeardTaken bytes left report
+LeavesHeard bytes left report (WriteFault Report) = HeardUnreported (recording bytes) report
+LeavesHeard bytes left report Memory = Unit {0}
+LeavesHeard bytes left report status = ⊥
 
 -- the statuses of `listen`
 abbrev pub IsOfListen : Status → Type 0
@@ -103,13 +113,13 @@ ReportsLines old new text (Err stop.Memory) = Unit {0}
 ReportsLines old new text (Err (stop.Read s)) = ⊥
 
 -- what hearing a recording leaves in the report
-abbrev pub HasHeard : Recording → Option (List ℕ) → Option (List ℕ) → Result (Unit {0}) ListenStop → Type 0
-HasHeard recording old new (Ok u) = (recording.1 ≡ AtEnd) × Appends old new (heard_text recording.0)
-HasHeard recording old new (Err (stop.Read (packet.Broken n))) = (recording.1 ≡ Broken) × (n ≡ length recording.0) × Appends old new (heard_text recording.0)
-HasHeard recording old new (Err (stop.Read packet.TooLong)) = (recording.1 ≡ PastLimit) × Appends old new (heard_text recording.0)
-HasHeard recording old new (Err (stop.Read packet.Failed)) = (k : ℕ) × Appends old new (heard_text (take k recording.0))
-HasHeard recording old new (Err stop.Report) = (k : ℕ) × AppendsFront old new (heard_text (take k recording.0))
-HasHeard recording old new (Err stop.Memory) = Unit {0}
+abbrev pub HasHeard : List ℕ → Option (List ℕ) → Option (List ℕ) → Option (List ℕ) → Result (Unit {0}) ListenStop → Type 0
+HasHeard bytes left old new (Ok u) = ((recording bytes).1 ≡ AtEnd) × Appends old new (heard_text (recording bytes).0)
+HasHeard bytes left old new (Err (stop.Read (packet.Broken n))) = ((recording bytes).1 ≡ Broken) × (n ≡ length (recording bytes).0) × Appends old new (heard_text (recording bytes).0)
+HasHeard bytes left old new (Err (stop.Read packet.TooLong)) = ((recording bytes).1 ≡ PastLimit) × Appends old new (heard_text (recording bytes).0)
+HasHeard bytes left old new (Err (stop.Read packet.Failed)) = (taken : List ℕ) × WasTaken bytes left taken × Appends old new (heard_text (recording taken).0)
+HasHeard bytes left old new (Err stop.Report) = (k : ℕ) × AppendsFront old new (heard_text (take k (recording bytes).0))
+HasHeard bytes left old new (Err stop.Memory) = Unit {0}
 
 -- a stop by a failed read, and one by a failed write, have their causes
 abbrev pub HasReadCause : ℕ → ℕ → Result (Unit {0}) ListenStop → Type 0

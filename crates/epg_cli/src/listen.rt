@@ -1,7 +1,6 @@
 // A recording, heard packet by packet.
 ghost use Rattle.std.specs.Prelude.{◌≡◌, ◌≤◌, ◌++◌, ◌∷◌, [], List, ℕ, None, Some, Err, IfOk, OnOk, map, slice_index};
 ghost use Rattle.std.specs.Io.KnownBytes.{IsAtEnd};
-ghost use Rattle.packet_reader.specs.Recordings.{recording};
 ghost use Rattle.packet_reader.specs.Reading.{bytes_left};
 ghost use Rattle.guide_receiver.specs.Heard.{Stands, at_packet, dones_by};
 ghost use Rattle.guide_receiver.specs.Texts.{done_lines};
@@ -78,7 +77,7 @@ pub(crate) fn hear_all<S: Source, R: Sink>(
     requires going { packets.old.stop ≡ None }
     requires start { packets.old.number ≡ 0 }
     requires unheard { Stands [] receiver.old }
-    ensures heard { (bytes : List ℕ) → bytes_left S.left packets.old ≡ Some bytes → HasHeard (recording bytes) (R.written report.old) (R.written report.new) result }
+    ensures heard { (bytes : List ℕ) → bytes_left S.left packets.old ≡ Some bytes → HasHeard bytes (S.left packets.new.source) (R.written report.old) (R.written report.new) result }
     ensures end { OnOk result (IsAtEnd (S.left packets.new.source)) }
     ensures read_cause { HasReadCause (S.faults packets.old.source) (S.faults packets.new.source) result }
     ensures report_cause { HasReportCause (R.faults report.old) (R.faults report.new) result }

@@ -126,7 +126,7 @@ pub fn run_play<S: Source, A: Sink, R: Sink>(
 /// EN 300 468, 5.1).
 pub fn run_listen<S: Source, R: Sink>(alloc: Global, input: &mut S, report: &mut R) -> Status
     ensures leaves { (bytes : List ℕ) → S.left input.old ≡ Some bytes
-        → LeavesHeard (recording bytes) (told R.written R.faults report.old report.new) result }
+        → LeavesHeard bytes (S.left input.new) (told R.written R.faults report.old report.new) result }
     // Where neither the input nor the report fails, the recording decides the status, but for want of memory.
     ensures completes { (bytes : List ℕ) → S.left input.old ≡ Some bytes → ¬ (Rose (S.faults input.old) (S.faults input.new))
         → ¬ (Rose (R.faults report.old) (R.faults report.new)) → HearsThrough (recording bytes) result }
@@ -141,7 +141,7 @@ pub fn run_listen<S: Source, R: Sink>(alloc: Global, input: &mut S, report: &mut
 // Opens the input, hears its packets and reports.
 fn listen_through<S: Source, R: Sink>(alloc: Global, input: &mut S, report: &mut R) -> Status
     ensures leaves { (bytes : List ℕ) → S.left input.old ≡ Some bytes
-        → LeavesHeard (recording bytes) (told R.written R.faults report.old report.new) result }
+        → LeavesHeard bytes (S.left input.new) (told R.written R.faults report.old report.new) result }
     ensures status { IsOfListen result }
     ensures end { result ≡ Status.Done → IsAtEnd (S.left input.new) }
     ensures input { result ≡ Status.ReadFault Origin.Input → Rose (S.faults input.old) (S.faults input.new) }
@@ -203,7 +203,7 @@ pub fn run<W: Threads + Wait + Sync, O: Opener, S: Source + Send, A: Sink + Send
     ensures status { are_play (map string_bytes words.now) ≡ true → IsOfPlay result }
     // What is left with each status of `listen`: the completions that the report has. Nothing is sent.
     ensures listen_leaves { are_listen (map string_bytes words.now) ≡ true → (bytes : List ℕ) → S.left input.old ≡ Some bytes
-        → LeavesHeard (recording bytes) (told R.written R.faults report.old report.new) result }
+        → LeavesHeard bytes (S.left input.new) (told R.written R.faults report.old report.new) result }
     ensures listen_completes { are_listen (map string_bytes words.now) ≡ true → (bytes : List ℕ) → S.left input.old ≡ Some bytes → ¬ (Rose (S.faults input.old) (S.faults input.new))
         → ¬ (Rose (R.faults report.old) (R.faults report.new)) → HearsThrough (recording bytes) result }
     ensures listen_status { are_listen (map string_bytes words.now) ≡ true → IsOfListen result }

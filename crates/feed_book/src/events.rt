@@ -143,7 +143,7 @@ pub(crate) fn put_item(
     if let Some(fault) = place_fault(slots, &slot) {
         return Ok(reply_of(fault));
     }
-    page.own()?;
+    page.own(1)?;
     let events = &mut page.change().events;
     put_fresh(&mut events.items, slots, event, slot)?;
     Ok(Reply::Done)
@@ -160,7 +160,7 @@ pub(crate) fn withdraw(page: &mut Page, slots: &mut Vec<Slot>, id: u16) -> Resul
     if at == slots.len() {
         return Ok(());
     }
-    page.own()?;
+    page.own(0)?;
     let events = &mut page.change().events;
     take_out(&mut events.items, slots, id);
     Ok(())
@@ -173,9 +173,7 @@ pub(crate) fn clear(page: &mut Page, slots: &mut Vec<Slot>) -> Result<(), AllocE
     ensures memory { OnErr result (page.new.guide ≡ page.old.guide) }
     ensures indexed { AreIndexed page.new.guide.events slots.new.items }
 {
-    page.own()?;
-    let events = &mut page.change().events;
-    events.items.clear();
+    page.own_without_events()?;
     slots.clear();
     Ok(())
 }

@@ -14,6 +14,8 @@ mod hearing;
 #[cfg(test)]
 mod journals;
 #[cfg(test)]
+mod order;
+#[cfg(test)]
 mod runs;
 #[cfg(test)]
 mod words;

@@ -1,6 +1,6 @@
 -- The packets of a recording, one after another, and what `next` gives of them.
 use Rattle.std.proofs.Common.{◌≡◌, ◌≢◌, ℕ, suc, ◌+◌, ◌-◌, ◌<◌, ◌≤◌, ◌==◌, ◌&&◌, Bool, true, false, cond, List, [], ◌∷◌, ◌++◌, length, take, drop, slice_index, refl, sym, ap, ◌∙◌, subst, arith, append-nil, append_assoc, length-take, length-append, Option, Some, None, Ok, Err, inl, inr, nat_le}
-use Rattle.std.proofs.lemmas.List.{take-append-le, drop-append-le, length-take-le}
+use Rattle.std.proofs.lemmas.List.{take-append-le, drop-append-le, length-take-le, take-append-drop}
 use Rattle.std.proofs.lemmas.Bool.Decides.{nat_tests, leb_tells}
 use Rattle.std.specs.Io.KnownBytes.{Consumes, IsAtEnd, prepend_known}
 use Rattle.packet_reader.specs.Recordings.{RecordingEnd, RecordingEnd.AtEnd, RecordingEnd.Broken, RecordingEnd.PastLimit, is_packet, and_packet, packets_in}
@@ -99,4 +99,14 @@ goes_on left_old left_new held_old held_new bytes told gathers is n =
       ap (packets_in (suc n)) t.2 ∙ packet_step n (held_new ++ t.0) (piece ∙ is)
           ∙ ap (λ p. and_packet p (packets_in n (drop 188 (held_new ++ t.0)))) (take-append-le 188 held_new t.0 long)
           ∙ ap (λ r. and_packet (take 188 held_new) (packets_in n r)) (drop-append-le 188 held_new t.0 long),
+    )
+
+-- the piece in front of what is left
+pub taken : (left_old left_new : Option (List ℕ)) (held_old held_new bytes : List ℕ) → prepend_known held_old left_old ≡ Some bytes → Gathers left_old left_new held_old held_new
+    → (rest : List ℕ) × (prepend_known (drop 188 held_new) left_new ≡ Some rest) × (bytes ≡ take 188 held_new ++ rest)
+taken left_old left_new held_old held_new bytes told gathers =
+    let t = told_behind left_old left_new held_old held_new bytes told gathers in (
+      drop 188 held_new ++ t.0,
+      ap (prepend_known (drop 188 held_new)) t.1,
+      t.2 ∙ ap (λ l. l ++ t.0) (sym (take-append-drop 188 held_new)) ∙ append_assoc (take 188 held_new) (drop 188 held_new) t.0,
     )

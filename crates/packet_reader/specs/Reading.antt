@@ -1,5 +1,5 @@
 -- What `next` of a reader of packets does.
-use Rattle.std.specs.Prelude.{◌≡◌, ℕ, ◌+◌, ◌-◌, ◌≤◌, ◌<◌, List, [], ◌∷◌, ◌++◌, length, slice_index, Option, Some, None, Ok, Err, Result}
+use Rattle.std.specs.Prelude.{◌≡◌, ℕ, ◌+◌, ◌-◌, ◌≤◌, ◌<◌, List, [], ◌∷◌, ◌++◌, true, Bool, false, length, slice_index, Option, Some, None, Ok, Err, Result}
 use Rattle.std.specs.Io.KnownBytes.{Consumes, IsAtEnd, prepend_known}
 use Rattle.si_causes.specs.Causes.{Rose}
 use Rattle.packet_reader.specs.Recordings.{RecordingEnd, RecordingEnd.AtEnd, RecordingEnd.Broken, RecordingEnd.PastLimit, packet_limit, packets_in}
@@ -20,12 +20,14 @@ pub record Reading (S : Type 0) : Type 0 where
   pub number : ℕ
   -- the last of them
   pub packet : List ℕ
+  -- whether the source told its end
+  pub ended : Bool
   -- why there are no more
   pub stop : Option PacketStop
 
 -- a reader that has read nothing
 abbrev pub fresh : {S : Type 0} → S → Reading S
-fresh source = record { source = source; held = []; number = 0; packet = []; stop = None }
+fresh source = record { source = source; held = []; number = 0; packet = []; ended = false; stop = None }
 
 -- the bytes that a reader has still to give packets of, where the source tells them
 abbrev pub bytes_left : {S : Type 0} → (S → Option (List ℕ)) → Reading S → Option (List ℕ)
@@ -46,10 +48,17 @@ GivesPacket left old new ([], PastLimit) (Err stop.TooLong) = Unit {0}
 GivesPacket left old new packets (Err stop.Failed) = Unit {0}
 GivesPacket left old new packets result = ⊥
 
+-- What a call takes: the packet that it gives, of bytes that are told; and where a read failed, what the source gave in this call, which
+-- with the bytes that were held is less than a packet.
+abbrev pub TakesPacket : {S : Type 0} → (S → Option (List ℕ)) → Reading S → Reading S → Result (Option ℕ) PacketStop → Type 0
+TakesPacket left old new (Ok (Some n)) = (bytes : List ℕ) → bytes_left left old ≡ Some bytes → (rest : List ℕ) × (bytes_left left new ≡ Some rest) × (bytes ≡ new.packet ++ rest)
+TakesPacket left old new (Err stop.Failed) = (more : List ℕ) × Consumes (left old.source) (left new.source) more × (length (old.held ++ more) < 188)
+TakesPacket left old new result = Unit {0}
+
 -- what the calls tell of the reader alone: packets are counted from 0, and each is one
 abbrev pub Counts : {S : Type 0} → Reading S → Reading S → Result (Option ℕ) PacketStop → Type 0
 Counts old new (Ok (Some n)) = (n ≡ old.number) × (new.number ≡ n + 1) × (n < packet_limit) × (length new.packet ≡ 188) × (slice_index new.packet 0 ≡ 0x47) × (new.stop ≡ None)
-Counts old new (Ok None) = (new.number ≡ old.number) × (new.stop ≡ None)
+Counts old new (Ok None) = (new.number ≡ old.number) × (new.ended ≡ true) × (new.stop ≡ None)
 Counts old new (Err (stop.Broken n)) = (n ≡ old.number) × (new.number ≡ old.number) × (new.stop ≡ Some (stop.Broken n))
 Counts old new (Err stop.TooLong) = (new.number ≡ old.number) × (new.stop ≡ Some stop.TooLong)
 Counts old new (Err stop.Failed) = (new.number ≡ old.number) × (new.stop ≡ Some stop.Failed)

@@ -1,9 +1,9 @@
 // A reader of packets.
-ghost use Rattle.std.specs.Prelude.{◌≡◌, ◌≤◌, ◌<◌, [], ℕ, List, Option, None, Some, Ok, Err, IfOk, OnOk, OnErr, IfSome, length, take};
+ghost use Rattle.std.specs.Prelude.{◌≡◌, ◌≤◌, ◌<◌, true, [], ℕ, List, Option, None, Some, Ok, Err, IfOk, OnOk, OnErr, IfSome, length, take};
 ghost use Rattle.std.specs.Io.KnownBytes.{IsAtEnd};
 ghost use Rattle.si_causes.specs.Causes.{HasCause as Faulted};
 ghost use Rattle.packet_reader.specs.Recordings.{is_packet, packets_in};
-ghost use Rattle.packet_reader.specs.Reading.{GivesPacket, Counts, HasCause, Gathers, fresh, room, bytes_left};
+ghost use Rattle.packet_reader.specs.Reading.{GivesPacket, TakesPacket, Counts, HasCause, Gathers, fresh, room, bytes_left};
 
 use crate::held::Held;
 use crate::stop::PacketStop;
@@ -18,17 +18,19 @@ const PACKETS: u64 = 4_294_967_295;
 /// each begins with the sync byte 0x47. A recording may have 4,294,967,295 packets.
 ///
 /// Contracts see a reader as the record `Reading`: the source, the bytes that it gave and that stand in no packet yet, how many
-/// packets were handed out, the last of them, and why there are no more.
+/// packets were handed out, the last of them, whether the source told its end, and why there are no more packets.
 #[derive(Drop)]
 pub struct PacketReader<S: Source> {
     source: S,
     held: Held,
     number: u64,
+    ended: bool,
     stop: Option<PacketStop>,
 }
 
 impl<S: Source> Model for PacketReader<S> {
-    ghost use Rattle.std.specs.Prelude.{◌≤◌};
+    ghost use Rattle.std.specs.Prelude.{◌≡◌, ◌≤◌, true, []};
+    ghost use Rattle.std.specs.Io.KnownBytes.{IsAtEnd};
     ghost use Rattle.packet_reader.specs.Reading.{Reading};
 
     ghost Value = { Reading S };
@@ -38,16 +40,20 @@ impl<S: Source> Model for PacketReader<S> {
       held = r.held.behind;
       number = r.number;
       packet = r.held.packet;
+      ended = r.ended;
       stop = r.stop;
     } };
 
-    ghost invariant = { λ r. r.number ≤ 4294967295 };
+    ghost invariant = { λ r. (r.number ≤ 4294967295)
+        × (r.ended ≡ true → (r.held.behind ≡ []) × IsAtEnd (S.left r.source)) };
 }
 
 // Reads until a packet is held, or the source ends.
 fn gather<S: Source>(source: &mut S, held: &mut Held) -> Result<(), Failed>
     ensures gathers { Gathers (S.left source.old) (S.left source.new) held.old.behind held.new.behind }
     ensures end { OnOk result (length held.new.behind < 188 → IsAtEnd (S.left source.new)) }
+    ensures short { OnErr result (length held.new.behind < 188) }
+    ensures lazy { 188 ≤ length held.old.behind → source.new ≡ source.old }
     ensures cause { Faulted (S.faults source.old) (S.faults source.new) result }
     ensures same { S.same source.old source.new }
 {
@@ -76,6 +82,7 @@ impl<S: Source> PacketReader<S> {
             source,
             held,
             number: 0,
+            ended: false,
             stop: None,
         })
     }
@@ -84,25 +91,34 @@ impl<S: Source> PacketReader<S> {
     ///
     /// `Broken` comes exactly where the next piece does not begin with 0x47, or is shorter than 188 bytes; `TooLong` exactly where the
     /// source gave a byte behind its 4,294,967,295th packet. `Failed` comes only where a read of the source failed in this call. After
-    /// any of them each later call answers the same. The source is read only where no whole packet is held. It takes no memory.
+    /// any of them, and after the end, each later call answers the same. The source is read only where no whole packet is held. It
+    /// takes no memory.
     pub fn next(&mut self) -> Result<Option<u64>, PacketStop>
         ensures packets { self.old.stop ≡ None → (bytes : List ℕ) → bytes_left S.left self.old ≡ Some bytes
             → GivesPacket S.left self.old self.new (packets_in (room self.old) bytes) result }
+        ensures takes { self.old.stop ≡ None → TakesPacket S.left self.old self.new result }
         ensures counts { self.old.stop ≡ None → Counts self.old self.new result }
         ensures end { result ≡ Ok None → IsAtEnd (S.left self.new.source) }
         ensures cause { self.old.stop ≡ None → HasCause (S.faults self.old.source) (S.faults self.new.source) result }
+        ensures over { self.old.stop ≡ None → self.old.ended ≡ true
+            → (result ≡ Ok None) × (self.new ≡ self.old) }
         ensures sticky { IfSome self.old.stop (λ stop. (result ≡ Err stop) × (self.new ≡ self.old)) }
+        ensures lazy { 188 ≤ length self.old.held → self.new.source ≡ self.old.source }
         ensures later { S.faults self.old.source ≤ S.faults self.new.source }
         ensures same { S.same self.old.source self.new.source }
     {
         if let Some(stop) = self.stop {
             return Err(stop);
         }
+        if self.ended {
+            return Ok(None);
+        }
         let Ok(()) = gather(&mut self.source, &mut self.held) else {
             return Err(self.stopped(PacketStop::Failed));
         };
         let bytes = self.held.behind();
         if bytes.is_empty() {
+            self.ended = true;
             return Ok(None);
         }
         if self.number == PACKETS {

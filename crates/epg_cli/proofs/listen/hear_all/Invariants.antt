@@ -1,10 +1,10 @@
 use Rattle.std.proofs.Common.{◌≡◌, ◌≤◌, ◌++◌, List, ℕ, length}
 use Rattle.std.specs.Prelude.{Some, None}
 use Rattle.std.specs.Io.KnownBytes.{Appends}
-use Rattle.packet_reader.specs.Recordings.{packets_in, recording}
 use Rattle.packet_reader.specs.Reading.{bytes_left, room}
 use Rattle.guide_receiver.specs.Heard.{Stands}
 use Rattle.epg_cli.specs.Listen.{heard_text}
+use Rattle.epg_cli.proofs.ListenFacts.{HasParted}
 use Rattle.epg_cli.proofs.listen.hear_all.Given as goal
 
 abbrev pub invariant-loop-number : goal.invariant-loop-number
@@ -15,8 +15,8 @@ invariant-loop-number g l =
       read_later : g.S.Source.faults l.fn.packets.source ≤ g.S.Source.faults l.packets.source;
       report_later : g.R.Sink.faults l.fn.report ≤ g.R.Sink.faults l.report;
       told : (bytes : List ℕ) → bytes_left g.S.Source.left l.fn.packets ≡ Some bytes →
-          (heard : List (List ℕ)) × (rest : List ℕ) × (bytes_left g.S.Source.left l.packets ≡ Some rest)
-          × (recording bytes ≡ (heard ++ (packets_in (room l.packets) rest).0, (packets_in (room l.packets) rest).1))
+          (heard : List (List ℕ)) × (done : List ℕ) × (rest : List ℕ) × (bytes_left g.S.Source.left l.packets ≡ Some rest)
+          × HasParted bytes done heard (room l.packets) rest
           × Stands heard l.receiver × (l.packets.number ≡ length heard)
           × Appends (g.R.Sink.written l.fn.report) (g.R.Sink.written l.report) (heard_text heard);
     }

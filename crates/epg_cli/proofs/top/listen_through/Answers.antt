@@ -5,7 +5,7 @@ use Rattle.epg_cli.proofs.top.listen_through.Goals as goal
 
 pub returns-clause-leaves : goal.returns-clause-leaves
 returns-clause-leaves g c = λ bytes tells.
-    leaves_heard c.hear_all-heard.result (recording bytes) (g.R.Sink.written c.args.report.now) (g.R.Sink.written c.hear_all-heard.new.report) (g.R.Sink.written c.end_report.new.report)
+    leaves_heard c.hear_all-heard.result bytes _ (g.R.Sink.written c.args.report.now) (g.R.Sink.written c.hear_all-heard.new.report) (g.R.Sink.written c.end_report.new.report)
     (g.R.Sink.faults c.args.report.now) (g.R.Sink.faults c.hear_all-heard.new.report) (g.R.Sink.faults c.end_report.new.report) c.end_report.result c.hear_all-heard.ensures.later
     (c.hear_all-heard.ensures.heard bytes (started (λ s. g.S.Source.left s.now) c.in-Ok.packets _ bytes c.in-Ok.ensures tells)) c.end_report.ensures.ends
 

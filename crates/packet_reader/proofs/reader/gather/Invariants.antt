@@ -7,6 +7,7 @@ invariant-loop-held g l =
     Gathers (g.S.Source.left l.fn.source) (g.S.Source.left l.source) l.fn.held.behind l.held.behind
     × (g.S.Source.faults l.fn.source ≤ g.S.Source.faults l.source)
     × g.S.Source.same l.fn.source l.source
+    × (188 ≤ length l.fn.held.behind → (l.source ≡ l.fn.source) × (l.held ≡ l.fn.held))
 
 abbrev pub decreases-loop-held : goal.decreases-loop-held
 decreases-loop-held g l = 188 - length l.held.behind

@@ -1,8 +1,8 @@
-use Rattle.std.proofs.Common.{◌≡◌, ◌≢◌, ◌+◌, ◌-◌, ◌≤◌, ◌==◌, ℕ, suc, true, false, refl, sym, ap, ◌∙◌, arith, length, take, subst, List, Some, not}
+use Rattle.std.proofs.Common.{◌≡◌, ◌≢◌, ◌+◌, ◌-◌, ◌≤◌, ◌==◌, ℕ, suc, true, false, refl, sym, ap, ◌∙◌, arith, length, take, drop, ◌++◌, subst, List, Some, not}
 use Rattle.std.proofs.lemmas.Bool.Decides.{nat_tests}
 use Rattle.std.specs.Io.KnownBytes.{prepend_known}
 use Rattle.packet_reader.specs.Recordings.{is_packet}
-use Rattle.packet_reader.proofs.RecordingFacts.{past_limit, broken, goes_on, is_long}
+use Rattle.packet_reader.proofs.RecordingFacts.{past_limit, broken, goes_on, is_long, taken}
 use Rattle.packet_reader.proofs.reader.PacketReader.next.Goals as goal
 
 pub returns-then-self-eq-PACKETS-clause-packets : goal.returns-then-self-eq-PACKETS-clause-packets
@@ -42,3 +42,14 @@ returns-clause-packets g c =
     rw (← c.self.view_is) (λ going bytes told.
     let t = goes_on (left inside.source) (left c.gather.new.source) inside.held.behind c.gather.new.held.behind bytes told c.gather.ensures.gathers is (4294967295 - (inside.number + 1)) in
     rw (one_less, t.2) (c.advance.ensures.packet, (t.0, subst (λ h. prepend_known h (left c.gather.new.source) ≡ Some t.0) (sym c.advance.ensures.behind) t.1, refl)))
+
+pub returns-clause-takes : goal.returns-clause-takes
+returns-clause-takes g c =
+    let inside = c.self.inside in
+    let left = g.S.Source.left in
+    rw (← c.self.view_is) (λ going bytes told.
+    let t = taken (left inside.source) (left c.gather.new.source) inside.held.behind c.gather.new.held.behind bytes told c.gather.ensures.gathers in (
+      t.0,
+      subst (λ h. prepend_known h (left c.gather.new.source) ≡ Some t.0) (sym c.advance.ensures.behind) t.1,
+      t.2 ∙ ap (λ p. p ++ t.0) (sym c.advance.ensures.packet),
+    ))

@@ -1,0 +1,132 @@
+// What is written before the next piece of an input is read: no clause says it, since each speaks of before and after a run.
+ghost use Rattle.std.specs.Prelude.{None};
+
+use crate::airs::renamed;
+use crate::runs::air_of;
+use epg_cli::{Status, run_listen, run_play};
+use si_causes::{Failed, Sink, Source};
+use std::alloc::{AllocError, Global};
+use std::cell::Cell;
+use std::marker::Sync;
+use std::sync::Wait;
+use std::test::Fail;
+use std::thread::Threads;
+
+// A source that gives one piece a read, and looks at each read how many bytes a sink has taken.
+#[derive(Drop)]
+struct Watching<'a> {
+    pieces: &'a [&'a [u8]],
+    taken: &'a Cell<usize>,
+    // how many bytes the sink is to have taken at each read
+    due: &'a [usize],
+    reads: usize,
+    agrees: bool,
+}
+
+impl<'a> Source for Watching<'a> {
+    ghost left = { λ _. None };
+
+    ghost faults = { λ _. 0 };
+
+    ghost same = { λ _ _. Unit {0} };
+
+    ghost same_at_once = { λ _. tt };
+
+    ghost same_later = { λ _ _ _ _ _. tt };
+
+    fn read(&mut self, into: &mut [u8]) -> Result<usize, Failed> {
+        self.agrees = self.agrees && self.due.get(self.reads) == Some(&self.taken.get());
+        let piece = self.pieces.get(self.reads).copied().unwrap_or(&[]);
+        self.reads = self.reads.saturating_add(1);
+        let count = piece.len().min(into.len());
+        into[..count].copy_from_slice(&piece[..count]);
+        Ok(count)
+    }
+}
+
+// A sink that counts what it takes.
+#[derive(Drop)]
+struct Counting<'a> {
+    taken: &'a Cell<usize>,
+}
+
+impl<'a> Sink for Counting<'a> {
+    ghost written = { λ _. None };
+
+    ghost faults = { λ _. 0 };
+
+    fn write(&mut self, from: &[u8]) -> Result<usize, Failed> {
+        self.taken.set(self.taken.get().saturating_add(from.len()));
+        Ok(from.len())
+    }
+}
+
+// The lines of a script of two swaps, and how many bytes of the air are there when each is read, and when the end is met.
+const LINES: &[&[u8]] = &[
+    b"network,40,Demo\n",
+    b"stream,1,1\n",
+    b"service,101,1,1,256,257,Acme,One\n",
+    b"end\n",
+    b"publish\n",
+    b"swap\n",
+    b"# two swaps\n",
+    b"swap\n",
+];
+
+const SENT: &[usize] = &[0, 0, 0, 0, 0, 0, 188, 188, 376];
+
+// Whether `play` sends each cycle before it reads the next line.
+fn sends_before_it_reads(alloc: Global) -> bool {
+    let taken = Cell::new(0);
+    let mut input = Watching {
+        pieces: LINES,
+        taken: &taken,
+        due: SENT,
+        reads: 0,
+        agrees: true,
+    };
+    let mut air = Counting { taken: &taken };
+    let mut report = Counting {
+        taken: &Cell::new(0),
+    };
+    let status = run_play(alloc, &mut input, &mut air, &mut report);
+    status == Status::Done && input.agrees && input.reads == SENT.len()
+}
+
+#[test]
+fn a_cycle_is_sent_before_the_next_line_is_read(rt: HostRuntime) -> Result<(), Fail> {
+    assert!(rt; sends_before_it_reads(rt.alloc()));
+    Ok(())
+}
+
+// How many bytes the lines of 0, 1, 2 and 3 completions have, each of which is 21 bytes long.
+const REPORTED: &[usize] = &[0, 21, 42, 63];
+
+// Whether `listen` reports the completions of each of these packets before it reads the next one.
+fn reports_before_it_reads(alloc: Global, packets: &[&[u8]]) -> bool {
+    let taken = Cell::new(0);
+    let mut input = Watching {
+        pieces: packets,
+        taken: &taken,
+        due: REPORTED,
+        reads: 0,
+        agrees: true,
+    };
+    let mut report = Counting { taken: &taken };
+    let status = run_listen(alloc, &mut input, &mut report);
+    status == Status::Done && input.agrees && input.reads == REPORTED.len() && taken.get() == 63 + 4
+}
+
+// The same of the air of three swaps, each of a new name.
+fn hears_three<W: Threads + Wait + Sync>(rt: &W, alloc: Global) -> Result<bool, AllocError> {
+    let script = renamed(alloc, &[1, 1, 1])?;
+    let air = air_of(rt, alloc, &script)?;
+    let packets: Vec<&[u8]> = air.chunks(188).collect(alloc)?;
+    Ok(reports_before_it_reads(alloc, &packets))
+}
+
+#[test]
+fn completions_are_reported_before_the_next_packet_is_read(rt: HostRuntime) -> Result<(), Fail> {
+    assert!(rt; hears_three(&rt, rt.alloc())?);
+    Ok(())
+}
