@@ -246,6 +246,11 @@ leaves_heard (Err (stop.Read packet.TooLong)) bytes left old mid new f g h statu
 leaves_heard (Err (stop.Read packet.Failed)) bytes left old mid new f g h status le has (inr (is, reported)) =
     subst (LeavesHeard bytes left (record { old = old; new = new; faults_old = f; faults_new = h })) (sym is) (record { taken = has.0; is_taken = has.1; report_is = behind old mid new f g h (heard_text (recording has.0).0) (fault_line (packet_stop_text packet.Failed)) le has.2 reported })
 
+-- the source of the reader is the input, which was lent
+pub heard_input : {S : Type 0} (left_of : S → Option (List ℕ)) (source input : S) (bytes : List ℕ) (report : Told) (status : Status) → input ≡ source
+    → LeavesHeard bytes (left_of source) report status → LeavesHeard bytes (left_of input) report status
+heard_input {S = S} left_of source input bytes report status e leaves = subst (λ (s : S). LeavesHeard bytes (left_of s) report status) (sym e) leaves
+
 -- a reader at the front of its source has the whole recording to give
 pub started : {S : Type 0} (left : S → Option (List ℕ)) (reader : Reading S) (source : S) (bytes : List ℕ) → reader ≡ fresh source → left source ≡ Some bytes → bytes_left left reader ≡ Some bytes
 started left reader source bytes e tells = ap (bytes_left left) e ∙ prepend_known-nil (left source) ∙ tells
