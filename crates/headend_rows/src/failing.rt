@@ -183,6 +183,7 @@ fn all_fail<W: Threads + Wait + Sync>(
     whole: &[u8],
     piece: usize,
 ) -> Result<bool, AllocError> {
+    let piece = piece.max(1);
     let reads = EVERY.len().div_ceil(piece) + 1;
     let sent = 2 * 188_usize.div_ceil(piece);
     let told = report_of(alloc, 6, "")?.len().div_ceil(piece);

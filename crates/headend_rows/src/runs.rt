@@ -131,11 +131,10 @@ pub(crate) fn air_of<W: Threads + Wait + Sync>(
     input: &str,
 ) -> Result<Vec<u8>, AllocError> {
     let mut ends = ends_of(alloc, &playing(input))?;
-    let air = match run_over(rt, alloc, PLAY, &mut ends)? {
-        Status::Done => ends.air.taken(),
-        _ => &[],
-    };
-    Vec::from_slice(alloc, air)
+    if run_over(rt, alloc, PLAY, &mut ends)? != Status::Done {
+        return Ok(Vec::new(alloc));
+    }
+    Vec::from_slice(alloc, ends.air.taken())
 }
 
 // A text of parts.

@@ -1,4 +1,5 @@
 use Rattle.std.proofs.Common.{sym, ap, subst, arith}
+use Rattle.std.proofs.lemmas.Grind.{common_steps}
 use Rattle.std.specs.Prelude.{None, Err}
 use Rattle.feed_edits.specs.Ahead.{ahead}
 use Rattle.desk_core.specs.Journal.{entry_after}
@@ -91,3 +92,102 @@ returns-in-Err-clause-taken g c =
     let i = c.items.invariant in
     subst (λ (s : PlayStop). RestTaken g.S.Source.left c.args.lines.now c.next_item.new.lines c.args.desk.now c.items.desk (Err s)) (sym c.stop_of.ensures)
     (taken g.S.Source.left g.S.Source.faults c.args.lines.now c.items.lines c.next_item.new.lines c.args.desk.now c.items.desk c.is_some.result c.items.made c.in-Err.stop c.is_some.ensures i.went (c.in-Err.ensures.takes i.going))
+
+pub returns-in-Err-do_step-clause-taken : goal.returns-in-Err-do_step-clause-taken
+returns-in-Err-do_step-clause-taken g c = grind (arith, common_steps)
+
+pub returns-in-Err-do_step-clause-window : goal.returns-in-Err-do_step-clause-window
+returns-in-Err-do_step-clause-window g c = grind (arith, common_steps)
+
+pub returns-in-Err-do_step-clause-end : goal.returns-in-Err-do_step-clause-end
+returns-in-Err-do_step-clause-end g c = grind (arith, common_steps)
+
+pub returns-in-Err-do_step-clause-read_cause : goal.returns-in-Err-do_step-clause-read_cause
+returns-in-Err-do_step-clause-read_cause g c = grind (arith, common_steps)
+
+pub returns-in-Err-do_step-clause-air_cause : goal.returns-in-Err-do_step-clause-air_cause
+returns-in-Err-do_step-clause-air_cause g c = grind (arith, common_steps)
+
+pub returns-in-Err-do_step-clause-read_later : goal.returns-in-Err-do_step-clause-read_later
+returns-in-Err-do_step-clause-read_later g c = grind (arith, common_steps)
+
+pub returns-in-Err-do_step-clause-air_later : goal.returns-in-Err-do_step-clause-air_later
+returns-in-Err-do_step-clause-air_later g c = grind (arith, common_steps)
+
+pub returns-in-Some-clause-taken : goal.returns-in-Some-clause-taken
+returns-in-Some-clause-taken g c = grind (arith, common_steps)
+
+pub returns-in-Some-clause-aired : goal.returns-in-Some-clause-aired
+returns-in-Some-clause-aired g c = grind (arith, common_steps)
+
+pub returns-in-Some-clause-window : goal.returns-in-Some-clause-window
+returns-in-Some-clause-window g c = grind (arith, common_steps)
+
+pub returns-in-Some-clause-end : goal.returns-in-Some-clause-end
+returns-in-Some-clause-end g c = grind (arith, common_steps)
+
+pub returns-in-Some-clause-read_cause : goal.returns-in-Some-clause-read_cause
+returns-in-Some-clause-read_cause g c = grind (arith, common_steps)
+
+pub returns-in-Some-clause-air_cause : goal.returns-in-Some-clause-air_cause
+returns-in-Some-clause-air_cause g c = grind (arith, common_steps)
+
+pub returns-in-Some-clause-read_later : goal.returns-in-Some-clause-read_later
+returns-in-Some-clause-read_later g c = grind (arith, common_steps)
+
+pub returns-in-Some-clause-air_later : goal.returns-in-Some-clause-air_later
+returns-in-Some-clause-air_later g c = grind (arith, common_steps)
+
+pub returns-in-Some-clause-same : goal.returns-in-Some-clause-same
+returns-in-Some-clause-same g c = grind (arith, common_steps)
+
+pub returns-in-Ok-End-clause-taken : goal.returns-in-Ok-End-clause-taken
+returns-in-Ok-End-clause-taken g c = grind (arith, common_steps)
+
+pub returns-in-Ok-End-clause-aired : goal.returns-in-Ok-End-clause-aired
+returns-in-Ok-End-clause-aired g c = grind (arith, common_steps)
+
+pub returns-in-Ok-End-clause-window : goal.returns-in-Ok-End-clause-window
+returns-in-Ok-End-clause-window g c = grind (arith, common_steps)
+
+pub returns-in-Ok-End-clause-end : goal.returns-in-Ok-End-clause-end
+returns-in-Ok-End-clause-end g c = grind (arith, common_steps)
+
+pub returns-in-Ok-End-clause-read_cause : goal.returns-in-Ok-End-clause-read_cause
+returns-in-Ok-End-clause-read_cause g c = grind (arith, common_steps)
+
+pub returns-in-Ok-End-clause-air_cause : goal.returns-in-Ok-End-clause-air_cause
+returns-in-Ok-End-clause-air_cause g c = grind (arith, common_steps)
+
+pub returns-in-Ok-End-clause-read_later : goal.returns-in-Ok-End-clause-read_later
+returns-in-Ok-End-clause-read_later g c = grind (arith, common_steps)
+
+pub returns-in-Ok-End-clause-air_later : goal.returns-in-Ok-End-clause-air_later
+returns-in-Ok-End-clause-air_later g c = grind (arith, common_steps)
+
+pub returns-in-Ok-End-clause-same : goal.returns-in-Ok-End-clause-same
+returns-in-Ok-End-clause-same g c = grind (arith, common_steps)
+
+pub returns-in-Err-clause-aired : goal.returns-in-Err-clause-aired
+returns-in-Err-clause-aired g c = grind (arith, common_steps)
+
+pub returns-in-Err-clause-window : goal.returns-in-Err-clause-window
+returns-in-Err-clause-window g c = grind (arith, common_steps)
+
+pub returns-in-Err-clause-end : goal.returns-in-Err-clause-end
+returns-in-Err-clause-end g c = grind (arith, common_steps)
+
+pub returns-in-Err-clause-read_cause : goal.returns-in-Err-clause-read_cause
+returns-in-Err-clause-read_cause g c = grind (arith, common_steps)
+
+pub returns-in-Err-clause-air_cause : goal.returns-in-Err-clause-air_cause
+returns-in-Err-clause-air_cause g c = grind (arith, common_steps)
+
+pub returns-in-Err-clause-read_later : goal.returns-in-Err-clause-read_later
+returns-in-Err-clause-read_later g c = grind (arith, common_steps)
+
+pub returns-in-Err-clause-air_later : goal.returns-in-Err-clause-air_later
+returns-in-Err-clause-air_later g c = grind (arith, common_steps)
+
+pub returns-in-Err-clause-same : goal.returns-in-Err-clause-same
+returns-in-Err-clause-same g c = grind (arith, common_steps)
