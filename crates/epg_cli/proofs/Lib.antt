@@ -4,3 +4,4 @@ pub mod RunFacts
 pub mod ListenFacts
 pub mod HearingFacts
 pub mod AgainFacts
+pub mod ReportFacts

@@ -7,4 +7,5 @@ pub mod Run
 pub mod Listen
 pub mod Hearing
 pub mod Again
+pub mod Reports
 pub mod Rows

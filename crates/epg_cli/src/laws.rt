@@ -1,6 +1,7 @@
 // What the two words of the program have to do with each other, and what a report has to do with an input.
 ghost use Rattle.epg_cli.specs.Again.{JournalsPlayAgain};
 ghost use Rattle.epg_cli.specs.Hearing.{PlayIsHeard};
+ghost use Rattle.epg_cli.specs.Reports.{ReportsTellJournals};
 
 /// What `play` sends, `listen` hears: where an air of a journal of a script, as `play` leaves one, is the recording, each piece of
 /// it is a packet, and just the version changes of the airing list are reported, in order, each with the last packet of its cycle.
@@ -13,4 +14,10 @@ pub fn play_is_heard()
 /// numbers nine digits (`IsReadable` of `journal_text`).
 pub fn journals_play_again()
     ensures { JournalsPlayAgain }
+{}
+
+/// A report tells its journal: reports that are one have one journal and one fault line, if any, where the edits of both journals were
+/// read from lines. So no fault line goes on with a journal.
+pub fn reports_tell_journals()
+    ensures { ReportsTellJournals }
 {}

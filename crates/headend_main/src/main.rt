@@ -4,14 +4,12 @@
 //! behave so is not proved. All else is the top call's.
 #![tactic(auto)]
 
-mod adapters;
-
-use adapters::{Reading, Writing};
 use epg_cli::{Status, run};
 use si_causes::{NoFiles, OpenGate, write_all};
 use std::env::{self, Env};
 use std::io;
 use std::process::ExitCode;
+use std_streams::{Reading, Writing};
 
 // The words behind the program's name.
 fn words(rt: &(impl Env + AllocGlobal)) -> io::Result<Vec<String>> {

@@ -1,6 +1,6 @@
 // Runs of `play` in which one call of an end fails.
 use crate::journals::prints_itself;
-use crate::runs::{Left, NEVER, PLAY, Run, air_of, joined, leaves};
+use crate::runs::{LISTEN, Left, MUX, NEVER, PLAY, Run, air_of, joined, leaves};
 use epg_cli::{Origin, Outlet, Status};
 use std::alloc::{AllocError, Global};
 use std::marker::Sync;
@@ -208,5 +208,50 @@ fn each_call_fails_in_turn(rt: HostRuntime) -> Result<(), Fail> {
 fn a_printed_journal_is_a_script(rt: HostRuntime) -> Result<(), Fail> {
     let journal = joined(rt.alloc(), &ENTRIES)?;
     assert!(rt; prints_itself(&rt, rt.alloc(), &journal)?);
+    Ok(())
+}
+
+// Whether a run that met this fault keeps its status where a write of the report fails, whichever it is, and has told all before it.
+fn keeps_its_fault<W: Threads + Wait + Sync>(
+    rt: &W,
+    alloc: Global,
+    words: &[&str],
+    input: &[u8],
+    status: Status,
+    report: &[u8],
+) -> Result<bool, AllocError> {
+    for (n, told) in (0..report.len()).step_by(5).enumerate() {
+        let run = Run {
+            words,
+            input,
+            piece: 5,
+            fails: [NEVER, NEVER, n as u64],
+        };
+        let left = Left {
+            status,
+            air: &[],
+            report: report.get(..told).unwrap_or(report),
+        };
+        if !leaves(rt, alloc, &run, &left)? {
+            return Ok(false);
+        }
+    }
+    Ok(true)
+}
+
+#[test]
+fn a_fault_of_a_script_stays(rt: HostRuntime) -> Result<(), Fail> {
+    let input = joined(rt.alloc(), &[MUX, "publish\nswop\n"])?;
+    let report = b"0,publish\n=,published,1\nfault: input line 6 is no command\n";
+    let status = Status::BadScript(6);
+    assert!(rt; keeps_its_fault(&rt, rt.alloc(), PLAY, input.as_bytes(), status, report)?);
+    Ok(())
+}
+
+#[test]
+fn a_fault_of_a_recording_stays(rt: HostRuntime) -> Result<(), Fail> {
+    let report = b"fault: packet 0\n";
+    let status = Status::BadStream(0);
+    assert!(rt; keeps_its_fault(&rt, rt.alloc(), LISTEN, &[0x47; 187], status, report)?);
     Ok(())
 }

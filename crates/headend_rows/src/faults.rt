@@ -24,6 +24,20 @@ network,40,Demo
 stream,1,1
 service,101,1,1,256,257,Acme,One
 end
+feed,1,name,101,Acme,News
+publish
+swop
+>0,feed,1,name,101,Acme,News
+=,done
+0,publish
+=,published,1
+fault: input line 7 is no command
+
+3
+network,40,Demo
+stream,1,1
+service,101,1,1,256,257,Acme,One
+end
 publish
 =,published,2
 swap

@@ -67,7 +67,8 @@ fn tells_of<W: Threads + Wait + Sync>(
 
 #[test]
 fn whole_recordings(rt: HostRuntime) -> Result<(), Fail> {
-    for (len, done) in [(0, ""), (188, DONE), (376, DONE)] {
+    // the last has 10,000 packets
+    for (len, done) in [(0, ""), (188, DONE), (376, DONE), (1_880_000, DONE)] {
         assert!(rt;
             tells_of(&rt, rt.alloc(), len, done, Status::Done, "end\n")?,
             "{len}"

@@ -158,3 +158,28 @@ fn a_full_block(rt: HostRuntime) -> Result<(), Fail> {
     assert!(rt; fills_a_block(&rt, rt.alloc(), 76, "range,segment,20001")?);
     Ok(())
 }
+
+// So many ticks of the clock to one moment, each with its outcome.
+fn ticks(alloc: Global, count: u32) -> Result<String, AllocError> {
+    let mut text = String::new(alloc);
+    for _ in 0..count {
+        text.push_str("0,tick,1993-10-13T13:00:00Z\n=,ticked\n")?;
+    }
+    Ok(text)
+}
+
+// Whether so many of them are played and printed.
+fn prints_ticks<W: Threads + Wait + Sync>(
+    rt: &W,
+    alloc: Global,
+    count: u32,
+) -> Result<bool, AllocError> {
+    let journal = ticks(alloc, count)?;
+    prints_itself(rt, alloc, &journal)
+}
+
+#[test]
+fn a_script_of_5000_lines(rt: HostRuntime) -> Result<(), Fail> {
+    assert!(rt; prints_ticks(&rt, rt.alloc(), 2_500)?);
+    Ok(())
+}

@@ -124,7 +124,8 @@ plain_text (x ∷ xs) h =
     let (p, q) = both (is_written x) (list_all is_written xs) h in
     rw (plain_byte x p) (plain_text xs q)
 
-plain_field : (xs : List ℕ) → list_all is_written xs ≡ true → field_text default_writer xs ≡ xs
+-- a field of digits, letters and signs that csv does not quote
+pub plain_field : (xs : List ℕ) → list_all is_written xs ≡ true → field_text default_writer xs ≡ xs
 plain_field xs h = rw (plain_text xs h) refl
 
 plain_fields : (f : List ℕ) (fs : List (List ℕ)) → all_written (f ∷ fs) ≡ true → fields_text default_writer (f ∷ fs) ≡ 44 ∷ with_commas (f ∷ fs)

@@ -1,12 +1,14 @@
 -- Journals whose edits were read from lines are equal where their texts are: the text gives the rows, and these the entries.
-use Rattle.std.proofs.Common.{◌≡◌, ◌∙◌, ◌<◌, ◌≤◌, ◌^◌, ◌++◌, ◌∷◌, [], ℕ, List, Option, Some, None, length, map, refl, sym, ap, arith, append_assoc}
+use Rattle.std.proofs.Common.{◌≡◌, ◌∙◌, ◌<◌, ◌≤◌, ◌^◌, ◌++◌, ◌∷◌, ◌&&◌, [], ℕ, Bool, true, false, List, Option, Some, None, length, map, refl, sym, ap, subst, arith, append-nil, append_assoc}
 use Rattle.std.proofs.lemmas.List.{length-map}
 use Rattle.std.specs.Prelude.{codes, decimal, drop, flat_map, if◌then◌else◌, option_map}
-use Rattle.std.specs.List.{AllByRecursion}
+use Rattle.std.proofs.Math.Seq.{drop-append_seam}
+use Rattle.std.specs.List.{AllByRecursion, list_all}
+use Rattle.csv.specs.Writing.{default_writer, fields_text}
 use Rattle.si_causes.specs.Lines.{raw_lines}
 use Rattle.si_text.specs.Decoding.{IsKept}
 use Rattle.input_lines.specs.Fields.{line_fields}
-use Rattle.input_lines.specs.Numbers.{is_word, value_from}
+use Rattle.input_lines.specs.Numbers.{is_digit, is_word, value_from}
 use Rattle.feed_book.specs.declared.reply.Field.{Field}
 use Rattle.feed_book.specs.declared.reply.Field.TheVariants.{Start, Duration, Window, Language, Name as NameField, Short, Extended, Country, Rating, Genre, Provider, ServiceName, Count, Segment}
 use Rattle.feed_book.specs.declared.reply.DayFault.{DayFault}
@@ -32,11 +34,11 @@ use Rattle.journal_text.specs.Entries.{step_fields, step_items, entry_text, jour
 use Rattle.journal_text.specs.Outcomes.{field_fields, day_fault_fields, outcome_fields}
 use Rattle.journal_text.specs.Kept.{event_word, other_word, or_else}
 use Rattle.journal_text.specs.Script.{short_step, feed_of, IsShapedStep}
-use Rattle.journal_text.specs.Back.{IsFronted, IsTypedStep, IsWritableOutcome, IsOfLines, item_texts, command_row, outcome_row, row_line, field_numbers, day_fault_numbers, JournalsDiffer}
+use Rattle.journal_text.specs.Back.{IsFronted, IsTypedStep, IsWritableOutcome, IsOfLines, item_texts, command_row, outcome_row, row_line, field_numbers, day_fault_numbers, BeginsNoEntry, JournalsDiffer, JournalsEnd}
 use Rattle.journal_text.proofs.CleanRows.{row_clean, all_clean, clean_inner, line_first}
 use Rattle.journal_text.proofs.RowBack.{fields_back}
-use Rattle.journal_text.proofs.OutcomeBack.{value_back, small, moment_back}
-use Rattle.journal_text.proofs.EntryRows.{outcome_front, outcome_row_kept}
+use Rattle.journal_text.proofs.OutcomeBack.{value_back, small, moment_back, digits_of, decimal_some}
+use Rattle.journal_text.proofs.EntryRows.{outcome_front, outcome_row_kept, plain_field, number_written}
 use Rattle.journal_text.proofs.EntryFields.{item_row_kept, command_kept, command_front}
 use Rattle.journal_text.proofs.EntryBack.{feed_short, tick_short, publish_short, swap_short, by_recursion, entry_parts}
 
@@ -305,13 +307,53 @@ rows_same x y us vs h k e =
     let outcome : x.outcome ≡ y.outcome = some_same (sym (outcome_again x.outcome h.outcome) ∙ ap outcome_from outcomes ∙ outcome_again y.outcome k.outcome) in
     (same_entry x y who step outcome, rest)
 
-same_journal : (a b : List Entry) → AllByRecursion IsOfLines a → AllByRecursion IsOfLines b → rows_in (journal_text a) ≡ rows_in (journal_text b) → a ≡ b
-same_journal [] [] h k e = refl
-same_journal [] (y ∷ ys) h k e = absurd (let never = e ∙ entry_in y (journal_text ys) k.0 in cc never)
-same_journal (x ∷ xs) [] h k e = absurd (let never = sym e ∙ entry_in x (journal_text xs) h.0 in cc never)
-same_journal (x ∷ xs) (y ∷ ys) h k e =
-    let parts = rows_same x y (rows_in (journal_text xs)) (rows_in (journal_text ys)) h.0 k.0 (sym (entry_in x (journal_text xs) h.0) ∙ e ∙ entry_in y (journal_text ys) k.0) in
-    ap (λ (l : Entry). l ∷ xs) parts.0 ∙ ap (λ (l : List Entry). y ∷ l) (same_journal xs ys h.1 k.1 parts.1)
+-- ---- what stands behind a journal
+
+first_true : (a b : Bool) → (a && b) ≡ true → a ≡ true
+first_true true b e = refl
+first_true false b e = cc
+
+no_digit : (xs rest : List ℕ) → 0 < length xs → list_all is_digit xs ≡ true → BeginsNoEntry (xs ++ rest) → ⊥
+no_digit [] rest some h none = omega (arith, some)
+no_digit (x ∷ xs) rest some h none =
+    let digit : is_digit x ≡ true = first_true (is_digit x) (list_all is_digit xs) h in
+    let never : true ≡ false = sym digit ∙ none in
+    cc
+
+-- an entry begins with its caller's number
+entry_digits : (y : Entry) (rest : List ℕ) → IsOfLines y → (behind : List ℕ) × (entry_text y ++ rest ≡ decimal y.who ++ behind)
+entry_digits y rest h =
+    let more = flat_map item_text (step_items y.step) ++ (line_text (outcome_row y.outcome) ++ rest) in
+    let fields = fields_text default_writer (step_fields y.step) in (
+      fields ++ ((10 ∷ []) ++ more),
+      entry_parts y rest h.outcome
+          ∙ ap (λ (l : List ℕ). ((l ++ fields) ++ 10 ∷ []) ++ more) (plain_field (decimal y.who) (number_written y.who h.who))
+          ∙ append_assoc (decimal y.who ++ fields) (10 ∷ []) more
+          ∙ append_assoc (decimal y.who) fields ((10 ∷ []) ++ more),
+    )
+
+no_entry : (y : Entry) (rest : List ℕ) → IsOfLines y → BeginsNoEntry (entry_text y ++ rest) → ⊥
+no_entry y rest h none =
+    let is = entry_digits y rest h in
+    no_digit (decimal y.who) is.0 (decimal_some y.who h.who) (digits_of y.who h.who) (subst BeginsNoEntry is.1 none)
+
+behind_same : (xs us vs : List ℕ) → xs ++ us ≡ xs ++ vs → us ≡ vs
+behind_same xs us vs e = sym (drop-append_seam xs us) ∙ ap (drop (length xs)) e ∙ drop-append_seam xs vs
+
+pub journals_end : JournalsEnd
+journals_end [] [] u v h k none other e = (refl, e)
+journals_end [] (y ∷ ys) u v h k none other e =
+    absurd (no_entry y (journal_text ys ++ v) k.0 (subst BeginsNoEntry (e ∙ append_assoc (entry_text y) (journal_text ys) v) none))
+journals_end (x ∷ xs) [] u v h k none other e =
+    absurd (no_entry x (journal_text xs ++ u) h.0 (subst BeginsNoEntry (sym e ∙ append_assoc (entry_text x) (journal_text xs) u) other))
+journals_end (x ∷ xs) (y ∷ ys) u v h k none other e =
+    let us = journal_text xs ++ u in
+    let vs = journal_text ys ++ v in
+    let texts : entry_text x ++ us ≡ entry_text y ++ vs = sym (append_assoc (entry_text x) (journal_text xs) u) ∙ e ∙ append_assoc (entry_text y) (journal_text ys) v in
+    let first : x ≡ y = (rows_same x y (rows_in us) (rows_in vs) h.0 k.0 (sym (entry_in x us h.0) ∙ ap rows_in texts ∙ entry_in y vs k.0)).0 in
+    let rest : us ≡ vs = behind_same (entry_text y) us vs (sym (ap (λ (z : Entry). entry_text z ++ us) first) ∙ texts) in
+    let others = journals_end xs ys u v h.1 k.1 none other rest in
+    (ap (λ (l : Entry). l ∷ xs) first ∙ ap (λ (l : List Entry). y ∷ l) others.0, others.1)
 
 pub journals_differ : JournalsDiffer
-journals_differ a b h k e = same_journal a b h k (ap rows_in e)
+journals_differ a b h k e = (journals_end a b [] [] h k tt tt (append-nil (journal_text a) ∙ e ∙ sym (append-nil (journal_text b)))).0

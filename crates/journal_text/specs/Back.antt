@@ -6,6 +6,7 @@ use Rattle.si_causes.specs.Lines.{raw_lines, shown}
 use Rattle.si_text.specs.Decoding.{IsKept}
 use Rattle.input_lines.specs.Fields.{record_of}
 use Rattle.input_lines.specs.Lines.{is_passed, record_lines}
+use Rattle.input_lines.specs.Numbers.{is_digit}
 use Rattle.feed_book.specs.declared.reply.Field.{Field}
 use Rattle.feed_book.specs.declared.reply.Field.TheVariants.{Start, Duration, Window, Language, Name, Short, Extended, Country, Rating, Genre, Provider, ServiceName, Count, Segment}
 use Rattle.feed_book.specs.declared.reply.DayFault.{DayFault}
@@ -238,3 +239,14 @@ pub record IsOfLines (entry : Entry) : Type 0 where
 -- Journals whose edits were read from lines are equal where their texts are.
 abbrev pub JournalsDiffer : Type 0
 JournalsDiffer = (a b : List Entry) → AllByRecursion IsOfLines a → AllByRecursion IsOfLines b → journal_text a ≡ journal_text b → a ≡ b
+
+-- a text that no entry begins: it is empty, or its first byte is no digit
+abbrev pub BeginsNoEntry : List ℕ → Type 0
+BeginsNoEntry [] = Unit {0}
+BeginsNoEntry (b ∷ bs) = is_digit b ≡ false
+
+-- And so they are, and what stands behind them, where no entry begins there.
+abbrev pub JournalsEnd : Type 0
+JournalsEnd =
+    (a b : List Entry) (u v : List ℕ) → AllByRecursion IsOfLines a → AllByRecursion IsOfLines b → BeginsNoEntry u → BeginsNoEntry v
+    → journal_text a ++ u ≡ journal_text b ++ v → (a ≡ b) × (u ≡ v)

@@ -1,5 +1,5 @@
 // What is written reads back, and a script is read item by item.
-ghost use Rattle.journal_text.specs.Back.{EntriesReadBack, JournalsDiffer, OutcomesAreFields, OutcomesReadBack, RowsReadBack};
+ghost use Rattle.journal_text.specs.Back.{EntriesReadBack, JournalsDiffer, JournalsEnd, OutcomesAreFields, OutcomesReadBack, RowsReadBack};
 ghost use Rattle.journal_text.specs.ScriptLaws.{ItemsGoOn};
 
 /// The law that a line of fields reads back as the fields, whatever text stands behind it: the fields are texts, at least two,
@@ -22,9 +22,10 @@ pub fn entries_read_back()
 {}
 
 /// The law that journals whose edits were read from lines have different texts where they differ, whatever length their lines
-/// have.
+/// have; also where a text stands behind each that no entry begins, as that of a fault, and then these texts are one too.
 pub fn journals_differ_in_their_texts()
     ensures journals { JournalsDiffer }
+    ensures end { JournalsEnd }
 {}
 
 /// The law that the items ahead of a reader are the first, as [`crate::next_item`] reads it, and then those of what is ahead
