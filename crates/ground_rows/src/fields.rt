@@ -1,0 +1,85 @@
+// Fields of lines, and numbers and words in them.
+use crate::notation::{bytes, text, written};
+use crate::row::{NoAnswer, first_word, number_below, number_or_none, word};
+use input_lines::{LineFields, fields, is_word, number, numeral};
+use std::alloc::Global;
+
+pub fn answer(alloc: Global, call: &str, arguments: &str) -> Result<String, NoAnswer> {
+    match call {
+        "fields" => fields_of_line(alloc, arguments),
+        "sizes_of_fields" => sizes_of_fields(alloc, arguments),
+        "numeral" => spelled(alloc, arguments),
+        "number" => spelled_in(alloc, arguments),
+        "is_word" => is_this_word(alloc, arguments),
+        _ => Err(NoAnswer::NoRow),
+    }
+}
+
+fn fields_of_line(alloc: Global, arguments: &str) -> Result<String, NoAnswer> {
+    match fields(alloc, &bytes(alloc, arguments)?)? {
+        Some(fields) => all_written(alloc, &fields),
+        None => word(alloc, "none"),
+    }
+}
+
+fn all_written(alloc: Global, fields: &LineFields) -> Result<String, NoAnswer> {
+    if fields.is_empty() {
+        return word(alloc, "no field");
+    }
+    let mut line = String::new(alloc);
+    for field in fields.as_slice() {
+        if !line.is_empty() {
+            line.push_str(" | ")?;
+        }
+        line.push_str(written(alloc, field.as_str().as_bytes())?.as_str())?;
+    }
+    Ok(line)
+}
+
+fn sizes_of_fields(alloc: Global, arguments: &str) -> Result<String, NoAnswer> {
+    match fields(alloc, &bytes(alloc, arguments)?)? {
+        Some(fields) => sizes(alloc, &fields),
+        None => word(alloc, "none"),
+    }
+}
+
+fn sizes(alloc: Global, fields: &LineFields) -> Result<String, NoAnswer> {
+    let mut line = String::new(alloc);
+    for field in fields.as_slice() {
+        if !line.is_empty() {
+            line.push_str(" | ")?;
+        }
+        let size = field.as_str().len();
+        write!(line, "{size}")?;
+    }
+    Ok(line)
+}
+
+fn spelled(alloc: Global, arguments: &str) -> Result<String, NoAnswer> {
+    let bytes = bytes(alloc, arguments)?;
+    number_or_none(alloc, numeral(text(&bytes)?).map(u64::from))
+}
+
+// Of a range and a field.
+fn spelled_in(alloc: Global, arguments: &str) -> Result<String, NoAnswer> {
+    let (low, arguments) = first_word(arguments)?;
+    let (high, arguments) = first_word(arguments)?;
+    let low = number_below(1 << 32, low)? as u32;
+    let high = number_below(1 << 32, high)? as u32;
+    let bytes = bytes(alloc, arguments)?;
+    number_or_none(alloc, number(text(&bytes)?, low, high).map(u64::from))
+}
+
+// Of a word and a field.
+fn is_this_word(alloc: Global, arguments: &str) -> Result<String, NoAnswer> {
+    let (wanted, arguments) = first_word(arguments)?;
+    let bytes = bytes(alloc, arguments)?;
+    word(
+        alloc,
+        if is_word(text(&bytes)?, wanted) {
+            "yes"
+        } else {
+            "no"
+        },
+    )
+}

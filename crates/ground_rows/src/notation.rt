@@ -1,0 +1,148 @@
+// How bytes are written in a row: parts with spaces between them, of which each is bytes in two hexadecimal digits each,
+// or printable ASCII between back quotes, with `*n` behind it where it stands n times.
+use crate::row::{NoAnswer, number_below};
+use std::alloc::{AllocError, Global};
+
+// The bytes of some parts, and where those of the last part begin.
+#[derive(Drop)]
+struct Spelled {
+    bytes: Vec<u8>,
+    last: usize,
+}
+
+/// The bytes that are written so.
+pub fn bytes(alloc: Global, text: &str) -> Result<Vec<u8>, NoAnswer> {
+    let mut spelled = Spelled {
+        bytes: Vec::new(alloc),
+        last: 0,
+    };
+    read_all(alloc, text, &mut spelled)?;
+    Ok(spelled.bytes)
+}
+
+// Every second piece of the text stands between back quotes.
+fn read_all(alloc: Global, text: &str, spelled: &mut Spelled) -> Result<(), NoAnswer> {
+    let mut quoted = true;
+    for piece in text.split('`') {
+        quoted = !quoted;
+        if quoted {
+            spelled.last = spelled.bytes.len();
+            spelled.bytes.extend_from_slice(piece.as_bytes())?;
+        } else {
+            read_words(alloc, piece, spelled)?;
+        }
+    }
+    if quoted {
+        return Err(NoAnswer::NoRow);
+    }
+    Ok(())
+}
+
+fn read_words(alloc: Global, piece: &str, spelled: &mut Spelled) -> Result<(), NoAnswer> {
+    for word in piece.split(' ') {
+        if !word.is_empty() {
+            read_word(alloc, word, spelled)?;
+        }
+    }
+    Ok(())
+}
+
+// Bytes, or a number of times that stands behind a part.
+fn read_word(alloc: Global, word: &str, spelled: &mut Spelled) -> Result<(), NoAnswer> {
+    let (digits, times) = word.split_once('*').unwrap_or((word, "1"));
+    if !digits.is_empty() {
+        spelled.last = spelled.bytes.len();
+        read_digits(digits, &mut spelled.bytes)?;
+    }
+    repeat(alloc, number_below(100_000, times)?, spelled)
+}
+
+fn read_digits(digits: &str, bytes: &mut Vec<u8>) -> Result<(), NoAnswer> {
+    for pair in digits.as_bytes().chunks(2) {
+        bytes.push(byte(pair)?).map_err(AllocError::from)?;
+    }
+    Ok(())
+}
+
+// The last part stands so many times.
+fn repeat(alloc: Global, times: u64, spelled: &mut Spelled) -> Result<(), NoAnswer> {
+    let Some(part) = spelled.bytes.as_slice().get(spelled.last..) else {
+        return Err(NoAnswer::NoRow);
+    };
+    let part = Vec::from_slice(alloc, part)?;
+    spelled.bytes.truncate(spelled.last);
+    for _ in 0..times {
+        spelled.bytes.extend_from_slice(&part)?;
+    }
+    Ok(())
+}
+
+// A byte of two hexadecimal digits.
+fn byte(pair: &[u8]) -> Result<u8, NoAnswer> {
+    match u8::from_str_radix(text(pair)?, 16) {
+        Ok(byte) if pair.len() == 2 => Ok(byte),
+        _ => Err(NoAnswer::NoRow),
+    }
+}
+
+/// The text that these bytes are.
+pub fn text(bytes: &[u8]) -> Result<&str, NoAnswer> {
+    match str::from_utf8(bytes) {
+        Ok(text) => Ok(text),
+        Err(_) => Err(NoAnswer::NoRow),
+    }
+}
+
+/// Bytes as they are written in a row, without `*n`.
+pub fn written(alloc: Global, bytes: &[u8]) -> Result<String, NoAnswer> {
+    let mut line = String::new(alloc);
+    let mut quoted = false;
+    for b in bytes {
+        let is_text = (b' '..=b'~').contains(b) && *b != b'`';
+        line.push_str(between(line.is_empty(), quoted, is_text))?;
+        quoted = is_text;
+        put(&mut line, is_text, *b)?;
+    }
+    line.push_str(behind(line.is_empty(), quoted))?;
+    Ok(line)
+}
+
+// What stands between a byte and the one before it.
+fn between(is_first: bool, was_text: bool, is_text: bool) -> &'static str {
+    match (is_first, was_text, is_text) {
+        (true, _, true) => "`",
+        (true, _, false) | (_, true, true) => "",
+        (_, true, false) => "` ",
+        (_, false, true) => " `",
+        (_, false, false) => " ",
+    }
+}
+
+// What stands behind the last byte.
+fn behind(is_none: bool, was_text: bool) -> &'static str {
+    match (is_none, was_text) {
+        (true, _) => "``",
+        (_, true) => "`",
+        (_, false) => "",
+    }
+}
+
+fn put(line: &mut String, is_text: bool, b: u8) -> Result<(), AllocError> {
+    if is_text {
+        line.push(b as char)
+    } else {
+        write!(line, "{b:02X}")
+    }
+}
+
+/// Bytes in hexadecimal digits, with spaces between them.
+pub fn hex(alloc: Global, bytes: &[u8]) -> Result<String, NoAnswer> {
+    let mut line = String::new(alloc);
+    for b in bytes {
+        if !line.is_empty() {
+            line.push(' ')?;
+        }
+        write!(line, "{b:02X}")?;
+    }
+    Ok(line)
+}

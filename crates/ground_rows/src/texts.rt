@@ -1,0 +1,95 @@
+// Texts, their coded forms, and the pieces of long ones.
+use crate::notation::{bytes, text, written};
+use crate::row::{NoAnswer, word};
+use si_base::Copies;
+use si_text::{
+    Shown, Txt, append_text, coded_len, cut_len, decode_text, encode_text, is_plain_byte,
+};
+use std::alloc::{AllocError, Global};
+
+pub fn answer(alloc: Global, call: &str, arguments: &str) -> Result<String, NoAnswer> {
+    let bytes = bytes(alloc, arguments)?;
+    match call {
+        "plain_bytes" => plain_bytes(alloc),
+        "decode_text" => decoded(alloc, &bytes),
+        "write_shown" => shown_again(alloc, &bytes),
+        _ => of_text(alloc, call, text(&bytes)?),
+    }
+}
+
+fn of_text(alloc: Global, call: &str, text: &str) -> Result<String, NoAnswer> {
+    match call {
+        "kept_text" => kept(alloc, text),
+        "encode_text" => written(alloc, encode_text(alloc, text)?.as_slice()),
+        "append_text" => appended(alloc, text),
+        "coded_len" => Ok(coded_len(text).to_string(alloc)?),
+        "cut_len" => Ok(cut_len(text).to_string(alloc)?),
+        "pieces" => pieces(alloc, text),
+        _ => Err(NoAnswer::NoRow),
+    }
+}
+
+// A copy of the text that is kept.
+fn kept(alloc: Global, text: &str) -> Result<String, NoAnswer> {
+    match Txt::of(alloc, text)? {
+        Some(text) => written(alloc, text.copy()?.as_str().as_bytes()),
+        None => word(alloc, "none"),
+    }
+}
+
+// The bytes of the plain set, from the lowest on.
+fn plain_bytes(alloc: Global) -> Result<String, NoAnswer> {
+    let mut plain = Vec::new(alloc);
+    for b in 0..=255u8 {
+        if is_plain_byte(b) {
+            plain.push(b).map_err(AllocError::from)?;
+        }
+    }
+    written(alloc, &plain)
+}
+
+// What a text is appended as, behind `<`.
+fn appended(alloc: Global, text: &str) -> Result<String, NoAnswer> {
+    let mut out = Vec::from_slice(alloc, b"<")?;
+    append_text(text, &mut out)?;
+    written(alloc, &out)
+}
+
+fn decoded(alloc: Global, bytes: &[u8]) -> Result<String, NoAnswer> {
+    let (kind, bytes) = match decode_text(alloc, bytes)? {
+        Shown::Text(text) => ("text", written(alloc, text.as_str().as_bytes())?),
+        Shown::Hex(bytes) => ("hex", written(alloc, bytes.as_slice())?),
+    };
+    Ok(format!(in alloc; "{kind} {bytes}")?)
+}
+
+// How many bytes a copy of what is shown has, and what it is appended as, behind `<`.
+fn shown_again(alloc: Global, bytes: &[u8]) -> Result<String, NoAnswer> {
+    let shown = decode_text(alloc, bytes)?.copy()?;
+    let mut out = Vec::from_slice(alloc, b"<")?;
+    shown.append_to(&mut out)?;
+    let len = shown.coded_len();
+    let out = written(alloc, &out)?;
+    Ok(format!(in alloc; "{len} {out}")?)
+}
+
+// How long the pieces of a text are.
+fn pieces(alloc: Global, text: &str) -> Result<String, NoAnswer> {
+    if text.is_empty() {
+        return word(alloc, "none");
+    }
+    let mut line = String::new(alloc);
+    let mut rest = text;
+    for _ in 0..text.len() {
+        if rest.is_empty() {
+            break;
+        }
+        let cut = cut_len(rest);
+        if !line.is_empty() {
+            line.push(' ')?;
+        }
+        write!(line, "{cut}")?;
+        rest = rest.split_at(cut).1;
+    }
+    Ok(line)
+}
