@@ -1,8 +1,11 @@
 // Sums of bytes, and bytes taken from their front.
-use crate::notation::{bytes, hex};
+use crate::notation::{add_hex, bytes};
 use crate::row::{NoAnswer, first_word, number_below};
 use si_base::{Reader, crc32};
 use std::alloc::{AllocError, Global};
+
+/// The calls that this module answers.
+pub const CALLS: &str = "crc32 crc32_of_mixed take";
 
 pub fn answer(alloc: Global, call: &str, arguments: &str) -> Result<String, NoAnswer> {
     match call {
@@ -39,21 +42,25 @@ fn mixed(alloc: Global, count: u64) -> Result<Vec<u8>, AllocError> {
 fn taken(alloc: Global, arguments: &str) -> Result<String, NoAnswer> {
     let (counts, arguments) = first_word(arguments)?;
     let bytes = bytes(alloc, arguments)?;
-    let mut reader = Reader::open(&bytes);
+    take_all(alloc, counts, &bytes)
+}
+
+fn take_all(alloc: Global, counts: &str, bytes: &[u8]) -> Result<String, NoAnswer> {
     let mut line = String::new(alloc);
+    let mut reader = Reader::open(bytes);
     for count in counts.split(',') {
-        if !line.is_empty() {
-            line.push_str(", ")?;
-        }
-        let count = number_below(100_000, count)?;
-        line.push_str(took(alloc, &mut reader, count as usize)?.as_str())?;
+        add_taken(&mut line, &mut reader, number_below(100_000, count)?)?;
     }
     Ok(line)
 }
 
-fn took(alloc: Global, reader: &mut Reader, count: usize) -> Result<String, NoAnswer> {
-    match reader.take(count) {
-        Some(front) => hex(alloc, front),
-        None => Ok(String::from_str(alloc, "none")?),
+fn add_taken(line: &mut String, reader: &mut Reader, count: u64) -> Result<(), NoAnswer> {
+    if !line.is_empty() {
+        line.push_str(", ")?;
     }
+    match reader.take(count as usize) {
+        Some(front) => add_hex(line, front)?,
+        None => line.push_str("none")?,
+    }
+    Ok(())
 }

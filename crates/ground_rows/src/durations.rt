@@ -4,6 +4,9 @@ use crate::row::{NoAnswer, number_below, number_or_none, word};
 use si_time::{duration_bcd, duration_from_bcd, read_duration, write_duration};
 use std::alloc::Global;
 
+/// The calls that this module answers.
+pub const CALLS: &str = "read_duration write_duration duration_bcd duration_from_bcd";
+
 pub fn answer(alloc: Global, call: &str, arguments: &str) -> Result<String, NoAnswer> {
     match call {
         "read_duration" => seconds(alloc, read_duration(&bytes(alloc, arguments)?)),

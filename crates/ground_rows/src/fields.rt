@@ -1,8 +1,11 @@
 // Fields of lines, and numbers and words in them.
-use crate::notation::{bytes, text, written};
+use crate::notation::{add_written, bytes, text};
 use crate::row::{NoAnswer, first_word, number_below, number_or_none, word};
 use input_lines::{LineFields, fields, is_word, number, numeral};
 use std::alloc::Global;
+
+/// The calls that this module answers.
+pub const CALLS: &str = "fields sizes_of_fields numeral number is_word";
 
 pub fn answer(alloc: Global, call: &str, arguments: &str) -> Result<String, NoAnswer> {
     match call {
@@ -31,7 +34,7 @@ fn all_written(alloc: Global, fields: &LineFields) -> Result<String, NoAnswer> {
         if !line.is_empty() {
             line.push_str(" | ")?;
         }
-        line.push_str(written(alloc, field.as_str().as_bytes())?.as_str())?;
+        add_written(&mut line, field.as_str().as_bytes())?;
     }
     Ok(line)
 }
@@ -62,12 +65,16 @@ fn spelled(alloc: Global, arguments: &str) -> Result<String, NoAnswer> {
 
 // Of a range and a field.
 fn spelled_in(alloc: Global, arguments: &str) -> Result<String, NoAnswer> {
-    let (low, arguments) = first_word(arguments)?;
-    let (high, arguments) = first_word(arguments)?;
-    let low = number_below(1 << 32, low)? as u32;
-    let high = number_below(1 << 32, high)? as u32;
+    let (low, arguments) = bound(arguments)?;
+    let (high, arguments) = bound(arguments)?;
     let bytes = bytes(alloc, arguments)?;
     number_or_none(alloc, number(text(&bytes)?, low, high).map(u64::from))
+}
+
+// The number in front of other arguments.
+fn bound(arguments: &str) -> Result<(u32, &str), NoAnswer> {
+    let (number, arguments) = first_word(arguments)?;
+    Ok((number_below(1 << 32, number)? as u32, arguments))
 }
 
 // Of a word and a field.

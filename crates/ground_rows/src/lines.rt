@@ -92,32 +92,36 @@ fn shows(alloc: Global, case: &str, piece: usize, fail_at: u64) -> Result<bool, 
     Ok(seen.as_slice() == wanted.as_slice())
 }
 
+fn shows_in_pieces(alloc: Global, case: &str) -> Result<bool, AllocError> {
+    for piece in [1, 2, 7, 4096] {
+        if !shows(alloc, case, piece, 99)? {
+            return Ok(false);
+        }
+    }
+    Ok(true)
+}
+
 #[test]
 fn lines_of_texts(rt: HostRuntime) -> Result<(), Fail> {
     for case in TEXTS.split('\n') {
-        for piece in [1, 2, 7, 4096] {
-            assert!(rt;
-                shows(rt.alloc(), case, piece, 99)?,
-                "{case} in pieces of {piece}"
-            );
-        }
+        assert!(rt; shows_in_pieces(rt.alloc(), case)?, "{case}");
     }
     Ok(())
 }
 
-// A read fails in the middle of a line, at the first byte, behind a line, behind the end.
+// Of which size the pieces are, which call fails, and what is seen: in the middle of a line, at the first byte, behind a
+// line, behind the end.
+const FAILING: [(usize, u64, &str); 4] = [
+    (4, 1, "ab|! ab/cd/"),
+    (4, 0, "! ab/cd/"),
+    (6, 1, "ab|cd|! ab/cd/"),
+    (6, 2, "ab|cd|. ab/cd/"),
+];
+
 #[test]
 fn reads_that_fail(rt: HostRuntime) -> Result<(), Fail> {
-    for (piece, fail_at, case) in [
-        (4, 1, "ab|! ab/cd/"),
-        (4, 0, "! ab/cd/"),
-        (6, 1, "ab|cd|! ab/cd/"),
-        (6, 2, "ab|cd|. ab/cd/"),
-    ] {
-        assert!(rt;
-            shows(rt.alloc(), case, piece, fail_at)?,
-            "{case} by call {fail_at}"
-        );
+    for (piece, fail_at, case) in FAILING {
+        assert!(rt; shows(rt.alloc(), case, piece, fail_at)?, "{case}");
     }
     Ok(())
 }
@@ -146,15 +150,19 @@ fn shows_long(alloc: Global, size: usize, shown: usize, piece: usize) -> Result<
     Ok(is_shown_to(&mut lines, shown))
 }
 
-#[test]
-fn long_lines(rt: HostRuntime) -> Result<(), Fail> {
-    for (size, shown) in [(16_384, 16_384), (16_385, 16_385), (16_386, 16_385)] {
-        for piece in [7, 4096, 65_536] {
-            assert!(rt;
-                shows_long(rt.alloc(), size, shown, piece)?,
-                "{size} by {piece}"
-            );
+fn shows_long_in_pieces(alloc: Global, size: usize, shown: usize) -> Result<bool, AllocError> {
+    for piece in [7, 4096, 65_536] {
+        if !shows_long(alloc, size, shown, piece)? {
+            return Ok(false);
         }
     }
+    Ok(true)
+}
+
+#[test]
+fn long_lines(rt: HostRuntime) -> Result<(), Fail> {
+    assert!(rt; shows_long_in_pieces(rt.alloc(), 16_384, 16_384)?);
+    assert!(rt; shows_long_in_pieces(rt.alloc(), 16_385, 16_385)?);
+    assert!(rt; shows_long_in_pieces(rt.alloc(), 16_386, 16_385)?);
     Ok(())
 }

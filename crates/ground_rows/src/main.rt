@@ -25,37 +25,24 @@ mod sinks;
 mod sources;
 mod texts;
 
-use row::{NoAnswer, answered};
+use row::{NoAnswer, answered, is_among};
 use std::alloc::{AllocError, Global};
 use std::io;
 
 // What a call gives for these arguments.
 fn answer(alloc: Global, call: &str, arguments: &str) -> Result<String, NoAnswer> {
-    match call {
-        "crc32" | "crc32_of_mixed" | "take" => bytes::answer(alloc, call, arguments),
-        "read_moment"
-        | "write_moment"
-        | "to_bcd"
-        | "from_bcd"
-        | "read_day"
-        | "midnight"
-        | "block_of" => moments::answer(alloc, call, arguments),
-        "read_duration" | "write_duration" | "duration_bcd" | "duration_from_bcd" => {
-            durations::answer(alloc, call, arguments)
-        }
-        "kept_text"
-        | "plain_bytes"
-        | "encode_text"
-        | "append_text"
-        | "coded_len"
-        | "decode_text"
-        | "write_shown"
-        | "cut_len"
-        | "pieces" => { texts::answer(alloc, call, arguments) }
-        "fields" | "sizes_of_fields" | "numeral" | "number" | "is_word" => {
-            fields::answer(alloc, call, arguments)
-        }
-        _ => Err(NoAnswer::NoRow),
+    if is_among(call, bytes::CALLS) {
+        bytes::answer(alloc, call, arguments)
+    } else if is_among(call, moments::CALLS) {
+        moments::answer(alloc, call, arguments)
+    } else if is_among(call, durations::CALLS) {
+        durations::answer(alloc, call, arguments)
+    } else if is_among(call, texts::CALLS) {
+        texts::answer(alloc, call, arguments)
+    } else if is_among(call, fields::CALLS) {
+        fields::answer(alloc, call, arguments)
+    } else {
+        Err(NoAnswer::NoRow)
     }
 }
 

@@ -4,6 +4,9 @@ use crate::row::{NoAnswer, number_below, number_or_none, word};
 use si_time::{Moment, block_of, from_bcd, midnight, read_day, read_moment, to_bcd, write_moment};
 use std::alloc::Global;
 
+/// The calls that this module answers.
+pub const CALLS: &str = "read_moment write_moment to_bcd from_bcd read_day midnight block_of";
+
 pub fn answer(alloc: Global, call: &str, arguments: &str) -> Result<String, NoAnswer> {
     match call {
         "read_moment" => seconds(alloc, read_moment(&bytes(alloc, arguments)?)),

@@ -96,15 +96,22 @@ pub fn text(bytes: &[u8]) -> Result<&str, NoAnswer> {
 /// Bytes as they are written in a row, without `*n`.
 pub fn written(alloc: Global, bytes: &[u8]) -> Result<String, NoAnswer> {
     let mut line = String::new(alloc);
+    add_written(&mut line, bytes)?;
+    Ok(line)
+}
+
+/// Appends bytes as they are written in a row.
+pub fn add_written(line: &mut String, bytes: &[u8]) -> Result<(), AllocError> {
+    let mut first = true;
     let mut quoted = false;
     for b in bytes {
         let is_text = (b' '..=b'~').contains(b) && *b != b'`';
-        line.push_str(between(line.is_empty(), quoted, is_text))?;
+        line.push_str(between(first, quoted, is_text))?;
+        first = false;
         quoted = is_text;
-        put(&mut line, is_text, *b)?;
+        put(line, is_text, *b)?;
     }
-    line.push_str(behind(line.is_empty(), quoted))?;
-    Ok(line)
+    line.push_str(behind(first, quoted))
 }
 
 // What stands between a byte and the one before it.
@@ -138,11 +145,16 @@ fn put(line: &mut String, is_text: bool, b: u8) -> Result<(), AllocError> {
 /// Bytes in hexadecimal digits, with spaces between them.
 pub fn hex(alloc: Global, bytes: &[u8]) -> Result<String, NoAnswer> {
     let mut line = String::new(alloc);
-    for b in bytes {
-        if !line.is_empty() {
-            line.push(' ')?;
-        }
-        write!(line, "{b:02X}")?;
-    }
+    add_hex(&mut line, bytes)?;
     Ok(line)
+}
+
+/// Appends bytes in hexadecimal digits, with spaces between them.
+pub fn add_hex(line: &mut String, bytes: &[u8]) -> Result<(), AllocError> {
+    let mut between = "";
+    for b in bytes {
+        write!(line, "{between}{b:02X}")?;
+        between = " ";
+    }
+    Ok(())
 }

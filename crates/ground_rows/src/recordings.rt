@@ -89,18 +89,36 @@ fn gives(alloc: Global, piece: usize, count: usize, behind: &[u8]) -> Result<boo
     Ok(heard.is(count as u64, [0, 0, 1, 9][count % 4], stop))
 }
 
-#[test]
-fn packets_and_stops(rt: HostRuntime) -> Result<(), Fail> {
-    for behind in [&[][..], &[0x47], &[0x47; 187], &[0x48; 188]] {
-        for piece in [1, 7, 187, 188, 189, 100_000] {
-            for count in 0..4 {
-                assert!(rt;
-                    gives(rt.alloc(), piece, count, behind)?,
-                    "{count} by {piece}"
-                );
-            }
+fn gives_each(alloc: Global, piece: usize, behind: &[u8]) -> Result<bool, AllocError> {
+    for count in 0..4 {
+        if !gives(alloc, piece, count, behind)? {
+            return Ok(false);
         }
     }
+    Ok(true)
+}
+
+fn gives_in_pieces(alloc: Global, behind: &[u8]) -> Result<bool, AllocError> {
+    for piece in [1, 7, 187, 188, 189, 100_000] {
+        if !gives_each(alloc, piece, behind)? {
+            return Ok(false);
+        }
+    }
+    Ok(true)
+}
+
+#[test]
+fn packets_and_stops(rt: HostRuntime) -> Result<(), Fail> {
+    assert!(rt; gives_in_pieces(rt.alloc(), &[])?, "nothing behind them");
+    assert!(rt; gives_in_pieces(rt.alloc(), &[0x47])?, "a byte behind them");
+    assert!(rt;
+        gives_in_pieces(rt.alloc(), &[0x47; 187])?,
+        "a byte less than a packet"
+    );
+    assert!(rt;
+        gives_in_pieces(rt.alloc(), &[0x48; 188])?,
+        "another first byte"
+    );
     Ok(())
 }
 

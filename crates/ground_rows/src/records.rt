@@ -54,33 +54,37 @@ fn shows(alloc: Global, case: &str, piece: usize, fail_at: u64) -> Result<bool, 
     Ok(seen.as_slice() == wanted.as_bytes())
 }
 
+fn shows_in_pieces(alloc: Global, case: &str) -> Result<bool, AllocError> {
+    for piece in [1, 2, 7, 4096] {
+        if !shows(alloc, case, piece, 99)? {
+            return Ok(false);
+        }
+    }
+    Ok(true)
+}
+
 #[test]
 fn records_of_texts(rt: HostRuntime) -> Result<(), Fail> {
     for case in TEXTS.split('\n') {
-        for piece in [1, 2, 7, 4096] {
-            assert!(rt;
-                shows(rt.alloc(), case, piece, 99)?,
-                "{case} in pieces of {piece}"
-            );
-        }
+        assert!(rt; shows_in_pieces(rt.alloc(), case)?, "{case}");
     }
     Ok(())
 }
 
+// Of which size the pieces are, which call fails, and what is seen.
+const FAILING: [(usize, u64, &str); 6] = [
+    (4096, 0, "! #//a//b/"),
+    (3, 1, "! #//a//b/"),
+    (6, 1, "3! #//a//b/"),
+    (7, 1, "3! #//a//b/"),
+    (8, 1, "35! #//a//b/"),
+    (8, 2, "35. #//a//b/"),
+];
+
 #[test]
 fn reads_that_fail(rt: HostRuntime) -> Result<(), Fail> {
-    for (piece, fail_at, case) in [
-        (4096, 0, "! #//a//b/"),
-        (3, 1, "! #//a//b/"),
-        (6, 1, "3! #//a//b/"),
-        (7, 1, "3! #//a//b/"),
-        (8, 1, "35! #//a//b/"),
-        (8, 2, "35. #//a//b/"),
-    ] {
-        assert!(rt;
-            shows(rt.alloc(), case, piece, fail_at)?,
-            "{case} by call {fail_at}"
-        );
+    for (piece, fail_at, case) in FAILING {
+        assert!(rt; shows(rt.alloc(), case, piece, fail_at)?, "{case}");
     }
     Ok(())
 }

@@ -29,6 +29,11 @@ pub fn answered(
     }
 }
 
+/// Whether a call is one of these, which have spaces between them.
+pub fn is_among(call: &str, calls: &str) -> bool {
+    calls.split(' ').any(|name| name == call)
+}
+
 /// A number below a limit, in decimal digits.
 pub fn number_below(limit: u64, text: &str) -> Result<u64, NoAnswer>
     ensures { IfOk result (λ n. n < limit) }

@@ -92,22 +92,22 @@ fn calls(alloc: Global, text: &str, piece: usize, count: usize) -> Result<u64, A
     Ok(counted.calls)
 }
 
+// A text, of which size the pieces are, how many lines are asked for, and how often the source is read.
+const CALLS: [(&str, usize, usize, u64); 8] = [
+    ("a/b/c/", 100, 1, 1),
+    ("a/b/c/", 100, 3, 1),
+    ("a/b/c/", 100, 5, 2),
+    ("a/b/c/", 2, 2, 2),
+    ("ab/cd/", 4, 1, 1),
+    ("ab/cd/", 4, 2, 2),
+    ("ab", 1, 1, 3),
+    ("ab", 1, 4, 3),
+];
+
 #[test]
 fn calls_of_sources(rt: HostRuntime) -> Result<(), Fail> {
-    for (text, piece, count, wanted) in [
-        ("a/b/c/", 100, 1, 1),
-        ("a/b/c/", 100, 3, 1),
-        ("a/b/c/", 100, 5, 2),
-        ("a/b/c/", 2, 2, 2),
-        ("ab/cd/", 4, 1, 1),
-        ("ab/cd/", 4, 2, 2),
-        ("ab", 1, 1, 3),
-        ("ab", 1, 4, 3),
-    ] {
-        assert!(rt;
-            calls(rt.alloc(), text, piece, count)? == wanted,
-            "{text} by {piece}"
-        );
+    for (text, piece, count, wanted) in CALLS {
+        assert!(rt; calls(rt.alloc(), text, piece, count)? == wanted, "{text}");
     }
     Ok(())
 }

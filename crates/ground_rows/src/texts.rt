@@ -1,11 +1,15 @@
 // Texts, their coded forms, and the pieces of long ones.
-use crate::notation::{bytes, text, written};
+use crate::notation::{add_written, bytes, text, written};
 use crate::row::{NoAnswer, word};
 use si_base::Copies;
 use si_text::{
     Shown, Txt, append_text, coded_len, cut_len, decode_text, encode_text, is_plain_byte,
 };
 use std::alloc::{AllocError, Global};
+
+/// The calls that this module answers.
+pub const CALLS: &str =
+    "kept_text plain_bytes encode_text append_text coded_len decode_text write_shown cut_len pieces";
 
 pub fn answer(alloc: Global, call: &str, arguments: &str) -> Result<String, NoAnswer> {
     let bytes = bytes(alloc, arguments)?;
@@ -56,21 +60,34 @@ fn appended(alloc: Global, text: &str) -> Result<String, NoAnswer> {
 }
 
 fn decoded(alloc: Global, bytes: &[u8]) -> Result<String, NoAnswer> {
-    let (kind, bytes) = match decode_text(alloc, bytes)? {
-        Shown::Text(text) => ("text", written(alloc, text.as_str().as_bytes())?),
-        Shown::Hex(bytes) => ("hex", written(alloc, bytes.as_slice())?),
-    };
-    Ok(format!(in alloc; "{kind} {bytes}")?)
+    let shown = decode_text(alloc, bytes)?;
+    let (kind, bytes) = kind_and_bytes(&shown);
+    let mut line = String::from_str(alloc, kind)?;
+    add_written(&mut line, bytes)?;
+    Ok(line)
 }
 
-// How many bytes a copy of what is shown has, and what it is appended as, behind `<`.
+fn kind_and_bytes(shown: &Shown) -> (&'static str, &[u8]) {
+    match shown {
+        Shown::Text(text) => ("text ", text.as_str().as_bytes()),
+        Shown::Hex(bytes) => ("hex ", bytes.as_slice()),
+    }
+}
+
 fn shown_again(alloc: Global, bytes: &[u8]) -> Result<String, NoAnswer> {
-    let shown = decode_text(alloc, bytes)?.copy()?;
+    let shown = decode_text(alloc, bytes)?;
+    let copy = shown.copy()?;
+    size_and_bytes(alloc, &copy)
+}
+
+// How many bytes this has, and what it is appended as, behind `<`.
+fn size_and_bytes(alloc: Global, shown: &Shown) -> Result<String, NoAnswer> {
     let mut out = Vec::from_slice(alloc, b"<")?;
     shown.append_to(&mut out)?;
-    let len = shown.coded_len();
-    let out = written(alloc, &out)?;
-    Ok(format!(in alloc; "{len} {out}")?)
+    let mut line = shown.coded_len().to_string(alloc)?;
+    line.push(' ')?;
+    add_written(&mut line, &out)?;
+    Ok(line)
 }
 
 // How long the pieces of a text are.
