@@ -1,5 +1,5 @@
 // Sums of bytes, and bytes taken from their front.
-use crate::notation::{add_hex, bytes};
+use crate::notation::{add_hex, bytes, hex};
 use crate::row::{NoAnswer, first_word, number_below};
 use si_base::{Reader, crc32};
 use std::alloc::{AllocError, Global};
@@ -17,8 +17,7 @@ pub fn answer(alloc: Global, call: &str, arguments: &str) -> Result<String, NoAn
 }
 
 fn crc(alloc: Global, bytes: &[u8]) -> Result<String, NoAnswer> {
-    let crc = crc32(bytes);
-    Ok(format!(in alloc; "{crc:08X}")?)
+    hex(alloc, &crc32(bytes).to_be_bytes())
 }
 
 // The CRC of so many mixed bytes.

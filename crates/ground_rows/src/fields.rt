@@ -2,15 +2,14 @@
 use crate::notation::{add_written, bytes, text};
 use crate::row::{NoAnswer, first_word, number_below, number_or_none, word};
 use input_lines::{LineFields, fields, is_word, number, numeral};
-use std::alloc::Global;
+use std::alloc::{AllocError, Global};
 
 /// The calls that this module answers.
-pub const CALLS: &str = "fields sizes_of_fields numeral number is_word";
+pub const CALLS: &str = "fields numeral number is_word";
 
 pub fn answer(alloc: Global, call: &str, arguments: &str) -> Result<String, NoAnswer> {
     match call {
         "fields" => fields_of_line(alloc, arguments),
-        "sizes_of_fields" => sizes_of_fields(alloc, arguments),
         "numeral" => spelled(alloc, arguments),
         "number" => spelled_in(alloc, arguments),
         "is_word" => is_this_word(alloc, arguments),
@@ -26,36 +25,26 @@ fn fields_of_line(alloc: Global, arguments: &str) -> Result<String, NoAnswer> {
 }
 
 fn all_written(alloc: Global, fields: &LineFields) -> Result<String, NoAnswer> {
-    if fields.is_empty() {
-        return word(alloc, "no field");
-    }
     let mut line = String::new(alloc);
+    let mut between = "";
     for field in fields.as_slice() {
-        if !line.is_empty() {
-            line.push_str(" | ")?;
-        }
-        add_written(&mut line, field.as_str().as_bytes())?;
+        line.push_str(between)?;
+        add_field(&mut line, field.as_str())?;
+        between = " | ";
+    }
+    if between.is_empty() {
+        line.push_str("no field")?;
     }
     Ok(line)
 }
 
-fn sizes_of_fields(alloc: Global, arguments: &str) -> Result<String, NoAnswer> {
-    match fields(alloc, &bytes(alloc, arguments)?)? {
-        Some(fields) => sizes(alloc, &fields),
-        None => word(alloc, "none"),
+// A field, or how many bytes it has where these are more than 100.
+fn add_field(line: &mut String, field: &str) -> Result<(), AllocError> {
+    let size = field.len();
+    if size > 100 {
+        return write!(line, "{size} bytes");
     }
-}
-
-fn sizes(alloc: Global, fields: &LineFields) -> Result<String, NoAnswer> {
-    let mut line = String::new(alloc);
-    for field in fields.as_slice() {
-        if !line.is_empty() {
-            line.push_str(" | ")?;
-        }
-        let size = field.as_str().len();
-        write!(line, "{size}")?;
-    }
-    Ok(line)
+    add_written(line, field.as_bytes())
 }
 
 fn spelled(alloc: Global, arguments: &str) -> Result<String, NoAnswer> {

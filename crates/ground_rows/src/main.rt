@@ -46,19 +46,23 @@ fn answer(alloc: Global, call: &str, arguments: &str) -> Result<String, NoAnswer
     }
 }
 
-// A line as it is printed.
-fn told(alloc: Global, line: &str) -> Result<String, AllocError> {
+// The answer to a row as it is printed.
+fn told(alloc: Global, row: &str) -> Result<String, AllocError> {
+    let (call, arguments) = row.split_once(' ').unwrap_or((row, ""));
+    answered(alloc, answer(alloc, call, arguments))
+}
+
+fn print_line(rt: &(impl Print + AllocGlobal), line: &str) -> io::Result<()> {
     if line.is_empty() || line.starts_with('#') {
-        return String::from_str(alloc, line);
+        return println!(rt; "{line}");
     }
-    let (call, arguments) = line.split_once(' ').unwrap_or((line, ""));
-    answered(alloc, line, answer(alloc, call, arguments))
+    let answer = told(rt.alloc(), line)?;
+    println!(rt; "{line} = {answer}")
 }
 
 fn main(rt: HostRuntime) -> io::Result<()> {
     for line in rt.lines(rt.alloc()) {
-        let text = told(rt.alloc(), line?.as_str())?;
-        println!(rt; "{text}")?;
+        print_line(&rt, line?.as_str())?;
     }
     Ok(())
 }

@@ -102,44 +102,44 @@ pub fn written(alloc: Global, bytes: &[u8]) -> Result<String, NoAnswer> {
 
 /// Appends bytes as they are written in a row.
 pub fn add_written(line: &mut String, bytes: &[u8]) -> Result<(), AllocError> {
-    let mut first = true;
+    if bytes.is_empty() {
+        return line.push_str("``");
+    }
+    let mut space = "";
     let mut quoted = false;
     for b in bytes {
         let is_text = (b' '..=b'~').contains(b) && *b != b'`';
-        line.push_str(between(first, quoted, is_text))?;
-        first = false;
+        line.push_str(between(space, quoted, is_text))?;
+        put(line, space, is_text, *b)?;
+        space = " ";
         quoted = is_text;
-        put(line, is_text, *b)?;
     }
-    line.push_str(behind(first, quoted))
+    line.push_str(if quoted { "`" } else { "" })
 }
 
-// What stands between a byte and the one before it.
-fn between(is_first: bool, was_text: bool, is_text: bool) -> &'static str {
-    match (is_first, was_text, is_text) {
-        (true, _, true) => "`",
-        (true, _, false) | (_, true, true) => "",
-        (_, true, false) => "` ",
-        (_, false, true) => " `",
-        (_, false, false) => " ",
-    }
-}
-
-// What stands behind the last byte.
-fn behind(is_none: bool, was_text: bool) -> &'static str {
-    match (is_none, was_text) {
-        (true, _) => "``",
-        (_, true) => "`",
-        (_, false) => "",
+// The quotes between a byte and the one before it.
+fn between(space: &'static str, quoted: bool, is_text: bool) -> &'static str {
+    if quoted == is_text {
+        ""
+    } else if quoted || space.is_empty() {
+        "`"
+    } else {
+        " `"
     }
 }
 
-fn put(line: &mut String, is_text: bool, b: u8) -> Result<(), AllocError> {
+// A byte of a text, or with a space in front in hexadecimal digits.
+fn put(line: &mut String, space: &str, is_text: bool, b: u8) -> Result<(), AllocError> {
     if is_text {
         line.push(b as char)
     } else {
-        write!(line, "{b:02X}")
+        line.push_str(space)?;
+        add_byte(line, b)
     }
+}
+
+fn add_byte(line: &mut String, b: u8) -> Result<(), AllocError> {
+    write!(line, "{b:02X}")
 }
 
 /// Bytes in hexadecimal digits, with spaces between them.
@@ -151,10 +151,11 @@ pub fn hex(alloc: Global, bytes: &[u8]) -> Result<String, NoAnswer> {
 
 /// Appends bytes in hexadecimal digits, with spaces between them.
 pub fn add_hex(line: &mut String, bytes: &[u8]) -> Result<(), AllocError> {
-    let mut between = "";
+    let mut space = "";
     for b in bytes {
-        write!(line, "{between}{b:02X}")?;
-        between = " ";
+        line.push_str(space)?;
+        add_byte(line, *b)?;
+        space = " ";
     }
     Ok(())
 }

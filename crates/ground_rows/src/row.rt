@@ -16,15 +16,11 @@ impl From<AllocError> for NoAnswer {
     }
 }
 
-/// The line with its answer behind it.
-pub fn answered(
-    alloc: Global,
-    line: &str,
-    answer: Result<String, NoAnswer>,
-) -> Result<String, AllocError> {
+/// The answer as it is printed.
+pub fn answered(alloc: Global, answer: Result<String, NoAnswer>) -> Result<String, AllocError> {
     match answer {
-        Ok(answer) => format!(in alloc; "{line} = {answer}"),
-        Err(NoAnswer::NoRow) => format!(in alloc; "{line} = no row"),
+        Ok(answer) => Ok(answer),
+        Err(NoAnswer::NoRow) => String::from_str(alloc, "no row"),
         Err(NoAnswer::Memory) => Err(AllocError),
     }
 }

@@ -33,12 +33,16 @@ fn of_text(alloc: Global, call: &str, text: &str) -> Result<String, NoAnswer> {
     }
 }
 
-// A copy of the text that is kept.
 fn kept(alloc: Global, text: &str) -> Result<String, NoAnswer> {
     match Txt::of(alloc, text)? {
-        Some(text) => written(alloc, text.copy()?.as_str().as_bytes()),
+        Some(text) => copied(alloc, &text),
         None => word(alloc, "none"),
     }
+}
+
+fn copied(alloc: Global, text: &Txt) -> Result<String, NoAnswer> {
+    let copy = text.copy()?;
+    written(alloc, copy.as_str().as_bytes())
 }
 
 // The bytes of the plain set, from the lowest on.
@@ -61,17 +65,17 @@ fn appended(alloc: Global, text: &str) -> Result<String, NoAnswer> {
 
 fn decoded(alloc: Global, bytes: &[u8]) -> Result<String, NoAnswer> {
     let shown = decode_text(alloc, bytes)?;
-    let (kind, bytes) = kind_and_bytes(&shown);
-    let mut line = String::from_str(alloc, kind)?;
-    add_written(&mut line, bytes)?;
-    Ok(line)
+    match &shown {
+        Shown::Text(text) => behind(alloc, "text ", text.as_str().as_bytes()),
+        Shown::Hex(bytes) => behind(alloc, "hex ", bytes.as_slice()),
+    }
 }
 
-fn kind_and_bytes(shown: &Shown) -> (&'static str, &[u8]) {
-    match shown {
-        Shown::Text(text) => ("text ", text.as_str().as_bytes()),
-        Shown::Hex(bytes) => ("hex ", bytes.as_slice()),
-    }
+// Bytes behind a word.
+fn behind(alloc: Global, word: &str, bytes: &[u8]) -> Result<String, NoAnswer> {
+    let mut line = String::from_str(alloc, word)?;
+    add_written(&mut line, bytes)?;
+    Ok(line)
 }
 
 fn shown_again(alloc: Global, bytes: &[u8]) -> Result<String, NoAnswer> {
