@@ -1,4 +1,5 @@
 use Rattle.std.proofs.Common.{◌≡◌, ◌≢◌, ◌+◌, ◌-◌, ◌≤◌, ◌==◌, ℕ, suc, true, false, refl, sym, ap, ◌∙◌, arith, length, take, subst, List, Some, not}
+use Rattle.std.proofs.lemmas.Grind.{common_steps}
 use Rattle.std.proofs.lemmas.Bool.Decides.{nat_tests}
 use Rattle.std.specs.Io.KnownBytes.{prepend_known}
 use Rattle.packet_reader.specs.Recordings.{is_packet}
@@ -42,3 +43,6 @@ returns-clause-packets g c =
     rw (← c.self.view_is) (λ going bytes told.
     let t = goes_on (left inside.source) (left c.gather.new.source) inside.held.behind c.gather.new.held.behind bytes told c.gather.ensures.gathers is (4294967295 - (inside.number + 1)) in
     rw (one_less, t.2) (c.advance.ensures.packet, (t.0, subst (λ h. prepend_known h (left c.gather.new.source) ≡ Some t.0) (sym c.advance.ensures.behind) t.1, refl)))
+
+pub returns-clause-counts : goal.returns-clause-counts
+returns-clause-counts g c = grind (arith, common_steps)
