@@ -14,6 +14,3 @@ pub use event::{Event, Events, Genre, Genres, Rating};
 pub use guide::{Guide, ServiceGuide, ServiceGuides};
 pub use screen::{Screen, ScreenEvent, ScreenEvents, ScreenService, ScreenServices};
 pub use stream::{Cable, Component, Components};
-
-#[cfg(test)]
-mod tests;

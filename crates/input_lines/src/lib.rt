@@ -12,6 +12,3 @@ mod records;
 pub use numbers::{is_word, number, numeral};
 pub use reading::{next_record_line, passes_over};
 pub use records::{LineFields, fields};
-
-#[cfg(test)]
-mod tests;

@@ -1,5 +1,5 @@
 -- Bytes that are held in a part of a buffer.
-use Rattle.std.proofs.Common.{◌≡◌, ℕ, ◌+◌, ◌-◌, ◌≤◌, List, min, take, drop, ◌++◌, sym, arith, ap, ◌∙◌, drop-drop, length, length-take, length-drop, slice_range}
+use Rattle.std.proofs.Common.{◌≡◌, ℕ, ◌+◌, ◌-◌, ◌≤◌, List, take, drop, ◌++◌, sym, arith, ap, ◌∙◌, drop-drop, length, length-take, length-drop, slice_range}
 use Rattle.std.proofs.lemmas.List.{drop-take}
 use Rattle.std.proofs.Math.Seq.{take-add, take-take}
 

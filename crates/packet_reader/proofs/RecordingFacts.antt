@@ -3,7 +3,7 @@ use Rattle.std.proofs.Common.{◌≡◌, ◌≢◌, ℕ, suc, ◌+◌, ◌-◌, 
 use Rattle.std.proofs.lemmas.List.{take-append-le, drop-append-le, length-take-le, take-append-drop}
 use Rattle.std.proofs.lemmas.Bool.Decides.{nat_tests, leb_tells}
 use Rattle.std.specs.Io.KnownBytes.{Consumes, IsAtEnd, prepend_known}
-use Rattle.packet_reader.specs.Recordings.{RecordingEnd, RecordingEnd.AtEnd, RecordingEnd.Broken, RecordingEnd.PastLimit, is_packet, and_packet, packets_in}
+use Rattle.packet_reader.specs.Recordings.{RecordingEnd.Broken, RecordingEnd.PastLimit, is_packet, and_packet, packets_in}
 use Rattle.packet_reader.specs.Reading.{Gathers}
 
 false-true : false ≡ true → ⊥

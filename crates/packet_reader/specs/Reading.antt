@@ -1,6 +1,6 @@
 -- What `next` of a reader of packets does.
-use Rattle.std.specs.Prelude.{◌≡◌, ℕ, ◌+◌, ◌-◌, ◌≤◌, ◌<◌, List, [], ◌∷◌, ◌++◌, true, Bool, false, length, slice_index, Option, Some, None, Ok, Err, Result}
-use Rattle.std.specs.Io.KnownBytes.{Consumes, IsAtEnd, prepend_known}
+use Rattle.std.specs.Prelude.{◌≡◌, ℕ, ◌+◌, ◌-◌, ◌<◌, List, [], ◌∷◌, ◌++◌, true, Bool, false, length, slice_index, Option, Some, None, Ok, Err, Result}
+use Rattle.std.specs.Io.KnownBytes.{Consumes, prepend_known}
 use Rattle.si_causes.specs.Causes.{Rose}
 use Rattle.packet_reader.specs.Recordings.{RecordingEnd, RecordingEnd.AtEnd, RecordingEnd.Broken, RecordingEnd.PastLimit, packet_limit, packets_in}
 use Rattle.packet_reader.specs.declared.stop.PacketStop.{PacketStop}

@@ -9,8 +9,6 @@
 mod held;
 mod reader;
 mod stop;
-#[cfg(test)]
-mod tests;
 
 pub use reader::PacketReader;
 pub use stop::PacketStop;

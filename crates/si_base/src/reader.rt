@@ -40,28 +40,3 @@ impl<'a> Reader<'a> {
         Some(front)
     }
 }
-
-#[cfg(test)]
-mod tests {
-    use super::*;
-    use crate::items::{Bytes, Items};
-    use std::test::Fail;
-
-    #[test]
-    fn takes_and_pushes(rt: HostRuntime) -> Result<(), Fail> {
-        let mut bytes: Bytes = Items::new(rt.alloc());
-        for b in [1, 2, 3] {
-            bytes.push(b)?;
-        }
-        let mut reader = Reader::open(bytes.as_slice());
-        assert_eq!(rt; reader.take(2), Some([1, 2].as_slice()));
-        assert_eq!(rt; reader.take(2), None, "one is left");
-        assert_eq!(rt;
-            reader.take(1),
-            Some([3].as_slice()),
-            "the one that was left"
-        );
-        assert_eq!(rt; reader.take(1), None, "none is left");
-        Ok(())
-    }
-}

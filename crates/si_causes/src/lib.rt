@@ -25,8 +25,6 @@ mod memory;
 mod opener;
 mod reader;
 mod stop;
-#[cfg(test)]
-mod tests;
 
 pub use causes::{Failed, Sink, Source, write_all};
 pub use gate::{Gate, OpenGate, Place};

@@ -17,6 +17,3 @@ pub use cutting::{cut_len, pieces_join};
 pub use decoding::{coded_texts_decode, decode_text};
 pub use shown::Shown;
 pub use txt::{Txt, has_control};
-
-#[cfg(test)]
-mod tests;

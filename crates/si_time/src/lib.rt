@@ -13,6 +13,3 @@ pub use duration::{duration_bcd, duration_from_bcd, read_duration, write_duratio
 pub use moment::{
     Moment, block_of, from_bcd, midnight, read_day, read_moment, to_bcd, write_moment,
 };
-
-#[cfg(test)]
-mod tests;

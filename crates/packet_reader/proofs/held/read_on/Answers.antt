@@ -1,4 +1,5 @@
-use Rattle.std.proofs.Common.{◌≡◌, ◌+◌, ◌-◌, ◌++◌, ℕ, List, length, take, drop, arith, ◌∙◌, ap, sym, refl, slice_range, length-take, length-drop, Ok, Err, Result, IfOk, Option, ◌≤◌}
+use Rattle.std.proofs.Common.{◌≡◌, ◌+◌, ◌-◌, ◌++◌, ℕ, List, length, take, drop, arith, ◌∙◌, ap, sym, slice_range, length-drop, Ok, Err, Result, IfOk, Option, ◌≤◌}
+use Rattle.std.proofs.lemmas.Grind.{common_steps}
 use Rattle.std.proofs.lemmas.List.{length-take-le}
 use Rattle.std.specs.Io.KnownBytes.{Consumes}
 use Rattle.packet_reader.specs.Reading.{ReadOn}
@@ -22,3 +23,6 @@ returns-clause-bytes g c =
     read_on (g.S.Source.left c.args.source.now) (g.S.Source.left c.read_behind.new.source) (slice_range c.args.buffer.now c.args.start c.args.end)
     c.to_front.new.buffer c.read_behind.new.buffer (c.args.end - c.args.start) c.read_behind.result
     c.read_behind.ensures.front c.to_front.ensures.bytes c.read_behind.ensures.count c.read_behind.ensures.length c.read_behind.ensures.bytes
+
+pub returns-clause-kept : goal.returns-clause-kept
+returns-clause-kept g c = grind (arith, common_steps)

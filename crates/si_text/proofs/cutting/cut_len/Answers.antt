@@ -25,5 +25,11 @@ returns-then-is_all_plain-clause-whole c = (plain c).whole
 pub returns-else-is_all_plain-clause-size : goal.returns-else-is_all_plain-clause-size
 returns-else-is_all_plain-clause-size c = cut_size-is c.args.text.now c.floor_char_boundary.result c.utf8.text (other c)
 
+pub returns-else-is_all_plain-clause-whole : goal.returns-else-is_all_plain-clause-whole
+returns-else-is_all_plain-clause-whole c = (other c).whole
+
+pub returns-else-is_all_plain-clause-fits : goal.returns-else-is_all_plain-clause-fits
+returns-else-is_all_plain-clause-fits c = (other c).fits
+
 pub returns-else-is_all_plain-clause-longest : goal.returns-else-is_all_plain-clause-longest
 returns-else-is_all_plain-clause-longest c = (other c).longest

@@ -1,4 +1,4 @@
-use Rattle.std.proofs.Common.{◌≡◌, ◌+◌, ◌-◌, ◌≤◌, length, take, drop, arith, ◌∙◌, ap, sym}
+use Rattle.std.proofs.Common.{length, take, drop, arith, ◌∙◌, ap}
 use Rattle.packet_reader.proofs.Bytes.{held_take, held_drop, held_length}
 use Rattle.packet_reader.proofs.held.Held.advance.Goals as goal
 

@@ -1,4 +1,5 @@
-use Rattle.std.proofs.Common.{◌≡◌, ◌≢◌, ◌+◌, ◌-◌, ◌≤◌, ◌==◌, ℕ, suc, true, false, refl, sym, ap, ◌∙◌, arith, length, take, drop, ◌++◌, subst, List, Some, not}
+use Rattle.std.proofs.Common.{◌≡◌, ◌≢◌, ◌+◌, ◌-◌, ◌≤◌, ◌==◌, ℕ, suc, true, false, refl, sym, ap, ◌∙◌, arith, length, take, drop, ◌++◌, subst, List, Some}
+use Rattle.std.proofs.lemmas.Grind.{common_steps}
 use Rattle.std.proofs.lemmas.Bool.Decides.{nat_tests}
 use Rattle.std.specs.Io.KnownBytes.{prepend_known}
 use Rattle.packet_reader.specs.Recordings.{is_packet}
@@ -53,3 +54,6 @@ returns-clause-takes g c =
       subst (λ h. prepend_known h (left c.gather.new.source) ≡ Some t.0) (sym c.advance.ensures.behind) t.1,
       t.2 ∙ ap (λ p. p ++ t.0) (sym c.advance.ensures.packet),
     ))
+
+pub returns-clause-counts : goal.returns-clause-counts
+returns-clause-counts g c = grind (arith, common_steps)

@@ -1,0 +1,68 @@
+//! The rows of the ground: each line of the input is a call and its arguments, and the program prints what the call
+//! gives. `stdin` says at its head how arguments are written; `stdout` is the table of what must be printed.
+//!
+//! A line without a byte and one that begins with `#` are printed as they are. What is no row has the answer `no row`.
+//! What no row can say, as a source that fails, stands in the tests beside it.
+#![tactic(auto)]
+
+mod bytes;
+mod durations;
+mod fields;
+#[cfg(test)]
+mod guides;
+#[cfg(test)]
+mod lines;
+mod moments;
+mod notation;
+#[cfg(test)]
+mod recordings;
+#[cfg(test)]
+mod records;
+mod row;
+#[cfg(test)]
+mod sinks;
+#[cfg(test)]
+mod sources;
+mod texts;
+
+use row::{NoAnswer, answered, is_among};
+use std::alloc::{AllocError, Global};
+use std::io;
+
+// What a call gives for these arguments.
+fn answer(alloc: Global, call: &str, arguments: &str) -> Result<String, NoAnswer> {
+    if is_among(call, bytes::CALLS) {
+        bytes::answer(alloc, call, arguments)
+    } else if is_among(call, moments::CALLS) {
+        moments::answer(alloc, call, arguments)
+    } else if is_among(call, durations::CALLS) {
+        durations::answer(alloc, call, arguments)
+    } else if is_among(call, texts::CALLS) {
+        texts::answer(alloc, call, arguments)
+    } else if is_among(call, fields::CALLS) {
+        fields::answer(alloc, call, arguments)
+    } else {
+        Err(NoAnswer::NoRow)
+    }
+}
+
+// The answer to a row as it is printed.
+fn told(alloc: Global, row: &str) -> Result<String, AllocError> {
+    let (call, arguments) = row.split_once(' ').unwrap_or((row, ""));
+    answered(alloc, answer(alloc, call, arguments))
+}
+
+fn print_line(rt: &(impl Print + AllocGlobal), line: &str) -> io::Result<()> {
+    if line.is_empty() || line.starts_with('#') {
+        return println!(rt; "{line}");
+    }
+    let answer = told(rt.alloc(), line)?;
+    println!(rt; "{line} = {answer}")
+}
+
+fn main(rt: HostRuntime) -> io::Result<()> {
+    for line in rt.lines(rt.alloc()) {
+        print_line(&rt, line?.as_str())?;
+    }
+    Ok(())
+}
