@@ -3,87 +3,97 @@ ghost use Rattle.std.specs.Prelude.{IsTrue};
 ghost use Rattle.std.specs.List.{All};
 ghost use Rattle.eit_codec.specs.Eit.{IsCodable};
 
-use crate::events::{append_event, event, is_codable};
-use crate::fields::{named, small};
-use crate::hex::{append_bytes, byte, word};
-use crate::row::NoAnswer;
+use crate::events::{event, is_codable, put_event};
+use crate::line::{MOST, Row};
 use eit_codec::{Eit, EitHead, read_eit, write_eit};
 use guide_model::Event;
-use si_base::Bytes;
-use std::alloc::{AllocError, Global};
+use si_base::{Bytes, Items};
 
-/// `write_eit HEAD; EVENT; EVENT ..`: the body.
-pub fn write(alloc: Global, arguments: &str, answer: &mut String) -> Result<(), NoAnswer> {
-    let body = written(alloc, arguments)?;
-    Ok(append_bytes(answer, body.as_slice())?)
+/// `write_eit HEAD / EVENT / EVENT ..`: the body.
+pub fn write(row: &mut Row) {
+    let body = written(row);
+    row.put_bytes(body.as_slice());
 }
 
-/// `write_and_read_eit HEAD; EVENT; EVENT ..`: what the written body is read as.
-pub fn write_and_read(alloc: Global, arguments: &str, answer: &mut String) -> Result<(), NoAnswer> {
-    let body = written(alloc, arguments)?;
-    read(alloc, body.as_slice(), answer)
+/// `write_and_read_eit HEAD / EVENT / EVENT ..`: what the written body is read as.
+pub fn write_and_read(row: &mut Row) {
+    let body = written(row);
+    read(row, body.as_slice());
 }
 
 /// `read_eit BYTES`: the head and the events.
-pub fn read(alloc: Global, bytes: &[u8], answer: &mut String) -> Result<(), NoAnswer> {
-    match read_eit(alloc, bytes)? {
-        Some(eit) => append_eit(answer, &eit)?,
-        None => answer.push_str(" refused")?,
+pub fn read(row: &mut Row, bytes: &[u8]) {
+    match read_eit(row.alloc(), bytes) {
+        Ok(Some(eit)) => put_eit(row, &eit),
+        Ok(None) => row.put(" refused"),
+        Err(_) => row.lack_memory(),
     }
-    Ok(())
 }
 
-fn append_eit(answer: &mut String, eit: &Eit) -> Result<(), AllocError> {
-    let EitHead {
-        stream,
-        original,
-        segment_last,
-        last_table,
-    } = eit.head;
-    write!(answer, " stream {stream:04X} network {original:04X}")?;
-    write!(
-        answer,
-        " segment_last {segment_last} last_table {last_table:02X}"
-    )?;
+fn put_eit(row: &mut Row, eit: &Eit) {
+    row.put_hex(" stream ", eit.head.stream);
+    row.put_hex(" network ", eit.head.original);
+    row.put_number(" segment_last ", u64::from(eit.head.segment_last));
+    row.put_byte(" last_table ", eit.head.last_table);
     for event in eit.events.as_slice() {
-        answer.push(';')?;
-        append_event(answer, event)?;
+        row.put(" /");
+        put_event(row, event);
     }
-    Ok(())
 }
 
 // The body that is written.
-fn written(alloc: Global, arguments: &str) -> Result<Bytes, NoAnswer> {
-    let (head, events) = arguments.split_once(';').unwrap_or((arguments, ""));
-    let (head, status) = head_of(head)?;
-    let events = events_of(alloc, events)?;
+fn written(row: &mut Row) -> Bytes {
+    let head = head(row);
+    let status = row.small("running_status");
+    let events = events(row);
     if status >= 8 || !are_codable(&events) {
-        return Err(NoAnswer::NoRow);
+        row.refuse();
+        return Items::new(row.alloc());
     }
-    Ok(write_eit(alloc, &head, status, &events)?)
+    match write_eit(row.alloc(), &head, status, &events) {
+        Ok(body) => body,
+        Err(_) => {
+            row.lack_memory();
+            Items::new(row.alloc())
+        }
+    }
 }
 
-// `stream 0405 network 233A segment_last 7 last_table 51 running_status 0`.
-fn head_of(text: &str) -> Result<(EitHead, u8), NoAnswer> {
-    let mut words = text.split_whitespace();
-    let head = EitHead {
-        stream: word(named(&mut words, "stream")?)?,
-        original: word(named(&mut words, "network")?)?,
-        segment_last: small(named(&mut words, "segment_last")?)?,
-        last_table: byte(named(&mut words, "last_table")?)?,
-    };
-    Ok((head, small(named(&mut words, "running_status")?)?))
+// `stream 0405 network 233A segment_last 7 last_table 51`.
+fn head(row: &mut Row) -> EitHead {
+    let stream = row.hex_of("stream");
+    let original = row.hex_of("network");
+    let segment_last = row.small("segment_last");
+    row.pass("last_table");
+    EitHead {
+        stream,
+        original,
+        segment_last,
+        last_table: row.byte(),
+    }
 }
 
-fn events_of(alloc: Global, text: &str) -> Result<Vec<Event>, NoAnswer> {
-    let mut events = Vec::new(alloc);
-    if text.is_empty() {
-        return Ok(events);
+fn events(row: &mut Row) -> Vec<Event> {
+    let mut events = Vec::new(row.alloc());
+    let word = row.word();
+    if !row.is_end(word) {
+        row.refuse();
     }
-    for text in text.split(';') {
-        events.push(event(alloc, text)?)?;
+    append_events(row, &mut events);
+    events
+}
+
+fn append_events(row: &mut Row, events: &mut Vec<Event>) {
+    for _ in 0..MOST {
+        if !row.goes_on() {
+            break;
+        }
+        if let Some(event) = event(row) {
+            if events.push(event).is_err() {
+                row.lack_memory();
+            }
+        }
     }
-    Ok(events)
 }
 
 fn are_codable(events: &[Event]) -> bool

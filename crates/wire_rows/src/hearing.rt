@@ -1,116 +1,115 @@
 // What packet lists carry: their sections, and the sub-tables that are complete.
-use crate::fields::{named, next, small};
-use crate::hex::{append_bytes, byte, word};
-use crate::packets::packet_of;
-use crate::row::{NoAnswer, begin_part, end_parts};
-use crate::sections::append_key;
+use crate::line::{MOST, Row};
+use crate::packets::packet_in;
+use crate::sections::put_key;
 use guide_receiver::{DoneKey, HearStop, Receiver, write_done};
 use section_codec::Key;
-use std::alloc::{AllocError, Global};
 use ts_demux::{Demux, RawSection};
 use ts_packets::read_packet;
 
 /// `demux PACKET / PACKET ..`: each section that ends, with the place of the packet that ends it.
-pub fn demux(alloc: Global, arguments: &str, answer: &mut String) -> Result<(), NoAnswer> {
-    let mut demux = Demux::open(alloc);
-    for (place, front) in arguments.split('/').enumerate() {
-        let packet = packet_of(alloc, front)?;
-        demux_one(&mut demux, place, &packet, answer)?;
-    }
-    Ok(end_parts(answer)?)
+pub fn demux(row: &mut Row) {
+    let mut demux = Demux::open(row.alloc());
+    demux_all(row, &mut demux);
+    row.end_parts();
 }
 
-fn demux_one(
-    demux: &mut Demux,
-    place: usize,
-    packet: &[u8; 188],
-    answer: &mut String,
-) -> Result<(), NoAnswer> {
+fn demux_all(row: &mut Row, demux: &mut Demux) {
+    for place in 0..MOST {
+        let packet = packet_in(row);
+        demux_one(row, demux, place, &packet);
+        if !row.goes_on() {
+            break;
+        }
+    }
+}
+
+fn demux_one(row: &mut Row, demux: &mut Demux, place: u32, packet: &[u8; 188]) {
     let Ok(shape) = read_packet(packet) else {
-        return Err(NoAnswer::NoRow);
+        return row.refuse();
     };
-    let sections = demux.hear(packet, &shape)?;
-    Ok(append_sections(answer, place, sections.as_slice())?)
+    match demux.hear(packet, &shape) {
+        Ok(sections) => put_sections(row, place, sections.as_slice()),
+        Err(_) => row.lack_memory(),
+    }
 }
 
-fn append_sections(
-    answer: &mut String,
-    place: usize,
-    sections: &[RawSection],
-) -> Result<(), AllocError> {
+fn put_sections(row: &mut Row, place: u32, sections: &[RawSection]) {
     for section in sections {
-        let pid = section.pid;
-        begin_part(answer)?;
-        write!(answer, " at {place} pid {pid:04X} |")?;
-        append_bytes(answer, section.bytes.as_slice())?;
+        row.begin_part();
+        row.put_number(" at ", u64::from(place));
+        row.put_hex(" pid ", section.pid);
+        row.put(" |");
+        row.put_bytes(section.bytes.as_slice());
     }
-    Ok(())
 }
 
 /// `receive PACKET / PACKET ..`: each completion that is shown, with the place of the packet that shows it.
-pub fn receive(alloc: Global, arguments: &str, answer: &mut String) -> Result<(), NoAnswer> {
-    let mut receiver = Receiver::open(alloc);
-    for (place, front) in arguments.split('/').enumerate() {
-        let packet = packet_of(alloc, front)?;
-        receive_one(&mut receiver, place, &packet, answer)?;
-    }
-    Ok(end_parts(answer)?)
+pub fn receive(row: &mut Row) {
+    let mut receiver = Receiver::open(row.alloc());
+    receive_all(row, &mut receiver);
+    row.end_parts();
 }
 
-fn receive_one(
-    receiver: &mut Receiver,
-    place: usize,
-    packet: &[u8; 188],
-    answer: &mut String,
-) -> Result<(), NoAnswer> {
-    match receiver.hear(packet) {
-        Ok(dones) => Ok(append_dones(answer, place, dones.as_slice())?),
-        Err(HearStop::Sync) => {
-            begin_part(answer)?;
-            Ok(write!(answer, " at {place} refused sync")?)
+fn receive_all(row: &mut Row, receiver: &mut Receiver) {
+    for place in 0..MOST {
+        let packet = packet_in(row);
+        match receiver.hear(&packet) {
+            Ok(dones) => put_dones(row, place, dones.as_slice()),
+            Err(HearStop::Sync) => {
+                row.begin_part();
+                row.put_number(" refused sync at ", u64::from(place));
+            }
+            Err(HearStop::Memory) => row.lack_memory(),
         }
-        Err(HearStop::Memory) => Err(NoAnswer::Memory),
+        if !row.goes_on() {
+            break;
+        }
     }
 }
 
-fn append_dones(answer: &mut String, place: usize, dones: &[DoneKey]) -> Result<(), AllocError> {
+fn put_dones(row: &mut Row, place: u32, dones: &[DoneKey]) {
     for done in dones {
-        let version = done.version;
-        begin_part(answer)?;
-        write!(answer, " at {place}")?;
-        append_key(answer, &done.key)?;
-        write!(answer, " version {version}")?;
+        row.begin_part();
+        row.put_number(" at ", u64::from(place));
+        put_key(row, &done.key);
+        row.put_number(" version ", u64::from(done.version));
     }
-    Ok(())
 }
 
 /// `write_done PACKET KEY version VERSION`: the line, with signs for its tabs and its end.
-pub fn line(alloc: Global, arguments: &str, answer: &mut String) -> Result<(), NoAnswer> {
-    let mut words = arguments.split_whitespace();
-    let Ok(packet) = next(&mut words)?.parse::<u64>() else {
-        return Err(NoAnswer::NoRow);
+pub fn line(row: &mut Row) {
+    let packet = row.number();
+    let done = DoneKey {
+        key: key(row),
+        version: row.small("version"),
     };
-    let key = Key {
-        pid: word(named(&mut words, "pid")?)?,
-        table: byte(named(&mut words, "table")?)?,
-        ext: word(named(&mut words, "extension")?)?,
-        stream: word(named(&mut words, "stream")?)?,
-        network: word(named(&mut words, "network")?)?,
-    };
-    let version = small(named(&mut words, "version")?)?;
-    let mut line = Vec::new(alloc);
-    write_done(alloc, packet, DoneKey { key, version }, &mut line)?;
-    answer.push(' ')?;
-    Ok(append_line(answer, &line)?)
+    let mut line = Vec::new(row.alloc());
+    match write_done(row.alloc(), packet, done, &mut line) {
+        Ok(()) => put_line(row, &line),
+        Err(_) => row.lack_memory(),
+    }
 }
 
-fn append_line(answer: &mut String, line: &[u8]) -> Result<(), AllocError> {
+fn put_line(row: &mut Row, line: &[u8]) {
+    row.put(" ");
     for byte in line {
         match byte {
-            b'\t' => answer.push_str("\\t")?,
-            b'\n' => answer.push_str("\\n")?,
-            other => answer.push(char::from(*other))?,
+            b'\t' => row.put("\\t"),
+            b'\n' => row.put("\\n"),
+            other => row.put_char(char::from(*other)),
         }
     }
-    Ok(())
+}
+
+fn key(row: &mut Row) -> Key {
+    let pid = row.hex_of("pid");
+    row.pass("table");
+    Key {
+        pid,
+        table: row.byte(),
+        ext: row.hex_of("extension"),
+        stream: row.hex_of("stream"),
+        network: row.hex_of("network"),
+    }
 }

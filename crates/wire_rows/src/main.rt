@@ -1,81 +1,83 @@
 //! The rows of the wire: reads rows of text on its standard input, and prints each with what its call gives. A blank line and a line
 //! that begins with `#` are printed as they are.
+//!
+//! `stdin` has the rows, and its head says how they are written; `stdout` has what they give, which stands there from the standards
+//! and not from this program.
 #![tactic(auto)]
 
 mod bodies;
+mod completions;
 mod descriptors;
 mod events;
-mod fields;
-mod fronts;
 mod hearing;
-mod hex;
+mod line;
 mod packets;
 mod playing;
-mod row;
+mod readings;
 mod sections;
-#[cfg(test)]
-mod sinks;
 mod versions;
 
-use row::{NoAnswer, answered, is_heading};
+use line::Row;
 use std::alloc::{AllocError, Global};
 use std::io;
 
-// Appends what a call gives for these arguments.
-fn append_answer(
-    alloc: Global,
-    call: &str,
-    arguments: &str,
-    answer: &mut String,
-) -> Result<(), NoAnswer> {
-    match call {
-        "packets_of" => packets::count(arguments, answer),
-        "packets" => packets::cut(alloc, arguments, answer),
-        "read_packet" => packets::read(alloc, arguments, answer),
-        "demux" => hearing::demux(alloc, arguments, answer),
-        "receive" => hearing::receive(alloc, arguments, answer),
-        "write_done" => hearing::line(alloc, arguments, answer),
-        "assign" => versions::assign(alloc, arguments, answer),
-        "take" => versions::take(alloc, arguments, answer),
-        "play" => playing::play(alloc, arguments, answer),
-        _ => append_table_answer(alloc, call, arguments, answer),
+// Answers a row.
+fn answer(row: &mut Row) {
+    match row.word() {
+        "packets_of" => packets::count(row),
+        "packets" => packets::cut(row),
+        "read_packet" => packets::read(row),
+        "demux" => hearing::demux(row),
+        "receive" => hearing::receive(row),
+        "write_done" => hearing::line(row),
+        "assign" => versions::assign(row),
+        "take" => completions::take(row),
+        "play" => playing::play(row),
+        "play_into" => playing::play_into(row),
+        call => answer_of_section(row, call),
     }
 }
 
-// The same of the calls on sections, bodies and descriptors.
-fn append_table_answer(
-    alloc: Global,
-    call: &str,
-    arguments: &str,
-    answer: &mut String,
-) -> Result<(), NoAnswer> {
+// The same of the calls on sections and bodies.
+fn answer_of_section(row: &mut Row, call: &str) {
     match call {
-        "write_long" => sections::long(alloc, arguments, answer),
-        "write_short" => sections::short(alloc, arguments, answer),
-        "read_section" => sections::read(alloc, arguments, answer),
-        "key_of" => sections::key(alloc, arguments, answer),
-        "eit_numbers" => sections::numbers(alloc, arguments, answer),
-        "write_eit" => bodies::write(alloc, arguments, answer),
-        "write_and_read_eit" => bodies::write_and_read(alloc, arguments, answer),
-        "fronts" => fronts::fronts(alloc, arguments, answer),
-        _ => descriptors::append_answer(alloc, call, arguments, answer),
+        "write_long" => sections::long(row),
+        "write_short" => sections::short(row),
+        "read_section" => sections::read(row),
+        "key_of" => sections::key(row),
+        "eit_numbers" => sections::numbers(row),
+        "write_eit" => bodies::write(row),
+        "write_and_read_eit" => bodies::write_and_read(row),
+        "fronts" => readings::fronts(row),
+        _ => answer_of_descriptor(row, call),
     }
 }
 
-// What a row gives.
-fn answer(alloc: Global, line: &str) -> Result<String, NoAnswer> {
-    let (call, arguments) = line.split_once(' ').unwrap_or((line, ""));
-    let mut answer = String::new(alloc);
-    append_answer(alloc, call, arguments, &mut answer)?;
-    Ok(answer)
+// The same of the calls on descriptors, and of what is read of bytes alone.
+fn answer_of_descriptor(row: &mut Row, call: &str) {
+    match call {
+        "write_content" => descriptors::content(row),
+        "write_parental_rating" => descriptors::parental_rating(row),
+        "write_short_event" => descriptors::short_event(row),
+        "write_extended_event" => descriptors::extended_event(row),
+        "event_len" => descriptors::event_size(row),
+        "write_event_descriptors" => descriptors::event_descriptors(row),
+        "event_descriptor_sizes" => descriptors::event_sizes(row),
+        _ => {
+            let bytes = row.bytes();
+            readings::read(row, call, &bytes);
+        }
+    }
 }
 
 // A line as it is printed.
 fn told(alloc: Global, line: &str) -> Result<String, AllocError> {
-    if is_heading(line) {
+    if line.is_empty() || line.starts_with('#') {
         return String::from_str(alloc, line);
     }
-    answered(alloc, line, answer(alloc, line))
+    let mut row = Row::open(alloc, line);
+    answer(&mut row);
+    row.finish(line)
 }
 
 fn main(rt: HostRuntime) -> io::Result<()> {

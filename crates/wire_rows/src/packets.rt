@@ -1,76 +1,70 @@
 // Packets: a section cut into them, and what a packet is.
-use crate::fields::halves;
-use crate::hex::{append_bytes, bytes, word};
-use crate::row::{NoAnswer, begin_part};
-use std::alloc::{AllocError, Global};
+use crate::line::Row;
 use ts_packets::{BadPacket, Counters, Shape, packet, packets_of, read_packet};
 
 /// `packets_of LENGTH`: how many packets a section of so many bytes has.
-pub fn count(arguments: &str, answer: &mut String) -> Result<(), NoAnswer> {
-    match arguments.parse::<usize>() {
-        Ok(len) if 1 <= len && len <= 4096 => {
-            let count = packets_of(len);
-            Ok(write!(answer, " {count}")?)
-        }
-        _ => Err(NoAnswer::NoRow),
+pub fn count(row: &mut Row) {
+    let len = row.number() as usize;
+    if 1 <= len && len <= 4096 {
+        row.put_number(" ", u64::from(packets_of(len)));
+    } else {
+        row.refuse();
     }
 }
 
 /// `packets PID | SECTION`: the packets of the section, counted from 0.
-pub fn cut(alloc: Global, arguments: &str, answer: &mut String) -> Result<(), NoAnswer> {
-    let (pid, section) = halves(arguments)?;
-    let pid = word(pid.trim())?;
-    let section = bytes(alloc, section)?;
+pub fn cut(row: &mut Row) {
+    let pid = row.hex();
+    row.pass("|");
+    let section = row.bytes();
+    put_packets(row, pid, &section);
+}
+
+fn put_packets(row: &mut Row, pid: u16, section: &[u8]) {
     if pid >= 8192 || section.is_empty() || section.len() > 4096 {
-        return Err(NoAnswer::NoRow);
+        return row.refuse();
     }
     let mut counters = Counters::open();
     for index in 0..packets_of(section.len()) {
-        let mut packet = packet(pid, &section, index);
+        let mut packet = packet(pid, section, index);
         counters.stamp(&mut packet);
-        begin_part(answer)?;
-        append_bytes(answer, &packet.0)?;
+        row.begin_part();
+        row.put_bytes(&packet.0);
     }
-    Ok(())
 }
 
 /// `read_packet FRONT`: what the packet is that begins with these bytes.
-pub fn read(alloc: Global, arguments: &str, answer: &mut String) -> Result<(), NoAnswer> {
-    let packet = packet_of(alloc, arguments)?;
+pub fn read(row: &mut Row) {
+    let packet = packet_in(row);
     match read_packet(&packet) {
-        Ok(shape) => append_shape(answer, shape)?,
-        Err(BadPacket::Sync) => answer.push_str(" refused sync")?,
-    }
-    Ok(())
-}
-
-fn append_shape(answer: &mut String, shape: Shape) -> Result<(), AllocError> {
-    match shape {
-        Shape::Pass => answer.push_str(" pass"),
-        Shape::Gap(pid) => write!(answer, " gap pid {pid:04X}"),
-        Shape::Load {
-            pid,
-            start,
-            counter,
-            at,
-        } => {
-            let start = if start { "start" } else { "no start" };
-            write!(
-                answer,
-                " load pid {pid:04X} {start} counter {counter} at {at}"
-            )
+        Ok(Shape::Pass) => row.put(" pass"),
+        Ok(Shape::Gap(pid)) => row.put_hex(" gap pid ", pid),
+        Ok(
+            Shape::Load {
+                pid,
+                start,
+                counter,
+                at,
+            },
+        ) => {
+            row.put_hex(" load pid ", pid);
+            row.put(if start { " start" } else { " no start" });
+            row.put_number(" counter ", u64::from(counter));
+            row.put_number(" at ", u64::from(at));
         }
+        Err(BadPacket::Sync) => row.put(" refused sync"),
     }
 }
 
 /// The packet that begins with these bytes and is FF up to its end.
-pub fn packet_of(alloc: Global, front: &str) -> Result<[u8; 188], NoAnswer> {
-    let front = bytes(alloc, front)?;
-    if front.len() > 188 {
-        return Err(NoAnswer::NoRow);
-    }
+pub fn packet_in(row: &mut Row) -> [u8; 188] {
+    let front = row.bytes();
     let mut packet = [0xFF; 188];
-    let (place, _) = packet.split_at_mut(front.len());
-    place.copy_from_slice(&front);
-    Ok(packet)
+    if front.len() <= 188 {
+        let (place, _) = packet.split_at_mut(front.len());
+        place.copy_from_slice(&front);
+    } else {
+        row.refuse();
+    }
+    packet
 }

@@ -3,105 +3,97 @@ ghost use Rattle.std.specs.Prelude.{◌≡◌};
 ghost use Rattle.section_codec.specs.Section.{longest_body};
 ghost use Rattle.section_codec.specs.Tables.{has_long_form};
 
-use crate::fields::{halves, named, next, small};
-use crate::hex::{append_bytes, byte, bytes, word};
-use crate::row::NoAnswer;
+use crate::line::Row;
 use section_codec::{
     BadSection, Key, LongHeader, Section, eit_numbers, key_of, read_section, write_long,
     write_short,
 };
-use std::alloc::{AllocError, Global};
 
 /// `write_long HEADER | BODY`: the bytes of the section.
-pub fn long(alloc: Global, arguments: &str, answer: &mut String) -> Result<(), NoAnswer> {
-    let (header, body) = halves(arguments)?;
-    let header = header_of(header)?;
-    let body = bytes(alloc, body)?;
+pub fn long(row: &mut Row) {
+    let header = header(row);
+    let body = row.bytes();
     if header.table == 0x70
         || header.version >= 32
         || header.number > header.last
         || body.len() > longest_body(header.table)
     {
-        return Err(NoAnswer::NoRow);
+        return row.refuse();
     }
-    let section = write_long(alloc, &header, &body)?;
-    Ok(append_bytes(answer, section.as_slice())?)
+    match write_long(row.alloc(), &header, &body) {
+        Ok(section) => row.put_bytes(section.as_slice()),
+        Err(_) => row.lack_memory(),
+    }
 }
 
 /// `write_short TABLE | BODY`: the bytes of the section.
-pub fn short(alloc: Global, arguments: &str, answer: &mut String) -> Result<(), NoAnswer> {
-    let (table, body) = halves(arguments)?;
-    let table = byte(table.trim())?;
-    let body = bytes(alloc, body)?;
+pub fn short(row: &mut Row) {
+    let table = row.byte();
+    row.pass("|");
+    let body = row.bytes();
     if has_long_form(table) || body.len() > 4093 {
-        return Err(NoAnswer::NoRow);
+        return row.refuse();
     }
-    let section = write_short(alloc, table, &body)?;
-    Ok(append_bytes(answer, section.as_slice())?)
+    match write_short(row.alloc(), table, &body) {
+        Ok(section) => row.put_bytes(section.as_slice()),
+        Err(_) => row.lack_memory(),
+    }
 }
 
 /// `read_section BYTES`: the section, or why there is none.
-pub fn read(alloc: Global, arguments: &str, answer: &mut String) -> Result<(), NoAnswer> {
-    let bytes = bytes(alloc, arguments)?;
-    match read_section(alloc, &bytes) {
-        Ok(section) => Ok(append_section(answer, &section)?),
-        Err(bad) => refuse(answer, bad),
+pub fn read(row: &mut Row) {
+    let bytes = row.bytes();
+    match read_section(row.alloc(), &bytes) {
+        Ok(Section::Long(header, body)) => {
+            put_header(row, &header);
+            row.put_bytes(body.as_slice());
+        }
+        Ok(Section::Short(table, body)) => {
+            row.put_byte(" short ", table);
+            row.put(" |");
+            row.put_bytes(body.as_slice());
+        }
+        Err(bad) => put_refusal(row, bad),
     }
 }
 
-fn refuse(answer: &mut String, bad: BadSection) -> Result<(), NoAnswer> {
+fn put_refusal(row: &mut Row, bad: BadSection) {
     match bad {
-        BadSection::Length => answer.push_str(" refused length")?,
+        BadSection::Length => row.put(" refused length"),
         BadSection::Crc(kept, found) => {
-            write!(answer, " refused crc kept {kept:08X} found {found:08X}")?
+            row.put(" refused crc kept");
+            row.put_bytes(&kept.to_be_bytes());
+            row.put(" found");
+            row.put_bytes(&found.to_be_bytes());
         }
-        BadSection::Syntax => answer.push_str(" refused syntax")?,
-        BadSection::Memory => return Err(NoAnswer::Memory),
-    }
-    Ok(())
-}
-
-fn append_section(answer: &mut String, section: &Section) -> Result<(), AllocError> {
-    match section {
-        Section::Long(header, body) => {
-            append_header(answer, header)?;
-            answer.push_str(" |")?;
-            append_bytes(answer, body.as_slice())
-        }
-        Section::Short(table, body) => {
-            write!(answer, " short {table:02X} |")?;
-            append_bytes(answer, body.as_slice())
-        }
+        BadSection::Syntax => row.put(" refused syntax"),
+        BadSection::Memory => row.lack_memory(),
     }
 }
 
-fn append_header(answer: &mut String, header: &LongHeader) -> Result<(), AllocError> {
-    let LongHeader {
-        table,
-        ext,
-        version,
-        ..
-    } = *header;
-    let LongHeader { number, last, .. } = *header;
-    let current = if header.current { "current" } else { "next" };
-    write!(
-        answer,
-        " table {table:02X} extension {ext:04X} version {version}"
-    )?;
-    write!(answer, " {current} section {number} last {last}")
+fn put_header(row: &mut Row, header: &LongHeader) {
+    row.put_byte(" table ", header.table);
+    row.put_hex(" extension ", header.ext);
+    row.put_number(" version ", u64::from(header.version));
+    row.put(if header.current { " current" } else { " next" });
+    row.put_number(" section ", u64::from(header.number));
+    row.put_number(" last ", u64::from(header.last));
+    row.put(" |");
 }
 
-// `table 42 extension 0001 version 0 current section 0 last 0`.
-fn header_of(text: &str) -> Result<LongHeader, NoAnswer> {
-    let mut words = text.split_whitespace();
-    Ok(LongHeader {
-        table: byte(named(&mut words, "table")?)?,
-        ext: word(named(&mut words, "extension")?)?,
-        version: small(named(&mut words, "version")?)?,
-        current: next(&mut words)? == "current",
-        number: small(named(&mut words, "section")?)?,
-        last: small(named(&mut words, "last")?)?,
-    })
+// `table 42 extension 0001 version 0 current section 0 last 0 |`.
+fn header(row: &mut Row) -> LongHeader {
+    row.pass("table");
+    let header = LongHeader {
+        table: row.byte(),
+        ext: row.hex_of("extension"),
+        version: row.small("version"),
+        current: row.word() == "current",
+        number: row.small("section"),
+        last: row.small("last"),
+    };
+    row.pass("|");
+    header
 }
 
 // The longest body of a table's section in the long form.
@@ -123,42 +115,42 @@ fn has_long_form(table: u8) -> bool
 }
 
 /// `key_of PID | HEADER | BODY`: what names the sub-table.
-pub fn key(alloc: Global, arguments: &str, answer: &mut String) -> Result<(), NoAnswer> {
-    let (pid, behind) = halves(arguments)?;
-    let pid = word(pid.trim())?;
-    let (header, body) = halves(behind)?;
-    let header = header_of(header)?;
-    let body = bytes(alloc, body)?;
+pub fn key(row: &mut Row) {
+    let pid = row.hex();
+    row.pass("|");
+    let header = header(row);
+    let body = row.bytes();
     match key_of(pid, &header, &body) {
-        Some(key) => append_key(answer, &key)?,
-        None => answer.push_str(" none")?,
+        Some(key) => put_key(row, &key),
+        None => row.put(" none"),
     }
-    Ok(())
 }
 
 /// Appends a key.
-pub fn append_key(answer: &mut String, key: &Key) -> Result<(), AllocError> {
-    let Key {
-        pid,
-        table,
-        ext,
-        stream,
-        network,
-    } = *key;
-    write!(
-        answer,
-        " pid {pid:04X} table {table:02X} extension {ext:04X}"
-    )?;
-    write!(answer, " stream {stream:04X} network {network:04X}")
+pub fn put_key(row: &mut Row, key: &Key) {
+    row.put_hex(" pid ", key.pid);
+    row.put_byte(" table ", key.table);
+    row.put_hex(" extension ", key.ext);
+    row.put_hex(" stream ", key.stream);
+    row.put_hex(" network ", key.network);
 }
 
 /// `eit_numbers BODY`: segment_last_section_number and last_table_id.
-pub fn numbers(alloc: Global, arguments: &str, answer: &mut String) -> Result<(), NoAnswer> {
-    let body = bytes(alloc, arguments)?;
-    let header = header_of("table 50 extension 0001 version 0 current section 0 last 0")?;
+pub fn numbers(row: &mut Row) {
+    let body = row.bytes();
+    let header = LongHeader {
+        table: 0x50,
+        ext: 1,
+        version: 0,
+        current: true,
+        number: 0,
+        last: 0,
+    };
     match eit_numbers(&header, &body) {
-        Some((last, table)) => write!(answer, " segment_last {last} last_table {table:02X}")?,
-        None => answer.push_str(" none")?,
+        Some((last, table)) => {
+            row.put_number(" segment_last ", u64::from(last));
+            row.put_byte(" last_table ", table);
+        }
+        None => row.put(" none"),
     }
-    Ok(())
 }
