@@ -11,6 +11,3 @@ mod player;
 mod sending;
 
 pub use player::Player;
-
-#[cfg(test)]
-mod tests;

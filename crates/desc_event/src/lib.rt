@@ -27,6 +27,3 @@ pub use extended_event::{ExtendedPiece, read_extended_event, write_extended_even
 pub use laws::written_descriptors_read_back;
 pub use parental_rating::{Ratings, read_parental_rating, write_parental_rating};
 pub use short_event::{ShortEvent, read_short_event, write_short_event};
-
-#[cfg(test)]
-mod tests;

@@ -18,6 +18,3 @@ pub use eit::{Eit, EitHead};
 pub use laws::{events_are_typed, written_events_read_back};
 pub use reading::read_eit;
 pub use writing::write_eit;
-
-#[cfg(test)]
-mod tests;

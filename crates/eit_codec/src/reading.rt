@@ -7,7 +7,7 @@ ghost use Rattle.eit_codec.specs.Shows.{event_of};
 ghost use Rattle.eit_codec.specs.Eit.{head_bytes, IsEvent, AreEntries, IsEit};
 
 use crate::eit::{Eit, EitHead};
-use crate::shows::{genres_of, joined, pieces_in, rating_of, short_of};
+use crate::shows::{extended_of, genres_of, rating_of, short_of};
 use desc_event::{RawDesc, read_descriptors};
 use guide_model::{ScreenEvent, ScreenEvents};
 use si_base::Items;
@@ -152,8 +152,10 @@ fn event_of(
 ) -> Result<ScreenEvent, AllocError>
     ensures { IfOk result (λ event. event ≡ event_of id start.0 seconds descs.now) }
 {
+    let rating = rating_of(alloc, descs)?;
+    let genres = genres_of(alloc, descs)?;
     let short = short_of(alloc, descs)?;
-    let pieces = pieces_in(alloc, &short.language, descs)?;
+    let extended = extended_of(alloc, &short.language, descs)?;
     Ok(ScreenEvent {
         id,
         start,
@@ -161,8 +163,8 @@ fn event_of(
         language: short.language,
         name: short.name,
         short: short.short,
-        extended: joined(alloc, pieces.as_slice())?,
-        rating: rating_of(alloc, descs)?,
-        genres: genres_of(alloc, descs)?,
+        extended,
+        rating,
+        genres,
     })
 }

@@ -78,8 +78,20 @@ fn same_code(a: &[u8; 3], b: &[u8; 3]) -> bool
     a[0] == b[0] && a[1] == b[1] && a[2] == b[2]
 }
 
-/// The coded texts of the pieces in this language, in the order in which they stand.
-pub(crate) fn pieces_in(
+/// The extended text in this language.
+pub(crate) fn extended_of(
+    alloc: Global,
+    language: &[u8; 3],
+    descs: &[RawDesc],
+) -> Result<Shown, AllocError>
+    ensures { IfOk result (λ shown. shown ≡ joined (pieces_in language.now descs.now)) }
+{
+    let pieces = pieces_in(alloc, language, descs)?;
+    joined(alloc, pieces.as_slice())
+}
+
+// The coded texts of the pieces in this language, in the order in which they stand.
+fn pieces_in(
     alloc: Global,
     language: &[u8; 3],
     descs: &[RawDesc],
@@ -99,8 +111,8 @@ pub(crate) fn pieces_in(
     Ok(pieces)
 }
 
-/// The texts of pieces one after the other, or all their coded bytes where one is shown as Hex.
-pub(crate) fn joined(alloc: Global, pieces: &[Bytes]) -> Result<Shown, AllocError>
+// The texts of pieces one after the other, or all their coded bytes where one is shown as Hex.
+fn joined(alloc: Global, pieces: &[Bytes]) -> Result<Shown, AllocError>
     ensures { IfOk result (λ shown. shown ≡ joined pieces.now) }
 {
     let mut text = String::new(alloc);

@@ -1,6 +1,6 @@
 // Event information as it is written.
 ghost use Rattle.std.specs.Prelude.{◌≡◌, ◌<◌, ◌≤◌, ◌++◌, length, IfOk, OnOk};
-ghost use Rattle.std.specs.List.{All};
+ghost use Rattle.std.specs.List.{All, flat_map};
 ghost use Rattle.eit_codec.specs.Eit.{eit_body, head_bytes, written_bytes, IsCodable};
 
 use crate::eit::EitHead;
@@ -23,14 +23,30 @@ pub fn write_eit(
     ensures { IfOk result (λ body. body ≡ eit_body head.now status events.now) }
 {
     let mut out = Vec::new(alloc);
+    write_head(head, &mut out)?;
+    write_entries(status, events, &mut out)?;
+    Ok(Items::of(out))
+}
+
+// Appends the head; want of memory may leave a part of it.
+fn write_head(head: &EitHead, out: &mut Vec<u8>) -> Result<(), AllocError>
+    ensures { OnOk result (out.new.items ≡ out.old.items ++ head_bytes head.now) }
+{
     out.extend_from_slice(&head.stream.to_be_bytes())?;
     out.extend_from_slice(&head.original.to_be_bytes())?;
-    out.push(head.segment_last)?;
-    out.push(head.last_table)?;
+    out.extend_from_slice(&[head.segment_last, head.last_table])
+}
+
+// Appends the entries of events; want of memory may leave a part of them.
+fn write_entries(status: u8, events: &[Event], out: &mut Vec<u8>) -> Result<(), AllocError>
+    requires status { status < 8 }
+    requires events { All IsCodable events.now }
+    ensures { OnOk result (out.new.items ≡ out.old.items ++ flat_map (written_bytes status) events.now) }
+{
     for event in events {
-        write_entry(status, event, &mut out)?;
+        write_entry(status, event, out)?;
     }
-    Ok(Items::of(out))
+    Ok(())
 }
 
 // Appends the entry of an event; want of memory may leave a part of it.

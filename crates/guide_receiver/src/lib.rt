@@ -8,8 +8,6 @@
 mod counting;
 mod done;
 mod receiver;
-#[cfg(test)]
-mod tests;
 
 pub use done::{DoneKey, Dones, write_done};
 pub use receiver::{HearStop, Receiver};

@@ -17,6 +17,3 @@ mod slot;
 pub use demux::Demux;
 pub use laws::{carried_is_heard, order_is_kept};
 pub use section::{RawSection, RawSections};
-
-#[cfg(test)]
-mod tests;

@@ -1,0 +1,103 @@
+// Bodies of event information, both ways.
+ghost use Rattle.std.specs.Prelude.{IsTrue};
+ghost use Rattle.std.specs.List.{All};
+ghost use Rattle.eit_codec.specs.Eit.{IsCodable};
+
+use crate::events::{event, is_codable, put_event};
+use crate::line::{MOST, Row};
+use eit_codec::{Eit, EitHead, read_eit, write_eit};
+use guide_model::Event;
+use si_base::{Bytes, Items};
+
+/// `write_eit HEAD / EVENT / EVENT ..`: the body.
+pub fn write(row: &mut Row) {
+    let body = written(row);
+    row.put_bytes(body.as_slice());
+}
+
+/// `write_and_read_eit HEAD / EVENT / EVENT ..`: what the written body is read as.
+pub fn write_and_read(row: &mut Row) {
+    let body = written(row);
+    read(row, body.as_slice());
+}
+
+/// `read_eit BYTES`: the head and the events.
+pub fn read(row: &mut Row, bytes: &[u8]) {
+    match read_eit(row.alloc(), bytes) {
+        Ok(Some(eit)) => put_eit(row, &eit),
+        Ok(None) => row.put(" refused"),
+        Err(_) => row.lack_memory(),
+    }
+}
+
+fn put_eit(row: &mut Row, eit: &Eit) {
+    row.put_hex(" stream ", eit.head.stream);
+    row.put_hex(" network ", eit.head.original);
+    row.put_number(" segment_last ", u64::from(eit.head.segment_last));
+    row.put_byte(" last_table ", eit.head.last_table);
+    for event in eit.events.as_slice() {
+        row.put(" /");
+        put_event(row, event);
+    }
+}
+
+// The body that is written.
+fn written(row: &mut Row) -> Bytes {
+    let head = head(row);
+    let status = row.small("running_status");
+    let events = events(row);
+    if status >= 8 || !are_codable(&events) {
+        row.refuse();
+        return Items::new(row.alloc());
+    }
+    match write_eit(row.alloc(), &head, status, &events) {
+        Ok(body) => body,
+        Err(_) => {
+            row.lack_memory();
+            Items::new(row.alloc())
+        }
+    }
+}
+
+// `stream 0405 network 233A segment_last 7 last_table 51`.
+fn head(row: &mut Row) -> EitHead {
+    let stream = row.hex_of("stream");
+    let original = row.hex_of("network");
+    let segment_last = row.small("segment_last");
+    row.pass("last_table");
+    EitHead {
+        stream,
+        original,
+        segment_last,
+        last_table: row.byte(),
+    }
+}
+
+fn events(row: &mut Row) -> Vec<Event> {
+    let mut events = Vec::new(row.alloc());
+    let word = row.word();
+    if !row.is_end(word) {
+        row.refuse();
+    }
+    append_events(row, &mut events);
+    events
+}
+
+fn append_events(row: &mut Row, events: &mut Vec<Event>) {
+    for _ in 0..MOST {
+        if !row.goes_on() {
+            break;
+        }
+        if let Some(event) = event(row) {
+            if events.push(event).is_err() {
+                row.lack_memory();
+            }
+        }
+    }
+}
+
+fn are_codable(events: &[Event]) -> bool
+    ensures { IsTrue result → All IsCodable events.now }
+{
+    events.iter().all(is_codable)
+}

@@ -1,0 +1,120 @@
+// Completions of lists of sections.
+use crate::line::{MOST, Row};
+use section_codec::{Key, LongHeader};
+use si_base::{Bytes, Items};
+use std::alloc::{AllocError, Global};
+use sub_collect::Collector;
+
+/// `take SECTION / SECTION ..`: each section that shows a completion, and then the latest completions of tables 42 and 40. A section is
+/// its table, version, number and last number, and its body, as `42 v0 1/3 07`. Numbers from one to another have their number as
+/// body, as `42 v0 0-3/3`.
+pub fn take(row: &mut Row) {
+    let mut collector = Collector::open(row.alloc());
+    take_all(row, &mut collector);
+    put_latest(row, &collector, 0x42);
+    put_latest(row, &collector, 0x40);
+}
+
+fn take_all(row: &mut Row, collector: &mut Collector) {
+    let mut place = 0;
+    for _ in 0..MOST {
+        take_part(row, collector, &mut place);
+        if !row.goes_on() {
+            break;
+        }
+    }
+}
+
+// Sections of one table and version.
+#[derive(Clone, Copy)]
+struct Sections {
+    table: u8,
+    version: u8,
+    from: u8,
+    to: u8,
+    last: u8,
+}
+
+fn take_part(row: &mut Row, collector: &mut Collector, place: &mut u64) {
+    let sections = part(row);
+    let body = row.bytes();
+    for number in sections.from..=sections.to {
+        match take_one(row.alloc(), collector, sections, number, &body) {
+            Ok(Some(version)) => put_shown(row, *place, version),
+            Ok(None) => {}
+            Err(_) => row.lack_memory(),
+        }
+        *place = place.saturating_add(1);
+    }
+}
+
+fn put_shown(row: &mut Row, place: u64, version: u8) {
+    row.begin_part();
+    row.put_number(" at ", place);
+    row.put_number(" version ", u64::from(version));
+}
+
+fn take_one(
+    alloc: Global,
+    collector: &mut Collector,
+    sections: Sections,
+    number: u8,
+    body: &[u8],
+) -> Result<Option<u8>, AllocError> {
+    let header = LongHeader {
+        table: sections.table,
+        ext: 1,
+        version: sections.version,
+        current: true,
+        number,
+        last: sections.last,
+    };
+    let body = body_of(alloc, number, body)?;
+    collector.take(key_of(sections.table), &header, body)
+}
+
+// This body, or the number where it is empty.
+fn body_of(alloc: Global, number: u8, body: &[u8]) -> Result<Bytes, AllocError> {
+    if body.is_empty() {
+        return Ok(Items::of(Vec::from_slice(alloc, &[number])?));
+    }
+    Ok(Items::of(Vec::from_slice(alloc, body)?))
+}
+
+fn part(row: &mut Row) -> Sections {
+    let table = row.byte();
+    let version = row.word().strip_prefix('v').unwrap_or("");
+    let (numbers, last) = row.word().split_once('/').unwrap_or(("", ""));
+    let (from, to) = numbers.split_once('-').unwrap_or((numbers, numbers));
+    Sections {
+        table,
+        version: row.small_in(version),
+        from: row.small_in(from),
+        to: row.small_in(to),
+        last: row.small_in(last),
+    }
+}
+
+fn key_of(table: u8) -> Key {
+    Key {
+        pid: 0x11,
+        table,
+        ext: 1,
+        stream: 0,
+        network: 1,
+    }
+}
+
+fn put_latest(row: &mut Row, collector: &Collector, table: u8) {
+    let Some(completed) = collector.latest(key_of(table)) else {
+        return;
+    };
+    row.begin_part();
+    row.put_byte(" table ", table);
+    row.put_number(" version ", u64::from(completed.version));
+    for section in completed.sections.as_slice() {
+        row.put_number(" | ", u64::from(section.number));
+        row.put(":");
+        row.put_bytes(section.body.as_slice());
+    }
+}

@@ -1,0 +1,286 @@
+// Events and what they have, in the notation of rows.
+ghost use Rattle.std.specs.Prelude.{◌≤◌, length, IsTrue};
+ghost use Rattle.std.specs.List.{All};
+ghost use Rattle.desc_event.specs.Content.{HasNibbles};
+ghost use Rattle.eit_codec.specs.Eit.{IsCodable};
+
+use crate::line::{MOST, Row, quoted, repeated};
+use guide_model::{Event, Genre, Genres, Rating, ScreenEvent};
+use si_base::Items;
+use si_text::{Shown, Txt, coded_len};
+use si_time::{Moment, read_duration, read_moment, write_duration, write_moment};
+use std::alloc::{AllocError, Global};
+
+/// An event: its id, start, duration and language, its name and its short and extended text, its rating or `-`, and its genres or
+/// `-`, with bars between.
+pub fn event(row: &mut Row) -> Option<Event> {
+    let head = head_of(row);
+    let language = head.language;
+    let name = text_and_bar(row)?;
+    let short = text_and_bar(row)?;
+    let extended = text_and_bar(row)?;
+    let rating = rating(row);
+    row.pass("|");
+    Some(Event {
+        id: head.id,
+        start: head.start,
+        seconds: head.seconds,
+        language,
+        name,
+        short,
+        extended,
+        rating,
+        genres: genres(row),
+    })
+}
+
+// What an event has before its texts.
+#[derive(Clone, Copy)]
+struct Head {
+    id: u16,
+    start: Moment,
+    seconds: u32,
+    language: [u8; 3],
+}
+
+fn head_of(row: &mut Row) -> Head {
+    let id = row.number();
+    row.pass("|");
+    let start = moment(row);
+    row.pass("|");
+    let seconds = duration(row);
+    row.pass("|");
+    let language = code(row);
+    row.pass("|");
+    if id >= 65_536 {
+        row.refuse();
+    }
+    Head {
+        id: (id % 65_536) as u16,
+        start,
+        seconds,
+        language,
+    }
+}
+
+fn moment(row: &mut Row) -> Moment {
+    match read_moment(row.word().as_bytes()) {
+        Some(moment) => moment,
+        None => {
+            row.refuse();
+            Moment(0)
+        }
+    }
+}
+
+fn duration(row: &mut Row) -> u32 {
+    match read_duration(row.word().as_bytes()) {
+        Some(seconds) => seconds,
+        None => {
+            row.refuse();
+            0
+        }
+    }
+}
+
+/// A code of three letters.
+pub fn code(row: &mut Row) -> [u8; 3] {
+    let word = row.word();
+    code_in(row, word)
+}
+
+fn code_in(row: &mut Row, word: &str) -> [u8; 3] {
+    match word.as_bytes() {
+        [a, b, c] => [*a, *b, *c],
+        _ => {
+            row.refuse();
+            [0; 3]
+        }
+    }
+}
+
+fn text_and_bar(row: &mut Row) -> Option<Txt> {
+    let text = text(row);
+    row.pass("|");
+    text
+}
+
+/// A text in quotes without blanks; behind a star stands how often it comes.
+pub fn text(row: &mut Row) -> Option<Txt> {
+    let word = row.word();
+    match text_in(row.alloc(), word) {
+        Ok(Some(text)) => Some(text),
+        Ok(None) => {
+            row.refuse();
+            None
+        }
+        Err(_) => {
+            row.lack_memory();
+            None
+        }
+    }
+}
+
+fn text_in(alloc: Global, word: &str) -> Result<Option<Txt>, AllocError> {
+    let Some((unit, count)) = repeated(word) else {
+        return Ok(None);
+    };
+    let Some(unit) = quoted(unit) else {
+        return Ok(None);
+    };
+    let mut text = String::new(alloc);
+    for _ in 0..count {
+        text.push_str(unit)?;
+    }
+    Txt::of(alloc, text.as_str())
+}
+
+/// A rating, as `GBR 5`, or `-`.
+pub fn rating(row: &mut Row) -> Option<Rating> {
+    let word = row.word();
+    if word == "-" {
+        return None;
+    }
+    let country = code_in(row, word);
+    let value = row.word();
+    Some(Rating {
+        country,
+        value: row.small_in(value),
+    })
+}
+
+/// Genres up to the end, as `2.0.0`, each with a star and a number where it comes more than once; or `-`.
+pub fn genres(row: &mut Row) -> Genres {
+    let mut genres = Vec::new(row.alloc());
+    append_genres(row, &mut genres);
+    Items::of(genres)
+}
+
+fn append_genres(row: &mut Row, genres: &mut Vec<Genre>) {
+    for _ in 0..MOST {
+        let word = row.word();
+        if row.is_end(word) {
+            break;
+        }
+        if word != "-" {
+            append_genre(row, word, genres);
+        }
+    }
+}
+
+fn append_genre(row: &mut Row, word: &str, genres: &mut Vec<Genre>) {
+    let (unit, count) = repeated(word).unwrap_or(("", 1));
+    let genre = genre(row, unit);
+    for _ in 0..count {
+        if genres.push(genre).is_err() {
+            row.lack_memory();
+        }
+    }
+}
+
+fn genre(row: &mut Row, word: &str) -> Genre {
+    let (level1, behind) = word.split_once('.').unwrap_or(("", ""));
+    let (level2, user) = behind.split_once('.').unwrap_or(("", ""));
+    Genre {
+        level1: row.small_in(level1),
+        level2: row.small_in(level2),
+        user: row.small_in(user),
+    }
+}
+
+/// Whether the levels of all genres are below 16.
+pub fn have_nibbles(genres: &[Genre]) -> bool
+    ensures { IsTrue result → All HasNibbles genres.now }
+{
+    genres
+        .iter()
+        .all(|genre| genre.level1 < 16 && genre.level2 < 16)
+}
+
+/// Whether an event can be coded.
+pub fn is_codable(event: &Event) -> bool
+    ensures { IsTrue result → IsCodable event.now }
+{
+    event.start.0 < 65536 * 86400
+        && event.seconds < 360_000
+        && coded_len(event.name.as_str()) <= 100
+        && coded_len(event.short.as_str()) <= 150
+        && event.extended.as_str().len() <= 1000
+        && event.genres.len() <= 8
+        && have_nibbles(event.genres.as_slice())
+}
+
+/// Appends an event that is shown.
+pub fn put_event(row: &mut Row, event: &ScreenEvent) {
+    row.put_number(" ", u64::from(event.id));
+    row.put(" |");
+    put_times(row, event.start, event.seconds);
+    put_code(row, &event.language);
+    row.put(" |");
+    put_shown(row, &event.name);
+    row.put(" |");
+    put_shown(row, &event.short);
+    row.put(" |");
+    put_shown(row, &event.extended);
+    row.put(" |");
+    put_ratings(row, event.rating.as_slice());
+    row.put(" |");
+    put_genres(row, event.genres.as_slice());
+}
+
+fn put_times(row: &mut Row, start: Moment, seconds: u32) {
+    if start.0 >= 65_536 * 86_400 || seconds >= 360_000 {
+        return row.refuse();
+    }
+    put_letters(row, &write_moment(start));
+    row.put(" |");
+    put_letters(row, &write_duration(seconds));
+    row.put(" |");
+}
+
+fn put_letters(row: &mut Row, letters: &[u8]) {
+    row.put(" ");
+    for letter in letters {
+        row.put_char(char::from(*letter));
+    }
+}
+
+/// Appends a code of three letters.
+pub fn put_code(row: &mut Row, code: &[u8; 3]) {
+    put_letters(row, code);
+}
+
+/// Appends a text in quotes, or all its bytes where it is not shown as text.
+pub fn put_shown(row: &mut Row, shown: &Shown) {
+    match shown {
+        Shown::Text(text) => {
+            row.put(" \"");
+            row.put(text.as_str());
+            row.put("\"");
+        }
+        Shown::Hex(bytes) => row.put_bytes(bytes.as_slice()),
+    }
+}
+
+/// Appends genres, or `-` where there is none.
+pub fn put_genres(row: &mut Row, genres: &[Genre]) {
+    if genres.is_empty() {
+        row.put(" -");
+    }
+    for genre in genres {
+        row.put_number(" ", u64::from(genre.level1));
+        row.put_number(".", u64::from(genre.level2));
+        row.put_number(".", u64::from(genre.user));
+    }
+}
+
+/// Appends ratings, or `-` where there is none.
+pub fn put_ratings(row: &mut Row, ratings: &[Rating]) {
+    if ratings.is_empty() {
+        row.put(" -");
+    }
+    for rating in ratings {
+        put_code(row, &rating.country);
+        row.put_number(" ", u64::from(rating.value));
+    }
+}

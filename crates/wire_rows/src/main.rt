@@ -1,0 +1,89 @@
+//! The rows of the wire: reads rows of text on its standard input, and prints each with what its call gives. A blank line and a line
+//! that begins with `#` are printed as they are.
+//!
+//! `stdin` has the rows, and its head says how they are written; `stdout` has what they give, which stands there from the standards
+//! and not from this program.
+#![tactic(auto)]
+
+mod bodies;
+mod completions;
+mod descriptors;
+mod events;
+mod hearing;
+mod line;
+mod packets;
+mod playing;
+mod readings;
+mod sections;
+mod versions;
+
+use line::Row;
+use std::alloc::{AllocError, Global};
+use std::io;
+
+// Answers a row.
+fn answer(row: &mut Row) {
+    match row.word() {
+        "packets_of" => packets::count(row),
+        "packets" => packets::cut(row),
+        "read_packet" => packets::read(row),
+        "demux" => hearing::demux(row),
+        "receive" => hearing::receive(row),
+        "write_done" => hearing::line(row),
+        "assign" => versions::assign(row),
+        "take" => completions::take(row),
+        "play" => playing::play(row),
+        "play_into" => playing::play_into(row),
+        call => answer_of_section(row, call),
+    }
+}
+
+// The same of the calls on sections and bodies.
+fn answer_of_section(row: &mut Row, call: &str) {
+    match call {
+        "write_long" => sections::long(row),
+        "write_short" => sections::short(row),
+        "read_section" => sections::read(row),
+        "key_of" => sections::key(row),
+        "eit_numbers" => sections::numbers(row),
+        "write_eit" => bodies::write(row),
+        "write_and_read_eit" => bodies::write_and_read(row),
+        "fronts" => readings::fronts(row),
+        _ => answer_of_descriptor(row, call),
+    }
+}
+
+// The same of the calls on descriptors, and of what is read of bytes alone.
+fn answer_of_descriptor(row: &mut Row, call: &str) {
+    match call {
+        "write_content" => descriptors::content(row),
+        "write_parental_rating" => descriptors::parental_rating(row),
+        "write_short_event" => descriptors::short_event(row),
+        "write_extended_event" => descriptors::extended_event(row),
+        "event_len" => descriptors::event_size(row),
+        "write_event_descriptors" => descriptors::event_descriptors(row),
+        "event_descriptor_sizes" => descriptors::event_sizes(row),
+        _ => {
+            let bytes = row.bytes();
+            readings::read(row, call, &bytes);
+        }
+    }
+}
+
+// A line as it is printed.
+fn told(alloc: Global, line: &str) -> Result<String, AllocError> {
+    if line.is_empty() || line.starts_with('#') {
+        return String::from_str(alloc, line);
+    }
+    let mut row = Row::open(alloc, line);
+    answer(&mut row);
+    row.finish(line)
+}
+
+fn main(rt: HostRuntime) -> io::Result<()> {
+    for line in rt.lines(rt.alloc()) {
+        let text = told(rt.alloc(), line?.as_str())?;
+        println!(rt; "{text}")?;
+    }
+    Ok(())
+}

@@ -1,0 +1,70 @@
+// Packets: a section cut into them, and what a packet is.
+use crate::line::Row;
+use ts_packets::{BadPacket, Counters, Shape, packet, packets_of, read_packet};
+
+/// `packets_of LENGTH`: how many packets a section of so many bytes has.
+pub fn count(row: &mut Row) {
+    let len = row.number() as usize;
+    if 1 <= len && len <= 4096 {
+        row.put_number(" ", u64::from(packets_of(len)));
+    } else {
+        row.refuse();
+    }
+}
+
+/// `packets PID | SECTION`: the packets of the section, counted from 0.
+pub fn cut(row: &mut Row) {
+    let pid = row.hex();
+    row.pass("|");
+    let section = row.bytes();
+    put_packets(row, pid, &section);
+}
+
+fn put_packets(row: &mut Row, pid: u16, section: &[u8]) {
+    if pid >= 8192 || section.is_empty() || section.len() > 4096 {
+        return row.refuse();
+    }
+    let mut counters = Counters::open();
+    for index in 0..packets_of(section.len()) {
+        let mut packet = packet(pid, section, index);
+        counters.stamp(&mut packet);
+        row.begin_part();
+        row.put_bytes(&packet.0);
+    }
+}
+
+/// `read_packet FRONT`: what the packet is that begins with these bytes.
+pub fn read(row: &mut Row) {
+    let packet = packet_in(row);
+    match read_packet(&packet) {
+        Ok(Shape::Pass) => row.put(" pass"),
+        Ok(Shape::Gap(pid)) => row.put_hex(" gap pid ", pid),
+        Ok(
+            Shape::Load {
+                pid,
+                start,
+                counter,
+                at,
+            },
+        ) => {
+            row.put_hex(" load pid ", pid);
+            row.put(if start { " start" } else { " no start" });
+            row.put_number(" counter ", u64::from(counter));
+            row.put_number(" at ", u64::from(at));
+        }
+        Err(BadPacket::Sync) => row.put(" refused sync"),
+    }
+}
+
+/// The packet that begins with these bytes and is FF up to its end.
+pub fn packet_in(row: &mut Row) -> [u8; 188] {
+    let front = row.bytes();
+    let mut packet = [0xFF; 188];
+    if front.len() <= 188 {
+        let (place, _) = packet.split_at_mut(front.len());
+        place.copy_from_slice(&front);
+    } else {
+        row.refuse();
+    }
+    packet
+}

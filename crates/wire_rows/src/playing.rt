@@ -1,0 +1,122 @@
+// Cycles that are played.
+ghost use Rattle.std.specs.Prelude.{◌≤◌, length, IfOk};
+ghost use Rattle.carousel_player.specs.Playing.{AreFit};
+
+use crate::line::{MOST, Row};
+use carousel_player::Player;
+use section_codec::{Key, NumberedBody, SubTable, Tables, Tier3};
+use si_base::Items;
+use si_causes::MemSink;
+use si_time::Moment;
+use std::alloc::{AllocError, Global};
+
+/// `play BODY / BODY ..`: the packets of the cycles of an SDT of one section, with one body after the other.
+pub fn play(row: &mut Row) {
+    let mut player = Player::open(row.alloc(), 200);
+    play_all(row, &mut player);
+}
+
+fn play_all(row: &mut Row, player: &mut Player) {
+    for _ in 0..MOST {
+        let body = row.bytes();
+        swap(row, player, &body);
+        put_packets(row, player);
+        if !row.goes_on() {
+            break;
+        }
+    }
+}
+
+fn swap(row: &mut Row, player: &mut Player, body: &[u8]) {
+    if body.len() > 1012 || !player.at_end() {
+        return row.refuse();
+    }
+    let Ok(tables) = sdt(row.alloc(), body) else {
+        return row.lack_memory();
+    };
+    if player.swap(tables, 0, Moment(0)).is_err() {
+        row.lack_memory();
+    }
+}
+
+fn put_packets(row: &mut Row, player: &mut Player) {
+    for _ in 0..MOST {
+        let Some(packet) = player.next_packet() else {
+            break;
+        };
+        row.begin_part();
+        row.put_bytes(&packet.0);
+    }
+}
+
+/// `play_into SIZE FAULT COUNT | BODY`: so many packets of the cycle are taken, and then it is played into a sink that takes so many
+/// bytes at a call and fails once, at the call with that number from 0 on: whether that was done, what the sink has, and whether
+/// playing on then comes to the end.
+pub fn play_into(row: &mut Row) {
+    let size = (row.number() as usize).max(1);
+    let fault = row.number();
+    let mut player = Player::open(row.alloc(), 200);
+    take_first(row, &mut player);
+    match sink(row.alloc(), size, fault) {
+        Ok(mut sink) => put_played(row, &mut player, &mut sink),
+        Err(_) => row.lack_memory(),
+    }
+}
+
+fn take_first(row: &mut Row, player: &mut Player) {
+    let count = row.number();
+    row.pass("|");
+    let body = row.bytes();
+    swap(row, player, &body);
+    for _ in 0..count {
+        if player.next_packet().is_none() {
+            row.refuse();
+        }
+    }
+}
+
+fn sink(alloc: Global, size: usize, fault: u64) -> Result<MemSink, AllocError>
+    requires { 1 ≤ size }
+{
+    Ok(MemSink::open(alloc, size, Vec::from_slice(alloc, &[fault])?))
+}
+
+fn put_played(row: &mut Row, player: &mut Player, sink: &mut MemSink) {
+    row.put(if player.play_cycle(sink).is_ok() {
+        " done |"
+    } else {
+        " failed |"
+    });
+    row.put_bytes(sink.taken());
+    row.put(if player.play_cycle(sink).is_ok() && player.at_end() {
+        " / at its end"
+    } else {
+        " / not at its end"
+    });
+}
+
+// An SDT of one section with this body.
+fn sdt(alloc: Global, body: &[u8]) -> Result<Tables, AllocError>
+    requires { length body.now ≤ 1012 }
+    ensures { IfOk result (λ tables. AreFit tables.list) }
+{
+    let mut sections = Vec::new(alloc);
+    let body = Items::of(Vec::from_slice(alloc, body)?);
+    sections.push(NumberedBody { number: 0, body })?;
+    let key = Key {
+        pid: 0x11,
+        table: 0x42,
+        ext: 1,
+        stream: 0,
+        network: 1,
+    };
+    let mut list = Vec::new(alloc);
+    list.push(SubTable {
+        key,
+        tier: Tier3::Fast,
+        sections: Items::of(sections),
+    })?;
+    Ok(Tables {
+        list: Items::of(list),
+    })
+}

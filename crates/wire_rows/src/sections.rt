@@ -1,0 +1,156 @@
+// Sections both ways, and their keys.
+ghost use Rattle.std.specs.Prelude.{◌≡◌};
+ghost use Rattle.section_codec.specs.Section.{longest_body};
+ghost use Rattle.section_codec.specs.Tables.{has_long_form};
+
+use crate::line::Row;
+use section_codec::{
+    BadSection, Key, LongHeader, Section, eit_numbers, key_of, read_section, write_long,
+    write_short,
+};
+
+/// `write_long HEADER | BODY`: the bytes of the section.
+pub fn long(row: &mut Row) {
+    let header = header(row);
+    let body = row.bytes();
+    if header.table == 0x70
+        || header.version >= 32
+        || header.number > header.last
+        || body.len() > longest_body(header.table)
+    {
+        return row.refuse();
+    }
+    match write_long(row.alloc(), &header, &body) {
+        Ok(section) => row.put_bytes(section.as_slice()),
+        Err(_) => row.lack_memory(),
+    }
+}
+
+/// `write_short TABLE | BODY`: the bytes of the section.
+pub fn short(row: &mut Row) {
+    let table = row.byte();
+    row.pass("|");
+    let body = row.bytes();
+    if has_long_form(table) || body.len() > 4093 {
+        return row.refuse();
+    }
+    match write_short(row.alloc(), table, &body) {
+        Ok(section) => row.put_bytes(section.as_slice()),
+        Err(_) => row.lack_memory(),
+    }
+}
+
+/// `read_section BYTES`: the section, or why there is none.
+pub fn read(row: &mut Row) {
+    let bytes = row.bytes();
+    match read_section(row.alloc(), &bytes) {
+        Ok(Section::Long(header, body)) => {
+            put_header(row, &header);
+            row.put_bytes(body.as_slice());
+        }
+        Ok(Section::Short(table, body)) => {
+            row.put_byte(" short ", table);
+            row.put(" |");
+            row.put_bytes(body.as_slice());
+        }
+        Err(bad) => put_refusal(row, bad),
+    }
+}
+
+fn put_refusal(row: &mut Row, bad: BadSection) {
+    match bad {
+        BadSection::Length => row.put(" refused length"),
+        BadSection::Crc(kept, found) => {
+            row.put(" refused crc kept");
+            row.put_bytes(&kept.to_be_bytes());
+            row.put(" found");
+            row.put_bytes(&found.to_be_bytes());
+        }
+        BadSection::Syntax => row.put(" refused syntax"),
+        BadSection::Memory => row.lack_memory(),
+    }
+}
+
+fn put_header(row: &mut Row, header: &LongHeader) {
+    row.put_byte(" table ", header.table);
+    row.put_hex(" extension ", header.ext);
+    row.put_number(" version ", u64::from(header.version));
+    row.put(if header.current { " current" } else { " next" });
+    row.put_number(" section ", u64::from(header.number));
+    row.put_number(" last ", u64::from(header.last));
+    row.put(" |");
+}
+
+// `table 42 extension 0001 version 0 current section 0 last 0 |`.
+fn header(row: &mut Row) -> LongHeader {
+    row.pass("table");
+    let header = LongHeader {
+        table: row.byte(),
+        ext: row.hex_of("extension"),
+        version: row.small("version"),
+        current: row.word() == "current",
+        number: row.small("section"),
+        last: row.small("last"),
+    };
+    row.pass("|");
+    header
+}
+
+// The longest body of a table's section in the long form.
+fn longest_body(table: u8) -> usize
+    ensures { result ≡ longest_body table }
+{
+    if matches!(table, 0x4E..=0x6F) {
+        4084
+    } else {
+        1012
+    }
+}
+
+// Whether the sections of a table have the long form.
+fn has_long_form(table: u8) -> bool
+    ensures { result ≡ has_long_form table }
+{
+    matches!(table, 0x00 | 0x02 | 0x40 | 0x42 | 0x46 | 0x4E..=0x6F)
+}
+
+/// `key_of PID | HEADER | BODY`: what names the sub-table.
+pub fn key(row: &mut Row) {
+    let pid = row.hex();
+    row.pass("|");
+    let header = header(row);
+    let body = row.bytes();
+    match key_of(pid, &header, &body) {
+        Some(key) => put_key(row, &key),
+        None => row.put(" none"),
+    }
+}
+
+/// Appends a key.
+pub fn put_key(row: &mut Row, key: &Key) {
+    row.put_hex(" pid ", key.pid);
+    row.put_byte(" table ", key.table);
+    row.put_hex(" extension ", key.ext);
+    row.put_hex(" stream ", key.stream);
+    row.put_hex(" network ", key.network);
+}
+
+/// `eit_numbers BODY`: segment_last_section_number and last_table_id.
+pub fn numbers(row: &mut Row) {
+    let body = row.bytes();
+    let header = LongHeader {
+        table: 0x50,
+        ext: 1,
+        version: 0,
+        current: true,
+        number: 0,
+        last: 0,
+    };
+    match eit_numbers(&header, &body) {
+        Some((last, table)) => {
+            row.put_number(" segment_last ", u64::from(last));
+            row.put_byte(" last_table ", table);
+        }
+        None => row.put(" none"),
+    }
+}

@@ -1,0 +1,74 @@
+// Versions of lists of contents.
+ghost use Rattle.std.specs.Prelude.{◌≡◌, IfOk};
+ghost use Rattle.version_book.specs.Book.{KeysDiffer};
+
+use crate::line::{MOST, Row};
+use section_codec::{Key, NumberedBody, SubTable, Tables, Tier3};
+use si_base::Items;
+use std::alloc::{AllocError, Global};
+use version_book::VersionBook;
+
+/// `assign AIRING / AIRING ..`: the versions of each airing's sub-tables. An airing is the byte of table 50 and, where it is aired,
+/// that of table 51.
+pub fn assign(row: &mut Row) {
+    let mut book = VersionBook::open(row.alloc());
+    assign_all(row, &mut book);
+}
+
+fn assign_all(row: &mut Row, book: &mut VersionBook) {
+    for _ in 0..MOST {
+        let bytes = row.bytes();
+        row.begin_part();
+        match versions(row.alloc(), book, &bytes) {
+            Ok(versions) => put_versions(row, versions.as_slice()),
+            Err(_) => row.lack_memory(),
+        }
+        if !row.goes_on() {
+            break;
+        }
+    }
+}
+
+fn put_versions(row: &mut Row, versions: &[u8]) {
+    for version in versions {
+        row.put_number(" ", u64::from(*version));
+    }
+}
+
+fn versions(alloc: Global, book: &mut VersionBook, bytes: &[u8]) -> Result<Items<u8>, AllocError> {
+    let tables = airing(alloc, bytes)?;
+    book.assign(&tables)
+}
+
+fn airing(alloc: Global, bytes: &[u8]) -> Result<Tables, AllocError>
+    ensures { IfOk result (λ tables. KeysDiffer tables.list) }
+{
+    let mut list = Items::new(alloc);
+    if let Some(first) = bytes.first() {
+        list.push(sub_table(alloc, 0x50, *first)?)?;
+        if let Some(second) = bytes.get(1) {
+            list.push(sub_table(alloc, 0x51, *second)?)?;
+        }
+    }
+    Ok(Tables { list })
+}
+
+// A sub-table of one section with this byte.
+fn sub_table(alloc: Global, table: u8, byte: u8) -> Result<SubTable, AllocError>
+    ensures { IfOk result (λ sub_table. sub_table.key.table ≡ table) }
+{
+    let body = Items::of(Vec::from_slice(alloc, &[byte])?);
+    let mut sections = Items::new(alloc);
+    sections.push(NumberedBody { number: 0, body })?;
+    Ok(SubTable {
+        key: Key {
+            pid: 0x12,
+            table,
+            ext: 101,
+            stream: 1,
+            network: 1,
+        },
+        tier: Tier3::Near,
+        sections,
+    })
+}
