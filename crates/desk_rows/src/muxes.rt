@@ -1,0 +1,143 @@
+// What descriptions of a multiplex give.
+use crate::lines::Lines;
+use crate::words::{put_bytes, put_moment, put_quoted, put_read_stop};
+use guide_model::{Cable, Component};
+use mux_config::{Mux, MuxFault, MuxService, MuxStop, Word, read_mux};
+use std::alloc::{AllocError, Global};
+
+fn put_fault(out: &mut String, fault: MuxFault) -> Result<(), AllocError> {
+    match fault {
+        MuxFault::Line(line) => write!(out, "line {line} is no record"),
+        MuxFault::Range(line) => write!(out, "line {line} is out of range"),
+        MuxFault::Twice(line, earlier) => write!(out, "line {line} repeats line {earlier}"),
+        MuxFault::Missing(word) => put_missing(out, word),
+    }
+}
+
+fn put_missing(out: &mut String, word: Word) -> Result<(), AllocError> {
+    out.push_str(match word {
+        Word::Network => "network missing",
+        Word::Stream => "stream missing",
+        Word::Service => "service missing",
+        Word::End => "end missing",
+    })
+}
+
+fn put_stop(out: &mut String, stop: MuxStop) -> Result<(), AllocError> {
+    match stop {
+        MuxStop::Fault(fault) => put_fault(out, fault),
+        MuxStop::Read(stop) => put_read_stop(out, stop),
+        MuxStop::Memory => Err(AllocError),
+    }
+}
+
+fn put_cable(out: &mut String, cable: &Cable) -> Result<(), AllocError> {
+    let (frequency, modulation, rate) = (cable.frequency, cable.modulation, cable.symbol_rate);
+    let (outer, inner) = (cable.fec_outer, cable.fec_inner);
+    write!(
+        out,
+        "; cable frequency {frequency}, modulation {modulation}, symbol rate {rate}, outer {outer}, inner {inner}"
+    )
+}
+
+fn put_component(out: &mut String, component: &Component) -> Result<(), AllocError> {
+    let (kind, pid) = (component.stream_type, component.pid);
+    write!(out, ", component {pid} of type {kind}")?;
+    match &component.language {
+        Some(language) => {
+            out.push_str(" in ")?;
+            put_bytes(out, language)
+        }
+        None => Ok(()),
+    }
+}
+
+// The components of a service; of more than nine their number.
+fn put_components(out: &mut String, components: &[Component]) -> Result<(), AllocError> {
+    let count = components.len();
+    if 9 < count {
+        return write!(out, ", {count} components");
+    }
+    for component in components {
+        put_component(out, component)?;
+    }
+    Ok(())
+}
+
+fn put_service(out: &mut String, service: &MuxService) -> Result<(), AllocError> {
+    let (number, feed, kind) = (service.service, service.feed, service.kind);
+    let (pmt, pcr) = (service.pmt_pid, service.pcr_pid);
+    write!(
+        out,
+        "; service {number} of feed {feed}, type {kind}, PMT {pmt}, PCR {pcr}, "
+    )?;
+    put_quoted(out, service.provider.as_str())?;
+    out.push(' ')?;
+    put_quoted(out, service.name.as_str())?;
+    put_components(out, service.components.as_slice())
+}
+
+// The services; of more than nine their number and the last.
+fn put_services(out: &mut String, services: &[MuxService]) -> Result<(), AllocError> {
+    let count = services.len();
+    let shown = match services {
+        [.., last] if 9 < count => {
+            write!(out, "; {count} services")?;
+            std::slice::from_ref(last)
+        }
+        _ => services,
+    };
+    for service in shown {
+        put_service(out, service)?;
+    }
+    Ok(())
+}
+
+// A multiplex without its services.
+fn put_head(out: &mut String, mux: &Mux) -> Result<(), AllocError> {
+    let (network, stream, original, quota) = (mux.network, mux.stream, mux.original, mux.quota);
+    write!(out, "network {network} ")?;
+    put_quoted(out, mux.network_name.as_str())?;
+    write!(out, "; stream {stream} of {original}")?;
+    if let Some(cable) = &mux.cable {
+        put_cable(out, cable)?;
+    }
+    out.push_str("; start ")?;
+    put_moment(out, mux.start)?;
+    write!(out, "; quota {quota}")
+}
+
+// The copy of a multiplex.
+fn put_copy(out: &mut String, mux: &Mux) -> Result<(), AllocError> {
+    let copy = mux.copy()?;
+    put_mux(out, &copy)
+}
+
+fn put_mux(out: &mut String, mux: &Mux) -> Result<(), AllocError> {
+    put_head(out, mux)?;
+    put_services(out, mux.services.as_slice())
+}
+
+// The line behind the description, where there is one.
+fn put_behind(lines: &mut Lines, out: &mut String) -> Result<(), AllocError> {
+    match lines.next() {
+        Ok(Some(number)) => {
+            write!(out, "; line {number} is ahead: ")?;
+            put_bytes(out, lines.line())
+        }
+        Ok(None) => Ok(()),
+        Err(stop) => {
+            out.push_str("; ")?;
+            put_read_stop(out, stop)
+        }
+    }
+}
+
+/// Appends what the description gives.
+pub fn tell(alloc: Global, lines: &mut Lines, out: &mut String) -> Result<(), AllocError> {
+    match read_mux(alloc, lines) {
+        Ok(mux) => put_copy(out, &mux)?,
+        Err(stop) => return put_stop(out, stop),
+    }
+    put_behind(lines, out)
+}
