@@ -1,13 +1,14 @@
 // What a feed book replies to edits, and what stands behind them.
 ghost use Rattle.journal_text.specs.Script.{IsItemWithin};
+ghost use Rattle.mux_config.specs.Sound.{IsSound};
 
 use crate::events::put_guide;
 use crate::lines::{Lines, WHOLE, reader};
 use crate::words::{put_last, put_reply};
 use desk_core::Step;
-use feed_book::Book;
+use feed_book::{Book, Reply};
 use journal_text::{ScriptItem, next_item};
-use mux_config::read_mux;
+use mux_config::{Mux, read_mux};
 use page_share::PageGuide;
 use si_time::Moment;
 use std::alloc::{AllocError, Global};
@@ -19,13 +20,27 @@ const AT: Moment = Moment(4_257_233_100);
 const TWO_SERVICES: &str =
     "network,40,Demo/stream,1,1/service,101,1,1,256,256,Acme,One/service,102,2,1,257,257,Acme,Two/end/";
 
+fn book_of(alloc: Global, mux: &Mux) -> Result<Option<Book>, AllocError>
+    requires { IsSound mux.now }
+{
+    let book = Book::open(alloc, mux)?;
+    Ok(Some(book))
+}
+
 /// The book of the multiplex of a description.
 pub fn opened(alloc: Global, description: &str) -> Result<Option<Book>, AllocError> {
     let mut lines = reader(alloc, description, WHOLE)?;
     match read_mux(alloc, &mut lines) {
-        Ok(mux) => Ok(Some(Book::open(alloc, &mux)?)),
+        Ok(mux) => book_of(alloc, &mux),
         Err(_) => Ok(None),
     }
+}
+
+// Appends a reply, behind which there may be more.
+fn put_next(out: &mut String, reply: Reply) -> Result<bool, AllocError> {
+    put_reply(out, reply)?;
+    out.push_str("; ")?;
+    Ok(true)
 }
 
 // Appends the reply to an edit; whether there may be more.
@@ -36,9 +51,7 @@ fn reply_to(book: &mut Book, item: &ScriptItem, out: &mut String) -> Result<bool
         return Ok(false);
     };
     let reply = book.edit(*feed, edit)?;
-    put_reply(out, reply)?;
-    out.push_str("; ")?;
-    Ok(true)
+    put_next(out, reply)
 }
 
 // Appends the reply to the next edit, or the stop; whether there may be more.

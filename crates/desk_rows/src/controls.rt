@@ -1,24 +1,26 @@
 // What control lines give.
 use crate::lines::Lines;
-use crate::words::{put_end, put_last, put_moment};
+use crate::words::{moment_text, put_end, put_last, text_of};
 use desk_core::{Control, next_control};
+use si_time::Moment;
 use std::alloc::{AllocError, Global};
 
-fn put_control(out: &mut String, control: Control) -> Result<(), AllocError> {
-    match control {
-        Control::Tick(at) => {
-            out.push_str("tick ")?;
-            put_moment(out, at)
-        }
-        Control::Publish => out.push_str("publish"),
-    }
+fn put_tick(out: &mut String, at: Moment) -> Result<bool, AllocError> {
+    let at = moment_text(at);
+    let at = text_of(&at);
+    write!(out, "tick {at}; ")?;
+    Ok(true)
 }
 
-// Appends a control behind which there may be more.
+// Appends a control, behind which there may be more.
 fn put_next(out: &mut String, control: Control) -> Result<bool, AllocError> {
-    put_control(out, control)?;
-    out.push_str("; ")?;
-    Ok(true)
+    match control {
+        Control::Tick(at) => put_tick(out, at),
+        Control::Publish => {
+            out.push_str("publish; ")?;
+            Ok(true)
+        }
+    }
 }
 
 // Appends the next control, or the stop; whether there may be more.

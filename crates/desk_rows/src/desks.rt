@@ -1,23 +1,32 @@
 // What a desk answers to the steps of a script, and what is on air behind them.
 ghost use Rattle.desk_core.specs.Steps.{IsStepWithin};
+ghost use Rattle.mux_config.specs.Sound.{IsSound};
 
 use crate::events::put_service;
 use crate::lines::{Lines, WHOLE, reader};
-use crate::words::{put_last, put_moment, put_outcome};
+use crate::words::{moment_text, put_last, put_outcome, text_of};
 use desk_core::{Airing, Desk, Outcome, Step};
 use journal_text::{ScriptItem, next_item};
-use mux_config::read_mux;
+use mux_config::{Mux, read_mux};
 use page_share::PageGuide;
+use si_time::Moment;
 use std::alloc::{AllocError, Global};
 
 // Service 101 of feed 1; the desk starts on 13 October 1993 at 12:45.
 const ONE_SERVICE: &str =
     "network,40,Demo/stream,1,1/service,101,1,1,256,257,Acme,One/start,1993-10-13T12:45:00Z/end/";
 
+fn desk_of(alloc: Global, mux: Mux) -> Result<Option<Desk>, AllocError>
+    requires { IsSound mux }
+{
+    let desk = Desk::open(alloc, mux)?;
+    Ok(Some(desk))
+}
+
 fn opened(alloc: Global) -> Result<Option<Desk>, AllocError> {
     let mut lines = reader(alloc, ONE_SERVICE, WHOLE)?;
     match read_mux(alloc, &mut lines) {
-        Ok(mux) => Ok(Some(Desk::open(alloc, mux)?)),
+        Ok(mux) => desk_of(alloc, mux),
         Err(_) => Ok(None),
     }
 }
@@ -62,12 +71,19 @@ fn put_services(out: &mut String, guide: &PageGuide) -> Result<(), AllocError> {
 
 // Appends the number, the moments and the services of an airing.
 fn put_airing(out: &mut String, airing: &Airing) -> Result<(), AllocError> {
-    let number = airing.number;
-    write!(out, "publication {number} at ")?;
-    put_moment(out, airing.moment)?;
-    out.push_str(", made at ")?;
-    put_moment(out, airing.guide.moment())?;
+    let (at, made) = (
+        moment_text(airing.moment),
+        moment_text(airing.guide.moment()),
+    );
+    let (number, at, made) = (airing.number, text_of(&at), text_of(&made));
+    write!(out, "publication {number} at {at}, made at {made}")?;
     put_services(out, &airing.guide)
+}
+
+fn put_now(out: &mut String, now: Moment) -> Result<(), AllocError> {
+    let now = moment_text(now);
+    let now = text_of(&now);
+    write!(out, "; now {now}")
 }
 
 fn put_on_air(desk: &Desk, out: &mut String) -> Result<(), AllocError> {
@@ -85,8 +101,7 @@ fn put_state(desk: &Desk, out: &mut String) -> Result<(), AllocError> {
     put_on_air(desk, out)?;
     out.push_str("; latest ")?;
     put_latest(desk, out)?;
-    out.push_str("; now ")?;
-    put_moment(out, desk.now())
+    put_now(out, desk.now())
 }
 
 fn tell_desk(

@@ -1,6 +1,6 @@
 // What lines of edits give.
 use crate::lines::Lines;
-use crate::words::{put_bytes, put_edit_stop, put_end, put_last, put_quoted};
+use crate::words::{put_edit_stop, put_end, put_last, text_of};
 use feed_edits::{Edit, Item, RawRating, next_edit, read_edit};
 use guide_model::Genre;
 use input_lines::{LineFields, fields};
@@ -13,45 +13,23 @@ pub fn put_genre(out: &mut String, genre: &Genre) -> Result<(), AllocError> {
 }
 
 fn put_rating(out: &mut String, rating: &RawRating) -> Result<(), AllocError> {
-    let value = rating.value;
-    out.push_str(", rated ")?;
-    put_quoted(out, rating.country.as_str())?;
-    write!(out, " {value}")
+    let (country, value) = (rating.country.as_str(), rating.value);
+    write!(out, ", rated \"{country}\" {value}")
 }
 
-/// Appends the three texts of an event.
-pub fn put_texts(
-    out: &mut String,
-    name: &str,
-    short: &str,
-    extended: &str,
-) -> Result<(), AllocError> {
-    put_quoted(out, name)?;
-    out.push(' ')?;
-    put_quoted(out, short)?;
-    out.push(' ')?;
-    put_quoted(out, extended)
-}
-
-fn put_times(out: &mut String, item: &Item) -> Result<(), AllocError> {
-    let id = item.id;
-    write!(out, " event {id} at ")?;
-    put_bytes(out, &item.start.0)?;
-    out.push_str(" for ")?;
-    put_bytes(out, &item.length.0)
+// An item without its rating and its genres.
+fn put_front(out: &mut String, item: &Item) -> Result<(), AllocError> {
+    let (id, start, length) = (item.id, text_of(&item.start.0), text_of(&item.length.0));
+    let (language, name) = (item.language.as_str(), item.name.as_str());
+    let (short, extended) = (item.short.as_str(), item.extended.as_str());
+    write!(
+        out,
+        " event {id} at {start} for {length} in \"{language}\" \"{name}\" \"{short}\" \"{extended}\""
+    )
 }
 
 fn put_item(out: &mut String, item: &Item) -> Result<(), AllocError> {
-    put_times(out, item)?;
-    out.push_str(" in ")?;
-    put_quoted(out, item.language.as_str())?;
-    out.push(' ')?;
-    put_texts(
-        out,
-        item.name.as_str(),
-        item.short.as_str(),
-        item.extended.as_str(),
-    )?;
+    put_front(out, item)?;
     if let Some(rating) = &item.rating {
         put_rating(out, rating)?;
     }
@@ -61,9 +39,18 @@ fn put_item(out: &mut String, item: &Item) -> Result<(), AllocError> {
     Ok(())
 }
 
+fn put_put(out: &mut String, service: u16, item: &Item) -> Result<(), AllocError> {
+    write!(out, "put on {service}")?;
+    put_item(out, item)
+}
+
+fn put_name(out: &mut String, service: u16, provider: &str, name: &str) -> Result<(), AllocError> {
+    write!(out, "name {service} \"{provider}\" \"{name}\"")
+}
+
 fn put_day(out: &mut String, service: u16, day: &[u8], items: &[Item]) -> Result<(), AllocError> {
-    write!(out, "day of {service} ")?;
-    put_bytes(out, day)?;
+    let day = text_of(day);
+    write!(out, "day of {service} {day}")?;
     for item in items {
         out.push(':')?;
         put_item(out, item)?;
@@ -74,17 +61,11 @@ fn put_day(out: &mut String, service: u16, day: &[u8], items: &[Item]) -> Result
 /// Appends an edit.
 pub fn put_edit(out: &mut String, edit: &Edit) -> Result<(), AllocError> {
     match edit {
-        Edit::Put(service, item) => {
-            write!(out, "put on {service}")?;
-            put_item(out, item)
-        }
+        Edit::Put(service, item) => put_put(out, *service, item),
         Edit::Withdraw(service, event) => write!(out, "withdraw from {service} event {event}"),
         Edit::Clear(service) => write!(out, "clear {service}"),
         Edit::Name(service, provider, name) => {
-            write!(out, "name {service} ")?;
-            put_quoted(out, provider.as_str())?;
-            out.push(' ')?;
-            put_quoted(out, name.as_str())
+            put_name(out, *service, provider.as_str(), name.as_str())
         }
         Edit::Day(service, day, items) => put_day(out, *service, &day.0, items.as_slice()),
     }

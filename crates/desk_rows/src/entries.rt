@@ -5,6 +5,7 @@ ghost use Rattle.journal_text.specs.Entries.{IsEntryInWindow};
 ghost use Rattle.journal_text.specs.Outcomes.{IsInWindow};
 
 use crate::lines::Lines;
+use crate::words::text_of;
 use desk_core::{Entry, Outcome};
 use journal_text::{ScriptItem, next_item, write_entry};
 use std::alloc::{AllocError, Global};
@@ -22,10 +23,7 @@ fn put_entry(alloc: Global, entry: &Entry, out: &mut String) -> Result<(), Alloc
 {
     let mut text = Vec::new(alloc);
     write_entry(alloc, entry, &mut text)?;
-    match str::from_utf8(&text) {
-        Ok(text) => put_lines(out, text),
-        Err(_) => out.push_str("no UTF-8"),
-    }
+    put_lines(out, text_of(&text))
 }
 
 // The outcome that is the next item.

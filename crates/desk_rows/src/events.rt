@@ -1,33 +1,28 @@
 // Guides in words.
-use crate::edits::{put_genre, put_texts};
-use crate::words::{put_bytes, put_moment, put_quoted};
+use crate::edits::put_genre;
+use crate::words::{moment_text, text_of};
 use guide_model::{Event, Guide, Rating, ServiceGuide};
 use std::alloc::AllocError;
 
 fn put_rating(out: &mut String, rating: &Rating) -> Result<(), AllocError> {
-    let value = rating.value;
-    out.push_str(", rated ")?;
-    put_bytes(out, &rating.country)?;
-    write!(out, " {value}")
+    let (country, value) = (text_of(&rating.country), rating.value);
+    write!(out, ", rated {country} {value}")
 }
 
-fn put_times(out: &mut String, event: &Event) -> Result<(), AllocError> {
-    let (id, seconds) = (event.id, event.seconds);
-    write!(out, ": event {id} at ")?;
-    put_moment(out, event.start)?;
-    write!(out, " for {seconds} s in ")?;
-    put_bytes(out, &event.language)
+// An event without its rating and its genres.
+fn put_front(out: &mut String, event: &Event) -> Result<(), AllocError> {
+    let at = moment_text(event.start);
+    let (id, at, seconds) = (event.id, text_of(&at), event.seconds);
+    let (language, name) = (text_of(&event.language), event.name.as_str());
+    let (short, extended) = (event.short.as_str(), event.extended.as_str());
+    write!(
+        out,
+        ": event {id} at {at} for {seconds} s in {language} \"{name}\" \"{short}\" \"{extended}\""
+    )
 }
 
 fn put_event(out: &mut String, event: &Event) -> Result<(), AllocError> {
-    put_times(out, event)?;
-    out.push(' ')?;
-    put_texts(
-        out,
-        event.name.as_str(),
-        event.short.as_str(),
-        event.extended.as_str(),
-    )?;
+    put_front(out, event)?;
     if let Some(rating) = &event.rating {
         put_rating(out, rating)?;
     }
@@ -52,17 +47,16 @@ fn put_events(out: &mut String, events: &[Event]) -> Result<(), AllocError> {
 /// Appends the names and events of a service.
 pub fn put_service(out: &mut String, service: &ServiceGuide) -> Result<(), AllocError> {
     let number = service.service;
-    write!(out, "; service {number} ")?;
-    put_quoted(out, service.provider.as_str())?;
-    out.push(' ')?;
-    put_quoted(out, service.name.as_str())?;
+    let (provider, name) = (service.provider.as_str(), service.name.as_str());
+    write!(out, "; service {number} \"{provider}\" \"{name}\"")?;
     put_events(out, service.events.as_slice())
 }
 
 /// Appends a guide.
 pub fn put_guide(out: &mut String, guide: &Guide) -> Result<(), AllocError> {
-    out.push_str("guide of ")?;
-    put_moment(out, guide.moment)?;
+    let at = moment_text(guide.moment);
+    let at = text_of(&at);
+    write!(out, "guide of {at}")?;
     for service in guide.services.as_slice() {
         put_service(out, service)?;
     }

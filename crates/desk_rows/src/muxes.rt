@@ -1,8 +1,9 @@
 // What descriptions of a multiplex give.
 use crate::lines::Lines;
-use crate::words::{put_bytes, put_moment, put_quoted, put_read_stop};
+use crate::words::{moment_text, put_read_stop, text_of};
 use guide_model::{Cable, Component};
 use mux_config::{Mux, MuxFault, MuxService, MuxStop, Word, read_mux};
+use si_causes::ReadStop;
 use std::alloc::{AllocError, Global};
 
 fn put_fault(out: &mut String, fault: MuxFault) -> Result<(), AllocError> {
@@ -42,13 +43,12 @@ fn put_cable(out: &mut String, cable: &Cable) -> Result<(), AllocError> {
 
 fn put_component(out: &mut String, component: &Component) -> Result<(), AllocError> {
     let (kind, pid) = (component.stream_type, component.pid);
-    write!(out, ", component {pid} of type {kind}")?;
     match &component.language {
         Some(language) => {
-            out.push_str(" in ")?;
-            put_bytes(out, language)
+            let language = text_of(language);
+            write!(out, ", component {pid} of type {kind} in {language}")
         }
-        None => Ok(()),
+        None => write!(out, ", component {pid} of type {kind}"),
     }
 }
 
@@ -67,44 +67,54 @@ fn put_components(out: &mut String, components: &[Component]) -> Result<(), Allo
 fn put_service(out: &mut String, service: &MuxService) -> Result<(), AllocError> {
     let (number, feed, kind) = (service.service, service.feed, service.kind);
     let (pmt, pcr) = (service.pmt_pid, service.pcr_pid);
+    let (provider, name) = (service.provider.as_str(), service.name.as_str());
     write!(
         out,
-        "; service {number} of feed {feed}, type {kind}, PMT {pmt}, PCR {pcr}, "
+        "; service {number} of feed {feed}, type {kind}, PMT {pmt}, PCR {pcr}, \"{provider}\" \"{name}\""
     )?;
-    put_quoted(out, service.provider.as_str())?;
-    out.push(' ')?;
-    put_quoted(out, service.name.as_str())?;
     put_components(out, service.components.as_slice())
 }
 
 // The services; of more than nine their number and the last.
 fn put_services(out: &mut String, services: &[MuxService]) -> Result<(), AllocError> {
     let count = services.len();
-    let shown = match services {
-        [.., last] if 9 < count => {
-            write!(out, "; {count} services")?;
-            std::slice::from_ref(last)
-        }
-        _ => services,
-    };
-    for service in shown {
+    if let [.., last] = services
+        && 9 < count
+    {
+        write!(out, "; {count} services")?;
+        return put_service(out, last);
+    }
+    for service in services {
         put_service(out, service)?;
     }
     Ok(())
 }
 
-// A multiplex without its services.
-fn put_head(out: &mut String, mux: &Mux) -> Result<(), AllocError> {
-    let (network, stream, original, quota) = (mux.network, mux.stream, mux.original, mux.quota);
-    write!(out, "network {network} ")?;
-    put_quoted(out, mux.network_name.as_str())?;
-    write!(out, "; stream {stream} of {original}")?;
-    if let Some(cable) = &mux.cable {
-        put_cable(out, cable)?;
+// The network and the stream.
+fn put_stream(out: &mut String, mux: &Mux) -> Result<(), AllocError> {
+    let (network, stream, original) = (mux.network, mux.stream, mux.original);
+    let name = mux.network_name.as_str();
+    write!(
+        out,
+        "network {network} \"{name}\"; stream {stream} of {original}"
+    )?;
+    match &mux.cable {
+        Some(cable) => put_cable(out, cable),
+        None => Ok(()),
     }
-    out.push_str("; start ")?;
-    put_moment(out, mux.start)?;
-    write!(out, "; quota {quota}")
+}
+
+// The start and the quota.
+fn put_start(out: &mut String, mux: &Mux) -> Result<(), AllocError> {
+    let start = moment_text(mux.start);
+    let (start, quota) = (text_of(&start), mux.quota);
+    write!(out, "; start {start}; quota {quota}")
+}
+
+fn put_mux(out: &mut String, mux: &Mux) -> Result<(), AllocError> {
+    put_stream(out, mux)?;
+    put_start(out, mux)?;
+    put_services(out, mux.services.as_slice())
 }
 
 // The copy of a multiplex.
@@ -113,23 +123,22 @@ fn put_copy(out: &mut String, mux: &Mux) -> Result<(), AllocError> {
     put_mux(out, &copy)
 }
 
-fn put_mux(out: &mut String, mux: &Mux) -> Result<(), AllocError> {
-    put_head(out, mux)?;
-    put_services(out, mux.services.as_slice())
+fn put_line(out: &mut String, number: u64, line: &[u8]) -> Result<(), AllocError> {
+    let line = text_of(line);
+    write!(out, "; line {number} is ahead: {line}")
+}
+
+fn put_failed(out: &mut String, stop: ReadStop) -> Result<(), AllocError> {
+    out.push_str("; ")?;
+    put_read_stop(out, stop)
 }
 
 // The line behind the description, where there is one.
 fn put_behind(lines: &mut Lines, out: &mut String) -> Result<(), AllocError> {
     match lines.next() {
-        Ok(Some(number)) => {
-            write!(out, "; line {number} is ahead: ")?;
-            put_bytes(out, lines.line())
-        }
+        Ok(Some(number)) => put_line(out, number, lines.line()),
         Ok(None) => Ok(()),
-        Err(stop) => {
-            out.push_str("; ")?;
-            put_read_stop(out, stop)
-        }
+        Err(stop) => put_failed(out, stop),
     }
 }
 

@@ -2,21 +2,25 @@
 ghost use Rattle.journal_text.specs.Outcomes.{IsInWindow};
 
 use crate::lines::Lines;
-use crate::words::{put_bytes, put_outcome};
+use crate::words::{put_outcome, text_of};
 use desk_core::Outcome;
 use input_lines::fields;
 use journal_text::{read_outcome, write_outcome};
 use std::alloc::{AllocError, Global};
+
+fn put_written(out: &mut String, text: &[u8]) -> Result<(), AllocError> {
+    let text = text_of(text);
+    write!(out, ", written {text}")
+}
 
 // Appends an outcome in words, and as it is written.
 fn put_both(alloc: Global, outcome: Outcome, out: &mut String) -> Result<(), AllocError>
     requires { IsInWindow outcome }
 {
     put_outcome(out, outcome)?;
-    out.push_str(", written ")?;
     let mut text = Vec::new(alloc);
     write_outcome(alloc, &outcome, &mut text)?;
-    put_bytes(out, &text)
+    put_written(out, &text)
 }
 
 /// Appends the outcome that the fields of the first line are.

@@ -1,22 +1,28 @@
 // What the lines of a script give.
 use crate::edits::put_edit;
 use crate::lines::Lines;
-use crate::words::{put_edit_stop, put_moment, put_outcome};
+use crate::words::{moment_text, put_edit_stop, put_outcome, text_of};
 use desk_core::{Outcome, Step};
-use feed_edits::EditStop;
+use feed_edits::{Edit, EditStop};
 use journal_text::{ScriptItem, next_item};
+use si_time::Moment;
 use std::alloc::{AllocError, Global};
+
+fn put_tick(out: &mut String, at: Moment) -> Result<(), AllocError> {
+    let at = moment_text(at);
+    let at = text_of(&at);
+    write!(out, "tick {at}")
+}
+
+fn put_feed(out: &mut String, feed: u8, edit: &Edit) -> Result<(), AllocError> {
+    write!(out, "feed {feed}: ")?;
+    put_edit(out, edit)
+}
 
 fn put_step(out: &mut String, step: &Step) -> Result<(), AllocError> {
     match step {
-        Step::Edit(feed, edit) => {
-            write!(out, "feed {feed}: ")?;
-            put_edit(out, edit)
-        }
-        Step::Tick(at) => {
-            out.push_str("tick ")?;
-            put_moment(out, *at)
-        }
+        Step::Edit(feed, edit) => put_feed(out, *feed, edit),
+        Step::Tick(at) => put_tick(out, *at),
         Step::Publish => out.push_str("publish"),
         Step::Swap => out.push_str("swap"),
     }

@@ -6,28 +6,18 @@ use si_causes::ReadStop;
 use si_time::{Moment, write_moment};
 use std::alloc::AllocError;
 
-/// Appends bytes as the characters with their numbers.
-pub fn put_bytes(out: &mut String, bytes: &[u8]) -> Result<(), AllocError> {
-    for b in bytes {
-        out.push(char::from(*b))?;
-    }
-    Ok(())
+/// Bytes as a text.
+pub fn text_of(bytes: &[u8]) -> &str {
+    str::from_utf8(bytes).unwrap_or("no UTF-8")
 }
 
-/// Appends a moment.
-pub fn put_moment(out: &mut String, at: Moment) -> Result<(), AllocError> {
+/// The text of a moment.
+pub fn moment_text(at: Moment) -> [u8; 20] {
     if at.0 < 65_536 * 86_400 {
-        put_bytes(out, &write_moment(at))
+        write_moment(at)
     } else {
-        out.push_str("no moment")
+        *b"behind the last day."
     }
-}
-
-/// Appends a text between quotes.
-pub fn put_quoted(out: &mut String, text: &str) -> Result<(), AllocError> {
-    out.push('"')?;
-    out.push_str(text)?;
-    out.push('"')
 }
 
 /// Appends why a reader stopped.
@@ -59,37 +49,37 @@ pub fn put_edit_stop(out: &mut String, stop: EditStop) -> Result<(), AllocError>
     }
 }
 
-// The word of a field, and the number that it has.
-fn field_word(field: Field) -> (&'static str, Option<u32>) {
+// The word of a field.
+fn field_word(field: Field) -> &'static str {
     match field {
-        Field::Start => ("start", None),
-        Field::Duration => ("duration", None),
-        Field::Window => ("window", None),
-        Field::Language => ("language", None),
-        Field::Name => ("name", None),
-        Field::Short => ("short text", None),
-        Field::Extended => ("extended text", None),
-        Field::Country => ("country", None),
-        Field::Rating => ("rating", None),
-        Field::Genre => ("genre", None),
-        Field::Provider => ("provider", None),
-        Field::ServiceName => ("service name", None),
-        Field::Count(n) => ("count", Some(n)),
-        Field::Segment(n) => ("segment", Some(n)),
+        Field::Start => "start",
+        Field::Duration => "duration",
+        Field::Window => "window",
+        Field::Language => "language",
+        Field::Name => "name",
+        Field::Short => "short text",
+        Field::Extended => "extended text",
+        Field::Country => "country",
+        Field::Rating => "rating",
+        Field::Genre => "genre",
+        Field::Provider => "provider",
+        Field::ServiceName => "service name",
+        Field::Count(_) => "count",
+        Field::Segment(_) => "segment",
     }
 }
 
 fn put_range(out: &mut String, field: Field) -> Result<(), AllocError> {
-    let (word, number) = field_word(field);
-    out.push_str("range ")?;
-    out.push_str(word)?;
-    match number {
-        Some(number) => write!(out, " {number}"),
-        None => Ok(()),
+    let word = field_word(field);
+    match field {
+        Field::Count(n) | Field::Segment(n) => write!(out, "range {word} {n}"),
+        _ => write!(out, "range {word}"),
     }
 }
 
-fn put_day_fault(out: &mut String, fault: DayFault) -> Result<(), AllocError> {
+// Appends why the item at this place of a day is not taken.
+fn put_member(out: &mut String, place: u16, fault: DayFault) -> Result<(), AllocError> {
+    write!(out, "member {place} ")?;
     match fault {
         DayFault::Range(field) => put_range(out, field),
         DayFault::Overlap(event) => write!(out, "overlap {event}"),
@@ -103,11 +93,20 @@ pub fn put_reply(out: &mut String, reply: Reply) -> Result<(), AllocError> {
         Reply::Foreign(service) => write!(out, "foreign {service}"),
         Reply::Range(field) => put_range(out, field),
         Reply::Overlap(event) => write!(out, "overlap {event}"),
-        Reply::Member(place, fault) => {
-            write!(out, "member {place} ")?;
-            put_day_fault(out, fault)
-        }
+        Reply::Member(place, fault) => put_member(out, place, fault),
     }
+}
+
+fn put_late(out: &mut String, at: Moment) -> Result<(), AllocError> {
+    let at = moment_text(at);
+    let at = text_of(&at);
+    write!(out, "late {at}")
+}
+
+fn put_swapped(out: &mut String, number: u64, at: Moment) -> Result<(), AllocError> {
+    let at = moment_text(at);
+    let at = text_of(&at);
+    write!(out, "swapped {number} at {at}")
 }
 
 /// Appends an outcome.
@@ -115,14 +114,8 @@ pub fn put_outcome(out: &mut String, outcome: Outcome) -> Result<(), AllocError>
     match outcome {
         Outcome::Edited(reply) => put_reply(out, reply),
         Outcome::Ticked => out.push_str("ticked"),
-        Outcome::Late(at) => {
-            out.push_str("late ")?;
-            put_moment(out, at)
-        }
+        Outcome::Late(at) => put_late(out, at),
         Outcome::Published(number) => write!(out, "published {number}"),
-        Outcome::Swapped(number, at) => {
-            write!(out, "swapped {number} at ")?;
-            put_moment(out, at)
-        }
+        Outcome::Swapped(number, at) => put_swapped(out, number, at),
     }
 }
