@@ -17,6 +17,3 @@ pub use edit::{DayItems, DayText, Edit, Item, Length, RawRating, Stamp};
 pub use laws::{edits_go_on, edits_read_back};
 pub use reading::{next_edit, read_edit};
 pub use stop::EditStop;
-
-#[cfg(test)]
-mod tests;

@@ -12,10 +12,6 @@ mod laws;
 mod line;
 mod outcome;
 mod script;
-#[cfg(test)]
-mod script_tests;
-#[cfg(test)]
-mod tests;
 
 pub use entry::write_entry;
 pub use kept::read_outcome;

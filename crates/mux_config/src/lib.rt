@@ -21,8 +21,3 @@ pub use mux::{Mux, MuxService, MuxServices};
 pub use read::read_mux;
 pub use record::{Numbered, Record};
 pub use stop::MuxStop;
-
-#[cfg(test)]
-mod read_tests;
-#[cfg(test)]
-mod tests;

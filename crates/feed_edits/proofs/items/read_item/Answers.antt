@@ -1,7 +1,8 @@
-use Rattle.std.proofs.Common.{◌≡◌, sym, ap, ◌∙◌, refl}
+use Rattle.std.proofs.Common.{◌≡◌, sym, ap, ◌∙◌, refl, arith}
+use Rattle.std.proofs.lemmas.Grind.{common_steps}
 use Rattle.std.specs.Prelude.{None, Some}
 use Rattle.input_lines.specs.Numbers.{number_in}
-use Rattle.feed_edits.specs.Items.{stamp_of, length_of, rating_of, genres_of}
+use Rattle.feed_edits.specs.Items.{stamp_of, length_of, rating_of, genres_of, item_of}
 use Rattle.feed_edits.proofs.Ten.{ten, item_of_ten, no_start, no_length, no_rating, no_genres}
 use Rattle.feed_edits.proofs.Shapes.{item_shaped}
 use Rattle.feed_edits.proofs.items.read_item.Goals as goal
@@ -54,3 +55,79 @@ returns-clause-value c =
 
 pub returns-clause-shaped : goal.returns-clause-shaped
 returns-clause-shaped c = item_shaped c.args.fields.now _ (sym (returns-clause-value c))
+
+pub returns-in_default-clause-value : goal.returns-in_default-clause-value
+unfolding item_of
+returns-in_default-clause-value c = grind (arith, common_steps)
+
+pub returns-in_default-clause-shaped : goal.returns-in_default-clause-shaped
+unfolding item_of
+returns-in_default-clause-shaped c = grind (arith, common_steps)
+
+pub returns-in_default-number-clause-shaped : goal.returns-in_default-number-clause-shaped
+unfolding item_of
+returns-in_default-number-clause-shaped c = grind (arith, common_steps)
+
+pub returns-in_default-read_stamp-clause-shaped : goal.returns-in_default-read_stamp-clause-shaped
+unfolding item_of
+returns-in_default-read_stamp-clause-shaped c = grind (arith, common_steps)
+
+pub returns-in_default-read_length-clause-shaped : goal.returns-in_default-read_length-clause-shaped
+unfolding item_of
+returns-in_default-read_length-clause-shaped c = grind (arith, common_steps)
+
+pub returns-in_err-rating-clause-value : goal.returns-in_err-rating-clause-value
+unfolding item_of
+returns-in_err-rating-clause-value c = grind (arith, common_steps)
+
+pub returns-in_err-rating-clause-shaped : goal.returns-in_err-rating-clause-shaped
+unfolding item_of
+returns-in_err-rating-clause-shaped c = grind (arith, common_steps)
+
+pub returns-in_default-2-clause-shaped : goal.returns-in_default-2-clause-shaped
+unfolding item_of
+returns-in_default-2-clause-shaped c = grind (arith, common_steps)
+
+pub returns-in_err-genres-clause-value : goal.returns-in_err-genres-clause-value
+unfolding item_of
+returns-in_err-genres-clause-value c = grind (arith, common_steps)
+
+pub returns-in_err-genres-clause-shaped : goal.returns-in_err-genres-clause-shaped
+unfolding item_of
+returns-in_err-genres-clause-shaped c = grind (arith, common_steps)
+
+pub returns-in_default-3-clause-shaped : goal.returns-in_default-3-clause-shaped
+unfolding item_of
+returns-in_default-3-clause-shaped c = grind (arith, common_steps)
+
+pub returns-in_err-copy-clause-value : goal.returns-in_err-copy-clause-value
+unfolding item_of
+returns-in_err-copy-clause-value c = grind (arith, common_steps)
+
+pub returns-in_err-copy-clause-shaped : goal.returns-in_err-copy-clause-shaped
+unfolding item_of
+returns-in_err-copy-clause-shaped c = grind (arith, common_steps)
+
+pub returns-in_err-copy-2-clause-value : goal.returns-in_err-copy-2-clause-value
+unfolding item_of
+returns-in_err-copy-2-clause-value c = grind (arith, common_steps)
+
+pub returns-in_err-copy-2-clause-shaped : goal.returns-in_err-copy-2-clause-shaped
+unfolding item_of
+returns-in_err-copy-2-clause-shaped c = grind (arith, common_steps)
+
+pub returns-in_err-copy-3-clause-value : goal.returns-in_err-copy-3-clause-value
+unfolding item_of
+returns-in_err-copy-3-clause-value c = grind (arith, common_steps)
+
+pub returns-in_err-copy-3-clause-shaped : goal.returns-in_err-copy-3-clause-shaped
+unfolding item_of
+returns-in_err-copy-3-clause-shaped c = grind (arith, common_steps)
+
+pub returns-in_err-copy-4-clause-value : goal.returns-in_err-copy-4-clause-value
+unfolding item_of
+returns-in_err-copy-4-clause-value c = grind (arith, common_steps)
+
+pub returns-in_err-copy-4-clause-shaped : goal.returns-in_err-copy-4-clause-shaped
+unfolding item_of
+returns-in_err-copy-4-clause-shaped c = grind (arith, common_steps)

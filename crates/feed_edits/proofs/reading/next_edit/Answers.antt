@@ -1,3 +1,5 @@
+use Rattle.std.proofs.Common.{arith}
+use Rattle.std.proofs.lemmas.Grind.{common_steps}
 use Rattle.std.specs.Prelude.{Ok, Err}
 use Rattle.feed_edits.proofs.Turns.{never_line}
 use Rattle.feed_edits.proofs.Edits.{edit_gives, edit_takes, edit_stop_takes}
@@ -37,3 +39,81 @@ pub returns-in-Err-with_items-clause-sticky : goal.returns-in-Err-with_items-cla
 returns-in-Err-with_items-clause-sticky g c =
     let e = rw c.in-Ok-Some.field-0-is at c.in-Ok-Some.ensures in
     never_line c.args.lines.now.stop c.in-Ok-Some.at _ _ e.sticky
+
+pub returns-in-Ok-None-clause-gives : goal.returns-in-Ok-None-clause-gives
+returns-in-Ok-None-clause-gives g c = grind (arith, common_steps)
+
+pub returns-in-Ok-None-clause-takes : goal.returns-in-Ok-None-clause-takes
+returns-in-Ok-None-clause-takes g c = grind (arith, common_steps)
+
+pub returns-in-Ok-None-clause-shaped : goal.returns-in-Ok-None-clause-shaped
+returns-in-Ok-None-clause-shaped g c = grind (arith, common_steps)
+
+pub returns-in-Ok-None-clause-sticky : goal.returns-in-Ok-None-clause-sticky
+returns-in-Ok-None-clause-sticky g c = grind (arith, common_steps)
+
+pub returns-in-Ok-None-clause-falls : goal.returns-in-Ok-None-clause-falls
+returns-in-Ok-None-clause-falls g c = grind (arith, common_steps)
+
+pub returns-in-Ok-None-clause-later : goal.returns-in-Ok-None-clause-later
+returns-in-Ok-None-clause-later g c = grind (arith, common_steps)
+
+pub returns-in-Ok-None-clause-same : goal.returns-in-Ok-None-clause-same
+returns-in-Ok-None-clause-same g c = grind (arith, common_steps)
+
+pub returns-in-Err-clause-gives : goal.returns-in-Err-clause-gives
+returns-in-Err-clause-gives g c = grind (arith, common_steps)
+
+pub returns-in-Err-clause-shaped : goal.returns-in-Err-clause-shaped
+returns-in-Err-clause-shaped g c = grind (arith, common_steps)
+
+pub returns-in-Err-clause-sticky : goal.returns-in-Err-clause-sticky
+returns-in-Err-clause-sticky g c = grind (arith, common_steps)
+
+pub returns-in-Err-clause-falls : goal.returns-in-Err-clause-falls
+returns-in-Err-clause-falls g c = grind (arith, common_steps)
+
+pub returns-in-Err-clause-later : goal.returns-in-Err-clause-later
+returns-in-Err-clause-later g c = grind (arith, common_steps)
+
+pub returns-in-Err-clause-same : goal.returns-in-Err-clause-same
+returns-in-Err-clause-same g c = grind (arith, common_steps)
+
+pub returns-in-Err-head_on-clause-gives : goal.returns-in-Err-head_on-clause-gives
+returns-in-Err-head_on-clause-gives g c = grind (arith, common_steps)
+
+pub returns-in-Err-head_on-clause-takes : goal.returns-in-Err-head_on-clause-takes
+returns-in-Err-head_on-clause-takes g c = grind (arith, common_steps)
+
+pub returns-in-Err-head_on-clause-shaped : goal.returns-in-Err-head_on-clause-shaped
+returns-in-Err-head_on-clause-shaped g c = grind (arith, common_steps)
+
+pub returns-in-Err-head_on-clause-sticky : goal.returns-in-Err-head_on-clause-sticky
+returns-in-Err-head_on-clause-sticky g c = grind (arith, common_steps)
+
+pub returns-in-Err-head_on-clause-falls : goal.returns-in-Err-head_on-clause-falls
+returns-in-Err-head_on-clause-falls g c = grind (arith, common_steps)
+
+pub returns-in-Err-head_on-clause-later : goal.returns-in-Err-head_on-clause-later
+returns-in-Err-head_on-clause-later g c = grind (arith, common_steps)
+
+pub returns-in-Err-head_on-clause-same : goal.returns-in-Err-head_on-clause-same
+returns-in-Err-head_on-clause-same g c = grind (arith, common_steps)
+
+pub returns-in-Ok-with_items-clause-shaped : goal.returns-in-Ok-with_items-clause-shaped
+returns-in-Ok-with_items-clause-shaped g c = grind (arith, common_steps)
+
+pub returns-in-Ok-with_items-clause-falls : goal.returns-in-Ok-with_items-clause-falls
+returns-in-Ok-with_items-clause-falls g c = grind (arith, common_steps)
+
+pub returns-in-Ok-with_items-clause-later : goal.returns-in-Ok-with_items-clause-later
+returns-in-Ok-with_items-clause-later g c = grind (arith, common_steps)
+
+pub returns-in-Err-with_items-clause-shaped : goal.returns-in-Err-with_items-clause-shaped
+returns-in-Err-with_items-clause-shaped g c = grind (arith, common_steps)
+
+pub returns-in-Err-with_items-clause-falls : goal.returns-in-Err-with_items-clause-falls
+returns-in-Err-with_items-clause-falls g c = grind (arith, common_steps)
+
+pub returns-in-Err-with_items-clause-later : goal.returns-in-Err-with_items-clause-later
+returns-in-Err-with_items-clause-later g c = grind (arith, common_steps)

@@ -1,4 +1,5 @@
 use Rattle.std.proofs.Common.{◌∙◌, List, refl, sym, subst, arith}
+use Rattle.std.proofs.lemmas.Grind.{common_steps}
 use Rattle.input_lines.proofs.Steps.{stuck_at, stays_stuck}
 use Rattle.mux_config.specs.declared.record.Numbered.{Numbered}
 use Rattle.mux_config.specs.Block.{ended}
@@ -65,3 +66,63 @@ returns-in-Err-clause-came g c = λ going.
 pub returns-in-Ok-true-clause-sound : goal.returns-in-Ok-true-clause-sound
 returns-in-Ok-true-clause-sound g c = sound_made c.deref.result.now c.multiplex.result
     (subst AreFine (sym c.deref.ensures.value) (c.in-Ok-true.ensures.fine c.lines.invariant.fine)) c.multiplex.ensures
+
+pub returns-in-Ok-true-clause-sticky : goal.returns-in-Ok-true-clause-sticky
+returns-in-Ok-true-clause-sticky g c = grind (arith, common_steps)
+
+pub returns-in-Ok-true-clause-later : goal.returns-in-Ok-true-clause-later
+returns-in-Ok-true-clause-later g c = grind (arith, common_steps)
+
+pub returns-in-Ok-true-clause-same : goal.returns-in-Ok-true-clause-same
+returns-in-Ok-true-clause-same g c = grind (arith, common_steps)
+
+pub returns-in-Err-take_line-clause-block : goal.returns-in-Err-take_line-clause-block
+returns-in-Err-take_line-clause-block g c = grind (arith, common_steps)
+
+pub returns-in-Err-take_line-clause-came : goal.returns-in-Err-take_line-clause-came
+returns-in-Err-take_line-clause-came g c = grind (arith, common_steps)
+
+pub returns-in-Err-take_line-clause-sound : goal.returns-in-Err-take_line-clause-sound
+returns-in-Err-take_line-clause-sound g c = grind (arith, common_steps)
+
+pub returns-in-Err-take_line-clause-sticky : goal.returns-in-Err-take_line-clause-sticky
+returns-in-Err-take_line-clause-sticky g c = grind (arith, common_steps)
+
+pub returns-in-Err-take_line-clause-later : goal.returns-in-Err-take_line-clause-later
+returns-in-Err-take_line-clause-later g c = grind (arith, common_steps)
+
+pub returns-in-Err-take_line-clause-same : goal.returns-in-Err-take_line-clause-same
+returns-in-Err-take_line-clause-same g c = grind (arith, common_steps)
+
+pub returns-in-Ok-None-clause-block : goal.returns-in-Ok-None-clause-block
+returns-in-Ok-None-clause-block g c = grind (arith, common_steps)
+
+pub returns-in-Ok-None-clause-came : goal.returns-in-Ok-None-clause-came
+returns-in-Ok-None-clause-came g c = grind (arith, common_steps)
+
+pub returns-in-Ok-None-clause-sound : goal.returns-in-Ok-None-clause-sound
+returns-in-Ok-None-clause-sound g c = grind (arith, common_steps)
+
+pub returns-in-Ok-None-clause-sticky : goal.returns-in-Ok-None-clause-sticky
+returns-in-Ok-None-clause-sticky g c = grind (arith, common_steps)
+
+pub returns-in-Ok-None-clause-later : goal.returns-in-Ok-None-clause-later
+returns-in-Ok-None-clause-later g c = grind (arith, common_steps)
+
+pub returns-in-Ok-None-clause-same : goal.returns-in-Ok-None-clause-same
+returns-in-Ok-None-clause-same g c = grind (arith, common_steps)
+
+pub returns-in-Err-clause-block : goal.returns-in-Err-clause-block
+returns-in-Err-clause-block g c = grind (arith, common_steps)
+
+pub returns-in-Err-clause-sound : goal.returns-in-Err-clause-sound
+returns-in-Err-clause-sound g c = grind (arith, common_steps)
+
+pub returns-in-Err-clause-sticky : goal.returns-in-Err-clause-sticky
+returns-in-Err-clause-sticky g c = grind (arith, common_steps)
+
+pub returns-in-Err-clause-later : goal.returns-in-Err-clause-later
+returns-in-Err-clause-later g c = grind (arith, common_steps)
+
+pub returns-in-Err-clause-same : goal.returns-in-Err-clause-same
+returns-in-Err-clause-same g c = grind (arith, common_steps)
