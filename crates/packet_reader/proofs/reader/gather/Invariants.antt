@@ -1,4 +1,4 @@
-use Rattle.std.proofs.Common.{◌≤◌, ◌-◌, length}
+use Rattle.std.proofs.Common.{◌≡◌, ◌≤◌, ◌-◌, length}
 use Rattle.packet_reader.specs.Reading.{Gathers}
 use Rattle.packet_reader.proofs.reader.gather.Given as goal
 
