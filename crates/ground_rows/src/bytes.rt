@@ -7,6 +7,7 @@ use std::alloc::{AllocError, Global};
 /// The calls that this module answers.
 pub const CALLS: &str = "crc32 crc32_of_mixed take";
 
+/// What such a call gives for these arguments.
 pub fn answer(alloc: Global, call: &str, arguments: &str) -> Result<String, NoAnswer> {
     match call {
         "crc32" => crc(alloc, &bytes(alloc, arguments)?),

@@ -7,6 +7,7 @@ use std::alloc::Global;
 /// The calls that this module answers.
 pub const CALLS: &str = "read_duration write_duration duration_bcd duration_from_bcd";
 
+/// What such a call gives for these arguments.
 pub fn answer(alloc: Global, call: &str, arguments: &str) -> Result<String, NoAnswer> {
     match call {
         "read_duration" => seconds(alloc, read_duration(&bytes(alloc, arguments)?)),

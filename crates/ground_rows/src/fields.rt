@@ -7,6 +7,7 @@ use std::alloc::{AllocError, Global};
 /// The calls that this module answers.
 pub const CALLS: &str = "fields numeral number is_word";
 
+/// What such a call gives for these arguments.
 pub fn answer(alloc: Global, call: &str, arguments: &str) -> Result<String, NoAnswer> {
     match call {
         "fields" => fields_of_line(alloc, arguments),
@@ -70,12 +71,6 @@ fn bound(arguments: &str) -> Result<(u32, &str), NoAnswer> {
 fn is_this_word(alloc: Global, arguments: &str) -> Result<String, NoAnswer> {
     let (wanted, arguments) = first_word(arguments)?;
     let bytes = bytes(alloc, arguments)?;
-    word(
-        alloc,
-        if is_word(text(&bytes)?, wanted) {
-            "yes"
-        } else {
-            "no"
-        },
-    )
+    let is_it = is_word(text(&bytes)?, wanted);
+    word(alloc, if is_it { "yes" } else { "no" })
 }

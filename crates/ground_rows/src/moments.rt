@@ -7,6 +7,7 @@ use std::alloc::Global;
 /// The calls that this module answers.
 pub const CALLS: &str = "read_moment write_moment to_bcd from_bcd read_day midnight block_of";
 
+/// What such a call gives for these arguments.
 pub fn answer(alloc: Global, call: &str, arguments: &str) -> Result<String, NoAnswer> {
     match call {
         "read_moment" => seconds(alloc, read_moment(&bytes(alloc, arguments)?)),

@@ -1,5 +1,5 @@
-// How bytes are written in a row: parts with spaces between them, of which each is bytes in two hexadecimal digits each,
-// or printable ASCII between back quotes, with `*n` behind it where it stands n times.
+// How bytes are written in a row: in parts with spaces between them. A part is bytes in two hexadecimal digits each, or
+// printable ASCII between back quotes; `*n` behind it says that it stands n times.
 use crate::row::{NoAnswer, number_below};
 use std::alloc::{AllocError, Global};
 

@@ -11,6 +11,7 @@ use std::alloc::{AllocError, Global};
 pub const CALLS: &str =
     "kept_text plain_bytes encode_text append_text coded_len decode_text write_shown cut_len pieces";
 
+/// What such a call gives for these arguments.
 pub fn answer(alloc: Global, call: &str, arguments: &str) -> Result<String, NoAnswer> {
     let bytes = bytes(alloc, arguments)?;
     match call {
