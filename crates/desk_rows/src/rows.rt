@@ -9,7 +9,7 @@ use std::alloc::{AllocError, Global};
 const TWO_SERVICES: &str =
     "network,40,Demo/stream,1,1/cable,1,2,3,4,5/start,1970-01-01T00:00:01Z/quota,7/service,9,1,1,100,100,P,N/service,5,1,1,101,100,P,N/component,9,2,200,/component,5,2,201,deu/component,5,2,200,/";
 
-// What reads lines of other lines than scripts.
+// The calls that read lines of one kind.
 fn tell_lines(
     alloc: Global,
     call: &str,
@@ -26,6 +26,7 @@ fn tell_lines(
     }
 }
 
+// The calls that read a script.
 fn tell_script(
     alloc: Global,
     call: &str,
