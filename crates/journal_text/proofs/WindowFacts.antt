@@ -14,7 +14,7 @@ use Rattle.desk_core.specs.Steps.{IsStepWithin}
 use Rattle.desk_core.specs.Journal.{LegalAfter, Legal, later_of, latest_of_all, ticked_by, ticked, moment_of, outcome_of}
 use Rattle.desk_core.proofs.JournalFacts.{b_cases}
 use Rattle.journal_text.specs.Outcomes.{IsInWindow}
-use Rattle.journal_text.specs.Entries.{AreInWindow}
+use Rattle.journal_text.specs.Entries.{IsStepInWindow, AreInWindow}
 
 abbrev pub InRange : Moment → Type 0
 InRange at = at.0 < 65536 * 86400
@@ -63,12 +63,18 @@ all_push : {A : Type 0} (P : A → Type 0) (xs : List A) (x : A) → AllByRecurs
 all_push P [] x h p = (p, tt)
 all_push P (y ∷ ys) x h p = (h.0, all_push P ys x h.1 p)
 
+written_step : (step : Step) → IsStepWithin step → IsStepInWindow step
+written_step (edit feed e) h = tt
+written_step (Tick at) h = h
+written_step Publish h = tt
+written_step Swap h = tt
+
 after_window : (mux : Mux) (before entries : List Entry) → IsSound mux → AllByRecursion (λ (entry : Entry). IsStepWithin entry.step) before
     → AllByRecursion (λ (entry : Entry). IsStepWithin entry.step) entries → LegalAfter mux before entries → AreInWindow entries
 after_window mux before [] sound old within legal = tt
 after_window mux before (e ∷ es) sound old within legal = (
   record {
-    step = within.0;
+    step = written_step e.step within.0;
     outcome = subst (λ (o : Outcome). IsInWindow o) (sym legal.0) (step_window mux before e.step (moment_range mux before sound old));
   },
   after_window mux (before ++ e ∷ []) es sound (all_push (λ (entry : Entry). IsStepWithin entry.step) before e old within.0) within.1 legal.1,

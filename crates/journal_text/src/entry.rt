@@ -1,9 +1,8 @@
 // The text of a journal's entry.
 ghost use Rattle.std.specs.Prelude.{◌≡◌, ◌++◌, ◌∷◌, IfOk, OnOk, OnErr, codes, decimal};
-ghost use Rattle.desk_core.specs.Steps.{IsStepWithin};
 ghost use Rattle.journal_text.specs.Edits.{and_fields, IsOpenFor};
 ghost use Rattle.journal_text.specs.Outcomes.{outcome_text, IsInWindow};
-ghost use Rattle.journal_text.specs.Entries.{step_fields, step_items, command_text, entry_text, IsEntryInWindow};
+ghost use Rattle.journal_text.specs.Entries.{step_fields, step_items, command_text, entry_text, IsEntryInWindow, IsStepInWindow};
 
 use crate::edit::{add_edit, items_of, put_items};
 use crate::line::Row;
@@ -16,7 +15,7 @@ use std::alloc::{AllocError, Global};
 // Adds the fields of a step.
 fn add_step(alloc: Global, row: &mut Row, step: &Step) -> Result<(), AllocError>
     requires open { IsOpenFor 40 row.old }
-    requires within { IsStepWithin step.now }
+    requires window { IsStepInWindow step.now }
     ensures { OnOk result (row.new ≡ and_fields row.old (step_fields step.now)) }
 {
     match step {
@@ -51,7 +50,7 @@ pub(crate) fn put_command(
     who: u32,
     step: &Step,
 ) -> Result<(), AllocError>
-    requires { IsStepWithin step.now }
+    requires { IsStepInWindow step.now }
     ensures { OnOk result (out.new.items ≡ out.old.items ++ command_text who step.now) }
 {
     let mut row = Row::open(alloc);
@@ -84,8 +83,8 @@ fn text_of(alloc: Global, entry: &Entry) -> Result<Vec<u8>, AllocError>
 
 /// Appends the text of an entry: a line with its caller and its command, the lines of the items of a day, and a line with its
 /// outcome behind `=,`. The fields of a command are those of a record, as csv writes it. Its moments are in the window that
-/// 16 bits of days can say (EN 300 468, annex C), and a day has at most 2,000 items. Want of memory leaves `out` with what it
-/// had.
+/// 16 bits of days can say (EN 300 468, annex C). An entry that cannot be read again is written all the same. Want of memory
+/// leaves `out` with what it had.
 pub fn write_entry(alloc: Global, entry: &Entry, out: &mut Vec<u8>) -> Result<(), AllocError>
     requires window { IsEntryInWindow entry.now }
     ensures text { OnOk result (out.new.items ≡ out.old.items ++ entry_text entry.now) }

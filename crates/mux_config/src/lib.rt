@@ -19,5 +19,4 @@ pub use input_lines::{LineFields, fields};
 pub use laws::whole_descriptions_are_sound;
 pub use mux::{Mux, MuxService, MuxServices};
 pub use read::read_mux;
-pub use record::{Numbered, Record};
 pub use stop::MuxStop;
