@@ -91,11 +91,7 @@ pub(crate) fn extended_of(
 }
 
 // The coded texts of the pieces in this language, in the order in which they stand.
-fn pieces_in(
-    alloc: Global,
-    language: &[u8; 3],
-    descs: &[RawDesc],
-) -> Result<Vec<Bytes>, AllocError>
+fn pieces_in(alloc: Global, language: &[u8; 3], descs: &[RawDesc]) -> Result<Vec<Bytes>, AllocError>
     ensures { IfOk result (λ pieces. pieces.items ≡ pieces_in language.now descs.now) }
 {
     let mut pieces = Vec::new(alloc);

@@ -1,13 +1,13 @@
 -- Completions that sections show, and packets show.
 use Rattle.std.specs.List.{cons_option}
-use Rattle.std.proofs.Common.{◌≡◌, ℕ, Bool, true, false, List, [], ◌∷◌, ◌++◌, refl, sym, ap, ◌∙◌, map, filter_map, flat_map, take, ◌+◌, ◌<◌, length, get_or, append-nil, append_assoc, Option, Some, None, option_map, if◌then◌else◌}
+use Rattle.std.proofs.Common.{◌≡◌, ℕ, Bool, true, false, List, [], ◌∷◌, ◌++◌, refl, sym, ap, ◌∙◌, map, flat_map, take, ◌+◌, ◌<◌, length, get_or, append-nil, append_assoc, Option, Some, None, option_map, if◌then◌else◌}
 use Rattle.std.specs.Prelude.{option_to_list}
 use Rattle.std.proofs.lemmas.List.{take_more}
 use Rattle.ts_demux.specs.declared.section.RawSection.{RawSection}
 use Rattle.ts_demux.specs.Sections.{ended_by, heard_each, heard_all}
 use Rattle.version_book.specs.Airings.{Content}
 use Rattle.sub_collect.specs.Runs.{Counted, completed}
-use Rattle.sub_collect.specs.Completions.{completion, done_at, dones, latest_of, repeats, sections_of, shown_after, shown_at}
+use Rattle.sub_collect.specs.Completions.{done_at, dones, latest_of, repeats, sections_of, shown_after, shown_at}
 use Rattle.sub_collect.specs.declared.completed.Completed.{Completed}
 use Rattle.sub_collect.proofs.Done.{shown_at-is, completion-push, dones-go_on}
 use Rattle.guide_receiver.specs.declared.done.DoneKey.{DoneKey}

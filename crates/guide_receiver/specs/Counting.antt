@@ -1,5 +1,5 @@
 -- The sections that count (ISO/IEC 13818-1, 2.4.4; EN 300 468, 5.1.3 and 5.2.3): today those of the SDT of the actual stream.
-use Rattle.std.specs.Prelude.{ℕ, ◌&&◌, if◌then◌else◌, List, filter_map, Option, Some, None, option_map, Result, Ok, Err}
+use Rattle.std.specs.Prelude.{ℕ, ◌&&◌, if◌then◌else◌, List, filter_map, Option, None, option_map, Result, Ok, Err}
 use Rattle.section_codec.specs.declared.section.Section.{Section}
 use Rattle.section_codec.specs.declared.section.Section.TheVariants.{Long, Short}
 use Rattle.section_codec.specs.declared.section.BadSection.{BadSection}

@@ -1,6 +1,6 @@
-use Rattle.std.proofs.Common.{◌≡◌, ◌++◌, ◌∷◌, [], List, Option, Some, option_map, subst, sym, ap, ◌∙◌, append-nil}
+use Rattle.std.proofs.Common.{◌≡◌, ◌++◌, Some, option_map, subst, sym, ap, ◌∙◌}
 use Rattle.std.specs.Prelude.{option_to_list}
-use Rattle.sub_collect.specs.Runs.{Counted, counted}
+use Rattle.sub_collect.specs.Runs.{counted}
 use Rattle.sub_collect.specs.Collectors.{Stands as CollectorStands}
 use Rattle.guide_receiver.specs.Counting.{counted_in}
 use Rattle.guide_receiver.specs.declared.counting.CountedSection.{CountedSection}

@@ -1,8 +1,7 @@
-use Rattle.std.proofs.Common.{◌≡◌, ◌++◌, List, map, take, subst, sym, ap, ◌∙◌, append_assoc, arith}
+use Rattle.std.proofs.Common.{◌++◌, List, map, take, subst, sym, ap, ◌∙◌, append_assoc, arith}
 use Rattle.std.specs.Prelude.{option_to_list}
 use Rattle.std.proofs.lemmas.List.{take_all}
 use Rattle.ts_demux.specs.declared.section.RawSection.{RawSection}
-use Rattle.sub_collect.specs.Runs.{Counted}
 use Rattle.sub_collect.specs.Completions.{dones}
 use Rattle.sub_collect.specs.Collectors.{Stands as CollectorStands}
 use Rattle.guide_receiver.specs.Counting.{counted_in, counted_among}
