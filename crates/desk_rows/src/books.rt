@@ -87,7 +87,8 @@ fn put_standing(book: &Book, out: &mut String) -> Result<(), AllocError> {
     put_guide(out, &guide)
 }
 
-fn put_copy(shared: &PageGuide, out: &mut String) -> Result<(), AllocError> {
+/// Appends what pages show.
+pub fn put_pages_of(shared: &PageGuide, out: &mut String) -> Result<(), AllocError> {
     let guide = shared.copy()?;
     put_guide(out, &guide)
 }
@@ -96,7 +97,7 @@ fn put_copy(shared: &PageGuide, out: &mut String) -> Result<(), AllocError> {
 fn told_pages(alloc: Global, book: &mut Book) -> Result<String, AllocError> {
     let mut out = String::new(alloc);
     let shared = book.shared(AT)?;
-    put_copy(&shared, &mut out)?;
+    put_pages_of(&shared, &mut out)?;
     Ok(out)
 }
 

@@ -1,4 +1,4 @@
-//! Rows of descriptions, edits, scripts and their answers, as a program; and the tests of the same layer that must be code.
+//! Rows of descriptions, edits, scripts and their answers, as a program.
 //!
 //! A row is `call arguments`, and the program prints it with what it gives: `call arguments = answer`. An empty line and a line
 //! that begins with `#` are printed as they are. The head of the rows explains their calls and their notation.
@@ -15,9 +15,6 @@ mod lines;
 mod muxes;
 mod notation;
 mod outcomes;
-#[cfg(test)]
-mod pages;
-#[cfg(test)]
 mod publications;
 mod rows;
 mod scripts;

@@ -1,7 +1,9 @@
 // A row and its answer.
 use crate::lines::{Cut, Lines, NEVER, reader};
 use crate::notation::{parts_counted, runs_counted, written_out};
-use crate::{books, controls, desks, edits, entries, muxes, outcomes, scripts, sections};
+use crate::{
+    books, controls, desks, edits, entries, muxes, outcomes, publications, scripts, sections,
+};
 use input_lines::numeral;
 use std::alloc::{AllocError, Global};
 
@@ -37,6 +39,7 @@ fn tell_script(
         "script" => scripts::tell(alloc, lines, out),
         "book" => books::tell(alloc, lines, out),
         "desk" => desks::tell(alloc, lines, out),
+        "publication" => publications::tell(alloc, lines, out),
         _ => out.push_str("no row"),
     }
 }

@@ -1,6 +1,6 @@
 use Rattle.std.proofs.Common.{◌≡◌, suc, ◌++◌, ◌∷◌, [], List, ℕ, map, ◌∙◌, arith, length, length-append, subst}
 use Rattle.std.specs.Prelude.{Ok, Err}
-use Rattle.packet_reader.specs.Recordings.{packets_in, recording}
+use Rattle.packet_reader.specs.Recordings.{packets_in}
 use Rattle.packet_reader.specs.Reading.{room}
 use Rattle.guide_receiver.specs.Heard.{Stands, at_packet, dones_by}
 use Rattle.guide_receiver.specs.Texts.{done_lines}

@@ -1,4 +1,3 @@
-use Rattle.packet_reader.specs.Recordings.{recording}
 use Rattle.epg_cli.specs.Run.{told}
 use Rattle.epg_cli.proofs.ListenFacts.{hears_through}
 use Rattle.epg_cli.proofs.top.run_listen.Goals as goal
