@@ -3,3 +3,4 @@ pub mod Same
 pub mod Heads
 pub mod Written
 pub mod ReadBack
+pub mod Codes

@@ -1,5 +1,5 @@
 -- What the descriptors of an event show.
-use Rattle.std.specs.Prelude.{ℕ, Bool, true, false, ◌==◌, ◌&&◌, List, [], ◌∷◌, ◌++◌, Option, Some, None, if◌then◌else◌, codes}
+use Rattle.std.specs.Prelude.{ℕ, Bool, true, false, ◌==◌, ◌&&◌, List, [], ◌∷◌, ◌++◌, Option, Some, None, if◌then◌else◌, codes, ◌↔◌, ◌≡◌}
 use Rattle.std.specs.List.{concat}
 use Rattle.si_text.specs.Decoding.{decoded}
 use Rattle.si_text.specs.declared.shown.Shown.{Shown}
@@ -57,6 +57,10 @@ same_code [] [] = true
 same_code [] (b ∷ bs) = false
 same_code (a ∷ more) [] = false
 same_code (a ∷ more) (b ∷ bs) = a == b && same_code more bs
+
+-- Codes are compared as values.
+abbrev pub CodesAreCompared : Type 0
+CodesAreCompared = (a b : List ℕ) → (same_code a b ≡ true) ↔ (a ≡ b)
 
 -- the coded text of a piece in this language
 abbrev pub text_if : List ℕ → Option ExtendedPiece → List (List ℕ)

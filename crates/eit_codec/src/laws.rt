@@ -1,5 +1,6 @@
 // Laws of the written and the read bodies.
 ghost use Rattle.std.specs.Prelude.{◌≡◌, ◌<◌, length};
+ghost use Rattle.eit_codec.specs.Shows.{CodesAreCompared};
 ghost use Rattle.eit_codec.specs.Eit.{EitIsUnique, EntryHasItsSize, EitReadsBack, IsTyped};
 
 use guide_model::Event;
@@ -10,6 +11,11 @@ pub fn written_events_read_back()
     ensures unique { EitIsUnique }
     ensures size { EntryHasItsSize }
     ensures reads_back { EitReadsBack }
+{}
+
+/// Codes are compared as values: the comparison is true exactly where they are equal.
+pub fn codes_are_compared()
+    ensures { CodesAreCompared }
 {}
 
 /// An event has what each value of its type has, which reading back asks for.

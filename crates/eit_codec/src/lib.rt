@@ -15,6 +15,6 @@ mod shows;
 mod writing;
 
 pub use eit::{Eit, EitHead};
-pub use laws::{events_are_typed, written_events_read_back};
+pub use laws::{codes_are_compared, events_are_typed, written_events_read_back};
 pub use reading::read_eit;
 pub use writing::write_eit;

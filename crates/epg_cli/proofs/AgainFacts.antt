@@ -71,7 +71,7 @@ same_reply (Range f) = same_field f
 same_reply (Overlap n) = same_number n
 same_reply (Member n f) = both (n == n) (is_day_fault f f) (same_number n) (same_fault f)
 
-same_outcome : (o : Outcome) → is_outcome o o ≡ true
+pub same_outcome : (o : Outcome) → is_outcome o o ≡ true
 same_outcome (Edited r) = same_reply r
 same_outcome Ticked = refl
 same_outcome (Late at) = same_number at.0

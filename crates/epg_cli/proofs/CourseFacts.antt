@@ -162,12 +162,12 @@ went_item left old now new before desk next made after item done w r did step_on
       let t = w.told text told in
       let g = r.gives t.0 t.1 in
       (g.rest, g.told, step_on (ahead now t.0) (ahead new g.rest) g.reads (ahead old text) t.2);
-  lines = w.lines ++ r.takes.lines;
-  since = λ e. w.since (r.takes.since e);
-  handed = λ e. handed_more left old now new w.lines r.takes.lines (w.handed (r.takes.since e)) (r.takes.handed e);
+  lines = w.lines ++ r.takes.looked.lines;
+  since = λ e. w.since (r.takes.looked.since e);
+  handed = λ e. handed_more left old now new w.lines r.takes.looked.lines (w.handed (r.takes.looked.since e)) (r.takes.looked.handed e);
   reads = λ more tail.
-      subst (λ (l : List (List ℕ)). Done before next after (ahead_with old l tail) (ahead_with new more tail) done) (sym (append_assoc w.lines r.takes.lines more))
-      (step_on (ahead_with now (r.takes.lines ++ more) tail) (ahead_with new more tail) (r.takes.reads more tail) (ahead_with old (w.lines ++ (r.takes.lines ++ more)) tail) (w.reads (r.takes.lines ++ more) tail));
+      subst (λ (l : List (List ℕ)). Done before next after (ahead_with old l tail) (ahead_with new more tail) done) (sym (append_assoc w.lines r.takes.looked.lines more))
+      (step_on (ahead_with now (r.takes.looked.lines ++ more) tail) (ahead_with new more tail) (r.takes.reads more tail) (ahead_with old (w.lines ++ (r.takes.looked.lines ++ more)) tail) (w.reads (r.takes.looked.lines ++ more) tail));
 }
 
 -- a step was read and done

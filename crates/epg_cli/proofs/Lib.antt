@@ -5,3 +5,4 @@ pub mod ListenFacts
 pub mod HearingFacts
 pub mod AgainFacts
 pub mod ReportFacts
+pub mod OutcomeFacts

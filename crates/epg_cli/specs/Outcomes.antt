@@ -1,5 +1,5 @@
 -- When two outcomes are one: compared as values, not as texts.
-use Rattle.std.specs.Prelude.{Bool, true, false, ◌==◌, ◌&&◌}
+use Rattle.std.specs.Prelude.{◌≡◌, ◌↔◌, Bool, true, false, ◌==◌, ◌&&◌}
 use Rattle.feed_book.specs.declared.reply.Field.{Field}
 use Rattle.feed_book.specs.declared.reply.Field.TheVariants.{Start, Duration, Window, Language, Name, Short, Extended, Country, Rating, Genre, Provider, ServiceName, Count, Segment}
 use Rattle.feed_book.specs.declared.reply.DayFault.{DayFault}
@@ -46,3 +46,7 @@ is_outcome (Late a) (Late b) = a.0 == b.0
 is_outcome (Published m) (Published n) = m == n
 is_outcome (Swapped m a) (Swapped n b) = m == n && a.0 == b.0
 is_outcome a b = false
+
+-- So the comparison is true exactly where they are equal.
+abbrev pub OutcomesAreCompared : Type 0
+OutcomesAreCompared = (a b : Outcome) → (is_outcome a b ≡ true) ↔ (a ≡ b)

@@ -1,6 +1,7 @@
 // What the two words of the program have to do with each other, and what a report has to do with an input.
 ghost use Rattle.epg_cli.specs.Again.{JournalsPlayAgain};
 ghost use Rattle.epg_cli.specs.Hearing.{PlayIsHeard};
+ghost use Rattle.epg_cli.specs.Outcomes.{OutcomesAreCompared};
 ghost use Rattle.epg_cli.specs.Reports.{ReportsTellJournals};
 
 /// What `play` sends, `listen` hears: where an air of a journal of a script, as `play` leaves one, is the recording, each piece of
@@ -20,4 +21,9 @@ pub fn journals_play_again()
 /// read from lines. So no fault line goes on with a journal.
 pub fn reports_tell_journals()
     ensures { ReportsTellJournals }
+{}
+
+/// Outcomes are compared as values: a kept outcome agrees exactly where it is the desk's.
+pub fn outcomes_are_compared()
+    ensures { OutcomesAreCompared }
 {}

@@ -1,5 +1,5 @@
 -- Values that are read from the lines ahead, one after another.
-use Rattle.std.proofs.Common.{◌≡◌, ◌≤◌, ℕ, ◌+◌, List, [], ◌∷◌, ◌++◌, length, refl, sym, ap, subst, ◌∙◌, inl, inr, arith, append-nil, append_assoc, length-append}
+use Rattle.std.proofs.Common.{◌≡◌, ◌≤◌, ◌⊎◌, ℕ, ◌+◌, List, [], ◌∷◌, ◌++◌, length, refl, sym, ap, subst, ◌∙◌, inl, inr, arith, append-nil, append_assoc, length-append}
 use Rattle.std.specs.Prelude.{Option, Some, None, Ok, Err, Result, IfSome}
 use Rattle.si_causes.specs.Causes.{Rose}
 use Rattle.si_causes.specs.Reading.{Reading, text_left}
@@ -8,12 +8,13 @@ use Rattle.si_causes.specs.declared.stop.ReadStop.TheVariants.{Failed, TooLong a
 use Rattle.input_lines.specs.Lines.{lines_of, record_lines}
 use Rattle.input_lines.specs.Going.{LineCame, FaultCame, RecordCame}
 use Rattle.input_lines.specs.Records.{FirstRecord, NoRecord, NoneInLimit, GivesRecord}
+use Rattle.input_lines.proofs.LastLines.{none_last, last_split, before_last}
 use Rattle.input_lines.proofs.Steps.{handed_none, handed_more, whole_more, records_past, record_first}
 use Rattle.feed_edits.specs.declared.stop.EditStop.{EditStop}
 use Rattle.feed_edits.specs.declared.stop.EditStop.TheVariants.{NoCommand as Refused, Read, Memory}
 use Rattle.feed_edits.specs.Ahead.{Ahead, Row, Tail, Ends, Exceeds, Breaks, Found, Came, Stopped, Stop, NoCommand, TooLong, Unread, first_row, row_of, tail_of, ahead}
 use Rattle.feed_edits.specs.Edits.{on_line}
-use Rattle.feed_edits.specs.Reads.{Leaves, Gives, Passes, Faulted, Takes, Says, ahead_with}
+use Rattle.feed_edits.specs.Reads.{Leaves, Gives, Looked, Passes, Faulted, Takes, Says, ahead_with}
 
 abbrev pub Known : Type 0
 Known = Option (List ℕ)
@@ -24,15 +25,45 @@ rose_since (inr last) le = inr last
 
 -- ---- one value and then what is behind it
 
+abbrev pub looked_none : {S T : Type 0} (left : S → Known) (f : Ahead → Found T) (reader : Reading S) → reader.stop ≡ None → Looked left f reader reader
+looked_none left f reader going = record {
+  lines = [];
+  since = λ e. e;
+  handed = λ e. handed_none left reader;
+  count = omega arith;
+  going = going;
+  needed = λ front last e. absurd (none_last front last e);
+}
+
+abbrev pub looked_step : {S T U : Type 0} (left : S → Known) (first : Ahead → Found T) (f : Ahead → Found U) (old new : Reading S)
+    → ((a : Ahead) (s : Stop) → first a ≡ Stopped s → f a ≡ Stopped s) → Looked left first old new → Looked left f old new
+looked_step left first f old new stops l = record {
+  lines = l.lines;
+  since = l.since;
+  handed = l.handed;
+  count = l.count;
+  going = l.going;
+  needed = λ front last e. stops (ahead_with old front Breaks) Unread (l.needed front last e);
+}
+
+abbrev pub looked_join : {S T : Type 0} (left : S → Known) (f g : Ahead → Found T) (a b c : Reading S) → Passes left f g a b → Looked left g b c → Looked left f a c
+looked_join left f g a b c p k = record {
+  lines = p.looked.lines ++ k.lines;
+  since = λ e. p.looked.since (k.since e);
+  handed = λ e. handed_more left a b c p.looked.lines k.lines (p.looked.handed (k.since e)) (k.handed e);
+  count = omega (arith, p.looked.count, k.count, length-append p.looked.lines k.lines);
+  going = k.going;
+  needed = λ front last e. elim (last_split p.looked.lines k.lines front last e) [
+    | inl here ↦ p.looked.needed front last here
+    | inr (rest, there, is) ↦ ap (λ l. f (ahead_with a l Breaks)) is ∙ p.reads rest Breaks ∙ k.needed rest last there
+  ];
+}
+
 pub passes_step : {S T U : Type 0} (left : S → Known) (first : Ahead → Found T) (value : T) (f g : Ahead → Found U) (old new : Reading S)
-    → ((a b : Ahead) → first a ≡ Came value b → f a ≡ g b) → Passes left first (Came value) old new → Passes left f g old new
-passes_step left first value f g old new goes p = record {
-  lines = p.lines;
-  since = p.since;
-  handed = p.handed;
-  count = p.count;
-  going = p.going;
-  reads = λ more tail. goes (ahead_with old (p.lines ++ more) tail) (ahead_with new more tail) (p.reads more tail);
+    → ((a b : Ahead) → first a ≡ Came value b → f a ≡ g b) → ((a : Ahead) (s : Stop) → first a ≡ Stopped s → f a ≡ Stopped s) → Passes left first (Came value) old new → Passes left f g old new
+passes_step left first value f g old new goes stops p = record {
+  looked = looked_step left first f old new stops p.looked;
+  reads = λ more tail. goes (ahead_with old (p.looked.lines ++ more) tail) (ahead_with new more tail) (p.reads more tail);
 }
 
 pub leaves_step : {S T U : Type 0} (left : S → Known) (first : Ahead → Found T) (value : T) (f g : Ahead → Found U) (old new : Reading S) (text : List ℕ)
@@ -40,26 +71,15 @@ pub leaves_step : {S T U : Type 0} (left : S → Known) (first : Ahead → Found
 leaves_step left first value f g old new text goes p = record { rest = p.rest; told = p.told; reads = goes (ahead old text) (ahead new p.rest) p.reads }
 
 pub passes_same : {S T : Type 0} (left : S → Known) (f g : Ahead → Found T) (reader : Reading S) → reader.stop ≡ None → ((a : Ahead) → f a ≡ g a) → Passes left f g reader reader
-passes_same left f g reader going same = record {
-  lines = [];
-  since = λ e. e;
-  handed = λ e. handed_none left reader;
-  count = omega arith;
-  going = going;
-  reads = λ more tail. same (ahead_with reader more tail);
-}
+passes_same left f g reader going same = record { looked = looked_none left f reader going; reads = λ more tail. same (ahead_with reader more tail) }
 
 pub leaves_same : {S T : Type 0} (left : S → Known) (f g : Ahead → Found T) (reader : Reading S) (text : List ℕ) → text_left left reader ≡ Some text → ((a : Ahead) → f a ≡ g a) → Leaves left f g reader reader text
 leaves_same left f g reader text told same = record { rest = text; told = told; reads = same (ahead reader text) }
 
 pub passes_join : {S T : Type 0} (left : S → Known) (f g h : Ahead → Found T) (a b c : Reading S) → Passes left f g a b → Passes left g h b c → Passes left f h a c
 passes_join left f g h a b c p k = record {
-  lines = p.lines ++ k.lines;
-  since = λ e. p.since (k.since e);
-  handed = λ e. handed_more left a b c p.lines k.lines (p.handed (k.since e)) (k.handed e);
-  count = omega (arith, p.count, k.count, length-append p.lines k.lines);
-  going = k.going;
-  reads = λ more tail. ap (λ l. f (ahead_with a l tail)) (append_assoc p.lines k.lines more) ∙ p.reads (k.lines ++ more) tail ∙ k.reads more tail;
+  looked = looked_join left f g a b c p k.looked;
+  reads = λ more tail. ap (λ l. f (ahead_with a l tail)) (append_assoc p.looked.lines k.looked.lines more) ∙ p.reads (k.looked.lines ++ more) tail ∙ k.reads more tail;
 }
 
 pub leaves_join : {S T : Type 0} (left : S → Known) (f g h : Ahead → Found T) (a b c : Reading S) (text : List ℕ) → (l : Leaves left f g a b text) → Leaves left g h b c l.rest → Leaves left f h a c text
@@ -69,17 +89,21 @@ leaves_join left f g h a b c text l k = record { rest = k.rest; told = k.told; r
 
 pub takes_join : {S T : Type 0} (left : S → Known) (faults : S → ℕ) (f g : Ahead → Found T) (a b c : Reading S) (r : Result T EditStop) → Passes left f g a b → faults a.source ≤ faults b.source → Takes left faults g b c r → Takes left faults f a c r
 takes_join left faults f g a b c (Ok value) p le k = passes_join left f g (Came value) a b c p k
-takes_join left faults f g a b c (Err (Refused n)) p le k = k
+takes_join left faults f g a b c (Err (Refused n)) p le (inl k) = inl (record {
+  looked = looked_join left f g a b c p k.looked;
+  reads = λ more tail. ap (λ l. f (ahead_with a l tail)) (append_assoc p.looked.lines k.looked.lines more) ∙ p.reads (k.looked.lines ++ more) tail ∙ k.reads more tail;
+})
+takes_join left faults f g a b c (Err (Refused n)) p le (inr k) = inr k
 takes_join left faults f g a b c (Err (Read Overlong)) p le k = k
 takes_join left faults f g a b c (Err (Read Failed)) p le k = record {
-  lines = p.lines ++ k.lines;
-  whole = whole_more left a b c p.lines k.lines (p.handed k.unended) k.whole;
-  unended = p.since k.unended;
+  lines = p.looked.lines ++ k.lines;
+  whole = whole_more left a b c p.looked.lines k.lines (p.looked.handed k.unended) k.whole;
+  unended = p.looked.since k.unended;
   cause = rose_since k.cause le;
   stopped = k.stopped;
   reads = p.reads k.lines Breaks ∙ k.reads;
 }
-takes_join left faults f g a b c (Err Memory) p le k = tt
+takes_join left faults f g a b c (Err Memory) p le k = looked_join left f g a b c p k
 
 pub gives_join : {S T : Type 0} (left : S → Known) (f g : Ahead → Found T) (a b c : Reading S) (text : List ℕ) (r : Result T EditStop) → (l : Leaves left f g a b text) → Gives left g b c l.rest r → Gives left f a c text r
 gives_join left f g a b c text (Ok value) l k = leaves_join left f g (Came value) a b c text l k
@@ -98,7 +122,11 @@ gives_same left f g old new text (Err Memory) same k = tt
 -- a stop at the first value is the stop
 pub takes_stop : {S T U : Type 0} (left : S → Known) (faults : S → ℕ) (first : Ahead → Found T) (f : Ahead → Found U) (old new : Reading S) (stop : EditStop)
     → ((a : Ahead) (s : Stop) → first a ≡ Stopped s → f a ≡ Stopped s) → Takes {T = T} left faults first old new (Err stop) → Takes {T = U} left faults f old new (Err stop)
-takes_stop left faults first f old new (Refused n) stops k = k
+takes_stop left faults first f old new (Refused n) stops (inl k) = inl (record {
+  looked = looked_step left first f old new stops k.looked;
+  reads = λ more tail. stops (ahead_with old (k.looked.lines ++ more) tail) (NoCommand n) (k.reads more tail);
+})
+takes_stop left faults first f old new (Refused n) stops (inr k) = inr k
 takes_stop left faults first f old new (Read Overlong) stops k = k
 takes_stop left faults first f old new (Read Failed) stops k = record {
   lines = k.lines;
@@ -108,7 +136,7 @@ takes_stop left faults first f old new (Read Failed) stops k = record {
   stopped = k.stopped;
   reads = stops (ahead_with old k.lines Breaks) Unread k.reads;
 }
-takes_stop left faults first f old new Memory stops k = tt
+takes_stop left faults first f old new Memory stops k = looked_step left first f old new stops k
 
 pub gives_stop : {S T U : Type 0} (left : S → Known) (first : Ahead → Found T) (f : Ahead → Found U) (old new : Reading S) (text : List ℕ) (stop : EditStop)
     → ((a : Ahead) (s : Stop) → first a ≡ Stopped s → f a ≡ Stopped s) → Gives {T = T} left first old new text (Err stop) → Gives {T = U} left f old new text (Err stop)
@@ -119,15 +147,23 @@ gives_stop left first f old new text Memory stops k = tt
 
 -- ---- the next line
 
-pub row_passes : {S : Type 0} (left : S → Known) (stop : Tail → Stop) (old new : Reading S) (n : ℕ) → LineCame left old new n → Passes left (first_row stop) (Came (n, new.line)) old new
-row_passes left stop old new n came =
+-- the lines before the one that came were passed over
+pub row_passes : {S : Type 0} (left : S → Known) (stop : Tail → Stop) (old new : Reading S) (n : ℕ) → stop Breaks ≡ Unread → LineCame left old new n → Passes left (first_row stop) (Came (n, new.line)) old new
+row_passes left stop old new n unread came =
     let number : old.number + 1 + length came.over ≡ n = omega (arith, came.number) in
+    let over : (front : List (List ℕ)) (last : List ℕ) → came.over ++ new.line ∷ [] ≡ front ++ last ∷ [] → front ≡ came.over ++ [] =
+    λ front last e. before_last came.over new.line front last e in
     record {
-      lines = came.over ++ new.line ∷ [];
-      since = λ e. came.unended;
-      handed = came.handed;
-      count = omega (arith, came.number, came.count, length-append came.over (new.line ∷ []));
-      going = came.going;
+      looked = record {
+        lines = came.over ++ new.line ∷ [];
+        since = λ e. came.unended;
+        handed = came.handed;
+        count = omega (arith, came.number, came.count, length-append came.over (new.line ∷ []));
+        going = came.going;
+        needed = λ front last e.
+            ap (λ (rows : List Row). row_of stop rows Breaks) (ap (record_lines (old.number + 1)) (over front last e) ∙ records_past (old.number + 1) came.over [] came.passed)
+            ∙ ap (λ s. let r : Found Row = Stopped s in r) unread;
+      };
       reads = λ more tail.
           ap (λ (rows : List Row). row_of stop rows tail)
           (ap (record_lines (old.number + 1)) (append_assoc came.over (new.line ∷ []) more)
@@ -186,16 +222,15 @@ row_stop_gives left stop old new text Overlong e came = row_limit stop old new t
 
 pub says_takes : {S T : Type 0} (left : S → Known) (faults : S → ℕ) (f : Ahead → Found T) (n : ℕ) (found : Option T) (old new : Reading S) (r : Result T EditStop) → Passes left f (on_line n found) old new → Says n found r → Takes left faults f old new r
 says_takes left faults f n found old new (Ok value) p says = record {
-  lines = p.lines;
-  since = p.since;
-  handed = p.handed;
-  count = p.count;
-  going = p.going;
+  looked = p.looked;
   reads = λ more tail. p.reads more tail ∙ ap (λ o. on_line n o (ahead_with new more tail)) says;
 }
-says_takes left faults f n found old new (Err (Refused at)) p says = p.going
+says_takes {T = T} left faults f n found old new (Err (Refused at)) p says = inl (record {
+  looked = p.looked;
+  reads = λ more tail. p.reads more tail ∙ ap (λ o. on_line n o (ahead_with new more tail)) says.1 ∙ ap (λ k. let r : Found T = Stopped (NoCommand k) in r) (sym says.0);
+})
 says_takes left faults f n found old new (Err (Read stop)) p says = absurd says
-says_takes left faults f n found old new (Err Memory) p says = tt
+says_takes left faults f n found old new (Err Memory) p says = p.looked
 
 pub says_gives : {S T : Type 0} (left : S → Known) (f : Ahead → Found T) (n : ℕ) (found : Option T) (old new : Reading S) (text : List ℕ) (r : Result T EditStop) → Leaves left f (on_line n found) old new text → Says n found r → Gives left f old new text r
 says_gives left f n found old new text (Ok value) l says = record { rest = l.rest; told = l.told; reads = l.reads ∙ ap (λ o. on_line n o (ahead new l.rest)) says }

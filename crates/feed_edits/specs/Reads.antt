@@ -1,14 +1,16 @@
 -- What reading from the lines ahead tells, of a text that the source tells and of the bytes that it gave.
-use Rattle.std.specs.Prelude.{◌≡◌, ℕ, ◌+◌, false, List, [], ◌++◌, length, Option, Some, None, Ok, Err, Result}
+use Rattle.std.specs.Prelude.{◌≡◌, ◌⊎◌, ℕ, ◌+◌, false, List, [], ◌∷◌, ◌++◌, length, Option, Some, None, Ok, Err, Result}
+use Rattle.std.specs.Io.KnownBytes.{IsAtEnd}
 use Rattle.si_causes.specs.Reading.{Reading, text_left}
 use Rattle.si_causes.specs.Causes.{Rose}
+use Rattle.si_causes.specs.declared.stop.ReadStop.{ReadStop}
 use Rattle.si_causes.specs.declared.stop.ReadStop.TheVariants.{Failed, TooLong as Overlong}
 use Rattle.input_lines.specs.Lines.{record_lines}
 use Rattle.input_lines.specs.Going.{HandedOut, WereWhole}
 use Rattle.feed_edits.specs.declared.edit.Edit.{Edit}
 use Rattle.feed_edits.specs.declared.stop.EditStop.{EditStop}
 use Rattle.feed_edits.specs.declared.stop.EditStop.TheVariants.{NoCommand as Refused, Read, Memory}
-use Rattle.feed_edits.specs.Ahead.{Ahead, Tail, Breaks, Found, Came, Stopped, End, NoCommand, TooLong, Unread, ahead}
+use Rattle.feed_edits.specs.Ahead.{Ahead, Tail, Breaks, Exceeds, Found, Came, Stopped, Stop, End, NoCommand, TooLong, Unread, ahead}
 use Rattle.feed_edits.specs.Edits.{first_edit}
 
 -- Of a told text another is left, and what `first` reads of the one is what `next` reads of the other.
@@ -35,16 +37,31 @@ GivesNext left old new text (Err stop) = Gives left first_edit old new text (Err
 abbrev pub ahead_with : {S : Type 0} → Reading S → List (List ℕ) → Tail → Ahead
 ahead_with reader lines tail = record { rows = record_lines (reader.number + 1) lines; tail = tail }
 
--- From old to new the reader handed out these lines. What `first` reads of them and of what is behind them, whatever
--- that is, is what `next` reads of what is behind them.
-pub record Passes {S T : Type 0} (left : S → Option (List ℕ)) (first next : Ahead → Found T) (old new : Reading S) : Type 0 where
+-- From old to new the reader handed out these lines, and no more than `first` has to look at: without the last of them it reads nothing
+-- yet.
+pub record Looked {S T : Type 0} (left : S → Option (List ℕ)) (first : Ahead → Found T) (old new : Reading S) : Type 0 where
   pub lines : List (List ℕ)
   pub since : new.ended ≡ false → old.ended ≡ false
   -- a line without an LF is the last
   pub handed : new.ended ≡ false → HandedOut left old new lines
   pub count : new.number ≡ old.number + length lines
   pub going : new.stop ≡ None
-  pub reads : (more : List (List ℕ)) (tail : Tail) → first (ahead_with old (lines ++ more) tail) ≡ next (ahead_with new more tail)
+  pub needed : (front : List (List ℕ)) (last : List ℕ) → lines ≡ front ++ last ∷ [] → first (ahead_with old front Breaks) ≡ Stopped Unread
+
+-- What `first` reads of the lines that were handed out and of what is behind them, whatever that is, is what `next` reads of what is
+-- behind them.
+pub record Passes {S T : Type 0} (left : S → Option (List ℕ)) (first next : Ahead → Found T) (old new : Reading S) : Type 0 where
+  pub looked : Looked left first old new
+  pub reads : (more : List (List ℕ)) (tail : Tail) → first (ahead_with old (looked.lines ++ more) tail) ≡ next (ahead_with new more tail)
+
+-- The lines that were handed out are refused as line n, whatever is behind them.
+pub record RefusesLines {S T : Type 0} (left : S → Option (List ℕ)) (first : Ahead → Found T) (old new : Reading S) (n : ℕ) : Type 0 where
+  pub looked : Looked left first old new
+  pub reads : (more : List (List ℕ)) (tail : Tail) → first (ahead_with old (looked.lines ++ more) tail) ≡ Stopped (NoCommand n)
+
+-- a refusal: the reader stands behind the refused line, or at the end, where a line is missing
+abbrev pub Refuses : {S T : Type 0} → (S → Option (List ℕ)) → (Ahead → Found T) → Reading S → Reading S → ℕ → Type 0
+Refuses left first old new n = RefusesLines left first old new n ⊎ ((new.stop ≡ None) × IsAtEnd (left new.source))
 
 -- A read failed: the lines that were whole in the bytes taken are too few to read by, and no refusal stands in them.
 pub record Faulted {S T : Type 0} (left : S → Option (List ℕ)) (faults : S → ℕ) (first : Ahead → Found T) (old new : Reading S) : Type 0 where
@@ -58,10 +75,10 @@ pub record Faulted {S T : Type 0} (left : S → Option (List ℕ)) (faults : S �
 -- what reading a value tells of the bytes, whether or not the source tells its text
 abbrev pub Takes : {S T : Type 0} → (S → Option (List ℕ)) → (S → ℕ) → (Ahead → Found T) → Reading S → Reading S → Result T EditStop → Type 0
 Takes left faults first old new (Ok value) = Passes left first (Came value) old new
-Takes left faults first old new (Err (Refused n)) = new.stop ≡ None
+Takes left faults first old new (Err (Refused n)) = Refuses left first old new n
 Takes left faults first old new (Err (Read Overlong)) = new.stop ≡ Some Overlong
 Takes left faults first old new (Err (Read Failed)) = Faulted left faults first old new
-Takes left faults first old new (Err Memory) = Unit {0}
+Takes left faults first old new (Err Memory) = Looked left first old new
 
 abbrev pub TakesNext : {S : Type 0} → (S → Option (List ℕ)) → (S → ℕ) → Reading S → Reading S → Result (Option Edit) EditStop → Type 0
 TakesNext left faults old new (Ok (Some edit)) = Passes left first_edit (Came edit) old new
@@ -74,3 +91,21 @@ Says n found (Ok value) = found ≡ Some value
 Says n found (Err (Refused at)) = (at ≡ n) × (found ≡ None)
 Says n found (Err (Read stop)) = ⊥
 Says n found (Err Memory) = Unit {0}
+
+-- ---- a reader that has stopped
+
+-- no line is ahead, and then this
+abbrev pub none_ahead : ReadStop → Ahead
+none_ahead Failed = record { rows = []; tail = Breaks }
+none_ahead Overlong = record { rows = []; tail = Exceeds }
+
+abbrev pub stopped_by : ReadStop → Stop
+stopped_by Failed = Unread
+stopped_by Overlong = TooLong
+
+-- What is read by a reader that has stopped: what needs no line, or its stop.
+abbrev pub ReadsStopped : {T : Type 0} → (Ahead → Found T) → ReadStop → Result T EditStop → Type 0
+ReadsStopped first stop (Ok value) = first (none_ahead stop) ≡ Came value (none_ahead stop)
+ReadsStopped first stop (Err (Refused n)) = first (none_ahead stop) ≡ Stopped (NoCommand n)
+ReadsStopped first stop (Err (Read s)) = (s ≡ stop) × (first (none_ahead stop) ≡ Stopped (stopped_by stop))
+ReadsStopped first stop (Err Memory) = Unit {0}

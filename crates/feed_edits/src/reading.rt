@@ -7,7 +7,7 @@ ghost use Rattle.feed_edits.specs.declared.stop.EditStop.TheVariants.{Memory, Re
 ghost use Rattle.feed_edits.specs.Items.{IsShapedItem, item_line};
 ghost use Rattle.feed_edits.specs.Heads.{IsShaped, IsShapedHead, edit_head};
 ghost use Rattle.feed_edits.specs.Edits.{first_item, items_of, read_edit as edit_at, with_items as edit_with};
-ghost use Rattle.feed_edits.specs.Reads.{Gives, GivesNext, Says, Takes, TakesNext};
+ghost use Rattle.feed_edits.specs.Reads.{Gives, GivesNext, ReadsStopped, Says, Takes, TakesNext};
 
 use crate::edit::{DayItems, Edit, Item};
 use crate::heads::{Head, read_head};
@@ -94,6 +94,7 @@ fn next_items<S: Source>(
     ensures takes { lines.old.stop ≡ None → Takes S.left S.faults (items_of count) lines.old lines.new result }
     ensures shaped { IfOk result (All IsShapedItem) }
     ensures counted { IfOk result (λ items. length items ≡ count) }
+    ensures stopped { IfSome lines.old.stop (λ stop. ReadsStopped (items_of count) stop result) }
     ensures sticky { IfSome lines.old.stop (λ stop. lines.new ≡ lines.old) }
     ensures goes_on { OnOk result (room lines.new ≤ room lines.old) }
     ensures later { S.faults lines.old.source ≤ S.faults lines.new.source }
@@ -123,6 +124,7 @@ fn with_items<S: Source>(
         → Gives S.left (edit_with head) lines.old lines.new text result }
     ensures takes { lines.old.stop ≡ None → Takes S.left S.faults (edit_with head) lines.old lines.new result }
     ensures shaped { IfOk result IsShaped }
+    ensures stopped { IfSome lines.old.stop (λ stop. ReadsStopped (edit_with head) stop result) }
     ensures sticky { IfSome lines.old.stop (λ stop. lines.new ≡ lines.old) }
     ensures goes_on { OnOk result (room lines.new ≤ room lines.old) }
     ensures later { S.faults lines.old.source ≤ S.faults lines.new.source }
@@ -143,7 +145,8 @@ fn with_items<S: Source>(
 ///
 /// `NoCommand(at)` comes exactly where the fields are no edit. Where a line that is no item comes in place of an item,
 /// `NoCommand` has its number; where the end comes, that of the last line plus 1, lines that are passed over counted.
-/// `Read` comes as from [`LineReader::next`]. After a refusal the reader stands behind the line that was refused.
+/// `Read` comes as from [`LineReader::next`]; a reader that has stopped gives what needs no line, or its stop. After a refusal the
+/// reader stands behind the line that was refused, and after want of memory behind the last line that was looked at.
 pub fn read_edit<S: Source>(
     alloc: Global,
     fields: &LineFields,
@@ -156,6 +159,7 @@ pub fn read_edit<S: Source>(
     ensures takes { lines.old.stop ≡ None
         → Takes S.left S.faults (edit_at at (drop from fields.now)) lines.old lines.new result }
     ensures shaped { IfOk result IsShaped }
+    ensures stopped { IfSome lines.old.stop (λ stop. ReadsStopped (edit_at at (drop from fields.now)) stop result) }
     ensures sticky { IfSome lines.old.stop (λ stop. lines.new ≡ lines.old) }
     ensures goes_on { OnOk result (room lines.new ≤ room lines.old) }
     ensures later { S.faults lines.old.source ≤ S.faults lines.new.source }
@@ -173,7 +177,7 @@ pub fn read_edit<S: Source>(
 /// The next edit, or `None` exactly at the end. Empty lines and lines that begin with `#` are passed over.
 ///
 /// `NoCommand` has the number of the first line that is no edit there, as in [`read_edit`]. `Read` comes as from
-/// [`LineReader::next`], and after it each later call answers the same.
+/// [`LineReader::next`], and after it each later call answers the same. No line is taken behind those that an answer needs.
 pub fn next_edit<S: Source>(
     alloc: Global,
     lines: &mut LineReader<S>,

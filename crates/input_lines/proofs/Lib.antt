@@ -3,3 +3,4 @@ pub mod Clean
 pub mod CleanLines
 pub mod Numerals
 pub mod Steps
+pub mod LastLines

@@ -1,6 +1,6 @@
 -- Commands and kept outcomes, by the lines that they begin with.
 use Rattle.std.proofs.lemmas.List.{take_all, length-drop}
-use Rattle.std.proofs.Common.{◌≡◌, ◌≤◌, ◌+◌, ◌-◌, ℕ, List, length, take, drop, drop-drop, true, false, Bool, refl, sym, ap, subst, ◌∙◌, arith}
+use Rattle.std.proofs.Common.{◌≡◌, ◌≤◌, ◌+◌, ◌-◌, ℕ, List, length, take, drop, drop-drop, true, false, Bool, refl, sym, ap, subst, ◌∙◌, arith, inl, ◌++◌}
 use Rattle.std.specs.Prelude.{Option, Some, None, Ok, Err, Result, IfOk, if◌then◌else◌}
 use Rattle.si_causes.specs.Reading.{Reading, text_left}
 use Rattle.si_causes.specs.declared.stop.ReadStop.{ReadStop}
@@ -11,10 +11,10 @@ use Rattle.input_lines.specs.Records.{FirstRecord, NoRecord, GivesRecord}
 use Rattle.feed_edits.specs.declared.edit.Edit.{Edit}
 use Rattle.feed_edits.specs.declared.stop.EditStop.{EditStop}
 use Rattle.feed_edits.specs.declared.stop.EditStop.TheVariants.{NoCommand as Refused, Read, Memory}
-use Rattle.feed_edits.specs.Ahead.{Ahead, Row, Found, Came, Stopped, Stop, End as end, NoCommand, and_then, first_row, stop_at, ahead}
+use Rattle.feed_edits.specs.Ahead.{Ahead, Row, Found, Came, Stopped, Stop, End as end, NoCommand, and_then, first_row, stop_at, ahead, Tail}
 use Rattle.feed_edits.specs.Edits.{on_line, read_edit}
-use Rattle.feed_edits.specs.Reads.{Leaves, Gives, Passes, Takes, Says}
-use Rattle.feed_edits.proofs.Turns.{Known, passes_step, leaves_step, row_passes, row_leaves, row_stop_takes, row_stop_gives, row_none, takes_stop, gives_stop, takes_join, gives_join, gives_same, passes_same, leaves_same}
+use Rattle.feed_edits.specs.Reads.{Leaves, Gives, Passes, Takes, Says, Looked, ahead_with}
+use Rattle.feed_edits.proofs.Turns.{Known, looked_none, passes_step, leaves_step, row_passes, row_leaves, row_stop_takes, row_stop_gives, row_none, takes_stop, gives_stop, takes_join, gives_join, gives_same, passes_same, leaves_same}
 use Rattle.desk_core.specs.declared.step.Step.{Step}
 use Rattle.desk_core.specs.declared.step.Step.TheVariants.{Edit as edit}
 use Rattle.desk_core.specs.declared.step.Outcome.{Outcome}
@@ -47,7 +47,8 @@ pub feed_passes : {S : Type 0} (left : S → Known) (who n from feed : ℕ) (wor
     → Passes left (edit_behind from n fields) (Came e) old new → Passes left (command_of_caller who n words) (Came (who, edit feed e)) old new
 feed_passes left who n from feed words fields e old new same none some p =
     passes_step left (edit_behind from n fields) e (command_of_caller who n words) (Came (who, edit feed e)) old new
-    (λ a b h. feed_is who n from feed words fields same none some a ∙ ap (feed_command who feed) h) p
+    (λ a b h. feed_is who n from feed words fields same none some a ∙ ap (feed_command who feed) h)
+    (λ a s h. feed_is who n from feed words fields same none some a ∙ ap (feed_command who feed) h) p
 
 pub feed_leaves : {S : Type 0} (left : S → Known) (who n from feed : ℕ) (words fields : List (List ℕ)) (e : Edit) (old new : Reading S) (text : List ℕ) → words ≡ drop from fields → short_step words ≡ None → feed_of words ≡ Some feed
     → Leaves left (edit_behind from n fields) (Came e) old new text → Leaves left (command_of_caller who n words) (Came (who, edit feed e)) old new text
@@ -102,10 +103,14 @@ pub kept_leaves : {S : Type 0} (left : S → Known) (after : Bool) (n : ℕ) (fi
 kept_leaves left after n fields o reader text told line e = leaves_same left (read_item after n fields) (Came (Kept n o)) reader text told (kept_is after n fields (Some o) line e)
 
 -- what a line says that is refused
-pub refused_takes : {S T U : Type 0} (left : S → Known) (faults : S → ℕ) (f : Ahead → Found U) (old new : Reading S) (n : ℕ) (found : Option T) (stop : EditStop) → new.stop ≡ None → Says {T = T} n found (Err stop) → Takes {T = U} left faults f old new (Err stop)
-refused_takes left faults f old new n found (Refused at) going says = going
-refused_takes left faults f old new n found (Read stop) going says = absurd says
-refused_takes left faults f old new n found Memory going says = tt
+pub refused_takes : {S T U : Type 0} (left : S → Known) (faults : S → ℕ) (f : Ahead → Found U) (old new : Reading S) (n : ℕ) (found : Option T) (stop : EditStop) (looked : Looked left f old new)
+    → (found ≡ None → (more : List (List ℕ)) (tail : Tail) → f (ahead_with old (looked.lines ++ more) tail) ≡ Stopped (NoCommand n)) → Says {T = T} n found (Err stop) → Takes {T = U} left faults f old new (Err stop)
+refused_takes {U = U} left faults f old new n found (Refused at) looked stops says = inl (record {
+  looked = looked;
+  reads = λ more tail. stops says.1 more tail ∙ ap (λ k. let r : Found U = Stopped (NoCommand k) in r) (sym says.0);
+})
+refused_takes left faults f old new n found (Read stop) looked stops says = absurd says
+refused_takes left faults f old new n found Memory looked stops says = looked
 
 pub refused_gives : {S T U : Type 0} (left : S → Known) (f : Ahead → Found U) (old new : Reading S) (text : List ℕ) (n : ℕ) (found : Option T) (stop : EditStop) → (found ≡ None → f (ahead old text) ≡ Stopped (NoCommand n))
     → Says {T = T} n found (Err stop) → Gives {T = U} left f old new text (Err stop)
@@ -113,13 +118,28 @@ refused_gives {U = U} left f old new text n found (Refused at) stops says = stop
 refused_gives left f old new text n found (Read stop) stops says = absurd says
 refused_gives left f old new text n found Memory stops says = tt
 
+pub kept_refused_takes : {S : Type 0} (left : S → Known) (faults : S → ℕ) (after : Bool) (n : ℕ) (fields : List (List ℕ)) (stop : EditStop) (reader : Reading S) → reader.stop ≡ None → is_outcome_line fields ≡ true → Says {T = Outcome} n (kept_in after fields) (Err stop)
+    → Takes {T = ScriptItem} left faults (read_item after n fields) reader reader (Err stop)
+kept_refused_takes left faults after n fields stop reader going line says =
+    refused_takes left faults (read_item after n fields) reader reader n (kept_in after fields) stop (looked_none left (read_item after n fields) reader going)
+    (λ e more tail. kept_is after n fields None line e (ahead_with reader more tail)) says
+
+-- the words are no command of a feed
+pub no_feed_takes : {S : Type 0} (left : S → Known) (faults : S → ℕ) (who n : ℕ) (words : List (List ℕ)) (reader : Reading S) → reader.stop ≡ None → short_step words ≡ None → feed_of words ≡ None → Takes {T = Command} left faults (command_of_caller who n words) reader reader (Err (Refused n))
+no_feed_takes left faults who n words reader going none other = inl (record {
+  looked = looked_none left (command_of_caller who n words) reader going;
+  reads = λ more tail.
+      ap (λ o. command_with who n o words (ahead_with reader more tail)) none
+      ∙ ap (λ o. and_then (on_line n o (ahead_with reader more tail)) (λ f rest. feed_command who f (read_edit n (drop 2 words) rest))) other;
+})
+
 pub kept_refused_gives : {S : Type 0} (left : S → Known) (after : Bool) (n : ℕ) (fields : List (List ℕ)) (stop : EditStop) (reader : Reading S) (text : List ℕ) → is_outcome_line fields ≡ true → Says {T = Outcome} n (kept_in after fields) (Err stop)
     → Gives {T = ScriptItem} left (read_item after n fields) reader reader text (Err stop)
 kept_refused_gives left after n fields stop reader text line says = refused_gives left (read_item after n fields) reader reader text n (kept_in after fields) stop (λ e. kept_is after n fields None line e (ahead reader text)) says
 
 pub step_passes : {S : Type 0} (left : S → Known) (after : Bool) (n : ℕ) (fields : List (List ℕ)) (c : Command) (old new : Reading S) → is_outcome_line fields ≡ false
     → Passes left (read_command n fields) (Came c) old new → Passes left (read_item after n fields) (Came (step c.0 c.1)) old new
-step_passes left after n fields c old new line p = passes_step left (read_command n fields) c (read_item after n fields) (Came (step c.0 c.1)) old new (λ a b h. step_is after n fields line a ∙ ap step_item h) p
+step_passes left after n fields c old new line p = passes_step left (read_command n fields) c (read_item after n fields) (Came (step c.0 c.1)) old new (λ a b h. step_is after n fields line a ∙ ap step_item h) (λ a s h. step_is after n fields line a ∙ ap step_item h) p
 
 pub step_leaves : {S : Type 0} (left : S → Known) (after : Bool) (n : ℕ) (fields : List (List ℕ)) (c : Command) (old new : Reading S) (text : List ℕ) → is_outcome_line fields ≡ false
     → Leaves left (read_command n fields) (Came c) old new text → Leaves left (read_item after n fields) (Came (step c.0 c.1)) old new text
@@ -142,7 +162,7 @@ item_stops : (after : Bool) (a : Ahead) (s : Stop) → first_row stop_at a ≡ S
 item_stops after a s e = ap (λ (r : Found Row). and_then r (λ row behind. item_on after row.0 (record_of row.1) behind)) e
 
 line_passes : {S : Type 0} (left : S → Known) (after : Bool) (old new : Reading S) (n : ℕ) → LineCame left old new n → Passes left (first_script_item after) (item_on after n (record_of new.line)) old new
-line_passes left after old new n came = passes_step left (first_row stop_at) (n, new.line) (first_script_item after) (item_on after n (record_of new.line)) old new (item_goes after n new.line) (row_passes left stop_at old new n came)
+line_passes left after old new n came = passes_step left (first_row stop_at) (n, new.line) (first_script_item after) (item_on after n (record_of new.line)) old new (item_goes after n new.line) (item_stops after) (row_passes left stop_at old new n refl came)
 
 line_leaves : {S : Type 0} (left : S → Known) (after : Bool) (old new : Reading S) (text : List ℕ) (n : ℕ) → FirstRecord left old new (lines_of old text) n → Leaves left (first_script_item after) (item_on after n (record_of new.line)) old new text
 line_leaves left after old new text n came = leaves_step left (first_row stop_at) (n, new.line) (first_script_item after) (item_on after n (record_of new.line)) old new text (item_goes after n new.line) (row_leaves left stop_at old new text n came)
@@ -188,6 +208,13 @@ no_fields_gives left after old new text n line stop e first says =
     let none : record_of new.line ≡ None → first_script_item after (ahead old text) ≡ Stopped (NoCommand n) =
     λ h. l.reads ∙ ap (λ o. item_on after n o (ahead new l.rest)) h in
     refused_gives left (first_script_item after) old new text n (record_of new.line) stop none (subst (λ (l : List ℕ). Says {T = List (List ℕ)} n (record_of l) (Err stop)) e says)
+
+pub no_fields_takes : {S : Type 0} (left : S → Known) (faults : S → ℕ) (after : Bool) (old new : Reading S) (n : ℕ) (line : List ℕ) (stop : EditStop) → line ≡ new.line → LineCame left old new n
+    → Says {T = List (List ℕ)} n (record_of line) (Err stop) → Takes {T = ScriptItem} left faults (first_script_item after) old new (Err stop)
+no_fields_takes left faults after old new n line stop e came says =
+    let p = line_passes left after old new n came in
+    refused_takes left faults (first_script_item after) old new n (record_of new.line) stop p.looked
+    (λ h more tail. p.reads more tail ∙ ap (λ o. item_on after n o (ahead_with new more tail)) h) (subst (λ (l : List ℕ). Says {T = List (List ℕ)} n (record_of l) (Err stop)) e says)
 
 pub item_stop_takes : {S : Type 0} (left : S → Known) (faults : S → ℕ) (after : Bool) (old new : Reading S) (s : ReadStop) → RecordCame left faults old new (Err s) → Takes {T = ScriptItem} left faults (first_script_item after) old new (Err (Read s))
 item_stop_takes left faults after old new s came = takes_stop left faults (first_row stop_at) (first_script_item after) old new (Read s) (item_stops after) (row_stop_takes left faults stop_at old new s refl came)

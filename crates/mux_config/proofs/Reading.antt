@@ -10,6 +10,7 @@ use Rattle.si_causes.specs.declared.stop.ReadStop.TheVariants.{Failed, TooLong}
 use Rattle.input_lines.specs.Lines.{is_passed, lines_of, record_lines}
 use Rattle.input_lines.specs.Going.{HandedOut, LineCame, RecordCame}
 use Rattle.input_lines.specs.Records.{FirstRecord, NoRecord, GivesRecord}
+use Rattle.input_lines.proofs.LastLines.{before_last}
 use Rattle.input_lines.proofs.Steps.{handed_none, handed_more, whole_more, records_past, record_first}
 use Rattle.mux_config.specs.declared.fault.MuxFault.{MuxFault}
 use Rattle.mux_config.specs.declared.mux.Mux.{Mux}
@@ -18,7 +19,7 @@ use Rattle.mux_config.specs.declared.stop.MuxStop.TheVariants.{Fault, Read, Memo
 use Rattle.mux_config.specs.declared.record.Numbered.{Numbered}
 use Rattle.mux_config.specs.Block.{Block, Faulty, Whole, Unended, and_found, at_text_end, block_from, block_of, ended, fault_of, is_end}
 use Rattle.mux_config.specs.Fields.{found_line}
-use Rattle.mux_config.specs.Reads.{Makes, MuxCame, ReadMux, TookLine, WholeCame}
+use Rattle.mux_config.specs.Reads.{Makes, MuxCame, ReadMux, TookLine, WholeCame, Looked}
 
 abbrev Known : Type 0
 Known = Option (List ℕ)
@@ -96,6 +97,25 @@ lines_count left old now new n records t next =
     let came = next.came in
     omega (arith, came.count, came.number, t.count, length-append t.lines (came.over ++ new.line ∷ []), length-append came.over (new.line ∷ []))
 
+none_there : (n : ℕ) (over : List (List ℕ)) → list_all is_passed over ≡ true → record_lines n over ≡ []
+none_there n over passed = ap (record_lines n) (sym (append-nil over)) ∙ records_past n over [] passed
+
+-- without the last of them there was neither a fault nor the end
+abbrev looked_at : {S : Type 0} (left : S → Known) (old now new : Reading S) (n : ℕ) (records : List Numbered) → Taken left old now records → NextLine left now new n → Looked left old new
+looked_at left old now new n records t next =
+    let came = next.came in
+    let front_is : (front : List (List ℕ)) (last : List ℕ) → lines_with left old now new n records t next ≡ front ++ last ∷ [] → front ≡ t.lines ++ came.over =
+    λ front last e. before_last (t.lines ++ came.over) new.line front last (append_assoc t.lines came.over (new.line ∷ []) ∙ e) ∙ append-nil (t.lines ++ came.over) in
+    record {
+      lines = lines_with left old now new n records t next;
+      since = λ open_end. t.since next.more_to_come;
+      handed = lines_handed left old now new n records t next;
+      count = lines_count left old now new n records t next;
+      going = came.going;
+      needed = λ front last e.
+          ap (λ l. block_from [] (record_lines (old.number + 1) l)) (front_is front last e) ∙ t.reads came.over ∙ ap (block_from records) (none_there (now.number + 1) came.over came.passed);
+    }
+
 -- what they say, whatever lines are behind them
 lines_read : {S : Type 0} (left : S → Known) (old now new : Reading S) (n : ℕ) (records : List Numbered) (t : Taken left old now records) (next : NextLine left now new n) (more : List (List ℕ))
     → block_from [] (record_lines (old.number + 1) (lines_with left old now new n records t next ++ more)) ≡ block_from records ((n, new.line) ∷ record_lines (n + 1) more)
@@ -165,11 +185,7 @@ ended_read left old now new n records (Err Memory) t next f e makes text told = 
 whole_read : {S : Type 0} (left : S → Known) (old now new : Reading S) (n : ℕ) (records : List Numbered) (mux : Mux) → Taken left old now records → NextLine left now new n
     → fault_of records n (found_line new.line) ≡ None → is_end (found_line new.line) ≡ true → ((behind : RecordLines) → ended records behind ≡ Whole mux behind) → WholeCame left old new mux
 whole_read left old now new n records mux t next f e makes = record {
-  lines = lines_with left old now new n records t next;
-  since = λ open_end. t.since next.more_to_come;
-  handed = lines_handed left old now new n records t next;
-  count = lines_count left old now new n records t next;
-  going = next.came.going;
+  looked = looked_at left old now new n records t next;
   whole = λ more.
       let behind = record_lines (n + 1) more in
       lines_read left old now new n records t next more ∙ line_ends records n new.line behind f e ∙ makes behind
@@ -179,9 +195,12 @@ whole_read left old now new n records mux t next f e makes = record {
 pub ended_came : {S : Type 0} (left : S → Known) (faults : S → ℕ) (old now new : Reading S) (n : ℕ) (records : List Numbered) (result : Result Mux MuxStop) → Taken left old now records → NextLine left now new n
     → fault_of records n (found_line new.line) ≡ None → is_end (found_line new.line) ≡ true → ((behind : RecordLines) → Makes (ended records behind) behind result) → MuxCame left faults old new result
 ended_came left faults old now new n records (Ok mux) t next f e makes = whole_read left old now new n records mux t next f e makes
-ended_came left faults old now new n records (Err (Fault g)) t next f e makes = next.came.going
+ended_came left faults old now new n records (Err (Fault g)) t next f e makes = inl (record {
+  looked = looked_at left old now new n records t next;
+  faulty = λ more. lines_read left old now new n records t next more ∙ line_ends records n new.line (record_lines (n + 1) more) f e ∙ makes (record_lines (n + 1) more);
+})
 ended_came left faults old now new n records (Err (Read stop)) t next f e makes = absurd (makes [])
-ended_came left faults old now new n records (Err Memory) t next f e makes = tt
+ended_came left faults old now new n records (Err Memory) t next f e makes = looked_at left old now new n records t next
 
 -- the line that came stops the reading
 pub line_read : {S : Type 0} (left : S → Known) (old now new : Reading S) (n : ℕ) (records after : List Numbered) (stop : MuxStop) → Taken left old now records → NextLine left now new n
@@ -192,11 +211,16 @@ line_read left old now new n records after (Fault f) t next took text told =
 line_read left old now new n records after (Read stop) t next took text told = absurd took
 line_read left old now new n records after Memory t next took text told = tt
 
-pub line_came : {S : Type 0} (left : S → Known) (faults : S → ℕ) (old now new : Reading S) (n : ℕ) (records after : List Numbered) (stop : MuxStop) → NextLine left now new n
-    → TookLine records n (found_line new.line) after (Err stop) → MuxCame left faults old new (Err stop)
-line_came left faults old now new n records after (Fault f) next took = next.came.going
-line_came left faults old now new n records after (Read stop) next took = absurd took
-line_came left faults old now new n records after Memory next took = tt
+pub line_came : {S : Type 0} (left : S → Known) (faults : S → ℕ) (old now new : Reading S) (n : ℕ) (shown : List ℕ) (records after : List Numbered) (stop : MuxStop) → Taken left old now records → NextLine left now new n
+    → shown ≡ new.line → TookLine records n (found_line shown) after (Err stop) → MuxCame left faults old new (Err stop)
+line_came left faults old now new n shown records after (Fault f) t next same took = inl (record {
+  looked = looked_at left old now new n records t next;
+  faulty = λ more.
+      lines_read left old now new n records t next more
+      ∙ line_fails records n new.line (record_lines (n + 1) more) f (subst (λ (l : List ℕ). TookLine records n (found_line l) after (Err (Fault f))) same took);
+})
+line_came left faults old now new n shown records after (Read stop) t next same took = absurd took
+line_came left faults old now new n shown records after Memory t next same took = looked_at left old now new n records t next
 
 -- the text ends
 pub end_read : {S : Type 0} (left : S → Known) (old now new : Reading S) (records : List Numbered) → Taken left old now records → ((text : List ℕ) → text_left left now ≡ Some text → NoRecord left now new (lines_of now text))
@@ -218,9 +242,6 @@ stop_read left old now new records TooLong t gives text told =
     let s = t.told text told in
     let g = gives s.0 s.1 in
     ap (λ (b : Block). at_text_end b (lines_of old text).1) (s.2 ∙ ap (block_from records) g.none) ∙ ap (at_text_end Unended) (s.3 ∙ g.stop)
-
-none_there : (n : ℕ) (over : List (List ℕ)) → list_all is_passed over ≡ true → record_lines n over ≡ []
-none_there n over passed = ap (record_lines n) (sym (append-nil over)) ∙ records_past n over [] passed
 
 pub stop_came : {S : Type 0} (left : S → Known) (faults : S → ℕ) (old now new : Reading S) (records : List Numbered) (stop : ReadStop) → Taken left old now records → RecordCame left faults now new (Err stop)
     → faults old.source ≤ faults now.source → MuxCame left faults old new (Err (Read stop))

@@ -2,3 +2,4 @@ pub mod Versions
 pub mod Popped
 pub mod SlotFacts
 pub mod Airs
+pub mod Contents

@@ -4,7 +4,7 @@ ghost use Rattle.std.specs.BTreeMap.{get, IsOrdered};
 ghost use Rattle.version_book.specs.Airings.{Airing, is_key};
 ghost use Rattle.section_codec.specs.declared.table.Key.{Key};
 ghost use Rattle.version_book.specs.Book.{Stands, KeysDiffer, aired, versions_of};
-ghost use Rattle.version_book.specs.Laws.{NeighboursAgree, AnotherBetween};
+ghost use Rattle.version_book.specs.Laws.{NeighboursAgree, AnotherBetween, ContentsAreCompared};
 ghost use Rattle.version_book.specs.Slots.{key_cmp, kept_by, held_at, kept_at, shown, next_version, changed_content, version_given, content_given, HasSlot, given_after};
 
 use crate::content::{copy, is_same};
@@ -182,4 +182,9 @@ fn settle(
 pub fn versions_tell_contents()
     ensures neighbours { NeighboursAgree }
     ensures between { AnotherBetween }
+{}
+
+/// Contents are compared as values: the comparison is true exactly where they are equal.
+pub fn contents_are_compared()
+    ensures { ContentsAreCompared }
 {}

@@ -40,7 +40,7 @@ items-preserved-in-Ok-Step g c =
     let did = c.in_default.ensures.did in
     let outcome = c.last_outcome-made.ensures.value c.items.desk.entries (entry_after c.items.desk.mux c.items.desk.entries (c.in-Ok-Step.who, c.in-Ok-Step.step)) (ap (λ (d : DeskState). d.entries) did) in
     record {
-      going = (e.takes i.going).going;
+      going = (e.takes i.going).looked.going;
       same = g.met.S.Source.same_later c.args.lines.now.source c.items.lines.source c.next_item.new.lines.source i.same e.same;
       read_later = omega (arith, i.read_later, e.later);
       air_later = omega (arith, i.air_later, c.in_default.ensures.later);
@@ -64,7 +64,7 @@ items-preserved g c =
     let e = rw c.in-Ok-Kept.field-0-is at c.in-Ok-Kept.ensures in
     let read = kept_read g.S.Source.left g.S.Source.faults c.items.lines c.next_item.new.lines c.is_some.result c.items.made c.in-Ok-Kept.number c.in-Ok-Kept.kept c.is_some.ensures (e.gives i.going) (e.takes i.going) in
     record {
-      going = (e.takes i.going).going;
+      going = (e.takes i.going).looked.going;
       same = g.met.S.Source.same_later c.args.lines.now.source c.items.lines.source c.next_item.new.lines.source i.same e.same;
       read_later = omega (arith, i.read_later, e.later);
       air_later = i.air_later;

@@ -2,7 +2,7 @@ use Rattle.std.proofs.Common.{arith}
 use Rattle.std.proofs.lemmas.Grind.{common_steps}
 use Rattle.std.specs.Prelude.{Ok, Err}
 use Rattle.feed_edits.proofs.Turns.{never_line}
-use Rattle.feed_edits.proofs.Edits.{edit_gives, edit_takes, edit_stop_takes}
+use Rattle.feed_edits.proofs.Edits.{edit_gives, edit_takes, edit_stop_takes, line_refused_takes}
 use Rattle.feed_edits.proofs.reading.next_edit.Goals as goal
 
 pub returns-in-Err-clause-takes : goal.returns-in-Err-clause-takes
@@ -83,7 +83,9 @@ pub returns-in-Err-head_on-clause-gives : goal.returns-in-Err-head_on-clause-giv
 returns-in-Err-head_on-clause-gives g c = grind (arith, common_steps)
 
 pub returns-in-Err-head_on-clause-takes : goal.returns-in-Err-head_on-clause-takes
-returns-in-Err-head_on-clause-takes g c = grind (arith, common_steps)
+returns-in-Err-head_on-clause-takes g c = λ going.
+    let e = rw c.in-Ok-Some.field-0-is at c.in-Ok-Some.ensures in
+    line_refused_takes g.S.Source.left g.S.Source.faults c.args.lines.now c.next_record_line.new.lines c.in-Ok-Some.at c.line.result.now c.in-Err-head_on.stop c.line.ensures (e.came going) c.in-Err-head_on.ensures.says
 
 pub returns-in-Err-head_on-clause-shaped : goal.returns-in-Err-head_on-clause-shaped
 returns-in-Err-head_on-clause-shaped g c = grind (arith, common_steps)

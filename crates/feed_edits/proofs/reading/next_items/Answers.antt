@@ -1,13 +1,15 @@
 use Rattle.std.proofs.Common.{◌≡◌, ◌-◌, ◌∷◌, [], length, arith, refl, ap, length-append}
 use Rattle.std.proofs.lemmas.List.Elements.{All-push, All-nil}
+use Rattle.feed_edits.specs.Edits.{items_of}
 use Rattle.feed_edits.specs.Items.{IsShapedItem}
-use Rattle.feed_edits.proofs.Edits.{made_none, made_more, made_all, made_stop}
+use Rattle.feed_edits.proofs.Edits.{made_none, made_more, made_all, made_stop, made_kept, unread_none, never_item, stopped_items, stopped_none, stopped_memory}
 use Rattle.feed_edits.proofs.Turns.{stuck_on}
 use Rattle.feed_edits.proofs.reading.next_items.Goals as goal
 
 pub items-init : goal.items-init
 items-init g c = record {
   made = made_none g.S.Source.left c.args.count c.new-items.result c.args.lines.now c.new-items.ensures;
+  unread = unread_none c.args.lines.now.stop 0 refl;
   counted = ap length c.new-items.ensures;
   shaped = rw c.new-items.ensures (All-nil IsShapedItem);
   goes_on = omega arith;
@@ -23,6 +25,7 @@ items-preserved g c =
     record {
       made = made_more g.S.Source.left g.S.Source.faults c.args.count c.items.counter c.items.items c.keep.new.items c.in-Ok.item c.args.lines.now c.items.lines c.next_item.new.lines c.items-test.true kept i.made
           (record { gives = e.gives; takes = e.takes; sticky = e.sticky });
+      unread = never_item c.args.lines.now.stop c.in-Ok.item _ c.args.lines.now c.items.lines c.next_item.new.lines refl i.made.stuck e.sticky;
       counted = omega (arith, i.counted, ap length kept, length-append c.items.items (c.in-Ok.item ∷ []));
       shaped = rw kept (All-push IsShapedItem c.items.items c.in-Ok.item i.shaped e.shaped);
       goes_on = omega (arith, i.goes_on, e.falls);
@@ -41,11 +44,18 @@ returns-in-Err g c =
       takes = stop.1;
       shaped = tt;
       counted = tt;
+      stopped = stopped_items c.args.lines.now.stop c.in-Err.stop c.args.count c.args.lines.now c.items.lines c.next_item.new.lines (omega (arith, c.items-test.true)) refl i.made.stuck e.sticky;
       sticky = stop.2;
       goes_on = tt;
       later = omega (arith, i.later, e.later);
       same = g.met.S.Source.same_later c.args.lines.now.source c.items.lines.source c.next_item.new.lines.source i.same e.same;
     }
+
+pub returns-in-Err-keep-clause-takes : goal.returns-in-Err-keep-clause-takes
+returns-in-Err-keep-clause-takes g c = λ going.
+    let e = c.in-Ok.ensures in
+    made_kept g.S.Source.left g.S.Source.faults c.args.count c.items.counter c.items.items c.in-Ok.item c.in-Err-keep.stop c.args.lines.now c.items.lines c.next_item.new.lines c.items-test.true c.in-Err-keep.ensures.memory c.items.invariant.made
+    (record { gives = e.gives; takes = e.takes; sticky = e.sticky }) going
 
 pub returns-in-Err-keep-clause-sticky : goal.returns-in-Err-keep-clause-sticky
 returns-in-Err-keep-clause-sticky g c = stuck_on c.args.lines.now.stop _ c.args.lines.now c.items.lines c.next_item.new.lines refl c.items.invariant.made.stuck c.in-Ok.ensures.sticky
@@ -59,3 +69,11 @@ pub returns-clause-takes : goal.returns-clause-takes
 returns-clause-takes g c =
     let none : c.args.count - c.items.counter ≡ 0 = omega arith in
     (made_all g.S.Source.left g.S.Source.faults c.args.count c.items.counter c.items.items c.args.lines.now c.items.lines none c.items.invariant.made).1
+
+pub returns-in-Err-keep-clause-stopped : goal.returns-in-Err-keep-clause-stopped
+returns-in-Err-keep-clause-stopped g c = stopped_memory c.args.lines.now.stop (items_of c.args.count) c.in-Err-keep.stop c.in-Err-keep.ensures.memory
+
+pub returns-clause-stopped : goal.returns-clause-stopped
+returns-clause-stopped g c =
+    let none : c.args.count - c.items.counter ≡ 0 = omega arith in
+    stopped_none c.args.lines.now.stop c.args.count c.items.counter c.items.items none c.items.invariant.counted c.items.invariant.unread

@@ -1,4 +1,5 @@
 use Rattle.std.proofs.Common.{◌≡◌, ◌≤◌, length}
+use Rattle.std.specs.Prelude.{IfSome}
 use Rattle.std.specs.List.{All}
 use Rattle.si_causes.specs.Reading.{room}
 use Rattle.feed_edits.specs.Items.{IsShapedItem}
@@ -8,6 +9,7 @@ use Rattle.feed_edits.proofs.reading.next_items.Given as goal
 abbrev pub invariant-items : goal.invariant-items
 invariant-items g l = record {
   made : Made g.S.Source.left l.fn.count l.counter l.items l.fn.lines l.lines;
+  unread : IfSome l.fn.lines.stop (λ stop. l.counter ≡ 0);
   counted : length l.items ≡ l.counter;
   shaped : All IsShapedItem l.items;
   goes_on : room l.lines ≤ room l.fn.lines;

@@ -1,7 +1,7 @@
 use Rattle.std.proofs.Common.{sym, arith}
 use Rattle.std.proofs.lemmas.Grind.{common_steps}
 use Rattle.feed_edits.proofs.Turns.{stuck_at}
-use Rattle.journal_text.proofs.ScriptFacts.{short_passes, feed_passes, feed_leaves, feed_stop_takes, feed_stop_gives}
+use Rattle.journal_text.proofs.ScriptFacts.{short_passes, feed_passes, feed_leaves, feed_stop_takes, feed_stop_gives, no_feed_takes}
 use Rattle.journal_text.proofs.script.command_from.Goals as goal
 
 pub returns-in-Some-clause-takes : goal.returns-in-Some-clause-takes
@@ -49,7 +49,7 @@ pub returns-in_default-read_feed-clause-gives : goal.returns-in_default-read_fee
 returns-in_default-read_feed-clause-gives g c = grind (arith, common_steps)
 
 pub returns-in_default-read_feed-clause-takes : goal.returns-in_default-read_feed-clause-takes
-returns-in_default-read_feed-clause-takes g c = grind (arith, common_steps)
+returns-in_default-read_feed-clause-takes g c = λ going. no_feed_takes g.S.Source.left g.S.Source.faults c.args.who c.args.at c.args.words.now c.args.lines.now going (sym c.in_default.ensures.value) (sym c.in_default-read_feed.ensures)
 
 pub returns-in_default-read_feed-clause-within : goal.returns-in_default-read_feed-clause-within
 returns-in_default-read_feed-clause-within g c = grind (arith, common_steps)

@@ -1,12 +1,19 @@
-use Rattle.std.proofs.Common.{arith}
+use Rattle.std.proofs.Common.{◌≡◌, ◌∙◌, List, ℕ, true, false, ap, sym, subst, arith}
+use Rattle.std.specs.Prelude.{Err}
 use Rattle.std.proofs.lemmas.Grind.{common_steps}
+use Rattle.desk_core.specs.declared.step.Outcome.{Outcome}
+use Rattle.feed_edits.specs.Reads.{Says}
+use Rattle.journal_text.specs.Script.{is_outcome_line, kept_in}
+use Rattle.journal_text.proofs.ScriptFacts.{kept_passes, kept_refused_takes, step_passes, step_stop_takes}
 use Rattle.journal_text.proofs.script.item_on.Goals as goal
 
 pub returns-in-Ok-clause-gives : goal.returns-in-Ok-clause-gives
 returns-in-Ok-clause-gives g c = grind (arith, common_steps)
 
 pub returns-in-Ok-clause-takes : goal.returns-in-Ok-clause-takes
-returns-in-Ok-clause-takes g c = grind (arith, common_steps)
+returns-in-Ok-clause-takes g c = λ going.
+    let line : is_outcome_line c.args.fields.now ≡ true = ap is_outcome_line (sym c.as_slice.ensures) ∙ sym c.starts_outcome.ensures ∙ c.if-starts_outcome.true in
+    kept_passes g.S.Source.left c.args.after c.args.at c.args.fields.now c.in-Ok.outcome c.args.lines.now going line (ap (kept_in c.args.after) (sym c.as_slice-then-starts_outcome.ensures) ∙ c.in-Ok.ensures.says)
 
 pub returns-in-Ok-clause-read : goal.returns-in-Ok-clause-read
 returns-in-Ok-clause-read g c = grind (arith, common_steps)
@@ -33,7 +40,10 @@ pub returns-in-Err-clause-gives : goal.returns-in-Err-clause-gives
 returns-in-Err-clause-gives g c = grind (arith, common_steps)
 
 pub returns-in-Err-clause-takes : goal.returns-in-Err-clause-takes
-returns-in-Err-clause-takes g c = grind (arith, common_steps)
+returns-in-Err-clause-takes g c = λ going.
+    let line : is_outcome_line c.args.fields.now ≡ true = ap is_outcome_line (sym c.as_slice.ensures) ∙ sym c.starts_outcome.ensures ∙ c.if-starts_outcome.true in
+    kept_refused_takes g.S.Source.left g.S.Source.faults c.args.after c.args.at c.args.fields.now c.in-Err.stop c.args.lines.now going line
+    (subst (λ (l : List (List ℕ)). Says {T = Outcome} c.args.at (kept_in c.args.after l) (Err c.in-Err.stop)) c.as_slice-then-starts_outcome.ensures c.in-Err.ensures.says)
 
 pub returns-in-Err-clause-read : goal.returns-in-Err-clause-read
 returns-in-Err-clause-read g c = grind (arith, common_steps)
@@ -60,7 +70,9 @@ pub returns-in-Ok-read_command-clause-gives : goal.returns-in-Ok-read_command-cl
 returns-in-Ok-read_command-clause-gives g c = grind (arith, common_steps)
 
 pub returns-in-Ok-read_command-clause-takes : goal.returns-in-Ok-read_command-clause-takes
-returns-in-Ok-read_command-clause-takes g c = grind (arith, common_steps)
+returns-in-Ok-read_command-clause-takes g c = λ going.
+    let line : is_outcome_line c.args.fields.now ≡ false = ap is_outcome_line (sym c.as_slice.ensures) ∙ sym c.starts_outcome.ensures ∙ c.if-starts_outcome.false in
+    step_passes g.S.Source.left c.args.after c.args.at c.args.fields.now c.in-Ok-read_command.command c.args.lines.now c.read_command.new.lines line (c.in-Ok-read_command.ensures.takes going)
 
 pub returns-in-Ok-read_command-clause-read : goal.returns-in-Ok-read_command-clause-read
 returns-in-Ok-read_command-clause-read g c = grind (arith, common_steps)
@@ -87,7 +99,9 @@ pub returns-in-Err-read_command-clause-gives : goal.returns-in-Err-read_command-
 returns-in-Err-read_command-clause-gives g c = grind (arith, common_steps)
 
 pub returns-in-Err-read_command-clause-takes : goal.returns-in-Err-read_command-clause-takes
-returns-in-Err-read_command-clause-takes g c = grind (arith, common_steps)
+returns-in-Err-read_command-clause-takes g c = λ going.
+    let line : is_outcome_line c.args.fields.now ≡ false = ap is_outcome_line (sym c.as_slice.ensures) ∙ sym c.starts_outcome.ensures ∙ c.if-starts_outcome.false in
+    step_stop_takes g.S.Source.left g.S.Source.faults c.args.after c.args.at c.args.fields.now c.in-Err-read_command.stop c.args.lines.now c.read_command.new.lines line (c.in-Err-read_command.ensures.takes going)
 
 pub returns-in-Err-read_command-clause-read : goal.returns-in-Err-read_command-clause-read
 returns-in-Err-read_command-clause-read g c = grind (arith, common_steps)

@@ -1,5 +1,5 @@
 use Rattle.feed_edits.proofs.Turns.{never_line}
-use Rattle.journal_text.proofs.ScriptFacts.{item_gives, item_takes, item_stop_takes}
+use Rattle.journal_text.proofs.ScriptFacts.{item_gives, item_takes, item_stop_takes, no_fields_takes}
 use Rattle.journal_text.proofs.script.next_item.Goals as goal
 
 pub returns-in-Err-clause-takes : goal.returns-in-Err-clause-takes
@@ -21,3 +21,8 @@ pub returns-in-Ok-clause-sticky : goal.returns-in-Ok-clause-sticky
 returns-in-Ok-clause-sticky g c =
     let e = rw c.in-Ok-Some.field-0-is at c.in-Ok-Some.ensures in
     never_line c.args.lines.now.stop c.in-Ok-Some.at _ _ e.sticky
+
+pub returns-in-Err-fields_on-clause-takes : goal.returns-in-Err-fields_on-clause-takes
+returns-in-Err-fields_on-clause-takes g c = λ going.
+    let e = rw c.in-Ok-Some.field-0-is at c.in-Ok-Some.ensures in
+    no_fields_takes g.S.Source.left g.S.Source.faults c.args.after c.args.lines.now c.next_record_line.new.lines c.in-Ok-Some.at c.line.result.now c.in-Err-fields_on.stop c.line.ensures (e.came going) c.in-Err-fields_on.ensures.says

@@ -4,7 +4,7 @@ use Rattle.input_lines.proofs.Steps.{stuck_at, stays_stuck}
 use Rattle.mux_config.specs.declared.record.Numbered.{Numbered}
 use Rattle.mux_config.specs.Block.{ended}
 use Rattle.mux_config.specs.Reads.{Makes}
-use Rattle.mux_config.proofs.Reading.{NextLine, Taken, taken_none, taken_more, ended_read, ended_came, stop_came, took_on, took_end}
+use Rattle.mux_config.proofs.Reading.{NextLine, Taken, taken_none, taken_more, ended_read, ended_came, line_came, stop_came, took_on, took_end}
 use Rattle.mux_config.specs.Fine.{AreFine}
 use Rattle.mux_config.proofs.Soundness.{fine_none, sound_made}
 use Rattle.mux_config.proofs.read.read_mux.Goals as goal
@@ -80,7 +80,13 @@ pub returns-in-Err-take_line-clause-block : goal.returns-in-Err-take_line-clause
 returns-in-Err-take_line-clause-block g c = grind (arith, common_steps)
 
 pub returns-in-Err-take_line-clause-came : goal.returns-in-Err-take_line-clause-came
-returns-in-Err-take_line-clause-came g c = grind (arith, common_steps)
+returns-in-Err-take_line-clause-came g c = λ going.
+    let e = rw c.in-Ok-Some.field-0-is at c.in-Ok-Some.ensures in
+    let t = c.lines.invariant.taken going in
+    let came = e.came t.going in
+    let next : NextLine g.S.Source.left c.lines.lines c.next_record_line.new.lines c.in-Ok-Some.number = record { came = came; gives = e.records t.going; more_to_come = came.unended } in
+    line_came g.S.Source.left g.S.Source.faults c.args.lines.now c.lines.lines c.next_record_line.new.lines c.in-Ok-Some.number c.line.result.now c.lines.records.list.items c.take_line.new.records.list.items c.in-Err-take_line.stop t next
+    c.line.ensures c.in-Err-take_line.ensures.took
 
 pub returns-in-Err-take_line-clause-sound : goal.returns-in-Err-take_line-clause-sound
 returns-in-Err-take_line-clause-sound g c = grind (arith, common_steps)
