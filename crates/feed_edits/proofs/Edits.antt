@@ -1,5 +1,5 @@
 -- Items and edits, by the lines that they begin with.
-use Rattle.std.proofs.Common.{◌≡◌, ℕ, ◌+◌, ◌-◌, ◌<◌, ◌≤◌, suc, arith, List, [], ◌∷◌, ◌++◌, length, drop, refl, sym, ap, ◌∙◌, append-nil, append_assoc, inl, inr, subst}
+use Rattle.std.proofs.Common.{◌≡◌, ℕ, ◌+◌, ◌-◌, ◌<◌, ◌≤◌, suc, arith, List, [], ◌∷◌, ◌++◌, length, drop, refl, sym, ap, ◌∙◌, append-nil, append_assoc, inl, subst}
 use Rattle.std.specs.Prelude.{Option, Some, None, Ok, Err, Result, IfSome, option_and_then}
 use Rattle.std.proofs.lemmas.List.{drop_all}
 use Rattle.si_causes.specs.Reading.{Reading, text_left}
