@@ -122,8 +122,7 @@ pub record Went {S : Type 0} (left : S → Known) (old now : Reading S) (before 
   pub did : desk ≡ desk_after before done
   pub told : (text : List ℕ) → text_left left old ≡ Some text → (rest : List ℕ) × (text_left left now ≡ Some rest) × Done before desk made (ahead old text) (ahead now rest) done
   pub lines : List (List ℕ)
-  pub since : now.ended ≡ false → old.ended ≡ false
-  pub handed : now.ended ≡ false → HandedOut left old now lines
+  pub handed : HandedOut left old now lines
   pub reads : (more : List (List ℕ)) (tail : Tail) → Done before desk made (ahead_with old (lines ++ more) tail) (ahead_with now more tail) done
 
 pub went_none : {S : Type 0} (left : S → Known) (reader : Reading S) (desk : DeskState) → Went left reader reader desk desk None
@@ -132,8 +131,7 @@ went_none left reader desk = record {
   did = desk_none desk;
   told = λ text told. (text, told, refl);
   lines = [];
-  since = λ e. e;
-  handed = λ e. handed_none left reader;
+  handed = handed_none left reader;
   reads = λ more tail. refl;
 }
 
@@ -163,8 +161,7 @@ went_item left old now new before desk next made after item done w r did step_on
       let g = r.gives t.0 t.1 in
       (g.rest, g.told, step_on (ahead now t.0) (ahead new g.rest) g.reads (ahead old text) t.2);
   lines = w.lines ++ r.takes.looked.lines;
-  since = λ e. w.since (r.takes.looked.since e);
-  handed = λ e. handed_more left old now new w.lines r.takes.looked.lines (w.handed (r.takes.looked.since e)) (r.takes.looked.handed e);
+  handed = handed_more left old now new w.lines r.takes.looked.lines w.handed r.takes.looked.handed;
   reads = λ more tail.
       subst (λ (l : List (List ℕ)). Done before next after (ahead_with old l tail) (ahead_with new more tail) done) (sym (append_assoc w.lines r.takes.looked.lines more))
       (step_on (ahead_with now (r.takes.looked.lines ++ more) tail) (ahead_with new more tail) (r.takes.reads more tail) (ahead_with old (w.lines ++ (r.takes.looked.lines ++ more)) tail) (w.reads (r.takes.looked.lines ++ more) tail));
@@ -269,8 +266,8 @@ failed_at left faults old now new before desk made w f =
     let did = stopped_did (course_at before None (ahead_with old lines reading.Breaks)) w.done Unread before desk all w.did in
     record {
       lines = lines;
-      whole = whole_more left old now new w.lines f.lines (w.handed f.unended) f.whole;
-      unended = w.since f.unended;
+      whole = whole_more left old now new w.lines f.lines w.handed f.unended f.whole;
+      unended = w.handed.since f.unended;
       stop = did.0;
       did = did.1;
     }

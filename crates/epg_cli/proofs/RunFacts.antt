@@ -182,7 +182,7 @@ played_all script stop mux rest desk player air e did aired =
 played_taken : {S : Type 0} (left : S → Known) (old mid new : Reading S) (text : List ℕ) (mux : Mux) (desk : DeskState) (player : Playing) (air : Told) → IsUnread old → left old.source ≡ Some text
     → WholeCame left old mid mux → PlayedWhole left mid new (fresh mux) desk → HasAired desk player air.old air.new → HasPlayedTaken text (left new.source) air (Some desk)
 played_taken left old mid new text mux desk player air is told came p aired =
-    let both : WereWhole left old new (came.looked.lines ++ p.lines) = whole_more left old mid new came.looked.lines p.lines (came.looked.handed p.unended) p.whole in
+    let both : WereWhole left old new (came.looked.lines ++ p.lines) = whole_more left old mid new came.looked.lines p.lines came.looked.handed p.unended p.whole in
     let lines : shown_whole both.more ≡ came.looked.lines ++ p.lines = ap (λ l. shown_whole (l ++ both.more)) (sym is.held) ∙ both.whole in
     let block : block_from [] (record_lines 1 (shown_whole both.more)) ≡ Whole mux (record_lines (mid.number + 1) p.lines) =
     ap (λ l. block_from [] (record_lines 1 l)) lines ∙ ap (λ k. block_from [] (record_lines (k + 1) (came.looked.lines ++ p.lines))) (sym is.number) ∙ came.whole p.lines in

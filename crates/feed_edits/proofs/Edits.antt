@@ -1,5 +1,5 @@
 -- Items and edits, by the lines that they begin with.
-use Rattle.std.proofs.Common.{◌≡◌, ℕ, ◌+◌, ◌-◌, ◌<◌, ◌≤◌, suc, arith, List, [], ◌∷◌, ◌++◌, length, drop, refl, sym, ap, ◌∙◌, append-nil, append_assoc, inl, subst}
+use Rattle.std.proofs.Common.{◌≡◌, ℕ, ◌+◌, ◌-◌, ◌<◌, ◌≤◌, suc, arith, List, [], ◌∷◌, ◌++◌, length, drop, refl, sym, ap, ◌∙◌, append-nil, append_assoc, inl, inr, subst}
 use Rattle.std.specs.Prelude.{Option, Some, None, Ok, Err, Result, IfSome, option_and_then}
 use Rattle.std.proofs.lemmas.List.{drop_all}
 use Rattle.si_causes.specs.Reading.{Reading, text_left}
@@ -7,7 +7,7 @@ use Rattle.si_causes.specs.declared.stop.ReadStop.{ReadStop}
 use Rattle.si_causes.specs.declared.stop.ReadStop.TheVariants.{Failed, TooLong as Overlong}
 use Rattle.input_lines.specs.Fields.{record_of}
 use Rattle.input_lines.specs.Lines.{lines_of}
-use Rattle.input_lines.specs.Going.{LineCame, RecordCame}
+use Rattle.input_lines.specs.Going.{LineCame, NoneCame, RecordCame}
 use Rattle.input_lines.specs.Records.{FirstRecord, NoRecord, GivesRecord}
 use Rattle.feed_edits.specs.declared.edit.Item.{Item}
 use Rattle.feed_edits.specs.declared.edit.DayText.{DayText}
@@ -22,7 +22,7 @@ use Rattle.feed_edits.specs.Items.{item_line}
 use Rattle.feed_edits.specs.Heads.{edit_head}
 use Rattle.feed_edits.specs.Edits.{first_item, items_of, on_line, with_items, edit_from, first_edit, read_edit}
 use Rattle.feed_edits.specs.Reads.{Leaves, Gives, Passes, Takes, Says, ahead_with, none_ahead, stopped_by, ReadsStopped}
-use Rattle.feed_edits.proofs.Turns.{Known, passes_step, leaves_step, row_passes, row_leaves, row_stop_takes, row_stop_gives, row_none, takes_stop, gives_stop, says_takes, says_gives, looked_none, passes_same, leaves_same, passes_join, leaves_join, takes_join, gives_join, gives_same, stuck_at, stuck_on}
+use Rattle.feed_edits.proofs.Turns.{Known, passes_step, leaves_step, row_passes, row_refused, row_leaves, row_stop_takes, row_stop_gives, row_none, takes_stop, gives_stop, says_takes, says_gives, looked_none, passes_same, leaves_same, passes_join, leaves_join, takes_join, gives_join, gives_same, stuck_at, stuck_on}
 
 abbrev pub item_in : List ℕ → Option Item
 item_in line = option_and_then item_line (record_of line)
@@ -58,6 +58,11 @@ item_gives left old new text n line r e came says =
 
 pub item_stop_takes : {S : Type 0} (left : S → Known) (faults : S → ℕ) (old new : Reading S) (s : ReadStop) → RecordCame left faults old new (Err s) → Takes {T = Item} left faults first_item old new (Err (Read s))
 item_stop_takes left faults old new s came = takes_stop left faults (first_row missing_at) first_item old new (Read s) item_stops (row_stop_takes left faults missing_at old new s refl came)
+
+pub item_missing : {S : Type 0} (left : S → Known) (faults : S → ℕ) (old new : Reading S) (n : ℕ) → n ≡ new.number + 1 → NoneCame left old new → Takes {T = Item} left faults first_item old new (Err (Refused n))
+item_missing left faults old new n e came =
+    subst (λ k. Takes {T = Item} left faults first_item old new (Err (Refused k))) (sym e)
+    (takes_stop left faults (first_row missing_at) first_item old new (Refused (new.number + 1)) item_stops (inr (row_refused left old new came)))
 
 -- ---- so many items
 

@@ -1,20 +1,21 @@
 -- Values that are read from the lines ahead, one after another.
 use Rattle.std.proofs.Common.{◌≡◌, ◌≤◌, ℕ, ◌+◌, List, [], ◌∷◌, ◌++◌, length, refl, sym, ap, subst, ◌∙◌, inl, inr, arith, append-nil, append_assoc, length-append}
-use Rattle.std.specs.Prelude.{Option, Some, None, Ok, Err, Result, IfSome}
+use Rattle.std.specs.Prelude.{true, Option, Some, None, Ok, Err, Result, IfSome}
+use Rattle.std.specs.List.{list_all}
 use Rattle.si_causes.specs.Causes.{Rose}
 use Rattle.si_causes.specs.Reading.{Reading, text_left}
 use Rattle.si_causes.specs.declared.stop.ReadStop.{ReadStop}
 use Rattle.si_causes.specs.declared.stop.ReadStop.TheVariants.{Failed, TooLong as Overlong}
-use Rattle.input_lines.specs.Lines.{lines_of, record_lines}
-use Rattle.input_lines.specs.Going.{LineCame, FaultCame, RecordCame}
+use Rattle.input_lines.specs.Lines.{is_passed, lines_of, record_lines}
+use Rattle.input_lines.specs.Going.{LineCame, NoneCame, FaultCame, RecordCame}
 use Rattle.input_lines.specs.Records.{FirstRecord, NoRecord, NoneInLimit, GivesRecord}
-use Rattle.input_lines.proofs.LastLines.{none_last, last_split, before_last}
+use Rattle.input_lines.proofs.LastLines.{none_last, last_split, before_last, front_passed}
 use Rattle.input_lines.proofs.Steps.{handed_none, handed_more, whole_more, records_past, record_first}
 use Rattle.feed_edits.specs.declared.stop.EditStop.{EditStop}
 use Rattle.feed_edits.specs.declared.stop.EditStop.TheVariants.{NoCommand as Refused, Read, Memory}
-use Rattle.feed_edits.specs.Ahead.{Ahead, Row, Tail, Ends, Exceeds, Breaks, Found, Came, Stopped, Stop, NoCommand, TooLong, Unread, first_row, row_of, tail_of, ahead}
+use Rattle.feed_edits.specs.Ahead.{Ahead, Row, Tail, Ends, Exceeds, Breaks, Found, Came, Stopped, Stop, NoCommand, TooLong, Unread, first_row, row_of, tail_of, missing_at, ahead}
 use Rattle.feed_edits.specs.Edits.{on_line}
-use Rattle.feed_edits.specs.Reads.{Leaves, Gives, Looked, Passes, Faulted, Takes, Says, ahead_with}
+use Rattle.feed_edits.specs.Reads.{Leaves, Gives, Looked, Passes, RefusesEnd, Faulted, Takes, Says, ahead_with}
 
 abbrev pub Known : Type 0
 Known = Option (List ℕ)
@@ -28,8 +29,7 @@ rose_since (inr last) le = inr last
 abbrev pub looked_none : {S T : Type 0} (left : S → Known) (f : Ahead → Found T) (reader : Reading S) → reader.stop ≡ None → Looked left f reader reader
 looked_none left f reader going = record {
   lines = [];
-  since = λ e. e;
-  handed = λ e. handed_none left reader;
+  handed = handed_none left reader;
   count = omega arith;
   going = going;
   needed = λ front last e. absurd (none_last front last e);
@@ -39,7 +39,6 @@ abbrev pub looked_step : {S T U : Type 0} (left : S → Known) (first : Ahead �
     → ((a : Ahead) (s : Stop) → first a ≡ Stopped s → f a ≡ Stopped s) → Looked left first old new → Looked left f old new
 looked_step left first f old new stops l = record {
   lines = l.lines;
-  since = l.since;
   handed = l.handed;
   count = l.count;
   going = l.going;
@@ -49,8 +48,7 @@ looked_step left first f old new stops l = record {
 abbrev pub looked_join : {S T : Type 0} (left : S → Known) (f g : Ahead → Found T) (a b c : Reading S) → Passes left f g a b → Looked left g b c → Looked left f a c
 looked_join left f g a b c p k = record {
   lines = p.looked.lines ++ k.lines;
-  since = λ e. p.looked.since (k.since e);
-  handed = λ e. handed_more left a b c p.looked.lines k.lines (p.looked.handed (k.since e)) (k.handed e);
+  handed = handed_more left a b c p.looked.lines k.lines p.looked.handed k.handed;
   count = omega (arith, p.looked.count, k.count, length-append p.looked.lines k.lines);
   going = k.going;
   needed = λ front last e. elim (last_split p.looked.lines k.lines front last e) [
@@ -93,12 +91,16 @@ takes_join left faults f g a b c (Err (Refused n)) p le (inl k) = inl (record {
   looked = looked_join left f g a b c p k.looked;
   reads = λ more tail. ap (λ l. f (ahead_with a l tail)) (append_assoc p.looked.lines k.looked.lines more) ∙ p.reads (k.looked.lines ++ more) tail ∙ k.reads more tail;
 })
-takes_join left faults f g a b c (Err (Refused n)) p le (inr k) = inr k
+takes_join left faults f g a b c (Err (Refused n)) p le (inr k) = inr (record {
+  looked = looked_join left f g a b c p k.looked;
+  done = k.done;
+  reads = p.reads k.looked.lines (Ends (c.number + 1)) ∙ k.reads;
+})
 takes_join left faults f g a b c (Err (Read Overlong)) p le k = k
 takes_join left faults f g a b c (Err (Read Failed)) p le k = record {
   lines = p.looked.lines ++ k.lines;
-  whole = whole_more left a b c p.looked.lines k.lines (p.looked.handed k.unended) k.whole;
-  unended = p.looked.since k.unended;
+  whole = whole_more left a b c p.looked.lines k.lines p.looked.handed k.unended k.whole;
+  unended = p.looked.handed.since k.unended;
   cause = rose_since k.cause le;
   stopped = k.stopped;
   reads = p.reads k.lines Breaks ∙ k.reads;
@@ -126,7 +128,11 @@ takes_stop left faults first f old new (Refused n) stops (inl k) = inl (record {
   looked = looked_step left first f old new stops k.looked;
   reads = λ more tail. stops (ahead_with old (k.looked.lines ++ more) tail) (NoCommand n) (k.reads more tail);
 })
-takes_stop left faults first f old new (Refused n) stops (inr k) = inr k
+takes_stop left faults first f old new (Refused n) stops (inr k) = inr (record {
+  looked = looked_step left first f old new stops k.looked;
+  done = k.done;
+  reads = stops (ahead_with old k.looked.lines (Ends (new.number + 1))) (NoCommand n) k.reads;
+})
 takes_stop left faults first f old new (Read Overlong) stops k = k
 takes_stop left faults first f old new (Read Failed) stops k = record {
   lines = k.lines;
@@ -156,7 +162,6 @@ row_passes left stop old new n unread came =
     record {
       looked = record {
         lines = came.over ++ new.line ∷ [];
-        since = λ e. came.unended;
         handed = came.handed;
         count = omega (arith, came.number, came.count, length-append came.over (new.line ∷ []));
         going = came.going;
@@ -172,6 +177,25 @@ row_passes left stop old new n unread came =
           ∙ record_first n new.line more came.line
           ∙ ap (λ k. let rows : List Row = (n, new.line) ∷ record_lines (k + 1) more in rows) (sym came.count));
     }
+
+-- lines that are passed over, and then this, are no row
+none_passed : (n : ℕ) (over : List (List ℕ)) (stop : Tail → Stop) (tail : Tail) → list_all is_passed over ≡ true → row_of stop (record_lines n over) tail ≡ Stopped (stop tail)
+none_passed n over stop tail passed =
+    ap (λ (rows : List Row). row_of stop rows tail) (ap (record_lines n) (sym (append-nil over)) ∙ records_past n over [] passed)
+
+-- all lines that were left were passed over, and a line is missing behind them
+pub row_refused : {S : Type 0} (left : S → Known) (old new : Reading S) → NoneCame left old new → RefusesEnd left (first_row missing_at) old new (new.number + 1)
+row_refused left old new came = record {
+  looked = record {
+    lines = came.over;
+    handed = came.handed;
+    count = came.count;
+    going = came.going;
+    needed = λ front last e. none_passed (old.number + 1) front missing_at Breaks (front_passed came.over front last came.passed e);
+  };
+  done = came.done;
+  reads = none_passed (old.number + 1) came.over missing_at (Ends (new.number + 1)) came.passed;
+}
 
 pub row_faulted : {S : Type 0} (left : S → Known) (faults : S → ℕ) (stop : Tail → Stop) (old new : Reading S) → stop Breaks ≡ Unread → FaultCame left faults old new → Faulted left faults (first_row stop) old new
 row_faulted left faults stop old new e came = record {

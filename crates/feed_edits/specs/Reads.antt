@@ -1,16 +1,15 @@
 -- What reading from the lines ahead tells, of a text that the source tells and of the bytes that it gave.
 use Rattle.std.specs.Prelude.{◌≡◌, ◌⊎◌, ℕ, ◌+◌, false, List, [], ◌∷◌, ◌++◌, length, Option, Some, None, Ok, Err, Result}
-use Rattle.std.specs.Io.KnownBytes.{IsAtEnd}
 use Rattle.si_causes.specs.Reading.{Reading, text_left}
 use Rattle.si_causes.specs.Causes.{Rose}
 use Rattle.si_causes.specs.declared.stop.ReadStop.{ReadStop}
 use Rattle.si_causes.specs.declared.stop.ReadStop.TheVariants.{Failed, TooLong as Overlong}
 use Rattle.input_lines.specs.Lines.{record_lines}
-use Rattle.input_lines.specs.Going.{HandedOut, WereWhole}
+use Rattle.input_lines.specs.Going.{HandedOut, HasEnded, NoneCame, WereWhole}
 use Rattle.feed_edits.specs.declared.edit.Edit.{Edit}
 use Rattle.feed_edits.specs.declared.stop.EditStop.{EditStop}
 use Rattle.feed_edits.specs.declared.stop.EditStop.TheVariants.{NoCommand as Refused, Read, Memory}
-use Rattle.feed_edits.specs.Ahead.{Ahead, Tail, Breaks, Exceeds, Found, Came, Stopped, Stop, End, NoCommand, TooLong, Unread, ahead}
+use Rattle.feed_edits.specs.Ahead.{Ahead, Tail, Ends, Breaks, Exceeds, Found, Came, Stopped, Stop, End, NoCommand, TooLong, Unread, ahead}
 use Rattle.feed_edits.specs.Edits.{first_edit}
 
 -- Of a told text another is left, and what `first` reads of the one is what `next` reads of the other.
@@ -41,9 +40,7 @@ ahead_with reader lines tail = record { rows = record_lines (reader.number + 1) 
 -- yet.
 pub record Looked {S T : Type 0} (left : S → Option (List ℕ)) (first : Ahead → Found T) (old new : Reading S) : Type 0 where
   pub lines : List (List ℕ)
-  pub since : new.ended ≡ false → old.ended ≡ false
-  -- a line without an LF is the last
-  pub handed : new.ended ≡ false → HandedOut left old new lines
+  pub handed : HandedOut left old new lines
   pub count : new.number ≡ old.number + length lines
   pub going : new.stop ≡ None
   pub needed : (front : List (List ℕ)) (last : List ℕ) → lines ≡ front ++ last ∷ [] → first (ahead_with old front Breaks) ≡ Stopped Unread
@@ -59,9 +56,15 @@ pub record RefusesLines {S T : Type 0} (left : S → Option (List ℕ)) (first :
   pub looked : Looked left first old new
   pub reads : (more : List (List ℕ)) (tail : Tail) → first (ahead_with old (looked.lines ++ more) tail) ≡ Stopped (NoCommand n)
 
+-- The lines that were handed out are all that were left, and the line behind them is missing: it is refused as line n.
+pub record RefusesEnd {S T : Type 0} (left : S → Option (List ℕ)) (first : Ahead → Found T) (old new : Reading S) (n : ℕ) : Type 0 where
+  pub looked : Looked left first old new
+  pub done : HasEnded left new
+  pub reads : first (ahead_with old looked.lines (Ends (new.number + 1))) ≡ Stopped (NoCommand n)
+
 -- a refusal: the reader stands behind the refused line, or at the end, where a line is missing
 abbrev pub Refuses : {S T : Type 0} → (S → Option (List ℕ)) → (Ahead → Found T) → Reading S → Reading S → ℕ → Type 0
-Refuses left first old new n = RefusesLines left first old new n ⊎ ((new.stop ≡ None) × IsAtEnd (left new.source))
+Refuses left first old new n = RefusesLines left first old new n ⊎ RefusesEnd left first old new n
 
 -- A read failed: the lines that were whole in the bytes taken are too few to read by, and no refusal stands in them.
 pub record Faulted {S T : Type 0} (left : S → Option (List ℕ)) (faults : S → ℕ) (first : Ahead → Found T) (old new : Reading S) : Type 0 where
@@ -82,7 +85,7 @@ Takes left faults first old new (Err Memory) = Looked left first old new
 
 abbrev pub TakesNext : {S : Type 0} → (S → Option (List ℕ)) → (S → ℕ) → Reading S → Reading S → Result (Option Edit) EditStop → Type 0
 TakesNext left faults old new (Ok (Some edit)) = Passes left first_edit (Came edit) old new
-TakesNext left faults old new (Ok None) = new.stop ≡ None
+TakesNext left faults old new (Ok None) = NoneCame left old new
 TakesNext left faults old new (Err stop) = Takes left faults first_edit old new (Err stop)
 
 -- what line n is, or the refusal of it

@@ -146,7 +146,8 @@ fn with_items<S: Source>(
 /// `NoCommand(at)` comes exactly where the fields are no edit. Where a line that is no item comes in place of an item,
 /// `NoCommand` has its number; where the end comes, that of the last line plus 1, lines that are passed over counted.
 /// `Read` comes as from [`LineReader::next`]; a reader that has stopped gives what needs no line, or its stop. After a refusal the
-/// reader stands behind the line that was refused, and after want of memory behind the last line that was looked at.
+/// reader stands behind the line that was refused, or at the end, where a line is missing; after want of memory it stands behind
+/// the last line that was looked at.
 pub fn read_edit<S: Source>(
     alloc: Global,
     fields: &LineFields,

@@ -1,5 +1,5 @@
 -- Lines, one after another, of which some are passed over.
-use Rattle.std.proofs.Common.{◌≡◌, ℕ, ◌+◌, ◌≤◌, Bool, true, false, List, [], ◌∷◌, ◌++◌, length, map, refl, sym, ap, ◌∙◌, subst, arith, inl, inr, append-nil, append_assoc, length-append}
+use Rattle.std.proofs.Common.{◌≡◌, ◌≢◌, ℕ, ◌+◌, ◌≤◌, Bool, true, false, List, [], ◌∷◌, ◌++◌, length, map, refl, sym, ap, ◌∙◌, subst, arith, inl, inr, append-nil, append_assoc, length-append}
 use Rattle.std.specs.Prelude.{Option, Some, None, Ok, Err, Result, IfSome}
 use Rattle.std.specs.List.{list_all}
 use Rattle.std.proofs.KnownBytes.{Consumes-nil, Consumes-trans}
@@ -10,10 +10,10 @@ use Rattle.si_causes.specs.Reading.{Reading, LineCame as Came, EndCame, FailedCa
 use Rattle.si_causes.specs.Text.{TextEnd, AtEnd, PastLimit}
 use Rattle.si_causes.specs.declared.stop.ReadStop.{ReadStop}
 use Rattle.si_causes.specs.declared.stop.ReadStop.TheVariants.{Failed, TooLong}
-use Rattle.si_causes.proofs.LineFacts.{b_cases, whole_step, whole_none, first_of_front, after_of_front, end_of_front}
+use Rattle.si_causes.proofs.LineFacts.{b_cases, raw_step, whole_step, whole_none, first_of_front, after_of_front, end_of_front}
 use Rattle.si_causes.proofs.TextFacts.{given_line, given_end, given_past}
 use Rattle.input_lines.specs.Lines.{Lines, is_passed, lines_of, record_lines}
-use Rattle.input_lines.specs.Going.{HandedOut, WereWhole, LineCame, FaultCame, RecordCame, shown_whole}
+use Rattle.input_lines.specs.Going.{HandedOut, WereWhole, LineCame, NoneCame, FaultCame, RecordCame, shown_whole, shown_all}
 use Rattle.input_lines.specs.Records.{FirstRecord, NoRecord, NoneInLimit, GivesRecord}
 
 abbrev Known : Type 0
@@ -25,50 +25,114 @@ pub handed_none : {S : Type 0} (left : S → Known) (reader : Reading S) → Han
 handed_none left reader = record {
   more = [];
   gave = Consumes-nil (left reader.source);
-  are = λ behind. ap (λ l. shown_whole (l ++ behind)) (append-nil reader.held);
+  since = λ e. e;
+  quiet = λ e. refl;
+  whole = λ e behind. ap (λ l. shown_whole (l ++ behind)) (append-nil reader.held);
+  all = λ behind last. ap (λ l. shown_all (l ++ behind)) (append-nil reader.held);
 }
+
+-- a reader that has ended stays so
+stays_ended : (a b : Bool) → (b ≡ false → a ≡ false) → a ≡ true → b ≡ true
+stays_ended a true since e = refl
+stays_ended a false since e = cc (e, since refl)
+
+-- lines of bytes that are given in two parts
+in_parts : (lines : List ℕ → List (List ℕ)) (a b c more then_more : List ℕ) (before then : List (List ℕ)) (behind : List ℕ)
+    → lines ((a ++ more) ++ (then_more ++ behind)) ≡ before ++ lines (b ++ (then_more ++ behind))
+    → lines ((b ++ then_more) ++ behind) ≡ then ++ lines (c ++ behind)
+    → lines ((a ++ (more ++ then_more)) ++ behind) ≡ (before ++ then) ++ lines (c ++ behind)
+in_parts lines a b c more then_more before then behind first second =
+    ap (λ l. lines (l ++ behind)) (sym (append_assoc a more then_more))
+    ∙ ap lines (append_assoc (a ++ more) then_more behind)
+    ∙ first
+    ∙ ap (λ l. before ++ lines l) (sym (append_assoc b then_more behind))
+    ∙ ap (λ l. before ++ l) second
+    ∙ sym (append_assoc before then (lines (c ++ behind)))
 
 pub handed_more : {S : Type 0} (left : S → Known) (a b c : Reading S) (before then : List (List ℕ)) → HandedOut left a b before → HandedOut left b c then → HandedOut left a c (before ++ then)
 handed_more left a b c before then h k = record {
   more = h.more ++ k.more;
   gave = Consumes-trans (left a.source) (left b.source) (left c.source) h.more k.more h.gave k.gave;
-  are = λ behind.
-      ap (λ l. shown_whole (l ++ behind)) (sym (append_assoc a.held h.more k.more))
-      ∙ ap shown_whole (append_assoc (a.held ++ h.more) k.more behind)
-      ∙ h.are (k.more ++ behind)
-      ∙ ap (λ l. before ++ shown_whole l) (sym (append_assoc b.held k.more behind))
-      ∙ ap (λ l. before ++ l) (k.are behind)
-      ∙ sym (append_assoc before then (shown_whole (c.held ++ behind)));
+  since = λ e. h.since (k.since e);
+  quiet = λ e. ap (λ l. l ++ k.more) (h.quiet e) ∙ k.quiet (stays_ended a.ended b.ended h.since e);
+  whole = λ e behind. in_parts shown_whole a.held b.held c.held h.more k.more before then behind (h.whole (k.since e) (k.more ++ behind)) (k.whole e behind);
+  all = λ behind last. in_parts shown_all a.held b.held c.held h.more k.more before then behind
+      (h.all (k.more ++ behind) (λ e. ap (λ l. l ++ behind) (k.quiet e) ∙ last (stays_ended b.ended c.ended k.since e)))
+      (k.all behind last);
 }
 
-pub whole_more : {S : Type 0} (left : S → Known) (a b c : Reading S) (before then : List (List ℕ)) → HandedOut left a b before → WereWhole left b c then → WereWhole left a c (before ++ then)
-whole_more left a b c before then h k = record {
+pub whole_more : {S : Type 0} (left : S → Known) (a b c : Reading S) (before then : List (List ℕ)) → HandedOut left a b before → b.ended ≡ false → WereWhole left b c then → WereWhole left a c (before ++ then)
+whole_more left a b c before then h e k = record {
   more = h.more ++ k.more;
   gave = Consumes-trans (left a.source) (left b.source) (left c.source) h.more k.more h.gave k.gave;
   whole =
       ap shown_whole (sym (append_assoc a.held h.more k.more))
-      ∙ h.are k.more
+      ∙ h.whole e k.more
       ∙ ap (λ l. before ++ l) k.whole;
 }
 
--- a line with its LF was handed out
-pub line_handed : {S : Type 0} (left : S → Known) (old new : Reading S) (n : ℕ) (more : List ℕ) → Came left old new n more → new.ended ≡ false → HandedOut left old new (new.line ∷ [])
-line_handed left old new n more came going =
+some_end : (t : List ℕ) → has_end t ≡ true → t ≢ []
+some_end [] h none = cc
+some_end (b ∷ t) h none = cc
+
+line_whole : {S : Type 0} (left : S → Known) (old new : Reading S) (n : ℕ) (more : List ℕ) → Came left old new n more → new.ended ≡ false → (behind : List ℕ)
+    → shown_whole ((old.held ++ more) ++ behind) ≡ new.line ∷ shown_whole (new.held ++ behind)
+line_whole left old new n more came going behind =
     let t = old.held ++ more in
     elim (b_cases (has_end t)) [
       | inl whole ↦
-          record {
-            more = more;
-            gave = came.gave;
-            are = λ behind.
-                ap (map shown) (whole_step (t ++ behind) (end_of_front t behind whole))
-                ∙ ap (λ (l : List ℕ). shown l ∷ shown_whole (after_line (t ++ behind))) (first_of_front t behind whole)
-                ∙ ap (λ (l : List ℕ). shown (first_line t) ∷ shown_whole l) (after_of_front t behind whole)
-                ∙ ap (λ (l : List ℕ). shown (first_line t) ∷ shown_whole (l ++ behind)) (sym came.rest)
-                ∙ ap (λ (l : List ℕ). l ∷ shown_whole (new.held ++ behind)) (sym came.line);
-          }
+          ap (map shown) (whole_step (t ++ behind) (end_of_front t behind whole))
+          ∙ ap (λ (l : List ℕ). shown l ∷ shown_whole (after_line (t ++ behind))) (first_of_front t behind whole)
+          ∙ ap (λ (l : List ℕ). shown (first_line t) ∷ shown_whole l) (after_of_front t behind whole)
+          ∙ ap (λ (l : List ℕ). shown (first_line t) ∷ shown_whole (l ++ behind)) (sym came.rest)
+          ∙ ap (λ (l : List ℕ). l ∷ shown_whole (new.held ++ behind)) (sym came.line)
       | inr open_end ↦ cc (going, (came.last open_end).2)
     ]
+
+line_all : {S : Type 0} (left : S → Known) (old new : Reading S) (n : ℕ) (more : List ℕ) → Came left old new n more → (behind : List ℕ) → (new.ended ≡ true → behind ≡ [])
+    → shown_all ((old.held ++ more) ++ behind) ≡ new.line ∷ shown_all (new.held ++ behind)
+line_all left old new n more came behind last =
+    let t = old.held ++ more in
+    elim (b_cases (has_end t)) [
+      | inl whole ↦
+          ap (map shown) (raw_step (t ++ behind) (some_end (t ++ behind) (end_of_front t behind whole)))
+          ∙ ap (λ (l : List ℕ). shown l ∷ shown_all (after_line (t ++ behind))) (first_of_front t behind whole)
+          ∙ ap (λ (l : List ℕ). shown (first_line t) ∷ shown_all l) (after_of_front t behind whole)
+          ∙ ap (λ (l : List ℕ). shown (first_line t) ∷ shown_all (l ++ behind)) (sym came.rest)
+          ∙ ap (λ (l : List ℕ). l ∷ shown_all (new.held ++ behind)) (sym came.line)
+      | inr open_end ↦
+          let at = came.last open_end in
+          let none : behind ≡ [] = last at.2 in
+          ap (λ (l : List ℕ). shown_all (t ++ l)) none
+          ∙ ap shown_all (append-nil t)
+          ∙ ap (map shown) (raw_step t at.0)
+          ∙ ap (λ (l : List ℕ). shown (first_line t) ∷ shown_all l) (sym came.rest)
+          ∙ ap (λ (l : List ℕ). l ∷ shown_all new.held) (sym came.line)
+          ∙ ap (λ (l : List ℕ). new.line ∷ shown_all l) (sym (append-nil new.held))
+          ∙ ap (λ (l : List ℕ). new.line ∷ shown_all (new.held ++ l)) (sym none)
+    ]
+
+-- a line was handed out
+pub line_handed : {S : Type 0} (left : S → Known) (old new : Reading S) (n : ℕ) (more : List ℕ) → Came left old new n more → old.ended ≡ false → HandedOut left old new (new.line ∷ [])
+line_handed left old new n more came unended = record {
+  more = more;
+  gave = came.gave;
+  since = λ e. unended;
+  quiet = λ e. cc (e, unended);
+  whole = line_whole left old new n more came;
+  all = line_all left old new n more came;
+}
+
+-- the end was told, and no line was handed out
+pub end_handed : {S : Type 0} (left : S → Known) (old new : Reading S) → EndCame left old new → HandedOut left old new []
+end_handed left old new came = record {
+  more = [];
+  gave = came.gave;
+  since = λ e. cc (e, came.ended);
+  quiet = λ e. refl;
+  whole = λ e behind. cc (e, came.ended);
+  all = λ behind last. ap (λ l. shown_all ((l ++ []) ++ behind)) came.held ∙ ap (λ l. shown_all (l ++ behind)) (sym came.rest);
+}
 
 -- no line was whole when a read failed
 pub failed_whole : {S : Type 0} (left : S → Known) (faults : S → ℕ) (old new : Reading S) → FailedCame left faults old new → WereWhole left old new []
@@ -103,8 +167,7 @@ pub record Over {S : Type 0} (left : S → Known) (old now : Reading S) : Type 0
   pub passed : list_all is_passed over ≡ true
   pub going : now.stop ≡ None
   pub count : now.number ≡ old.number + length over
-  pub unended : now.ended ≡ false → old.ended ≡ false
-  pub handed : now.ended ≡ false → HandedOut left old now over
+  pub handed : HandedOut left old now over
   pub told : (text : List ℕ) → text_left left old ≡ Some text → (rest : List ℕ) × (text_left left now ≡ Some rest) × (lines_of old text ≡ (over ++ (lines_of now rest).0, (lines_of now rest).1))
 
 pub over_none : {S : Type 0} (left : S → Known) (reader : Reading S) → reader.stop ≡ None → Over left reader reader
@@ -113,8 +176,7 @@ over_none left reader going = record {
   passed = refl;
   going = going;
   count = omega arith;
-  unended = λ e. e;
-  handed = λ e. handed_none left reader;
+  handed = handed_none left reader;
   told = λ text told. (text, told, refl);
 }
 
@@ -134,9 +196,9 @@ line_told left old now new n o next text told =
     let given = given_line left now new (lines_of now t.0) n (next.gives t.0 t.1) in
     (given.1.0, given.1.1, t.2 ∙ ap (λ (q : Lines). let p : Lines = (o.over ++ q.0, q.1) in p) given.1.2)
 
-line_out : {S : Type 0} (left : S → Known) (old now new : Reading S) (n : ℕ) (o : Over left old now) → NextLine left now new n → new.ended ≡ false → HandedOut left old new (o.over ++ new.line ∷ [])
-line_out left old now new n o next e =
-    handed_more left old now new o.over (new.line ∷ []) (o.handed next.more_to_come) (line_handed left now new n next.came.0 next.came.1 e)
+line_out : {S : Type 0} (left : S → Known) (old now new : Reading S) (n : ℕ) (o : Over left old now) → NextLine left now new n → HandedOut left old new (o.over ++ new.line ∷ [])
+line_out left old now new n o next =
+    handed_more left old now new o.over (new.line ∷ []) o.handed (line_handed left now new n next.came.0 next.came.1 next.more_to_come)
 
 -- one more line is passed over
 pub over_more : {S : Type 0} (left : S → Known) (old now new : Reading S) (n : ℕ) → Over left old now → NextLine left now new n → is_passed new.line ≡ true → Over left old new
@@ -145,7 +207,6 @@ over_more left old now new n o next pass = record {
   passed = passed_more o.over new.line o.passed pass;
   going = next.came.1.going;
   count = omega (arith, line_count left old now new n o next, length-append o.over (new.line ∷ []));
-  unended = λ e. o.unended next.more_to_come;
   handed = line_out left old now new n o next;
   told = λ text told.
       let t = line_told left old now new n o next text told in
@@ -161,7 +222,7 @@ over_line left old now new n o next pass = record {
   number = let came = next.came.1 in omega (arith, came.count, line_count left old now new n o next);
   count = next.came.1.count;
   going = next.came.1.going;
-  unended = o.unended next.more_to_come;
+  unended = o.handed.since next.more_to_come;
   handed = line_out left old now new n o next;
 }
 
@@ -201,6 +262,16 @@ over_end left old now new o came gives text told =
       count = omega (arith, came.count, o.count, ap (λ (q : Lines). length q.0) all, length-append o.over []);
     }
 
+pub over_none_left : {S : Type 0} (left : S → Known) (old now new : Reading S) → Over left old now → EndCame left now new → NoneCame left old new
+over_none_left left old now new o came = record {
+  over = o.over;
+  passed = o.passed;
+  count = omega (arith, came.count, o.count);
+  going = came.going;
+  done = record { ended = came.ended; nothing = came.rest; at_end = came.at_end };
+  handed = subst (HandedOut left old new) (append-nil o.over) (handed_more left old now new o.over [] o.handed (end_handed left now new came));
+}
+
 -- the text is past its limit behind lines that were passed over
 pub over_limit : {S : Type 0} (left : S → Known) (old now new : Reading S) → Over left old now → ((text : List ℕ) → text_left left now ≡ Some text → GivesLine left now new (lines_of now text) (Err TooLong))
     → (text : List ℕ) → text_left left old ≡ Some text → NoneInLimit old new (lines_of old text)
@@ -219,10 +290,10 @@ pub over_fault : {S : Type 0} (left : S → Known) (faults : S → ℕ) (old now
 over_fault left faults old now new o came unended rose = record {
   over = o.over;
   passed = o.passed;
-  whole = subst (WereWhole left old new) (append-nil o.over) (whole_more left old now new o.over [] (o.handed unended) (failed_whole left faults now new came));
+  whole = subst (WereWhole left old new) (append-nil o.over) (whole_more left old now new o.over [] o.handed unended (failed_whole left faults now new came));
   cause = rose;
   count = omega (arith, came.count, o.count);
-  unended = o.unended unended;
+  unended = o.handed.since unended;
   stopped = came.stopped;
 }
 

@@ -3,6 +3,7 @@ use Rattle.std.specs.Prelude.{◌≡◌, ◌<◌, ℕ, Bool, List, [], Option, S
 use Rattle.si_causes.specs.Reading.{Reading, room, text_left}
 use Rattle.feed_edits.specs.declared.stop.EditStop.{EditStop}
 use Rattle.feed_edits.specs.Ahead.{Came, Stopped, End as end, ahead}
+use Rattle.input_lines.specs.Going.{NoneCame}
 use Rattle.feed_edits.specs.Reads.{Gives, Leaves, Passes, Takes}
 use Rattle.journal_text.specs.declared.script.ScriptItem.{ScriptItem}
 use Rattle.journal_text.specs.declared.script.ScriptItem.TheVariants.{Step, Kept, End}
@@ -25,7 +26,7 @@ GivesItem left after old new text (Err stop) = Gives left (first_script_item aft
 abbrev pub TakesItem : {S : Type 0} → (S → Option (List ℕ)) → (S → ℕ) → Bool → Reading S → Reading S → Result ScriptItem EditStop → Type 0
 TakesItem left faults after old new (Ok (Step who step)) = Passes left (first_script_item after) (Came (Step who step)) old new
 TakesItem left faults after old new (Ok (Kept n outcome)) = Passes left (first_script_item after) (Came (Kept n outcome)) old new
-TakesItem left faults after old new (Ok End) = new.stop ≡ None
+TakesItem left faults after old new (Ok End) = NoneCame left old new
 TakesItem left faults after old new (Err stop) = Takes left faults (first_script_item after) old new (Err stop)
 
 -- behind an item less of the text is left

@@ -8,9 +8,9 @@ use Rattle.si_causes.specs.Text.{TextEnd, AtEnd}
 use Rattle.si_causes.specs.declared.stop.ReadStop.{ReadStop}
 use Rattle.si_causes.specs.declared.stop.ReadStop.TheVariants.{Failed, TooLong}
 use Rattle.input_lines.specs.Lines.{is_passed, lines_of, record_lines}
-use Rattle.input_lines.specs.Going.{HandedOut, LineCame, RecordCame}
+use Rattle.input_lines.specs.Going.{HandedOut, LineCame, NoneCame, RecordCame}
 use Rattle.input_lines.specs.Records.{FirstRecord, NoRecord, GivesRecord}
-use Rattle.input_lines.proofs.LastLines.{before_last}
+use Rattle.input_lines.proofs.LastLines.{none_last, last_split, before_last, front_passed}
 use Rattle.input_lines.proofs.Steps.{handed_none, handed_more, whole_more, records_past, record_first}
 use Rattle.mux_config.specs.declared.fault.MuxFault.{MuxFault}
 use Rattle.mux_config.specs.declared.mux.Mux.{Mux}
@@ -45,8 +45,8 @@ line_fails before n line rest f e = rw e refl
 pub record Taken {S : Type 0} (left : S → Known) (old now : Reading S) (records : List Numbered) : Type 0 where
   pub lines : List (List ℕ)
   pub going : now.stop ≡ None
-  pub since : now.ended ≡ false → old.ended ≡ false
-  pub handed : now.ended ≡ false → HandedOut left old now lines
+  pub handed : HandedOut left old now lines
+  pub needed : (front : List (List ℕ)) (last : List ℕ) → lines ≡ front ++ last ∷ [] → block_from [] (record_lines (old.number + 1) front) ≡ Unended
   pub count : now.number ≡ old.number + length lines
   pub reads : (more : List (List ℕ)) → block_from [] (record_lines (old.number + 1) (lines ++ more)) ≡ block_from records (record_lines (now.number + 1) more)
   pub told : (text : List ℕ) → text_left left old ≡ Some text → (rest : List ℕ) × (text_left left now ≡ Some rest)
@@ -58,8 +58,8 @@ pub taken_none : {S : Type 0} (left : S → Known) (reader : Reading S) → read
 taken_none left reader going = record {
   lines = [];
   going = going;
-  since = λ e. e;
-  handed = λ e. handed_none left reader;
+  handed = handed_none left reader;
+  needed = λ front last e. absurd (none_last front last e);
   count = omega arith;
   reads = λ more. refl;
   told = λ text told. (text, told, refl, refl, refl);
@@ -87,9 +87,9 @@ abbrev lines_with : {S : Type 0} (left : S → Known) (old now new : Reading S) 
 lines_with left old now new n records t next = t.lines ++ (next.came.over ++ new.line ∷ [])
 
 lines_handed : {S : Type 0} (left : S → Known) (old now new : Reading S) (n : ℕ) (records : List Numbered) (t : Taken left old now records) (next : NextLine left now new n)
-    → new.ended ≡ false → HandedOut left old new (lines_with left old now new n records t next)
-lines_handed left old now new n records t next e =
-    handed_more left old now new t.lines (next.came.over ++ new.line ∷ []) (t.handed next.more_to_come) (next.came.handed e)
+    → HandedOut left old new (lines_with left old now new n records t next)
+lines_handed left old now new n records t next =
+    handed_more left old now new t.lines (next.came.over ++ new.line ∷ []) t.handed next.came.handed
 
 lines_count : {S : Type 0} (left : S → Known) (old now new : Reading S) (n : ℕ) (records : List Numbered) (t : Taken left old now records) (next : NextLine left now new n)
     → new.number ≡ old.number + length (lines_with left old now new n records t next)
@@ -108,7 +108,6 @@ looked_at left old now new n records t next =
     λ front last e. before_last (t.lines ++ came.over) new.line front last (append_assoc t.lines came.over (new.line ∷ []) ∙ e) ∙ append-nil (t.lines ++ came.over) in
     record {
       lines = lines_with left old now new n records t next;
-      since = λ open_end. t.since next.more_to_come;
       handed = lines_handed left old now new n records t next;
       count = lines_count left old now new n records t next;
       going = came.going;
@@ -143,8 +142,8 @@ taken_more left old now new n records after t next f e is =
     record {
       lines = lines_with left old now new n records t next;
       going = next.came.going;
-      since = λ open_end. t.since next.more_to_come;
       handed = lines_handed left old now new n records t next;
+      needed = (looked_at left old now new n records t next).needed;
       count = lines_count left old now new n records t next;
       reads = λ more. lines_read left old now new n records t next more ∙ step (record_lines (n + 1) more) ∙ ap (λ k. block_from after (record_lines (k + 1) more)) (sym count);
       told = λ text told.
@@ -230,6 +229,27 @@ end_read left old now new records t gives text told =
     let g = gives s.0 s.1 in
     ap (λ (b : Block). at_text_end b (lines_of old text).1) (s.2 ∙ ap (block_from records) g.none) ∙ ap (at_text_end Unended) (s.3 ∙ g.stop)
 
+-- and the reader has handed out all its lines
+pub end_came : {S : Type 0} (left : S → Known) (faults : S → ℕ) (old now new : Reading S) (records : List Numbered) (fault : MuxFault) → Taken left old now records → NoneCame left now new → at_text_end Unended AtEnd ≡ Faulty fault
+    → MuxCame left faults old new (Err (Fault fault))
+end_came left faults old now new records fault t came e =
+    let none : (over : List (List ℕ)) → list_all is_passed over ≡ true → block_from [] (record_lines (old.number + 1) (t.lines ++ over)) ≡ Unended =
+    λ over passed. t.reads over ∙ ap (block_from records) (none_there (now.number + 1) over passed) in
+    inr (record {
+      looked = record {
+        lines = t.lines ++ came.over;
+        handed = handed_more left old now new t.lines came.over t.handed came.handed;
+        count = omega (arith, came.count, t.count, length-append t.lines came.over);
+        going = came.going;
+        needed = λ front last is. elim (last_split t.lines came.over front last is) [
+          | inl here ↦ t.needed front last here
+          | inr (rest, there, whole) ↦ ap (λ l. block_from [] (record_lines (old.number + 1) l)) whole ∙ none rest (front_passed came.over rest last came.passed there)
+        ];
+      };
+      done = came.done;
+      faulty = ap (λ (b : Block). at_text_end b AtEnd) (none came.over came.passed) ∙ e;
+    })
+
 -- the reader stops
 rose_since : {a b c : ℕ} → Rose b c → a ≤ b → Rose a c
 rose_since (inl more) le = inl (omega (arith, more, le))
@@ -247,7 +267,7 @@ pub stop_came : {S : Type 0} (left : S → Known) (faults : S → ℕ) (old now 
     → faults old.source ≤ faults now.source → MuxCame left faults old new (Err (Read stop))
 stop_came left faults old now new records Failed t came later = record {
   lines = t.lines ++ came.over;
-  whole = whole_more left old now new t.lines came.over (t.handed came.unended) came.whole;
+  whole = whole_more left old now new t.lines came.over t.handed came.unended came.whole;
   unended = t.reads came.over ∙ ap (block_from records) (none_there (now.number + 1) came.over came.passed);
   cause = rose_since came.cause later;
 }

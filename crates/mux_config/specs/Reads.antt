@@ -1,11 +1,11 @@
 -- What reading a description tells.
 use Rattle.std.specs.Prelude.{◌≡◌, ◌⊎◌, ℕ, ◌+◌, Bool, true, false, List, [], ◌∷◌, ◌++◌, length, Option, Some, None, Ok, Err, Result}
-use Rattle.std.specs.Io.KnownBytes.{IsAtEnd}
 use Rattle.si_causes.specs.Causes.{Rose}
 use Rattle.si_causes.specs.Reading.{Reading, text_left}
+use Rattle.si_causes.specs.Text.{AtEnd}
 use Rattle.si_causes.specs.declared.stop.ReadStop.TheVariants.{Failed, TooLong}
 use Rattle.input_lines.specs.Lines.{Lines, lines_of, record_lines}
-use Rattle.input_lines.specs.Going.{HandedOut, WereWhole}
+use Rattle.input_lines.specs.Going.{HandedOut, HasEnded, WereWhole}
 use Rattle.mux_config.specs.declared.fault.MuxFault.{MuxFault}
 use Rattle.mux_config.specs.declared.mux.Mux.{Mux}
 use Rattle.mux_config.specs.declared.stop.MuxStop.{MuxStop}
@@ -50,9 +50,7 @@ ReadMux left old new lines (Err Memory) = Unit {0}
 -- fault nor the end.
 pub record Looked {S : Type 0} (left : S → Option (List ℕ)) (old new : Reading S) : Type 0 where
   pub lines : List (List ℕ)
-  pub since : new.ended ≡ false → old.ended ≡ false
-  -- a line without an LF is the last
-  pub handed : new.ended ≡ false → HandedOut left old new lines
+  pub handed : HandedOut left old new lines
   pub count : new.number ≡ old.number + length lines
   pub going : new.stop ≡ None
   pub needed : (front : List (List ℕ)) (last : List ℕ) → lines ≡ front ++ last ∷ [] → block_from [] (record_lines (old.number + 1) front) ≡ Unended
@@ -67,6 +65,12 @@ pub record FaultyLines {S : Type 0} (left : S → Option (List ℕ)) (old new : 
   pub looked : Looked left old new
   pub faulty : (more : List (List ℕ)) → block_from [] (record_lines (old.number + 1) (looked.lines ++ more)) ≡ Faulty fault
 
+-- The lines that were handed out are all that were left, and a text of these alone has this fault.
+pub record EndFaulty {S : Type 0} (left : S → Option (List ℕ)) (old new : Reading S) (fault : MuxFault) : Type 0 where
+  pub looked : Looked left old new
+  pub done : HasEnded left new
+  pub faulty : block_of (old.number + 1) (looked.lines, AtEnd) ≡ Faulty fault
+
 -- a read failed: the lines that were whole in the bytes taken have neither a fault nor the end
 pub record FaultCame {S : Type 0} (left : S → Option (List ℕ)) (faults : S → ℕ) (old new : Reading S) : Type 0 where
   pub lines : List (List ℕ)
@@ -77,7 +81,7 @@ pub record FaultCame {S : Type 0} (left : S → Option (List ℕ)) (faults : S �
 -- what reading a description tells, whether or not the source tells its text
 abbrev pub MuxCame : {S : Type 0} → (S → Option (List ℕ)) → (S → ℕ) → Reading S → Reading S → Result Mux MuxStop → Type 0
 MuxCame left faults old new (Ok mux) = WholeCame left old new mux
-MuxCame left faults old new (Err (Fault f)) = FaultyLines left old new f ⊎ ((new.stop ≡ None) × IsAtEnd (left new.source))
+MuxCame left faults old new (Err (Fault f)) = FaultyLines left old new f ⊎ EndFaulty left old new f
 MuxCame left faults old new (Err (Read Failed)) = FaultCame left faults old new
 MuxCame left faults old new (Err (Read TooLong)) = new.stop ≡ Some TooLong
 MuxCame left faults old new (Err Memory) = Looked left old new

@@ -1,7 +1,7 @@
 use Rattle.std.proofs.Common.{arith}
 use Rattle.std.proofs.lemmas.Grind.{common_steps}
 use Rattle.feed_edits.proofs.Turns.{never_line}
-use Rattle.feed_edits.proofs.Edits.{item_takes, item_stop_takes}
+use Rattle.feed_edits.proofs.Edits.{item_takes, item_missing, item_stop_takes}
 use Rattle.feed_edits.proofs.reading.next_item.Goals as goal
 
 pub returns-in-Ok-Some-clause-takes : goal.returns-in-Ok-Some-clause-takes
@@ -36,7 +36,9 @@ pub returns-in-Ok-None-clause-gives : goal.returns-in-Ok-None-clause-gives
 returns-in-Ok-None-clause-gives g c = grind (arith, common_steps)
 
 pub returns-in-Ok-None-clause-takes : goal.returns-in-Ok-None-clause-takes
-returns-in-Ok-None-clause-takes g c = grind (arith, common_steps)
+returns-in-Ok-None-clause-takes g c = λ going.
+    let e = rw c.in-Ok-None.field-0-is at c.in-Ok-None.ensures in
+    item_missing g.S.Source.left g.S.Source.faults c.args.lines.now c.next_record_line.new.lines _ (omega (arith, c.number.ensures.value)) (e.came going)
 
 pub returns-in-Ok-None-clause-shaped : goal.returns-in-Ok-None-clause-shaped
 returns-in-Ok-None-clause-shaped g c = grind (arith, common_steps)

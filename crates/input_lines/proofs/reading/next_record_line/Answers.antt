@@ -1,5 +1,5 @@
 use Rattle.std.proofs.Common.{refl, arith, true, false}
-use Rattle.input_lines.proofs.Steps.{NextLine, not_ended, not_ended_stop, stuck_at, stays_stuck, over_none, over_more, over_line, over_first, over_end, over_stop, over_stop_records, found_passed}
+use Rattle.input_lines.proofs.Steps.{NextLine, not_ended, not_ended_stop, stuck_at, stays_stuck, over_none, over_more, over_line, over_first, over_end, over_none_left, over_stop, over_stop_records, found_passed}
 use Rattle.input_lines.proofs.reading.next_record_line.Goals as goal
 
 pub lines-init : goal.lines-init
@@ -48,6 +48,12 @@ returns-in-Ok-None-clause-records g c = λ going.
     let e = rw c.in-Ok-None.field-0-is at c.in-Ok-None.ensures in
     let o = c.lines.invariant.over going in
     over_end g.S.Source.left c.args.lines.now c.lines.lines c.next.new.self o (e.came o.going) (e.lines o.going)
+
+pub returns-in-Ok-None-clause-came : goal.returns-in-Ok-None-clause-came
+returns-in-Ok-None-clause-came g c = λ going.
+    let e = rw c.in-Ok-None.field-0-is at c.in-Ok-None.ensures in
+    let o = c.lines.invariant.over going in
+    over_none_left g.S.Source.left c.args.lines.now c.lines.lines c.next.new.self o (e.came o.going)
 
 pub returns-in-Err-clause-records : goal.returns-in-Err-clause-records
 returns-in-Err-clause-records g c = λ going.

@@ -4,7 +4,7 @@ use Rattle.input_lines.proofs.Steps.{stuck_at, stays_stuck}
 use Rattle.mux_config.specs.declared.record.Numbered.{Numbered}
 use Rattle.mux_config.specs.Block.{ended}
 use Rattle.mux_config.specs.Reads.{Makes}
-use Rattle.mux_config.proofs.Reading.{NextLine, Taken, taken_none, taken_more, ended_read, ended_came, line_came, stop_came, took_on, took_end}
+use Rattle.mux_config.proofs.Reading.{NextLine, Taken, taken_none, taken_more, ended_read, ended_came, end_came, line_came, stop_came, took_on, took_end}
 use Rattle.mux_config.specs.Fine.{AreFine}
 use Rattle.mux_config.proofs.Soundness.{fine_none, sound_made}
 use Rattle.mux_config.proofs.read.read_mux.Goals as goal
@@ -104,7 +104,10 @@ pub returns-in-Ok-None-clause-block : goal.returns-in-Ok-None-clause-block
 returns-in-Ok-None-clause-block g c = grind (arith, common_steps)
 
 pub returns-in-Ok-None-clause-came : goal.returns-in-Ok-None-clause-came
-returns-in-Ok-None-clause-came g c = grind (arith, common_steps)
+returns-in-Ok-None-clause-came g c = λ going.
+    let e = rw c.in-Ok-None.field-0-is at c.in-Ok-None.ensures in
+    let t = c.lines.invariant.taken going in
+    end_came g.S.Source.left g.S.Source.faults c.args.lines.now c.lines.lines c.next_record_line.new.lines c.lines.records.list.items _ t (e.came t.going) refl
 
 pub returns-in-Ok-None-clause-sound : goal.returns-in-Ok-None-clause-sound
 returns-in-Ok-None-clause-sound g c = grind (arith, common_steps)
