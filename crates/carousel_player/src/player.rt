@@ -98,6 +98,7 @@ impl Player {
             → OnErr result (GaveUp xs x rest (A.written sink.old) (A.written sink.new) self.new) }
         ensures idle { self.old.left ≡ [] → IsOk result × (self.new ≡ self.old) × (sink.new ≡ sink.old) }
         ensures cause { HasCause (A.faults sink.old) (A.faults sink.new) result }
+        ensures same { A.same sink.old sink.new }
     {
         'batches: while !self.cycle.is_ended() {
             let count = fill(&mut self.cycle, &mut self.counters, &mut self.buffer);

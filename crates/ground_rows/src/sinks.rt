@@ -1,6 +1,6 @@
-// Ends in memory: a sink that fails, a source that never fails, an opener without files and a gate that holds nothing.
+// Ends in memory: a sink that fails, a source that never fails, an opener of files and a gate that holds nothing.
 use si_causes::{
-    Failed, Gate, MemSink, NeverFails, NoFiles, OpenGate, Opener, Place, Source, write_all,
+    Failed, Gate, MemOpener, MemSink, NeverFails, OpenGate, Opener, Place, Source, write_all,
 };
 use std::alloc::{AllocError, Global};
 use std::test::Fail;
@@ -38,7 +38,55 @@ fn reads_front(alloc: Global) -> Result<bool, AllocError> {
 #[test]
 fn other_ends(rt: HostRuntime) -> Result<(), Fail> {
     assert!(rt; reads_front(rt.alloc())?);
-    assert!(rt; NoFiles::new().open("a").is_err());
     OpenGate.pass(Place::BeforeSwap(1));
+    Ok(())
+}
+
+fn two_files(alloc: Global) -> Result<Vec<(String, Vec<u8>)>, AllocError> {
+    let mut files = Vec::new(alloc);
+    for (path, bytes) in [("a", b"first".as_slice()), ("b", b"second".as_slice())] {
+        files.push((String::from_str(alloc, path)?, Vec::from_slice(alloc, bytes)?))?;
+    }
+    Ok(files)
+}
+
+// An opener of two files whose second opening fails, and of whose fourth opening the second read fails.
+fn two_files_opener(alloc: Global) -> Result<MemOpener, AllocError> {
+    let files = two_files(alloc)?;
+    Ok(MemOpener::open_with(alloc, files, vec![in alloc; 1; 1]?, Some((3, 1))))
+}
+
+// How many bytes two reads of a path give, where it opens.
+fn reads_of(opener: &mut MemOpener, path: &str) -> Option<[Result<usize, Failed>; 2]> {
+    let mut from = opener.open(path).ok()?;
+    let mut into = [0; 4];
+    let first = from.read(&mut into);
+    let second = from.read(&mut into);
+    opener.close(from);
+    Some([first, second])
+}
+
+fn openings_agree(alloc: Global) -> Result<bool, AllocError> {
+    let mut opener = two_files_opener(alloc)?;
+    let all = [
+        reads_of(&mut opener, "b"),
+        reads_of(&mut opener, "b"),
+        reads_of(&mut opener, "c"),
+        reads_of(&mut opener, "a"),
+        reads_of(&mut opener, "a"),
+    ];
+    Ok(all
+        == [
+            Some([Ok(4), Ok(2)]),
+            None,
+            None,
+            Some([Ok(4), Err(Failed)]),
+            Some([Ok(4), Ok(1)]),
+        ])
+}
+
+#[test]
+fn openings(rt: HostRuntime) -> Result<(), Fail> {
+    assert!(rt; openings_agree(rt.alloc())?);
     Ok(())
 }

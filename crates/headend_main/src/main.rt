@@ -5,7 +5,7 @@
 #![tactic(auto)]
 
 use epg_cli::{Status, run};
-use si_causes::{NoFiles, OpenGate, write_all};
+use si_causes::{MemOpener, OpenGate, write_all};
 use std::env::{self, Env};
 use std::io;
 use std::process::ExitCode;
@@ -31,7 +31,8 @@ fn main(rt: HostRuntime) -> ExitCode {
         // Words that are no text are no command line, as no words are none.
         Err(_) => Vec::new(rt.alloc()),
     };
-    let mut files = NoFiles::new();
+    let alloc = rt.alloc();
+    let mut files = MemOpener::open_with(alloc, Vec::new(alloc), Vec::new(alloc), None);
     let status = run(
         &rt,
         rt.alloc(),

@@ -55,6 +55,12 @@ impl<'a> Sink for Counting<'a> {
 
     ghost faults = { λ _. 0 };
 
+    ghost same = { λ _ _. Unit {0} };
+
+    ghost same_at_once = { λ _. tt };
+
+    ghost same_later = { λ _ _ _ _ _. tt };
+
     fn write(&mut self, from: &[u8]) -> Result<usize, Failed> {
         self.taken.set(self.taken.get().saturating_add(from.len()));
         Ok(from.len())

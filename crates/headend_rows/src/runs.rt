@@ -1,6 +1,6 @@
 // Runs over sources and sinks in memory, and what they leave.
 use epg_cli::{Status, run};
-use si_causes::{MemSink, MemSource, NoFiles, OpenGate};
+use si_causes::{MemOpener, MemSink, MemSource, OpenGate};
 use std::alloc::{AllocError, Global};
 use std::marker::Sync;
 use std::sync::Wait;
@@ -67,6 +67,11 @@ fn line_of(alloc: Global, words: &[&str]) -> Result<Vec<String>, AllocError> {
     Ok(line)
 }
 
+// An opener without files.
+fn no_files(alloc: Global) -> MemOpener {
+    MemOpener::open_with(alloc, Vec::new(alloc), Vec::new(alloc), None)
+}
+
 // Runs these words over these ends.
 fn run_over<W: Threads + Wait + Sync>(
     rt: &W,
@@ -79,7 +84,7 @@ fn run_over<W: Threads + Wait + Sync>(
         rt,
         alloc,
         &line,
-        &mut NoFiles::new(),
+        &mut no_files(alloc),
         &mut ends.input,
         &mut ends.air,
         &mut ends.report,

@@ -3,3 +3,4 @@ pub mod CauseFacts
 pub mod LineFacts
 pub mod GatherFacts
 pub mod TextFacts
+pub mod FileFacts

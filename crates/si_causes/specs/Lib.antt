@@ -5,4 +5,5 @@ pub mod Text
 pub mod Gathering
 pub mod Reading
 pub mod Memory
+pub mod Files
 mod Rows

@@ -49,13 +49,22 @@ pub trait Sink {
     /// How often a write has failed.
     ghost faults: { Self → ℕ };
 
+    /// Whether two values are one object at two moments. A caller that lends a sink knows by it that it gets
+    /// that one back.
+    ghost same: { Self → Self → Type 0 };
+
     /// Takes the first bytes of `from`, at least one where there is one, and says how many. Taking nothing of a
     /// piece that is not empty is a fault. `Failed` comes only where the count of faults rose in the call (or
     /// stands at its last value, 2^64 - 1), and then no byte was taken.
     fn write(&mut self, from: &[u8]) -> Result<usize, Failed>
         ensures bound { TakesSome result from.now }
         ensures bytes { WriteAppends (written self.old) (written self.new) result from.now }
-        ensures cause { HasCause (faults self.old) (faults self.new) result };
+        ensures cause { HasCause (faults self.old) (faults self.new) result }
+        ensures same { same self.old self.new };
+
+    ghost same_at_once: { (a : Self) → same a a };
+
+    ghost same_later: { (a b c : Self) → same a b → same b c → same a c };
 }
 
 impl<S: Source> Source for &mut S {
@@ -74,12 +83,29 @@ impl<S: Source> Source for &mut S {
     }
 }
 
+impl<A: Sink> Sink for &mut A {
+    ghost written = { λ s. A.written s.now };
+
+    ghost faults = { λ s. A.faults s.now };
+
+    ghost same = { λ a b. (b.ghost_name ≡ a.ghost_name) × A.same a.now b.now };
+
+    ghost same_at_once = { λ a. (refl, A.same_at_once a.now) };
+
+    ghost same_later = { λ a b c p q. (q.0 ∙ p.0, A.same_later a.now b.now c.now p.1 q.1) };
+
+    fn write(&mut self, from: &[u8]) -> Result<usize, Failed> {
+        (**self).write(from)
+    }
+}
+
 /// Writes all the bytes. After `Failed` a front of them was written, and not all, and the sink's count of faults
 /// rose. It takes no memory.
 pub fn write_all<A: Sink>(sink: &mut A, bytes: &[u8]) -> Result<(), Failed>
     ensures done { OnOk result (Appends (A.written sink.old) (A.written sink.new) bytes.now) }
     ensures failed { OnErr result (AppendsFront (A.written sink.old) (A.written sink.new) bytes.now) }
     ensures cause { HasCause (A.faults sink.old) (A.faults sink.new) result }
+    ensures same { A.same sink.old sink.new }
 {
     let mut at = 0;
     while at < bytes.len() {

@@ -13,10 +13,11 @@
 //! does not tell them, `came` says the same of the bytes that it gave.
 //!
 //! A list that is handed in brings its allocator: [`MemSource::open`] and [`NeverFails::open`] take none.
-//! [`MemSink::open`] and [`LineReader::open`] make lists of their own, and take it first.
+//! [`MemSink::open`], [`MemOpener::open_with`] and [`LineReader::open`] make lists of their own, and take it first.
 #![tactic(auto)]
 
 mod causes;
+mod files;
 mod gate;
 mod gather;
 mod held;
@@ -27,8 +28,9 @@ mod reader;
 mod stop;
 
 pub use causes::{Failed, Sink, Source, write_all};
+pub use files::MemOpener;
 pub use gate::{Gate, OpenGate, Place};
 pub use memory::{MemSink, MemSource, NeverFails};
-pub use opener::{NoFiles, Opener};
+pub use opener::Opener;
 pub use reader::LineReader;
 pub use stop::ReadStop;

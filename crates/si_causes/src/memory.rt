@@ -1,5 +1,5 @@
 // Sources and sinks in memory, for tests.
-ghost use Rattle.std.specs.Prelude.{◌≡◌, ◌≤◌, ◌-◌, ◌↔◌, [], length, take, drop, min, Some, IfOk, IsErr, Ok, true, if◌then◌else◌};
+ghost use Rattle.std.specs.Prelude.{◌≡◌, ◌≤◌, ◌-◌, ◌<◌, ◌↔◌, [], length, take, drop, min, Some, IfOk, IsErr, IsTrue, Ok, true, if◌then◌else◌};
 ghost use Rattle.std.specs.Io.{ReadsAtMost};
 ghost use Rattle.std.specs.Io.KnownBytes.{ReadConsumes};
 ghost use Rattle.si_causes.specs.Causes.{HasCause, Rose, TakesSome};
@@ -12,7 +12,7 @@ use std::marker::Model;
 
 // The calls of a source or sink, of which some are to fail.
 #[derive(Drop)]
-struct Counts {
+pub(crate) struct Counts {
     fail_at: Vec<u64>,
     calls: u64,
     faults: u64,
@@ -27,7 +27,7 @@ impl Model for Counts {
 }
 
 impl Counts {
-    fn new(fail_at: Vec<u64>) -> Counts
+    pub(crate) fn new(fail_at: Vec<u64>) -> Counts
         ensures { result ≡ no_calls fail_at.items }
     {
         Counts {
@@ -37,8 +37,15 @@ impl Counts {
         }
     }
 
+    // How many calls were counted.
+    pub(crate) fn number(&self) -> u64
+        ensures { result ≡ self.now.calls }
+    {
+        self.calls
+    }
+
     // Counts a call, and a fault where it is one of those that fail.
-    fn call(&mut self) -> Result<(), Failed>
+    pub(crate) fn call(&mut self) -> Result<(), Failed>
         ensures cause { HasCause self.old.faults self.new.faults result }
         ensures fails { IsErr result ↔ (fails_next self.old ≡ true) }
         ensures after { self.new ≡ (if fails_next self.old then and_failed self.old else and_call self.old) }
@@ -52,7 +59,7 @@ impl Counts {
     }
 
     // Counts a fault.
-    fn fault(&mut self) -> Failed
+    pub(crate) fn fault(&mut self) -> Failed
         ensures later { self.old.faults ≤ self.new.faults }
         ensures rose { Rose self.old.faults self.new.faults }
         ensures after { self.new ≡ record self.old { faults = raised self.old.faults } }
@@ -95,6 +102,13 @@ impl MemSource {
             piece,
             calls: Counts::new(fail_at),
         }
+    }
+
+    // Whether a read has failed.
+    pub(crate) fn has_failed(&self) -> bool
+        ensures { IsTrue result ↔ (0 < self.now.calls.faults) }
+    {
+        self.calls.faults > 0
     }
 }
 
@@ -228,6 +242,12 @@ impl Sink for MemSink {
     ghost written = { λ s. Some s.taken };
 
     ghost faults = { λ s. s.calls.faults };
+
+    ghost same = { λ _ _. Unit {0} };
+
+    ghost same_at_once = { λ a. tt };
+
+    ghost same_later = { λ a b c p q. tt };
 
     fn write(&mut self, from: &[u8]) -> Result<usize, Failed>
         ensures bound { TakesSome result from.now }

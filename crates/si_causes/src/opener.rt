@@ -1,12 +1,10 @@
 // What opens paths.
-ghost use Rattle.std.specs.Prelude.{◌≡◌, [], ◌∷◌, List, ℕ, IfOk, Option, None, Some, IsErr};
+ghost use Rattle.std.specs.Prelude.{◌≡◌, List, ℕ, IfOk, Option};
 ghost use Rattle.si_causes.specs.Causes.{HasCause};
-ghost use Rattle.si_causes.specs.Memory.{raised};
 ghost use Rattle.si_causes.specs.Opening.{Files, Holds, Tries, TakesBack};
 
 use crate::causes::{Failed, Source};
-use crate::memory::NeverFails;
-use std::marker::{Model, Send};
+use std::marker::Send;
 
 /// What opens paths.
 ///
@@ -44,51 +42,4 @@ pub trait Opener {
         ensures faults { faults self.new ≡ faults self.old }
         ensures tried { tried self.new ≡ tried self.old }
         ensures files { files self.new ≡ files self.old };
-}
-
-/// An opener without files, which does not tell the paths asked for.
-#[derive(Drop)]
-pub struct NoFiles {
-    faults: u64,
-}
-
-impl Model for NoFiles {
-    ghost use Rattle.std.specs.Prelude.{ℕ};
-
-    ghost Value = { ℕ };
-
-    ghost view = { λ o. o.faults };
-}
-
-impl NoFiles {
-    /// An opener that has not been asked yet.
-    pub fn new() -> NoFiles
-        ensures { result ≡ 0 }
-    {
-        NoFiles { faults: 0 }
-    }
-}
-
-impl Opener for NoFiles {
-    type From = NeverFails;
-
-    ghost faults = { λ o. o };
-
-    ghost read_faults = { λ _. 0 };
-
-    ghost tried = { λ _. None };
-
-    ghost files = { λ _. Some [] };
-
-    /// Always `Failed`.
-    fn open(&mut self, _path: &str) -> Result<NeverFails, Failed>
-        ensures cause { HasCause self.old self.new result }
-        ensures fails { IsErr result }
-        ensures count { self.new ≡ raised self.old }
-    {
-        self.faults = self.faults.saturating_add(1);
-        Err(Failed)
-    }
-
-    fn close(&mut self, _from: NeverFails) {}
 }

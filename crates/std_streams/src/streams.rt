@@ -60,6 +60,12 @@ impl<W: Write> Sink for Writing<W> {
 
     ghost faults = { λ s. s.faults };
 
+    ghost same = { λ _ _. Unit {0} };
+
+    ghost same_at_once = { λ _. tt };
+
+    ghost same_later = { λ _ _ _ _ _. tt };
+
     fn write(&mut self, from: &[u8]) -> Result<usize, Failed> {
         match self.inner.write(from) {
             Ok(count) => {

@@ -4,8 +4,9 @@ ghost use Rattle.turn_lock.specs.Journal.{Grows};
 
 use crate::{Chronicle, Job, Pass, Receipt, Turns};
 use std::alloc::AllocError;
+use std::marker::Sync;
 use std::sync::Wait;
-use std::thread::join;
+use std::thread::{Threads, join};
 
 #[derive(Clone, Copy, Debug, PartialEq)]
 struct Mark {
@@ -103,18 +104,61 @@ fn two_callers_make_a_thousand_turns_each(rt: HostRuntime) {
     );
     first.join(&turns, second);
     let log = turns.close(first);
-    assert_eq!(rt; log.marks.len(), 2000);
-    for who in 0..2 {
-        let mut next = 0;
-        for mark in &log.marks {
-            if mark.who == who {
-                assert_eq!(rt; mark.number, next);
-                assert!(rt; next < 2000);
-                next += 1;
-            }
+    let mut counts = [0; 2];
+    assert!(rt; ascend(&log.marks, &mut counts) && counts == [1000; 2]);
+}
+
+/// Two passes turn side by side.
+fn two<W: Threads + Wait + Sync>(
+    rt: &W,
+    turns: &Turns<Log>,
+    first: Pass<Log>,
+    second: Pass<Log>,
+    count: u32,
+) -> (Pass<Log>, Pass<Log>)
+    requires { (first.turns ≡ turns.now.turns) × (second.turns ≡ turns.now.turns) }
+    ensures first { (result.0.turns ≡ first.turns) × (result.0.own.low ≡ first.own.low) × (result.0.own.span ≡ first.own.span) × (result.0.finished ≡ first.finished) }
+    ensures second { (result.1.turns ≡ second.turns) × (result.1.own.low ≡ second.own.low) × (result.1.own.span ≡ second.own.span) × (result.1.finished ≡ second.finished) }
+{
+    join(
+        rt,
+        || many(rt, turns, first, count),
+        || many(rt, turns, second, count),
+    )
+}
+
+/// Counts the marks of each caller, whose numbers ascend from 0; false where one does not.
+fn ascend(marks: &[Mark], counts: &mut [u32]) -> bool {
+    for mark in marks {
+        match counts.get_mut(mark.who as usize) {
+            Some(count) if *count == mark.number => *count = count.saturating_add(1),
+            _ => return false,
         }
-        assert_eq!(rt; next, 1000);
     }
+    true
+}
+
+/// A wake-up that is lost leaves a caller parked, and the test hangs.
+#[test]
+fn four_callers_make_twenty_thousand_turns(rt: HostRuntime) {
+    let log = Log {
+        marks: Vec::new(rt.alloc()),
+    };
+    let (turns, mut first) = Turns::open(rt.alloc(), log, 4).expect(&rt, "memory");
+    let mut third = first.split(&turns, 2);
+    let fourth = third.split(&turns, 1);
+    let second = first.split(&turns, 1);
+    let ((mut first, second), (mut third, fourth)) = join(
+        &rt,
+        || two(&rt, &turns, first, second, 5000),
+        || two(&rt, &turns, third, fourth, 5000),
+    );
+    third.join(&turns, fourth);
+    first.join(&turns, second);
+    first.join(&turns, third);
+    let log = turns.close(first);
+    let mut counts = [0; 4];
+    assert!(rt; ascend(&log.marks, &mut counts) && counts == [5000; 4]);
 }
 
 /// Three turns, and a receipt of what was seen behind them.

@@ -24,6 +24,7 @@ batches-preserved g c =
       );
       book = i.book;
       later = omega (arith, i.later, c.in_ok-write_all.ensures.cause.later);
+      same = g.met.A.Sink.same_later _ _ _ i.same c.in_ok-write_all.ensures.same;
       idle = λ none. absurd (omega (arith, some, ap length ((i.idle none).0 ∙ none)));
     }
 
