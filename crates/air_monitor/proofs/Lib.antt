@@ -1,0 +1,4 @@
+pub mod Outcomes
+pub mod Lines
+pub mod Packets
+pub mod Listeners
