@@ -1,0 +1,104 @@
+-- The words of a command line, without the program's name, each as its bytes, and the command that they spell.
+use Rattle.std.specs.Prelude.{ℕ, ◌==◌, ◌||◌, Bool, true, false, List, [], ◌∷◌, length, Option, Some, None, option_map, option_and_then, filter_map, codes, bytes_eq, if◌then◌else◌}
+use Rattle.std.specs.List.{list_any, before_first, after_first}
+use Rattle.input_lines.specs.Numbers.{in_range, number_in}
+
+-- ---- one option of `live`
+
+-- a path, a number of cycles, or the number of the packet from which the monitor hears
+pub data Setting : Type 0 where
+  Feed : List ℕ → Setting
+  Cycles : ℕ → Setting
+  Join : ℕ → Setting
+
+-- whether a byte is `=`
+abbrev pub is_equals : ℕ → Bool
+is_equals b = b == 61
+
+abbrev pub is_empty : List ℕ → Bool
+is_empty [] = true
+is_empty (b ∷ bs) = false
+
+-- whether a word begins with `-`
+abbrev pub is_dashed : List ℕ → Bool
+is_dashed [] = false
+is_dashed (b ∷ bs) = b == 45
+
+-- a path is not empty, and is not `-`
+abbrev pub path_of : List ℕ → Option Setting
+path_of value = if is_empty value || bytes_eq value (codes "-") then None else Some (Feed value)
+
+-- the option of this name with this value
+abbrev pub setting_of : List ℕ → List ℕ → Option Setting
+setting_of name value =
+    if bytes_eq name (codes "--feed") then path_of value
+    else if bytes_eq name (codes "--cycles") then option_map Cycles (number_in 1 1000 value)
+    else if bytes_eq name (codes "--join") then option_map Join (number_in 0 999999999 value)
+    else None
+
+-- an option in one word: its name, `=`, and its value
+abbrev pub setting_in : List ℕ → Option Setting
+setting_in word = setting_of (before_first is_equals word) (after_first is_equals word)
+
+-- an option in two words, of which the second does not begin with `-`
+abbrev pub setting_in_two : List ℕ → List ℕ → Option Setting
+setting_in_two name value = if is_dashed value then None else setting_of name value
+
+-- ---- the options of `live`
+
+-- an option before others
+abbrev pub and_setting : Option Setting → Option (List Setting) → Option (List Setting)
+and_setting None others = None
+and_setting (Some setting) others = option_map (λ settings. setting ∷ settings) others
+
+-- The options that these words spell, one behind the other. A word with `=` is an option, and any other is one with the word behind it.
+abbrev pub settings_of : List (List ℕ) → Option (List Setting)
+settings_of [] = Some []
+settings_of (word ∷ []) = if list_any is_equals word then and_setting (setting_in word) (Some []) else None
+settings_of (word ∷ next ∷ words) =
+    if list_any is_equals word then and_setting (setting_in word) (settings_of (next ∷ words)) else and_setting (setting_in_two word next) (settings_of words)
+
+abbrev pub feed_of : Setting → Option (List ℕ)
+feed_of (Feed path) = Some path
+feed_of (Cycles n) = None
+feed_of (Join j) = None
+
+abbrev pub cycles_of : Setting → Option ℕ
+cycles_of (Feed path) = None
+cycles_of (Cycles n) = Some n
+cycles_of (Join j) = None
+
+abbrev pub join_of : Setting → Option ℕ
+join_of (Feed path) = None
+join_of (Cycles n) = None
+join_of (Join j) = Some j
+
+-- ---- commands
+
+pub data CommandLine : Type 0 where
+  Play : CommandLine
+  Listen : CommandLine
+  -- the paths of its feeds, in order, the number of cycles, and the first packet that its monitor hears
+  Live : List (List ℕ) → ℕ → ℕ → CommandLine
+
+-- 1 to 16 feeds, cycles once, and join once
+abbrev pub live_with : List (List ℕ) → List ℕ → List ℕ → Option CommandLine
+live_with feeds (cycles ∷ []) (join ∷ []) = if in_range 1 16 (length feeds) then Some (Live feeds cycles join) else None
+live_with feeds cycles joins = None
+
+abbrev pub live_of : List Setting → Option CommandLine
+live_of settings = live_with (filter_map feed_of settings) (filter_map cycles_of settings) (filter_map join_of settings)
+
+-- a command without options
+abbrev pub alone : List ℕ → Option CommandLine
+alone word = if bytes_eq word (codes "play") then Some Play else if bytes_eq word (codes "listen") then Some Listen else None
+
+-- a word behind which no other stands
+abbrev alone_with : List ℕ → List (List ℕ) → Option CommandLine
+alone_with word [] = alone word
+alone_with word (next ∷ words) = None
+
+-- the command that words spell
+abbrev pub command_of : List (List ℕ) → Option CommandLine
+command_of [] = None
+command_of (word ∷ words) = if bytes_eq word (codes "live") then option_and_then live_of (settings_of words) else alone_with word words

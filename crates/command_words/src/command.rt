@@ -1,0 +1,89 @@
+// Commands.
+ghost use Rattle.std.specs.Prelude.{◌≡◌, ◌↔◌, Some, None, Err, IfOk, option_and_then, option_map};
+ghost use Rattle.command_words.specs.declared.command.WordsStop.TheVariants.{Usage};
+ghost use Rattle.command_words.specs.Commands.{said, texts};
+ghost use Rattle.command_words.specs.Grammar.{alone as alone_in, command_of, live_of, settings_of};
+
+use crate::live::{live_numbers, live_paths};
+use std::alloc::Global;
+
+/// Paths of files, in the order in which they stood.
+pub type Paths = Vec<String>;
+
+/// The options of `live`: the paths of its feeds, 1 to 16, how many cycles its player sends, 1 to 1,000, and the number of the
+/// first packet that its monitor hears, 0 to 999,999,999.
+#[derive(Drop)]
+pub struct LiveWords {
+    pub feeds: Paths,
+    pub cycles: u64,
+    pub join: u64,
+}
+
+/// What the program is to do.
+#[derive(Drop)]
+pub enum Command {
+    Play,
+    Listen,
+    Live(LiveWords),
+}
+
+/// Why words give no command: they spell none, or memory is wanting for the paths.
+#[derive(Debug, Clone, Copy, PartialEq, Eq)]
+pub enum WordsStop {
+    Usage,
+    Memory,
+}
+
+/// The command that words spell; the program's name is not among them.
+///
+/// `play` and `listen` have no further word. `live` has, in any order, `--feed PATH` 1 to 16 times, `--cycles N` once and
+/// `--join J` once. An option is one word with `=`, or two words, of which the second does not begin with `-`. A path is not
+/// empty and is not `-`. A number has one to nine digits and lies in its range. There are no short spellings.
+///
+/// `Usage` comes exactly where the words spell no command. `Memory` comes only where they do and memory is wanting.
+pub fn parse_words(alloc: Global, words: &[String]) -> Result<Command, WordsStop>
+    ensures command { IfOk result (λ command. command_of (texts words.now) ≡ Some (said command)) }
+    ensures usage { result ≡ Err Usage ↔ (command_of (texts words.now) ≡ None) }
+{
+    let Some((word, options)) = words.split_first() else {
+        return Err(WordsStop::Usage);
+    };
+    if word.as_str() == "live" {
+        return live(alloc, options);
+    }
+    match alone(word.as_str()) {
+        Some(command) if options.is_empty() => Ok(command),
+        _ => Err(WordsStop::Usage),
+    }
+}
+
+// The command without options that this word is.
+fn alone(word: &str) -> Option<Command>
+    ensures { option_map said result ≡ alone_in word.now }
+{
+    if word == "play" {
+        Some(Command::Play)
+    } else if word == "listen" {
+        Some(Command::Listen)
+    } else {
+        None
+    }
+}
+
+// The command of these options of `live`.
+fn live(alloc: Global, options: &[String]) -> Result<Command, WordsStop>
+    ensures command { IfOk result (λ command. option_and_then live_of (settings_of (texts options.now)) ≡ Some (said command)) }
+    ensures usage { result ≡ Err Usage ↔ (option_and_then live_of (settings_of (texts options.now)) ≡ None) }
+{
+    let Some(numbers) = live_numbers(options) else {
+        return Err(WordsStop::Usage);
+    };
+    let Ok(feeds) = live_paths(alloc, options) else {
+        return Err(WordsStop::Memory);
+    };
+    Ok(Command::Live(LiveWords {
+        feeds,
+        cycles: numbers.cycles,
+        join: numbers.join,
+    }))
+}
