@@ -1,6 +1,7 @@
 // Edits on the lines of a reader.
 ghost use Rattle.std.specs.Prelude.{◌≡◌, ◌≤◌, ◌<◌, ◌∷◌, ◌++◌, [], List, ℕ, None, Some, Ok, Err, IfErr, IfOk, IfSome, OnOk, option_and_then, drop, length};
 ghost use Rattle.std.specs.List.{All};
+ghost use Rattle.std.specs.Io.KnownBytes.{IsAtEnd};
 ghost use Rattle.si_causes.specs.Reading.{room, text_left};
 ghost use Rattle.input_lines.specs.Fields.{record_of};
 ghost use Rattle.feed_edits.specs.declared.stop.EditStop.TheVariants.{Memory, Read};
@@ -189,6 +190,7 @@ pub fn next_edit<S: Source>(
     ensures shaped { IfOk result (λ found. IfSome found IsShaped) }
     ensures sticky { IfSome lines.old.stop (λ stop. (result ≡ Err (Read stop)) × (lines.new ≡ lines.old)) }
     ensures falls { IfOk result (λ found. IfSome found (λ edit. room lines.new < room lines.old)) }
+    ensures end { result ≡ Ok None → IsAtEnd (S.left lines.new.source) }
     ensures later { S.faults lines.old.source ≤ S.faults lines.new.source }
     ensures same { S.same lines.old.source lines.new.source }
 {

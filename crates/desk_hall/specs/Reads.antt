@@ -1,0 +1,78 @@
+-- What a job that reads commands from lines, and does each in a turn, leaves.
+use Rattle.std.specs.Prelude.{◌≡◌, ℕ, false, List, [], ◌∷◌, ◌++◌, map, take, Option, Some, None, option_and_then}
+use Rattle.si_causes.specs.Causes.{Rose}
+use Rattle.si_causes.specs.Reading.{Reading}
+use Rattle.si_causes.specs.declared.stop.ReadStop.TheVariants.{Failed, TooLong as Overlong}
+use Rattle.input_lines.specs.Fields.{record_of}
+use Rattle.input_lines.specs.Going.{WereWhole}
+use Rattle.feed_edits.specs.declared.edit.Edit.{Edit}
+use Rattle.feed_edits.specs.declared.stop.EditStop.{EditStop}
+use Rattle.feed_edits.specs.declared.stop.EditStop.TheVariants.{NoCommand as Refused, Read, Memory}
+use Rattle.feed_edits.specs.Ahead.{Ahead, Row, Tail, Breaks, Found, Came, Stopped, Stop, End, NoCommand, TooLong, Unread, stop_at}
+use Rattle.feed_edits.specs.Reads.{ahead_with}
+use Rattle.desk_core.specs.declared.control.Control.{Control}
+use Rattle.desk_core.specs.declared.control.Control.TheVariants.{Tick as tick, Publish as publish}
+use Rattle.desk_core.specs.declared.step.Step.{Step}
+use Rattle.desk_core.specs.declared.step.Step.TheVariants.{Edit as edit, Tick, Publish}
+use Rattle.desk_core.specs.Journal.{Command}
+use Rattle.desk_core.specs.Controls.{control_of}
+use Rattle.desk_hall.specs.Turn.{View, Did}
+
+-- ---- what is asked for
+
+abbrev pub edit_step : ℕ → Edit → Step
+edit_step feed e = edit feed e
+
+abbrev pub control_step : Control → Step
+control_step (tick at) = Tick at
+control_step publish = Publish
+
+-- each of these is a command of this caller
+abbrev pub commands_by : {T : Type 0} → ℕ → (T → Step) → List T → List Command
+commands_by who step values = map (λ v. (who, step v)) values
+
+-- a control line in front of the others; at a line that is none they stop
+abbrev pub and_control : ℕ → Option Control → List Control × Stop → List Control × Stop
+and_control n None others = ([], NoCommand n)
+and_control n (Some control) others = (control ∷ others.0, others.1)
+
+abbrev pub controls_in : List Row → Tail → List Control × Stop
+controls_in [] tail = ([], stop_at tail)
+controls_in (row ∷ rows) tail = and_control row.0 (option_and_then control_of (record_of row.1)) (controls_in rows tail)
+
+-- the control lines ahead, and why no more is read
+unfoldable pub controls_ahead : Ahead → List Control × Stop
+controls_ahead lines = controls_in lines.rows lines.tail
+
+-- ---- what a job did of it
+
+module _ {T : Type 0} (did : List T → Type 0) where
+  -- Of all that was ahead in a told text, and of why no more is read: all was done, and that is why it stopped; or a read failed, or
+  -- memory was wanting, and a front was done.
+  abbrev pub ToldDid : List T × Stop → Option EditStop → Type 0
+  ToldDid all None = (all.1 ≡ End) × did all.0
+  ToldDid all (Some (Refused n)) = (all.1 ≡ NoCommand n) × did all.0
+  ToldDid all (Some (Read Overlong)) = (all.1 ≡ TooLong) × did all.0
+  ToldDid all (Some (Read Failed)) = (k : ℕ) × did (take k all.0)
+  ToldDid all (Some Memory) = (k : ℕ) × did (take k all.0)
+
+  -- A read failed: all was done that stands on lines that were whole in the bytes taken.
+  pub record WholeDid {S : Type 0} (left : S → Option (List ℕ)) (all : Ahead → List T × Stop) (old new : Reading S) : Type 0 where
+    pub lines : List (List ℕ)
+    pub whole : WereWhole left old new lines
+    pub unended : old.ended ≡ false
+    pub stop : (all (ahead_with old lines Breaks)).1 ≡ Unread
+    pub commands : did (all (ahead_with old lines Breaks)).0
+
+  abbrev pub TakenDid : {S : Type 0} → (S → Option (List ℕ)) → (Ahead → List T × Stop) → Reading S → Reading S → Option EditStop → Type 0
+  TakenDid left all old new (Some (Read Failed)) = WholeDid left all old new
+  TakenDid left all old new stop = Unit {0}
+
+-- the pass made the commands of these more
+abbrev pub DidEach : {T : Type 0} → (T → Step) → View → View → List T → Type 0
+DidEach step v w values = Did (commands_by v.own.low step values) v w
+
+-- a stop by a failed read has its cause
+abbrev pub HasReadCause : ℕ → ℕ → Option EditStop → Type 0
+HasReadCause before now (Some (Read Failed)) = Rose before now
+HasReadCause before now stop = Unit {0}

@@ -1,0 +1,55 @@
+// What a job that reads leaves: the journal of its hall, and why it ended.
+ghost use Rattle.std.specs.Prelude.{◌≡◌};
+ghost use Rattle.mux_config.specs.Sound.{IsSound};
+
+use crate::halls::two_services;
+use crate::journals::put_entries;
+use crate::lines::Lines;
+use crate::words::put_stop;
+use headend_live::{Hall, HallPass};
+use mux_config::Mux;
+use si_causes::OpenGate;
+use std::alloc::{AllocError, Global};
+use std::sync::Wait;
+
+/// Whether a job reads as feed 1 or as the control.
+#[derive(Clone, Copy, PartialEq, Eq)]
+pub enum Reads {
+    Feed,
+    Control,
+}
+
+// Appends what one job leaves of a hall that has no other caller.
+fn tell_job<W: Wait>(
+    rt: &W,
+    alloc: Global,
+    reads: Reads,
+    mux: Mux,
+    lines: &mut Lines,
+    out: &mut String,
+) -> Result<(), AllocError>
+    requires { IsSound mux }
+{
+    let (hall, mut pass) = Hall::open(alloc, mux, 1)?;
+    let stop = match reads {
+        Reads::Feed => hall.feed(rt, alloc, &mut pass, 1, lines, &OpenGate),
+        Reads::Control => hall.control(rt, alloc, &mut pass, lines),
+    };
+    let desk = hall.close(pass);
+    put_entries(out, desk.entries())?;
+    put_stop(out, stop)
+}
+
+/// Appends the journal that a job leaves, and why it ended.
+pub fn tell<W: Wait>(
+    rt: &W,
+    alloc: Global,
+    reads: Reads,
+    lines: &mut Lines,
+    out: &mut String,
+) -> Result<(), AllocError> {
+    match two_services(alloc)? {
+        Some(mux) => tell_job(rt, alloc, reads, mux, lines, out),
+        None => out.push_str("no row"),
+    }
+}
