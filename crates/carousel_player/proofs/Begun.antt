@@ -8,7 +8,7 @@ use Rattle.section_codec.specs.declared.table.SubTable.{SubTable}
 use Rattle.section_codec.specs.Section.{longest_body}
 use Rattle.section_codec.proofs.ReadBack.{length-section_bytes}
 use Rattle.section_codec.specs.Tables.{is_eit}
-use Rattle.version_book.specs.Airings.{Content, Airing, version_at}
+use Rattle.version_book.specs.Airings.{Content, CycleForm, Airing, version_at}
 use Rattle.version_book.specs.Book.{aired, versions_of}
 use Rattle.air_model.specs.Air.{Sent, sent_section, header_of, sections_of, cycle_sections}
 use Rattle.air_model.specs.Making.{each_alone}
@@ -72,8 +72,8 @@ versions_given f [] = refl
 versions_given f (t ∷ ts) = ap (λ (l : List Sent). sections_of (f t) t ++ l) (versions_given f ts)
 
 -- with the versions of the airing they are its cycle
-pub cycle_begun : (past : List Airing) (moment : ℕ) (vs : List ℕ) (ts : List SubTable) (bytes : List ℕ) (placed : List Placed) → AreLaid (sections_with vs ts) bytes placed → vs ≡ versions_of past ts moment
-    → each_alone (map (sent_at bytes) placed) ≡ each_alone (cycle_sections past (aired ts moment))
-cycle_begun past moment vs ts bytes placed h is =
+pub cycle_begun : (past : List Airing) (moment : ℕ) (form : CycleForm) (vs : List ℕ) (ts : List SubTable) (bytes : List ℕ) (placed : List Placed) → AreLaid (sections_with vs ts) bytes placed → vs ≡ versions_of past ts moment form
+    → each_alone (map (sent_at bytes) placed) ≡ each_alone (cycle_sections past (aired ts moment form))
+cycle_begun past moment form vs ts bytes placed h is =
     ap each_alone (laid_sent (sections_with vs ts) bytes placed h ∙ ap (λ (l : List ℕ). sections_with l ts) is
-    ∙ versions_given (λ (t : SubTable). version_at t.key (past ++ aired ts moment ∷ [])) ts)
+    ∙ versions_given (λ (t : SubTable). version_at t.key (past ++ aired ts moment form ∷ [])) ts)

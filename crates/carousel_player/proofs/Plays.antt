@@ -10,7 +10,7 @@ use Rattle.std.proofs.lemmas.List.Concat.{flat_map-append}
 use Rattle.si_causes.specs.Causes.{AppendsFront}
 use Rattle.std.proofs.lemmas.List.Elements.{recursion_from_All}
 use Rattle.section_codec.specs.declared.table.SubTable.{SubTable}
-use Rattle.version_book.specs.Airings.{Content, Airing, version_at}
+use Rattle.version_book.specs.Airings.{Content, CycleForm, Airing, version_at}
 use Rattle.version_book.specs.Book.{Stands, aired}
 use Rattle.ts_packets.specs.Packets.{Piece, pieces, alone}
 use Rattle.ts_packets.specs.Bytes.{Packet, HasFields, bytes_of_packet, packet_on, packets_alone}
@@ -44,15 +44,16 @@ pids_sent : (f : SubTable → ℕ) (ts : List SubTable) → AllByRecursion IsFit
 pids_sent f [] fit = tt
 pids_sent f (t ∷ ts) fit = pids_of (f t) t t.sections (flat_map (λ (u : SubTable). sections_of (f u) u) ts) fit.0.pid (pids_sent f ts fit.1)
 
-pub begins : (xs : List Aired) (ts : List SubTable) (moment : ℕ) (old new : Playing) → AtEnd xs old → All IsFit ts → new.counters ≡ old.counters
-    → Stands (airings_of xs ++ aired ts moment ∷ []) new.book → new.left ≡ each_alone (cycle_sections (airings_of xs) (aired ts moment)) → Begins xs (aired ts moment) new
-begins xs ts moment old new end fit same stands left =
-    let a = aired ts moment in
+pub begins : (xs : List Aired) (ts : List SubTable) (moment : ℕ) (form : CycleForm) (old new : Playing) → AtEnd xs old → All IsFit ts → new.counters ≡ old.counters
+    → Stands (airings_of xs ++ aired ts moment form ∷ []) new.book → new.left ≡ each_alone (cycle_sections (airings_of xs) (aired ts moment form)) → Begins xs (aired ts moment form) new
+begins xs ts moment form old new end fit same stands left =
+    let a = aired ts moment form in
     let units = each_alone (cycle_sections (airings_of xs) a) in
     let x : Aired = record { airing = a; packets = counted (air xs) units } in
     let pids : PidsFit units = pids_alone (cycle_sections (airings_of xs) a) (pids_sent (λ (t : SubTable). version_at t.key (airings_of xs ++ a ∷ [])) ts (recursion_from_All IsFit ts fit)) in
     let longer = airings_of-push xs x in (
       x,
+      refl,
       refl,
       record {
         is_air = subst (λ (l : List Airing). IsAirOf l (xs ++ x ∷ [])) (sym longer) (air_more-alone (airings_of xs) xs a end.is_air pids);
