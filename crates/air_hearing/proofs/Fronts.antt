@@ -4,13 +4,13 @@ use Rattle.std.specs.Prelude.{if◌then◌else◌}
 use Rattle.std.specs.List.{AllByRecursion, cons_option}
 use Rattle.std.proofs.lemmas.List.{take_at}
 use Rattle.std.proofs.lemmas.List.Concat.{flat_map-append}
-use Rattle.ts_packets.specs.Packets.{Piece, HasRoom, HaveRoom, left, all_of, Carries}
+use Rattle.ts_packets.specs.Packets.{Piece, pieces, HasRoom, HaveRoom, left, all_of, Carries}
 use Rattle.ts_packets.specs.Bytes.{Packet, bytes_of_packet}
 use Rattle.ts_packets.specs.Counting.{of_pid}
 use Rattle.ts_packets.proofs.Carrying.{length-pieces}
 use Rattle.ts_packets.proofs.Stamps.{of_pid-append}
 use Rattle.ts_demux.specs.Hearing.{IsSection}
-use Rattle.ts_demux.specs.Laws.{but_last, ended, GoOn}
+use Rattle.ts_demux.specs.Laws.{but_last, ended, within, GoOn}
 use Rattle.ts_demux.specs.Sections.{sections_on}
 use Rattle.ts_demux.proofs.Windows.{HaveRoom-behind}
 use Rattle.ts_demux.proofs.Written.{part_is_heard}
@@ -68,9 +68,11 @@ front-less pid lt ps p ss c each on is some =
     let whole : length c.groups ≡ length last.0 + 1 = ap length last.2 ∙ length-append last.0 (last.1 ∷ []) in
     let n : length (of_pid pid ps) ≡ length last.0 = omega arith in
     let front : take (length (of_pid pid ps)) c.groups ≡ last.0 = ap (take (length (of_pid pid ps))) last.2 ∙ take_at last.0 (last.1 ∷ []) (length (of_pid pid ps)) (sym n) in
-    let heard = part_is_heard pid lt c.groups c.have_room (subst (AllByRecursion IsSection) c.sections each) [] ps (p ∷ []) c.are on in
+    let parts : of_pid pid ps ++ p.piece ∷ [] ≡ pieces [] c.groups = sym joins ∙ c.are in
+    let none : 0 + length (of_pid pid ps) ≡ length (of_pid pid ps) = omega arith in
+    let heard = part_is_heard pid lt c.groups c.have_room (subst (AllByRecursion IsSection) c.sections each) [] (p.piece ∷ []) ps parts on in
     let room = (HaveRoom-behind [] last.0 (last.1 ∷ []) (subst (HaveRoom []) last.2 c.have_room)).0 in
     let all : length ss ≡ length (all_of (last.0 ++ last.1 ∷ [])) = ap length c.sections ∙ ap (λ (l : List (List (List ℕ))). length (all_of l)) last.2 in
     let less = ended-less (left [] last.0) last.0 last.1 room (subst (λ (n : ℕ). 0 < n) all some) in
-    let told : length (sections_on pid (map bytes_of_packet ps)) ≡ length (ended (left [] last.0) (all_of last.0)) = ap length (heard ∙ ap (λ (l : List (List (List ℕ))). ended (left [] l) (all_of l)) front) in
+    let told : length (sections_on pid (map bytes_of_packet ps)) ≡ length (ended (left [] last.0) (all_of last.0)) = ap length (heard ∙ ap (λ (n : ℕ). within 0 n c.groups) none ∙ ap (λ (l : List (List (List ℕ))). ended (left [] l) (all_of l)) front) in
     omega (arith, told, all, less)

@@ -61,7 +61,7 @@ begins xs ts moment form old new end fit same stands left =
         parts = refl;
         sent = record {
           versions = subst (λ (l : List Airing). Stands l new.book) (sym longer) stands;
-          counters = subst (λ (l : List Packet). StandFor (map bytes_of_packet l) new.counters) (sym (append-nil (air xs))) (subst (λ (c : List ℕ). StandFor (map bytes_of_packet (air xs)) c) (sym same) end.sent.counters);
+          counters = subst (λ (l : List Packet). StandFor (map bytes_of_packet l) new.counters) (sym (append-nil (air xs))) (subst (λ (c : List (Option ℕ)). StandFor (map bytes_of_packet (air xs)) c) (sym same) end.sent.counters);
         };
         rest_is = ap₂ counted (sym (append-nil (air xs))) (sym left);
       },

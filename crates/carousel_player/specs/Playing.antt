@@ -39,7 +39,7 @@ pub record AreFit (tables : List SubTable) : Type 0 where
 -- and the quota of its cycles
 pub record Playing : Type 0 where
   pub book : KeptKeys
-  pub counters : List ℕ
+  pub counters : List (Option ℕ)
   pub left : List Packet
   pub quota : ℕ
 
