@@ -20,7 +20,8 @@ use Rattle.air_model.specs.Making.{each_alone, counted}
 use Rattle.air_model.proofs.Counted.{PidsFit, counted-append, length-counted}
 use Rattle.air_model.proofs.Airs.{air-push, air_bytes-push, airings_of-push, air_more-alone}
 use Rattle.carousel_player.specs.Sending.{Sends}
-use Rattle.carousel_player.specs.Playing.{IsFit, Playing, AtEnd, Within, Begins, GaveUp}
+use Rattle.air_model.specs.Fit.{IsFit}
+use Rattle.carousel_player.specs.Playing.{Playing, AtEnd, Within, Begins, GaveUp}
 use Rattle.carousel_player.proofs.Sendings.{all-append, all-front}
 
 -- ---- a cycle begins
@@ -42,7 +43,7 @@ pids_of v t (s ∷ ss) more lt h = (lt, pids_of v t ss more lt h)
 
 pids_sent : (f : SubTable → ℕ) (ts : List SubTable) → AllByRecursion IsFit ts → AllByRecursion (λ (s : Sent). s.pid < 8192) (flat_map (λ (t : SubTable). sections_of (f t) t) ts)
 pids_sent f [] fit = tt
-pids_sent f (t ∷ ts) fit = pids_of (f t) t t.sections (flat_map (λ (u : SubTable). sections_of (f u) u) ts) fit.0.pid (pids_sent f ts fit.1)
+pids_sent f (t ∷ ts) fit = pids_of (f t) t t.sections (flat_map (λ (u : SubTable). sections_of (f u) u) ts) (let lt : t.key.pid < 8191 = fit.0.pid in omega (arith, lt)) (pids_sent f ts fit.1)
 
 pub begins : (xs : List Aired) (ts : List SubTable) (moment : ℕ) (form : CycleForm) (old new : Playing) → AtEnd xs old → All IsFit ts → new.counters ≡ old.counters
     → Stands (airings_of xs ++ aired ts moment form ∷ []) new.book → new.left ≡ each_alone (cycle_sections (airings_of xs) (aired ts moment form)) → Begins xs (aired ts moment form) new

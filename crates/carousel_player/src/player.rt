@@ -5,7 +5,8 @@ ghost use Rattle.si_causes.specs.Causes.{HasCause};
 ghost use Rattle.ts_packets.specs.Bytes.{Packet, bytes_of_packet};
 ghost use Rattle.version_book.specs.Book.{aired};
 ghost use Rattle.air_model.specs.Air.{Aired};
-ghost use Rattle.carousel_player.specs.Playing.{AtEnd, Within, Begins, GaveUp, AreFit, form_of};
+ghost use Rattle.air_model.specs.Fit.{AreFit};
+ghost use Rattle.carousel_player.specs.Playing.{AtEnd, Within, Begins, GaveUp, form_of};
 
 use crate::cycle::Cycle;
 use crate::sending::{BATCH, fill};
@@ -57,8 +58,8 @@ impl Player {
 
     /// Begins the cycle of one airing more: of these sub-tables, of the publication with this number, at the moment of
     /// the swap (EN 300 468, 5.1.1), in a cycle of the player's quota. No packet tells the number. Each section begins in a packet of
-    /// its own. It needs a player at its end, and sub-tables whose keys differ, with PIDs below 8,192, each with at least one section, ascending numbers and bodies that fit a section in
-    /// the long form. All memory is taken first: where it is wanting, the player stays as it was, at its end.
+    /// its own. It needs a player at its end, and sub-tables whose keys differ, with PIDs below 8,191, each with at least one section, ascending numbers and bodies that fit a section in
+    /// the long form, and none with the table_id 0xFF, which is fill. All memory is taken first: where it is wanting, the player stays as it was, at its end.
     pub fn swap(&mut self, tables: Tables, number: u64, moment: Moment) -> Result<(), AllocError>
         requires at_end { self.old.left ≡ [] }
         requires fit { AreFit tables.list }
