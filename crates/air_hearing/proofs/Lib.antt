@@ -1,6 +1,4 @@
-pub mod Lists
 pub mod Sections
-pub mod Counted
-pub mod Completing
-pub mod Fronts
+pub mod Keys
+pub mod Blocks
 pub mod Told

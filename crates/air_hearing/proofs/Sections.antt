@@ -1,8 +1,8 @@
 -- The sections of an air are heard.
 use Rattle.std.proofs.Common.{◌≡◌, ◌≢◌, ℕ, ◌+◌, ◌*◌, ◌/◌, ◌%◌, ◌<◌, ◌≤◌, List, [], ◌∷◌, ◌++◌, Bool, true, false, ◌==◌, Some, None, length, sym, ap, ◌∙◌, subst, subst₂, arith, map}
-use Rattle.std.specs.Prelude.{if◌then◌else◌, filter_map, flat_map, ◌||◌}
-use Rattle.std.specs.List.{AllByRecursion, cons_option}
-use Rattle.std.proofs.lemmas.List.Elements.{filter_map-append}
+use Rattle.std.specs.Prelude.{if◌then◌else◌, filter_map, ◌||◌}
+use Rattle.std.specs.List.{All, AllByRecursion, cons_option}
+use Rattle.std.proofs.lemmas.List.Elements.{filter_map-append, All-contains}
 use Rattle.section_codec.specs.declared.section.LongHeader.{LongHeader}
 use Rattle.section_codec.specs.declared.table.NumberedBody.{NumberedBody}
 use Rattle.section_codec.specs.declared.table.SubTable.{SubTable}
@@ -11,16 +11,20 @@ use Rattle.section_codec.specs.Section.{long_flags, section_bytes, longest_body}
 use Rattle.section_codec.proofs.ReadBack.{length-section_bytes}
 use Rattle.version_book.specs.Airings.{Airing, version_at}
 use Rattle.ts_packets.specs.Packets.{Carries}
+use Rattle.ts_packets.specs.Bytes.{bytes_of_packet}
 use Rattle.ts_packets.specs.Counting.{of_pid}
 use Rattle.ts_packets.proofs.Carrying.{Carries-none, Carries-append}
 use Rattle.ts_packets.proofs.Stamps.{of_pid-append}
 use Rattle.ts_demux.specs.Hearing.{IsSection}
 use Rattle.ts_demux.specs.Laws.{GoOn}
+use Rattle.ts_demux.specs.Sections.{sections_on}
 use Rattle.ts_demux.proofs.Written.{carried_is_heard}
-use Rattle.air_model.specs.Air.{Sent, Aired, IsAirOf, Cycles, air, airings_of, sent_on, sent_section, header_of, sections_of, cycle_sections}
-use Rattle.air_hearing.specs.Sending.{sections_sent, IsFit, AreFit}
+use Rattle.air_model.specs.Air.{Sent, Aired, IsAirOf, Cycles, air, airings_of, sent_on, header_of, cycle_sections}
+use Rattle.air_model.specs.Fit.{IsFit}
+use Rattle.air_model.specs.Repeating.{IsSentOf, RepeatingCycles, IsRepeatingAirOf}
+use Rattle.air_model.proofs.Repeating.{all_map, all_append, cycle_is_sent}
+use Rattle.air_hearing.specs.Sending.{sections_sent, CanBeSent}
 use Rattle.air_hearing.specs.Laws.{AirIsHeard}
-use Rattle.air_hearing.proofs.Lists.{all_both}
 
 -- ---- a written section is a section
 
@@ -52,22 +56,22 @@ IsSection-section_bytes h body other le =
 
 -- ---- each section that is sent
 
-each_of_table : (version : ℕ) (t : SubTable) → t.key.table ≢ 0xFF → (ss : List NumberedBody) → AllByRecursion (λ (s : NumberedBody). length s.body ≤ longest_body t.key.table) ss
-    → AllByRecursion (λ (x : Sent). IsSection x.bytes) (map (sent_section version t) ss)
-each_of_table version t other [] le = tt
-each_of_table version t other (s ∷ ss) le = (IsSection-section_bytes (header_of version t s) s.body other le.0, each_of_table version t other ss le.1)
-
-each_sent : (past airings : List Airing) → AllByRecursion AreFit airings → AllByRecursion (λ (x : Sent). IsSection x.bytes) (sections_sent past airings)
-each_sent past [] fit = tt
-each_sent past (a ∷ airings) fit = all_both (λ (x : Sent). IsSection x.bytes) (cycle_sections past a) (sections_sent (past ++ a ∷ []) airings) (of_tables a.tables fit.0) (each_sent (past ++ a ∷ []) airings fit.1)
+pub each_section : (past : List Airing) (a : Airing) (ss : List Sent) → All IsFit a.tables → AllByRecursion (IsSentOf past a) ss → AllByRecursion (λ (x : Sent). IsSection x.bytes) ss
+each_section past a ss fit each = all_map (IsSentOf past a) (λ (x : Sent). IsSection x.bytes) one ss each
   where
-    of_tables : (ts : List SubTable) → AllByRecursion IsFit ts → AllByRecursion (λ (x : Sent). IsSection x.bytes) (flat_map (λ (t : SubTable). sections_of (version_at t.key (past ++ a ∷ [])) t) ts)
-    of_tables [] fit = tt
-    of_tables (t ∷ ts) fit =
-        all_both (λ (x : Sent). IsSection x.bytes) (sections_of (version_at t.key (past ++ a ∷ [])) t) (flat_map (λ (t : SubTable). sections_of (version_at t.key (past ++ a ∷ [])) t) ts)
-        (each_of_table (version_at t.key (past ++ a ∷ [])) t fit.0.table t.sections fit.0.bodies) (of_tables ts fit.1)
+    one : (x : Sent) → IsSentOf past a x → IsSection x.bytes
+    one x (t, p, has_t, has_p, e) =
+        let f : IsFit t = All-contains IsFit a.tables t fit has_t in
+        let le = All-contains (λ (s : NumberedBody). length s.body ≤ longest_body t.key.table) t.sections p f.bodies has_p in
+        subst (λ (s : Sent). IsSection s.bytes) (sym e) (IsSection-section_bytes (header_of (version_at t.key (past ++ a ∷ [])) t p) p.body f.no_fill le)
 
-each_on : (pid : ℕ) (ss : List Sent) → AllByRecursion (λ (x : Sent). IsSection x.bytes) ss → AllByRecursion IsSection (filter_map (sent_on pid) ss)
+each_sent : (past airings : List Airing) → CanBeSent airings → AllByRecursion (λ (x : Sent). IsSection x.bytes) (sections_sent past airings)
+each_sent past [] fit = tt
+each_sent past (a ∷ airings) fit =
+    all_append (λ (x : Sent). IsSection x.bytes) (cycle_sections past a) (sections_sent (past ++ a ∷ []) airings)
+    (each_section past a (cycle_sections past a) fit.0 (cycle_is_sent past a).each) (each_sent (past ++ a ∷ []) airings fit.1)
+
+pub each_on : (pid : ℕ) (ss : List Sent) → AllByRecursion (λ (x : Sent). IsSection x.bytes) ss → AllByRecursion IsSection (filter_map (sent_on pid) ss)
 each_on pid [] all = tt
 each_on pid (s ∷ ss) all = go (s.pid == pid) (each_on pid ss all.1)
   where
@@ -75,7 +79,7 @@ each_on pid (s ∷ ss) all = go (s.pid == pid) (each_on pid ss all.1)
     go true rest = (all.0, rest)
     go false rest = rest
 
-pub sections-each : (pid : ℕ) (past airings : List Airing) → AllByRecursion AreFit airings → AllByRecursion IsSection (filter_map (sent_on pid) (sections_sent past airings))
+pub sections-each : (pid : ℕ) (past airings : List Airing) → CanBeSent airings → AllByRecursion IsSection (filter_map (sent_on pid) (sections_sent past airings))
 sections-each pid past airings fit = each_on pid (sections_sent past airings) (each_sent past airings fit)
 
 -- ---- the cycles, joined
@@ -98,3 +102,31 @@ GoOn-air airings xs is pid = record { fields = is.fields; counted = (0, is.count
 pub air-heard : AirIsHeard
 air-heard airings xs is fit pid lt =
     carried_is_heard pid lt (air xs) (filter_map (sent_on pid) (sections_sent [] airings)) (Carries-air airings xs is pid) (sections-each pid [] airings fit) (GoOn-air airings xs is pid)
+
+-- ---- cycles that repeat sections
+
+-- all sections that they send
+abbrev pub all_sent : (past : List Airing) (xs : List Aired) → RepeatingCycles past xs → List Sent
+all_sent past [] h = []
+all_sent past (x ∷ xs) h = h.0.sections ++ all_sent (past ++ x.airing ∷ []) xs h.1
+
+all_carried : (pid : ℕ) (past : List Airing) (xs : List Aired) (h : RepeatingCycles past xs) → Carries (of_pid pid (air xs)) (filter_map (sent_on pid) (all_sent past xs h))
+all_carried pid past [] h = Carries-none
+all_carried pid past (x ∷ xs) h =
+    let later = all_sent (past ++ x.airing ∷ []) xs h.1 in
+    subst₂ Carries (sym (of_pid-append pid x.packets (air xs))) (sym (filter_map-append (sent_on pid) h.0.sections later))
+    (Carries-append (of_pid pid x.packets) (of_pid pid (air xs)) (filter_map (sent_on pid) h.0.sections) (filter_map (sent_on pid) later) (h.0.carried pid) (all_carried pid (past ++ x.airing ∷ []) xs h.1))
+
+all_each : (past : List Airing) (xs : List Aired) (h : RepeatingCycles past xs) → CanBeSent (airings_of xs) → AllByRecursion (λ (x : Sent). IsSection x.bytes) (all_sent past xs h)
+all_each past [] h fit = tt
+all_each past (x ∷ xs) h fit =
+    all_append (λ (s : Sent). IsSection s.bytes) h.0.sections (all_sent (past ++ x.airing ∷ []) xs h.1)
+    (each_section past x.airing h.0.sections fit.0 h.0.are.each) (all_each (past ++ x.airing ∷ []) xs h.1 fit.1)
+
+-- they are heard
+pub all_heard : (airings : List Airing) (xs : List Aired) (is : IsRepeatingAirOf airings xs) → CanBeSent airings → (pid : ℕ) → pid < 8191
+    → sections_on pid (map bytes_of_packet (air xs)) ≡ filter_map (sent_on pid) (all_sent [] xs is.cycles)
+all_heard airings xs is fit pid lt =
+    carried_is_heard pid lt (air xs) (filter_map (sent_on pid) (all_sent [] xs is.cycles)) (all_carried pid [] xs is.cycles)
+    (each_on pid (all_sent [] xs is.cycles) (all_each [] xs is.cycles (subst CanBeSent (sym is.airings_are) fit)))
+    (record { fields = is.fields; counted = (0, is.counted pid) })

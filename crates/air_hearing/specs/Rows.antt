@@ -1,14 +1,14 @@
 -- A worked air: one SDT section, aired twice, and then another content; and the version changes of it.
-use Rattle.std.specs.Prelude.{◌≡◌, ℕ, List, [], ◌∷◌, ◌++◌, refl}
+use Rattle.std.specs.Prelude.{◌≡◌, ℕ, List, [], ◌∷◌, map, refl}
 use Rattle.si_base.specs.Crc.{crc_of, crc_from}
 use Rattle.section_codec.specs.declared.table.Key.{Key}
 use Rattle.section_codec.specs.declared.table.SubTable.{SubTable}
 use Rattle.section_codec.specs.declared.table.Tier3.TheVariants.{Fast}
 use Rattle.version_book.specs.Airings.{Airing}
-use Rattle.air_model.specs.Air.{Aired}
-use Rattle.air_model.specs.Making.{cycle_alone}
-use Rattle.air_hearing.specs.Counting.{counted_sent}
-use Rattle.air_hearing.specs.Changes.{changes_of, changes_told}
+use Rattle.guide_receiver.specs.Counting.{counted_among}
+use Rattle.air_hearing.specs.Sending.{sections_sent}
+use Rattle.air_hearing.specs.Counting.{raw_of}
+use Rattle.air_hearing.specs.Changes.{changes_of}
 
 abbrev sdt : Key
 sdt = record { pid = 17; table = 66; ext = 1; stream = 0; network = 1 }
@@ -17,7 +17,7 @@ abbrev sdt_with : ℕ → SubTable
 sdt_with service = record { key = sdt; tier = Fast; sections = record { number = 0; body = 0x00 ∷ 0x01 ∷ 0xFF ∷ 0x00 ∷ service ∷ 0xFF ∷ 0x80 ∷ 0x00 ∷ [] } ∷ [] }
 
 abbrev airing_of : ℕ → ℕ → Airing
-airing_of service moment = record { tables = sdt_with service ∷ []; moment = moment }
+airing_of service moment = record { tables = sdt_with service ∷ []; moment = moment; form = record { quota = 200 } }
 
 abbrev airings : List Airing
 airings = airing_of 101 5 ∷ airing_of 101 9 ∷ airing_of 102 12 ∷ airing_of 101 30 ∷ []
@@ -27,23 +27,9 @@ row_changes : changes_of sdt [] airings ≡ record { key = sdt; version = 0 } �
 row_changes = refl
 
 -- each section counts, changed or not
-row_counted : counted_sent [] (airing_of 101 5 ∷ airing_of 101 9 ∷ airing_of 102 12 ∷ []) ≡
+row_counted : counted_among (map raw_of (sections_sent [] (airing_of 101 5 ∷ airing_of 101 9 ∷ airing_of 102 12 ∷ []))) ≡
     record { key = sdt; version = 0; number = 0; last = 0; body = 0x00 ∷ 0x01 ∷ 0xFF ∷ 0x00 ∷ 101 ∷ 0xFF ∷ 0x80 ∷ 0x00 ∷ [] }
     ∷ record { key = sdt; version = 0; number = 0; last = 0; body = 0x00 ∷ 0x01 ∷ 0xFF ∷ 0x00 ∷ 101 ∷ 0xFF ∷ 0x80 ∷ 0x00 ∷ [] }
     ∷ record { key = sdt; version = 1; number = 0; last = 0; body = 0x00 ∷ 0x01 ∷ 0xFF ∷ 0x00 ∷ 102 ∷ 0xFF ∷ 0x80 ∷ 0x00 ∷ [] } ∷ []
-row_counted = refl
-
-abbrev first : Aired
-first = record { airing = airing_of 101 5; packets = cycle_alone [] [] (airing_of 101 5) }
-
-abbrev second : Aired
-second = record { airing = airing_of 101 9; packets = cycle_alone (first.airing ∷ []) first.packets (airing_of 101 9) }
-
-abbrev third : Aired
-third = record { airing = airing_of 102 12; packets = cycle_alone (first.airing ∷ second.airing ∷ []) (first.packets ++ second.packets) (airing_of 102 12) }
-
--- the packets of the three cycles are 0, 1 and 2
-row_told : changes_told sdt [] (first ∷ second ∷ third ∷ []) ≡
-    record { packet = 0; done = record { key = sdt; version = 0 } } ∷ record { packet = 2; done = record { key = sdt; version = 1 } } ∷ []
 unfolding crc_of crc_from
-row_told = refl
+row_counted = refl

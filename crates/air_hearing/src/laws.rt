@@ -1,22 +1,24 @@
 // Laws of hearing what is sent.
-ghost use Rattle.air_hearing.specs.Laws.{AirIsHeard, SdtCounts, AirIsCounted, ChangesAreHeard, VersionsAreHeard};
+ghost use Rattle.air_model.specs.Repeating.{AirsRepeat};
+ghost use Rattle.air_hearing.specs.Laws.{AirIsHeard, KeyIsHeard, TableCounts, ChangesAreHeard};
 
 /// On each PID below 8,191, that of the null packets, just the sections are heard that the cycles of the airings have on that
-/// PID, in their order.
+/// PID, in their order. And of each key just those of its sections count that are sent and count, in their order.
 pub fn air_is_heard()
-    ensures { AirIsHeard }
+    ensures pid { AirIsHeard }
+    ensures key { KeyIsHeard }
 {}
 
-/// Where an airing list has only SDTs of the actual stream on their PID, just their sections count, each with its key, and
-/// with the version of its airing.
-pub fn air_is_counted()
-    ensures sdt { SdtCounts }
-    ensures air { AirIsCounted }
+/// Each section of a sub-table that can be sent and read counts, where the receiver counts its table, with the key, the version and
+/// the body that it was sent with.
+pub fn tables_count()
+    ensures { TableCounts }
 {}
 
-/// Where each airing carries the SDT of one key alone, however many sections it has, just the version changes of the airing
-/// list are shown, in order, each in the last packet of the cycle of its airing.
+/// Whatever sub-tables the airings carry, however densely sections share packets, and however often and in whatever order a cycle
+/// repeats sections: of each key just the version changes of the airing list are shown, in order. An air, of which each cycle
+/// sends each section once, is such an air.
 pub fn changes_are_heard()
-    ensures told { ChangesAreHeard }
-    ensures versions { VersionsAreHeard }
+    ensures changes { ChangesAreHeard }
+    ensures airs { AirsRepeat }
 {}

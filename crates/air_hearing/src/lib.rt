@@ -6,4 +6,4 @@
 
 mod laws;
 
-pub use laws::{air_is_counted, air_is_heard, changes_are_heard};
+pub use laws::{air_is_heard, changes_are_heard, tables_count};

@@ -9,7 +9,7 @@ use Rattle.ts_packets.specs.Bytes.{Packet, HasFields, bytes_of_packet}
 use Rattle.ts_packets.specs.Counting.{of_pid, loads_on, Count}
 use Rattle.ts_packets.proofs.Carrying.{Carries-whole}
 use Rattle.air_model.specs.Air.{Aired, sent_on, cycle_sections, IsCycle, Cycles, air, airings_of, air_bytes, IsAirOf}
-use Rattle.air_model.specs.Making.{each_alone, counted, cycle_alone}
+use Rattle.air_model.specs.Making.{each_alone, counted, cycle_alone, AreMade}
 use Rattle.air_model.proofs.Counted.{PidsFit, of_pid-counted, fields-counted, count-counted, Carries-each_alone}
 
 -- the air of no airing
@@ -48,6 +48,12 @@ air_more airings xs x h cycle counts fields = record {
   counted = λ pid. subst (λ (l : List Packet). Count 0 (loads_on pid l)) (sym (air-push xs x)) (counts pid);
   fields = subst (λ (l : List Packet). AllByRecursion HasFields l) (sym (air-push xs x)) (all-both HasFields (air xs) x.packets h.fields fields);
 }
+
+-- cycles that are made, and one more
+pub AreMade-push : (before xs : List Aired) (x : Aired) → AreMade before xs → x.packets ≡ cycle_alone (airings_of (before ++ xs)) (air (before ++ xs)) x.airing → AreMade before (xs ++ x ∷ [])
+AreMade-push before [] x made is = (subst (λ (l : List Aired). x.packets ≡ cycle_alone (airings_of l) (air l) x.airing) (append-nil before) is, tt)
+AreMade-push before (y ∷ ys) x made is =
+    (made.0, AreMade-push (before ++ y ∷ []) ys x made.1 (subst (λ (l : List Aired). x.packets ≡ cycle_alone (airings_of l) (air l) x.airing) (sym (append_assoc before (y ∷ []) ys)) is))
 
 -- the cycle that is made behind an air makes a longer air
 pub air_more-alone : (airings : List Airing) (xs : List Aired) (a : Airing) → IsAirOf airings xs → PidsFit (each_alone (cycle_sections airings a))

@@ -7,7 +7,7 @@ use Rattle.ts_packets.specs.Packets.{Piece, pieces, alone, Carries}
 use Rattle.ts_packets.specs.Bytes.{Packet, HasFields, packet_on, packets_alone}
 use Rattle.ts_packets.specs.Counting.{Load, loads_on, piece_on, of_pid, Count}
 use Rattle.ts_packets.proofs.Carrying.{Carries-none, Carries-append, Carries-alone}
-use Rattle.ts_packets.proofs.Stamps.{loads_on-append, of_pid-append, Count-append}
+use Rattle.ts_packets.proofs.Stamps.{loads_on-append, of_pid-append, Count-append, one_pid}
 use Rattle.air_model.specs.Air.{Sent, sent_on}
 use Rattle.air_model.specs.Making.{each_alone, count_behind, counted}
 
@@ -59,12 +59,6 @@ count-counted past [] pid h = subst (λ (x : List Packet). Count 0 (loads_on pid
 count-counted past (p ∷ ps) pid h =
     let q = count_behind past p in
     subst (λ (x : List Packet). Count 0 (loads_on pid x)) (append_assoc past (q ∷ []) (counted (past ++ q ∷ []) ps)) (count-counted (past ++ q ∷ []) ps pid (count_one past p pid h))
-
-one_pid : (pid q : ℕ) (b : Bool) → (q == pid) ≡ b → (ps : List Piece) → of_pid pid (map (packet_on q) ps) ≡ (if b then ps else [])
-one_pid pid q true e [] = refl
-one_pid pid q false e [] = refl
-one_pid pid q true e (p ∷ ps) = ap (λ (x : Bool). cons_option (if x then Some p else None) (of_pid pid (map (packet_on q) ps))) e ∙ ap (λ (x : List Piece). p ∷ x) (one_pid pid q true e ps)
-one_pid pid q false e (p ∷ ps) = ap (λ (x : Bool). cons_option (if x then Some p else None) (of_pid pid (map (packet_on q) ps))) e ∙ one_pid pid q false e ps
 
 -- Sections that are sent alone: on each PID the packets carry the sections of that PID, in their order.
 pub Carries-each_alone : (pid : ℕ) (ss : List Sent) → Carries (of_pid pid (each_alone ss)) (filter_map (sent_on pid) ss)

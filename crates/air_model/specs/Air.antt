@@ -5,7 +5,8 @@ use Rattle.section_codec.specs.declared.section.LongHeader.{LongHeader}
 use Rattle.section_codec.specs.declared.table.NumberedBody.{NumberedBody}
 use Rattle.section_codec.specs.declared.table.SubTable.{SubTable}
 use Rattle.section_codec.specs.Section.{section_bytes}
-use Rattle.version_book.specs.Airings.{Content, Airing, version_at}
+use Rattle.section_codec.specs.Contents.{last_number}
+use Rattle.version_book.specs.Airings.{Airing, version_at}
 use Rattle.ts_packets.specs.Packets.{Carries}
 use Rattle.ts_packets.specs.Bytes.{Packet, HasFields, bytes_of_packet}
 use Rattle.ts_packets.specs.Counting.{of_pid, loads_on, Count}
@@ -16,12 +17,6 @@ use Rattle.ts_packets.specs.Counting.{of_pid, loads_on, Count}
 pub record Sent : Type 0 where
   pub pid : ℕ
   pub bytes : List ℕ
-
--- the number of the last section of a content
-abbrev pub last_number : Content → ℕ
-last_number [] = 0
-last_number (s ∷ []) = s.number
-last_number (s ∷ t ∷ ss) = last_number (t ∷ ss)
 
 -- the header of a section of a sub-table that has this version
 abbrev pub header_of : ℕ → SubTable → NumberedBody → LongHeader

@@ -15,7 +15,7 @@ abbrev sdt_of : List ℕ → SubTable
 sdt_of body = record { key = record { pid = 17; table = 66; ext = 1; stream = 0; network = 1 }; tier = Fast; sections = record { number = 0; body = body } ∷ [] }
 
 abbrev airing_of : List ℕ → ℕ → Airing
-airing_of body moment = record { tables = sdt_of body ∷ []; moment = moment }
+airing_of body moment = record { tables = sdt_of body ∷ []; moment = moment; form = record { quota = 200 } }
 
 abbrev sdt_section : List ℕ
 sdt_section = 0x42 ∷ 0xF0 ∷ 0x1E ∷ 0x00 ∷ 0x01 ∷ 0xC1 ∷ 0x00 ∷ 0x00 ∷ 0x00 ∷ 0x01 ∷ 0xFF ∷ 0x00 ∷ 0x65 ∷ 0xFF ∷ 0x80 ∷ 0x0D ∷ 0x48 ∷ 0x0B ∷ 0x01 ∷ 0x04 ∷ 0x41 ∷ 0x63 ∷ 0x6D ∷ 0x65 ∷ 0x04 ∷ 0x4E ∷ 0x65 ∷ 0x77 ∷ 0x73 ∷ 0xB5 ∷ 0x82 ∷ 0xAF ∷ 0xDD ∷ []

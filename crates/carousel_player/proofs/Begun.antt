@@ -8,13 +8,13 @@ use Rattle.section_codec.specs.declared.table.SubTable.{SubTable}
 use Rattle.section_codec.specs.Section.{longest_body}
 use Rattle.section_codec.proofs.ReadBack.{length-section_bytes}
 use Rattle.section_codec.specs.Tables.{is_eit}
-use Rattle.version_book.specs.Airings.{Content, Airing, version_at}
+use Rattle.version_book.specs.Airings.{Content, CycleForm, Airing, version_at}
 use Rattle.version_book.specs.Book.{aired, versions_of}
 use Rattle.air_model.specs.Air.{Sent, sent_section, header_of, sections_of, cycle_sections}
 use Rattle.air_model.specs.Making.{each_alone}
 use Rattle.carousel_player.specs.declared.cycle.Placed.{Placed}
-use Rattle.carousel_player.specs.Laying.{IsPlaced, IsBegun, IsUnderWay, sent_at, places_from, AreLaid, sections_with}
-use Rattle.carousel_player.specs.Playing.{IsFit}
+use Rattle.carousel_player.specs.Laying.{IsPlaced, IsBegun, IsUnderWay, sent_at, places_from, AreLaid, sections_under}
+use Rattle.air_model.specs.Fit.{IsFit}
 use Rattle.carousel_player.proofs.Laid.{laid_sent}
 
 -- a section that can be sent
@@ -39,11 +39,11 @@ all-append : (xs ys : List Sent) → AllByRecursion IsSendable xs → AllByRecur
 all-append [] ys p q = q
 all-append (x ∷ xs) ys p q = (p.0, all-append xs ys p.1 q)
 
-sendable : (vs : List ℕ) (ts : List SubTable) → AllByRecursion IsFit ts → AllByRecursion IsSendable (sections_with vs ts)
+sendable : (vs : List ℕ) (ts : List SubTable) → AllByRecursion IsFit ts → AllByRecursion IsSendable (sections_under vs ts)
 sendable [] ts fit = tt
 sendable (v ∷ vs) [] fit = tt
 sendable (v ∷ vs) (t ∷ ts) fit =
-    all-append (sections_of v t) (sections_with vs ts) (sendable_sections v t t.sections fit.0.pid (recursion_from_All _ t.sections fit.0.bodies)) (sendable vs ts fit.1)
+    all-append (sections_of v t) (sections_under vs ts) (sendable_sections v t t.sections (let lt : t.key.pid < 8191 = fit.0.pid in omega (arith, lt)) (recursion_from_All _ t.sections fit.0.bodies)) (sendable vs ts fit.1)
 
 placed_fit : (size start : ℕ) (ss : List Sent) → start + length (flat_map (λ (s : Sent). s.bytes) ss) ≤ size → AllByRecursion IsSendable ss → AllByRecursion (IsPlaced size) (places_from start ss)
 placed_fit size start [] le fit = tt
@@ -57,9 +57,9 @@ first_begun [] fit = refl
 first_begun (s ∷ ss) fit = omega (arith, fit.0.some)
 
 -- a cycle of laid sections can begin
-pub under_way : (vs : List ℕ) (ts : List SubTable) (bytes : List ℕ) (placed : List Placed) → AreLaid (sections_with vs ts) bytes placed → All IsFit ts → IsUnderWay (length bytes) placed 0 0
+pub under_way : (vs : List ℕ) (ts : List SubTable) (bytes : List ℕ) (placed : List Placed) → AreLaid (sections_under vs ts) bytes placed → All IsFit ts → IsUnderWay (length bytes) placed 0 0
 under_way vs ts bytes placed h fit =
-    let ss = sections_with vs ts in
+    let ss = sections_under vs ts in
     let can = sendable vs ts (recursion_from_All IsFit ts fit) in
     record {
       within = omega arith;
@@ -67,13 +67,13 @@ under_way vs ts bytes placed h fit =
       begun = subst (IsBegun 0) (sym h.placed_are) (first_begun ss can);
     }
 
-versions_given : (f : SubTable → ℕ) (ts : List SubTable) → sections_with (map f ts) ts ≡ flat_map (λ (t : SubTable). sections_of (f t) t) ts
+versions_given : (f : SubTable → ℕ) (ts : List SubTable) → sections_under (map f ts) ts ≡ flat_map (λ (t : SubTable). sections_of (f t) t) ts
 versions_given f [] = refl
 versions_given f (t ∷ ts) = ap (λ (l : List Sent). sections_of (f t) t ++ l) (versions_given f ts)
 
 -- with the versions of the airing they are its cycle
-pub cycle_begun : (past : List Airing) (moment : ℕ) (vs : List ℕ) (ts : List SubTable) (bytes : List ℕ) (placed : List Placed) → AreLaid (sections_with vs ts) bytes placed → vs ≡ versions_of past ts moment
-    → each_alone (map (sent_at bytes) placed) ≡ each_alone (cycle_sections past (aired ts moment))
-cycle_begun past moment vs ts bytes placed h is =
-    ap each_alone (laid_sent (sections_with vs ts) bytes placed h ∙ ap (λ (l : List ℕ). sections_with l ts) is
-    ∙ versions_given (λ (t : SubTable). version_at t.key (past ++ aired ts moment ∷ [])) ts)
+pub cycle_begun : (past : List Airing) (moment : ℕ) (form : CycleForm) (vs : List ℕ) (ts : List SubTable) (bytes : List ℕ) (placed : List Placed) → AreLaid (sections_under vs ts) bytes placed → vs ≡ versions_of past ts moment form
+    → each_alone (map (sent_at bytes) placed) ≡ each_alone (cycle_sections past (aired ts moment form))
+cycle_begun past moment form vs ts bytes placed h is =
+    ap each_alone (laid_sent (sections_under vs ts) bytes placed h ∙ ap (λ (l : List ℕ). sections_under l ts) is
+    ∙ versions_given (λ (t : SubTable). version_at t.key (past ++ aired ts moment form ∷ [])) ts)

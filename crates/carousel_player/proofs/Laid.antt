@@ -7,9 +7,10 @@ use Rattle.std.proofs.Math.Seq.{drop-append_seam, take-append_seam}
 use Rattle.section_codec.specs.declared.table.NumberedBody.{NumberedBody}
 use Rattle.section_codec.specs.declared.table.SubTable.{SubTable}
 use Rattle.version_book.specs.Airings.{Content}
-use Rattle.air_model.specs.Air.{Sent, last_number, sent_section, sections_of}
+use Rattle.section_codec.specs.Contents.{last_number}
+use Rattle.air_model.specs.Air.{Sent, sent_section, sections_of}
 use Rattle.carousel_player.specs.declared.cycle.Placed.{Placed}
-use Rattle.carousel_player.specs.Laying.{sent_at, places_from, AreLaid, sections_with, room_of, room_for, places_for}
+use Rattle.carousel_player.specs.Laying.{sent_at, places_from, AreLaid, sections_under, room_of, room_for, places_for}
 use Rattle.carousel_player.proofs.Steps.{from_place}
 
 pub last_at : (ss : Content) (s : NumberedBody) → slice_get ss (length ss - 1) ≡ Some s → s.number ≡ last_number ss
@@ -54,14 +55,14 @@ sections_more version t i s lt is =
     ∙ map-append (sent_section version t) (take i t.sections) (s ∷ [])
 
 pub tables_more : (vs : List ℕ) (ts : List SubTable) (n v : ℕ) (t : SubTable) → n < length vs → n < length ts → v ≡ get_or vs n v → t ≡ get_or ts n t →
-    sections_with (take (n + 1) vs) (take (n + 1) ts) ≡ sections_with (take n vs) (take n ts) ++ sections_of v t
+    sections_under (take (n + 1) vs) (take (n + 1) ts) ≡ sections_under (take n vs) (take n ts) ++ sections_of v t
 tables_more [] ts n v t lt_v lt_t is_v is_t = absurd (omega arith)
 tables_more (w ∷ vs) [] n v t lt_v lt_t is_v is_t = absurd (omega arith)
 tables_more (w ∷ vs) (u ∷ ts) zero v t lt_v lt_t is_v is_t = append-nil (sections_of w u) ∙ ap₂ sections_of (sym is_v) (sym is_t)
 tables_more (w ∷ vs) (u ∷ ts) (suc n) v t lt_v lt_t is_v is_t =
-    ap (λ (k : ℕ). sections_with (take k (w ∷ vs)) (take k (u ∷ ts))) (let e : suc n + 1 ≡ suc (n + 1) = omega arith in e)
+    ap (λ (k : ℕ). sections_under (take k (w ∷ vs)) (take k (u ∷ ts))) (let e : suc n + 1 ≡ suc (n + 1) = omega arith in e)
     ∙ ap (λ (l : List Sent). sections_of w u ++ l) (tables_more vs ts n v t (omega arith) (omega arith) is_v is_t)
-    ∙ sym (append_assoc (sections_of w u) (sections_with (take n vs) (take n ts)) (sections_of v t))
+    ∙ sym (append_assoc (sections_of w u) (sections_under (take n vs) (take n ts)) (sections_of v t))
 
 -- what is laid stands at its places
 placed_behind : (front : List ℕ) (start : ℕ) (ss : List Sent) (bytes : List ℕ) → start ≡ length front → bytes ≡ front ++ flat_map (λ (x : Sent). x.bytes) ss → map (sent_at bytes) (places_from start ss) ≡ ss
@@ -77,7 +78,7 @@ pub laid_sent : (ss : List Sent) (bytes : List ℕ) (placed : List Placed) → A
 laid_sent ss bytes placed h = ap (map (sent_at bytes)) h.placed_are ∙ placed_behind [] 0 ss bytes refl h.bytes_are
 
 -- where one list is used up, all sections are there
-pub sections_all : (vs : List ℕ) (ts : List SubTable) (n : ℕ) → n ≡ min (length ts) (length vs) → sections_with (take n vs) (take n ts) ≡ sections_with vs ts
+pub sections_all : (vs : List ℕ) (ts : List SubTable) (n : ℕ) → n ≡ min (length ts) (length vs) → sections_under (take n vs) (take n ts) ≡ sections_under vs ts
 sections_all [] ts zero e = refl
 sections_all [] ts (suc n) e = refl
 sections_all (v ∷ vs) [] zero e = refl

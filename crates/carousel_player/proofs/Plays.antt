@@ -10,7 +10,7 @@ use Rattle.std.proofs.lemmas.List.Concat.{flat_map-append}
 use Rattle.si_causes.specs.Causes.{AppendsFront}
 use Rattle.std.proofs.lemmas.List.Elements.{recursion_from_All}
 use Rattle.section_codec.specs.declared.table.SubTable.{SubTable}
-use Rattle.version_book.specs.Airings.{Content, Airing, version_at}
+use Rattle.version_book.specs.Airings.{Content, CycleForm, Airing, version_at}
 use Rattle.version_book.specs.Book.{Stands, aired}
 use Rattle.ts_packets.specs.Packets.{Piece, pieces, alone}
 use Rattle.ts_packets.specs.Bytes.{Packet, HasFields, bytes_of_packet, packet_on, packets_alone}
@@ -20,7 +20,8 @@ use Rattle.air_model.specs.Making.{each_alone, counted}
 use Rattle.air_model.proofs.Counted.{PidsFit, counted-append, length-counted}
 use Rattle.air_model.proofs.Airs.{air-push, air_bytes-push, airings_of-push, air_more-alone}
 use Rattle.carousel_player.specs.Sending.{Sends}
-use Rattle.carousel_player.specs.Playing.{IsFit, Playing, AtEnd, Within, Begins, GaveUp}
+use Rattle.air_model.specs.Fit.{IsFit}
+use Rattle.carousel_player.specs.Playing.{Playing, AtEnd, Within, Begins, GaveUp}
 use Rattle.carousel_player.proofs.Sendings.{all-append, all-front}
 
 -- ---- a cycle begins
@@ -42,17 +43,18 @@ pids_of v t (s ∷ ss) more lt h = (lt, pids_of v t ss more lt h)
 
 pids_sent : (f : SubTable → ℕ) (ts : List SubTable) → AllByRecursion IsFit ts → AllByRecursion (λ (s : Sent). s.pid < 8192) (flat_map (λ (t : SubTable). sections_of (f t) t) ts)
 pids_sent f [] fit = tt
-pids_sent f (t ∷ ts) fit = pids_of (f t) t t.sections (flat_map (λ (u : SubTable). sections_of (f u) u) ts) fit.0.pid (pids_sent f ts fit.1)
+pids_sent f (t ∷ ts) fit = pids_of (f t) t t.sections (flat_map (λ (u : SubTable). sections_of (f u) u) ts) (let lt : t.key.pid < 8191 = fit.0.pid in omega (arith, lt)) (pids_sent f ts fit.1)
 
-pub begins : (xs : List Aired) (ts : List SubTable) (moment : ℕ) (old new : Playing) → AtEnd xs old → All IsFit ts → new.counters ≡ old.counters
-    → Stands (airings_of xs ++ aired ts moment ∷ []) new.book → new.left ≡ each_alone (cycle_sections (airings_of xs) (aired ts moment)) → Begins xs (aired ts moment) new
-begins xs ts moment old new end fit same stands left =
-    let a = aired ts moment in
+pub begins : (xs : List Aired) (ts : List SubTable) (moment : ℕ) (form : CycleForm) (old new : Playing) → AtEnd xs old → All IsFit ts → new.counters ≡ old.counters
+    → Stands (airings_of xs ++ aired ts moment form ∷ []) new.book → new.left ≡ each_alone (cycle_sections (airings_of xs) (aired ts moment form)) → Begins xs (aired ts moment form) new
+begins xs ts moment form old new end fit same stands left =
+    let a = aired ts moment form in
     let units = each_alone (cycle_sections (airings_of xs) a) in
     let x : Aired = record { airing = a; packets = counted (air xs) units } in
     let pids : PidsFit units = pids_alone (cycle_sections (airings_of xs) a) (pids_sent (λ (t : SubTable). version_at t.key (airings_of xs ++ a ∷ [])) ts (recursion_from_All IsFit ts fit)) in
     let longer = airings_of-push xs x in (
       x,
+      refl,
       refl,
       record {
         is_air = subst (λ (l : List Airing). IsAirOf l (xs ++ x ∷ [])) (sym longer) (air_more-alone (airings_of xs) xs a end.is_air pids);
@@ -60,7 +62,7 @@ begins xs ts moment old new end fit same stands left =
         parts = refl;
         sent = record {
           versions = subst (λ (l : List Airing). Stands l new.book) (sym longer) stands;
-          counters = subst (λ (l : List Packet). StandFor (map bytes_of_packet l) new.counters) (sym (append-nil (air xs))) (subst (λ (c : List ℕ). StandFor (map bytes_of_packet (air xs)) c) (sym same) end.sent.counters);
+          counters = subst (λ (l : List Packet). StandFor (map bytes_of_packet l) new.counters) (sym (append-nil (air xs))) (subst (λ (c : List (Option ℕ)). StandFor (map bytes_of_packet (air xs)) c) (sym same) end.sent.counters);
         };
         rest_is = ap₂ counted (sym (append-nil (air xs))) (sym left);
       },

@@ -1,6 +1,6 @@
 -- Packets handed out, piece by piece.
 use Rattle.std.proofs.Common.{◌≡◌, ℕ, suc, ◌+◌, ◌*◌, ◌/◌, ◌%◌, ◌<◌, List, [], ◌∷◌, ◌++◌, length, refl, sym, ap, ap₂, ◌∙◌, subst, arith, map, take, append_assoc, append-nil}
-use Rattle.std.specs.Prelude.{flat_map, if◌then◌else◌}
+use Rattle.std.specs.Prelude.{flat_map, if◌then◌else◌, Option}
 use Rattle.std.specs.List.{AllByRecursion}
 use Rattle.std.proofs.lemmas.List.{map-append}
 use Rattle.std.proofs.Math.Seq.{take-append-add, take-append_seam}
@@ -26,7 +26,7 @@ pids_fit [] h = tt
 pids_fit (p ∷ ps) h = (h.0.pid, pids_fit ps h.1)
 
 -- nothing
-pub Sends-none : (left : List Packet) (counters : List ℕ) → Sends left left counters counters []
+pub Sends-none : (left : List Packet) (counters : List (Option ℕ)) → Sends left left counters counters []
 Sends-none left counters = record {
   front = [];
   cut = refl;
@@ -46,7 +46,7 @@ stamped_bytes past p fields h =
     (let e : 16 * ((16 + p.counter) / 16) + count_on (pid_in (bytes_of_packet p)) (map bytes_of_packet past) % 16 ≡ 16 + length (loads_on p.pid past) % 16 = omega (arith, count, h.counter) in e)
 
 -- one packet
-pub Sends-one : (old new : List Packet) (counters counters_new unit bytes : List ℕ) → 0 < length old → PutsFirst old new unit
+pub Sends-one : (old new : List Packet) (counters counters_new : List (Option ℕ)) (unit bytes : List ℕ) → 0 < length old → PutsFirst old new unit
     → ((past : List (List ℕ)) → StandFor past counters → bytes ≡ with_counter (count_on (pid_in unit) past % 16) unit)
     → ((past : List (List ℕ)) → StandFor past counters → StandFor (past ++ bytes ∷ []) counters_new)
     → Sends old new counters counters_new bytes
@@ -71,7 +71,7 @@ puts-length [] new bytes some put = absurd (omega arith)
 puts-length (p ∷ ps) new bytes some put = ap (λ (l : List Packet). suc (length l)) (sym put.0)
 
 -- one list after the other
-pub Sends-trans : (a b c : List Packet) (one two three first second : List ℕ) → Sends a b one two first → Sends b c two three second → Sends a c one three (first ++ second)
+pub Sends-trans : (a b c : List Packet) (one two three : List (Option ℕ)) (first second : List ℕ) → Sends a b one two first → Sends b c two three second → Sends a c one three (first ++ second)
 Sends-trans a b c one two three first second s t = record {
   front = s.front ++ t.front;
   cut = s.cut ∙ ap (λ (l : List Packet). s.front ++ l) t.cut ∙ sym (append_assoc s.front t.front c);

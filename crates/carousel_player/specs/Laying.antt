@@ -47,10 +47,10 @@ pub record AreLaid (ss : List Sent) (bytes : List ℕ) (placed : List Placed) : 
   pub placed_are : placed ≡ places_from 0 ss
 
 -- the sections of sub-tables with these versions
-abbrev pub sections_with : List ℕ → List SubTable → List Sent
-sections_with [] ts = []
-sections_with (v ∷ vs) [] = []
-sections_with (v ∷ vs) (t ∷ ts) = sections_of v t ++ sections_with vs ts
+abbrev pub sections_under : List ℕ → List SubTable → List Sent
+sections_under [] ts = []
+sections_under (v ∷ vs) [] = []
+sections_under (v ∷ vs) (t ∷ ts) = sections_of v t ++ sections_under vs ts
 
 -- how many bytes the sections of a sub-table have, and those of all
 abbrev pub room_of : Content → ℕ

@@ -1,45 +1,24 @@
 -- What a player stands for: the airings whose cycles it has sent, and how far it has come in the last.
-use Rattle.std.specs.Prelude.{◌≡◌, ◌≢◌, ℕ, ◌<◌, ◌≤◌, List, [], ◌∷◌, ◌++◌, length, map, flat_map, Option}
-use Rattle.std.specs.List.{All}
-use Rattle.section_codec.specs.declared.table.NumberedBody.{NumberedBody}
-use Rattle.section_codec.specs.declared.table.SubTable.{SubTable}
-use Rattle.section_codec.specs.Section.{longest_body}
-use Rattle.version_book.specs.Airings.{Content, Airing}
-use Rattle.version_book.specs.Book.{KeptKeys, Stands, KeysDiffer}
+use Rattle.std.specs.Prelude.{◌≡◌, ℕ, List, [], ◌∷◌, ◌++◌, map, flat_map, Option}
+use Rattle.version_book.specs.Airings.{CycleForm, Airing}
+use Rattle.version_book.specs.Book.{KeptKeys, Stands}
 use Rattle.ts_packets.specs.Bytes.{Packet, bytes_of_packet}
 use Rattle.ts_packets.specs.Counting.{StandFor}
 use Rattle.air_model.specs.Air.{Aired, air, airings_of, IsAirOf}
-use Rattle.air_model.specs.Making.{counted}
+use Rattle.air_model.specs.Making.{counted, cycle_alone}
 use Rattle.si_causes.specs.Causes.{AppendsFront}
 
--- ---- what can be sent
-
--- each number is above the one before
-abbrev pub Ascend : Content → Type 0
-Ascend [] = Unit {0}
-Ascend (s ∷ []) = Unit {0}
-Ascend (s ∷ t ∷ ss) = (s.number < t.number) × Ascend (t ∷ ss)
-
--- a sub-table whose sections can be sent
-pub record IsFit (t : SubTable) : Type 0 where
-  pub pid : t.key.pid < 8192
-  pub form : t.key.table ≢ 0x70
-  pub some : 0 < length t.sections
-  pub ascending : Ascend t.sections
-  pub bodies : All (λ (s : NumberedBody). length s.body ≤ longest_body t.key.table) t.sections
-
--- sub-tables that can be sent in one cycle
-pub record AreFit (tables : List SubTable) : Type 0 where
-  pub differ : KeysDiffer tables
-  pub each : All IsFit tables
-
--- ---- the player
-
--- what contracts see of a player: its version book, its counters, and the packets of the cycle that are still to come, not yet counted
+-- what contracts see of a player: its version book, its counters, the packets of the cycle that are still to come, not yet counted,
+-- and the quota of its cycles
 pub record Playing : Type 0 where
   pub book : KeptKeys
-  pub counters : List ℕ
+  pub counters : List (Option ℕ)
   pub left : List Packet
+  pub quota : ℕ
+
+-- the form of its cycles
+abbrev pub form_of : Playing → CycleForm
+form_of player = record { quota = player.quota }
 
 -- its versions stand for the airings of xs, and its counters for these packets
 pub record HasSent (xs : List Aired) (sent : List Packet) (player : Playing) : Type 0 where
@@ -60,9 +39,10 @@ pub record Within (xs : List Aired) (x : Aired) (rest : List Packet) (player : P
   pub sent : HasSent (xs ++ x ∷ []) (air xs ++ handed) player
   pub rest_is : rest ≡ counted (air xs ++ handed) player.left
 
--- the cycle of an airing begins
+-- The cycle of an airing begins. Its packets are those of its sections one after the other, each section beginning in a packet of
+-- its own, and their counters go on.
 abbrev pub Begins : List Aired → Airing → Playing → Type 0
-Begins xs a player = (x : Aired) × (x.airing ≡ a) × Within xs x x.packets player
+Begins xs a player = (x : Aired) × (x.airing ≡ a) × (x.packets ≡ cycle_alone (airings_of xs) (air xs) a) × Within xs x x.packets player
 
 -- A sink failed: some of the packets were handed out, and it took a front of their bytes.
 abbrev pub GaveUp : List Aired → Aired → List Packet → Option (List ℕ) → Option (List ℕ) → Playing → Type 0

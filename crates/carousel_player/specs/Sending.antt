@@ -1,5 +1,5 @@
 -- Packets that are handed out, from those to come, with their counters.
-use Rattle.std.specs.Prelude.{◌≡◌, ℕ, ◌<◌, List, [], ◌∷◌, ◌++◌, map, flat_map}
+use Rattle.std.specs.Prelude.{◌≡◌, ℕ, ◌<◌, List, [], ◌∷◌, ◌++◌, map, flat_map, Option}
 use Rattle.std.specs.List.{AllByRecursion}
 use Rattle.ts_packets.specs.Bytes.{Packet, HasFields, bytes_of_packet}
 use Rattle.ts_packets.specs.Counting.{StandFor}
@@ -17,7 +17,7 @@ PutsFirst (p ∷ ps) left bytes = (left ≡ ps) × (bytes ≡ bytes_of_packet p)
 
 -- A front of the packets to come was handed out as these bytes, each packet with its counter: so it is behind whatever
 -- packets the counters stood for, and they stand for those and these now.
-pub record Sends (old new : List Packet) (counters counters_new : List ℕ) (bytes : List ℕ) : Type 0 where
+pub record Sends (old new : List Packet) (counters counters_new : List (Option ℕ)) (bytes : List ℕ) : Type 0 where
   pub front : List Packet
   pub cut : old ≡ front ++ new
   pub fit : AllByRecursion IsUncounted front

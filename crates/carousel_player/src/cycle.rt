@@ -3,13 +3,13 @@ ghost use Rattle.std.specs.Prelude.{◌≡◌, ◌+◌, ◌≤◌, ◌<◌, [], 
 ghost use Rattle.ts_packets.specs.Packets.{packets_of};
 ghost use Rattle.ts_packets.specs.Bytes.{bytes_of_packet, packets_alone};
 ghost use Rattle.section_codec.specs.declared.table.SubTable.{SubTable};
-ghost use Rattle.version_book.specs.Airings.{Airing};
+ghost use Rattle.version_book.specs.Airings.{Airing, CycleForm};
 ghost use Rattle.version_book.specs.Book.{Stands, aired};
 ghost use Rattle.air_model.specs.Air.{cycle_sections};
 ghost use Rattle.air_model.specs.Making.{each_alone};
 ghost use Rattle.carousel_player.specs.Laying.{IsPlaced, room_for, places_for};
 ghost use Rattle.carousel_player.specs.Sending.{PutsFirst};
-ghost use Rattle.carousel_player.specs.Playing.{AreFit};
+ghost use Rattle.air_model.specs.Fit.{AreFit};
 
 use crate::laying::{lay_tables, room_for};
 use section_codec::{SubTable, Tables};
@@ -76,8 +76,8 @@ impl Cycle {
     ) -> Result<(), AllocError>
         requires ended { self.old ≡ [] }
         requires fit { AreFit tables.now.list }
-        ensures versions { OnOk result ((past : List Airing) (moment : ℕ) → Stands past book.old → Stands (past ++ aired tables.now.list moment ∷ []) book.new) }
-        ensures begun { OnOk result ((past : List Airing) (moment : ℕ) → Stands past book.old → self.new ≡ each_alone (cycle_sections past (aired tables.now.list moment))) }
+        ensures versions { OnOk result ((past : List Airing) (moment : ℕ) (form : CycleForm) → Stands past book.old → Stands (past ++ aired tables.now.list moment form ∷ []) book.new) }
+        ensures begun { OnOk result ((past : List Airing) (moment : ℕ) (form : CycleForm) → Stands past book.old → self.new ≡ each_alone (cycle_sections past (aired tables.now.list moment form))) }
         ensures ended { OnErr result (self.new ≡ self.old) }
         ensures kept { OnErr result (book.new ≡ book.old) }
     {

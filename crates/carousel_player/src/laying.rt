@@ -2,9 +2,10 @@
 ghost use Rattle.std.specs.Prelude.{◌≡◌, ◌≢◌, ◌+◌, ◌<◌, ◌≤◌, ◌++◌, [], ◌∷◌, List, ℕ, length, vec_len, vec_capacity, IfSome, if◌then◌else◌};
 ghost use Rattle.std.specs.List.{All};
 ghost use Rattle.section_codec.specs.Section.{section_bytes, long_flags, current_bit, longest_body};
-ghost use Rattle.air_model.specs.Air.{Sent, last_number, header_of, sent_section, sections_of};
-ghost use Rattle.carousel_player.specs.Laying.{AreLaid, sections_with, room_of, room_for, places_for};
-ghost use Rattle.carousel_player.specs.Playing.{IsFit};
+ghost use Rattle.section_codec.specs.Contents.{last_number};
+ghost use Rattle.air_model.specs.Air.{Sent, header_of, sent_section, sections_of};
+ghost use Rattle.carousel_player.specs.Laying.{AreLaid, sections_under, room_of, room_for, places_for};
+ghost use Rattle.air_model.specs.Fit.{IsFit};
 
 use crate::cycle::Placed;
 use section_codec::{LongHeader, NumberedBody, SubTable};
@@ -45,7 +46,7 @@ pub(crate) fn lay_tables(
     requires versions { All (λ v. v < 32) versions.now }
     requires room { vec_len bytes.old + room_for tables.now ≤ vec_capacity bytes.old }
     requires places { vec_len placed.old + places_for tables.now ≤ vec_capacity placed.old }
-    ensures { (ss : List Sent) → AreLaid ss bytes.old.items placed.old.items → AreLaid (ss ++ sections_with versions.now tables.now) bytes.new.items placed.new.items }
+    ensures { (ss : List Sent) → AreLaid ss bytes.old.items placed.old.items → AreLaid (ss ++ sections_under versions.now tables.now) bytes.new.items placed.new.items }
 {
     for (table, version) in tables.iter().zip(versions) {
         lay_table(bytes, placed, table, *version);

@@ -5,7 +5,8 @@ ghost use Rattle.si_causes.specs.Causes.{HasCause};
 ghost use Rattle.ts_packets.specs.Bytes.{Packet, bytes_of_packet};
 ghost use Rattle.version_book.specs.Book.{aired};
 ghost use Rattle.air_model.specs.Air.{Aired};
-ghost use Rattle.carousel_player.specs.Playing.{AtEnd, Within, Begins, GaveUp, AreFit};
+ghost use Rattle.air_model.specs.Fit.{AreFit};
+ghost use Rattle.carousel_player.specs.Playing.{AtEnd, Within, Begins, GaveUp, form_of};
 
 use crate::cycle::Cycle;
 use crate::sending::{BATCH, fill};
@@ -25,6 +26,7 @@ pub struct Player {
     counters: Counters,
     cycle: Cycle,
     buffer: [u8; BATCH],
+    quota: u32,
 }
 
 impl Model for Player {
@@ -32,7 +34,7 @@ impl Model for Player {
 
     ghost Value = { Playing };
 
-    ghost view = { λ p. record { book = p.book; counters = p.counters; left = p.cycle } };
+    ghost view = { λ p. record { book = p.book; counters = p.counters; left = p.cycle; quota = p.quota } };
 }
 
 impl Player {
@@ -42,24 +44,27 @@ impl Player {
     pub fn open(alloc: Global, quota: u32) -> Player
         requires some { 1 ≤ quota }
         requires most { quota ≤ 10000 }
-        ensures { AtEnd [] result }
+        ensures at_end { AtEnd [] result }
+        ensures quota { result.quota ≡ quota }
     {
         Player {
             book: VersionBook::open(alloc),
             counters: Counters::open(),
             cycle: Cycle::ended(alloc),
             buffer: [0; BATCH],
+            quota,
         }
     }
 
     /// Begins the cycle of one airing more: of these sub-tables, of the publication with this number, at the moment of
-    /// the swap (EN 300 468, 5.1.1). No packet tells the number. It needs a player at its end, and sub-tables whose keys
-    /// differ, with PIDs below 8,192, each with at least one section, ascending numbers and bodies that fit a section in
-    /// the long form. All memory is taken first: where it is wanting, the player stays as it was, at its end.
+    /// the swap (EN 300 468, 5.1.1), in a cycle of the player's quota. No packet tells the number. Each section begins in a packet of
+    /// its own. It needs a player at its end, and sub-tables whose keys differ, with PIDs below 8,191, each with at least one section, ascending numbers and bodies that fit a section in
+    /// the long form, and none with the table_id 0xFF, which is fill. All memory is taken first: where it is wanting, the player stays as it was, at its end.
     pub fn swap(&mut self, tables: Tables, number: u64, moment: Moment) -> Result<(), AllocError>
         requires at_end { self.old.left ≡ [] }
         requires fit { AreFit tables.list }
-        ensures begun { (xs : List Aired) → AtEnd xs self.old → OnOk result (Begins xs (aired tables.list moment.0) self.new) }
+        ensures begun { (xs : List Aired) → AtEnd xs self.old → OnOk result (Begins xs (aired tables.list moment.0 (form_of self.old)) self.new) }
+        ensures quota { self.new.quota ≡ self.old.quota }
         ensures memory { OnErr result (self.new ≡ self.old) }
     {
         self.cycle.begin(&mut self.book, &tables)
@@ -78,6 +83,7 @@ impl Player {
             → (result ≡ Some (record { 0 = bytes_of_packet p })) × Within xs x rest self.new }
         ensures none { IsNone result ↔ (self.old.left ≡ []) }
         ensures kept { IfNone result (self.new ≡ self.old) }
+        ensures quota { self.new.quota ≡ self.old.quota }
     {
         if self.cycle.is_ended() {
             return None;
@@ -99,6 +105,7 @@ impl Player {
         ensures idle { self.old.left ≡ [] → IsOk result × (self.new ≡ self.old) × (sink.new ≡ sink.old) }
         ensures cause { HasCause (A.faults sink.old) (A.faults sink.new) result }
         ensures same { A.same sink.old sink.new }
+        ensures quota { self.new.quota ≡ self.old.quota }
     {
         'batches: while !self.cycle.is_ended() {
             let count = fill(&mut self.cycle, &mut self.counters, &mut self.buffer);

@@ -1,6 +1,6 @@
 -- What `play` sends, `listen` hears.
-use Rattle.std.proofs.Common.{◌≡◌, ℕ, zero, suc, ◌+◌, ◌≤◌, List, [], ◌∷◌, ◌++◌, Bool, true, ◌&&◌, ◌==◌, Some, length, map, refl, ap, ap₂, ◌∙◌, subst, arith, take, drop, eq-eqb}
-use Rattle.std.specs.Prelude.{flat_map, slice_index}
+use Rattle.std.proofs.Common.{◌≡◌, ℕ, zero, suc, ◌+◌, ◌<◌, ◌≤◌, List, [], ◌∷◌, ◌++◌, Bool, true, false, ◌&&◌, ◌==◌, Option, Some, None, length, map, refl, sym, ap, ap₂, ◌∙◌, subst, arith, take, drop, eq-eqb}
+use Rattle.std.specs.Prelude.{flat_map, filter, if◌then◌else◌, slice_index}
 use Rattle.std.specs.List.{AllByRecursion}
 use Rattle.std.proofs.lemmas.List.{take_at, drop_at}
 use Rattle.si_causes.specs.Text.{text_lines}
@@ -17,13 +17,20 @@ use Rattle.desk_core.specs.Journal.{journal_of}
 use Rattle.desk_core.proofs.JournalFacts.{journal_legal}
 use Rattle.air_model.specs.Air.{air, air_bytes}
 use Rattle.air_model.proofs.Airs.{air-whole}
-use Rattle.guide_receiver.specs.Texts.{done_lines}
-use Rattle.air_hearing.specs.Changes.{CarriesSdt}
-use Rattle.air_hearing.proofs.Told.{changes-heard}
+use Rattle.air_model.proofs.Repeating.{airs_repeat}
+use Rattle.guide_receiver.specs.declared.done.DoneKey.{DoneKey}
+use Rattle.guide_receiver.specs.Counting.{is_counted}
+use Rattle.guide_receiver.specs.Heard.{DoneAt, dones_of}
+use Rattle.section_codec.specs.declared.table.Key.{Key}
+use Rattle.section_codec.specs.declared.table.SubTable.{SubTable}
+use Rattle.version_book.specs.Airings.{Content, Airing, is_key, content_in, carried}
+use Rattle.version_book.proofs.Versions.{is_key-same}
+use Rattle.air_hearing.specs.Counting.{CanBeHeard}
+use Rattle.air_hearing.specs.Changes.{is_new_at, version_with, changes_of, is_done_key}
+use Rattle.air_hearing.proofs.Told.{changes_heard}
 use Rattle.publication.specs.Tables.{sdt_key}
 use Rattle.headend_live.specs.Air.{airings}
-use Rattle.headend_live.proofs.CarryFacts.{airings_carry}
-use Rattle.epg_cli.specs.Listen.{heard_text}
+use Rattle.headend_live.proofs.CarryFacts.{airings_heard, airings_carry}
 use Rattle.epg_cli.specs.Script.{script_with}
 use Rattle.epg_cli.specs.Hearing.{PlayIsHeard}
 
@@ -54,12 +61,41 @@ recorded (suc n) (p ∷ ps) all le =
     ∙ ap₂ (λ (x y : List ℕ). and_packet x (packets_in n y)) front behind
     ∙ ap (and_packet here) (recorded n ps all.1 (omega arith))
 
+-- ---- a key that no airing carries
+
+other_key : (k own : Key) (ts : List SubTable) → map (λ (t : SubTable). t.key) ts ≡ own ∷ [] → is_key k own ≡ false → content_in k ts ≡ None
+other_key k own [] are other = cc
+other_key k own (t ∷ u ∷ ts) are other = cc
+other_key k own (t ∷ []) are other =
+    let same : t.key ≡ own = cc in
+    ap (λ (b : Bool). if b then Some t.sections else None) (ap (is_key k) same ∙ other)
+
+unchanged : (k own : Key) (past airs : List Airing) → AllByRecursion (λ (a : Airing). map (λ (t : SubTable). t.key) a.tables ≡ own ∷ []) airs → is_key k own ≡ false → changes_of k past airs ≡ []
+unchanged k own past [] are other = refl
+unchanged k own past (a ∷ airs) are other =
+    ap₂ (λ (o : Option Content) (l : List DoneKey). (if is_new_at (carried k past) o then version_with k past a ∷ [] else []) ++ l) (other_key k own a.tables are.0 other) (unchanged k own (past ++ a ∷ []) airs are.1 other)
+
+-- a key that the receiver does not count is not that of the SDT
+counted_or_not : (mux : Mux) (airs : List Airing) (k : Key) → AllByRecursion (λ (a : Airing). map (λ (t : SubTable). t.key) a.tables ≡ sdt_key mux ∷ []) airs
+    → (b : Bool) → is_counted k.pid k.table ≡ b → (if is_counted k.pid k.table then changes_of k [] airs else []) ≡ changes_of k [] airs
+counted_or_not mux airs k are true e = ap (λ (b : Bool). if b then changes_of k [] airs else []) e
+counted_or_not mux airs k are false e = ap (λ (b : Bool). if b then changes_of k [] airs else []) e ∙ sym (unchanged k (sdt_key mux) [] airs are (apart (is_key k (sdt_key mux)) refl))
+  where
+    apart : (b : Bool) → is_key k (sdt_key mux) ≡ b → is_key k (sdt_key mux) ≡ false
+    apart false f = f
+    apart true f =
+        let none : true ≡ false = sym (ap (λ (q : Key). is_counted q.pid q.table) (is_key-same k (sdt_key mux) f)) ∙ e in
+        absurd (let z : Prim.⊥ = cc in z)
+
 pub play-heard : PlayIsHeard
 play-heard text mux commands xs script is_air few =
     let is = (let lines = text_lines text in mux_of_script lines.0 (tail_of (1 + length lines.0) lines.1) mux script) in
     let journal = journal_of mux commands in
-    let carry : AllByRecursion (CarriesSdt (sdt_key mux)) (airings mux journal) = airings_carry mux journal is.sound is.stream is.original (journal_legal mux [] commands) in
+    let can : AllByRecursion CanBeHeard (airings mux journal) = airings_heard mux journal is.sound is.stream is.original (journal_legal mux [] commands) in
     let record_is : recording (air_bytes xs) ≡ (map bytes_of_packet (air xs), AtEnd) = recorded packet_limit (air xs) (air-whole (airings mux journal) xs is_air) few in (
       ap (λ (r : List (List ℕ) × RecordingEnd). r.1) record_is,
-      ap (λ (r : List (List ℕ) × RecordingEnd). heard_text r.0) record_is ∙ ap done_lines (changes-heard (sdt_key mux) (airings mux journal) xs is_air carry),
+      λ k lt.
+          ap (λ (r : List (List ℕ) × RecordingEnd). filter (is_done_key k) (map (λ (d : DoneAt). d.done) (dones_of r.0))) record_is
+          ∙ changes_heard (airings mux journal) xs (airs_repeat (airings mux journal) xs is_air) can k lt
+          ∙ counted_or_not mux (airings mux journal) k (airings_carry mux journal) (is_counted k.pid k.table) refl,
     )

@@ -28,7 +28,7 @@ use Rattle.desk_core.specs.Journal.{Command, journal_of}
 use Rattle.desk_core.specs.Desks.{DeskState, fresh}
 use Rattle.journal_text.specs.Entries.{journal_text}
 use Rattle.headend_live.specs.Air.{airings}
-use Rattle.headend_live.specs.OnAir.{HasAired, HasAiredFront, IsOnAir}
+use Rattle.headend_live.specs.OnAir.{HasSentAll, HasAired, HasAiredFront, IsOnAir}
 use Rattle.epg_cli.specs.declared.stop.PlayStop.{PlayStop}
 use Rattle.epg_cli.specs.declared.stop.PlayStop.TheVariants.{NoMux as Undescribed, NoCommand as Refused, Disagrees as Differs, Read, Air as OnAir, Memory as NoMemory}
 use Rattle.epg_cli.specs.declared.status.Status.{Status}
@@ -55,6 +55,7 @@ no_journal (Some mux) = refl
 
 none_aired : (script : Script) (air : Told) → air.old ≡ air.new → IsAired script [] air
 none_aired script air same = record {
+  made = tt;
   cycles = [];
   is_air = subst (λ (l : List Airing). IsAirOf l []) (sym (nothing_for script.mux)) IsAirOf-none;
   bytes = subst (λ (w : Option (List ℕ)). Appends air.old w []) same (appends_nil air.old);
@@ -150,9 +151,10 @@ no_block left faults old new text air mux.Memory is told same e came = tt
 
 aired_is : (mux : Mux) (desk : DeskState) (player : Playing) (rest : List Command × Stop) (commands : List Command) (air : Told) → desk ≡ desk_after (fresh mux) commands → HasAired desk player air.old air.new
     → IsAired (with_commands mux rest) (journal_of mux commands) air
-aired_is mux desk player rest commands air d (xs, end, are, bytes) = record {
+aired_is mux desk player rest commands air d (xs, sent, bytes) = record {
   cycles = xs;
-  is_air = subst (λ (l : List Airing). IsAirOf l xs) (are ∙ ap (λ (x : DeskState). airings x.mux x.entries) d) end.is_air;
+  is_air = subst (λ (l : List Airing). IsAirOf l xs) (sent.airings_are ∙ ap (λ (x : DeskState). airings x.mux x.entries) d) sent.at_end.is_air;
+  made = sent.made;
   bytes = bytes;
 }
 
@@ -166,6 +168,7 @@ front_is mux desk rest commands air d f = record {
   whole = f.whole;
   cut = f.cut;
   is_air = subst (λ (l : List Airing). IsAirOf l (f.whole ++ f.cut ∷ [])) (ap (λ (x : DeskState). airings x.mux x.entries) d) f.is_air;
+  made = f.made;
   taken = f.taken;
   proper = f.proper;
   bytes = f.bytes;
@@ -272,11 +275,15 @@ pub leaves_input : {S : Type 0} (left_of : S → Known) (source input : S) (stop
 leaves_input {S = S} left_of source input stop text air report desk status e played finished =
     subst (λ (s : S). Leaves text (left_of s) air report status) (sym e) (leaves stop text (left_of source) air report desk status played finished)
 
-pub start_aired : (mux : Mux) (desk : DeskState) (player : Playing) (w : Option (List ℕ)) → desk ≡ fresh mux → AllSent [] player → HasAired desk player w w
-start_aired mux desk player w d end = ([], end, sym (ap (λ (x : DeskState). airings x.mux x.entries) d), appends_nil w)
+start_sent : (mux : Mux) (desk : DeskState) (player : Playing) → desk ≡ fresh mux → AllSent [] player → player.quota ≡ mux.quota → HasSentAll desk player []
+start_sent mux desk player d end quota =
+    record { at_end = end; airings_are = sym (ap (λ (x : DeskState). airings x.mux x.entries) d); made = tt; quota = quota ∙ sym (ap (λ (x : DeskState). x.mux.quota) d) }
 
-pub start_on_air : (mux : Mux) (desk : DeskState) (player : Playing) → desk ≡ fresh mux → AllSent [] player → IsOnAir desk player
-start_on_air mux desk player d end = ([], end, sym (ap (λ (x : DeskState). airings x.mux x.entries) d))
+pub start_aired : (mux : Mux) (desk : DeskState) (player : Playing) (w : Option (List ℕ)) → desk ≡ fresh mux → AllSent [] player → player.quota ≡ mux.quota → HasAired desk player w w
+start_aired mux desk player w d end quota = ([], start_sent mux desk player d end quota, appends_nil w)
+
+pub start_on_air : (mux : Mux) (desk : DeskState) (player : Playing) → desk ≡ fresh mux → AllSent [] player → player.quota ≡ mux.quota → IsOnAir desk player
+start_on_air mux desk player d end quota = ([], start_sent mux desk player d end quota)
 
 -- where nothing fails, the script's stop decides
 pub completes : (text : List ℕ) (left : Known) (air report : Told) (status : Status) → Leaves text left air report status → (status ≡ ReadFault Input → ⊥) → (status ≡ WriteFault Air → ⊥) → (status ≡ WriteFault Report → ⊥)

@@ -9,6 +9,7 @@ use Rattle.mux_config.specs.declared.stop.MuxStop.{MuxStop}
 use Rattle.mux_config.specs.declared.stop.MuxStop.TheVariants as mux
 use Rattle.version_book.specs.Airings.{Airing}
 use Rattle.air_model.specs.Air.{Aired, IsAirOf, air_bytes}
+use Rattle.air_model.specs.Making.{AreMade}
 use Rattle.desk_core.specs.declared.step.Step.TheVariants.{Swap}
 use Rattle.desk_core.specs.declared.step.Entry.{Entry}
 use Rattle.desk_core.specs.Journal.{Command, journal_of}
@@ -54,10 +55,11 @@ abbrev pub airings_for : Option Mux → List Entry → List Airing
 airings_for None journal = []
 airings_for (Some mux) journal = airings mux journal
 
--- an air of this journal was appended
+-- an air of this journal was appended, in which each section begins in a packet of its own
 pub record IsAired (script : Script) (journal : List Entry) (air : Told) : Type 0 where
   pub cycles : List Aired
   pub is_air : IsAirOf (airings_for script.mux journal) cycles
+  pub made : AreMade [] cycles
   pub bytes : Appends air.old air.new (air_bytes cycles)
 
 -- The journal ends with a swap, and of an air of it all cycles but the last were appended, and a proper front of that one.
@@ -69,6 +71,7 @@ pub record IsAiredFront (script : Script) (journal : List Entry) (air : Told) : 
   pub whole : List Aired
   pub cut : Aired
   pub is_air : IsAirOf (airings_for script.mux journal) (whole ++ cut ∷ [])
+  pub made : AreMade [] (whole ++ cut ∷ [])
   pub taken : ℕ
   pub proper : taken < length (cycle_bytes cut)
   pub bytes : Appends air.old air.new (air_bytes whole ++ take taken (cycle_bytes cut))

@@ -15,7 +15,7 @@ use crate::stop::PlayStop;
 use carousel_player::Player;
 use desk_core::{Desk, Outcome, Step};
 use feed_edits::EditStop;
-use headend_live::{SendStop, send_cycle};
+use headend_live::{SendStop, send_on_air};
 use journal_text::{ScriptItem, next_item};
 use si_causes::{LineReader, Sink, Source};
 use std::alloc::Global;
@@ -50,7 +50,7 @@ fn do_step<A: Sink>(
     if !is_swap {
         return Ok(());
     }
-    match send_cycle(alloc, desk, player, air) {
+    match send_on_air(alloc, desk, player, air) {
         Ok(()) => Ok(()),
         Err(SendStop::Air) => Err(PlayStop::Air),
         Err(SendStop::Memory) => Err(PlayStop::Memory),

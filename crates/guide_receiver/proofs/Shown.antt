@@ -7,7 +7,7 @@ use Rattle.ts_demux.specs.declared.section.RawSection.{RawSection}
 use Rattle.ts_demux.specs.Sections.{ended_by, heard_each, heard_all}
 use Rattle.version_book.specs.Airings.{Content}
 use Rattle.sub_collect.specs.Runs.{Counted, completed}
-use Rattle.sub_collect.specs.Completions.{done_at, dones, latest_of, repeats, sections_of, shown_after, shown_at}
+use Rattle.sub_collect.specs.Completions.{done_at, dones, latest_of, repeats, of_key, shown_after, shown_at}
 use Rattle.sub_collect.specs.declared.completed.Completed.{Completed}
 use Rattle.sub_collect.proofs.Done.{shown_at-is, completion-push, dones-go_on}
 use Rattle.guide_receiver.specs.declared.done.DoneKey.{DoneKey}
@@ -27,8 +27,8 @@ after_key (Some before) (Some c) s d is = ap (λ (x : Completed). x.key) (sym (n
 -- a completion has the key of the section that shows it
 shown_key : (past : List Counted) (s : Counted) (d : Completed) → shown_at past s ≡ Some d → d.key ≡ s.key
 shown_key past s d is =
-    after_key (latest_of s.key past) (completed (sections_of s.key past ++ s ∷ [])) s d
-    (ap (shown_after (latest_of s.key past)) (sym (completion-push (sections_of s.key past) s)) ∙ sym (shown_at-is past s) ∙ is)
+    after_key (latest_of s.key past) (completed (of_key s.key past ++ s ∷ [])) s d
+    (ap (shown_after (latest_of s.key past)) (sym (completion-push (of_key s.key past) s)) ∙ sym (shown_at-is past s) ∙ is)
 
 abbrev pub keyed : Counted → ℕ → DoneKey
 keyed s version = record { key = s.key; version = version }

@@ -1,5 +1,5 @@
 -- The sections that count (ISO/IEC 13818-1, 2.4.4; EN 300 468, 5.1.3 and 5.2.3): today those of the SDT of the actual stream.
-use Rattle.std.specs.Prelude.{ℕ, ◌&&◌, if◌then◌else◌, List, filter_map, Option, None, option_map, Result, Ok, Err}
+use Rattle.std.specs.Prelude.{ℕ, Bool, ◌&&◌, if◌then◌else◌, List, filter_map, Option, None, option_map, Result, Ok, Err}
 use Rattle.section_codec.specs.declared.section.Section.{Section}
 use Rattle.section_codec.specs.declared.section.Section.TheVariants.{Long, Short}
 use Rattle.section_codec.specs.declared.section.BadSection.{BadSection}
@@ -9,10 +9,14 @@ use Rattle.section_codec.specs.Keys.{key_in}
 use Rattle.ts_demux.specs.declared.section.RawSection.{RawSection}
 use Rattle.sub_collect.specs.Runs.{Counted, counted}
 
--- A section counts where it has the long form with current_next_indicator 1, its PID and its table are those of the SDT of the
--- actual stream, and its body begins with the original_network_id that its key needs.
+-- whether sections of this table on this PID count
+abbrev pub is_counted : ℕ → ℕ → Bool
+is_counted pid table = is_sdt pid table
+
+-- A section counts where it has the long form with current_next_indicator 1, its PID and its table are those that count, and its body
+-- begins with what its key needs.
 abbrev pub counted_of : ℕ → Section → Option Counted
-counted_of pid (Long h body) = if h.current && is_sdt pid h.table then option_map (λ k. counted k h body) (key_in pid h body) else None
+counted_of pid (Long h body) = if h.current && is_counted pid h.table then option_map (λ k. counted k h body) (key_in pid h body) else None
 counted_of pid (Short table body) = None
 
 -- bytes that are no section count for nothing

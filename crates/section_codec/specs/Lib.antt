@@ -1,4 +1,5 @@
 pub mod Tables
 pub mod Section
+pub mod Contents
 pub mod Keys
 pub mod Rows

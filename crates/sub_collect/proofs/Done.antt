@@ -8,7 +8,7 @@ use Rattle.section_codec.specs.declared.table.Key.{Key}
 use Rattle.version_book.specs.Airings.{Content, is_key, is_content}
 use Rattle.version_book.proofs.Versions.{and_true, and_both, is_key-same, is_key-itself, is_content-same, is_content-itself}
 use Rattle.sub_collect.specs.Runs.{Counted, latest_section, completed}
-use Rattle.sub_collect.specs.Completions.{is_of, IsOfKey, sections_of, done_at, completion_at, completion, completions, latest_done, latest_of, repeats, shown_after, shown_at, dones}
+use Rattle.sub_collect.specs.Completions.{is_of, IsOfKey, of_key, done_at, completion_at, completion, completions, latest_done, latest_of, repeats, shown_after, shown_at, dones}
 use Rattle.sub_collect.specs.Laws.{is_done_of, KeysApart, LatestApart, LatestIsShown, DonesGoOn, DonesOneMore, LatestOneMore}
 use Rattle.sub_collect.specs.declared.completed.Completed.{Completed}
 use Rattle.sub_collect.proofs.Runs.{latest-push}
@@ -127,37 +127,37 @@ repeats-same a b k e =
 
 -- ---- the sections of a key
 
-pub sections_of-one : (k : Key) (past : List Counted) (s : Counted) → s.key ≡ k → sections_of k (past ++ s ∷ []) ≡ sections_of k past ++ s ∷ []
-sections_of-one k past s e =
+pub of_key-one : (k : Key) (past : List Counted) (s : Counted) → s.key ≡ k → of_key k (past ++ s ∷ []) ≡ of_key k past ++ s ∷ []
+of_key-one k past s e =
     filter-append (is_of k) past (s ∷ [])
-    ∙ ap (λ (b : Bool). sections_of k past ++ cond b (s ∷ []) []) (ap (λ (q : Key). is_key q k) e ∙ is_key-itself k)
+    ∙ ap (λ (b : Bool). of_key k past ++ cond b (s ∷ []) []) (ap (λ (q : Key). is_key q k) e ∙ is_key-itself k)
 
-pub sections_of-other : (k : Key) (past : List Counted) (s : Counted) → is_of k s ≡ false → sections_of k (past ++ s ∷ []) ≡ sections_of k past
-sections_of-other k past s e =
+pub of_key-other : (k : Key) (past : List Counted) (s : Counted) → is_of k s ≡ false → of_key k (past ++ s ∷ []) ≡ of_key k past
+of_key-other k past s e =
     filter-append (is_of k) past (s ∷ [])
-    ∙ ap (λ (b : Bool). sections_of k past ++ cond b (s ∷ []) []) e
-    ∙ append-nil (sections_of k past)
+    ∙ ap (λ (b : Bool). of_key k past ++ cond b (s ∷ []) []) e
+    ∙ append-nil (of_key k past)
 
-pub sections_of-all : (k : Key) (ss : List Counted) → AllByRecursion (IsOfKey k) (sections_of k ss)
-sections_of-all k [] = tt
-sections_of-all k (s ∷ ss) = go (is_of k s) refl (sections_of-all k ss)
+pub of_key-all : (k : Key) (ss : List Counted) → AllByRecursion (IsOfKey k) (of_key k ss)
+of_key-all k [] = tt
+of_key-all k (s ∷ ss) = go (is_of k s) refl (of_key-all k ss)
   where
-    go : (b : Bool) → is_of k s ≡ b → AllByRecursion (IsOfKey k) (sections_of k ss) → AllByRecursion (IsOfKey k) (cond b (s ∷ sections_of k ss) (sections_of k ss))
+    go : (b : Bool) → is_of k s ≡ b → AllByRecursion (IsOfKey k) (of_key k ss) → AllByRecursion (IsOfKey k) (cond b (s ∷ of_key k ss) (of_key k ss))
     go true e rest = (is_key-same s.key k e, rest)
     go false e rest = rest
 
-sections_of-same : (k : Key) (ss : List Counted) → AllByRecursion (IsOfKey k) ss → sections_of k ss ≡ ss
-sections_of-same k [] all = refl
-sections_of-same k (s ∷ ss) all =
-    ap (λ (b : Bool). cond b (s ∷ sections_of k ss) (sections_of k ss)) (ap (λ (q : Key). is_key q k) all.0 ∙ is_key-itself k)
-    ∙ ap (λ (l : List Counted). s ∷ l) (sections_of-same k ss all.1)
+of_key-same : (k : Key) (ss : List Counted) → AllByRecursion (IsOfKey k) ss → of_key k ss ≡ ss
+of_key-same k [] all = refl
+of_key-same k (s ∷ ss) all =
+    ap (λ (b : Bool). cond b (s ∷ of_key k ss) (of_key k ss)) (ap (λ (q : Key). is_key q k) all.0 ∙ is_key-itself k)
+    ∙ ap (λ (l : List Counted). s ∷ l) (of_key-same k ss all.1)
 
-sections_of-twice : (k : Key) (ss : List Counted) → sections_of k (sections_of k ss) ≡ sections_of k ss
-sections_of-twice k ss = sections_of-same k (sections_of k ss) (sections_of-all k ss)
+of_key-twice : (k : Key) (ss : List Counted) → of_key k (of_key k ss) ≡ of_key k ss
+of_key-twice k ss = of_key-same k (of_key k ss) (of_key-all k ss)
 
 -- what a section shows, by the sections of its key
-pub shown_at-is : (past : List Counted) (s : Counted) → shown_at past s ≡ shown_after (latest_of s.key past) (completion (sections_of s.key past ++ s ∷ []))
-shown_at-is past s = ap (λ (l : List Counted). shown_after (latest_of s.key past) (completion l)) (sections_of-one s.key past s refl)
+pub shown_at-is : (past : List Counted) (s : Counted) → shown_at past s ≡ shown_after (latest_of s.key past) (completion (of_key s.key past ++ s ∷ []))
+shown_at-is past s = ap (λ (l : List Counted). shown_after (latest_of s.key past) (completion l)) (of_key-one s.key past s refl)
 
 shown-is : (o p : Option Completed) (d : Completed) → shown_after o p ≡ Some d → p ≡ Some d
 shown-is None None d e = cc
@@ -171,21 +171,21 @@ shown-is (Some b) (Some x) d e = go (repeats b x) e
 
 shown-key : (past : List Counted) (s : Counted) (d : Completed) → shown_at past s ≡ Some d → d.key ≡ s.key
 shown-key past s d e =
-    let f = shown-is (latest_of s.key past) (completion (sections_of s.key past ++ s ∷ [])) d (sym (shown_at-is past s) ∙ e) in
-    done_key s (completed (sections_of s.key past ++ s ∷ [])) d (sym (completion-push (sections_of s.key past) s) ∙ f)
+    let f = shown-is (latest_of s.key past) (completion (of_key s.key past ++ s ∷ [])) d (sym (shown_at-is past s) ∙ e) in
+    done_key s (completed (of_key s.key past ++ s ∷ [])) d (sym (completion-push (of_key s.key past) s) ∙ f)
 
 -- ---- laws
 
 pub latest-apart : LatestApart
-latest-apart k past = ap (λ (l : List Counted). latest_done (completions [] l)) (sym (sections_of-twice k past))
+latest-apart k past = ap (λ (l : List Counted). latest_done (completions [] l)) (sym (of_key-twice k past))
 
-shown-apart : (k : Key) (past : List Counted) (s : Counted) → s.key ≡ k → shown_at past s ≡ shown_at (sections_of k past) s
+shown-apart : (k : Key) (past : List Counted) (s : Counted) → s.key ≡ k → shown_at past s ≡ shown_at (of_key k past) s
 shown-apart k past s e =
-    let f : sections_of s.key past ≡ sections_of s.key (sections_of k past) =
-    ap (λ (q : Key). sections_of q past) e ∙ sym (sections_of-twice k past) ∙ ap (λ (q : Key). sections_of q (sections_of k past)) (sym e) in
+    let f : of_key s.key past ≡ of_key s.key (of_key k past) =
+    ap (λ (q : Key). of_key q past) e ∙ sym (of_key-twice k past) ∙ ap (λ (q : Key). of_key q (of_key k past)) (sym e) in
     shown_at-is past s
     ∙ ap (λ (l : List Counted). shown_after (latest_done (completions [] l)) (completion (l ++ s ∷ []))) f
-    ∙ sym (shown_at-is (sections_of k past) s)
+    ∙ sym (shown_at-is (of_key k past) s)
 
 pub keys-apart : KeysApart
 keys-apart k past [] = refl
@@ -202,16 +202,16 @@ keys-apart k past (s ∷ ss) = go (is_of k s) refl (keys-apart k (past ++ s ∷ 
     left None e other = refl
     left (Some d) e other = ap (λ (b : Bool). cond b (d ∷ filter (is_done_of k) ds) (filter (is_done_of k) ds)) (ap (λ (q : Key). is_key q k) (shown-key past s d e) ∙ other)
 
-    go : (b : Bool) → is_of k s ≡ b → filter (is_done_of k) ds ≡ dones (sections_of k (past ++ s ∷ [])) (sections_of k ss)
-        → filter (is_done_of k) (cons_option (shown_at past s) ds) ≡ dones (sections_of k past) (cond b (s ∷ sections_of k ss) (sections_of k ss))
+    go : (b : Bool) → is_of k s ≡ b → filter (is_done_of k) ds ≡ dones (of_key k (past ++ s ∷ [])) (of_key k ss)
+        → filter (is_done_of k) (cons_option (shown_at past s) ds) ≡ dones (of_key k past) (cond b (s ∷ of_key k ss) (of_key k ss))
     go true e rec =
         let same : s.key ≡ k = is_key-same s.key k e in
         kept (shown_at past s) refl e
         ∙ ap (λ (o : Option Completed). cons_option o (filter (is_done_of k) ds)) (shown-apart k past s same)
-        ∙ ap (cons_option (shown_at (sections_of k past) s)) (rec ∙ ap (λ (l : List Counted). dones l (sections_of k ss)) (sections_of-one k past s same))
+        ∙ ap (cons_option (shown_at (of_key k past) s)) (rec ∙ ap (λ (l : List Counted). dones l (of_key k ss)) (of_key-one k past s same))
     go false e rec =
         left (shown_at past s) refl e
-        ∙ rec ∙ ap (λ (l : List Counted). dones l (sections_of k ss)) (sections_of-other k past s e)
+        ∙ rec ∙ ap (λ (l : List Counted). dones l (of_key k ss)) (of_key-other k past s e)
 
 pub dones-go_on : DonesGoOn
 dones-go_on past [] more = ap (λ (l : List Counted). dones l more) (sym (append-nil past))
@@ -226,13 +226,13 @@ dones-one_more past ss s = dones-go_on past ss (s ∷ []) ∙ ap (λ (l : List C
 pub latest-one_more : LatestOneMore
 latest-one_more k past s = go (is_of k s) refl
   where
-    go : (b : Bool) → is_of k s ≡ b → latest_of k (past ++ s ∷ []) ≡ (if b then option_or (completion (sections_of k (past ++ s ∷ []))) (latest_of k past) else latest_of k past)
+    go : (b : Bool) → is_of k s ≡ b → latest_of k (past ++ s ∷ []) ≡ (if b then option_or (completion (of_key k (past ++ s ∷ []))) (latest_of k past) else latest_of k past)
     go true e =
-        let f = sections_of-one k past s (is_key-same s.key k e) in
+        let f = of_key-one k past s (is_key-same s.key k e) in
         ap (λ (l : List Counted). latest_done (completions [] l)) f
-        ∙ latest-more (sections_of k past) s
+        ∙ latest-more (of_key k past) s
         ∙ ap (λ (l : List Counted). option_or (completion l) (latest_of k past)) (sym f)
-    go false e = ap (λ (l : List Counted). latest_done (completions [] l)) (sections_of-other k past s e)
+    go false e = ap (λ (l : List Counted). latest_done (completions [] l)) (of_key-other k past s e)
 
 -- the latest of a key's completions, and of those that are shown
 shown-or : (o p : Option Completed) → ((b d : Completed) → o ≡ Some b → p ≡ Some d → b.key ≡ d.key) → option_or (shown_after o p) o ≡ option_or p o
@@ -257,7 +257,7 @@ latest-shown_from k before (s ∷ ss) all more =
     let old = latest_done (completions [] before) in
     let shown : shown_at before s ≡ shown_after old (completion (before ++ s ∷ [])) =
     shown_at-is before s
-    ∙ ap (λ (l : List Counted). shown_after (latest_done (completions [] l)) (completion (l ++ s ∷ []))) (ap (λ (q : Key). sections_of q before) more.0 ∙ sections_of-same k before all) in
+    ∙ ap (λ (l : List Counted). shown_after (latest_done (completions [] l)) (completion (l ++ s ∷ []))) (ap (λ (q : Key). of_key q before) more.0 ∙ of_key-same k before all) in
     ap (λ (l : List Counted). latest_done (completions [] l)) (sym (append_assoc before (s ∷ []) ss))
     ∙ latest-shown_from k (before ++ s ∷ []) ss (all-push k before s all more.0) more.1
     ∙ ap (option_or after) (latest-more before s)
@@ -273,6 +273,6 @@ or_none (Some d) = refl
 
 pub latest-is_shown : LatestIsShown
 latest-is_shown k past =
-    latest-shown_from k [] (sections_of k past) tt (sections_of-all k past)
-    ∙ or_none (latest_done (dones [] (sections_of k past)))
+    latest-shown_from k [] (of_key k past) tt (of_key-all k past)
+    ∙ or_none (latest_done (dones [] (of_key k past)))
     ∙ ap latest_done (sym (keys-apart k [] past))

@@ -2,7 +2,7 @@
 use Rattle.std.proofs.Common.{◌≡◌, ℕ, suc, ◌+◌, ◌-◌, ◌<◌, ◌≤◌, List, [], ◌∷◌, ◌++◌, Bool, ◌&&◌, ◌==◌, refl, sym, ap, ◌∙◌, arith, append_assoc, append-nil, eq-eqb}
 use Rattle.std.specs.Prelude.{Option, Some, None}
 use Rattle.version_book.specs.Airings.{Content}
-use Rattle.sub_collect.specs.Runs.{numbers_from}
+use Rattle.section_codec.specs.Contents.{numbers_from}
 use Rattle.sub_collect.specs.Slots.{is_body, with_body, content_by}
 
 -- these parts, and then the others, where there are any

@@ -1,5 +1,5 @@
 -- The slots of a collector, and what they keep.
-use Rattle.std.proofs.Common.{◌≡◌, List, [], ◌∷◌, ◌++◌, Bool, true, false, refl, sym, ap, ◌∙◌, subst}
+use Rattle.std.proofs.Common.{◌≡◌, ◌≢◌, List, [], ◌∷◌, ◌++◌, Bool, true, false, refl, sym, ap, ◌∙◌, subst}
 use Rattle.std.specs.Prelude.{if◌then◌else◌, cond, Option, Some, None, option_map}
 use Rattle.std.specs.Ordering.{is_eq}
 use Rattle.std.specs.BTreeMap.{is_at}
@@ -10,11 +10,11 @@ use Rattle.version_book.specs.Slots.{key_cmp}
 use Rattle.version_book.proofs.Versions.{is_key-same}
 use Rattle.version_book.proofs.SlotFacts.{key_ties}
 use Rattle.sub_collect.specs.Runs.{Counted}
-use Rattle.sub_collect.specs.Completions.{sections_of, completion, completions, latest_done, latest_of, shown_after, shown_at}
+use Rattle.sub_collect.specs.Completions.{of_key, completion, completions, latest_done, latest_of, shown_after, shown_at}
 use Rattle.sub_collect.specs.Collectors.{Kept, KeptKeys, kept_in, IsKeptOf, StandsFor, Stands}
 use Rattle.sub_collect.specs.Slots.{kept_by, shown}
 use Rattle.sub_collect.specs.declared.collector.Slot.{Slot}
-use Rattle.sub_collect.proofs.Done.{sections_of-one, sections_of-other, shown_at-is}
+use Rattle.sub_collect.proofs.Done.{of_key-one, of_key-other, shown_at-is}
 
 -- what is kept of a key, as the map has it
 pub kept_in-shown : (k : Key) (es : List (Key × Slot)) → kept_in k (shown es) ≡ option_map kept_by (lookup (is_at (key_cmp k)) es)
@@ -40,30 +40,35 @@ shown-set test (e ∷ es) old new found same = go (test e.0) found (λ (f : look
     go false f rec = ap (λ (l : KeptKeys). (e.0, kept_by e.1) ∷ l) (rec f)
 
 -- what is kept of a key stands for its sections
-pub of-kept : (k : Key) (past : List Counted) (o : Option Kept) (kept : Kept) → StandsFor (sections_of k past) o → o ≡ Some kept → IsKeptOf (sections_of k past) kept
-of-kept k past o kept stands e = subst (λ (x : Option Kept). StandsFor (sections_of k past) x) e stands
+pub of-kept : (k : Key) (past : List Counted) (o : Option Kept) (kept : Kept) → StandsFor (of_key k past) o → o ≡ Some kept → IsKeptOf (of_key k past) kept
+of-kept k past o kept stands e = (subst (λ (x : Option Kept). StandsFor (of_key k past) x) e stands).1
 
-pub of-none : (k : Key) (past : List Counted) (o : Option Kept) → StandsFor (sections_of k past) o → o ≡ None → sections_of k past ≡ []
-of-none k past o stands e = subst (λ (x : Option Kept). StandsFor (sections_of k past) x) e stands
+pub of-none : (k : Key) (past : List Counted) (o : Option Kept) → StandsFor (of_key k past) o → o ≡ None → of_key k past ≡ []
+of-none k past o stands e = subst (λ (x : Option Kept). StandsFor (of_key k past) x) e stands
 
-pub latest-none : (k : Key) (past : List Counted) → sections_of k past ≡ [] → latest_of k past ≡ None
+pub latest-none : (k : Key) (past : List Counted) → of_key k past ≡ [] → latest_of k past ≡ None
 latest-none k past e = ap (λ (l : List Counted). latest_done (completions [] l)) e
+
+-- a list with one more is not empty
+some_more : (xs : List Counted) (s : Counted) → xs ++ s ∷ [] ≢ []
+some_more [] s e = cc
+some_more (x ∷ xs) s e = cc
 
 -- what is kept of each key, where one was put
 pub stands-put : (past : List Counted) (s : Counted) (old new : KeptKeys) (kept : Kept) → Stands past old
-    → ((q : Key) → kept_in q new ≡ (if is_key s.key q then Some kept else kept_in q old)) → IsKeptOf (sections_of s.key past ++ s ∷ []) kept → Stands (past ++ s ∷ []) new
+    → ((q : Key) → kept_in q new ≡ (if is_key s.key q then Some kept else kept_in q old)) → IsKeptOf (of_key s.key past ++ s ∷ []) kept → Stands (past ++ s ∷ []) new
 stands-put past s old new kept stands put is q = go (is_key s.key q) refl
   where
-    go : (b : Bool) → is_key s.key q ≡ b → StandsFor (sections_of q (past ++ s ∷ [])) (kept_in q new)
+    go : (b : Bool) → is_key s.key q ≡ b → StandsFor (of_key q (past ++ s ∷ [])) (kept_in q new)
     go true e =
         let same : s.key ≡ q = is_key-same s.key q e in
         let kept_is : kept_in q new ≡ Some kept = put q ∙ ap (λ (b : Bool). if b then Some kept else kept_in q old) e in
-        let sections : sections_of q (past ++ s ∷ []) ≡ sections_of s.key past ++ s ∷ [] =
-        sections_of-one q past s same ∙ ap (λ (k : Key). sections_of k past ++ s ∷ []) (sym same) in
-        subst (λ (o : Option Kept). StandsFor (sections_of q (past ++ s ∷ [])) o) (sym kept_is) (subst (λ (l : List Counted). IsKeptOf l kept) (sym sections) is)
+        let sections : of_key q (past ++ s ∷ []) ≡ of_key s.key past ++ s ∷ [] =
+        of_key-one q past s same ∙ ap (λ (k : Key). of_key k past ++ s ∷ []) (sym same) in
+        subst (λ (o : Option Kept). StandsFor (of_key q (past ++ s ∷ [])) o) (sym kept_is) (subst (λ (l : List Counted). StandsFor l (Some kept)) (sym sections) (some_more (of_key s.key past) s, is))
     go false e =
         let kept_is : kept_in q new ≡ kept_in q old = put q ∙ ap (λ (b : Bool). if b then Some kept else kept_in q old) e in
-        subst (λ (o : Option Kept). StandsFor (sections_of q (past ++ s ∷ [])) o) (sym kept_is) (subst (λ (l : List Counted). StandsFor l (kept_in q old)) (sym (sections_of-other q past s e)) (stands q))
+        subst (λ (o : Option Kept). StandsFor (of_key q (past ++ s ∷ [])) o) (sym kept_is) (subst (λ (l : List Counted). StandsFor l (kept_in q old)) (sym (of_key-other q past s e)) (stands q))
 
 -- what the map has once a slot is put, as it is kept
 pub kept-put : (k : Key) (slot : Slot) (old new : List (Key × Slot)) → ((q : Key) → lookup (is_at (key_cmp q)) new ≡ cond (is_at (key_cmp k) q) (Some slot) (lookup (is_at (key_cmp q)) old))
@@ -78,8 +83,8 @@ kept-put k slot old new updates q =
     go false e = sym e
 
 -- what a section shows, by the sections of its key alone
-pub shown-by : (past : List Counted) (s : Counted) → shown_after (latest_done (completions [] (sections_of s.key past))) (completion (sections_of s.key past ++ s ∷ [])) ≡ shown_at past s
+pub shown-by : (past : List Counted) (s : Counted) → shown_after (latest_done (completions [] (of_key s.key past))) (completion (of_key s.key past ++ s ∷ [])) ≡ shown_at past s
 shown-by past s = sym (shown_at-is past s)
 
-pub shown-first : (past : List Counted) (s : Counted) → sections_of s.key past ≡ [] → shown_after (latest_done (completions [] [])) (completion ([] ++ s ∷ [])) ≡ shown_at past s
+pub shown-first : (past : List Counted) (s : Counted) → of_key s.key past ≡ [] → shown_after (latest_done (completions [] [])) (completion ([] ++ s ∷ [])) ≡ shown_at past s
 shown-first past s e = ap (λ (l : List Counted). shown_after (latest_done (completions [] l)) (completion (l ++ s ∷ []))) (sym e) ∙ shown-by past s

@@ -8,3 +8,4 @@ pub mod Putting
 pub mod Taking
 pub mod Keys
 pub mod OneContent
+pub mod Shown

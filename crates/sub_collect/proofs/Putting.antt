@@ -5,7 +5,8 @@ use Rattle.std.specs.Ordering.{nat_cmp}
 use Rattle.std.specs.Cmp.{unsigned_ties}
 use Rattle.std.specs.BTreeMap.{is_at}
 use Rattle.std.specs.Map.{lookup}
-use Rattle.sub_collect.specs.Runs.{Counted, all_of_version, latest_section, latest_with, numbers_from, whole}
+use Rattle.section_codec.specs.Contents.{numbers_from}
+use Rattle.sub_collect.specs.Runs.{Counted, all_of_version, latest_section, latest_with, whole}
 use Rattle.sub_collect.specs.Collectors.{KeptRun, body_in, body_of, IsFront, StandsForRun}
 use Rattle.sub_collect.specs.Slots.{held_with, content_by}
 use Rattle.sub_collect.proofs.Runs.{latest-push, all-push}

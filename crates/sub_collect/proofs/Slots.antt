@@ -7,7 +7,8 @@ use Rattle.std.specs.BTreeMap.{is_at}
 use Rattle.std.specs.Map.{lookup}
 use Rattle.std.proofs.lemmas.List.Elements.{filter-append}
 use Rattle.version_book.specs.Airings.{Content}
-use Rattle.sub_collect.specs.Runs.{Counted, latest_section, has_number, latest_with, numbers_from, needed_at, with_part, gathered, gathered_at, whole}
+use Rattle.section_codec.specs.Contents.{numbers_from}
+use Rattle.sub_collect.specs.Runs.{Counted, latest_section, has_number, latest_with, needed_at, with_part, gathered, gathered_at, whole}
 use Rattle.sub_collect.specs.Collectors.{body_in, body_of}
 use Rattle.sub_collect.specs.Slots.{held_with, with_body, content_by}
 use Rattle.sub_collect.proofs.Runs.{latest-push}

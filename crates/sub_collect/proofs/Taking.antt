@@ -7,7 +7,8 @@ use Rattle.std.proofs.lemmas.Slice.Eq.{bytes_eq-Decides}
 use Rattle.section_codec.specs.declared.table.Key.{Key}
 use Rattle.version_book.specs.Airings.{Content}
 use Rattle.version_book.proofs.Versions.{and_true}
-use Rattle.sub_collect.specs.Runs.{Counted, all_of_version, latest_section, latest_with, numbers_from, run_of, whole, completed}
+use Rattle.section_codec.specs.Contents.{numbers_from}
+use Rattle.sub_collect.specs.Runs.{Counted, all_of_version, latest_section, latest_with, run_of, whole, completed}
 use Rattle.sub_collect.specs.Completions.{IsOfKey, done_at, completion_at, completion, completions, latest_done, repeats, shown_after}
 use Rattle.sub_collect.specs.Collectors.{KeptRun, Kept, body_in, body_of, StandsForRun, IsKeptOf}
 use Rattle.sub_collect.specs.Slots.{held_with, is_body, content_by, latest_with_done}

@@ -1,22 +1,23 @@
 -- The sections of a content, in order, complete it.
-use Rattle.std.proofs.Common.{◌≡◌, ℕ, ◌+◌, ◌-◌, ◌<◌, List, [], ◌∷◌, ◌++◌, Bool, true, false, ◌==◌, length, map, refl, sym, ap, ◌∙◌, subst, arith, append_assoc, append-nil, eq-eqb, eqb-true}
-use Rattle.std.specs.Prelude.{cond, filter, Option, Some, None}
+use Rattle.std.proofs.Common.{◌≡◌, ℕ, ◌+◌, ◌<◌, List, [], ◌∷◌, ◌++◌, Bool, true, false, ◌==◌, length, map, refl, sym, ap, ◌∙◌, subst, arith, append_assoc, append-nil, eq-eqb, eqb-true}
+use Rattle.std.specs.Prelude.{cond, filter, Option, Some, None, is_some, IsSome}
 use Rattle.std.specs.List.{AllByRecursion}
 use Rattle.std.proofs.lemmas.List.Elements.{filter-append}
 use Rattle.section_codec.specs.declared.table.Key.{Key}
 use Rattle.section_codec.specs.declared.table.NumberedBody.{NumberedBody}
+use Rattle.section_codec.specs.Contents.{numbers, numbers_from, last_number, Ascend}
+use Rattle.section_codec.proofs.ContentFacts.{above_first, Ascend-rest, Ascend-from, last_number-from}
+use Rattle.version_book.specs.Airings.{Content}
 use Rattle.version_book.proofs.Versions.{is_key-itself}
-use Rattle.sub_collect.specs.Runs.{Counted, latest_section, has_number, latest_with, numbers_from, run_of, whole, completed}
-use Rattle.sub_collect.specs.Completions.{is_of, sections_of}
+use Rattle.sub_collect.specs.Runs.{Counted, latest_section, has_number, latest_with, run_of, needed, needed_at, with_part, gathered, gathered_at, whole, completed}
+use Rattle.sub_collect.specs.Completions.{is_of, of_key}
 use Rattle.sub_collect.specs.Collectors.{body_of}
-use Rattle.sub_collect.specs.Slots.{with_body, content_by}
-use Rattle.sub_collect.specs.Laws.{section_with, sections_with, WholeCompletes}
-use Rattle.sub_collect.proofs.Runs.{run_of-new, latest-push, version-joins}
-use Rattle.sub_collect.proofs.Slots.{whole-by}
+use Rattle.sub_collect.specs.Laws.{section_with, sections_with, IsSectionOf, HoldAll, IsNumbered, WholeCompletes, FromZeroIsNumbered}
+use Rattle.sub_collect.proofs.Runs.{run_of-new, latest-push, no-latest, version-joins}
 
 -- ---- the run that sections of one version end
 
-run_behind : (heard rest : List Counted) (s : Counted) → latest_section heard ≡ Some s → AllByRecursion (λ (t : Counted). t.version ≡ s.version) rest → run_of (heard ++ rest) ≡ run_of heard ++ rest
+pub run_behind : (heard rest : List Counted) (s : Counted) → latest_section heard ≡ Some s → AllByRecursion (λ (t : Counted). t.version ≡ s.version) rest → run_of (heard ++ rest) ≡ run_of heard ++ rest
 run_behind heard [] s e all = ap run_of (append-nil heard) ∙ sym (append-nil (run_of heard))
 run_behind heard (t ∷ rest) s e all =
     ap run_of (sym (append_assoc heard (t ∷ []) rest))
@@ -61,35 +62,30 @@ module _ (k : Key) (v last : ℕ) where
   abbrev sent : List NumberedBody → List Counted
   sent ps = map (section_with k v last) ps
 
-  below_first : (n m : ℕ) (ps : List NumberedBody) → map (λ (p : NumberedBody). p.number) ps ≡ numbers_from m (length ps) → n < m → filter (has_number n) (sent ps) ≡ []
-  below_first n m [] are lt = refl
-  below_first n m (p ∷ ps) are lt =
-      let here : p.number ≡ m = cc in
-      let rest : map (λ (q : NumberedBody). q.number) ps ≡ numbers_from (1 + m) (length ps) = cc in
-      ap (λ (b : Bool). cond b (section_with k v last p ∷ filter (has_number n) (sent ps)) (filter (has_number n) (sent ps))) (apart (p.number == n) refl here)
-      ∙ below_first n (1 + m) ps rest (omega arith)
+  below_first : (n : ℕ) (ps : List NumberedBody) → AllByRecursion (λ (p : NumberedBody). n < p.number) ps → filter (has_number n) (sent ps) ≡ []
+  below_first n [] up = refl
+  below_first n (p ∷ ps) up =
+      ap (λ (b : Bool). cond b (section_with k v last p ∷ filter (has_number n) (sent ps)) (filter (has_number n) (sent ps))) (apart (p.number == n) refl up.0)
+      ∙ below_first n ps up.1
     where
-      apart : (b : Bool) → (p.number == n) ≡ b → p.number ≡ m → (p.number == n) ≡ false
-      apart true e here = let same : p.number ≡ n = eqb-true p.number n e in absurd (omega arith)
-      apart false e here = e
+      apart : (b : Bool) → (p.number == n) ≡ b → n < p.number → (p.number == n) ≡ false
+      apart true e lt = let same : p.number ≡ n = eqb-true p.number n e in absurd (omega (arith, same, lt))
+      apart false e lt = e
 
-  bodies : (before : List Counted) (m : ℕ) (ps : List NumberedBody) → map (λ (p : NumberedBody). p.number) ps ≡ numbers_from m (length ps)
-      → AllByRecursion (λ (p : NumberedBody). body_of (latest_with p.number (before ++ sent ps)) ≡ Some p.body) ps
-  bodies before m [] are = tt
-  bodies before m (p ∷ ps) are =
-      let rest : map (λ (q : NumberedBody). q.number) ps ≡ numbers_from (1 + m) (length ps) = cc in
-      let here : p.number ≡ m = cc in
+  bodies : (before : List Counted) (ps : List NumberedBody) → Ascend ps → AllByRecursion (λ (p : NumberedBody). body_of (latest_with p.number (before ++ sent ps)) ≡ Some p.body) ps
+  bodies before [] up = tt
+  bodies before (p ∷ ps) up =
       let s = section_with k v last p in
       let e : (before ++ s ∷ []) ++ sent ps ≡ before ++ s ∷ sent ps = append_assoc before (s ∷ []) (sent ps) in
       let found : latest_with p.number (before ++ s ∷ sent ps) ≡ Some s =
       ap (latest_with p.number) (sym e)
       ∙ ap latest_section (filter-append (has_number p.number) (before ++ s ∷ []) (sent ps))
-      ∙ ap (λ (l : List Counted). latest_section (filter (has_number p.number) (before ++ s ∷ []) ++ l)) (below_first p.number (1 + m) ps rest (omega arith))
+      ∙ ap (λ (l : List Counted). latest_section (filter (has_number p.number) (before ++ s ∷ []) ++ l)) (below_first p.number ps (above_first p ps up))
       ∙ ap latest_section (append-nil (filter (has_number p.number) (before ++ s ∷ [])))
       ∙ ap latest_section (filter-append (has_number p.number) before (s ∷ []))
       ∙ ap (λ (b : Bool). latest_section (filter (has_number p.number) before ++ cond b (s ∷ []) [])) (eq-eqb p.number p.number refl)
       ∙ latest-push (filter (has_number p.number) before) s in
-      (ap body_of found, subst (λ (l : List Counted). AllByRecursion (λ (q : NumberedBody). body_of (latest_with q.number l) ≡ Some q.body) ps) e (bodies (before ++ s ∷ []) (1 + m) ps rest))
+      (ap body_of found, subst (λ (l : List Counted). AllByRecursion (λ (q : NumberedBody). body_of (latest_with q.number l) ≡ Some q.body) ps) e (bodies (before ++ s ∷ []) ps (Ascend-rest p ps up)))
 
   last_sent : (before : List Counted) (p : NumberedBody) (ps : List NumberedBody) → (s : Counted) × (latest_section (before ++ sent (p ∷ ps)) ≡ Some s) × (s.last ≡ last)
   last_sent before p [] = (section_with k v last p, latest-push before (section_with k v last p), refl)
@@ -101,38 +97,85 @@ module _ (k : Key) (v last : ℕ) where
   all_one [] = tt
   all_one (p ∷ ps) = (refl, all_one ps)
 
-  of_key : (ps : List NumberedBody) → sections_of k (sent ps) ≡ sent ps
-  of_key [] = refl
-  of_key (p ∷ ps) =
-      ap (λ (b : Bool). cond b (section_with k v last p ∷ sections_of k (sent ps)) (sections_of k (sent ps))) (is_key-itself k)
-      ∙ ap (λ (l : List Counted). section_with k v last p ∷ l) (of_key ps)
+  own_key : (ps : List NumberedBody) → of_key k (sent ps) ≡ sent ps
+  own_key [] = refl
+  own_key (p ∷ ps) =
+      ap (λ (b : Bool). cond b (section_with k v last p ∷ of_key k (sent ps)) (of_key k (sent ps))) (is_key-itself k)
+      ∙ ap (λ (l : List Counted). section_with k v last p ∷ l) (own_key ps)
 
 pub same_part : (p q : NumberedBody) → p.number ≡ q.number → p.body ≡ q.body → p ≡ q
 same_part p q a b = λ i. record { number = a i; body = b i }
 
--- held bodies of ascending numbers are the content
-pub held-content : (held : ℕ → Option (List ℕ)) (m : ℕ) (ps : List NumberedBody) → map (λ (p : NumberedBody). p.number) ps ≡ numbers_from m (length ps)
-    → AllByRecursion (λ (p : NumberedBody). held p.number ≡ Some p.body) ps → content_by held (numbers_from m (length ps)) ≡ Some ps
-held-content held m [] are all = refl
-held-content held m (p ∷ ps) are all =
-    let here : p.number ≡ m = cc in
-    let rest : map (λ (q : NumberedBody). q.number) ps ≡ numbers_from (1 + m) (length ps) = cc in
-    ap (λ (o : Option (List ℕ)). with_body m o (content_by held (numbers_from (1 + m) (length ps)))) (ap held (sym here) ∙ all.0)
-    ∙ ap (with_body m (Some p.body)) (held-content held (1 + m) ps rest all.1)
-    ∙ ap (λ (q : NumberedBody). Some (q ∷ ps)) (same_part (record { number = m; body = p.body }) p (sym here) refl)
+-- the content is gathered where the latest section of each number has its body
+pub gathers : (run : List Counted) (ps : Content) → AllByRecursion (λ (p : NumberedBody). body_of (latest_with p.number run) ≡ Some p.body) ps → gathered run (numbers ps) ≡ Some ps
+gathers run [] all = refl
+gathers run (p ∷ ps) all = go (latest_with p.number run) refl (gathers run ps all.1)
+  where
+    go : (o : Option Counted) → latest_with p.number run ≡ o → gathered run (numbers ps) ≡ Some ps → gathered run (numbers (p ∷ ps)) ≡ Some (p ∷ ps)
+    go None e rest =
+        let none : None ≡ Some p.body = ap body_of (sym e) ∙ all.0 in
+        absurd (let z : Prim.⊥ = cc in z)
+    go (Some s) e rest =
+        let body : Some s.body ≡ Some p.body = ap body_of (sym e) ∙ all.0 in
+        let same : s.body ≡ p.body = cc in
+        let part : NumberedBody = record { number = p.number; body = s.body } in
+        ap (λ (o : Option Counted). with_part p.number o (gathered run (numbers ps))) e
+        ∙ ap (with_part p.number (Some s)) rest
+        ∙ ap (λ (q : NumberedBody). Some (q ∷ ps)) (same_part part p refl same)
 
 pub whole-completes : WholeCompletes
-whole-completes past k v [] numbered some = absurd (omega arith)
-whole-completes past k v (p ∷ ps) numbered some =
-    let last = length (p ∷ ps) - 1 in
+whole-completes past k v [] numbered = absurd (let none : 0 < 0 = numbered.some in omega arith)
+whole-completes past k v (p ∷ ps) numbered =
+    let last = last_number (p ∷ ps) in
     let ss = sections_with k v (p ∷ ps) in
-    let heard = sections_of k past in
-    let e : sections_of k (past ++ ss) ≡ heard ++ ss = filter-append (is_of k) past ss ∙ ap (λ (l : List Counted). heard ++ l) (of_key k v last (p ∷ ps)) in
+    let heard = of_key k past in
+    let e : of_key k (past ++ ss) ≡ heard ++ ss = filter-append (is_of k) past ss ∙ ap (λ (l : List Counted). heard ++ l) (own_key k v last (p ∷ ps)) in
     let r = run_end heard (sent k v last ps) (section_with k v last p) (all_one k v last ps) in
-    let l = last_sent k v last r.0 p ps in
-    let count : 1 + l.0.last ≡ length (p ∷ ps) = ap (λ (n : ℕ). 1 + n) l.2 ∙ (omega arith) in
     ap completed e
     ∙ ap whole r.1
-    ∙ whole-by (r.0 ++ ss) l.0 (λ (n : ℕ). body_of (latest_with n (r.0 ++ ss))) l.1 (λ n. refl)
-    ∙ ap (λ (n : ℕ). content_by (λ (m : ℕ). body_of (latest_with m (r.0 ++ ss))) (numbers_from 0 n)) count
-    ∙ held-content (λ (n : ℕ). body_of (latest_with n (r.0 ++ ss))) 0 (p ∷ ps) numbered (bodies k v last r.0 0 (p ∷ ps) numbered)
+    ∙ ap (gathered_at (r.0 ++ ss)) (numbered.whole v r.0)
+    ∙ gathers (r.0 ++ ss) (p ∷ ps) (bodies k v last r.0 (p ∷ ps) numbered.ascending)
+
+-- ---- numbers from 0 on
+
+pub latest-of : (P : Counted → Type 0) (ss : List Counted) (s : Counted) → AllByRecursion P ss → latest_section ss ≡ Some s → P s
+latest-of P [] s all e = cc
+latest-of P (x ∷ []) s all e = subst P (let f : x ≡ s = cc in f) all.0
+latest-of P (x ∷ y ∷ ss) s all e = latest-of P (y ∷ ss) s all.1 e
+
+-- sections that hold all numbers of some content are some
+pub none_held : (content : Content) → 0 < length content → HoldAll content [] → Prim.⊥
+none_held [] some holds = let none : 0 < 0 = some in omega arith
+none_held (p ∷ ps) some holds =
+    let none : false ≡ true = holds.0 in
+    let z : Prim.⊥ = cc in
+    z
+
+pub from_zero : FromZeroIsNumbered
+from_zero k [] some are = absurd (let none : 0 < 0 = some in omega arith)
+from_zero k (p ∷ ps) some are = record {
+  some = some;
+  ascending = Ascend-from 0 (p ∷ ps) are;
+  whole = λ v before.
+      let r = last_sent k v (last_number (p ∷ ps)) before p ps in
+      ap needed_at r.1 ∙ ap (λ (n : ℕ). Some (numbers_from 0 (1 + n))) r.2 ∙ ap (λ (ns : List ℕ). Some ns) is;
+  no_other = λ run ns all e. other run ns all e (latest_section run) refl;
+  known = λ run all holds. known run holds (latest_section run) refl;
+}
+  where
+    is : numbers_from 0 (1 + last_number (p ∷ ps)) ≡ numbers (p ∷ ps)
+    is = ap (λ (n : ℕ). numbers_from 0 n) (let l = last_number-from 0 (p ∷ ps) are some in let f : 1 + last_number (p ∷ ps) ≡ length (p ∷ ps) = omega (arith, l) in f) ∙ sym are
+
+    other : (run : List Counted) (ns : List ℕ) → AllByRecursion (IsSectionOf k (p ∷ ps)) run → needed run ≡ Some ns → (o : Option Counted) → latest_section run ≡ o → ns ≡ numbers (p ∷ ps)
+    other run ns all e None f =
+        let none : None ≡ Some ns = ap needed_at (sym f) ∙ e in
+        absurd (let z : Prim.⊥ = cc in z)
+    other run ns all e (Some s) f =
+        let last = (latest-of (IsSectionOf k (p ∷ ps)) run s all f).last in
+        let told : Some (numbers_from 0 (1 + s.last)) ≡ Some ns = ap needed_at (sym f) ∙ e in
+        let same : numbers_from 0 (1 + s.last) ≡ ns = cc in
+        sym same ∙ ap (λ (n : ℕ). numbers_from 0 (1 + n)) last ∙ is
+
+    known : (run : List Counted) → HoldAll (p ∷ ps) run → (o : Option Counted) → latest_section run ≡ o → IsSome (needed run)
+    known run holds None f = absurd (none_held (p ∷ ps) some (subst (HoldAll (p ∷ ps)) (no-latest run f) holds))
+    known run holds (Some s) f = ap (λ (o : Option Counted). is_some (needed_at o)) f

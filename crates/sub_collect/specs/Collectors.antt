@@ -1,9 +1,9 @@
 -- What a collector keeps, and the counted sections that it stands for.
-use Rattle.std.specs.Prelude.{◌≡◌, ℕ, ◌<◌, List, [], ◌∷◌, true, ◌==◌, if◌then◌else◌, Option, Some, None, option_map, is_some}
+use Rattle.std.specs.Prelude.{◌≡◌, ◌≢◌, ℕ, ◌<◌, List, [], ◌∷◌, true, ◌==◌, if◌then◌else◌, Option, Some, None, option_map, is_some}
 use Rattle.section_codec.specs.declared.table.Key.{Key}
 use Rattle.version_book.specs.Airings.{is_key}
 use Rattle.sub_collect.specs.Runs.{Counted, all_of_version, run_of, latest_section, latest_with}
-use Rattle.sub_collect.specs.Completions.{sections_of, completions, latest_done}
+use Rattle.sub_collect.specs.Completions.{of_key, completions, latest_done}
 use Rattle.sub_collect.specs.declared.completed.Completed.{Completed}
 
 -- what is kept of a run: its version, the last_section_number of its latest section, the latest body of each number that it holds, and how many numbers it holds from 0 on
@@ -52,11 +52,11 @@ pub record IsKeptOf (heard : List Counted) (kept : Kept) : Type 0 where
   pub run : StandsForRun (run_of heard) kept.run
   pub latest : kept.latest ≡ latest_done (completions [] heard)
 
--- Of a key without a section nothing is kept.
+-- Of a key without a section nothing is kept, and of each other key something is.
 abbrev pub StandsFor : List Counted → Option Kept → Type 0
 StandsFor heard None = heard ≡ []
-StandsFor heard (Some kept) = IsKeptOf heard kept
+StandsFor heard (Some kept) = (heard ≢ []) × IsKeptOf heard kept
 
 -- The collector stands for these counted sections, in the order in which they ended.
 abbrev pub Stands : List Counted → KeptKeys → Type 0
-Stands past collector = (k : Key) → StandsFor (sections_of k past) (kept_in k collector)
+Stands past collector = (k : Key) → StandsFor (of_key k past) (kept_in k collector)

@@ -13,8 +13,8 @@ abbrev pub IsOfKey : Key → Counted → Type 0
 IsOfKey k s = s.key ≡ k
 
 -- the sections of a key among these, in order
-abbrev pub sections_of : Key → List Counted → List Counted
-sections_of k ss = filter (is_of k) ss
+abbrev pub of_key : Key → List Counted → List Counted
+of_key k ss = filter (is_of k) ss
 
 -- a content completed at a section
 abbrev pub done_at : Counted → Content → Completed
@@ -41,7 +41,7 @@ latest_done (d ∷ e ∷ ds) = latest_done (e ∷ ds)
 
 -- the latest completion of a key
 abbrev pub latest_of : Key → List Counted → Option Completed
-latest_of k past = latest_done (completions [] (sections_of k past))
+latest_of k past = latest_done (completions [] (of_key k past))
 
 -- the same version and the same content
 abbrev pub repeats : Completed → Completed → Bool
@@ -55,7 +55,7 @@ shown_after (Some before) (Some d) = if repeats before d then None else Some d
 
 -- the completion that a section shows, heard behind the past
 abbrev pub shown_at : List Counted → Counted → Option Completed
-shown_at past s = shown_after (latest_of s.key past) (completion (sections_of s.key (past ++ s ∷ [])))
+shown_at past s = shown_after (latest_of s.key past) (completion (of_key s.key (past ++ s ∷ [])))
 
 -- the completions that these sections show, heard behind the past, in order
 abbrev pub dones : List Counted → List Counted → List Completed

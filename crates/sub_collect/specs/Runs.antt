@@ -1,6 +1,7 @@
 -- The sections that count for a key, their run, and what it completes (ISO/IEC 13818-1, 2.4.4; EN 300 468, 5.1.1).
-use Rattle.std.specs.Prelude.{ℕ, zero, suc, ◌+◌, List, [], ◌∷◌, Bool, true, ◌&&◌, ◌==◌, if◌then◌else◌, filter, Option, Some, None}
+use Rattle.std.specs.Prelude.{ℕ, ◌+◌, List, [], ◌∷◌, Bool, true, ◌&&◌, ◌==◌, if◌then◌else◌, filter, Option, Some, None}
 use Rattle.section_codec.specs.declared.table.Key.{Key}
+use Rattle.section_codec.specs.Contents.{numbers_from}
 use Rattle.section_codec.specs.declared.section.LongHeader.{LongHeader}
 use Rattle.version_book.specs.Airings.{Content}
 
@@ -34,11 +35,6 @@ abbrev pub latest_section : List Counted → Option Counted
 latest_section [] = None
 latest_section (s ∷ []) = Some s
 latest_section (s ∷ t ∷ ss) = latest_section (t ∷ ss)
-
--- the numbers from n on, k of them
-abbrev pub numbers_from : ℕ → ℕ → List ℕ
-numbers_from n zero = []
-numbers_from n (suc k) = n ∷ numbers_from (1 + n) k
 
 -- the needed numbers, by the latest section: 0 to its last_section_number
 abbrev pub needed_at : Option Counted → Option (List ℕ)

@@ -26,12 +26,16 @@ pub struct Collector {
 }
 
 impl Model for Collector {
+    ghost use Rattle.std.specs.BTreeMap.{IsOrdered};
+    ghost use Rattle.version_book.specs.Slots.{key_cmp};
     ghost use Rattle.sub_collect.specs.Collectors.{KeptKeys};
     ghost use Rattle.sub_collect.specs.Slots.{shown};
 
     ghost Value = { KeptKeys };
 
     ghost view = { λ c. shown c.slots.entries };
+
+    ghost invariant = { λ c. IsOrdered key_cmp c.slots };
 }
 
 // What is kept of a key: its present run, and its latest completion.

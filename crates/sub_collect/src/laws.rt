@@ -1,5 +1,5 @@
 // Laws of completions.
-ghost use Rattle.sub_collect.specs.Laws.{KeysApart, LatestApart, LatestIsShown, LatestOneMore, DonesGoOn, DonesOneMore, WholeCompletes, RunCompletes, RunCompletesNoOther, VersionBeginsRun, VersionKeepsRun};
+ghost use Rattle.sub_collect.specs.Laws.{KeysApart, LatestApart, LatestIsShown, LatestOneMore, DonesGoOn, DonesOneMore, FromZeroIsNumbered, WholeCompletes, RunCompletes, RunCompletesNoOther, VersionBeginsRun, VersionKeepsRun, NewIsShown, SameIsQuiet};
 
 /// The completions of a key depend on the sections of that key alone: those that are shown, and the latest
 /// one, which is the last one that was shown.
@@ -16,9 +16,11 @@ pub fn completions_go_on()
     ensures latest { LatestOneMore }
 {}
 
-/// Whatever was heard before, the sections of a content under one version complete it.
+/// Whatever was heard before, the sections of a content that describes itself, in order under one version, complete it. A content with
+/// the numbers 0, 1, .. describes itself.
 pub fn whole_versions_complete()
-    ensures { WholeCompletes }
+    ensures whole { WholeCompletes }
+    ensures from_zero { FromZeroIsNumbered }
 {}
 
 /// A section of another version begins a run, which holds nothing of before, and one of the same version
@@ -28,9 +30,16 @@ pub fn versions_part_runs()
     ensures joins { VersionKeepsRun }
 {}
 
-/// A run in which all sections are of one content completes nothing but it, and it where the run holds all
-/// its numbers.
+/// A run in which all sections are of one content that describes itself completes nothing but it, and it where the run holds all its
+/// numbers.
 pub fn runs_complete_their_content()
     ensures other { RunCompletesNoOther }
     ensures whole { RunCompletes }
+{}
+
+/// However often and in whatever order sections of a content are heard: under a version that the key did not have last, they show the
+/// content once, as soon as they are heard all, and then nothing more.
+pub fn contents_are_shown_once()
+    ensures new { NewIsShown }
+    ensures same { SameIsQuiet }
 {}

@@ -15,6 +15,6 @@ mod run;
 pub use collector::Collector;
 pub use completed::Completed;
 pub use laws::{
-    completions_by_key, completions_go_on, runs_complete_their_content, versions_part_runs,
-    whole_versions_complete,
+    completions_by_key, completions_go_on, contents_are_shown_once, runs_complete_their_content,
+    versions_part_runs, whole_versions_complete,
 };

@@ -1,6 +1,7 @@
 // The present run of a key: its sections of one version.
 ghost use Rattle.std.specs.Prelude.{◌≡◌, ◌<◌, ◌≤◌, ◌+◌, ◌∷◌, ◌++◌, ◌==◌, ◌&&◌, [], List, ℕ, Option, Some, None, option_map, option_copied, IfOk, OnOk, OnErr, true, false};
-ghost use Rattle.sub_collect.specs.Runs.{Counted, counted, numbers_from, whole};
+ghost use Rattle.section_codec.specs.Contents.{numbers_from};
+ghost use Rattle.sub_collect.specs.Runs.{Counted, counted, whole};
 ghost use Rattle.sub_collect.specs.Completions.{done_at};
 ghost use Rattle.sub_collect.specs.Collectors.{StandsForRun, IsFront, body_in};
 ghost use Rattle.sub_collect.specs.Slots.{kept_run, held_with, is_body, content_by};

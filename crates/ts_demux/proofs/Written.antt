@@ -86,19 +86,17 @@ part_goes_on pid before part after h =
     }
 
 pub part_is_heard : PartIsHeard
-part_is_heard pid small groups room each before part after are on =
-    let A = of_pid pid before in
+part_is_heard pid small groups room each before after part are on =
+    let A = before in
     let B = of_pid pid part in
-    let C = of_pid pid after in
-    let end = length (of_pid pid (before ++ part)) in
+    let C = after in
+    let end = length A + length B in
     let front = take end groups in
     let one = take (length A) front in
     let two = drop (length A) front in
     let three = drop end groups in
-    let joins : of_pid pid (before ++ part) ≡ A ++ B = filter_map-append (piece_on pid) before part in
-    let parts : A ++ (B ++ C) ≡ pieces [] groups =
-    sym (filter_map-append (piece_on pid) before (part ++ after) ∙ ap (λ (x : List Piece). A ++ x) (filter_map-append (piece_on pid) part after)) ∙ are in
-    let ends : end ≡ length A + length B = ap length joins ∙ length-append A B in
+    let parts : A ++ (B ++ C) ≡ pieces [] groups = are in
+    let ends : end ≡ length A + length B = refl in
     let all : length A + (length B + length C) ≡ length groups =
     sym (length-append A (B ++ C) ∙ ap (λ (n : ℕ). length A + n) (length-append B C)) ∙ ap length parts ∙ length-pieces [] groups in
     let split : groups ≡ one ++ (two ++ three) =

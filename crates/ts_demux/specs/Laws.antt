@@ -1,7 +1,7 @@
 -- Laws of hearing.
-use Rattle.std.specs.Prelude.{◌≡◌, ℕ, ◌<◌, List, [], ◌∷◌, ◌++◌, length, take, drop, map, filter_map}
+use Rattle.std.specs.Prelude.{◌≡◌, ℕ, ◌+◌, ◌<◌, List, [], ◌∷◌, ◌++◌, length, take, drop, map, filter_map}
 use Rattle.std.specs.List.{AllByRecursion}
-use Rattle.ts_packets.specs.Packets.{pieces, left, HaveRoom, all_of, Carries}
+use Rattle.ts_packets.specs.Packets.{Piece, pieces, left, HaveRoom, all_of, Carries}
 use Rattle.ts_packets.specs.Bytes.{Packet, HasFields, bytes_of_packet}
 use Rattle.ts_packets.specs.Counting.{of_pid, loads_on, Count}
 use Rattle.ts_demux.specs.Hearing.{IsSection}
@@ -40,8 +40,8 @@ PartGoesOn = (pid : ℕ) (before part after : List Packet) → GoOn pid (before 
 abbrev pub PartIsHeard : Type 0
 PartIsHeard =
     (pid : ℕ) → pid < 8191 → (groups : List (List (List ℕ))) → HaveRoom [] groups → AllByRecursion IsSection (all_of groups)
-    → (before part after : List Packet) → of_pid pid (before ++ (part ++ after)) ≡ pieces [] groups → GoOn pid part
-    → sections_on pid (map bytes_of_packet part) ≡ within (length (of_pid pid before)) (length (of_pid pid (before ++ part))) groups
+    → (before after : List Piece) (part : List Packet) → before ++ (of_pid pid part ++ after) ≡ pieces [] groups → GoOn pid part
+    → sections_on pid (map bytes_of_packet part) ≡ within (length before) (length before + length (of_pid pid part)) groups
 
 -- Of all packets that carry sections on a PID, just those sections are heard.
 abbrev pub CarriedIsHeard : Type 0

@@ -2,3 +2,4 @@ pub mod Filling
 pub mod Carrying
 pub mod Headers
 pub mod Stamps
+pub mod Joined

@@ -1,5 +1,5 @@
 -- Continuity counters: on each PID 0, 1, .. modulo 16, from its first packet on (ISO/IEC 13818-1, 2.4.3.3).
-use Rattle.std.specs.Prelude.{◌≡◌, ℕ, ◌+◌, ◌%◌, ◌<◌, List, [], ◌∷◌, Option, Some, None, ◌==◌, if◌then◌else◌, slice_index, count_by, filter_map}
+use Rattle.std.specs.Prelude.{◌≡◌, ℕ, zero, suc, ◌+◌, ◌%◌, ◌<◌, List, [], ◌∷◌, Option, Some, None, ◌==◌, if◌then◌else◌, slice_index_or, count_by, filter_map}
 use Rattle.ts_packets.specs.Packets.{Piece}
 use Rattle.ts_packets.specs.Bytes.{Packet, pid_in}
 
@@ -7,9 +7,14 @@ use Rattle.ts_packets.specs.Bytes.{Packet, pid_in}
 abbrev pub count_on : ℕ → List (List ℕ) → ℕ
 count_on pid past = count_by (λ (bytes : List ℕ). pid_in bytes == pid) past
 
--- These counters stand for these packets, all that were stamped: each PID has its next counter.
-pub record StandFor (past : List (List ℕ)) (counters : List ℕ) : Type 0 where
-  pub next : (pid : ℕ) → pid < 8192 → slice_index counters pid ≡ count_on pid past % 16
+-- the next counter of a PID that had so many packets, if it had any
+abbrev pub next_after : ℕ → Option ℕ
+next_after zero = None
+next_after (suc n) = Some (suc n % 16)
+
+-- These counters stand for these packets, all that were stamped: each PID that had a packet has its next counter, and no other PID has one.
+pub record StandFor (past : List (List ℕ)) (counters : List (Option ℕ)) : Type 0 where
+  pub next : (pid : ℕ) → pid < 8192 → slice_index_or counters pid None ≡ next_after (count_on pid past)
 
 -- the counter and the piece of a packet of a PID
 pub record Load : Type 0 where

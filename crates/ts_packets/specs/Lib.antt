@@ -1,4 +1,5 @@
 pub mod Packets
 pub mod Bytes
 pub mod Counting
+pub mod Laws
 pub mod Rows

@@ -63,7 +63,11 @@ pub record Carries (ps : List Piece) (ss : List (List ℕ)) : Type 0 where
   pub sections : ss ≡ all_of groups
   pub ended : left [] groups ≡ []
 
--- To read `Carries` by: the bytes of sections in a packet are its payload without pointer and fill.
+-- To read `Carries` by: a payload is the pointer, if a section begins in it, the bytes of sections, and fill.
+abbrev pub pointer_of : List ℕ → List (List ℕ) → List ℕ
+pointer_of rest [] = []
+pointer_of rest (s ∷ ss) = length rest ∷ []
+
 abbrev pub useful : List ℕ → List (List ℕ) → List ℕ
 useful rest [] = take 184 rest
 useful rest (s ∷ ss) = take 183 (rest ++ joined (s ∷ ss))

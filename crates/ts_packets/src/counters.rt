@@ -6,18 +6,21 @@ ghost use Rattle.ts_packets.specs.Counting.{StandFor, count_on};
 use crate::written::TsPacket;
 use std::marker::Model;
 
-/// The next continuity_counter of each PID (ISO/IEC 13818-1, 2.4.3.3). Contracts see the list of these 8,192 numbers.
+/// The next continuity_counter of each PID (ISO/IEC 13818-1, 2.4.3.3), where the PID had a packet. Contracts see the list of these, one
+/// for each of the 8,192 PIDs.
 #[derive(Drop)]
 pub struct Counters {
-    next: [u8; 8192],
+    next: [Option<u8>; 8192],
 }
 
 impl Model for Counters {
-    ghost use Rattle.std.specs.Prelude.{List, ℕ};
+    ghost use Rattle.std.specs.Prelude.{◌≡◌, List, Option, ℕ, length};
 
-    ghost Value = { List ℕ };
+    ghost Value = { List (Option ℕ) };
 
     ghost view = { λ c. c.next };
+
+    ghost invariant = { λ c. length c.next ≡ 8192 };
 }
 
 impl Counters {
@@ -25,7 +28,7 @@ impl Counters {
     pub fn open() -> Counters
         ensures { StandFor [] result }
     {
-        Counters { next: [0; 8192] }
+        Counters { next: [None; 8192] }
     }
 
     /// Sets the continuity_counter of a packet and changes nothing else of it: the first packet of a PID has 0, each
@@ -44,8 +47,8 @@ impl Counters {
         ensures counted { (past : List (List ℕ)) → StandFor past self.old → StandFor (past ++ packet.new ∷ []) self.new }
     {
         let pid = usize::from(packet[1] % 32) * 256 + usize::from(packet[2]);
-        let counter = self.next[pid] % 16;
+        let counter = self.next[pid].unwrap_or(0) % 16;
         packet[3] = packet[3] / 16 * 16 + counter;
-        self.next[pid] = (counter + 1) % 16;
+        self.next[pid] = Some((counter + 1) % 16);
     }
 }

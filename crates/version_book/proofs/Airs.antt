@@ -4,7 +4,7 @@ use Rattle.std.specs.Prelude.{if◌then◌else◌, option_to_list, Option, Some,
 use Rattle.std.specs.List.{AllByRecursion}
 use Rattle.section_codec.specs.declared.table.Key.{Key}
 use Rattle.section_codec.specs.declared.table.SubTable.{SubTable}
-use Rattle.version_book.specs.Airings.{Content, Airing, is_key, is_content, content_in, carried, changes_after, changes, version_at}
+use Rattle.version_book.specs.Airings.{Content, CycleForm, Airing, is_key, is_content, content_in, carried, changes_after, changes, version_at}
 use Rattle.version_book.specs.Book.{Kept, last_of, kept_after, Lacks, KeysDiffer, aired, versions_of}
 use Rattle.version_book.specs.Slots.{next_version, given_after}
 use Rattle.version_book.proofs.Versions.{is_key-same, is_key-itself, is_key-apart, changes_after-push, last_of-push, carried-push}
@@ -47,9 +47,9 @@ given_after-airing past f before (t ∷ ts) q = go (is_key q t.key) refl (given_
         ∙ sym (kept_after-push (carried q past) t.sections)
     go false other rec = rec
 
-pub kept_after-airing : (past : List Airing) (ts : List SubTable) (moment : ℕ) (q : Key)
-    → kept_after (carried q (past ++ aired ts moment ∷ [])) ≡ kept_after (carried q past ++ option_to_list (content_in q ts))
-kept_after-airing past ts moment q = ap kept_after (carried-push q past (aired ts moment))
+pub kept_after-airing : (past : List Airing) (ts : List SubTable) (moment : ℕ) (form : CycleForm) (q : Key)
+    → kept_after (carried q (past ++ aired ts moment form ∷ [])) ≡ kept_after (carried q past ++ option_to_list (content_in q ts))
+kept_after-airing past ts moment form q = ap kept_after (carried-push q past (aired ts moment form))
 
 -- ---- the version of each sub-table
 
@@ -67,18 +67,18 @@ AreOwn-all [] differ = tt
 AreOwn-all (t ∷ ts) differ =
     (ap (λ (b : Bool). if b then Some t.sections else content_in t.key ts) (is_key-itself t.key), own_behind t ts ts differ.0 (AreOwn-all ts differ.1))
 
-each_version : (past : List Airing) (f : Key → Option Kept) → ((k : Key) → f k ≡ kept_after (carried k past)) → (all : List SubTable) (moment : ℕ) (ts : List SubTable) → AreOwn all ts
-    → map (λ (t : SubTable). next_version (f t.key) t.sections) ts ≡ map (λ (t : SubTable). version_at t.key (past ++ aired all moment ∷ [])) ts
-each_version past f before all moment [] own = refl
-each_version past f before all moment (t ∷ ts) own =
-    let one : version_at t.key (past ++ aired all moment ∷ []) ≡ next_version (f t.key) t.sections =
-    ap (λ (cs : List Content). changes cs % 32) (carried-push t.key past (aired all moment) ∙ ap (λ (o : Option Content). carried t.key past ++ option_to_list o) own.0)
+each_version : (past : List Airing) (f : Key → Option Kept) → ((k : Key) → f k ≡ kept_after (carried k past)) → (all : List SubTable) (moment : ℕ) (form : CycleForm) (ts : List SubTable) → AreOwn all ts
+    → map (λ (t : SubTable). next_version (f t.key) t.sections) ts ≡ map (λ (t : SubTable). version_at t.key (past ++ aired all moment form ∷ [])) ts
+each_version past f before all moment form [] own = refl
+each_version past f before all moment form (t ∷ ts) own =
+    let one : version_at t.key (past ++ aired all moment form ∷ []) ≡ next_version (f t.key) t.sections =
+    ap (λ (cs : List Content). changes cs % 32) (carried-push t.key past (aired all moment form) ∙ ap (λ (o : Option Content). carried t.key past ++ option_to_list o) own.0)
     ∙ next_version-is (carried t.key past) t.sections ∙ ap (λ (o : Option Kept). next_version o t.sections) (sym (before t.key)) in
-    let rest = each_version past f before all moment ts own.1 in
+    let rest = each_version past f before all moment form ts own.1 in
     ap (λ (n : ℕ). n ∷ map (λ (t : SubTable). next_version (f t.key) t.sections) ts) (sym one)
-    ∙ ap (λ (ns : List ℕ). version_at t.key (past ++ aired all moment ∷ []) ∷ ns) rest
+    ∙ ap (λ (ns : List ℕ). version_at t.key (past ++ aired all moment form ∷ []) ∷ ns) rest
 
 -- what is given are the versions of the airing list
-pub versions-airing : (past : List Airing) (f : Key → Option Kept) → ((k : Key) → f k ≡ kept_after (carried k past)) → (ts : List SubTable) (moment : ℕ) → KeysDiffer ts
-    → map (λ (t : SubTable). next_version (f t.key) t.sections) ts ≡ versions_of past ts moment
-versions-airing past f before ts moment differ = each_version past f before ts moment ts (AreOwn-all ts differ)
+pub versions-airing : (past : List Airing) (f : Key → Option Kept) → ((k : Key) → f k ≡ kept_after (carried k past)) → (ts : List SubTable) (moment : ℕ) (form : CycleForm) → KeysDiffer ts
+    → map (λ (t : SubTable). next_version (f t.key) t.sections) ts ≡ versions_of past ts moment form
+versions-airing past f before ts moment form differ = each_version past f before ts moment form ts (AreOwn-all ts differ)

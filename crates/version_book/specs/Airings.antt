@@ -8,10 +8,16 @@ use Rattle.section_codec.specs.declared.table.SubTable.{SubTable}
 abbrev pub Content : Type 0
 Content = List NumberedBody
 
--- one airing: the sub-tables of the publication that goes on air, and the moment of its swap in seconds
+-- What a cycle depends on besides its sub-tables and its moment: the quota, which is how many packets may come between two repeats
+-- of the most frequent sections.
+pub record CycleForm : Type 0 where
+  pub quota : ℕ
+
+-- one airing: the sub-tables of the publication that goes on air, the moment of its swap in seconds, and the form of its cycle
 pub record Airing : Type 0 where
   pub tables : List SubTable
   pub moment : ℕ
+  pub form : CycleForm
 
 abbrev pub is_key : Key → Key → Bool
 is_key a b = a.pid == b.pid && a.table == b.table && a.ext == b.ext && a.stream == b.stream && a.network == b.network

@@ -2,7 +2,7 @@
 use Rattle.std.specs.Prelude.{◌≡◌, ◌≢◌, ℕ, ◌%◌, List, [], ◌∷◌, ◌++◌, if◌then◌else◌, Option, Some, None, map}
 use Rattle.section_codec.specs.declared.table.Key.{Key}
 use Rattle.section_codec.specs.declared.table.SubTable.{SubTable}
-use Rattle.version_book.specs.Airings.{Content, Airing, is_key, carried, changes_after, version_at}
+use Rattle.version_book.specs.Airings.{Content, CycleForm, Airing, is_key, carried, changes_after, version_at}
 
 -- the version and the content that a key was last given
 pub record Kept : Type 0 where
@@ -42,10 +42,10 @@ abbrev pub KeysDiffer : List SubTable → Type 0
 KeysDiffer [] = Unit {0}
 KeysDiffer (t ∷ ts) = Lacks t.key ts × KeysDiffer ts
 
--- these sub-tables, aired at a moment
-abbrev pub aired : List SubTable → ℕ → Airing
-aired tables moment = record { tables = tables; moment = moment }
+-- these sub-tables, aired at a moment in a cycle of this form
+abbrev pub aired : List SubTable → ℕ → CycleForm → Airing
+aired tables moment form = record { tables = tables; moment = moment; form = form }
 
 -- the version of each of these sub-tables where they are aired behind the past
-abbrev pub versions_of : List Airing → List SubTable → ℕ → List ℕ
-versions_of past tables moment = map (λ (t : SubTable). version_at t.key (past ++ aired tables moment ∷ [])) tables
+abbrev pub versions_of : List Airing → List SubTable → ℕ → CycleForm → List ℕ
+versions_of past tables moment form = map (λ (t : SubTable). version_at t.key (past ++ aired tables moment form ∷ [])) tables

@@ -1,7 +1,7 @@
 // Versions, kept by key.
 ghost use Rattle.std.specs.Prelude.{◌≡◌, ◌≢◌, ◌<◌, ◌+◌, ◌%◌, ◌++◌, ◌∷◌, ℕ, [], List, map, length, Option, Some, None, option_map, option_copied, IsSome, IfOk, OnOk, OnErr, All, if◌then◌else◌};
 ghost use Rattle.std.specs.BTreeMap.{get, IsOrdered};
-ghost use Rattle.version_book.specs.Airings.{Airing, is_key};
+ghost use Rattle.version_book.specs.Airings.{Airing, CycleForm, is_key};
 ghost use Rattle.section_codec.specs.declared.table.Key.{Key};
 ghost use Rattle.version_book.specs.Book.{Stands, KeysDiffer, aired, versions_of};
 ghost use Rattle.version_book.specs.Laws.{NeighboursAgree, AnotherBetween, ContentsAreCompared};
@@ -55,10 +55,10 @@ impl VersionBook {
     /// memory is wanting, the book stays as it was.
     pub fn assign(&mut self, tables: &Tables) -> Result<Bytes, AllocError>
         requires { KeysDiffer tables.now.list }
-        ensures versions { IfOk result (λ versions. (past : List Airing) (moment : ℕ) → Stands past self.old
-            → versions ≡ versions_of past tables.now.list moment) }
-        ensures stands { OnOk result ((past : List Airing) (moment : ℕ) → Stands past self.old
-            → Stands (past ++ aired tables.now.list moment ∷ []) self.new) }
+        ensures versions { IfOk result (λ versions. (past : List Airing) (moment : ℕ) (form : CycleForm) → Stands past self.old
+            → versions ≡ versions_of past tables.now.list moment form) }
+        ensures stands { OnOk result ((past : List Airing) (moment : ℕ) (form : CycleForm) → Stands past self.old
+            → Stands (past ++ aired tables.now.list moment form ∷ []) self.new) }
         ensures small { IfOk result (λ versions. All (λ v. v < 32) versions) }
         ensures memory { OnErr result (self.new ≡ self.old) }
     {

@@ -1,6 +1,6 @@
 // Cycles that are played.
 ghost use Rattle.std.specs.Prelude.{◌≤◌, length, IfOk};
-ghost use Rattle.carousel_player.specs.Playing.{AreFit};
+ghost use Rattle.air_model.specs.Fit.{AreFit};
 
 use crate::line::{MOST, Row};
 use carousel_player::Player;

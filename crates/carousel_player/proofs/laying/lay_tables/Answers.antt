@@ -2,7 +2,7 @@ use Rattle.std.proofs.Common.{◌≡◌, ℕ, ◌+◌, ◌≤◌, List, [], ◌�
 use Rattle.std.proofs.lemmas.List.{length_push}
 use Rattle.std.proofs.lemmas.Slice.Zip.{zip_turn, zip_end}
 use Rattle.air_model.specs.Air.{Sent, sections_of}
-use Rattle.carousel_player.specs.Laying.{AreLaid, sections_with, room_for, places_for}
+use Rattle.carousel_player.specs.Laying.{AreLaid, sections_under, room_for, places_for}
 use Rattle.carousel_player.proofs.Laid.{tables_at, tables_more, sections_all}
 use Rattle.carousel_player.proofs.laying.lay_tables.Goals as goal
 
@@ -16,13 +16,13 @@ loop-table-preserved c =
     let turn = zip_turn tables versions c.loop-table.yielded c.into_iter-table-iterator.result c.loop-table.table-iterator c.next.new.self c.next.result (cc) (cc) c.loop-table.yielded_by (c.in-Some.table, c.in-Some.version) c.in-Some.is c.next.ensures.steps in
     let next : length (c.loop-table.yielded ++ (c.in-Some.table, c.in-Some.version) ∷ []) ≡ n + 1 = length_push c.loop-table.yielded (c.in-Some.table, c.in-Some.version) in
     let behind = tables_at tables n table turn.0 (turn.2 table) in
-    let more : sections_with (take (n + 1) versions) (take (n + 1) tables) ≡ sections_with (take n versions) (take n tables) ++ sections_of version table =
+    let more : sections_under (take (n + 1) versions) (take (n + 1) tables) ≡ sections_under (take n versions) (take n tables) ++ sections_of version table =
     tables_more versions tables n version table turn.1 turn.0 (turn.3 version) (turn.2 table) in
     record {
       laid = λ ss h. subst (λ (l : List Sent). AreLaid l c.lay_table.new.bytes.items c.lay_table.new.placed.items)
-          (append_assoc ss (sections_with (take n versions) (take n tables)) (sections_of version table)
-          ∙ ap (λ (l : List Sent). ss ++ l) (sym more ∙ ap (λ (k : ℕ). sections_with (take k versions) (take k tables)) (sym next)))
-          (c.lay_table.ensures.laid (ss ++ sections_with (take n versions) (take n tables)) (c.loop-table.invariant.laid ss h));
+          (append_assoc ss (sections_under (take n versions) (take n tables)) (sections_of version table)
+          ∙ ap (λ (l : List Sent). ss ++ l) (sym more ∙ ap (λ (k : ℕ). sections_under (take k versions) (take k tables)) (sym next)))
+          (c.lay_table.ensures.laid (ss ++ sections_under (take n versions) (take n tables)) (c.loop-table.invariant.laid ss h));
       room = subst (λ (k : ℕ). vec_len c.lay_table.new.bytes + room_for (drop k tables) ≤ vec_capacity c.lay_table.new.bytes) (sym next) (omega (arith, behind.0));
       places = subst (λ (k : ℕ). vec_len c.lay_table.new.placed + places_for (drop k tables) ≤ vec_capacity c.lay_table.new.placed) (sym next) (omega (arith, behind.1));
     }

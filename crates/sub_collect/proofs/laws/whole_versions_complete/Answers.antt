@@ -1,5 +1,5 @@
-use Rattle.sub_collect.proofs.Whole.{whole-completes}
+use Rattle.sub_collect.proofs.Whole.{whole-completes, from_zero}
 use Rattle.sub_collect.proofs.laws.whole_versions_complete.Goals as goal
 
 pub returns : goal.returns
-returns c = whole-completes
+returns c = record { whole = whole-completes; from_zero = from_zero }

@@ -1,6 +1,6 @@
 use Rattle.std.proofs.Common.{List, [], ◌∙◌, subst}
 use Rattle.section_codec.specs.declared.table.SubTable.{SubTable}
-use Rattle.carousel_player.specs.Laying.{AreLaid, sections_with}
+use Rattle.carousel_player.specs.Laying.{AreLaid, sections_under}
 use Rattle.carousel_player.proofs.Begun.{under_way, cycle_begun}
 use Rattle.carousel_player.proofs.cycle.Cycle.begin.Goals as goal
 
@@ -8,15 +8,15 @@ pub invariant_of-self-2 : goal.invariant_of-self-2
 invariant_of-self-2 c =
     let bytes = c.lay_tables.new.bytes.items in
     let placed = c.lay_tables.new.placed.items in
-    let laid : AreLaid (sections_with c.as_slice.result.now c.as_slice-list.result.now) bytes placed = c.lay_tables.ensures [] (record { bytes_are = c.take_room.ensures.bytes; placed_are = c.take_room.ensures.placed }) in
+    let laid : AreLaid (sections_under c.as_slice.result.now c.as_slice-list.result.now) bytes placed = c.lay_tables.ensures [] (record { bytes_are = c.take_room.ensures.bytes; placed_are = c.take_room.ensures.placed }) in
     under_way c.as_slice.result.now c.args.tables.now.list bytes placed
-    (subst (λ (ts : List SubTable). AreLaid (sections_with c.as_slice.result.now ts) bytes placed) c.as_slice-list.ensures laid) c.requires.fit.each
+    (subst (λ (ts : List SubTable). AreLaid (sections_under c.as_slice.result.now ts) bytes placed) c.as_slice-list.ensures laid) c.requires.fit.each
 
 pub returns-clause-begun : goal.returns-clause-begun
-returns-clause-begun c past moment stands =
+returns-clause-begun c past moment form stands =
     let bytes = c.lay_tables.new.bytes.items in
     let placed = c.lay_tables.new.placed.items in
-    let laid : AreLaid (sections_with c.as_slice.result.now c.as_slice-list.result.now) bytes placed = c.lay_tables.ensures [] (record { bytes_are = c.take_room.ensures.bytes; placed_are = c.take_room.ensures.placed }) in
-    cycle_begun past moment c.as_slice.result.now c.args.tables.now.list bytes placed
-    (subst (λ (ts : List SubTable). AreLaid (sections_with c.as_slice.result.now ts) bytes placed) c.as_slice-list.ensures laid)
-    (c.as_slice.ensures ∙ c.in_ok-versions.ensures.versions past moment stands)
+    let laid : AreLaid (sections_under c.as_slice.result.now c.as_slice-list.result.now) bytes placed = c.lay_tables.ensures [] (record { bytes_are = c.take_room.ensures.bytes; placed_are = c.take_room.ensures.placed }) in
+    cycle_begun past moment form c.as_slice.result.now c.args.tables.now.list bytes placed
+    (subst (λ (ts : List SubTable). AreLaid (sections_under c.as_slice.result.now ts) bytes placed) c.as_slice-list.ensures laid)
+    (c.as_slice.ensures ∙ c.in_ok-versions.ensures.versions past moment form stands)

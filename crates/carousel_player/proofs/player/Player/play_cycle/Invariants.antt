@@ -8,6 +8,7 @@ abbrev pub invariant-batches : goal.invariant-batches
 invariant-batches g l = record {
   sent : (bytes : List ℕ) × Sends l.fn.self.left l.self-inside.cycle l.fn.self.counters l.self-inside.counters bytes × Appends (g.A.Sink.written l.fn.sink) (g.A.Sink.written l.sink) bytes;
   book : l.self-inside.book ≡ l.fn.self.book;
+  quota : l.self-inside.quota ≡ l.fn.self.quota;
   later : g.A.Sink.faults l.fn.sink ≤ g.A.Sink.faults l.sink;
   same : g.A.Sink.same l.fn.sink l.sink;
   idle : l.fn.self.left ≡ [] → (l.self-inside.cycle ≡ l.fn.self.left) × (l.self-inside.counters ≡ l.fn.self.counters) × (l.sink ≡ l.fn.sink);

@@ -1,9 +1,9 @@
 use Rattle.std.proofs.Common.{◌≡◌, ◌++◌, [], ◌∷◌, ℕ, List, sym, ap, subst}
-use Rattle.version_book.specs.Airings.{Airing}
+use Rattle.version_book.specs.Airings.{CycleForm, Airing}
 use Rattle.version_book.specs.Book.{Stands, aired}
 use Rattle.air_model.specs.Air.{airings_of, cycle_sections}
 use Rattle.air_model.specs.Making.{each_alone}
-use Rattle.carousel_player.specs.Playing.{Playing, Begins}
+use Rattle.carousel_player.specs.Playing.{Playing, Begins, form_of}
 use Rattle.carousel_player.proofs.Plays.{begins, on_ok_both}
 use Rattle.carousel_player.proofs.player.Player.swap.Goals as goal
 
@@ -11,10 +11,11 @@ pub returns-clause-begun : goal.returns-clause-begun
 returns-clause-begun c xs end =
     let tables = c.args.tables.list in
     let moment = c.args.moment.0 in
-    let new : Playing = record { book = c.begin.new.book; counters = c.self.inside.counters; left = c.begin.new.self } in
+    let form = form_of c.args.self.now in
+    let new : Playing = record { book = c.begin.new.book; counters = c.self.inside.counters; left = c.begin.new.self; quota = c.self.inside.quota } in
     let stands : Stands (airings_of xs) c.self.inside.book = subst (λ (p : Playing). Stands (airings_of xs) p.book) (sym c.self.view_is) end.sent.versions in
     on_ok_both c.begin.result
-    ((past : List Airing) (m : ℕ) → Stands past c.self.inside.book → Stands (past ++ aired tables m ∷ []) c.begin.new.book)
-    ((past : List Airing) (m : ℕ) → Stands past c.self.inside.book → c.begin.new.self ≡ each_alone (cycle_sections past (aired tables m)))
-    (Begins xs (aired tables moment) new) c.begin.ensures.versions c.begin.ensures.begun
-    (λ versions begun. begins xs tables moment c.args.self.now new end c.requires.fit.each (ap (λ (p : Playing). p.counters) c.self.view_is) (versions (airings_of xs) moment stands) (begun (airings_of xs) moment stands))
+    ((past : List Airing) (m : ℕ) (f : CycleForm) → Stands past c.self.inside.book → Stands (past ++ aired tables m f ∷ []) c.begin.new.book)
+    ((past : List Airing) (m : ℕ) (f : CycleForm) → Stands past c.self.inside.book → c.begin.new.self ≡ each_alone (cycle_sections past (aired tables m f)))
+    (Begins xs (aired tables moment form) new) c.begin.ensures.versions c.begin.ensures.begun
+    (λ versions begun. begins xs tables moment form c.args.self.now new end c.requires.fit.each (ap (λ (p : Playing). p.counters) c.self.view_is) (versions (airings_of xs) moment form stands) (begun (airings_of xs) moment form stands))

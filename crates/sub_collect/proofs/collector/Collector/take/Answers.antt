@@ -6,12 +6,12 @@ use Rattle.section_codec.specs.declared.table.Key.{Key}
 use Rattle.version_book.specs.Airings.{is_key}
 use Rattle.version_book.specs.Slots.{key_cmp}
 use Rattle.sub_collect.specs.Runs.{Counted, counted}
-use Rattle.sub_collect.specs.Completions.{sections_of}
+use Rattle.sub_collect.specs.Completions.{of_key}
 use Rattle.sub_collect.specs.Collectors.{KeptKeys, kept_in, IsKeptOf}
 use Rattle.sub_collect.specs.Slots.{kept_by, shown}
 use Rattle.sub_collect.specs.declared.completed.Completed.{Completed}
 use Rattle.sub_collect.specs.declared.collector.Slot.{Slot}
-use Rattle.sub_collect.proofs.Done.{sections_of-all}
+use Rattle.sub_collect.proofs.Done.{of_key-all}
 use Rattle.sub_collect.proofs.Keys.{kept_in-shown, shown-set, of-kept, of-none, stands-put, kept-put, shown-by, shown-first}
 use Rattle.sub_collect.proofs.collector.Collector.take.Goals as goal
 
@@ -22,7 +22,7 @@ returns-in-Some-clause-shown c =
     let found : kept_in k c.args.self.now ≡ Some (kept_by c.in-Some.slot.now) =
     ap (λ (b : KeptKeys). kept_in k b) (sym c.self.view_is) ∙ kept_in-shown k c.self.inside.slots.entries ∙ ap (option_map kept_by) (sym c.in-Some.ensures.value) in
     IfOk-weaker c.take.result _ _ (λ shown take past stands.
-    take (sections_of k past) (of-kept k past (kept_in k c.args.self.now) (kept_by c.in-Some.slot.now) (stands k) found) (sections_of-all k past)
+    take (of_key k past) (of-kept k past (kept_in k c.args.self.now) (kept_by c.in-Some.slot.now) (stands k) found) (of_key-all k past)
     ∙ ap (option_map (λ (d : Completed). d.version)) (shown-by past s)) c.take.ensures.shown
 
 pub returns-in-Some-clause-stands : goal.returns-in-Some-clause-stands
@@ -38,7 +38,7 @@ returns-in-Some-clause-stands c =
     stands-put past s c.args.self.now (shown new.entries) (kept_by c.take.new.self) stands
     (λ q. kept-put k c.take.new.self old new.entries (((c.get_mut.follows.holds c.take.new.self).3 held).0) q
     ∙ ap (λ (b : KeptKeys). if is_key k q then Some (kept_by c.take.new.self) else kept_in q b) c.self.view_is)
-    (take (sections_of k past) (of-kept k past (kept_in k c.args.self.now) (kept_by c.in-Some.slot.now) (stands k) found) (sections_of-all k past))) c.take.ensures.stands
+    (take (of_key k past) (of-kept k past (kept_in k c.args.self.now) (kept_by c.in-Some.slot.now) (stands k) found) (of_key-all k past))) c.take.ensures.stands
 
 pub returns-in-Some-clause-memory : goal.returns-in-Some-clause-memory
 returns-in-Some-clause-memory c =

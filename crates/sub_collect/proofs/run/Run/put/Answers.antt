@@ -1,5 +1,6 @@
 use Rattle.std.proofs.Common.{ℕ, ◌+◌, List, option_map, ap, sym, refl, ◌∙◌, arith}
-use Rattle.sub_collect.specs.Runs.{counted, numbers_from}
+use Rattle.section_codec.specs.Contents.{numbers_from}
+use Rattle.sub_collect.specs.Runs.{counted}
 use Rattle.sub_collect.specs.Completions.{done_at}
 use Rattle.sub_collect.specs.Collectors.{body_in}
 use Rattle.sub_collect.specs.Slots.{kept_run, held_with, content_by}

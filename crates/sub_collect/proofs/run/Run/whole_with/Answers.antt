@@ -1,7 +1,8 @@
 use Rattle.std.proofs.Common.{◌≡◌, ◌+◌, Some, option_map, ap, sym, refl, ◌∙◌, arith, Vec, Global}
 use Rattle.section_codec.specs.declared.table.NumberedBody.{NumberedBody}
 use Rattle.version_book.specs.Airings.{Content}
-use Rattle.sub_collect.specs.Runs.{counted, numbers_from}
+use Rattle.section_codec.specs.Contents.{numbers_from}
+use Rattle.sub_collect.specs.Runs.{counted}
 use Rattle.sub_collect.specs.Completions.{done_at}
 use Rattle.sub_collect.specs.Collectors.{body_in}
 use Rattle.sub_collect.specs.Slots.{held_with, content_by}

@@ -1,5 +1,5 @@
 use Rattle.std.proofs.Common.{◌≡◌, ◌+◌, ◌≤◌}
-use Rattle.sub_collect.specs.Runs.{numbers_from}
+use Rattle.section_codec.specs.Contents.{numbers_from}
 use Rattle.sub_collect.specs.Collectors.{body_in}
 use Rattle.sub_collect.specs.Slots.{held_with, content_by}
 use Rattle.sub_collect.proofs.Gathering.{with_front, left_from}

@@ -10,15 +10,15 @@ use Rattle.version_book.proofs.Airs.{versions-airing, given_after-airing, kept_a
 use Rattle.version_book.proofs.book.VersionBook.assign.Goals as goal
 
 pub returns-clause-versions : goal.returns-clause-versions
-returns-clause-versions c = λ past moment stands.
+returns-clause-versions c = λ past moment form stands.
     let slots = c.self.inside.slots in
     let before : (k : Key) → kept_at slots k ≡ kept_after (carried k past) =
     λ k. sym (kept_in-shown k slots.entries c.self.invariant) ∙ ap (λ (b : KeptKeys). kept_in k b) c.self.view_is ∙ stands k in
     c.of.ensures ∙ c.in_ok-versions.ensures.versions ∙ ap (map (version_given slots)) c.as_slice-tables.ensures
-    ∙ versions-airing past (kept_at slots) before c.args.tables.now.list moment c.requires
+    ∙ versions-airing past (kept_at slots) before c.args.tables.now.list moment form c.requires
 
 pub returns-clause-stands : goal.returns-clause-stands
-returns-clause-stands c = λ past moment stands k.
+returns-clause-stands c = λ past moment form stands k.
     let slots = c.self.inside.slots in
     let before : (q : Key) → kept_at slots q ≡ kept_after (carried q past) =
     λ q. sym (kept_in-shown q slots.entries c.self.invariant) ∙ ap (λ (b : KeptKeys). kept_in q b) c.self.view_is ∙ stands q in
@@ -30,4 +30,4 @@ returns-clause-stands c = λ past moment stands k.
     ∙ c.settle.ensures.kept k
     ∙ ap (λ (xs : List SubTable). given_after (kept_at planned) xs k) c.as_slice-tables.ensures
     ∙ given_after-airing past (kept_at planned) then ts k
-    ∙ sym (kept_after-airing past ts moment k)
+    ∙ sym (kept_after-airing past ts moment form k)

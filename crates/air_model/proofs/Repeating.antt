@@ -1,0 +1,84 @@
+-- A cycle that sends each section once is one that repeats as it likes.
+use Rattle.std.proofs.Common.{◌≡◌, ℕ, ◌<◌, List, [], ◌∷◌, ◌++◌, length, map, refl, ap, arith}
+use Rattle.std.specs.Prelude.{flat_map}
+use Rattle.std.specs.List.{AllByRecursion, Contains}
+use Rattle.std.proofs.lemmas.List.Elements.{All-contains, All-contains_itself, All-from_recursion, recursion_from_All, Contains-append_left, Contains-append_right}
+use Rattle.section_codec.specs.declared.table.NumberedBody.{NumberedBody}
+use Rattle.section_codec.specs.declared.table.SubTable.{SubTable}
+use Rattle.version_book.specs.Airings.{Airing, version_at}
+use Rattle.air_model.specs.Air.{Sent, Aired, sent_section, sections_of, cycle_sections, Cycles}
+use Rattle.air_model.specs.Repeating.{IsSentOf, AreSentOf, RepeatingCycles, AirsRepeat}
+
+-- ---- elements of lists
+
+-- each element is one of the list
+pub elements : {X : Type 0} (xs : List X) → AllByRecursion (Contains xs) xs
+elements xs = recursion_from_All (Contains xs) xs (All-contains_itself xs)
+
+-- what holds of each element of a list
+pub of_element : {X : Type 0} (P : X → Type 0) (xs : List X) (x : X) → AllByRecursion P xs → Contains xs x → P x
+of_element P xs x all has = All-contains P xs x (All-from_recursion P xs all) has
+
+first_of : {X : Type 0} (x : X) (xs : List X) → Contains (x ∷ xs) x
+first_of x xs = Contains-append_left (x ∷ []) xs x (0, let one : 0 < length (x ∷ []) = omega arith in one, refl)
+
+rest_of : {X : Type 0} (x : X) (xs : List X) (y : X) → Contains xs y → Contains (x ∷ xs) y
+rest_of x xs y has = Contains-append_right (x ∷ []) xs y has
+
+pub all_map : {X : Type 0} (P Q : X → Type 0) → ((x : X) → P x → Q x) → (xs : List X) → AllByRecursion P xs → AllByRecursion Q xs
+all_map P Q f [] all = tt
+all_map P Q f (x ∷ xs) all = (f x all.0, all_map P Q f xs all.1)
+
+-- a list with an element is two lists around it
+pub around : {X : Type 0} (xs : List X) (x : X) → Contains xs x → (before after : List X) × (xs ≡ before ++ x ∷ after)
+around xs x has = of_element (λ y. (before after : List _) × (xs ≡ before ++ y ∷ after)) xs x (go xs) has
+  where
+    go : {X : Type 0} (ys : List X) → AllByRecursion (λ y. (before after : List X) × (ys ≡ before ++ y ∷ after)) ys
+    go [] = tt
+    go (y ∷ ys) = (([], ys, refl), all_map _ _ (λ z p. (y ∷ p.0, p.1, ap (λ l. y ∷ l) p.2)) ys (go ys))
+
+pub mapped : {X Y : Type 0} (f : X → Y) (xs : List X) (x : X) → Contains xs x → Contains (map f xs) (f x)
+mapped f xs x has = of_element (λ y. Contains (map f xs) (f y)) xs x (go f xs) has
+  where
+    go : {X Y : Type 0} (f : X → Y) (ys : List X) → AllByRecursion (λ y. Contains (map f ys) (f y)) ys
+    go f [] = tt
+    go f (y ∷ ys) = (first_of (f y) (map f ys), all_map (λ z. Contains (map f ys) (f z)) (λ z. Contains (map f (y ∷ ys)) (f z)) (λ z has. rest_of (f y) (map f ys) (f z) has) ys (go f ys))
+
+pub joined : {X Y : Type 0} (f : X → List Y) (xs : List X) (x : X) (y : Y) → Contains xs x → Contains (f x) y → Contains (flat_map f xs) y
+joined f xs x y has in_one = of_element (λ z. Contains (f z) y → Contains (flat_map f xs) y) xs x (go f y xs) has in_one
+  where
+    go : {X Y : Type 0} (f : X → List Y) (y : Y) (zs : List X) → AllByRecursion (λ z. Contains (f z) y → Contains (flat_map f zs) y) zs
+    go f y [] = tt
+    go f y (z ∷ zs) =
+        (λ has. Contains-append_left (f z) (flat_map f zs) y has,
+          all_map (λ w. Contains (f w) y → Contains (flat_map f zs) y) (λ w. Contains (f w) y → Contains (flat_map f (z ∷ zs)) y) (λ w into has. Contains-append_right (f z) (flat_map f zs) y (into has)) zs (go f y zs))
+
+pub all_append : {X : Type 0} (P : X → Type 0) (xs ys : List X) → AllByRecursion P xs → AllByRecursion P ys → AllByRecursion P (xs ++ ys)
+all_append P [] ys p q = q
+all_append P (x ∷ xs) ys p q = (p.0, all_append P xs ys p.1 q)
+
+-- ---- the sections of a cycle
+
+pub cycle_is_sent : (past : List Airing) (a : Airing) → AreSentOf past a (cycle_sections past a)
+cycle_is_sent past a = record {
+  each = of_tables a.tables (elements a.tables);
+  all = λ t p has_t has_p. joined (λ (u : SubTable). sections_of (version_at u.key (past ++ a ∷ [])) u) a.tables t (sent_section (version_at t.key (past ++ a ∷ [])) t p) has_t (mapped (sent_section (version_at t.key (past ++ a ∷ [])) t) t.sections p has_p);
+}
+  where
+    of_sections : (t : SubTable) → Contains a.tables t → (ps : List NumberedBody) → AllByRecursion (Contains t.sections) ps → AllByRecursion (IsSentOf past a) (map (sent_section (version_at t.key (past ++ a ∷ [])) t) ps)
+    of_sections t has [] all = tt
+    of_sections t has (p ∷ ps) all = ((t, p, has, all.0, refl), of_sections t has ps all.1)
+
+    of_tables : (ts : List SubTable) → AllByRecursion (Contains a.tables) ts → AllByRecursion (IsSentOf past a) (flat_map (λ (t : SubTable). sections_of (version_at t.key (past ++ a ∷ [])) t) ts)
+    of_tables [] all = tt
+    of_tables (t ∷ ts) all =
+        all_append (IsSentOf past a) (sections_of (version_at t.key (past ++ a ∷ [])) t) (flat_map (λ (u : SubTable). sections_of (version_at u.key (past ++ a ∷ [])) u) ts)
+        (of_sections t all.0 t.sections (elements t.sections)) (of_tables ts all.1)
+
+cycles_repeat : (past : List Airing) (xs : List Aired) → Cycles past xs → RepeatingCycles past xs
+cycles_repeat past [] h = tt
+cycles_repeat past (x ∷ xs) h =
+    (record { sections = cycle_sections past x.airing; are = cycle_is_sent past x.airing; carried = h.0 }, cycles_repeat (past ++ x.airing ∷ []) xs h.1)
+
+pub airs_repeat : AirsRepeat
+airs_repeat airings xs is = record { airings_are = is.airings_are; cycles = cycles_repeat [] xs is.cycles; counted = is.counted; fields = is.fields }

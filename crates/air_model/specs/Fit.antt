@@ -1,0 +1,22 @@
+-- Sub-tables that can be sent, and then be heard.
+use Rattle.std.specs.Prelude.{◌≢◌, ◌<◌, ◌≤◌, List, length}
+use Rattle.std.specs.List.{All}
+use Rattle.section_codec.specs.declared.table.NumberedBody.{NumberedBody}
+use Rattle.section_codec.specs.declared.table.SubTable.{SubTable}
+use Rattle.section_codec.specs.Contents.{Ascend}
+use Rattle.section_codec.specs.Section.{longest_body}
+use Rattle.version_book.specs.Book.{KeysDiffer}
+
+-- A sub-table whose sections can be sent: not on the PID of the null packets, in the long form, not beginning as fill does, with 0xFF.
+pub record IsFit (t : SubTable) : Type 0 where
+  pub pid : t.key.pid < 8191
+  pub long : t.key.table ≢ 0x70
+  pub no_fill : t.key.table ≢ 0xFF
+  pub some : 0 < length t.sections
+  pub ascending : Ascend t.sections
+  pub bodies : All (λ (s : NumberedBody). length s.body ≤ longest_body t.key.table) t.sections
+
+-- sub-tables that can be sent in one cycle
+pub record AreFit (tables : List SubTable) : Type 0 where
+  pub differ : KeysDiffer tables
+  pub each : All IsFit tables
