@@ -2,7 +2,7 @@
 use Rattle.std.specs.Prelude.{◌≡◌, ◌⊎◌, ℕ, List, [], ◌∷◌, ◌++◌, map, Option, Some, Ok, Err, Result}
 use mathlib.Core.List.{IsPrefix}
 use Rattle.mux_config.specs.declared.mux.Mux.{Mux}
-use Rattle.feed_book.specs.Limits.{IsGuideWithin}
+use Rattle.guide_limits.specs.Limits.{IsGuideWithin}
 use Rattle.desk_core.specs.declared.step.Step.{Step}
 use Rattle.desk_core.specs.declared.step.Step.TheVariants.{Swap}
 use Rattle.desk_core.specs.declared.step.Outcome.{Outcome}

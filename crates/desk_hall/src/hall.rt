@@ -1,7 +1,7 @@
 // The hall: a desk that callers use in turns.
 ghost use Rattle.std.specs.Prelude.{◌≡◌, ◌<◌, ℕ, Some, IfOk, OnErr};
 ghost use Rattle.mux_config.specs.Sound.{IsSound};
-ghost use Rattle.feed_book.specs.Limits.{IsGuideWithin};
+ghost use Rattle.guide_limits.specs.Limits.{IsGuideWithin};
 ghost use Rattle.feed_book.specs.Replies.{IsDayWithin};
 ghost use Rattle.desk_core.specs.Steps.{IsStepWithin};
 ghost use Rattle.desk_core.specs.declared.step.Step.TheVariants.{Edit as edit_of, Tick, Publish, Swap};

@@ -73,7 +73,7 @@ impl Job<HallState> for Swapping {
 }
 
 ghost use Rattle.std.specs.Prelude.{IfOk, OnErr};
-ghost use Rattle.feed_book.specs.Limits.{IsGuideWithin};
+ghost use Rattle.guide_limits.specs.Limits.{IsGuideWithin};
 ghost use Rattle.desk_core.specs.declared.step.Step.TheVariants.{Swap};
 ghost use Rattle.desk_core.specs.declared.step.Outcome.TheVariants.{Swapped};
 ghost use Rattle.desk_core.specs.Desks.{latest_of, and_entry};

@@ -1,10 +1,10 @@
 // A service's events in order of start, and their index in step with them.
 ghost use Rattle.std.specs.Prelude.{◌≡◌, ℕ, ◌+◌, ◌<◌, ◌≤◌, length, map, insert, vec_len, vec_capacity};
 ghost use Rattle.feed_book.specs.Replies.{without, put};
-ghost use Rattle.feed_book.specs.Standing.{placed};
-ghost use Rattle.feed_book.specs.Sound.{AreApart};
-ghost use Rattle.feed_book.specs.Readings.{event_of as event_given};
-ghost use Rattle.feed_book.specs.Standing.{is_done};
+ghost use Rattle.guide_limits.specs.Standing.{placed};
+ghost use Rattle.guide_limits.specs.Sound.{AreApart};
+ghost use Rattle.guide_limits.specs.Readings.{event_of as event_given};
+ghost use Rattle.feed_book.specs.Accepted.{is_done};
 ghost use Rattle.feed_book.specs.Replies.{item_fault, put_reply};
 ghost use Rattle.feed_book.specs.Slots.{slot_of as slot_of_event, AreIndexed};
 ghost use Rattle.std.specs.Prelude.{IfOk, OnOk, OnErr, Some, None, [], if◌then◌else◌};
