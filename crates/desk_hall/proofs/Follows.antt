@@ -39,16 +39,14 @@ module _ {S T : Type 0} (left : S → Known) (first : Ahead → Found T) (all : 
   pub record Follows (old now : Reading S) (done : List T) : Type 0 where
     pub told : (text : List ℕ) → text_left left old ≡ Some text → (rest : List ℕ) × (text_left left now ≡ Some rest) × Splits (ahead old text) (ahead now rest) done
     pub lines : List (List ℕ)
-    pub since : now.ended ≡ false → old.ended ≡ false
-    pub handed : now.ended ≡ false → HandedOut left old now lines
+    pub handed : HandedOut left old now lines
     pub reads : (more : List (List ℕ)) (tail : Tail) → Splits (ahead_with old (lines ++ more) tail) (ahead_with now more tail) done
 
   pub follows_none : (reader : Reading S) → Follows reader reader []
   follows_none reader = record {
     told = λ text told. (text, told, refl);
     lines = [];
-    since = λ e. e;
-    handed = λ e. handed_none left reader;
+    handed = handed_none left reader;
     reads = λ more tail. refl;
   }
 
@@ -61,8 +59,7 @@ module _ {S T : Type 0} (left : S → Known) (first : Ahead → Found T) (all : 
         let g = gives t.0 t.1 in
         (g.rest, g.told, splits_more (ahead old text) (ahead now t.0) (ahead new g.rest) done value t.2 g.reads);
     lines = w.lines ++ takes.looked.lines;
-    since = λ e. w.since (takes.looked.since e);
-    handed = λ e. handed_more left old now new w.lines takes.looked.lines (w.handed (takes.looked.since e)) (takes.looked.handed e);
+    handed = handed_more left old now new w.lines takes.looked.lines w.handed takes.looked.handed;
     reads = λ more tail.
         subst (λ (l : List (List ℕ)). Splits (ahead_with old l tail) (ahead_with new more tail) (done ++ value ∷ [])) (sym (append_assoc w.lines takes.looked.lines more))
         (splits_more (ahead_with old (w.lines ++ (takes.looked.lines ++ more)) tail) (ahead_with now (takes.looked.lines ++ more) tail) (ahead_with new more tail) done value (w.reads (takes.looked.lines ++ more) tail) (takes.reads more tail));
@@ -112,7 +109,7 @@ module _ {S T : Type 0} (left : S → Known) (first : Ahead → Found T) (all : 
         let lines = w.lines ++ f.lines in
         let last = splits_last (ahead_with old lines Breaks) (ahead_with now f.lines Breaks) done Unread (w.reads f.lines Breaks) f.reads in
         let r = all_did (all (ahead_with old lines Breaks)) done Unread last d in
-        record { lines = lines; whole = whole_more left old now new w.lines f.lines (w.handed f.unended) f.whole; unended = w.since f.unended; stop = r.0; commands = r.1 }
+        record { lines = lines; whole = whole_more left old now new w.lines f.lines w.handed f.unended f.whole; unended = w.handed.since f.unended; stop = r.0; commands = r.1 }
     taken faults old now new done (Read Overlong) w d f = tt
     taken faults old now new done (Refused n) w d f = tt
     taken faults old now new done Memory w d f = tt
