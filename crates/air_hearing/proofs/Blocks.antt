@@ -1,16 +1,15 @@
 -- What the sections of one airing count for.
-use Rattle.std.proofs.Common.{◌≡◌, ℕ, ◌+◌, ◌<◌, ◌≤◌, List, [], ◌∷◌, ◌++◌, Bool, true, false, ◌==◌, ◌&&◌, Option, Some, None, length, refl, sym, ap, ap₂, ◌∙◌, subst, arith, map, eq-eqb}
-use Rattle.std.specs.Prelude.{if◌then◌else◌, cond, filter, filter_map, option_map, is_some, IsSome}
-use Rattle.std.specs.List.{All, AllByRecursion, Contains, cons_option}
+use Rattle.std.proofs.Common.{◌≡◌, ℕ, ◌<◌, ◌≤◌, List, [], ◌∷◌, ◌++◌, Bool, true, false, ◌&&◌, Option, Some, None, length, refl, sym, ap, ap₂, ◌∙◌, subst, arith, map, eq-eqb}
+use Rattle.std.specs.Prelude.{if◌then◌else◌, cond, filter, option_map, is_some, IsSome}
+use Rattle.std.specs.List.{AllByRecursion, Contains, cons_option}
 use Rattle.std.proofs.lemmas.List.{map-append}
-use Rattle.std.proofs.lemmas.List.Elements.{filter_map-append, filter-append, All-contains, recursion_from_All}
-use Rattle.section_codec.specs.declared.section.Section.TheVariants.{Long}
+use Rattle.std.proofs.lemmas.List.Elements.{filter-append, All-contains, recursion_from_All}
 use Rattle.section_codec.specs.declared.table.Key.{Key}
 use Rattle.section_codec.specs.declared.table.NumberedBody.{NumberedBody}
 use Rattle.section_codec.specs.declared.table.SubTable.{SubTable}
 use Rattle.section_codec.specs.Contents.{last_number, part_in}
 use Rattle.section_codec.specs.Keys.{key_in}
-use Rattle.section_codec.specs.Section.{section_in, section_bytes, longest_body, FitsLong}
+use Rattle.section_codec.specs.Section.{longest_body, FitsLong}
 use Rattle.section_codec.proofs.ReadBack.{section_in-section_bytes}
 use Rattle.section_codec.proofs.ContentFacts.{own_parts, below_last}
 use Rattle.version_book.specs.Airings.{Content, Airing, is_key, content_in, content_at, version_at}
@@ -18,10 +17,10 @@ use Rattle.version_book.proofs.Versions.{is_key-same, is_key-itself}
 use Rattle.version_book.proofs.Airs.{AreOwn-all}
 use Rattle.sub_collect.specs.Runs.{Counted, counted, latest_section, has_number, latest_with}
 use Rattle.sub_collect.specs.Completions.{is_of, of_key}
-use Rattle.sub_collect.specs.Laws.{section_with, sections_with, IsSectionOf, HoldAll, IsWith, IsNumbered}
+use Rattle.sub_collect.specs.Laws.{section_with, sections_with, HoldAll, IsWith, IsNumbered}
 use Rattle.guide_receiver.specs.Counting.{is_counted, counted_by, counted_in, counted_among}
 use Rattle.guide_receiver.proofs.Shown.{among-append}
-use Rattle.air_model.specs.Air.{Sent, sent_section, header_of, sections_of}
+use Rattle.air_model.specs.Air.{Sent, sent_section, header_of}
 use Rattle.air_model.specs.Fit.{IsFit}
 use Rattle.air_model.specs.Repeating.{IsSentOf, AreSentOf}
 use Rattle.air_model.proofs.Repeating.{elements, of_element, all_map, around}
@@ -122,7 +121,7 @@ module _ (past : List Airing) (a : Airing) (can : CanBeHeard a) (k : Key) where
   version t = version_at t.key (past ++ a ∷ [])
 
   fit_of : (t : SubTable) → Contains a.tables t → IsFit t
-  fit_of t has = All-contains IsFit a.tables t can.fit.each has
+  fit_of t has = All-contains IsFit a.tables t can.fit has
 
   read_of : (t : SubTable) → Contains a.tables t → IsReadable t
   read_of t has = of_element IsReadable a.tables t can.readable has
@@ -166,7 +165,7 @@ module _ (past : List Airing) (a : Airing) (can : CanBeHeard a) (k : Key) where
 
   -- the content of a key is its sub-table's
   content_of : (t : SubTable) → Contains a.tables t → t.key ≡ k → content_at k a ≡ Some t.sections
-  content_of t has e = ap (λ (q : Key). content_in q a.tables) (sym e) ∙ of_element (λ (u : SubTable). content_in u.key a.tables ≡ Some u.sections) a.tables t (AreOwn-all a.tables can.fit.differ) has
+  content_of t has e = ap (λ (q : Key). content_in q a.tables) (sym e) ∙ of_element (λ (u : SubTable). content_in u.key a.tables ≡ Some u.sections) a.tables t (AreOwn-all a.tables can.differ) has
 
   -- a key that the airing does not carry has no sections
   pub block-none : content_at k a ≡ None → (ss : List Sent) → AllByRecursion (IsSentOf past a) ss → block k ss ≡ []

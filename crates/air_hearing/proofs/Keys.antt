@@ -1,11 +1,9 @@
 -- The sections of one key that count come from its PID.
-use Rattle.std.proofs.Common.{◌≡◌, ℕ, List, [], ◌∷◌, ◌++◌, Bool, true, false, ◌==◌, ◌&&◌, Option, Some, None, refl, sym, ap, ap₂, ◌∙◌, map, eq-eqb, eqb-true}
-use Rattle.std.specs.Prelude.{if◌then◌else◌, cond, filter, filter_map, option_map, Result, Ok, Err}
+use Rattle.std.proofs.Common.{◌≡◌, ℕ, List, [], ◌∷◌, Bool, true, false, ◌==◌, ◌&&◌, Option, Some, None, refl, sym, ap, ◌∙◌, map, eq-eqb, eqb-true}
+use Rattle.std.specs.Prelude.{if◌then◌else◌, cond, filter_map, option_map, Result, Ok, Err}
 use Rattle.std.specs.List.{cons_option}
-use Rattle.std.proofs.lemmas.List.Elements.{filter_map-append, filter-append}
 use Rattle.section_codec.specs.declared.section.Section.{Section}
 use Rattle.section_codec.specs.declared.section.Section.TheVariants.{Long, Short}
-use Rattle.section_codec.specs.declared.section.LongHeader.{LongHeader}
 use Rattle.section_codec.specs.declared.section.BadSection.{BadSection}
 use Rattle.section_codec.specs.declared.table.Key.{Key}
 use Rattle.section_codec.specs.Keys.{key_in}
@@ -17,7 +15,7 @@ use Rattle.ts_demux.specs.declared.section.RawSection.{RawSection}
 use Rattle.ts_demux.specs.Sections.{sections_on, on_pid, heard_all, bytes_on}
 use Rattle.ts_demux.proofs.Adding.{order_kept}
 use Rattle.sub_collect.specs.Runs.{Counted, counted}
-use Rattle.sub_collect.specs.Completions.{is_of, of_key}
+use Rattle.sub_collect.specs.Completions.{of_key}
 use Rattle.guide_receiver.specs.Counting.{is_counted, counted_by, counted_in, counted_among}
 use Rattle.guide_receiver.specs.Heard.{counted_heard}
 use Rattle.air_model.specs.Air.{Sent, sent_on}

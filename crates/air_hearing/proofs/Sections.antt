@@ -5,7 +5,6 @@ use Rattle.std.specs.List.{All, AllByRecursion, cons_option}
 use Rattle.std.proofs.lemmas.List.Elements.{filter_map-append, All-contains}
 use Rattle.section_codec.specs.declared.section.LongHeader.{LongHeader}
 use Rattle.section_codec.specs.declared.table.NumberedBody.{NumberedBody}
-use Rattle.section_codec.specs.declared.table.SubTable.{SubTable}
 use Rattle.section_codec.specs.Tables.{is_eit}
 use Rattle.section_codec.specs.Section.{long_flags, section_bytes, longest_body}
 use Rattle.section_codec.proofs.ReadBack.{length-section_bytes}

@@ -1,5 +1,5 @@
 -- The version changes of an air are heard.
-use Rattle.std.proofs.Common.{◌≡◌, ◌≢◌, ℕ, ◌+◌, ◌%◌, List, [], ◌∷◌, ◌++◌, Bool, true, false, Option, Some, None, length, refl, sym, ap, ap₂, ◌∙◌, subst, arith, map, append-nil, append_assoc}
+use Rattle.std.proofs.Common.{◌≡◌, ◌≢◌, ℕ, ◌+◌, ◌%◌, List, [], ◌∷◌, ◌++◌, Bool, true, false, Option, Some, None, length, refl, sym, ap, ap₂, ◌∙◌, subst, arith, map, append-nil}
 use Rattle.std.specs.Prelude.{if◌then◌else◌, cond, not, filter, option_to_list}
 use Rattle.std.specs.List.{All, AllByRecursion}
 use Rattle.std.proofs.lemmas.List.{map-append}
@@ -12,7 +12,7 @@ use Rattle.version_book.proofs.Airs.{next_version-is, kept_after-push}
 use Rattle.ts_packets.specs.Bytes.{bytes_of_packet}
 use Rattle.ts_demux.specs.Sections.{ended_by, heard_all}
 use Rattle.sub_collect.specs.Runs.{Counted, latest_section}
-use Rattle.sub_collect.specs.Completions.{of_key, completions, latest_done, latest_of, dones}
+use Rattle.sub_collect.specs.Completions.{of_key, completions, latest_done, dones}
 use Rattle.sub_collect.specs.Laws.{is_done_of, IsNumbered, HoldAll, IsWith, IsFresh, IsHeld, done_with}
 use Rattle.sub_collect.specs.declared.completed.Completed.{Completed}
 use Rattle.sub_collect.proofs.Done.{dones-go_on, keys-apart}
@@ -166,7 +166,7 @@ uncounted k other past (x ∷ xs) h can =
     ∙ ap₂ (λ (l m : List Counted). l ++ m) (block-uncounted past x.airing can.0 k other h.0.sections h.0.are.each) (uncounted k other (past ++ x.airing ∷ []) xs h.1 can.1)
 
 sent_of : (airings : List Airing) → AllByRecursion CanBeHeard airings → CanBeSent airings
-sent_of airings can = all_map CanBeHeard (λ (a : Airing). All IsFit a.tables) (λ a h. h.fit.each) airings can
+sent_of airings can = all_map CanBeHeard (λ (a : Airing). All IsFit a.tables) (λ a h. h.fit) airings can
 
 pub changes_heard : ChangesAreHeard
 changes_heard airings xs is can k lt = key_told k ps ∙ ap (λ (l : List Counted). map done_key (dones [] l)) heard ∙ go (is_counted k.pid k.table) refl

@@ -1,15 +1,16 @@
 -- Sub-tables that a receiver reads as they were meant (ISO/IEC 13818-1, 2.4.4; EN 300 468, 5.1.1).
-use Rattle.std.specs.Prelude.{◌≡◌, ℕ, ◌<◌, List, Some}
-use Rattle.std.specs.List.{AllByRecursion}
+use Rattle.std.specs.Prelude.{◌≡◌, ◌<◌, Some}
+use Rattle.std.specs.List.{All, AllByRecursion}
 use Rattle.section_codec.specs.declared.table.NumberedBody.{NumberedBody}
 use Rattle.section_codec.specs.declared.table.SubTable.{SubTable}
 use Rattle.section_codec.specs.Contents.{last_number}
 use Rattle.section_codec.specs.Keys.{key_in}
 use Rattle.version_book.specs.Airings.{Airing}
+use Rattle.version_book.specs.Book.{KeysDiffer}
 use Rattle.ts_demux.specs.declared.section.RawSection.{RawSection}
 use Rattle.sub_collect.specs.Laws.{IsNumbered}
 use Rattle.air_model.specs.Air.{Sent, header_of}
-use Rattle.air_model.specs.Fit.{AreFit}
+use Rattle.air_model.specs.Fit.{IsFit}
 
 -- a section that is sent, as it is heard whole
 abbrev pub raw_of : Sent → RawSection
@@ -23,7 +24,8 @@ pub record IsReadable (t : SubTable) : Type 0 where
   pub keyed : AllByRecursion (λ (s : NumberedBody). key_in t.key.pid (header_of 0 t s) s.body ≡ Some t.key) t.sections
   pub numbered : IsNumbered t.key t.sections
 
--- The sub-tables of an airing can be sent, and be heard.
+-- The sub-tables of an airing can be sent, and be heard; no two have one key.
 pub record CanBeHeard (a : Airing) : Type 0 where
-  pub fit : AreFit a.tables
+  pub differ : KeysDiffer a.tables
+  pub fit : All IsFit a.tables
   pub readable : AllByRecursion IsReadable a.tables

@@ -1,10 +1,10 @@
 -- Packets with their counters, and sections alone in packets of their own.
-use Rattle.std.proofs.Common.{◌≡◌, ℕ, suc, ◌+◌, ◌%◌, ◌<◌, List, [], ◌∷◌, ◌++◌, Bool, true, false, Some, None, length, refl, sym, ap, ◌∙◌, subst, arith, map, append_assoc, append-nil}
+use Rattle.std.proofs.Common.{◌≡◌, ℕ, suc, ◌+◌, ◌%◌, ◌<◌, List, [], ◌∷◌, ◌++◌, Bool, true, false, Some, None, length, refl, sym, ap, ◌∙◌, subst, arith, append_assoc, append-nil}
 use Rattle.std.specs.Prelude.{◌==◌, if◌then◌else◌, filter_map}
 use Rattle.std.specs.List.{AllByRecursion, cons_option}
 use Rattle.std.proofs.lemmas.Bool.{eqb-true}
 use Rattle.ts_packets.specs.Packets.{Piece, pieces, alone, Carries}
-use Rattle.ts_packets.specs.Bytes.{Packet, HasFields, packet_on, packets_alone}
+use Rattle.ts_packets.specs.Bytes.{Packet, HasFields, packets_alone}
 use Rattle.ts_packets.specs.Counting.{Load, loads_on, piece_on, of_pid, Count}
 use Rattle.ts_packets.proofs.Carrying.{Carries-none, Carries-append, Carries-alone}
 use Rattle.ts_packets.proofs.Stamps.{loads_on-append, of_pid-append, Count-append, one_pid}

@@ -1,12 +1,12 @@
 -- A cycle that sends each section once is one that repeats as it likes.
-use Rattle.std.proofs.Common.{◌≡◌, ℕ, ◌<◌, List, [], ◌∷◌, ◌++◌, length, map, refl, ap, arith}
+use Rattle.std.proofs.Common.{◌≡◌, ◌<◌, List, [], ◌∷◌, ◌++◌, length, map, refl, ap, arith}
 use Rattle.std.specs.Prelude.{flat_map}
 use Rattle.std.specs.List.{AllByRecursion, Contains}
 use Rattle.std.proofs.lemmas.List.Elements.{All-contains, All-contains_itself, All-from_recursion, recursion_from_All, Contains-append_left, Contains-append_right}
 use Rattle.section_codec.specs.declared.table.NumberedBody.{NumberedBody}
 use Rattle.section_codec.specs.declared.table.SubTable.{SubTable}
 use Rattle.version_book.specs.Airings.{Airing, version_at}
-use Rattle.air_model.specs.Air.{Sent, Aired, sent_section, sections_of, cycle_sections, Cycles}
+use Rattle.air_model.specs.Air.{Aired, sent_section, sections_of, cycle_sections, Cycles}
 use Rattle.air_model.specs.Repeating.{IsSentOf, AreSentOf, RepeatingCycles, AirsRepeat}
 
 -- ---- elements of lists
@@ -49,9 +49,10 @@ joined f xs x y has in_one = of_element (λ z. Contains (f z) y → Contains (fl
   where
     go : {X Y : Type 0} (f : X → List Y) (y : Y) (zs : List X) → AllByRecursion (λ z. Contains (f z) y → Contains (flat_map f zs) y) zs
     go f y [] = tt
-    go f y (z ∷ zs) =
-        (λ has. Contains-append_left (f z) (flat_map f zs) y has,
-          all_map (λ w. Contains (f w) y → Contains (flat_map f zs) y) (λ w. Contains (f w) y → Contains (flat_map f (z ∷ zs)) y) (λ w into has. Contains-append_right (f z) (flat_map f zs) y (into has)) zs (go f y zs))
+    go f y (z ∷ zs) = (
+      λ has. Contains-append_left (f z) (flat_map f zs) y has,
+      all_map (λ w. Contains (f w) y → Contains (flat_map f zs) y) (λ w. Contains (f w) y → Contains (flat_map f (z ∷ zs)) y) (λ w into has. Contains-append_right (f z) (flat_map f zs) y (into has)) zs (go f y zs),
+    )
 
 pub all_append : {X : Type 0} (P : X → Type 0) (xs ys : List X) → AllByRecursion P xs → AllByRecursion P ys → AllByRecursion P (xs ++ ys)
 all_append P [] ys p q = q

@@ -1,9 +1,10 @@
 -- Sub-tables that can be sent, and then be heard.
-use Rattle.std.specs.Prelude.{◌≢◌, ◌<◌, ◌≤◌, List, length}
+use Rattle.std.specs.Prelude.{◌≡◌, ◌≢◌, ◌<◌, ◌≤◌, List, [], ◌∷◌, length}
 use Rattle.std.specs.List.{All}
 use Rattle.section_codec.specs.declared.table.NumberedBody.{NumberedBody}
 use Rattle.section_codec.specs.declared.table.SubTable.{SubTable}
 use Rattle.section_codec.specs.Contents.{Ascend}
+use Rattle.section_codec.specs.Tables.{tier_of, tier_rank}
 use Rattle.section_codec.specs.Section.{longest_body}
 use Rattle.version_book.specs.Book.{KeysDiffer}
 
@@ -16,7 +17,15 @@ pub record IsFit (t : SubTable) : Type 0 where
   pub ascending : Ascend t.sections
   pub bodies : All (λ (s : NumberedBody). length s.body ≤ longest_body t.key.table) t.sections
 
--- sub-tables that can be sent in one cycle
+-- sub-tables in the order of their tiers
+abbrev pub AreTiered : List SubTable → Type 0
+AreTiered [] = Unit {0}
+AreTiered (t ∷ []) = Unit {0}
+AreTiered (t ∷ u ∷ ts) = (tier_rank t.tier ≤ tier_rank u.tier) × AreTiered (u ∷ ts)
+
+-- Sub-tables that can be sent in one cycle: each has the tier of its table, and they stand in the order of the tiers.
 pub record AreFit (tables : List SubTable) : Type 0 where
   pub differ : KeysDiffer tables
   pub each : All IsFit tables
+  pub tiers : All (λ (t : SubTable). t.tier ≡ tier_of t.key.table) tables
+  pub ordered : AreTiered tables

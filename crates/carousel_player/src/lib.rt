@@ -2,7 +2,7 @@
 //! written into a sink (ISO/IEC 13818-1, 2.4.3 and 2.4.4; EN 300 468, 5.1).
 //!
 //! A layer above relies on this contract: a player stands for the air that it has handed out; `swap` begins the cycle
-//! of one airing more, `next_packet` gives its next packet, and `play_cycle` appends the rest of it to the sink.
+//! of one airing more and names its packets, `next_packet` gives its next packet, and `play_cycle` appends the rest of it to the sink.
 #![tactic(auto)]
 
 mod cycle;

@@ -1,5 +1,5 @@
 // The player.
-ghost use Rattle.std.specs.Prelude.{◌≡◌, ◌≤◌, ◌↔◌, ◌++◌, [], ◌∷◌, List, ℕ, Some, IsTrue, IsNone, IfNone, IsOk, OnOk, OnErr, flat_map};
+ghost use Rattle.std.specs.Prelude.{◌≡◌, ◌≤◌, ◌<◌, ◌*◌, ◌↔◌, ◌++◌, [], ◌∷◌, List, ℕ, Some, IsTrue, IsNone, IfNone, IsOk, OnOk, OnErr, flat_map};
 ghost use Rattle.std.specs.Io.KnownBytes.{Appends};
 ghost use Rattle.si_causes.specs.Causes.{HasCause};
 ghost use Rattle.ts_packets.specs.Bytes.{Packet, bytes_of_packet};
@@ -57,12 +57,15 @@ impl Player {
     }
 
     /// Begins the cycle of one airing more: of these sub-tables, of the publication with this number, at the moment of
-    /// the swap (EN 300 468, 5.1.1), in a cycle of the player's quota. No packet tells the number. Each section begins in a packet of
-    /// its own. It needs a player at its end, and sub-tables whose keys differ, with PIDs below 8,191, each with at least one section, ascending numbers and bodies that fit a section in
-    /// the long form, and none with the table_id 0xFF, which is fill. All memory is taken first: where it is wanting, the player stays as it was, at its end.
+    /// the swap (EN 300 468, 5.1.1), in a cycle of the player's quota. No packet tells the number. Each section begins in a
+    /// packet of its own. It needs a player at its end, a moment whose day has 16 bits, and sub-tables whose keys differ, in the
+    /// order of their tiers (TR 101 211, 4.4), with PIDs below 8,191, each with at least one section, ascending numbers and bodies
+    /// that fit a section in the long form, and none with the table_id 0xFF, which is fill. All memory is taken first: where it is
+    /// wanting, the player stays as it was, at its end.
     pub fn swap(&mut self, tables: Tables, number: u64, moment: Moment) -> Result<(), AllocError>
         requires at_end { self.old.left ≡ [] }
         requires fit { AreFit tables.list }
+        requires moment { moment.0 < 65536 * 86400 }
         ensures begun { (xs : List Aired) → AtEnd xs self.old → OnOk result (Begins xs (aired tables.list moment.0 (form_of self.old)) self.new) }
         ensures quota { self.new.quota ≡ self.old.quota }
         ensures memory { OnErr result (self.new ≡ self.old) }

@@ -5,7 +5,7 @@ ghost use Rattle.epg_cli.specs.Outcomes.{OutcomesAreCompared};
 ghost use Rattle.epg_cli.specs.Reports.{ReportsTellJournals};
 
 /// What `play` sends, `listen` hears: where an air of a journal of a script, as `play` leaves one, is the recording, each piece of
-/// it is a packet, and just the version changes of the airing list are reported, in order, each with the last packet of its cycle.
+/// it is a packet, and of each key just its version changes along the airing list are reported, in order.
 pub fn play_is_heard()
     ensures { PlayIsHeard }
 {}

@@ -1,5 +1,5 @@
 -- Contents with ascending numbers.
-use Rattle.std.proofs.Common.{◌≡◌, ℕ, zero, suc, ◌+◌, ◌<◌, ◌≤◌, List, [], ◌∷◌, Bool, true, false, ◌==◌, Some, length, refl, sym, ap, ◌∙◌, arith, eq-eqb, eqb-true}
+use Rattle.std.proofs.Common.{◌≡◌, ℕ, ◌+◌, ◌<◌, ◌≤◌, List, [], ◌∷◌, Bool, true, false, ◌==◌, Some, length, refl, ap, ◌∙◌, arith, eq-eqb, eqb-true}
 use Rattle.std.specs.Prelude.{if◌then◌else◌}
 use Rattle.std.specs.List.{AllByRecursion}
 use Rattle.section_codec.specs.declared.table.NumberedBody.{NumberedBody}

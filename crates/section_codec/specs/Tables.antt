@@ -34,3 +34,9 @@ tier_of table =
     if table == 0x50 || table == 0x51 then Near
     else if nat_le 0x52 table && nat_le table 0x5F then Far
     else Fast
+
+-- the place of a tier in a cycle: first Fast, then Near, then Far
+abbrev pub tier_rank : Tier3 → ℕ
+tier_rank Fast = 0
+tier_rank Near = 1
+tier_rank Far = 2

@@ -12,7 +12,7 @@ use Rattle.version_book.proofs.Versions.{is_key-itself}
 use Rattle.sub_collect.specs.Runs.{Counted, latest_section, has_number, latest_with, run_of, needed, needed_at, with_part, gathered, gathered_at, whole, completed}
 use Rattle.sub_collect.specs.Completions.{is_of, of_key}
 use Rattle.sub_collect.specs.Collectors.{body_of}
-use Rattle.sub_collect.specs.Laws.{section_with, sections_with, IsSectionOf, HoldAll, IsNumbered, WholeCompletes, FromZeroIsNumbered}
+use Rattle.sub_collect.specs.Laws.{section_with, sections_with, IsSectionOf, HoldAll, WholeCompletes, FromZeroIsNumbered}
 use Rattle.sub_collect.proofs.Runs.{run_of-new, latest-push, no-latest, version-joins}
 
 -- ---- the run that sections of one version end

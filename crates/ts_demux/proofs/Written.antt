@@ -5,7 +5,7 @@ use Rattle.std.specs.List.{cons_option, AllByRecursion}
 use Rattle.std.proofs.lemmas.List.Elements.{filter_map-append}
 use Rattle.ts_packets.specs.Packets.{Piece, pieces, left, HaveRoom, all_of}
 use Rattle.ts_packets.specs.Bytes.{Packet, HasFields, bytes_of_packet}
-use Rattle.ts_packets.specs.Counting.{Load, load_on, loads_on, piece_on, of_pid, Count}
+use Rattle.ts_packets.specs.Counting.{Load, load_on, loads_on, of_pid, Count}
 use Rattle.ts_packets.proofs.Headers.{reads-written, pid_in-bytes}
 use Rattle.ts_demux.specs.Hearing.{heard, IsSection}
 use Rattle.ts_demux.specs.Arrivals.{Arrival, Arrival.Came, arrival_by, arrival_on, arrivals_on, heard_of}

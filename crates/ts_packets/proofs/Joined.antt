@@ -1,7 +1,7 @@
 -- Packets of a section alone carry it, and payloads joined are sections joined.
 use Rattle.std.proofs.Common.{◌≡◌, ℕ, ◌-◌, List, [], ◌∷◌, ◌++◌, true, length, refl, sym, ap, ◌∙◌, subst, arith, take, replicate, eq-eqb}
 use Rattle.std.proofs.Common.{length-take}
-use Rattle.ts_packets.specs.Packets.{Piece, joined, pieces, alone, useful, Carries}
+use Rattle.ts_packets.specs.Packets.{Piece, joined, pieces, alone, Carries}
 use Rattle.ts_packets.specs.Laws.{AloneIsCarried, PayloadIs, UsefulIsJoined}
 use Rattle.ts_packets.proofs.Filling.{filled-is}
 use Rattle.ts_packets.proofs.Carrying.{Carries-alone, joined_useful}

@@ -1,0 +1,77 @@
+-- The day of each swap has 16 bits.
+use Rattle.std.proofs.Common.{ℕ, ◌<◌, ◌*◌, List, [], ◌∷◌, ◌++◌, Option, sym, subst, inl, inr}
+use Rattle.std.specs.Prelude.{nat_lt}
+use Rattle.std.specs.List.{AllByRecursion, filter_map, cons_option}
+use Rattle.si_time.specs.declared.moment.Moment.{Moment}
+use Rattle.mux_config.specs.declared.mux.Mux.{Mux}
+use Rattle.mux_config.specs.Sound.{IsSound}
+use Rattle.feed_book.specs.Standing.{last_or}
+use Rattle.desk_core.specs.declared.step.Step.{Step}
+use Rattle.desk_core.specs.declared.step.Step.TheVariants.{Edit as edit, Tick, Publish, Swap}
+use Rattle.desk_core.specs.declared.step.Outcome.{Outcome}
+use Rattle.desk_core.specs.declared.step.Outcome.TheVariants.{Edited, Ticked, Late, Published, Swapped}
+use Rattle.desk_core.specs.declared.step.Entry.{Entry}
+use Rattle.desk_core.specs.Steps.{IsStepWithin}
+use Rattle.desk_core.specs.Journal.{LegalAfter, Legal, later_of, latest_of_all, ticked_by, moment_of, outcome_of}
+use Rattle.desk_core.specs.Publications.{aired_by}
+use Rattle.desk_core.specs.Desks.{DeskState, on_air_of}
+use Rattle.desk_core.proofs.JournalFacts.{b_cases}
+use Rattle.desk_core.proofs.HeldFacts.{not_aired}
+
+abbrev InRange : Moment → Type 0
+InRange at = at.0 < 65536 * 86400
+
+later_range : (a b : Moment) → InRange a → InRange b → InRange (later_of a b)
+later_range a b h k = elim (b_cases (nat_lt b.0 a.0)) [
+  | inl first ↦ rw first h
+  | inr second ↦ rw second k
+]
+
+latest_range : (first : Moment) (ms : List Moment) → InRange first → AllByRecursion InRange ms → InRange (latest_of_all first ms)
+latest_range first [] h k = h
+latest_range first (m ∷ ms) h k = latest_range (later_of first m) ms (later_range first m h k.0) k.1
+
+tick_range : (step : Step) (outcome : Outcome) (rest : List Moment) → IsStepWithin step → AllByRecursion InRange rest → AllByRecursion InRange (cons_option (ticked_by step outcome) rest)
+tick_range (Tick at) Ticked rest h k = (h, k)
+tick_range (Tick at) (Edited reply) rest h k = k
+tick_range (Tick at) (Late now) rest h k = k
+tick_range (Tick at) (Published n) rest h k = k
+tick_range (Tick at) (Swapped n now) rest h k = k
+tick_range (edit feed e) outcome rest h k = k
+tick_range Publish outcome rest h k = k
+tick_range Swap outcome rest h k = k
+
+ticks_range : (entries : List Entry) → AllByRecursion (λ (entry : Entry). IsStepWithin entry.step) entries → AllByRecursion InRange (filter_map (λ (entry : Entry). ticked_by entry.step entry.outcome) entries)
+ticks_range [] h = tt
+ticks_range (x ∷ xs) h = tick_range x.step x.outcome _ h.0 (ticks_range xs h.1)
+
+moment_range : (mux : Mux) (entries : List Entry) → IsSound mux → AllByRecursion (λ (entry : Entry). IsStepWithin entry.step) entries → InRange (moment_of mux entries)
+moment_range mux entries sound within = latest_range mux.start _ sound.start (ticks_range entries within)
+
+-- what was aired by one outcome, and what was by the others
+aired_range : (mux : Mux) (before : List Entry) (step : Step) (rest : List (ℕ × Moment)) → InRange (moment_of mux before) → AllByRecursion (λ (aired : ℕ × Moment). InRange aired.1) rest
+    → AllByRecursion (λ (aired : ℕ × Moment). InRange aired.1) (cons_option (aired_by (outcome_of mux before step)) rest)
+aired_range mux before (edit feed e) rest h k = k
+aired_range mux before (Tick at) rest h k = subst (λ (o : Option (ℕ × Moment)). AllByRecursion (λ (aired : ℕ × Moment). InRange aired.1) (cons_option o rest)) (sym (not_aired (moment_of mux before) at)) k
+aired_range mux before Publish rest h k = k
+aired_range mux before Swap rest h k = (h, k)
+
+all_push : {A : Type 0} (P : A → Type 0) (xs : List A) (x : A) → AllByRecursion P xs → P x → AllByRecursion P (xs ++ x ∷ [])
+all_push P [] x h p = (p, tt)
+all_push P (y ∷ ys) x h p = (h.0, all_push P ys x h.1 p)
+
+all_aired : (mux : Mux) (before entries : List Entry) → IsSound mux → AllByRecursion (λ (entry : Entry). IsStepWithin entry.step) before → AllByRecursion (λ (entry : Entry). IsStepWithin entry.step) entries
+    → LegalAfter mux before entries → AllByRecursion (λ (aired : ℕ × Moment). InRange aired.1) (filter_map (λ (entry : Entry). aired_by entry.outcome) entries)
+all_aired mux before [] sound old within legal = tt
+all_aired mux before (e ∷ es) sound old within legal =
+    let rest = all_aired mux (before ++ e ∷ []) es sound (all_push (λ (entry : Entry). IsStepWithin entry.step) before e old within.0) within.1 legal.1 in
+    subst (λ (o : Outcome). AllByRecursion (λ (aired : ℕ × Moment). InRange aired.1) (cons_option (aired_by o) (filter_map (λ (entry : Entry). aired_by entry.outcome) es))) (sym legal.0)
+    (aired_range mux before e.step _ (moment_range mux before sound old) rest)
+
+last_range : (first : ℕ × Moment) (rest : List (ℕ × Moment)) → InRange first.1 → AllByRecursion (λ (aired : ℕ × Moment). InRange aired.1) rest → InRange (last_or first rest).1
+last_range first [] h k = h
+last_range first (x ∷ xs) h k = last_range x xs k.0 k.1
+
+-- the day of what is on air at a desk has 16 bits
+pub on_air_moment : (desk : DeskState) → IsSound desk.mux → Legal desk.mux desk.entries → AllByRecursion (λ (entry : Entry). IsStepWithin entry.step) desk.entries → (on_air_of desk).moment.0 < 65536 * 86400
+on_air_moment desk sound legal within = last_range (0, desk.mux.start) _ sound.start (all_aired desk.mux [] desk.entries sound tt within legal)
