@@ -27,7 +27,7 @@ cut_few size room run (x ∷ xs) le small =
     ]
 
 -- what passes a test, and its sizes
-filter_all : {X : Type 0} (P : X → Type 0) (p : X → Bool) (xs : List X) → AllByRecursion P xs → AllByRecursion P (filter p xs)
+pub filter_all : {X : Type 0} (P : X → Type 0) (p : X → Bool) (xs : List X) → AllByRecursion P xs → AllByRecursion P (filter p xs)
 filter_all P p [] h = tt
 filter_all P p (x ∷ xs) h = elim (cases_Bool (p x)) [
   | inl e ↦ rw e (h.0, filter_all P p xs h.1)

@@ -3,3 +3,4 @@ pub mod Order
 pub mod Cutting
 pub mod Numbers
 pub mod Few
+pub mod EventsOf

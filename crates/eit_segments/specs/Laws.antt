@@ -1,12 +1,12 @@
 -- What the sections of a schedule are, for the layers above.
-use Rattle.std.specs.Prelude.{◌≡◌, ℕ, zero, suc, ◌+◌, ◌-◌, ◌*◌, ◌/◌, ◌≤◌, Bool, ◌==◌, List, [], ◌++◌, Option, Some, None, option_map, find, map}
+use Rattle.std.specs.Prelude.{◌≡◌, ℕ, zero, suc, ◌+◌, ◌-◌, ◌*◌, ◌/◌, ◌%◌, ◌≤◌, Bool, ◌&&◌, ◌==◌, nat_le, nat_lt, List, [], ◌++◌, Option, Some, None, option_map, find, map, take, drop, filter, flat_map}
 use Rattle.std.specs.List.{AllByRecursion, range_with_len}
 use Rattle.guide_model.specs.declared.event.Event.{Event}
 use Rattle.desc_event.specs.EventDescriptors.{entry_size}
 use Rattle.guide_limits.specs.Limits.{AreWithin}
 use Rattle.eit_segments.specs.declared.event.EventAt.{EventAt}
 use Rattle.eit_segments.specs.declared.piece.Piece.{Piece}
-use Rattle.eit_segments.specs.Schedule.{FitSegments, CanBePlaced, last_number, table_sections}
+use Rattle.eit_segments.specs.Schedule.{FitSegments, CanBePlaced, block_runs, last_number, segment_sections, table_sections, schedule_of}
 
 -- ---- what a receiver needs of a table
 
@@ -39,6 +39,26 @@ pub record IsWholeTable (last_of : ℕ) (pieces : List Piece) : Type 0 where
 
 abbrev pub TablesAreWhole : Type 0
 TablesAreWhole = (table first : ℕ) (events : List EventAt) → FitSegments events → IsWholeTable (last_number first events) (table_sections table first events)
+
+-- ---- the events of sections
+
+abbrev pub events_of : List EventAt → Piece → List EventAt
+events_of events piece = take (piece.to - piece.from) (drop piece.from events)
+
+-- The sections of a segment have the runs of its block: the events whose own start lies there, and no others.
+abbrev pub SegmentsHaveRuns : Type 0
+SegmentsHaveRuns =
+    (table last segment block : ℕ) (events : List EventAt) → CanBePlaced events
+    → map (events_of events) (segment_sections table last segment block events) ≡ block_runs block events
+
+-- the events that start in the 64 days from a midnight on
+abbrev pub scheduled : ℕ → List EventAt → List EventAt
+scheduled day events = filter (λ (event : EventAt). nat_le day event.start.0 && nat_lt event.start.0 (day + 5529600)) events
+
+-- The sections of a schedule have the events of its 64 days, each once and in order.
+abbrev pub SchedulesHaveEvents : Type 0
+SchedulesHaveEvents =
+    (day : ℕ) (events : List EventAt) → day % 86400 ≡ 0 → CanBePlaced events → flat_map (events_of events) (schedule_of day events) ≡ scheduled day events
 
 -- ---- the events of a service
 
