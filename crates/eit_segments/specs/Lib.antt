@@ -1,0 +1,4 @@
+pub mod Placement
+pub mod Schedule
+pub mod Laws
+pub mod Rows
