@@ -1,5 +1,5 @@
 -- What one turn does to the journal of a desk, and to what its pass knows.
-use Rattle.std.specs.Prelude.{◌≡◌, ◌⊎◌, ℕ, List, [], ◌∷◌, ◌++◌, map, Option, Some, Ok, Err, Result}
+use Rattle.std.specs.Prelude.{◌≡◌, ◌⊎◌, ◌<◌, ◌*◌, ℕ, List, [], ◌∷◌, ◌++◌, map, Option, Some, Ok, Err, Result}
 use mathlib.Core.List.{IsPrefix}
 use Rattle.mux_config.specs.declared.mux.Mux.{Mux}
 use Rattle.guide_limits.specs.Limits.{IsGuideWithin}
@@ -36,6 +36,7 @@ StepDone mux step who before after (Err e) = (after ≡ before) × Legal mux aft
 abbrev pub SwapDone : {E : Type 0} → Mux → ℕ → List Entry → List Entry → Result Airing E → Type 0
 SwapDone mux who before after (Ok airing) =
     (airing ≡ latest_of (desk_with mux before)) × (after ≡ before ++ entry_of who Swap (Swapped airing.number airing.moment) ∷ []) × Legal mux after × IsGuideWithin airing.guide
+    × (airing.moment.0 < 65536 * 86400)
 SwapDone mux who before after (Err e) = (after ≡ before) × Legal mux after
 
 -- ---- what it does to the pass

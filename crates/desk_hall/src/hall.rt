@@ -1,5 +1,5 @@
 // The hall: a desk that callers use in turns.
-ghost use Rattle.std.specs.Prelude.{◌≡◌, ◌<◌, ℕ, Some, IfOk, OnErr};
+ghost use Rattle.std.specs.Prelude.{◌≡◌, ◌<◌, ◌*◌, ℕ, Some, IfOk, OnErr};
 ghost use Rattle.mux_config.specs.Sound.{IsSound};
 ghost use Rattle.guide_limits.specs.Limits.{IsGuideWithin};
 ghost use Rattle.feed_book.specs.Replies.{IsDayWithin};
@@ -129,6 +129,7 @@ impl Hall {
         ensures made { IfOk result (λ airing. Made Swap (Swapped airing.number airing.moment) pass.old pass.new) }
         ensures airing { IfOk result (λ airing. IsAiring pass.new airing) }
         ensures within { IfOk result (λ airing. IsGuideWithin airing.guide) }
+        ensures moment { IfOk result (λ airing. airing.moment.0 < 65536 * 86400) }
         ensures memory { OnErr result (Idle pass.old pass.new) }
         ensures keeps { Keeps pass.old pass.new }
     {

@@ -72,7 +72,7 @@ impl Job<HallState> for Swapping {
     }
 }
 
-ghost use Rattle.std.specs.Prelude.{IfOk, OnErr};
+ghost use Rattle.std.specs.Prelude.{◌<◌, ◌*◌, IfOk, OnErr};
 ghost use Rattle.guide_limits.specs.Limits.{IsGuideWithin};
 ghost use Rattle.desk_core.specs.declared.step.Step.TheVariants.{Swap};
 ghost use Rattle.desk_core.specs.declared.step.Outcome.TheVariants.{Swapped};
@@ -82,6 +82,7 @@ ghost use Rattle.desk_core.specs.Desks.{latest_of, and_entry};
 fn swap(who: u32, desk: &mut Desk) -> Result<Airing, AllocError>
     ensures airing { IfOk result (λ airing. airing ≡ latest_of desk.old) }
     ensures within { IfOk result (λ airing. IsGuideWithin airing.guide) }
+    ensures moment { IfOk result (λ airing. airing.moment.0 < 65536 * 86400) }
     ensures entry { IfOk result (λ airing. desk.new ≡ and_entry desk.old who Swap (Swapped airing.number airing.moment)) }
     ensures memory { OnErr result (desk.new ≡ desk.old) }
 {

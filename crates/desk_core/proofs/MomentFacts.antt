@@ -5,7 +5,7 @@ use Rattle.std.specs.List.{AllByRecursion, filter_map, cons_option}
 use Rattle.si_time.specs.declared.moment.Moment.{Moment}
 use Rattle.mux_config.specs.declared.mux.Mux.{Mux}
 use Rattle.mux_config.specs.Sound.{IsSound}
-use Rattle.feed_book.specs.Standing.{last_or}
+use Rattle.guide_limits.specs.Standing.{last_or}
 use Rattle.desk_core.specs.declared.step.Step.{Step}
 use Rattle.desk_core.specs.declared.step.Step.TheVariants.{Edit as edit, Tick, Publish, Swap}
 use Rattle.desk_core.specs.declared.step.Outcome.{Outcome}
@@ -14,7 +14,9 @@ use Rattle.desk_core.specs.declared.step.Entry.{Entry}
 use Rattle.desk_core.specs.Steps.{IsStepWithin}
 use Rattle.desk_core.specs.Journal.{LegalAfter, Legal, later_of, latest_of_all, ticked_by, moment_of, outcome_of}
 use Rattle.desk_core.specs.Publications.{aired_by}
-use Rattle.desk_core.specs.Desks.{DeskState, on_air_of}
+use Rattle.desk_core.specs.declared.step.Airing.{Airing}
+use Rattle.desk_core.specs.declared.held.Held.{Held}
+use Rattle.desk_core.specs.Holding.{IsHeld}
 use Rattle.desk_core.proofs.JournalFacts.{b_cases}
 use Rattle.desk_core.proofs.HeldFacts.{not_aired}
 
@@ -72,6 +74,10 @@ last_range : (first : ℕ × Moment) (rest : List (ℕ × Moment)) → InRange f
 last_range first [] h k = h
 last_range first (x ∷ xs) h k = last_range x xs k.0 k.1
 
--- the day of what is on air at a desk has 16 bits
-pub on_air_moment : (desk : DeskState) → IsSound desk.mux → Legal desk.mux desk.entries → AllByRecursion (λ (entry : Entry). IsStepWithin entry.step) desk.entries → (on_air_of desk).moment.0 < 65536 * 86400
-on_air_moment desk sound legal within = last_range (0, desk.mux.start) _ sound.start (all_aired desk.mux [] desk.entries sound tt within legal)
+-- the days of what a desk keeps have 16 bits
+pub held_moment : (mux : Mux) (entries : List Entry) (held : Held) → IsHeld mux entries held → held.moment.0 < 65536 * 86400
+held_moment mux entries held h = subst InRange (sym h.moment) (moment_range mux entries h.sound h.steps)
+
+pub held_on_air : (mux : Mux) (entries : List Entry) (held : Held) → IsHeld mux entries held → held.on_air.moment.0 < 65536 * 86400
+held_on_air mux entries held h =
+    subst (λ (on : Airing). on.moment.0 < 65536 * 86400) (sym h.on_air) (last_range (0, mux.start) _ h.sound.start (all_aired mux [] entries h.sound tt h.steps h.legal))
