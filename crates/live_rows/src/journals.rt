@@ -35,3 +35,14 @@ pub fn put_edits(out: &mut String, entries: &[Entry]) -> Result<(), AllocError> 
     }
     Ok(())
 }
+
+/// Appends the entries of all callers but caller 0.
+pub fn put_others(out: &mut String, entries: &[Entry]) -> Result<(), AllocError> {
+    for entry in entries {
+        if entry.who > 0 {
+            put_entry(out, entry)?;
+            out.push_str("; ")?;
+        }
+    }
+    Ok(())
+}

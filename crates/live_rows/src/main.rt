@@ -12,6 +12,7 @@ mod journals;
 mod lines;
 mod reads;
 mod rows;
+mod runs;
 mod words;
 
 use std::io;

@@ -1,7 +1,8 @@
 // A row and its answer.
 use crate::lines::{Cut, WHOLE, reader};
 use crate::reads::Reads;
-use crate::{callers, calls, reads};
+use crate::runs::Run;
+use crate::{callers, calls, reads, runs};
 use input_lines::numeral;
 use std::alloc::{AllocError, Global};
 use std::marker::Sync;
@@ -66,6 +67,38 @@ fn tell_held<W: Threads + Wait + Sync>(
     }
 }
 
+// A run: `CYCLES JOIN N HOLDS CONTROL ; FEED ; FEED`.
+fn run_of(row: &str) -> Option<Run<'_>> {
+    let (cycles, row) = row.split_once(' ')?;
+    let (join, row) = row.split_once(' ')?;
+    let (fails_at, row) = row.split_once(' ')?;
+    let (holds, row) = row.split_once(' ')?;
+    let (control, feeds) = row.split_once(" ; ")?;
+    let (first, second) = feeds.split_once(" ; ")?;
+    Some(Run {
+        cycles: numeral(cycles)?,
+        join: numeral(join)?,
+        fails_at: numeral(fails_at)?,
+        holds,
+        control,
+        first,
+        second,
+    })
+}
+
+fn tell_live<W: Threads + Wait + Sync>(
+    rt: &W,
+    alloc: Global,
+    row: &str,
+    in_order: bool,
+    out: &mut String,
+) -> Result<(), AllocError> {
+    match run_of(row) {
+        Some(run) => runs::tell(rt, alloc, &run, in_order, out),
+        None => out.push_str("no row"),
+    }
+}
+
 // Appends what a row gives.
 fn tell<W: Threads + Wait + Sync>(
     rt: &W,
@@ -80,6 +113,8 @@ fn tell<W: Threads + Wait + Sync>(
         "calls" => tell_calls(rt, alloc, text, out),
         "callers" => tell_callers(rt, alloc, text, out),
         "held" => tell_held(rt, alloc, text, out),
+        "live" => tell_live(rt, alloc, text, false, out),
+        "order" => tell_live(rt, alloc, text, true, out),
         _ => out.push_str("no row"),
     }
 }

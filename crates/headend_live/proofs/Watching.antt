@@ -1,0 +1,100 @@
+-- What is heard of the air of a run.
+use Rattle.std.proofs.Common.{◌≡◌, ◌≢◌, ℕ, ◌+◌, ◌/◌, Bool, true, false, List, [], ◌∷◌, ◌++◌, length, take, drop, map, flat_map, refl, sym, ap, ◌∙◌, subst, arith}
+use Rattle.std.specs.Prelude.{Option, Some, Ok, Err, Result, OnOk, OnErr}
+use Rattle.std.specs.List.{AllByRecursion}
+use Rattle.std.proofs.lemmas.List.{take_all}
+use Rattle.std.proofs.Math.Seq.{take-append-add}
+use Rattle.std.specs.Io.KnownBytes.{Appends}
+use Rattle.mux_config.specs.declared.mux.Mux.{Mux}
+use Rattle.ts_packets.specs.Bytes.{Packet, bytes_of_packet}
+use Rattle.version_book.specs.Airings.{Airing}
+use Rattle.air_model.specs.Air.{Aired, IsAirOf, air, air_bytes}
+use Rattle.air_model.proofs.Airs.{air-whole, air_bytes-push}
+use Rattle.desk_core.specs.declared.step.Entry.{Entry}
+use Rattle.guide_receiver.specs.Heard.{Hearing}
+use Rattle.headend_live.specs.declared.send.SendStop.{SendStop}
+use Rattle.headend_live.specs.declared.send.SendStop.TheVariants.{Air, Memory}
+use Rattle.air_monitor.specs.declared.done_line.DoneLine.{DoneLine}
+use Rattle.air_monitor.specs.Heard.{AreInSync, AreWhole, HasTaken, HearsBy, WasHeard, Watching, WatchedOn, joined, whole_packets}
+use Rattle.air_monitor.specs.Watches.{watched_at_once}
+use Rattle.air_monitor.proofs.Packets.{heard_front, told_taken, was_heard, whole_packets-front}
+use Rattle.headend_live.specs.Live.{AirDid}
+use Rattle.headend_live.specs.Watched.{HeardOfAir, HeardWhole, watched_stop}
+use Rattle.headend_live.specs.declared.live.LiveStop.{LiveStop}
+use Rattle.headend_live.specs.declared.live.LiveStop.TheVariants as live
+
+packets_whole : (ps : List Packet) → AllByRecursion (λ (p : Packet). length (bytes_of_packet p) ≡ 188) ps → AreWhole (map bytes_of_packet ps)
+packets_whole [] all = tt
+packets_whole (p ∷ ps) all = (all.0, packets_whole ps all.1)
+
+packets_sync : (ps : List Packet) → AreInSync (map bytes_of_packet ps)
+packets_sync [] = tt
+packets_sync (p ∷ ps) = (refl, packets_sync ps)
+
+packets_joined : (ps : List Packet) → flat_map bytes_of_packet ps ≡ joined (map bytes_of_packet ps)
+packets_joined [] = refl
+packets_joined (p ∷ ps) = ap (λ t. bytes_of_packet p ++ t) (packets_joined ps)
+
+-- a front of an air was appended
+record FrontOfAir (before now : Option (List ℕ)) : Type 0 where
+  airings : List Airing
+  cycles : List Aired
+  is_air : IsAirOf airings cycles
+  n : ℕ
+  bytes : Appends before now (take n (air_bytes cycles))
+
+whole_air : (airings : List Airing) (cycles : List Aired) (before now : Option (List ℕ)) → IsAirOf airings cycles → Appends before now (air_bytes cycles) → FrontOfAir before now
+whole_air airings cycles before now is bytes = record {
+  airings = airings;
+  cycles = cycles;
+  is_air = is;
+  n = length (air_bytes cycles);
+  bytes = subst (Appends before now) (sym (take_all (length (air_bytes cycles)) (air_bytes cycles) (omega arith))) bytes;
+}
+
+front_of_air : (mux : Mux) (journal : List Entry) (before now : Option (List ℕ)) (sent : Result (Unit {0}) SendStop) → AirDid mux journal before now sent → FrontOfAir before now
+front_of_air mux journal before now (Ok u) did = whole_air _ did.cycles before now did.is_air did.bytes
+front_of_air mux journal before now (Err Air) did = record {
+  airings = _;
+  cycles = did.whole ++ did.cut ∷ [];
+  is_air = did.is_air;
+  n = length (air_bytes did.whole) + did.taken;
+  bytes = subst (Appends before now)
+      (sym (ap (take (length (air_bytes did.whole) + did.taken)) (air_bytes-push did.whole did.cut) ∙ take-append-add (air_bytes did.whole) (flat_map bytes_of_packet did.cut.packets) did.taken)) did.bytes;
+}
+front_of_air mux journal before now (Err Memory) did = whole_air _ did.cycles before now did.is_air did.bytes
+
+pub heard_of_air : (mux : Mux) (journal : List Entry) (join : ℕ) (before now : Option (List ℕ)) (sent : Result (Unit {0}) SendStop) (wanting : Bool) (receiver : Hearing) (dones : List DoneLine) (bytes : List ℕ)
+    → before ≡ Some bytes → AirDid mux journal before now sent → WasHeard join before now wanting receiver dones → HeardOfAir join before now wanting receiver dones
+heard_of_air mux journal join before now sent wanting receiver dones bytes told did was =
+    let front = front_of_air mux journal before now sent did in
+    let packets = map bytes_of_packet (air front.cycles) in
+    let whole = packets_whole (air front.cycles) (air-whole front.airings front.cycles front.is_air) in
+    let is : was.taken ≡ take front.n (joined packets) = told_taken before now bytes was.taken (take front.n (air_bytes front.cycles)) told was.gave front.bytes ∙ ap (take front.n) (packets_joined (air front.cycles)) in
+    let heard = heard_front join front.n was.taken packets wanting receiver dones whole (packets_sync (air front.cycles)) is was.heard in
+    let are : whole_packets was.taken ≡ take (front.n / 188) packets = ap whole_packets is ∙ whole_packets-front packets front.n whole in
+    record {
+      taken = was.taken;
+      gave = was.gave;
+      heard = subst (λ (ps : List (List ℕ)). HearsBy wanting join (drop join ps) receiver dones) (sym are) heard;
+    }
+
+-- the monitor keeps the reference that it was lent, whether the run began or not
+pub reference_by : {A N T E : Type 0} (name : A → N) (written : A → Option (List ℕ)) (is_same : A → A → Type 0) (names : (a b : A) → is_same a b → name b ≡ name a) (r : Result T E) (m n : Watching A)
+    → OnOk r (WatchedOn written is_same m n) → OnErr r (n ≡ m) → name n.air ≡ name m.air
+reference_by name written is_same names (Ok x) m n on same = names m.air n.air on.same_air
+reference_by name written is_same names (Err e) m n on same = ap (λ (w : Watching _). name w.air) same
+
+-- and what was heard is known in either case
+pub was_heard_by : {A T E : Type 0} (written : A → Option (List ℕ)) (is_same : A → A → Type 0) (r : Result T E) (m n : Watching A) → HasTaken [] m.part m.listener
+    → OnOk r (WatchedOn written is_same m n) → OnErr r (n ≡ m) → WasHeard m.listener.join (written m.air) (written n.air) n.listener.wanting n.listener.receiver n.listener.dones
+was_heard_by written is_same (Ok x) m n has on same = was_heard written is_same m n has on
+was_heard_by written is_same (Err e) m n has on same =
+    subst (λ (w : Watching _). WasHeard m.listener.join (written m.air) (written w.air) w.listener.wanting w.listener.receiver w.listener.dones) (sym same)
+    (was_heard written (λ _ _. Unit {0}) m m has (watched_at_once written (λ _ _. Unit {0}) (λ _. tt) m))
+
+-- where the stop is no want of memory, the lines are exact
+pub heard_whole : (join : ℕ) (before now : Option (List ℕ)) (wanting : Bool) (receiver : Hearing) (dones : List DoneLine) (stop : Option LiveStop) → HeardOfAir join before now wanting receiver dones
+    → watched_stop wanting stop ≢ Some live.Memory → HeardWhole join before now receiver dones
+heard_whole join before now false receiver dones stop h other = record { taken = h.taken; gave = h.gave; stands = h.heard.0; lines = h.heard.1 }
+heard_whole join before now true receiver dones stop h other = absurd (other refl)

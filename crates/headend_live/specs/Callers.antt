@@ -1,0 +1,49 @@
+-- Each caller's commands in the journal of a run.
+use Rattle.std.specs.Prelude.{◌≡◌, ℕ, ◌+◌, List, [], ◌∷◌, ◌++◌, map, Option, Some, None, Result}
+use Rattle.si_causes.specs.Reading.{Reading, text_left}
+use Rattle.mux_config.specs.declared.mux.Mux.{Mux}
+use Rattle.carousel_player.specs.Playing.{Playing}
+use Rattle.feed_edits.specs.declared.stop.EditStop.{EditStop}
+use Rattle.feed_edits.specs.Ahead.{Ahead, Stop, ahead}
+use Rattle.feed_edits.specs.Edits.{edits_ahead}
+use Rattle.desk_core.specs.declared.step.Step.{Step}
+use Rattle.desk_core.specs.declared.step.Entry.{Entry}
+use Rattle.desk_core.specs.Journal.{Command, command_of}
+use Rattle.headend_live.specs.declared.send.SendStop.{SendStop}
+use Rattle.turn_lock.specs.Journal.{entries_of}
+use Rattle.turn_lock.specs.Knowledge.{TableId}
+use Rattle.desk_hall.specs.Turn.{caller_of}
+use Rattle.desk_hall.specs.Reads.{commands_by, edit_step, control_step, controls_ahead, ToldDid, TakenDid}
+use Rattle.headend_live.specs.declared.jobs.ControlJob.{ControlJob}
+use Rattle.headend_live.specs.declared.live.Ended.{Ended}
+use Rattle.headend_live.specs.Live.{LiveDid, first_stop}
+use Rattle.headend_live.specs.Back.{lines_back}
+
+-- under this number the journal has these commands, each once, in order
+abbrev pub CommandsAre : List Entry → ℕ → List Command → Type 0
+CommandsAre journal who commands = map command_of (entries_of caller_of who journal) ≡ commands
+
+-- Under its number the journal has the commands of what a caller read from its lines, and then these.
+pub record CallerRead {T S : Type 0} (step : T → Step) (all : Ahead → List T × Stop) (left : S → Option (List ℕ)) (journal : List Entry) (who : ℕ) (then : List Command)
+    (old new : Reading S) (stop : Option EditStop) : Type 0 where
+  pub did : (values : List T) × CommandsAre journal who (commands_by who step values ++ then)
+  pub told : old.stop ≡ None → (text : List ℕ) → text_left left old ≡ Some text → ToldDid (λ values. CommandsAre journal who (commands_by who step values ++ then)) (all (ahead old text)) stop
+  pub taken : old.stop ≡ None → TakenDid (λ values. CommandsAre journal who (commands_by who step values ++ then)) left all old new stop
+
+-- so has each feed: feed n is caller n + 1
+abbrev pub FeedsRead : {S : Type 0} → (S → Option (List ℕ)) → List Entry → ℕ → List (Reading S) → Type 0
+FeedsRead left journal n [] = Unit {0}
+FeedsRead {S} left journal n (reader ∷ readers) =
+    ((new : Reading S) × (stop : Option EditStop) × CallerRead (edit_step n) edits_ahead left journal (n + 1) [] reader new stop) × FeedsRead left journal (n + 1) readers
+
+-- A run's callers, each with exactly its commands; behind the control's lines stand its last turns.
+abbrev pub HaveTheirCommands : {F S : Type 0} → (F → Option (List ℕ)) → (S → Option (List ℕ)) → List Entry → List (Reading F) → Reading S → ControlJob S → List Entry → Type 0
+HaveTheirCommands left leftS journal readers reader control final =
+    FeedsRead left journal 1 readers × CallerRead control_step controls_ahead leftS journal 0 (map command_of final) reader control.lines control.stop
+
+-- A run: what it did, each caller with its commands, why the jobs that read stopped, and their readers, in the order of the feeds.
+abbrev pub HasRun : {F S : Type 0} → (F → Option (List ℕ)) → (F → ℕ) → (F → F → Type 0) → (S → Option (List ℕ)) → (S → ℕ) → (S → S → Type 0) → Mux → ℕ → List (Reading F) → Reading S → Option (List ℕ) → Option (List ℕ) → Ended F S → Type 0
+HasRun left faults is_same leftS faultsS is_sameS mux cycles feeds control before now end =
+    (turns : TableId) × (playing : Playing) × (d : LiveDid left faults is_same leftS faultsS is_sameS turns mux cycles feeds control playing before now end.desk.entries end.sent)
+    × HaveTheirCommands left leftS end.desk.entries feeds control d.control d.final
+    × (end.feeds.items ≡ lines_back d.feeds) × (end.lines ≡ d.control.lines) × (end.control ≡ d.control.stop) × (end.feed ≡ first_stop d.feeds)

@@ -1,0 +1,181 @@
+// A run of feeds, control and player, whose air is heard.
+ghost use Rattle.std.specs.Prelude.{◌≡◌, ◌≤◌, OnErr, IfOk, [], length};
+ghost use Rattle.mux_config.specs.Sound.{IsSound};
+ghost use Rattle.headend_live.specs.OnAir.{HasAirCause};
+ghost use Rattle.air_monitor.specs.Heard.{HasTaken, WasHeard};
+ghost use Rattle.headend_live.specs.Callers.{HasRun};
+ghost use Rattle.headend_live.specs.Watched.{LiveRan, wanting_stop, watched_stop};
+ghost use Rattle.headend_live.specs.Live.{run_stop};
+
+use crate::live::{Ended, LiveStop, and_stop, run_hall};
+use air_monitor::{DoneLines, Monitor, MonitorLog};
+use desk_core::Desk;
+use mux_config::Mux;
+use si_causes::{Gate, LineReader, Sink, Source};
+use std::alloc::{AllocError, Global};
+use std::sync::Wait;
+use std::thread::Threads;
+
+/// How many cycles the player sends, and from which packet on, counted from 0, the air is heard.
+#[derive(Clone, Copy, PartialEq, Eq)]
+pub struct LivePlan {
+    pub cycles: u64,
+    pub join: u64,
+}
+
+/// The readers of the feeds, in the order of their numbers.
+pub type Readers<F> = Vec<LineReader<F>>;
+
+/// What a run leaves: the desk with its journal, the completions that were heard, why it stopped, and the readers as its jobs left
+/// them.
+#[derive(Drop)]
+pub struct LiveEnd<F: Source, S: Source> {
+    pub desk: Desk,
+    pub dones: DoneLines,
+    pub stop: Option<LiveStop>,
+    pub feeds: Readers<F>,
+    pub control: LineReader<S>,
+}
+
+// The stop of a run, where want of memory for what was heard is one too.
+fn watched_stop(wanting: bool, stop: Option<LiveStop>) -> Option<LiveStop>
+    ensures { result ≡ watched_stop wanting stop }
+{
+    and_stop(wanting_stop(wanting), stop)
+}
+
+fn wanting_stop(wanting: bool) -> Option<LiveStop>
+    ensures { result ≡ wanting_stop wanting }
+{
+    match wanting {
+        true => Some(LiveStop::Memory),
+        false => None,
+    }
+}
+
+// The end of a run, or that it did not begin, and what was heard.
+#[derive(Drop)]
+struct Ran<F: Source, S: Source> {
+    end: Result<Ended<F, S>, AllocError>,
+    heard: MonitorLog,
+}
+
+// Runs through a monitor. That it keeps the reference that it was lent is a clause of its own, for by it the caller knows its air.
+fn run_through<
+    W: Threads + Wait + Sync,
+    F: Source + Send,
+    S: Source + Send,
+    A: Sink + Send,
+    G: Gate,
+>(
+    rt: &W,
+    alloc: Global,
+    mux: Mux,
+    cycles: u64,
+    feeds: Vec<LineReader<F>>,
+    control: LineReader<S>,
+    monitor: &mut Monitor<&mut A>,
+    gate: &G,
+) -> Result<Ended<F, S>, AllocError>
+    requires sound { IsSound mux }
+    requires few { length feeds.items ≤ 16 }
+    requires cycles { cycles ≤ 1000 }
+    ensures did { IfOk result (λ end. HasRun F.left F.faults F.same S.left S.faults S.same mux cycles feeds.items control (A.written monitor.old.air.now) (A.written monitor.new.air.now) end) }
+    ensures mux { IfOk result (λ end. end.desk.mux ≡ mux) }
+    ensures stop { IfOk result (λ end. end.stop ≡ run_stop end.sent end.control end.feed) }
+    ensures cause { IfOk result (λ end. HasAirCause (A.faults monitor.old.air.now) (A.faults monitor.new.air.now) end.sent) }
+    ensures memory { OnErr result (monitor.new.air ≡ monitor.old.air) }
+    ensures reference { monitor.new.air.ghost_name ≡ monitor.old.air.ghost_name }
+    ensures watched { HasTaken [] monitor.old.part monitor.old.listener → WasHeard monitor.old.listener.join (A.written monitor.old.air.now) (A.written monitor.new.air.now) monitor.new.listener.wanting monitor.new.listener.receiver monitor.new.listener.dones }
+{
+    run_hall(rt, alloc, mux, cycles, feeds, control, monitor, gate)
+}
+
+// Runs, and gives back what was heard.
+fn run_and_hear<
+    W: Threads + Wait + Sync,
+    F: Source + Send,
+    S: Source + Send,
+    A: Sink + Send,
+    G: Gate,
+>(
+    rt: &W,
+    alloc: Global,
+    mux: Mux,
+    cycles: u64,
+    join: u64,
+    feeds: Vec<LineReader<F>>,
+    control: LineReader<S>,
+    air: &mut A,
+    gate: &G,
+) -> Ran<F, S>
+    requires sound { IsSound mux }
+    requires few { length feeds.items ≤ 16 }
+    requires cycles { cycles ≤ 1000 }
+    ensures did { IfOk result.end (λ end. HasRun F.left F.faults F.same S.left S.faults S.same mux cycles feeds.items control (A.written air.old) (A.written air.new) end) }
+    ensures mux { IfOk result.end (λ end. end.desk.mux ≡ mux) }
+    ensures stop { IfOk result.end (λ end. end.stop ≡ run_stop end.sent end.control end.feed) }
+    ensures cause { IfOk result.end (λ end. HasAirCause (A.faults air.old) (A.faults air.new) end.sent) }
+    ensures memory { OnErr result.end (air.new ≡ air.old) }
+    ensures heard { WasHeard join (A.written air.old) (A.written air.new) result.heard.wanting result.heard.receiver result.heard.dones }
+{
+    let mut monitor = Monitor::open(alloc, &mut *air, join);
+    let end = run_through(rt, alloc, mux, cycles, feeds, control, &mut monitor, gate);
+    let heard = monitor.take_log();
+    let _air = monitor.close();
+    Ran { end, heard }
+}
+
+/// Runs feeds, control and player side by side over a fresh desk, in threads where they can be had: the control is caller 0, the
+/// player caller 1, and feed f caller f + 1. The player makes its swaps, each followed by its whole cycle; the others do the lines
+/// that their readers still have. A job that meets a fault ends, and the others go on. Where none met one, caller 0 then publishes,
+/// swaps, and swaps again, with a cycle behind each swap. The packets of the air are heard from packet `plan.join` on.
+///
+/// `AllocError` is want of memory before any job has started, and leaves the air as it was.
+pub fn run_live<
+    W: Threads + Wait + Sync,
+    F: Source + Send,
+    S: Source + Send,
+    A: Sink + Send,
+    G: Gate,
+>(
+    rt: &W,
+    alloc: Global,
+    mux: Mux,
+    plan: LivePlan,
+    feeds: Readers<F>,
+    control: LineReader<S>,
+    air: &mut A,
+    gate: &G,
+) -> Result<LiveEnd<F, S>, AllocError>
+    requires sound { IsSound mux }
+    requires few { length feeds.items ≤ 16 }
+    requires cycles { plan.cycles ≤ 1000 }
+    ensures ran { IfOk result (λ end. LiveRan F.left F.faults F.same S.left S.faults S.same mux plan feeds.items control (A.written air.old) (A.written air.new) (A.faults air.old) (A.faults air.new) end) }
+    ensures memory { OnErr result (air.new ≡ air.old) }
+{
+    let Ran { end, heard } = run_and_hear(
+        rt,
+        alloc,
+        mux,
+        plan.cycles,
+        plan.join,
+        feeds,
+        control,
+        air,
+        gate,
+    );
+    match end {
+        Ok(end) => {
+            let stop = watched_stop(heard.wanting, end.stop);
+            Ok(LiveEnd {
+                desk: end.desk,
+                dones: heard.dones,
+                stop,
+                feeds: end.feeds,
+                control: end.lines,
+            })
+        }
+        Err(error) => Err(error),
+    }
+}
