@@ -1,5 +1,5 @@
 -- Each caller's commands in the journal of a run.
-use Rattle.std.specs.Prelude.{◌≡◌, ℕ, ◌+◌, List, [], ◌∷◌, ◌++◌, map, Option, Some, None, Result}
+use Rattle.std.specs.Prelude.{◌≡◌, ℕ, suc, ◌+◌, ◌<◌, ◌≤◌, List, [], ◌∷◌, ◌++◌, length, map, Option, Some, None, Ok, Err, Result}
 use Rattle.si_causes.specs.Reading.{Reading, text_left}
 use Rattle.mux_config.specs.declared.mux.Mux.{Mux}
 use Rattle.carousel_player.specs.Playing.{Playing}
@@ -10,11 +10,15 @@ use Rattle.desk_core.specs.declared.step.Step.{Step}
 use Rattle.desk_core.specs.declared.step.Entry.{Entry}
 use Rattle.desk_core.specs.Journal.{Command, command_of}
 use Rattle.headend_live.specs.declared.send.SendStop.{SendStop}
+use Rattle.headend_live.specs.declared.send.SendStop.TheVariants.{Air, Memory}
 use Rattle.turn_lock.specs.Journal.{entries_of}
 use Rattle.turn_lock.specs.Knowledge.{TableId}
 use Rattle.desk_hall.specs.Turn.{caller_of}
 use Rattle.desk_hall.specs.Reads.{commands_by, edit_step, control_step, controls_ahead, ToldDid, TakenDid}
+use Rattle.headend_live.specs.declared.jobs.FeedJob.{FeedJob}
 use Rattle.headend_live.specs.declared.jobs.ControlJob.{ControlJob}
+use Rattle.headend_live.specs.declared.jobs.PlayerJob.{PlayerJob}
+use Rattle.headend_live.specs.Playing.{swaps_by}
 use Rattle.headend_live.specs.declared.live.Ended.{Ended}
 use Rattle.headend_live.specs.Live.{LiveDid, first_stop}
 use Rattle.headend_live.specs.Back.{lines_back}
@@ -30,20 +34,30 @@ pub record CallerRead {T S : Type 0} (step : T → Step) (all : Ahead → List T
   pub told : old.stop ≡ None → (text : List ℕ) → text_left left old ≡ Some text → ToldDid (λ values. CommandsAre journal who (commands_by who step values ++ then)) (all (ahead old text)) stop
   pub taken : old.stop ≡ None → TakenDid (λ values. CommandsAre journal who (commands_by who step values ++ then)) left all old new stop
 
--- so has each feed: feed n is caller n + 1
-abbrev pub FeedsRead : {S : Type 0} → (S → Option (List ℕ)) → List Entry → ℕ → List (Reading S) → Type 0
-FeedsRead left journal n [] = Unit {0}
-FeedsRead {S} left journal n (reader ∷ readers) =
-    ((new : Reading S) × (stop : Option EditStop) × CallerRead (edit_step n) edits_ahead left journal (n + 1) [] reader new stop) × FeedsRead left journal (n + 1) readers
+-- So has each feed, up to the stop of its job: feed n is caller n + 1. The last job stands first.
+abbrev pub FeedsRead : {S : Type 0} → (S → Option (List ℕ)) → List Entry → ℕ → List (Reading S) → List (FeedJob S) → Type 0
+FeedsRead left journal n [] jobs = jobs ≡ []
+FeedsRead {S} left journal n (reader ∷ readers) jobs =
+    (rest : List (FeedJob S)) × (job : FeedJob S) × (jobs ≡ rest ++ job ∷ []) × (job.feed ≡ n) × CallerRead (edit_step n) edits_ahead left journal (n + 1) [] reader job.lines job.stop
+    × FeedsRead left journal (n + 1) readers rest
 
--- A run's callers, each with exactly its commands; behind the control's lines stand its last turns.
-abbrev pub HaveTheirCommands : {F S : Type 0} → (F → Option (List ℕ)) → (S → Option (List ℕ)) → List Entry → List (Reading F) → Reading S → ControlJob S → List Entry → Type 0
-HaveTheirCommands left leftS journal readers reader control final =
-    FeedsRead left journal 1 readers × CallerRead control_step controls_ahead leftS journal 0 (map command_of final) reader control.lines control.stop
+-- Caller 1 made its swaps: all, or so many of them where the air failed in the last or memory was wanting.
+abbrev pub PlayerSwapped : List Entry → ℕ → Result (Unit {0}) SendStop → Type 0
+PlayerSwapped journal n (Ok u) = CommandsAre journal 1 (swaps_by 1 n)
+PlayerSwapped journal n (Err Air) = (k : ℕ) × (k < n) × CommandsAre journal 1 (swaps_by 1 (suc k))
+PlayerSwapped journal n (Err Memory) = (k : ℕ) × (k ≤ n) × CommandsAre journal 1 (swaps_by 1 k)
+
+-- A run's callers, each with exactly its commands, and no others; behind the control's lines stand its last turns.
+pub record HaveTheirCommands {F S : Type 0} (left : F → Option (List ℕ)) (leftS : S → Option (List ℕ)) (journal : List Entry) (cycles : ℕ) (readers : List (Reading F)) (reader : Reading S)
+    (feeds : List (FeedJob F)) (control : ControlJob S) (player : PlayerJob) (final : List Entry) : Type 0 where
+  pub feeds_read : FeedsRead left journal 1 readers feeds
+  pub control_read : CallerRead control_step controls_ahead leftS journal 0 (map command_of final) reader control.lines control.stop
+  pub player_swapped : PlayerSwapped journal cycles player.end
+  pub others : (k : ℕ) → length readers + 2 ≤ k → entries_of caller_of k journal ≡ []
 
 -- A run: what it did, each caller with its commands, why the jobs that read stopped, and their readers, in the order of the feeds.
 abbrev pub HasRun : {F S : Type 0} → (F → Option (List ℕ)) → (F → ℕ) → (F → F → Type 0) → (S → Option (List ℕ)) → (S → ℕ) → (S → S → Type 0) → Mux → ℕ → List (Reading F) → Reading S → Option (List ℕ) → Option (List ℕ) → Ended F S → Type 0
 HasRun left faults is_same leftS faultsS is_sameS mux cycles feeds control before now end =
     (turns : TableId) × (playing : Playing) × (d : LiveDid left faults is_same leftS faultsS is_sameS turns mux cycles feeds control playing before now end.desk.entries end.sent)
-    × HaveTheirCommands left leftS end.desk.entries feeds control d.control d.final
+    × HaveTheirCommands left leftS end.desk.entries cycles feeds control d.feeds d.control d.player d.final
     × (end.feeds.items ≡ lines_back d.feeds) × (end.lines ≡ d.control.lines) × (end.control ≡ d.control.stop) × (end.feed ≡ first_stop d.feeds)

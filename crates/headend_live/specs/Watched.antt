@@ -54,7 +54,7 @@ pub record LiveRan {F S : Type 0} (left : F → Option (List ℕ)) (faults : F �
   pub playing : Playing
   pub sent : Result (Unit {0}) SendStop
   pub did : LiveDid left faults is_same leftS faultsS is_sameS turns mux plan.cycles feeds control playing before now end.desk.entries sent
-  pub commands : HaveTheirCommands left leftS end.desk.entries feeds control did.control did.final
+  pub commands : HaveTheirCommands left leftS end.desk.entries plan.cycles feeds control did.feeds did.control did.player did.final
   pub feeds_are : end.feeds.items ≡ lines_back did.feeds
   pub control_is : end.control ≡ did.control.lines
   pub cause : HasAirCause faults_before faults_now sent
