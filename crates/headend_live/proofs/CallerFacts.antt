@@ -118,5 +118,5 @@ module _ {F S : Type 0} (left : F → Option (List ℕ)) (faults : F → ℕ) (i
         control_read = caller_read control_step controls_ahead leftS faultsS is_sameS journal 0 d.final (new_pass turns mux 0) d.control.pass reader d.control.lines d.control.stop refl refl
             (ap (λ (k : ℕ). of k journal) (sym low) ∙ d.journal_did.mine) d.control_did;
         player_swapped = player_swapped mux journal cycles (new_pass turns mux 1) d.player.pass playing d.player.player before d.mid d.player.end refl refl d.journal_did.each.0 d.player_did;
-        others = λ k le. d.journal_did.others k (λ e. absurd (omega (arith, e, low, le)), λ e. absurd (omega (arith, e, player_low, le)), feeds_below left faults is_same turns mux journal 1 readers d.feeds d.feeds_ran k (omega (arith, le)));
+        others = λ k le. d.journal_did.others k (λ e. absurd (omega (arith, e, low, le)), (λ e. absurd (omega (arith, e, player_low, le)), feeds_below left faults is_same turns mux journal 1 readers d.feeds d.feeds_ran k (omega (arith, le))));
       }
