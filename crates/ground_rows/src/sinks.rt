@@ -45,7 +45,10 @@ fn other_ends(rt: HostRuntime) -> Result<(), Fail> {
 fn two_files(alloc: Global) -> Result<Vec<(String, Vec<u8>)>, AllocError> {
     let mut files = Vec::new(alloc);
     for (path, bytes) in [("a", b"first".as_slice()), ("b", b"second".as_slice())] {
-        files.push((String::from_str(alloc, path)?, Vec::from_slice(alloc, bytes)?))?;
+        files.push((
+            String::from_str(alloc, path)?,
+            Vec::from_slice(alloc, bytes)?,
+        ))?;
     }
     Ok(files)
 }
@@ -75,14 +78,15 @@ fn openings_agree(alloc: Global) -> Result<bool, AllocError> {
         reads_of(&mut opener, "a"),
         reads_of(&mut opener, "a"),
     ];
-    Ok(all
-        == [
+    Ok(
+        all == [
             Some([Ok(4), Ok(2)]),
             None,
             None,
             Some([Ok(4), Err(Failed)]),
             Some([Ok(4), Ok(1)]),
-        ])
+        ],
+    )
 }
 
 #[test]
