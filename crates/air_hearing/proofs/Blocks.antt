@@ -4,6 +4,7 @@ use Rattle.std.specs.Prelude.{if◌then◌else◌, cond, filter, option_map, is_
 use Rattle.std.specs.List.{AllByRecursion, Contains, cons_option}
 use Rattle.std.proofs.lemmas.List.{map-append}
 use Rattle.std.proofs.lemmas.List.Elements.{filter-append, All-contains, recursion_from_All}
+use Rattle.si_lists.proofs.Lists.{all_map}
 use Rattle.section_codec.specs.declared.table.Key.{Key}
 use Rattle.section_codec.specs.declared.table.NumberedBody.{NumberedBody}
 use Rattle.section_codec.specs.declared.table.SubTable.{SubTable}
@@ -23,7 +24,7 @@ use Rattle.guide_receiver.proofs.Shown.{among-append}
 use Rattle.air_model.specs.Air.{Sent, sent_section, header_of}
 use Rattle.air_model.specs.Fit.{IsFit}
 use Rattle.air_model.specs.Repeating.{IsSentOf, AreSentOf}
-use Rattle.air_model.proofs.Repeating.{elements, of_element, all_map, around}
+use Rattle.air_model.proofs.Repeating.{elements, of_element, around}
 use Rattle.air_hearing.specs.Counting.{raw_of, IsReadable, CanBeHeard}
 use Rattle.air_hearing.specs.Laws.{TableCounts}
 

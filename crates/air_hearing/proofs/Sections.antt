@@ -3,11 +3,11 @@ use Rattle.std.proofs.Common.{◌≡◌, ◌≢◌, ℕ, ◌+◌, ◌*◌, ◌/�
 use Rattle.std.specs.Prelude.{if◌then◌else◌, filter_map, ◌||◌}
 use Rattle.std.specs.List.{All, AllByRecursion, cons_option}
 use Rattle.std.proofs.lemmas.List.Elements.{filter_map-append, All-contains}
+use Rattle.si_lists.proofs.Lists.{all_map, all_append}
 use Rattle.section_codec.specs.declared.section.LongHeader.{LongHeader}
 use Rattle.section_codec.specs.declared.table.NumberedBody.{NumberedBody}
-use Rattle.section_codec.specs.Tables.{is_eit}
 use Rattle.section_codec.specs.Section.{long_flags, section_bytes, longest_body}
-use Rattle.section_codec.proofs.ReadBack.{length-section_bytes}
+use Rattle.section_codec.proofs.ReadBack.{length-section_bytes, within}
 use Rattle.version_book.specs.Airings.{Airing, version_at}
 use Rattle.ts_packets.specs.Packets.{Carries}
 use Rattle.ts_packets.specs.Bytes.{bytes_of_packet}
@@ -21,7 +21,7 @@ use Rattle.ts_demux.proofs.Written.{carried_is_heard}
 use Rattle.air_model.specs.Air.{Sent, Aired, IsAirOf, Cycles, air, airings_of, sent_on, header_of, cycle_sections}
 use Rattle.air_model.specs.Fit.{IsFit}
 use Rattle.air_model.specs.Repeating.{IsSentOf, RepeatingCycles, IsRepeatingAirOf}
-use Rattle.air_model.proofs.Repeating.{all_map, all_append, cycle_is_sent}
+use Rattle.air_model.proofs.Repeating.{cycle_is_sent}
 use Rattle.air_hearing.specs.Sending.{sections_sent, CanBeSent}
 use Rattle.air_hearing.specs.Laws.{AirIsHeard}
 
@@ -33,13 +33,6 @@ low_bits table n lt = go (table == 0x00 || table == 0x02)
     go : (b : Bool) → ((((if b then 0xB000 else 0xF000) + n) / 256 % 256) % 16) * 256 + ((if b then 0xB000 else 0xF000) + n) % 256 ≡ n
     go true = omega arith
     go false = omega arith
-
-within : (table n : ℕ) → n ≤ longest_body table → n ≤ 4084
-within table n le = go (is_eit table) le
-  where
-    go : (b : Bool) → n ≤ (if b then 4084 else 1012) → n ≤ 4084
-    go true le = le
-    go false le = omega arith
 
 pub IsSection-section_bytes : (h : LongHeader) (body : List ℕ) → h.table ≢ 0xFF → length body ≤ longest_body h.table → IsSection (section_bytes h body)
 IsSection-section_bytes h body other le =

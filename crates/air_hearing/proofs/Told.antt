@@ -3,6 +3,7 @@ use Rattle.std.proofs.Common.{◌≡◌, ◌≢◌, ℕ, ◌+◌, ◌%◌, List,
 use Rattle.std.specs.Prelude.{if◌then◌else◌, cond, not, filter, option_to_list}
 use Rattle.std.specs.List.{All, AllByRecursion}
 use Rattle.std.proofs.lemmas.List.{map-append}
+use Rattle.si_lists.proofs.Lists.{all_map}
 use Rattle.section_codec.specs.declared.table.Key.{Key}
 use Rattle.version_book.specs.Airings.{Content, Airing, is_key, is_content, content_at, carried, changes_after, changes, version_at}
 use Rattle.version_book.specs.Book.{Kept, last_of, kept_after}
@@ -24,7 +25,6 @@ use Rattle.guide_receiver.proofs.Shown.{more_shown, among-append, counted-push}
 use Rattle.air_model.specs.Air.{Aired, air, airings_of}
 use Rattle.air_model.specs.Fit.{IsFit}
 use Rattle.air_model.specs.Repeating.{RepeatingCycles}
-use Rattle.air_model.proofs.Repeating.{all_map}
 use Rattle.air_hearing.specs.Sending.{sections_sent, CanBeSent}
 use Rattle.air_hearing.specs.Counting.{CanBeHeard}
 use Rattle.air_hearing.specs.Changes.{is_new_at, is_change, version_with, changes_of, is_done_key}

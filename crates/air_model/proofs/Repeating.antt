@@ -3,6 +3,7 @@ use Rattle.std.proofs.Common.{◌≡◌, ◌<◌, List, [], ◌∷◌, ◌++◌,
 use Rattle.std.specs.Prelude.{flat_map}
 use Rattle.std.specs.List.{AllByRecursion, Contains}
 use Rattle.std.proofs.lemmas.List.Elements.{All-contains, All-contains_itself, All-from_recursion, recursion_from_All, Contains-append_left, Contains-append_right}
+use Rattle.si_lists.proofs.Lists.{all_map, all_append}
 use Rattle.section_codec.specs.declared.table.NumberedBody.{NumberedBody}
 use Rattle.section_codec.specs.declared.table.SubTable.{SubTable}
 use Rattle.version_book.specs.Airings.{Airing, version_at}
@@ -24,10 +25,6 @@ first_of x xs = Contains-append_left (x ∷ []) xs x (0, let one : 0 < length (x
 
 rest_of : {X : Type 0} (x : X) (xs : List X) (y : X) → Contains xs y → Contains (x ∷ xs) y
 rest_of x xs y has = Contains-append_right (x ∷ []) xs y has
-
-pub all_map : {X : Type 0} (P Q : X → Type 0) → ((x : X) → P x → Q x) → (xs : List X) → AllByRecursion P xs → AllByRecursion Q xs
-all_map P Q f [] all = tt
-all_map P Q f (x ∷ xs) all = (f x all.0, all_map P Q f xs all.1)
 
 -- a list with an element is two lists around it
 pub around : {X : Type 0} (xs : List X) (x : X) → Contains xs x → (before after : List X) × (xs ≡ before ++ x ∷ after)
@@ -53,10 +50,6 @@ joined f xs x y has in_one = of_element (λ z. Contains (f z) y → Contains (fl
       λ has. Contains-append_left (f z) (flat_map f zs) y has,
       all_map (λ w. Contains (f w) y → Contains (flat_map f zs) y) (λ w. Contains (f w) y → Contains (flat_map f (z ∷ zs)) y) (λ w into has. Contains-append_right (f z) (flat_map f zs) y (into has)) zs (go f y zs),
     )
-
-pub all_append : {X : Type 0} (P : X → Type 0) (xs ys : List X) → AllByRecursion P xs → AllByRecursion P ys → AllByRecursion P (xs ++ ys)
-all_append P [] ys p q = q
-all_append P (x ∷ xs) ys p q = (p.0, all_append P xs ys p.1 q)
 
 -- ---- the sections of a cycle
 

@@ -1,6 +1,6 @@
 -- What a player stands for, from call to call.
 use Rattle.std.proofs.Common.{◌≡◌, ℕ, suc, ◌+◌, ◌<◌, List, [], ◌∷◌, ◌++◌, Result, Ok, Err, Option, length, refl, sym, ap, ap₂, ◌∙◌, subst, arith, map, take, append_assoc, append-nil, length-append}
-use Rattle.std.specs.Prelude.{flat_map, OnOk, OnErr}
+use Rattle.std.specs.Prelude.{flat_map, OnOk}
 use Rattle.std.specs.List.{AllByRecursion, All}
 use Rattle.std.specs.Io.KnownBytes.{Appends}
 use Rattle.std.proofs.KnownBytes.{Appends-trans}
@@ -148,10 +148,6 @@ Within-none xs x rest p w e = w.rest_is ∙ ap (counted (air xs ++ w.handed)) e
 pub on_ok_both : {T E : Type 0} (r : Result T E) (A B C : Type 0) → OnOk r A → OnOk r B → (A → B → C) → OnOk r C
 on_ok_both (Ok y) A B C a b f = f a b
 on_ok_both (Err e) A B C a b f = tt
-
-pub on_err : {T E : Type 0} (r : Result T E) (A : Type 0) → A → OnErr r A
-on_err (Ok y) A a = tt
-on_err (Err e) A a = a
 
 -- all of the rest was handed out
 pub all_out : (xs : List Aired) (x : Aired) (rest : List Packet) (old new : Playing) (bytes : List ℕ) → Within xs x rest old → Sends old.left new.left old.counters new.counters bytes → new.book ≡ old.book → new.left ≡ []

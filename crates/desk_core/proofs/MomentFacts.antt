@@ -2,6 +2,8 @@
 use Rattle.std.proofs.Common.{ℕ, ◌<◌, ◌*◌, List, [], ◌∷◌, ◌++◌, Option, sym, subst, inl, inr}
 use Rattle.std.specs.Prelude.{nat_lt}
 use Rattle.std.specs.List.{AllByRecursion, filter_map, cons_option}
+use Rattle.std.proofs.lemmas.Bool.{cases_Bool}
+use Rattle.si_lists.proofs.Lists.{all_push}
 use Rattle.si_time.specs.declared.moment.Moment.{Moment}
 use Rattle.mux_config.specs.declared.mux.Mux.{Mux}
 use Rattle.mux_config.specs.Sound.{IsSound}
@@ -12,19 +14,18 @@ use Rattle.desk_core.specs.declared.step.Outcome.{Outcome}
 use Rattle.desk_core.specs.declared.step.Outcome.TheVariants.{Edited, Ticked, Late, Published, Swapped}
 use Rattle.desk_core.specs.declared.step.Entry.{Entry}
 use Rattle.desk_core.specs.Steps.{IsStepWithin}
-use Rattle.desk_core.specs.Journal.{LegalAfter, Legal, later_of, latest_of_all, ticked_by, moment_of, outcome_of}
+use Rattle.desk_core.specs.Journal.{LegalAfter, later_of, latest_of_all, ticked_by, moment_of, outcome_of}
 use Rattle.desk_core.specs.Publications.{aired_by}
 use Rattle.desk_core.specs.declared.step.Airing.{Airing}
 use Rattle.desk_core.specs.declared.held.Held.{Held}
 use Rattle.desk_core.specs.Holding.{IsHeld}
-use Rattle.desk_core.proofs.JournalFacts.{b_cases}
 use Rattle.desk_core.proofs.HeldFacts.{not_aired}
 
-abbrev InRange : Moment → Type 0
+abbrev pub InRange : Moment → Type 0
 InRange at = at.0 < 65536 * 86400
 
 later_range : (a b : Moment) → InRange a → InRange b → InRange (later_of a b)
-later_range a b h k = elim (b_cases (nat_lt b.0 a.0)) [
+later_range a b h k = elim (cases_Bool (nat_lt b.0 a.0)) [
   | inl first ↦ rw first h
   | inr second ↦ rw second k
 ]
@@ -47,7 +48,7 @@ ticks_range : (entries : List Entry) → AllByRecursion (λ (entry : Entry). IsS
 ticks_range [] h = tt
 ticks_range (x ∷ xs) h = tick_range x.step x.outcome _ h.0 (ticks_range xs h.1)
 
-moment_range : (mux : Mux) (entries : List Entry) → IsSound mux → AllByRecursion (λ (entry : Entry). IsStepWithin entry.step) entries → InRange (moment_of mux entries)
+pub moment_range : (mux : Mux) (entries : List Entry) → IsSound mux → AllByRecursion (λ (entry : Entry). IsStepWithin entry.step) entries → InRange (moment_of mux entries)
 moment_range mux entries sound within = latest_range mux.start _ sound.start (ticks_range entries within)
 
 -- what was aired by one outcome, and what was by the others
@@ -57,10 +58,6 @@ aired_range mux before (edit feed e) rest h k = k
 aired_range mux before (Tick at) rest h k = subst (λ (o : Option (ℕ × Moment)). AllByRecursion (λ (aired : ℕ × Moment). InRange aired.1) (cons_option o rest)) (sym (not_aired (moment_of mux before) at)) k
 aired_range mux before Publish rest h k = k
 aired_range mux before Swap rest h k = (h, k)
-
-all_push : {A : Type 0} (P : A → Type 0) (xs : List A) (x : A) → AllByRecursion P xs → P x → AllByRecursion P (xs ++ x ∷ [])
-all_push P [] x h p = (p, tt)
-all_push P (y ∷ ys) x h p = (h.0, all_push P ys x h.1 p)
 
 all_aired : (mux : Mux) (before entries : List Entry) → IsSound mux → AllByRecursion (λ (entry : Entry). IsStepWithin entry.step) before → AllByRecursion (λ (entry : Entry). IsStepWithin entry.step) entries
     → LegalAfter mux before entries → AllByRecursion (λ (aired : ℕ × Moment). InRange aired.1) (filter_map (λ (entry : Entry). aired_by entry.outcome) entries)

@@ -1,6 +1,7 @@
 -- A job that reads values and does each in a turn.
-use Rattle.std.proofs.Common.{◌≡◌, ℕ, ◌≤◌, ◌<◌, List, [], ◌∷◌, ◌++◌, refl, sym, ap, ◌∙◌, subst, inl, inr, arith}
+use Rattle.std.proofs.Common.{◌≡◌, ℕ, ◌≤◌, ◌<◌, List, [], ◌∷◌, ◌++◌, refl, sym, ap, ◌∙◌, subst}
 use Rattle.std.specs.Prelude.{Option, Some, None, Result, Ok, Err, IfSome}
+use Rattle.si_causes.proofs.CauseFacts.{Rose-from}
 use Rattle.si_causes.specs.Reading.{Reading, text_left}
 use Rattle.si_causes.specs.Causes.{Rose}
 use Rattle.si_causes.specs.declared.stop.ReadStop.{ReadStop}
@@ -54,10 +55,6 @@ stays_stopped {S = S} V (Some t) stop old now new v w e s h =
     let at = subst (λ (o : Option ReadStop). IfSome o (λ z. ((let r : Result V EditStop = Err stop in r) ≡ Err (Read z)) × (new ≡ now))) (ap (λ (r : Reading S). r.stop) s.0 ∙ sym e) h in
     (cc (at.0), at.1 ∙ s.0, s.1)
 
-rose_from : (a b c : ℕ) → a ≤ b → Rose b c → Rose a c
-rose_from a b c le (inl less) = inl (omega arith)
-rose_from a b c le (inr most) = inr most
-
 module _ {S T : Type 0} (left : S → Known) (first : Ahead → Found T) (all : Ahead → List T × Stop) (go_on : (lines : Ahead) → all lines ≡ and_all (first lines) all) (step : T → Step) where
   -- the values that were read from old to now were done in turns from v to w
   pub record Going (old now : Reading S) (v w : View) : Type 0 where
@@ -110,7 +107,7 @@ module _ {S T : Type 0} (left : S → Known) (first : Ahead → Found T) (all : 
 
   pub caused : (faults : S → ℕ) (old now new : Reading S) (v w : View) (stop : EditStop) → Going old now v w → faults old.source ≤ faults now.source → (now.stop ≡ None → Takes left faults first now new (Err stop))
       → old.stop ≡ None → HasReadCause (faults old.source) (faults new.source) (Some stop)
-  caused faults old now new v w (Read Failed) g le takes o = rose_from (faults old.source) (faults now.source) (faults new.source) le (takes (g.going o)).cause
+  caused faults old now new v w (Read Failed) g le takes o = Rose-from (faults old.source) (faults now.source) (faults new.source) le (takes (g.going o)).cause
   caused faults old now new v w (Read Overlong) g le takes o = tt
   caused faults old now new v w (Refused n) g le takes o = tt
   caused faults old now new v w Memory g le takes o = tt

@@ -1,18 +1,9 @@
 -- Codes that are compared as one are one.
-use Rattle.std.proofs.Common.{◌≡◌, ◌∙◌, ◌==◌, ◌&&◌, ℕ, Bool, true, false, List, [], ◌∷◌, refl, ap, subst, arith}
+use Rattle.std.proofs.Common.{◌≡◌, ◌∙◌, ◌==◌, ◌&&◌, ℕ, true, List, [], ◌∷◌, refl, ap, subst, arith}
 use Rattle.std.proofs.lemmas.Bool.Decides.{nat_tests}
+use Rattle.std.proofs.lemmas.Bool.{eqb-true}
+use Rattle.si_lists.proofs.Truths.{first_true, second_true}
 use Rattle.eit_codec.specs.Shows.{same_code, CodesAreCompared}
-
-first_true : (a b : Bool) → (a && b) ≡ true → a ≡ true
-first_true true b e = refl
-first_true false b e = cc
-
-second_true : (a b : Bool) → (a && b) ≡ true → b ≡ true
-second_true true b e = e
-second_true false b e = cc
-
-same_number : (m n : ℕ) → (m == n) ≡ true → m ≡ n
-same_number m n e = grind (arith, nat_tests)
 
 number_same : (n : ℕ) → (n == n) ≡ true
 number_same n = grind (arith, nat_tests)
@@ -20,7 +11,7 @@ number_same n = grind (arith, nat_tests)
 code_is : (a b : List ℕ) → same_code a b ≡ true → a ≡ b
 code_is [] [] e = refl
 code_is (x ∷ xs) (y ∷ ys) e =
-    ap (λ n. n ∷ xs) (same_number x y (first_true (x == y) (same_code xs ys) e)) ∙ ap (λ l. y ∷ l) (code_is xs ys (second_true (x == y) (same_code xs ys) e))
+    ap (λ n. n ∷ xs) (eqb-true x y (first_true (x == y) (same_code xs ys) e)) ∙ ap (λ l. y ∷ l) (code_is xs ys (second_true (x == y) (same_code xs ys) e))
 code_is a b e = cc
 
 code_same : (a : List ℕ) → same_code a a ≡ true

@@ -4,6 +4,7 @@ use Rattle.std.specs.Prelude.{option_map, find}
 use Rattle.std.specs.List.{AllByRecursion, range_with_len}
 use Rattle.std.proofs.lemmas.Bool.{cond-true, cond-false, eq-eqb, ne_eqb, cases_lt}
 use Rattle.std.proofs.lemmas.List.{map-append}
+use Rattle.si_lists.proofs.Lists.{all_map, all_append}
 use Rattle.eit_segments.specs.declared.event.EventAt.{EventAt}
 use Rattle.eit_segments.specs.declared.piece.Piece.{Piece}
 use Rattle.eit_segments.specs.Placement.{block_place}
@@ -13,10 +14,6 @@ use Rattle.eit_segments.proofs.Order.{runs_few}
 
 eighth : (h i : ℕ) → i < 8 → (8 * h + i) / 8 ≡ h
 eighth h i lt = grind arith
-
-all_append : {X : Type 0} (P : X → Type 0) (xs ys : List X) → AllByRecursion P xs → AllByRecursion P ys → AllByRecursion P (xs ++ ys)
-all_append P [] ys a b = b
-all_append P (x ∷ xs) ys a b = (a.0, all_append P xs ys a.1 b)
 
 -- the sections of one segment, from its i-th on
 module _ (table last segment_last segment : ℕ) where
@@ -42,10 +39,6 @@ find_past : (segment : ℕ) (ps qs : List Piece) → AllByRecursion (λ (p : Pie
 find_past segment [] qs h = refl
 find_past segment (p ∷ ps) qs h =
     ap (option_map (λ (x : Piece). x.segment_last)) (cond-false (is_of_segment segment p) (Some p) (find (is_of_segment segment) (ps ++ qs)) (ne_eqb (p.number / 8) segment h.0)) ∙ find_past segment ps qs h.1
-
-all_map : {X : Type 0} (P Q : X → Type 0) → ((x : X) → P x → Q x) → (xs : List X) → AllByRecursion P xs → AllByRecursion Q xs
-all_map P Q f [] h = tt
-all_map P Q f (x ∷ xs) h = (f x h.0, all_map P Q f xs h.1)
 
 -- the segments of a table
 module _ (table last first : ℕ) (events : List EventAt) (fit : FitSegments events) where

@@ -1,12 +1,14 @@
 -- What is written of an edit reads back as the edit.
-use Rattle.std.proofs.Common.{◌≡◌, ◌≢◌, ◌≤◌, ◌<◌, ◌^◌, ℕ, true, false, not, suc, List, [], ◌∷◌, ◌++◌, length, refl, ap, ◌∙◌, arith, rules, inl, inr, lit<}
+use Rattle.std.proofs.Common.{◌≡◌, ◌≢◌, ◌≤◌, ◌<◌, ◌^◌, ℕ, true, false, not, List, [], ◌∷◌, ◌++◌, length, refl, ap, ◌∙◌, arith, inl, inr, lit<}
 use Rattle.std.specs.Prelude.{Option, Some, None, IfSome, codes, decimal, map, ◌==◌, nat_le}
-use Rattle.std.specs.List.{list_all, slice_split, All, AllByRecursion}
-use Rattle.std.proofs.lemmas.Str.Parse.{IsNumeralModel, numerals_by_fold}
+use Rattle.std.specs.List.{list_all, slice_split, AllByRecursion}
 use Rattle.std.proofs.lemmas.Fmt.{digits_decimal, digits_value-decimal, length-decimal-le, decimal_nonempty}
 use Rattle.std.proofs.lemmas.Bool.Decides.{nat_tests}
 use Rattle.std.proofs.lemmas.List.Folds.{list_all-append}
-use Rattle.si_text.proofs.PlainFacts.{and_left, and_right}
+use Rattle.std.proofs.lemmas.Bool.{cases_Bool}
+use Rattle.std.proofs.lemmas.List.Elements.{recursion_from_All}
+use Rattle.si_lists.proofs.Truths.{first_true, second_true}
+use Rattle.input_lines.proofs.Numerals.{own}
 use Rattle.guide_model.specs.declared.event.Genre.{Genre}
 use Rattle.input_lines.specs.Numbers.{is_digit, is_numeral, value_from, number_in}
 use Rattle.feed_edits.specs.declared.edit.RawRating.{RawRating}
@@ -21,12 +23,9 @@ use Rattle.feed_edits.specs.Ahead.{Ahead, Row, Tail, Found, Came, and_then}
 use Rattle.feed_edits.specs.Heads.{edit_head, IsShaped}
 use Rattle.feed_edits.specs.Edits.{items_of, with_items, edit_from}
 use Rattle.feed_edits.specs.Back.{genre_field, genres_field, country_field, rating_field, item_fields, edit_fields, item_rows, HasGenreNumbers, HasItemNumbers, HasNumbers, HaveFields, EditsReadBack}
-use Rattle.feed_edits.proofs.Genres.{b_cases, genres_of_some}
+use Rattle.feed_edits.proofs.Genres.{genres_of_some}
 
 -- ---- numbers
-
-own : IsNumeralModel (λ ds. list_all is_digit ds ≡ true) (value_from 0)
-own = numerals_by_fold _ (search rules) value_from (search rules)
 
 low : (n high : ℕ) → n ≤ high → high ≤ 65535 → n < 2 ^ 64
 low n high le most = let k : n < 65536 = omega arith in let b : 65536 < 2 ^ 64 = lit< tt in omega (arith, k, b)
@@ -56,7 +55,7 @@ number_back n high le most =
 split_front : (c : ℕ) (xs ys : List ℕ) → list_all (λ b. not (b == c)) xs ≡ true → slice_split (λ b. b == c) (xs ++ c ∷ ys) ≡ xs ∷ slice_split (λ b. b == c) ys
 split_front c [] ys h = let e : (c == c) ≡ true = grind (arith, nat_tests) in rw e refl
 split_front c (x ∷ xs) ys h =
-    elim (b_cases (x == c)) [
+    elim (cases_Bool (x == c)) [
       | inl e ↦ absurd (let k = rw e at h in cc)
       | inr e ↦ (let more = split_front c xs ys (rw e at h) in rw (e, more) refl)
     ]
@@ -64,7 +63,7 @@ split_front c (x ∷ xs) ys h =
 split_last : (c : ℕ) (xs : List ℕ) → list_all (λ b. not (b == c)) xs ≡ true → slice_split (λ b. b == c) xs ≡ xs ∷ []
 split_last c [] h = refl
 split_last c (x ∷ xs) h =
-    elim (b_cases (x == c)) [
+    elim (cases_Bool (x == c)) [
       | inl e ↦ absurd (let k = rw e at h in cc)
       | inr e ↦ (let more = split_last c xs (rw e at h) in rw (e, more) refl)
     ]
@@ -75,7 +74,7 @@ digit_lacks c x lt h = grind (arith, nat_tests)
 digits_lack : (c : ℕ) (xs : List ℕ) → c < 48 → list_all is_digit xs ≡ true → list_all (λ b. not (b == c)) xs ≡ true
 digits_lack c [] lt h = refl
 digits_lack c (x ∷ xs) lt h =
-    rw (digit_lacks c x lt (and_left (is_digit x) (list_all is_digit xs) h)) (digits_lack c xs lt (and_right (is_digit x) (list_all is_digit xs) h))
+    rw (digit_lacks c x lt (first_true (is_digit x) (list_all is_digit xs) h)) (digits_lack c xs lt (second_true (is_digit x) (list_all is_digit xs) h))
 
 -- ---- genres
 
@@ -179,17 +178,13 @@ items_back (item ∷ items) (row ∷ rows) more tail h k e =
     let others : HaveFields rows (map (λ item. codes "item" ∷ item_fields item) items) = cc in
     rw (first, item_line_back item h.0 k.0, items_back items rows more tail h.1 k.1 others) refl
 
-by_recursion : (items : List Item) → All IsShapedItem items → AllByRecursion IsShapedItem items
-by_recursion [] h = tt
-by_recursion (item ∷ items) h = (h 0 item (omega arith), by_recursion items (λ k d lt. h (suc k) d (omega arith)))
-
 back_from : (edit : Edit) (rows more : List Row) (tail : Tail) → IsShaped edit → HasNumbers edit → HaveFields rows (item_rows edit) → with_items (head_from edit) (record { rows = rows ++ more; tail = tail }) ≡ Came edit (record { rows = more; tail = tail })
 back_from (Put service item) rows more tail h k e = ap (λ (a : Ahead). let r : Found Edit = Came (Put service item) a in r) (no_rows rows more tail e)
 back_from (Withdraw service event) rows more tail h k e = ap (λ (a : Ahead). let r : Found Edit = Came (Withdraw service event) a in r) (no_rows rows more tail e)
 back_from (Clear service) rows more tail h k e = ap (λ (a : Ahead). let r : Found Edit = Came (Clear service) a in r) (no_rows rows more tail e)
 back_from (Name service provider name) rows more tail h k e = ap (λ (a : Ahead). let r : Found Edit = Came (Name service provider name) a in r) (no_rows rows more tail e)
 back_from (Day service date items) rows more tail h k e =
-    ap (λ (r : Found (List Item)). and_then r (λ l rest. Came (Day service date l) rest)) (items_back items rows more tail (by_recursion items h.items) k.1 e)
+    ap (λ (r : Found (List Item)). and_then r (λ l rest. Came (Day service date l) rest)) (items_back items rows more tail (recursion_from_All items h.items) k.1 e)
 
 pub edits_read_back : EditsReadBack
 edits_read_back edit h k at rows more tail e =

@@ -2,6 +2,7 @@
 use Rattle.std.proofs.Common.{◌≡◌, ℕ, ◌+◌, ◌-◌, ◌<◌, ◌≤◌, suc, arith, List, [], ◌∷◌, ◌++◌, length, drop, refl, sym, ap, ◌∙◌, append-nil, append_assoc, inl, inr, subst}
 use Rattle.std.specs.Prelude.{Option, Some, None, Ok, Err, Result, IfSome, option_and_then}
 use Rattle.std.proofs.lemmas.List.{drop_all}
+use Rattle.input_lines.proofs.Steps.{stuck_at}
 use Rattle.si_causes.specs.Reading.{Reading, text_left}
 use Rattle.si_causes.specs.declared.stop.ReadStop.{ReadStop}
 use Rattle.si_causes.specs.declared.stop.ReadStop.TheVariants.{Failed, TooLong as Overlong}
@@ -22,7 +23,7 @@ use Rattle.feed_edits.specs.Items.{item_line}
 use Rattle.feed_edits.specs.Heads.{edit_head}
 use Rattle.feed_edits.specs.Edits.{first_item, items_of, on_line, with_items, edit_from, first_edit, read_edit}
 use Rattle.feed_edits.specs.Reads.{Leaves, Gives, Passes, Takes, Says, ahead_with, none_ahead, stopped_by, ReadsStopped}
-use Rattle.feed_edits.proofs.Turns.{Known, passes_step, leaves_step, row_passes, row_refused, row_leaves, row_stop_takes, row_stop_gives, row_none, takes_stop, gives_stop, says_takes, says_gives, looked_none, passes_same, leaves_same, passes_join, leaves_join, takes_join, gives_join, gives_same, stuck_at, stuck_on}
+use Rattle.feed_edits.proofs.Turns.{Known, passes_step, leaves_step, row_passes, row_refused, row_leaves, row_stop_takes, row_stop_gives, row_none, takes_stop, gives_stop, says_takes, says_gives, looked_none, passes_same, leaves_same, passes_join, leaves_join, takes_join, gives_join, gives_same, stuck_on}
 
 abbrev pub item_in : List ℕ → Option Item
 item_in line = option_and_then item_line (record_of line)

@@ -12,28 +12,28 @@ use Rattle.feed_edits.specs.Back.{EditsGoOn}
 use Rattle.feed_edits.proofs.Edits.{item_in, head_in}
 
 -- so many lines are left at most
-abbrev Within : {T : Type 0} → ℕ → Found T → Type 0
+abbrev pub Within : {T : Type 0} → ℕ → Found T → Type 0
 Within k (Came value behind) = length behind.rows ≤ k
 Within k (Stopped stop) = Unit {0}
 
-then_within : {T U : Type 0} (j k : ℕ) (r : Found T) (f : T → Ahead → Found U) → Within j r → ((value : T) (behind : Ahead) → length behind.rows ≤ j → Within k (f value behind)) → Within k (and_then r f)
+pub then_within : {T U : Type 0} (j k : ℕ) (r : Found T) (f : T → Ahead → Found U) → Within j r → ((value : T) (behind : Ahead) → length behind.rows ≤ j → Within k (f value behind)) → Within k (and_then r f)
 then_within j k (Came value behind) f h g = g value behind h
 then_within j k (Stopped stop) f h g = tt
 
-row_within : (stop : Tail → Stop) (rows : List Row) (tail : Tail) → Within (length rows - 1) (row_of stop rows tail)
+pub row_within : (stop : Tail → Stop) (rows : List Row) (tail : Tail) → Within (length rows - 1) (row_of stop rows tail)
 row_within stop [] tail = tt
 row_within stop (row ∷ rows) tail = omega arith
 
-line_within : {T : Type 0} (k n : ℕ) (found : Option T) (behind : Ahead) → length behind.rows ≤ k → Within k (on_line n found behind)
+pub line_within : {T : Type 0} (k n : ℕ) (found : Option T) (behind : Ahead) → length behind.rows ≤ k → Within k (on_line n found behind)
 line_within k n None behind h = tt
 line_within k n (Some value) behind h = h
 
-item_within : (k : ℕ) (lines : Ahead) → length lines.rows ≤ k → Within k (first_item lines)
+pub item_within : (k : ℕ) (lines : Ahead) → length lines.rows ≤ k → Within k (first_item lines)
 item_within k lines h =
     then_within (length lines.rows - 1) k (first_row missing_at lines) (λ row behind. on_line row.0 (item_in row.1) behind) (row_within missing_at lines.rows lines.tail)
     (λ row behind le. line_within k row.0 (item_in row.1) behind (omega arith))
 
-items_within : (k n : ℕ) (lines : Ahead) → length lines.rows ≤ k → Within k (items_of n lines)
+pub items_within : (k n : ℕ) (lines : Ahead) → length lines.rows ≤ k → Within k (items_of n lines)
 unfolding items_of
 items_within k zero lines h = h
 items_within k (suc n) lines h =

@@ -4,19 +4,16 @@ use Rattle.std.specs.Prelude.{Option, Some, None, ◌==◌, ◌&&◌, nat_le, na
 use Rattle.std.specs.List.{slice_split, position_or_len, before_first, after_first, list_all}
 use Rattle.std.proofs.lemmas.List.Splits.{slice_split_first}
 use Rattle.std.proofs.lemmas.Bool.Decides.{nat_tests}
-use Rattle.si_text.proofs.PlainFacts.{and_left, and_right}
+use Rattle.std.proofs.lemmas.Bool.{cases_Bool}
+use Rattle.si_lists.proofs.Truths.{first_true, second_true}
 use Rattle.guide_model.specs.declared.event.Genre.{Genre}
 use Rattle.input_lines.specs.Numbers.{is_digit, is_numeral, number_in}
 use Rattle.feed_edits.specs.Items.{all_some, genre_from, genre_of, genres_of, genre_with}
 
-pub b_cases : (b : Bool) → (b ≡ true) ⊎ (b ≡ false)
-b_cases true = inl refl
-b_cases false = inr refl
-
 -- a text without the byte is its own one part
 pub one_part : (p : ℕ → Bool) (xs : List ℕ) → position_or_len p xs ≡ length xs → slice_split p xs ≡ xs ∷ []
 one_part p [] h = refl
-one_part p (x ∷ xs) h = elim (b_cases (p x)) [
+one_part p (x ∷ xs) h = elim (cases_Bool (p x)) [
   | inl e ↦ (let k = rw e at h in absurd (omega arith))
   | inr e ↦ (let k = rw e at h in let more = one_part p xs (omega arith) in rw (e, more) refl)
 ]
@@ -24,7 +21,7 @@ one_part p (x ∷ xs) h = elim (b_cases (p x)) [
 -- there is a first part
 pub some_part : (p : ℕ → Bool) (xs : List ℕ) → (part : List ℕ) × (parts : List (List ℕ)) × (slice_split p xs ≡ part ∷ parts)
 some_part p [] = ([], [], refl)
-some_part p (x ∷ xs) = let more = some_part p xs in elim (b_cases (p x)) [
+some_part p (x ∷ xs) = let more = some_part p xs in elim (cases_Bool (p x)) [
   | inl e ↦ ([], slice_split p xs, rw e refl)
   | inr e ↦ (x ∷ more.0, more.1, rw (e, more.2) refl)
 ]
@@ -36,13 +33,13 @@ digit_no_point x h = grind (arith, nat_tests)
 no_point : (xs : List ℕ) → list_all is_digit xs ≡ true → position_or_len (λ b. b == 46) xs ≡ length xs
 no_point [] h = refl
 no_point (x ∷ xs) h =
-    let more = no_point xs (and_right (is_digit x) (list_all is_digit xs) h) in
-    rw (digit_no_point x (and_left (is_digit x) (list_all is_digit xs) h)) (omega arith)
+    let more = no_point xs (second_true (is_digit x) (list_all is_digit xs) h) in
+    rw (digit_no_point x (first_true (is_digit x) (list_all is_digit xs) h)) (omega arith)
 
 -- a field with a point in it spells no number
 pointed_is_none : (low high : ℕ) (xs : List ℕ) → position_or_len (λ b. b == 46) xs < length xs → number_in low high xs ≡ None
-pointed_is_none low high xs h = elim (b_cases (is_numeral xs)) [
-  | inl e ↦ (let k = no_point xs (and_left (list_all is_digit xs) (nat_le 1 (length xs) && nat_le (length xs) 9) e) in absurd (omega arith))
+pointed_is_none low high xs h = elim (cases_Bool (is_numeral xs)) [
+  | inl e ↦ (let k = no_point xs (first_true (list_all is_digit xs) (nat_le 1 (length xs) && nat_le (length xs) 9) e) in absurd (omega arith))
   | inr e ↦ rw e refl
 ]
 
@@ -53,7 +50,7 @@ none_last (Some i) (Some j) = refl
 
 position_le : (p : ℕ → Bool) (xs : List ℕ) → position_or_len p xs ≤ length xs
 position_le p [] = omega arith
-position_le p (x ∷ xs) = let more = position_le p xs in elim (b_cases (p x)) [
+position_le p (x ∷ xs) = let more = position_le p xs in elim (cases_Bool (p x)) [
   | inl e ↦ rw e (omega arith)
   | inr e ↦ rw e (omega arith)
 ]
@@ -63,7 +60,7 @@ three_parts : (a b u : List ℕ) → genre_from (a ∷ b ∷ slice_split (λ c. 
 three_parts a b u =
     let le = position_le (λ c. c == 46) u in
     let more = some_part (λ c. c == 46) u in
-    elim (b_cases (nat_lt (position_or_len (λ c. c == 46) u) (length u))) [
+    elim (cases_Bool (nat_lt (position_or_len (λ c. c == 46) u) (length u))) [
       | inl e ↦ (
           let lt : position_or_len (λ c. c == 46) u < length u = grind (arith, nat_tests) in
           let behind = some_part (λ c. c == 46) (after_first (λ c. c == 46) u) in

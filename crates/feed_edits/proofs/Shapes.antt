@@ -1,6 +1,7 @@
 -- What is read has its shape.
 use Rattle.std.proofs.Common.{◌≡◌, ◌≢◌, ℕ, true, List, [], ◌∷◌, subst, inl, inr}
 use Rattle.std.specs.Prelude.{Option, Some, None, IfSome, codes, option_map}
+use Rattle.std.proofs.lemmas.Bool.{cases_Bool}
 use Rattle.si_time.specs.Readings.{has_shape}
 use Rattle.guide_model.specs.declared.event.Genre.{Genre}
 use Rattle.input_lines.specs.Numbers.{number_in}
@@ -9,7 +10,6 @@ use Rattle.feed_edits.specs.declared.edit.Length.{Length}
 use Rattle.feed_edits.specs.declared.edit.RawRating.{RawRating}
 use Rattle.feed_edits.specs.declared.edit.Item.{Item}
 use Rattle.feed_edits.specs.Items.{IsShapedItem, item_of, item_with, stamp_of, length_of, rating_of, rating_with, genres_of}
-use Rattle.feed_edits.proofs.Genres.{b_cases}
 
 abbrev IsStamp : Stamp → Type 0
 IsStamp stamp = has_shape (codes "dddd-dd-ddTdd:dd:ddZ") stamp.0 ≡ true
@@ -21,13 +21,13 @@ abbrev HasCountry : Option RawRating → Type 0
 HasCountry rating = IfSome rating (λ r. r.country ≢ [])
 
 stamp_shaped : (field : List ℕ) → IfSome (stamp_of field) IsStamp
-stamp_shaped field = elim (b_cases (has_shape (codes "dddd-dd-ddTdd:dd:ddZ") field)) [
+stamp_shaped field = elim (cases_Bool (has_shape (codes "dddd-dd-ddTdd:dd:ddZ") field)) [
   | inl e ↦ rw e e
   | inr e ↦ rw e tt
 ]
 
 length_shaped : (field : List ℕ) → IfSome (length_of field) IsLength
-length_shaped field = elim (b_cases (has_shape (codes "dd:dd:dd") field)) [
+length_shaped field = elim (cases_Bool (has_shape (codes "dd:dd:dd") field)) [
   | inl e ↦ rw e e
   | inr e ↦ rw e tt
 ]

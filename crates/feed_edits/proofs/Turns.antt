@@ -1,7 +1,8 @@
 -- Values that are read from the lines ahead, one after another.
-use Rattle.std.proofs.Common.{◌≡◌, ◌≤◌, ℕ, ◌+◌, List, [], ◌∷◌, ◌++◌, length, refl, sym, ap, subst, ◌∙◌, inl, inr, arith, append-nil, append_assoc, length-append}
+use Rattle.std.proofs.Common.{◌≡◌, ◌≤◌, ℕ, ◌+◌, List, [], ◌∷◌, ◌++◌, length, sym, ap, subst, ◌∙◌, inl, inr, arith, append-nil, append_assoc, length-append}
 use Rattle.std.specs.Prelude.{true, Option, Some, None, Ok, Err, Result, IfSome}
 use Rattle.std.specs.List.{list_all}
+use Rattle.si_causes.proofs.CauseFacts.{Rose-from}
 use Rattle.si_causes.specs.Causes.{Rose}
 use Rattle.si_causes.specs.Reading.{Reading, text_left}
 use Rattle.si_causes.specs.declared.stop.ReadStop.{ReadStop}
@@ -19,10 +20,6 @@ use Rattle.feed_edits.specs.Reads.{Leaves, Gives, Looked, Passes, RefusesEnd, Fa
 
 abbrev pub Known : Type 0
 Known = Option (List ℕ)
-
-rose_since : {a b c : ℕ} → Rose b c → a ≤ b → Rose a c
-rose_since (inl more) le = inl (omega (arith, more, le))
-rose_since (inr last) le = inr last
 
 -- ---- one value and then what is behind it
 
@@ -101,7 +98,7 @@ takes_join left faults f g a b c (Err (Read Failed)) p le k = record {
   lines = p.looked.lines ++ k.lines;
   whole = whole_more left a b c p.looked.lines k.lines p.looked.handed k.unended k.whole;
   unended = p.looked.handed.since k.unended;
-  cause = rose_since k.cause le;
+  cause = Rose-from _ _ _ le k.cause;
   stopped = k.stopped;
   reads = p.reads k.lines Breaks ∙ k.reads;
 }
@@ -267,10 +264,6 @@ says_gives left f n found old new text (Err Memory) l says = tt
 pub never_line : (o : Option ReadStop) (n : ℕ) (P : ReadStop → Type 0) (Q : ReadStop → Type 0) → IfSome o (λ stop. (let r : Result (Option ℕ) ReadStop = Ok (Some n) in r) ≡ Err stop × P stop) → IfSome o Q
 never_line None n P Q h = tt
 never_line (Some stop) n P Q h = absurd (let e = h.0 in cc)
-
-pub stuck_at : {S : Type 0} (o : Option ReadStop) (reader : Reading S) → IfSome o (λ stop. reader ≡ reader)
-stuck_at None reader = tt
-stuck_at (Some stop) reader = refl
 
 -- a reader that stands stopped stays as it is
 pub stuck_on : {S : Type 0} (o : Option ReadStop) (P : ReadStop → Type 0) (old now new : Reading S) → o ≡ old.stop → IfSome o (λ stop. now ≡ old) → IfSome now.stop (λ stop. P stop × (new ≡ now)) → IfSome o (λ stop. new ≡ old)

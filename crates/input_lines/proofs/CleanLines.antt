@@ -1,9 +1,9 @@
 -- Facts on the fields of a clean line.
-use Rattle.std.proofs.Common.{◌≡◌, ◌==◌, ◌&&◌, ◌||◌, ◌++◌, ◌∷◌, ◌∙◌, [], ℕ, suc, zero, List, Bool, Option, Some, None, refl, ap, subst, true, false, inl, inr, take, length, not}
+use Rattle.std.proofs.Common.{◌≡◌, ◌==◌, ◌&&◌, ◌||◌, ◌++◌, ◌∷◌, ◌∙◌, [], ℕ, suc, zero, List, Option, Some, None, refl, ap, subst, true, false, inl, inr, take, length, not}
 use Rattle.std.specs.List.{list_all, list_any}
 use Rattle.std.specs.Prelude.{nat_le}
 use Rattle.std.specs.Str.{IsUtf8, chars, is_utf8}
-use Rattle.std.proofs.lemmas.Bool.{cases_Bool, eqb-true, leb-true, le-leb}
+use Rattle.std.proofs.lemmas.Bool.{cases_Bool, eqb-true, leb-true, le-leb, or_parts, and_parts}
 use Rattle.std.proofs.lemmas.Str.{encodes-chars, scalars-chars, chars-encodes, cons_from_encodes, is_utf8-from_IsUtf8, IsUtf8-from_is_utf8}
 use lib.Utf8.{encode, scalar, scalars}
 use Rattle.csv.specs.Machine.{Read, next_record}
@@ -29,26 +29,18 @@ take_more [] i x e = absurd (cc e)
 take_more (f ∷ fs) zero x e = let same : f ≡ x = cc e in ap (λ (z : List ℕ). z ∷ []) same
 take_more (f ∷ fs) (suc i) x e = ap (λ (l : List (List ℕ)). f ∷ l) (take_more fs i x e)
 
-both : (a b : Bool) → (a && b) ≡ true → (a ≡ true) × (b ≡ true)
-both true b e = (refl, e)
-both false b e = cc e
-
-neither : (a b : Bool) → (a || b) ≡ false → (a ≡ false) × (b ≡ false)
-neither false b e = (refl, e)
-neither true b e = cc e
-
 plain_from : (cs : List ℕ) → scalars cs ≡ true → list_any is_control cs ≡ false → list_all is_plain_char cs ≡ true
 plain_from [] s n = refl
 plain_from (c ∷ cs) s n =
-    let (a, b) = both (scalar c) (scalars cs) s in
-    let (d, e) = neither (is_control c) (list_any is_control cs) n in
+    let (a, b) = and_parts (scalar c) (scalars cs) s in
+    let (d, e) = or_parts (is_control c) (list_any is_control cs) n in
     rw (a, d) (plain_from cs b e)
 
 plain_back : (cs : List ℕ) → list_all is_plain_char cs ≡ true → (scalars cs ≡ true) × (list_any is_control cs ≡ false)
 plain_back [] h = (refl, refl)
 plain_back (c ∷ cs) h =
-    let (a, b) = both (is_plain_char c) (list_all is_plain_char cs) h in
-    let (s, n) = both (scalar c) (not (is_control c)) a in
+    let (a, b) = and_parts (is_plain_char c) (list_all is_plain_char cs) h in
+    let (s, n) = and_parts (scalar c) (not (is_control c)) a in
     let (t, m) = plain_back cs b in
     let quiet : is_control c ≡ false = elim (cases_Bool (is_control c)) [
       | inl e ↦ cc (rw e at n)
@@ -68,8 +60,8 @@ clean_back bs (cs, h, e) =
 mark_is : (a b c : ℕ) (rest : List ℕ) → is_bom a b c ≡ true → a ∷ b ∷ c ∷ rest ≡ encode 65279 ++ rest
 unfolding encode
 mark_is a b c rest e =
-    let (xy, z) = both ((a == 0xEF) && (b == 0xBB)) (c == 0xBF) e in
-    let (x, y) = both (a == 0xEF) (b == 0xBB) xy in
+    let (xy, z) = and_parts ((a == 0xEF) && (b == 0xBB)) (c == 0xBF) e in
+    let (x, y) = and_parts (a == 0xEF) (b == 0xBB) xy in
     let i = eqb-true a 239 x in
     let j = eqb-true b 187 y in
     let k = eqb-true c 191 z in cc (i, j, k)
@@ -82,7 +74,7 @@ strip_clean (a ∷ b ∷ []) h = h
 strip_clean (a ∷ b ∷ c ∷ rest) (cs, ok, e) = elim (cases_Bool (is_bom a b c)) [
   | inl mark ↦
       let (es, is, back) = cons_from_encodes cs rest 65279 (e ∙ mark_is a b c rest mark) in
-      let parts = both (is_plain_char 65279) (list_all is_plain_char es) (subst (λ (l : List ℕ). list_all is_plain_char l ≡ true) is ok) in
+      let parts = and_parts (is_plain_char 65279) (list_all is_plain_char es) (subst (λ (l : List ℕ). list_all is_plain_char l ≡ true) is ok) in
       rw mark (es, parts.1, back)
   | inr none ↦ rw none (cs, ok, e)
 ]
@@ -114,8 +106,8 @@ line_record_of bs h = rw (is_line_yes bs h) refl
 
 pub is_line_back : (bs : List ℕ) → is_line bs ≡ true → IsLine bs
 is_line_back bs e =
-    let (s, r) = both (nat_le (length bs) 16384) (is_utf8 bs && not (has_control bs)) e in
-    let (u, n) = both (is_utf8 bs) (not (has_control bs)) r in
+    let (s, r) = and_parts (nat_le (length bs) 16384) (is_utf8 bs && not (has_control bs)) e in
+    let (u, n) = and_parts (is_utf8 bs) (not (has_control bs)) r in
     record {
       short = leb-true (length bs) 16384 s;
       kept = record {

@@ -1,8 +1,9 @@
 -- The last of some lines, and what stands before it.
-use Rattle.std.proofs.Common.{◌≡◌, ◌⊎◌, ℕ, Bool, true, false, List, [], ◌∷◌, ◌++◌, length, refl, sym, ap, ◌∙◌, inl, inr, arith, length-append}
+use Rattle.std.proofs.Common.{◌≡◌, ◌⊎◌, ℕ, true, List, [], ◌∷◌, ◌++◌, length, refl, sym, ap, ◌∙◌, inl, inr, arith, length-append}
 use Rattle.std.specs.Prelude.{◌&&◌}
 use Rattle.std.specs.List.{list_all}
 use Rattle.std.proofs.lemmas.List.Folds.{list_all-append}
+use Rattle.si_lists.proofs.Truths.{first_true}
 use Rattle.input_lines.specs.Lines.{is_passed}
 
 pub nothing_front : {A : Type 0} (xs ys : List A) → xs ++ ys ≡ [] → xs ≡ []
@@ -37,10 +38,6 @@ before_last over x front last e = elim (last_split over (x ∷ []) front last e)
   | inl here ↦ absurd (omega (arith, ap length e, ap length here, length-append over (x ∷ [])))
   | inr (rest, there, is) ↦ is ∙ ap (λ l. over ++ l) (alone rest x last there)
 ]
-
-first_true : (a b : Bool) → (a && b) ≡ true → a ≡ true
-first_true true b e = refl
-first_true false b e = cc
 
 -- of lines that are all passed over, those before the last are
 pub front_passed : (over front : List (List ℕ)) (last : List ℕ) → list_all is_passed over ≡ true → over ≡ front ++ last ∷ [] → list_all is_passed front ≡ true

@@ -7,7 +7,7 @@ use Rattle.std.proofs.lemmas.Str.Parse.{IsNumeralModel, numerals_by_fold, parse_
 use Rattle.std.proofs.lemmas.Bool.Decides.{nat_tests}
 use Rattle.input_lines.specs.Numbers.{is_digit, value_from}
 
-own : IsNumeralModel (λ ds. list_all is_digit ds ≡ true) (value_from 0)
+pub own : IsNumeralModel (λ ds. list_all is_digit ds ≡ true) (value_from 0)
 own = numerals_by_fold _ (search rules) value_from (search rules)
 
 pub all_of : (bs : List ℕ) → (list_all is_digit bs && (nat_le 1 (length bs) && nat_le (length bs) 9)) ≡ true → (list_all is_digit bs ≡ true) × (1 ≤ length bs) × (length bs ≤ 9)

@@ -4,13 +4,15 @@ use Rattle.std.specs.Prelude.{Option, Some, None, Ok, Err, Result, IfSome}
 use Rattle.std.specs.List.{list_all}
 use Rattle.std.proofs.KnownBytes.{Consumes-nil, Consumes-trans}
 use Rattle.std.proofs.lemmas.List.Folds.{list_all-append}
+use Rattle.std.proofs.lemmas.Bool.{cases_Bool}
+use Rattle.si_causes.proofs.CauseFacts.{Rose-from}
 use Rattle.si_causes.specs.Causes.{Rose}
 use Rattle.si_causes.specs.Lines.{first_line, after_line, has_end, shown}
 use Rattle.si_causes.specs.Reading.{Reading, LineCame as Came, EndCame, FailedCame, StopCame, GivesLine, text_left}
 use Rattle.si_causes.specs.Text.{TextEnd, AtEnd, PastLimit}
 use Rattle.si_causes.specs.declared.stop.ReadStop.{ReadStop}
 use Rattle.si_causes.specs.declared.stop.ReadStop.TheVariants.{Failed, TooLong}
-use Rattle.si_causes.proofs.LineFacts.{b_cases, raw_step, whole_step, whole_none, first_of_front, after_of_front, end_of_front}
+use Rattle.si_causes.proofs.LineFacts.{raw_step, whole_step, whole_none, first_of_front, after_of_front, end_of_front}
 use Rattle.si_causes.proofs.TextFacts.{given_line, given_end, given_past}
 use Rattle.input_lines.specs.Lines.{Lines, is_passed, lines_of, record_lines}
 use Rattle.input_lines.specs.Going.{HandedOut, WereWhole, LineCame, NoneCame, FaultCame, RecordCame, shown_whole, shown_all}
@@ -79,7 +81,7 @@ line_whole : {S : Type 0} (left : S → Known) (old new : Reading S) (n : ℕ) (
     → shown_whole ((old.held ++ more) ++ behind) ≡ new.line ∷ shown_whole (new.held ++ behind)
 line_whole left old new n more came going behind =
     let t = old.held ++ more in
-    elim (b_cases (has_end t)) [
+    elim (cases_Bool (has_end t)) [
       | inl whole ↦
           ap (map shown) (whole_step (t ++ behind) (end_of_front t behind whole))
           ∙ ap (λ (l : List ℕ). shown l ∷ shown_whole (after_line (t ++ behind))) (first_of_front t behind whole)
@@ -93,7 +95,7 @@ line_all : {S : Type 0} (left : S → Known) (old new : Reading S) (n : ℕ) (mo
     → shown_all ((old.held ++ more) ++ behind) ≡ new.line ∷ shown_all (new.held ++ behind)
 line_all left old new n more came behind last =
     let t = old.held ++ more in
-    elim (b_cases (has_end t)) [
+    elim (cases_Bool (has_end t)) [
       | inl whole ↦
           ap (map shown) (raw_step (t ++ behind) (some_end (t ++ behind) (end_of_front t behind whole)))
           ∙ ap (λ (l : List ℕ). shown l ∷ shown_all (after_line (t ++ behind))) (first_of_front t behind whole)
@@ -148,7 +150,7 @@ failed_whole left faults old new came = record {
 pub records_past : (n : ℕ) (over rest : List (List ℕ)) → list_all is_passed over ≡ true → record_lines n (over ++ rest) ≡ record_lines (n + length over) rest
 records_past n [] rest h = let e : n ≡ n + 0 = omega arith in ap (λ k. record_lines k rest) e
 records_past n (line ∷ over) rest h =
-    elim (b_cases (is_passed line)) [
+    elim (cases_Bool (is_passed line)) [
       | inl passes ↦
           let e : n + 1 + length over ≡ n + length (line ∷ over) = omega arith in
           rw passes (records_past (n + 1) over rest (rw passes at h) ∙ ap (λ k. record_lines k rest) e)
@@ -281,10 +283,6 @@ over_limit left old now new o gives text told =
     let all : lines_of old text ≡ (o.over ++ [], PastLimit) = t.2 ∙ ap (λ (q : Lines). let p : Lines = (o.over ++ q.0, q.1) in p) given in
     record { none = none_left (old.number + 1) o.over (lines_of old text) PastLimit o.passed all; stop = ap (λ (q : Lines). q.1) all }
 
-rose_since : {a b c : ℕ} → Rose b c → a ≤ b → Rose a c
-rose_since (inl more) le = inl (omega (arith, more, le))
-rose_since (inr last) le = inr last
-
 -- a read fails behind lines that were passed over
 pub over_fault : {S : Type 0} (left : S → Known) (faults : S → ℕ) (old now new : Reading S) → Over left old now → FailedCame left faults now new → now.ended ≡ false → Rose (faults old.source) (faults new.source) → FaultCame left faults old new
 over_fault left faults old now new o came unended rose = record {
@@ -326,7 +324,7 @@ stays_stuck {S = S} (Some stop) old now new n e h sticky =
 -- a stop behind lines that were passed over
 pub over_stop : {S : Type 0} (left : S → Known) (faults : S → ℕ) (old now new : Reading S) (stop : ReadStop) → Over left old now → now.ended ≡ false → StopCame left faults now new stop → faults old.source ≤ faults now.source
     → RecordCame left faults old new (Err stop)
-over_stop left faults old now new Failed o unended came later = over_fault left faults old now new o came unended (rose_since came.cause later)
+over_stop left faults old now new Failed o unended came later = over_fault left faults old now new o came unended (Rose-from _ _ _ later came.cause)
 over_stop left faults old now new TooLong o unended came later = came.stopped
 
 pub over_stop_records : {S : Type 0} (left : S → Known) (old now new : Reading S) (stop : ReadStop) → Over left old now → ((text : List ℕ) → text_left left now ≡ Some text → GivesLine left now new (lines_of now text) (Err stop))

@@ -2,7 +2,7 @@
 use Rattle.std.proofs.Common.{◌≡◌, ◌==◌, ◌&&◌, ◌∙◌, ◌<◌, ◌≤◌, ◌-◌, ◌++◌, ◌∷◌, [], ℕ, suc, zero, List, Bool, refl, sym, ap, subst, true, false, inl, inr, arith, length, take, ⊎_elim, append-nil, lit<}
 use Rattle.std.specs.Prelude.{not, slice_index}
 use Rattle.std.specs.List.{list_all, list_any, AllByRecursion}
-use Rattle.std.proofs.lemmas.Bool.{cases_Bool, cases_lt, ne_eqb, eqb-true}
+use Rattle.std.proofs.lemmas.Bool.{cases_Bool, cases_lt, ne_eqb, eqb-true, and_parts}
 use Rattle.std.proofs.lemmas.List.{take_all}
 use Rattle.std.proofs.lemmas.List.Folds.{list_all-append}
 use Rattle.std.proofs.lemmas.Str.{encode_ascii, encodes-append}
@@ -13,10 +13,6 @@ use Rattle.si_text.specs.Decoding.{IsKept}
 use Rattle.input_lines.proofs.CleanText.{is_plain_char, IsClean, AllClean}
 use Rattle.input_lines.proofs.Clean.{High, encode-high}
 use Rattle.input_lines.proofs.CleanLines.{clean_from}
-
-both : (a b : Bool) → (a && b) ≡ true → (a ≡ true) × (b ≡ true)
-both true b e = (refl, e)
-both false b e = cc e
 
 -- ---- clean texts
 
@@ -62,7 +58,7 @@ escaped_none = clean_none
 escaped_chars : (cs : List ℕ) → list_all is_plain_char cs ≡ true → IsClean (escaped default_writer (encodes cs))
 escaped_chars [] h = escaped_none
 escaped_chars (c ∷ cs) h =
-    let (p, q) = both (is_plain_char c) (list_all is_plain_char cs) h in
+    let (p, q) = and_parts (is_plain_char c) (list_all is_plain_char cs) h in
     let more = escaped_chars cs q in
     ⊎_elim
     (λ (low : c < 128). subst (λ (t : List ℕ). IsClean (escaped default_writer (t ++ encodes cs))) (sym (encode_ascii c low)) (low_escaped c (encodes cs) low p more))
@@ -119,7 +115,7 @@ plain_inner c p = elim (cases_Bool (c == 10)) [
 chars_inner : (cs : List ℕ) → list_all is_plain_char cs ≡ true → list_all is_inner (encodes cs) ≡ true
 chars_inner [] h = refl
 chars_inner (c ∷ cs) h =
-    let (p, q) = both (is_plain_char c) (list_all is_plain_char cs) h in
+    let (p, q) = and_parts (is_plain_char c) (list_all is_plain_char cs) h in
     let first : list_all is_inner (encode c) ≡ true = ⊎_elim
     (λ (low : c < 128). subst (λ (t : List ℕ). list_all is_inner t ≡ true) (sym (encode_ascii c low)) (rw (plain_inner c p) refl))
     (λ (high : 128 ≤ c). let (b, bs, e, k) = encode-high c high in high_inner (encode c) (subst High (sym e) k))
@@ -142,14 +138,14 @@ inner_parts b h = elim (cases_Bool (b == 10)) [
 pub line_first : (xs rest : List ℕ) → list_all is_inner xs ≡ true → raw_lines (xs ++ 10 ∷ rest) ≡ xs ∷ raw_lines rest
 line_first [] rest h = refl
 line_first (x ∷ xs) rest h =
-    let (p, q) = both (is_inner x) (list_all is_inner xs) h in
+    let (p, q) = and_parts (is_inner x) (list_all is_inner xs) h in
     let n = (inner_parts x p).0 in
     rw n (ap (onto x) (line_first xs rest q))
 
 no_cr : (xs : List ℕ) (i : ℕ) → list_all is_inner xs ≡ true → (slice_index xs i == 13) ≡ false
 no_cr [] i h = refl
-no_cr (x ∷ xs) zero h = (inner_parts x (both (is_inner x) (list_all is_inner xs) h).0).1
-no_cr (x ∷ xs) (suc i) h = no_cr xs i (both (is_inner x) (list_all is_inner xs) h).1
+no_cr (x ∷ xs) zero h = (inner_parts x (and_parts (is_inner x) (list_all is_inner xs) h).0).1
+no_cr (x ∷ xs) (suc i) h = no_cr xs i (and_parts (is_inner x) (list_all is_inner xs) h).1
 
 -- and is shown whole
 pub line_shown : (xs : List ℕ) → list_all is_inner xs ≡ true → length xs ≤ 16385 → shown xs ≡ xs

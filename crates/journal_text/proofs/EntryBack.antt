@@ -1,8 +1,10 @@
 -- Entries read back from their text.
-use Rattle.std.proofs.Common.{◌≡◌, ◌==◌, ◌&&◌, ◌∙◌, ◌<◌, ◌≤◌, ◌+◌, ◌*◌, ◌++◌, ◌∷◌, [], ℕ, suc, List, Bool, Some, None, refl, ap, true, false, arith, length, map, append_assoc}
+use Rattle.std.proofs.Common.{◌≡◌, ◌==◌, ◌&&◌, ◌∙◌, ◌<◌, ◌≤◌, ◌+◌, ◌*◌, ◌++◌, ◌∷◌, [], ℕ, List, Bool, Some, None, refl, ap, true, false, arith, length, map, append_assoc}
 use Rattle.std.specs.Prelude.{codes, decimal, flat_map, if◌then◌else◌}
-use Rattle.std.specs.List.{list_all, All, AllByRecursion}
+use Rattle.std.specs.List.{list_all, AllByRecursion}
 use Rattle.std.proofs.lemmas.Bool.Decides.{nat_tests}
+use Rattle.std.proofs.lemmas.List.Elements.{recursion_from_All}
+use Rattle.std.proofs.lemmas.Bool.{and_parts}
 use Rattle.si_text.specs.Decoding.{IsKept}
 use Rattle.si_time.specs.Moments.{moment_text}
 use Rattle.si_time.specs.declared.moment.Moment.{Moment}
@@ -122,17 +124,13 @@ command_back who n Swap more tail w h i k rows m = caller_reads who n (step_fiel
 
 -- ---- an entry
 
-both : (a b : Bool) → (a && b) ≡ true → (a ≡ true) × (b ≡ true)
-both true b e = (refl, e)
-both false b e = cc e
-
 -- digits are no `=`
 digit_other : (b : ℕ) → is_digit b ≡ true → (b == 61) ≡ false
 digit_other b h = grind (arith, nat_tests)
 
 no_outcome : (xs : List ℕ) → list_all is_digit xs ≡ true → is_word (codes "=") xs ≡ false
 no_outcome [] h = refl
-no_outcome (x ∷ xs) h = rw (digit_other x (both (is_digit x) (list_all is_digit xs) h).0) refl
+no_outcome (x ∷ xs) h = rw (digit_other x (and_parts (is_digit x) (list_all is_digit xs) h).0) refl
 
 -- what the first row is read as
 first_reads : (after : Bool) (n : ℕ) (fields : List (List ℕ)) (rows : List Row) (tail : Tail) → record_of (row_line fields) ≡ Some fields
@@ -153,10 +151,6 @@ outcome_is_row o h short = record { front = outcome_front o; kept = outcome_row_
 command_is_row : (who : ℕ) (s : Step) → IsNumeralNumber who → IsShapedStep s → IsStepWithin s → IsTypedStep s → IsShort (command_row who s) → IsRow (command_row who s)
 command_is_row who s w h i k short = record { front = command_front who s (low who w); kept = command_kept who s (low who w) h i k; short = short }
 
-pub by_recursion : (items : List Item) → All IsShapedItem items → AllByRecursion IsShapedItem items
-by_recursion [] h = tt
-by_recursion (item ∷ items) h = (h 0 item (omega arith), by_recursion items (λ k d lt. h (suc k) d (omega arith)))
-
 items_are_rows : (items : List Item) → AllByRecursion IsShapedItem items → AllByRecursion HasItemNumbers items → AllByRecursion (λ (item : Item). AllByRecursion IsKept (item_texts item)) items → AllByRecursion (λ (item : Item). IsShort (item_row item)) items → AreRows items
 items_are_rows [] h k t s = tt
 items_are_rows (item ∷ items) h k t s = (record { front = (refl, refl); kept = item_row_kept item h.0 k.0 t.0; short = s.0 }, items_are_rows items h.1 k.1 t.1 s.1)
@@ -166,7 +160,7 @@ step_rows (edit feed (Put service item)) h k s = tt
 step_rows (edit feed (Withdraw service event)) h k s = tt
 step_rows (edit feed (Clear service)) h k s = tt
 step_rows (edit feed (Name service provider name)) h k s = tt
-step_rows (edit feed (Day service day items)) h k s = items_are_rows items (by_recursion items h.items) k.1.numbers.1 k.1.items s
+step_rows (edit feed (Day service day items)) h k s = items_are_rows items (recursion_from_All items h.items) k.1.numbers.1 k.1.items s
 step_rows (Tick at) h k s = tt
 step_rows Publish h k s = tt
 step_rows Swap h k s = tt

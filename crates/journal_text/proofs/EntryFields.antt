@@ -1,9 +1,10 @@
 -- The fields of a command are texts, of which the first may begin a line.
-use Rattle.std.proofs.Common.{◌≡◌, ◌==◌, ◌&&◌, ◌∙◌, ◌<◌, ◌≤◌, ◌^◌, ◌++◌, ◌∷◌, [], ℕ, List, Bool, Option, Some, None, refl, true, false, arith, length}
+use Rattle.std.proofs.Common.{◌≡◌, ◌==◌, ◌&&◌, ◌∙◌, ◌<◌, ◌≤◌, ◌^◌, ◌++◌, ◌∷◌, [], ℕ, List, Option, Some, None, refl, true, false, arith, length}
 use Rattle.std.specs.Prelude.{codes, decimal, IfSome}
 use Rattle.std.specs.List.{list_all, AllByRecursion}
 use Rattle.std.proofs.lemmas.Bool.Decides.{nat_tests}
 use Rattle.std.proofs.lemmas.List.Folds.{list_all-append}
+use Rattle.std.proofs.lemmas.Bool.{and_parts}
 use Rattle.si_text.specs.Decoding.{IsKept}
 use Rattle.input_lines.specs.Numbers.{is_digit}
 use Rattle.guide_model.specs.declared.event.Genre.{Genre}
@@ -23,10 +24,6 @@ use Rattle.journal_text.specs.Script.{IsShapedStep}
 use Rattle.journal_text.specs.Back.{IsFront, IsFronted, IsTypedEdit, IsTypedStep, item_texts, command_row}
 use Rattle.journal_text.proofs.OutcomeBack.{digits_of, decimal_some, small}
 use Rattle.journal_text.proofs.EntryRows.{is_printing, is_written, printing_kept, digits_printing, shape_written, written_kept, moment_written, number_kept}
-
-both : (a b : Bool) → (a && b) ≡ true → (a ≡ true) × (b ≡ true)
-both true b e = (refl, e)
-both false b e = cc e
 
 -- ---- the fields of an edit are texts
 
@@ -88,7 +85,7 @@ digit_front b h = (grind (arith, nat_tests), grind (arith, nat_tests))
 
 digits_front : (xs : List ℕ) → 0 < length xs → list_all is_digit xs ≡ true → IsFront xs
 digits_front [] some h = absurd (omega arith)
-digits_front (x ∷ xs) some h = digit_front x (both (is_digit x) (list_all is_digit xs) h).0
+digits_front (x ∷ xs) some h = digit_front x (and_parts (is_digit x) (list_all is_digit xs) h).0
 
 number_front : (n : ℕ) → n < 2 ^ 64 → IsFront (decimal n)
 number_front n h = digits_front (decimal n) (decimal_some n h) (digits_of n h)

@@ -3,7 +3,7 @@ use Rattle.std.proofs.Common.{◌≡◌, ◌≢◌, ◌==◌, ◌&&◌, ◌∙�
 use Rattle.std.specs.Prelude.{codes, decimal, nat_le, if◌then◌else◌}
 use Rattle.std.specs.Char.{is_ascii_digit}
 use Rattle.std.specs.List.{list_all, list_any, AllByRecursion}
-use Rattle.std.proofs.lemmas.Bool.{cases_Bool, eqb-true}
+use Rattle.std.proofs.lemmas.Bool.{cases_Bool, eqb-true, and_parts}
 use Rattle.std.proofs.lemmas.Bool.Decides.{nat_tests}
 use Rattle.csv.specs.Writing.{default_writer, field_text, fields_text, needs_byte}
 use Rattle.si_time.specs.Readings.{has_shape}
@@ -26,10 +26,6 @@ use Rattle.journal_text.specs.Back.{HasFieldNumber, HasDayFaultNumbers, HasOutco
 use Rattle.journal_text.proofs.OutcomeBack.{digits_of, outcome_is, low, small}
 use Rattle.journal_text.proofs.CleanRows.{clean_append, clean_none, clean_byte}
 
-both : (a b : Bool) → (a && b) ≡ true → (a ≡ true) × (b ≡ true)
-both true b e = (refl, e)
-both false b e = cc e
-
 -- ---- bytes that stand for themselves
 
 -- a printing byte of ASCII
@@ -42,7 +38,7 @@ plain_printing b h = (grind (arith, nat_tests), grind (arith, nat_tests))
 pub printing_clean : (xs : List ℕ) → list_all is_printing xs ≡ true → IsClean xs
 printing_clean [] h = clean_none
 printing_clean (x ∷ xs) h =
-    let (p, q) = both (is_printing x) (list_all is_printing xs) h in
+    let (p, q) = and_parts (is_printing x) (list_all is_printing xs) h in
     let b = plain_printing x p in
     clean_append (x ∷ []) xs (clean_byte x b.0 b.1) (printing_clean xs q)
 
@@ -55,7 +51,7 @@ digit_printing b h = grind (arith, nat_tests)
 pub digits_printing : (xs : List ℕ) → list_all is_digit xs ≡ true → list_all is_printing xs ≡ true
 digits_printing [] h = refl
 digits_printing (x ∷ xs) h =
-    let (p, q) = both (is_digit x) (list_all is_digit xs) h in
+    let (p, q) = and_parts (is_digit x) (list_all is_digit xs) h in
     rw (digit_printing x p) (digits_printing xs q)
 
 -- a byte that no field is quoted for
@@ -71,7 +67,7 @@ digit_written b h = grind (arith, nat_tests)
 pub all_more : (P Q : ℕ → Bool) → ((b : ℕ) → P b ≡ true → Q b ≡ true) → (xs : List ℕ) → list_all P xs ≡ true → list_all Q xs ≡ true
 all_more P Q f [] h = refl
 all_more P Q f (x ∷ xs) h =
-    let (p, q) = both (P x) (list_all P xs) h in
+    let (p, q) = and_parts (P x) (list_all P xs) h in
     rw (f x p) (all_more P Q f xs q)
 
 pub digits_written : (xs : List ℕ) → list_all is_digit xs ≡ true → list_all is_written xs ≡ true
@@ -89,8 +85,8 @@ shape_written [] [] p h = refl
 shape_written [] (x ∷ xs) p h = cc h
 shape_written (s ∷ shape) [] p h = cc h
 shape_written (s ∷ shape) (x ∷ xs) p h =
-    let (a, b) = both (is_written s) (list_all is_written shape) p in
-    let (c, d) = both (if s == 100 then is_ascii_digit x else x == s) (has_shape shape xs) h in
+    let (a, b) = and_parts (is_written s) (list_all is_written shape) p in
+    let (c, d) = and_parts (if s == 100 then is_ascii_digit x else x == s) (has_shape shape xs) h in
     rw (shape_byte s x a c) (shape_written shape xs b d)
 
 pub written_kept : (xs : List ℕ) → list_all is_written xs ≡ true → IsKept xs
@@ -121,7 +117,7 @@ plain_byte b h =
 plain_text : (xs : List ℕ) → list_all is_written xs ≡ true → list_any (needs_byte default_writer) xs ≡ false
 plain_text [] h = refl
 plain_text (x ∷ xs) h =
-    let (p, q) = both (is_written x) (list_all is_written xs) h in
+    let (p, q) = and_parts (is_written x) (list_all is_written xs) h in
     rw (plain_byte x p) (plain_text xs q)
 
 -- a field of digits, letters and signs that csv does not quote
@@ -131,10 +127,10 @@ plain_field xs h = rw (plain_text xs h) refl
 plain_fields : (f : List ℕ) (fs : List (List ℕ)) → all_written (f ∷ fs) ≡ true → fields_text default_writer (f ∷ fs) ≡ 44 ∷ with_commas (f ∷ fs)
 unfolding fields_text
 plain_fields f [] h =
-    let (p, q) = both (list_all is_written f) true h in
+    let (p, q) = and_parts (list_all is_written f) true h in
     ap (λ (l : List ℕ). 44 ∷ l) (append-nil (field_text default_writer f) ∙ plain_field f p)
 plain_fields f (g ∷ fs) h =
-    let (p, q) = both (list_all is_written f) (all_written (g ∷ fs)) h in
+    let (p, q) = and_parts (list_all is_written f) (all_written (g ∷ fs)) h in
     ap (λ (l : List ℕ). 44 ∷ (l ++ fields_text default_writer (g ∷ fs))) (plain_field f p) ∙ ap (λ (l : List ℕ). 44 ∷ (f ++ l)) (plain_fields g fs q)
 
 field_written : (f : Field) → AllByRecursion (λ n. n < 2 ^ 64) (field_numbers f) → all_written (field_fields f) ≡ true
@@ -192,7 +188,7 @@ outcome_line o h =
 
 all_written_kept : (fs : List (List ℕ)) → all_written fs ≡ true → AllByRecursion IsKept fs
 all_written_kept [] h = tt
-all_written_kept (f ∷ fs) h = (let (p, q) = both (list_all is_written f) (all_written fs) h in (written_kept f p, all_written_kept fs q))
+all_written_kept (f ∷ fs) h = (let (p, q) = and_parts (list_all is_written f) (all_written fs) h in (written_kept f p, all_written_kept fs q))
 
 pub outcome_row_kept : (o : Outcome) → IsWritableOutcome o → AllByRecursion IsKept (outcome_row o)
 outcome_row_kept o h = (written_kept (codes "=") refl, all_written_kept (outcome_fields o) (outcome_written o h))

@@ -1,17 +1,16 @@
 -- The items ahead, one by one: which items come, that what is ahead gets fewer lines with each, and how they go on.
 use Rattle.std.proofs.Common.{◌≡◌, ◌≤◌, ◌<◌, ◌-◌, ℕ, zero, suc, Bool, true, false, List, [], ◌∷◌, length, drop, refl, ap, sym, subst, ◌∙◌, arith}
 use Rattle.std.specs.Prelude.{Option, Some, None, option_map, option_and_then, if◌then◌else◌, codes}
+use Rattle.feed_edits.proofs.Fewer.{then_within, row_within, line_within, items_within}
 use Rattle.input_lines.specs.Fields.{record_of}
 use Rattle.input_lines.specs.Numbers.{is_word, number_in}
 use Rattle.feed_edits.specs.declared.edit.DayText.{DayText}
-use Rattle.feed_edits.specs.declared.edit.Item.{Item}
 use Rattle.feed_edits.specs.declared.edit.Edit.{Edit}
 use Rattle.feed_edits.specs.declared.edit.Edit.TheVariants.{Day}
-use Rattle.feed_edits.specs.Ahead.{Ahead, Row, Tail, Found, Came, Stopped, Stop, and_then, first_row, row_of, stop_at, missing_at}
+use Rattle.feed_edits.specs.Ahead.{Ahead, Row, Tail, Found, Came, Stopped, Stop, and_then, first_row, stop_at}
 use Rattle.feed_edits.specs.Items.{item_of, day_of}
 use Rattle.feed_edits.specs.Heads.{edit_head, put_of, withdraw_of, clear_of, name_of, day_head_of}
-use Rattle.feed_edits.specs.Edits.{first_item, items_of, on_line, edit_from, read_edit}
-use Rattle.feed_edits.proofs.Edits.{item_in}
+use Rattle.feed_edits.specs.Edits.{items_of, on_line, edit_from, read_edit}
 use Rattle.desk_core.specs.declared.step.Step.{Step}
 use Rattle.desk_core.specs.declared.step.Outcome.{Outcome}
 use Rattle.desk_core.specs.Journal.{Command}
@@ -84,30 +83,6 @@ no_end after lines behind e = subst (Fits after) e (first_fits after lines)
 abbrev Within : {T : Type 0} → ℕ → Found T → Type 0
 Within k (Came value behind) = length behind.rows ≤ k
 Within k (Stopped stop) = Unit {0}
-
-then_within : {T U : Type 0} (j k : ℕ) (r : Found T) (f : T → Ahead → Found U) → Within j r → ((value : T) (behind : Ahead) → length behind.rows ≤ j → Within k (f value behind)) → Within k (and_then r f)
-then_within j k (Came value behind) f h g = g value behind h
-then_within j k (Stopped stop) f h g = tt
-
-row_within : (stop : Tail → Stop) (rows : List Row) (tail : Tail) → Within (length rows - 1) (row_of stop rows tail)
-row_within stop [] tail = tt
-row_within stop (row ∷ rows) tail = omega arith
-
-line_within : {T : Type 0} (k n : ℕ) (found : Option T) (behind : Ahead) → length behind.rows ≤ k → Within k (on_line n found behind)
-line_within k n None behind h = tt
-line_within k n (Some value) behind h = h
-
-item_within : (k : ℕ) (lines : Ahead) → length lines.rows ≤ k → Within k (first_item lines)
-item_within k lines h =
-    then_within (length lines.rows - 1) k (first_row missing_at lines) (λ row behind. on_line row.0 (item_in row.1) behind) (row_within missing_at lines.rows lines.tail)
-    (λ row behind le. line_within k row.0 (item_in row.1) behind (omega arith))
-
-items_within : (k n : ℕ) (lines : Ahead) → length lines.rows ≤ k → Within k (items_of n lines)
-unfolding items_of
-items_within k zero lines h = h
-items_within k (suc n) lines h =
-    then_within k k (first_item lines) (λ item behind. and_then (items_of n behind) (λ items rest. Came (item ∷ items) rest)) (item_within k lines h)
-    (λ item behind le. then_within k k (items_of n behind) (λ items rest. let r : Found (List Item) = Came (item ∷ items) rest in r) (items_within k n behind le) (λ items rest le2. le2))
 
 -- what holds of nothing, and of what is made of a value, holds of what may be made
 of_then : {A H : Type 0} (P : Option H → Type 0) (f : A → Option H) (found : Option A) → P None → ((value : A) → P (f value)) → P (option_and_then f found)

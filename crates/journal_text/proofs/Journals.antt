@@ -1,9 +1,13 @@
 -- Journals whose edits were read from lines are equal where their texts are: the text gives the rows, and these the entries.
-use Rattle.std.proofs.Common.{◌≡◌, ◌∙◌, ◌<◌, ◌≤◌, ◌^◌, ◌++◌, ◌∷◌, ◌&&◌, [], ℕ, Bool, true, false, List, Option, Some, None, length, map, refl, sym, ap, subst, arith, append-nil, append_assoc}
+use Rattle.std.proofs.Common.{◌≡◌, ◌∙◌, ◌<◌, ◌≤◌, ◌^◌, ◌++◌, ◌∷◌, ◌&&◌, [], ℕ, true, false, List, Option, Some, None, length, map, refl, sym, ap, subst, arith, append-nil, append_assoc}
 use Rattle.std.proofs.lemmas.List.{length-map}
 use Rattle.std.specs.Prelude.{codes, decimal, drop, flat_map, if◌then◌else◌, option_map}
 use Rattle.std.proofs.Math.Seq.{drop-append_seam}
 use Rattle.std.specs.List.{AllByRecursion, list_all}
+use Rattle.std.proofs.lemmas.List.Elements.{recursion_from_All}
+use Rattle.si_lists.proofs.Lists.{same_parts}
+use Rattle.si_lists.proofs.Outcomes.{some_same}
+use Rattle.si_lists.proofs.Truths.{first_true}
 use Rattle.csv.specs.Writing.{default_writer, fields_text}
 use Rattle.si_causes.specs.Lines.{raw_lines}
 use Rattle.si_text.specs.Decoding.{IsKept}
@@ -40,7 +44,7 @@ use Rattle.journal_text.proofs.RowBack.{fields_back}
 use Rattle.journal_text.proofs.OutcomeBack.{value_back, small, moment_back, digits_of, decimal_some}
 use Rattle.journal_text.proofs.EntryRows.{outcome_front, outcome_row_kept, plain_field, number_written}
 use Rattle.journal_text.proofs.EntryFields.{item_row_kept, command_kept, command_front}
-use Rattle.journal_text.proofs.EntryBack.{feed_short, tick_short, publish_short, swap_short, by_recursion, entry_parts}
+use Rattle.journal_text.proofs.EntryBack.{feed_short, tick_short, publish_short, swap_short, entry_parts}
 
 -- ---- the rows of a text
 
@@ -78,7 +82,7 @@ step_fit (edit feed (Put service item)) h k = tt
 step_fit (edit feed (Withdraw service event)) h k = tt
 step_fit (edit feed (Clear service)) h k = tt
 step_fit (edit feed (Name service provider name)) h k = tt
-step_fit (edit feed (Day service day items)) h k = items_fit items (by_recursion items h.items) k.1.numbers.1 k.1.items
+step_fit (edit feed (Day service day items)) h k = items_fit items (recursion_from_All items h.items) k.1.numbers.1 k.1.items
 step_fit (Tick at) h k = tt
 step_fit Publish h k = tt
 step_fit Swap h k = tt
@@ -270,19 +274,6 @@ outcome_again (Swapped n at) h = rw (value_back n h.numbers.0, moment_back at h.
 
 -- ---- equal rows are of equal entries
 
-some_same : {A : Type 0} {x y : A} → Some x ≡ Some y → x ≡ y
-some_same e = cc
-
-split_same : {A : Type 0} (xs ys us vs : List A) → length xs ≡ length ys → xs ++ us ≡ ys ++ vs → (xs ≡ ys) × (us ≡ vs)
-split_same [] [] us vs l e = (refl, e)
-split_same [] (y ∷ ys) us vs l e = absurd (omega (arith, l))
-split_same (x ∷ xs) [] us vs l e = absurd (omega (arith, l))
-split_same (x ∷ xs) (y ∷ ys) us vs l e =
-    let first : x ≡ y = cc e in
-    let others : xs ++ us ≡ ys ++ vs = cc e in
-    let parts = split_same xs ys us vs (omega (arith, l)) others in
-    (ap (λ a. a ∷ xs) first ∙ ap (λ l. y ∷ l) parts.0, parts.1)
-
 abbrev is_entry : ℕ → Step → Outcome → Entry
 is_entry who s o = record { who = who; step = s; outcome = o }
 
@@ -298,7 +289,7 @@ rows_same x y us vs h k e =
     let who : x.who ≡ y.who = sym (value_back x.who h.who) ∙ ap (value_from 0) whos ∙ value_back y.who k.who in
     let count : length (map item_row (step_items x.step)) ≡ length (map item_row (step_items y.step)) =
     length-map (step_items x.step) item_row ∙ sym (count_back x.step h.shaped) ∙ ap (λ (l : Row). rows_behind (drop 2 l)) fields ∙ count_back y.step k.shaped ∙ sym (length-map (step_items y.step) item_row) in
-    let parts = split_same (map item_row (step_items x.step)) (map item_row (step_items y.step)) (outcome_row x.outcome ∷ us) (outcome_row y.outcome ∷ vs) count behind in
+    let parts = same_parts (map item_row (step_items x.step)) (map item_row (step_items y.step)) (outcome_row x.outcome ∷ us) (outcome_row y.outcome ∷ vs) count behind in
     let last : outcome_row x.outcome ∷ us ≡ outcome_row y.outcome ∷ vs = parts.1 in
     let outcomes : outcome_fields x.outcome ≡ outcome_fields y.outcome = cc last in
     let rest : us ≡ vs = cc last in
@@ -308,10 +299,6 @@ rows_same x y us vs h k e =
     (same_entry x y who step outcome, rest)
 
 -- ---- what stands behind a journal
-
-first_true : (a b : Bool) → (a && b) ≡ true → a ≡ true
-first_true true b e = refl
-first_true false b e = cc
 
 no_digit : (xs rest : List ℕ) → 0 < length xs → list_all is_digit xs ≡ true → BeginsNoEntry (xs ++ rest) → ⊥
 no_digit [] rest some h none = omega (arith, some)

@@ -1,10 +1,10 @@
 -- Outcomes read back from their fields.
-use Rattle.std.proofs.Common.{◌≡◌, ◌≤◌, ◌<◌, ◌^◌, ◌*◌, ◌∙◌, ℕ, List, [], ◌∷◌, ◌++◌, length, Some, true, refl, ap, arith, rules, lit<, lit≤, append_assoc}
+use Rattle.std.proofs.Common.{◌≡◌, ◌≤◌, ◌<◌, ◌^◌, ◌*◌, ◌∙◌, ℕ, List, [], ◌∷◌, ◌++◌, length, Some, true, refl, ap, arith, lit<, lit≤, append_assoc}
 use Rattle.std.specs.Prelude.{codes, decimal, nat_le}
 use Rattle.std.specs.List.{list_all}
-use Rattle.std.proofs.lemmas.Str.Parse.{IsNumeralModel, numerals_by_fold}
 use Rattle.std.proofs.lemmas.Fmt.{digits_decimal, digits_value-decimal, length-decimal-le, decimal_nonempty}
 use Rattle.std.proofs.lemmas.Bool.Decides.{nat_tests}
+use Rattle.input_lines.proofs.Numerals.{own}
 use Rattle.si_time.specs.Moments.{moment_text}
 use Rattle.si_time.specs.declared.moment.Moment.{Moment}
 use Rattle.si_time.proofs.TextFacts.{moment_in-moment_text}
@@ -23,9 +23,6 @@ use Rattle.journal_text.specs.Kept.{field_of, day_fault_of, reply_of, outcome_of
 use Rattle.journal_text.specs.Back.{IsNumeralNumber, HasFieldNumber, HasDayFaultNumbers, IsReadableOutcome, OutcomesAreFields}
 
 -- ---- numbers and moments
-
-pub own : IsNumeralModel (λ ds. list_all is_digit ds ≡ true) (value_from 0)
-own = numerals_by_fold _ (search rules) value_from (search rules)
 
 pub low : (n : ℕ) → IsNumeralNumber n → n < 2 ^ 64
 low n le = let k : n < 1000000000 = omega arith in let b : 1000000000 < 2 ^ 64 = lit< tt in omega (arith, k, b)

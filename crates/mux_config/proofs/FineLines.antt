@@ -2,6 +2,8 @@
 use Rattle.std.proofs.Common.{◌≡◌, ℕ, ◌*◌, ◌<◌, Bool, true, false, cond, List, [], ◌∷◌, Option, Some, None, refl, arith}
 use Rattle.std.specs.Prelude.{◌&&◌, nat_le, codes, if◌then◌else◌, option_map}
 use Rattle.std.proofs.lemmas.Bool.Decides.{nat_tests}
+use Rattle.si_lists.proofs.Outcomes.{none_of}
+use Rattle.si_lists.proofs.Truths.{first_true, second_true}
 use Rattle.si_text.specs.Coding.{coded_size}
 use Rattle.si_time.specs.Readings.{moment_in}
 use Rattle.si_time.proofs.TextFacts.{moment_in-is}
@@ -27,18 +29,10 @@ use Rattle.mux_config.proofs.Soundness.{fine_none, fine_more, sound_end}
 
 -- ---- numbers in their ranges
 
-and_left : (a b : Bool) → (a && b) ≡ true → a ≡ true
-and_left true b e = refl
-and_left false b e = cc e
-
-and_right : (a b : Bool) → (a && b) ≡ true → b ≡ true
-and_right true b e = e
-and_right false b e = cc e
-
 bounds : (low high n : ℕ) → in_range low high n ≡ true → Between low high n
 bounds low high n e =
-    let a = and_left (nat_le low n) (nat_le n high) e in
-    let b = and_right (nat_le low n) (nat_le n high) e in
+    let a = first_true (nat_le low n) (nat_le n high) e in
+    let b = second_true (nat_le low n) (nat_le n high) e in
     (grind (arith, nat_tests), grind (arith, nat_tests))
 
 -- two bytes, where the range goes to 65535
@@ -64,26 +58,26 @@ fine_spelled field next h = fine_with (numeral_of field) next h
 
 fine_network : (id name : List ℕ) → IsFineFound (network_in id name)
 fine_network id name = fine_spelled id _ (λ n. fine_within (in_range 0 65535 n && in_range 1 100 (coded_size name)) (Network n name) (λ e. (
-  short_bound 0 n (and_left (in_range 0 65535 n) (in_range 1 100 (coded_size name)) e),
-  bounds 1 100 (coded_size name) (and_right (in_range 0 65535 n) (in_range 1 100 (coded_size name)) e),
+  short_bound 0 n (first_true (in_range 0 65535 n) (in_range 1 100 (coded_size name)) e),
+  bounds 1 100 (coded_size name) (second_true (in_range 0 65535 n) (in_range 1 100 (coded_size name)) e),
 )))
 
 fine_stream : (id original : List ℕ) → IsFineFound (stream_in id original)
 fine_stream id original = fine_spelled id _ (λ n. fine_spelled original _ (λ o. fine_within (in_range 0 65535 n && in_range 0 65535 o) (Stream n o) (λ e. (
-  short_bound 0 n (and_left (in_range 0 65535 n) (in_range 0 65535 o) e),
-  short_bound 0 o (and_right (in_range 0 65535 n) (in_range 0 65535 o) e),
+  short_bound 0 n (first_true (in_range 0 65535 n) (in_range 0 65535 o) e),
+  short_bound 0 o (second_true (in_range 0 65535 n) (in_range 0 65535 o) e),
 ))))
 
 sound_cable : (f m s o i : ℕ) → (in_range 0 99999999 f && (in_range 0 255 m && (in_range 0 9999999 s && (in_range 0 15 o && in_range 0 15 i)))) ≡ true → IsSoundCable (cable_with f m s o i)
 sound_cable f m s o i e =
-    let behind = and_right (in_range 0 99999999 f) _ e in
-    let rates = and_right (in_range 0 255 m) _ behind in
-    let protections = and_right (in_range 0 9999999 s) _ rates in
+    let behind = second_true (in_range 0 99999999 f) _ e in
+    let rates = second_true (in_range 0 255 m) _ behind in
+    let protections = second_true (in_range 0 9999999 s) _ rates in
     record {
-      frequency = (bounds 0 99999999 f (and_left (in_range 0 99999999 f) _ e)).1;
-      symbol_rate = (bounds 0 9999999 s (and_left (in_range 0 9999999 s) _ rates)).1;
-      fec_outer = (bounds 0 15 o (and_left (in_range 0 15 o) _ protections)).1;
-      fec_inner = (bounds 0 15 i (and_right (in_range 0 15 o) _ protections)).1;
+      frequency = (bounds 0 99999999 f (first_true (in_range 0 99999999 f) _ e)).1;
+      symbol_rate = (bounds 0 9999999 s (first_true (in_range 0 9999999 s) _ rates)).1;
+      fec_outer = (bounds 0 15 o (first_true (in_range 0 15 o) _ protections)).1;
+      fec_inner = (bounds 0 15 i (second_true (in_range 0 15 o) _ protections)).1;
     }
 
 fine_delivery : (f m s o i : ℕ) → IsFineFound (delivery_with f m s o i)
@@ -95,18 +89,18 @@ fine_cable frequency modulation rate outer inner =
 
 fine_fields : (s : MuxService) → is_service_in_range s ≡ true → IsFineService s
 fine_fields s e =
-    let numbers = and_left _ (in_range 0 100 (coded_size s.provider) && in_range 1 100 (coded_size s.name)) e in
-    let names = and_right (in_range 1 65535 s.service && (in_range 1 16 s.feed && (in_range 0 255 s.kind && (in_range 32 8190 s.pmt_pid && in_range 32 8191 s.pcr_pid)))) _ e in
-    let feeds = and_right (in_range 1 65535 s.service) _ numbers in
-    let kinds = and_right (in_range 1 16 s.feed) _ feeds in
-    let pids = and_right (in_range 0 255 s.kind) _ kinds in
+    let numbers = first_true _ (in_range 0 100 (coded_size s.provider) && in_range 1 100 (coded_size s.name)) e in
+    let names = second_true (in_range 1 65535 s.service && (in_range 1 16 s.feed && (in_range 0 255 s.kind && (in_range 32 8190 s.pmt_pid && in_range 32 8191 s.pcr_pid)))) _ e in
+    let feeds = second_true (in_range 1 65535 s.service) _ numbers in
+    let kinds = second_true (in_range 1 16 s.feed) _ feeds in
+    let pids = second_true (in_range 0 255 s.kind) _ kinds in
     record {
-      service = bounds 1 65535 s.service (and_left (in_range 1 65535 s.service) _ numbers);
-      feed = bounds 1 16 s.feed (and_left (in_range 1 16 s.feed) _ feeds);
-      pmt_pid = bounds 32 8190 s.pmt_pid (and_left (in_range 32 8190 s.pmt_pid) _ pids);
-      pcr_pid = bounds 32 8191 s.pcr_pid (and_right (in_range 32 8190 s.pmt_pid) _ pids);
-      provider = (bounds 0 100 (coded_size s.provider) (and_left (in_range 0 100 (coded_size s.provider)) _ names)).1;
-      name = bounds 1 100 (coded_size s.name) (and_right (in_range 0 100 (coded_size s.provider)) _ names);
+      service = bounds 1 65535 s.service (first_true (in_range 1 65535 s.service) _ numbers);
+      feed = bounds 1 16 s.feed (first_true (in_range 1 16 s.feed) _ feeds);
+      pmt_pid = bounds 32 8190 s.pmt_pid (first_true (in_range 32 8190 s.pmt_pid) _ pids);
+      pcr_pid = bounds 32 8191 s.pcr_pid (second_true (in_range 32 8190 s.pmt_pid) _ pids);
+      provider = (bounds 0 100 (coded_size s.provider) (first_true (in_range 0 100 (coded_size s.provider)) _ names)).1;
+      name = bounds 1 100 (coded_size s.name) (second_true (in_range 0 100 (coded_size s.provider)) _ names);
     }
 
 fine_service : (o : Option Numbers) (provider name : List ℕ) → IsFineFound (service_of o provider name)
@@ -120,19 +114,19 @@ sound_language [] e = tt
 sound_language (a ∷ []) e = cc e
 sound_language (a ∷ b ∷ []) e = cc e
 sound_language (a ∷ b ∷ c ∷ []) e =
-    let behind = and_right (is_letter a) _ e in
-    let one = bounds 97 122 a (and_left (is_letter a) _ e) in
-    let two = bounds 97 122 b (and_left (is_letter b) _ behind) in
-    let three = bounds 97 122 c (and_right (is_letter b) _ behind) in
+    let behind = second_true (is_letter a) _ e in
+    let one = bounds 97 122 a (first_true (is_letter a) _ e) in
+    let two = bounds 97 122 b (first_true (is_letter b) _ behind) in
+    let three = bounds 97 122 c (second_true (is_letter b) _ behind) in
     (refl, (one, (two, (three, tt))))
 sound_language (a ∷ b ∷ c ∷ d ∷ letters) e = cc e
 
 sound_part : (s k p : ℕ) (language : List ℕ) → ((in_range 0 65535 s && (in_range 0 255 k && in_range 32 8190 p)) && is_language language) ≡ true → IsFine (Part s (record { stream_type = k; pid = p; language = language_of language }))
 sound_part s k p language e =
-    let numbers = and_left (in_range 0 65535 s && (in_range 0 255 k && in_range 32 8190 p)) (is_language language) e in
+    let numbers = first_true (in_range 0 65535 s && (in_range 0 255 k && in_range 32 8190 p)) (is_language language) e in
     record {
-      pid = bounds 32 8190 p (and_right (in_range 0 255 k) _ (and_right (in_range 0 65535 s) _ numbers));
-      language = sound_language language (and_right (in_range 0 65535 s && (in_range 0 255 k && in_range 32 8190 p)) _ e);
+      pid = bounds 32 8190 p (second_true (in_range 0 255 k) _ (second_true (in_range 0 65535 s) _ numbers));
+      language = sound_language language (second_true (in_range 0 65535 s && (in_range 0 255 k && in_range 32 8190 p)) _ e);
     }
 
 fine_part : (service kind pid language : List ℕ) → IsFineFound (part_in service kind pid language)
@@ -173,10 +167,6 @@ pub fine_line : (line : List ℕ) → IsFineFound (found_line line)
 fine_line line = fine_found (record_of line)
 
 -- ---- a description
-
-none_of : {X Y : Type 0} (f : X → Y) (o : Option X) → option_map f o ≡ None → o ≡ None
-none_of f None e = refl
-none_of f (Some x) e = cc e
 
 -- a record that has no fault has a place, and repeats none
 placed : (b : Bool) (o : Option ℕ) (range : MuxFault) (twice : ℕ → MuxFault) → cond b (Some range) (option_map twice o) ≡ None → (b ≡ false) × (o ≡ None)

@@ -1,10 +1,11 @@
 -- Services in ascending order, and the records of a kind, one after another.
-use Rattle.std.proofs.Common.{◌≡◌, ℕ, zero, suc, ◌+◌, ◌<◌, ◌≤◌, Bool, true, false, cond, List, [], ◌∷◌, ◌++◌, length, take, drop, map, get_or, refl, sym, ap, ◌∙◌, arith, inl, inr, append-nil}
+use Rattle.std.proofs.Common.{◌≡◌, ℕ, zero, suc, ◌+◌, ◌<◌, ◌≤◌, Bool, List, [], ◌∷◌, ◌++◌, length, take, drop, map, get_or, refl, sym, ap, ◌∙◌, arith, inl, inr, append-nil}
 use Rattle.std.specs.Prelude.{nat_lt, position, Option, Some, None}
 use Rattle.std.specs.List.{cons_option, fold, position_or_len}
 use Rattle.std.proofs.lemmas.Bool.{cases_Bool}
 use Rattle.std.proofs.lemmas.Bool.Decides.{nat_tests}
 use Rattle.std.proofs.lemmas.Option.{cond_some}
+use Rattle.si_lists.proofs.Truths.{none_not}
 use Rattle.mux_config.specs.declared.mux.MuxService.{MuxService}
 use Rattle.mux_config.specs.declared.record.Record.{Record}
 use Rattle.mux_config.specs.declared.record.Numbered.{Numbered}
@@ -31,10 +32,6 @@ pub place_found : (s : MuxService) (ts : List MuxService) (id at : ℕ) → s.se
 place_found s ts id at same e =
     let here : position_or_len (Later id) ts ≡ at = (cond_some (nat_lt (position_or_len (Later id) ts) (length ts)) (position_or_len (Later id) ts) at e).1 in
     insert_at s ts ∙ ap (λ (k : ℕ). take (position_or_len (Later k) ts) ts ++ s ∷ drop (position_or_len (Later k) ts) ts) same ∙ ap (λ (k : ℕ). take k ts ++ s ∷ drop k ts) here
-
-none_not : (b : Bool) (x : ℕ) → cond b (Some x) None ≡ None → b ≡ false
-none_not true x e = cc
-none_not false x e = refl
 
 within_len : (test : MuxService → Bool) (ts : List MuxService) → position_or_len test ts ≤ length ts
 within_len test [] = omega arith

@@ -2,6 +2,7 @@
 use Rattle.std.proofs.Common.{◌≡◌, ℕ, ◌+◌, ◌≤◌, true, false, List, [], ◌∷◌, ◌++◌, length, Option, Some, None, Ok, Err, refl, sym, ap, ◌∙◌, subst, arith, inl, inr, append-nil, append_assoc, length-append}
 use Rattle.std.specs.Prelude.{Result}
 use Rattle.std.specs.List.{list_all}
+use Rattle.si_causes.proofs.CauseFacts.{Rose-from}
 use Rattle.si_causes.specs.Causes.{Rose}
 use Rattle.si_causes.specs.Reading.{Reading, text_left}
 use Rattle.si_causes.specs.Text.{TextEnd, AtEnd}
@@ -250,11 +251,6 @@ end_came left faults old now new records fault t came e =
       faulty = ap (λ (b : Block). at_text_end b AtEnd) (none came.over came.passed) ∙ e;
     })
 
--- the reader stops
-rose_since : {a b c : ℕ} → Rose b c → a ≤ b → Rose a c
-rose_since (inl more) le = inl (omega (arith, more, le))
-rose_since (inr last) le = inr last
-
 pub stop_read : {S : Type 0} (left : S → Known) (old now new : Reading S) (records : List Numbered) (stop : ReadStop) → Taken left old now records
     → ((text : List ℕ) → text_left left now ≡ Some text → GivesRecord left now new (lines_of now text) (Err stop)) → (text : List ℕ) → text_left left old ≡ Some text → ReadMux left old new (lines_of old text) (Err (Read stop))
 stop_read left old now new records Failed t gives text told = tt
@@ -269,7 +265,7 @@ stop_came left faults old now new records Failed t came later = record {
   lines = t.lines ++ came.over;
   whole = whole_more left old now new t.lines came.over t.handed came.unended came.whole;
   unended = t.reads came.over ∙ ap (block_from records) (none_there (now.number + 1) came.over came.passed);
-  cause = rose_since came.cause later;
+  cause = Rose-from _ _ _ later came.cause;
 }
 stop_came left faults old now new records TooLong t came later = came
 

@@ -5,6 +5,7 @@ use Rattle.std.specs.List.{AllByRecursion, cons_option, fold}
 use Rattle.std.specs.Option.{unwrap_or}
 use Rattle.std.proofs.lemmas.Bool.{cases_Bool, eqb-true, leb-true, false≢true}
 use Rattle.std.proofs.lemmas.Bool.Decides.{nat_tests}
+use Rattle.si_lists.proofs.Lists.{all_push}
 use Rattle.guide_model.specs.declared.stream.Component.{Component}
 use Rattle.si_time.specs.declared.moment.Moment.{Moment}
 use Rattle.si_text.specs.Coding.{coded_size}
@@ -42,10 +43,6 @@ both_all P Q (x ∷ xs) h k = ((h.0, k.0), both_all P Q xs h.1 k.1)
 all_map : {X : Type 0} (f : X → ℕ) (P : ℕ → Type 0) (xs : List X) → AllByRecursion (λ x. P (f x)) xs → AllByRecursion P (map f xs)
 all_map f P [] h = tt
 all_map f P (x ∷ xs) h = (h.0, all_map f P xs h.1)
-
-all_snoc : {X : Type 0} (P : X → Type 0) (xs : List X) (x : X) → AllByRecursion P xs → P x → AllByRecursion P (xs ++ x ∷ [])
-all_snoc P [] x h p = (p, tt)
-all_snoc P (y ∷ ys) x h p = (h.0, all_snoc P ys x h.1 p)
 
 -- what a list of PMT PIDs says of its services
 of_pids : (P : ℕ → Type 0) (ts : List MuxService) → AllByRecursion P (pmt_pids ts) → AllByRecursion (λ (t : MuxService). P t.pmt_pid) ts
@@ -89,7 +86,7 @@ of_component_pids P (x ∷ xs) h = (h.0, of_component_pids P xs h.1)
 different_snoc : (xs : List Component) (c : Component) → AllByRecursion (λ (x : Component). x.pid ≢ c.pid) xs → AreDifferent (map (λ (x : Component). x.pid) xs) → AreDifferent (map (λ (x : Component). x.pid) (xs ++ c ∷ []))
 different_snoc [] c new h = (tt, tt)
 different_snoc (x ∷ xs) c new h = (
-  all_map (λ (y : Component). y.pid) (λ m. x.pid ≢ m) (xs ++ c ∷ []) (all_snoc (λ (y : Component). x.pid ≢ y.pid) xs c (of_component_pids (λ m. x.pid ≢ m) xs h.0) new.0),
+  all_map (λ (y : Component). y.pid) (λ m. x.pid ≢ m) (xs ++ c ∷ []) (all_push (λ (y : Component). x.pid ≢ y.pid) xs c (of_component_pids (λ m. x.pid ≢ m) xs h.0) new.0),
   different_snoc xs c new.1 h.1,
 )
 
@@ -131,7 +128,7 @@ fine_kept rs line says f fine no_service no_part =
     let services : in_order (rs ++ r ∷ []) ≡ in_order rs = ap sorted (all_kept service_in rs r no_service) in
     let parts_same : (id : ℕ) → parts_in id (rs ++ r ∷ []) ≡ parts_in id rs = λ id. all_kept (part_in id) rs r (no_part id) in
     record {
-      each = all_snoc (λ (x : Numbered). IsFine x.says) rs r f.each fine;
+      each = all_push (λ (x : Numbered). IsFine x.says) rs r f.each fine;
       count = rw services f.count;
       services = rw services f.services;
       ascend = rw services f.ascend;
@@ -167,7 +164,7 @@ fine_service rs line s f fine place once =
     let no_pid = or_none_right (first_line (has_pmt s.pmt_pid) rs) (first_line (has_pid s.pmt_pid) rs) (or_none_right (first_line (has_id s.service) rs) _ once) in
     let room : length (all_of service_in rs) < 64 = grind (arith, nat_tests) in
     record {
-      each = all_snoc (λ (x : Numbered). IsFine x.says) rs r f.each fine;
+      each = all_push (λ (x : Numbered). IsFine x.says) rs r f.each fine;
       count = rw services (omega (arith, room, length_insert s (in_order rs), length_sorted_from (all_of service_in rs) []));
       services = rw services (all_insert IsFineService s (in_order rs) fine f.services);
       ascend = rw services (ascend_insert s (in_order rs) (f.ids s.service no_id) f.ascend);
@@ -237,7 +234,7 @@ no_pmt_held id pid (r ∷ rs) e =
 
 apart_more : (c : Component) (cs : List Component) (ss : List MuxService) → AllByRecursion (λ (s : MuxService). c.pid ≢ s.pmt_pid) ss → AllByRecursion (IsApart cs) ss → AllByRecursion (IsApart (cs ++ c ∷ [])) ss
 apart_more c cs [] new h = tt
-apart_more c cs (s ∷ ss) new h = (all_snoc (λ (x : Component). s.pmt_pid ≢ x.pid) cs c h.0 (λ e. new.0 (sym e)), apart_more c cs ss new.1 h.1)
+apart_more c cs (s ∷ ss) new h = (all_push (λ (x : Component). s.pmt_pid ≢ x.pid) cs c h.0 (λ e. new.0 (sym e)), apart_more c cs ss new.1 h.1)
 
 pub fine_part : (rs : List Numbered) (line home : ℕ) (c : Component) → AreFine rs → IsSoundComponent c → has_no_place rs (Part home c) ≡ false → repeated_at rs (Part home c) ≡ None → AreFine (rs ++ numbered line (Part home c) ∷ [])
 fine_part rs line home c f fine place once =
@@ -246,14 +243,14 @@ fine_part rs line home c f fine place once =
     let room : length (parts_in home rs) < 16 = fewer (length (parts_in home rs)) (or_false_right _ (nat_le 16 (length (parts_in home rs))) place) in
     let no_pmt = f.pmt_pids c.pid (no_pmt_held home c.pid rs once) in
     record {
-      each = all_snoc (λ (x : Numbered). IsFine x.says) rs r f.each fine;
+      each = all_push (λ (x : Numbered). IsFine x.says) rs r f.each fine;
       count = rw services f.count;
       services = rw services f.services;
       ascend = rw services f.ascend;
       pmts = rw services f.pmts;
       few = λ id. parts_with (λ (cs : List Component). length cs ≤ 16) rs line home c id
           (λ same. let few : length (parts_in id rs) < 16 = subst (λ (k : ℕ). length (parts_in k rs) < 16) same room in omega (arith, few, length-append (parts_in id rs) (c ∷ []))) (f.few id);
-      components = λ id. parts_with (AllByRecursion IsSoundComponent) rs line home c id (λ same. all_snoc IsSoundComponent (parts_in id rs) c (f.components id) fine) (f.components id);
+      components = λ id. parts_with (AllByRecursion IsSoundComponent) rs line home c id (λ same. all_push IsSoundComponent (parts_in id rs) c (f.components id) fine) (f.components id);
       once = λ id. parts_with (λ (cs : List Component). AreDifferent (map (λ (x : Component). x.pid) cs)) rs line home c id
           (λ same. different_snoc (parts_in id rs) c (f.own c.pid id (subst (λ (k : ℕ). first_line (holds k c.pid) rs ≡ None) same once)) (f.once id)) (f.once id);
       apart = λ id. rw services (parts_with (λ (cs : List Component). AllByRecursion (IsApart cs) (in_order rs)) rs line home c id (λ same. apart_more c (parts_in id rs) (in_order rs) no_pmt (f.apart id)) (f.apart id));
@@ -262,11 +259,11 @@ fine_part rs line home c f fine place once =
       pids = λ pid id e.
           let before = f.pids pid id (first_before (has_pid pid) rs r e) in
           parts_with (AllByRecursion (λ (x : Component). pid ≢ x.pid)) rs line home c id
-          (λ same. all_snoc (λ (x : Component). pid ≢ x.pid) (parts_in id rs) c before (differs c.pid pid (not_last (has_pid pid) rs r e))) before;
+          (λ same. all_push (λ (x : Component). pid ≢ x.pid) (parts_in id rs) c before (differs c.pid pid (not_last (has_pid pid) rs r e))) before;
       own = λ pid id e.
           let before = f.own pid id (first_before (holds id pid) rs r e) in
           parts_with (AllByRecursion (λ (x : Component). x.pid ≢ pid)) rs line home c id
-          (λ same. all_snoc (λ (x : Component). x.pid ≢ pid) (parts_in id rs) c before (other_pid home id c.pid pid same (not_last (holds id pid) rs r e))) before;
+          (λ same. all_push (λ (x : Component). x.pid ≢ pid) (parts_in id rs) c before (other_pid home id c.pid pid same (not_last (holds id pid) rs r e))) before;
     }
 
 -- one record more

@@ -1,16 +1,6 @@
 -- Bytes that are held in a part of a buffer.
-use Rattle.std.proofs.Common.{◌≡◌, ℕ, ◌+◌, ◌-◌, ◌≤◌, List, take, drop, ◌++◌, sym, arith, ap, ◌∙◌, drop-drop, length, length-take, length-drop, slice_range}
-use Rattle.std.proofs.lemmas.List.{drop-take}
+use Rattle.std.proofs.Common.{◌≡◌, ℕ, ◌+◌, ◌-◌, ◌≤◌, List, take, drop, ◌++◌, sym, arith, ap, ◌∙◌, slice_range}
 use Rattle.std.proofs.Math.Seq.{take-add, take-take}
-
--- the rest of what is held
-pub held_drop : (bytes : List ℕ) (start count end : ℕ) → start + count ≤ end → slice_range bytes (start + count) end ≡ drop count (slice_range bytes start end)
-held_drop bytes start count end le =
-    let apart : end - start ≡ count + (end - (start + count)) = omega arith in
-    sym (ap (λ k. drop count (take k (drop start bytes))) apart ∙ drop-take count (end - (start + count)) (drop start bytes) ∙ ap (take (end - (start + count))) (drop-drop count start bytes))
-
-pub held_length : (bytes : List ℕ) (start end : ℕ) → end ≤ length bytes → length (slice_range bytes start end) ≡ end - start
-held_length bytes start end le = simp (length-take, length-drop) (omega arith)
 
 -- a front of what is held
 pub held_take : (bytes : List ℕ) (start count end : ℕ) → start + count ≤ end → slice_range bytes start (start + count) ≡ take count (slice_range bytes start end)

@@ -1,17 +1,15 @@
 -- The packets of a recording, one after another, and what `next` gives of them.
-use Rattle.std.proofs.Common.{◌≡◌, ◌≢◌, ℕ, suc, ◌<◌, ◌≤◌, ◌==◌, ◌&&◌, Bool, true, false, List, [], ◌∷◌, ◌++◌, length, take, drop, slice_index, refl, sym, ap, ◌∙◌, arith, append-nil, append_assoc, length-take, length-append, Option, Some, None, inl, inr}
+use Rattle.std.proofs.Common.{◌≡◌, ◌≢◌, ℕ, suc, ◌<◌, ◌≤◌, ◌==◌, ◌&&◌, true, false, List, [], ◌∷◌, ◌++◌, length, take, drop, slice_index, refl, sym, ap, ◌∙◌, arith, append-nil, append_assoc, length-take, length-append, Option, Some, None, inl, inr}
 use Rattle.std.proofs.lemmas.List.{take-append-le, drop-append-le, length-take-le, take-append-drop}
 use Rattle.std.proofs.lemmas.Bool.Decides.{nat_tests, leb_tells}
 use Rattle.std.specs.Io.KnownBytes.{IsAtEnd, prepend_known}
-use Rattle.packet_reader.specs.Recordings.{RecordingEnd.Broken, RecordingEnd.PastLimit, is_packet, and_packet, packets_in}
+use Rattle.si_causes.proofs.TextFacts.{nothing_left}
+use Rattle.si_lists.proofs.Truths.{second_true}
+use Rattle.packet_reader.specs.Recordings.{is_packet, and_packet, packets_in}
 use Rattle.packet_reader.specs.Reading.{Gathers}
 
 false-true : false ≡ true → ⊥
 false-true e = cc
-
-and_true : (a b : Bool) → (a && b) ≡ true → b ≡ true
-and_true true b e = e
-and_true false b e = cc
 
 pub packet_step : (n : ℕ) (bytes : List ℕ) → is_packet (take 188 bytes) ≡ true → packets_in (suc n) bytes ≡ and_packet (take 188 bytes) (packets_in n (drop 188 bytes))
 packet_step n [] e = cc
@@ -54,7 +52,7 @@ is_long bytes e = elim (leb_tells 188 (length bytes)) [
 
 -- and begins with the sync byte
 pub begins : (bytes : List ℕ) → is_packet (take 188 bytes) ≡ true → slice_index (take 188 bytes) 0 ≡ 0x47
-begins bytes e = grind (arith, nat_tests, and_true (length (take 188 bytes) == 188) (slice_index (take 188 bytes) 0 == 0x47) e)
+begins bytes e = grind (arith, nat_tests, second_true (length (take 188 bytes) == 188) (slice_index (take 188 bytes) 0 == 0x47) e)
 
 -- what a source has left behind the bytes that are held, once it gave some more
 pub told_behind : (left_old left_new : Option (List ℕ)) (held_old held_new bytes : List ℕ) → prepend_known held_old left_old ≡ Some bytes → Gathers left_old left_new held_old held_new
@@ -64,10 +62,6 @@ told_behind (Some xs) None held_old held_new bytes e g = absurd g.2
 told_behind (Some xs) (Some ys) held_old held_new bytes e g =
     let same : held_old ++ xs ≡ bytes = cc in
     (ys, refl, sym same ∙ ap (λ t. held_old ++ t) g.2 ∙ sym (append_assoc held_old g.0 ys) ∙ ap (λ t. t ++ ys) (sym g.1))
-
-pub nothing_left : (o : Option (List ℕ)) (rest : List ℕ) → o ≡ Some rest → IsAtEnd o → rest ≡ []
-nothing_left None rest e end = cc
-nothing_left (Some xs) rest e end = let same : xs ≡ rest = cc in sym same ∙ end
 
 -- bytes begin with some, so they are some
 not_empty : (held rest : List ℕ) → length held ≢ 0 → held ++ rest ≢ []

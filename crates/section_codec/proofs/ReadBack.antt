@@ -3,6 +3,7 @@ use Rattle.std.proofs.Common.{◌≡◌, ◌≢◌, ℕ, ◌+◌, ◌-◌, ◌*�
 use Rattle.std.specs.Prelude.{◌&&◌, ◌||◌, ◌==◌, not, if◌then◌else◌, nat_le, slice_index, Ok, Err}
 use Rattle.std.proofs.lemmas.List.{get_or-append-add}
 use Rattle.std.proofs.Math.Seq.{take-append_seam}
+use Rattle.std.proofs.lemmas.Bool.{and_from}
 use Rattle.si_base.specs.Fields.{four, four_at}
 use Rattle.si_base.specs.Crc.{crc_of}
 use Rattle.si_base.proofs.Remainder.{crc_of-lt, crc_of-own_crc}
@@ -58,9 +59,6 @@ take-end xs ys e =
 
 -- ---- a section by its bytes
 
-and_both : (a b : Bool) → a ≡ true → b ≡ true → (a && b) ≡ true
-and_both a b p q = ap (λ x. x && b) p ∙ q
-
 or_right : (a b : Bool) → b ≡ true → (a || b) ≡ true
 or_right true b e = refl
 or_right false b e = e
@@ -78,9 +76,9 @@ long_in t a b e f v n l crc body high low le sound lt form order =
     let long : is_long bytes ≡ true = eq-eqb (a / 128 % 2) 1 high in
     let told : length bytes ≡ 3 + section_length bytes = omega arith in
     let its_length : has_its_length bytes ≡ true =
-    and_both (nat_le 3 (length bytes) && length bytes == 3 + section_length bytes && nat_le (length bytes) 4096) (not (is_long bytes) || nat_le 12 (length bytes))
-    (and_both (nat_le 3 (length bytes) && length bytes == 3 + section_length bytes) (nat_le (length bytes) 4096)
-    (and_both (nat_le 3 (length bytes)) (length bytes == 3 + section_length bytes) (le-leb 3 (length bytes) (omega arith)) (eq-eqb (length bytes) (3 + section_length bytes) told))
+    and_from (nat_le 3 (length bytes) && length bytes == 3 + section_length bytes && nat_le (length bytes) 4096) (not (is_long bytes) || nat_le 12 (length bytes))
+    (and_from (nat_le 3 (length bytes) && length bytes == 3 + section_length bytes) (nat_le (length bytes) 4096)
+    (and_from (nat_le 3 (length bytes)) (length bytes == 3 + section_length bytes) (le-leb 3 (length bytes) (omega arith)) (eq-eqb (length bytes) (3 + section_length bytes) told))
     (le-leb (length bytes) 4096 (omega arith)))
     (or_right (not (is_long bytes)) (nat_le 12 (length bytes)) (le-leb 12 (length bytes) (omega arith))) in
     let kept : kept_crc bytes ≡ crc = four_at-end front crc lt in
@@ -88,7 +86,7 @@ long_in t a b e f v n l crc body high low le sound lt form order =
     let its_crc : has_its_crc bytes ≡ true = or_right (not (is_long bytes)) (kept_crc bytes == found_crc bytes) (eq-eqb (kept_crc bytes) (found_crc bytes) (kept ∙ sym found)) in
     let its_syntax : has_its_syntax bytes ≡ true =
     ap (λ (x : Bool). if x then has_long_syntax bytes else not (has_long_form t)) long
-    ∙ and_both (not (t == 112)) (nat_le n l) (ap not (ne_eqb t 112 form)) (le-leb n l order) in
+    ∙ and_from (not (t == 112)) (nat_le n l) (ap not (ne_eqb t 112 form)) (le-leb n l order) in
     let at : length bytes - 12 ≡ length body = omega arith in
     let inner : long_body bytes ≡ body = ap (λ i. take i (body ++ four crc)) at ∙ take-append_seam body (four crc) in
     section_in-section bytes its_length its_crc its_syntax
@@ -103,9 +101,9 @@ short_in t a b body high low le form =
     let short : is_long bytes ≡ false = ap (λ x. x == 1) high in
     let told : length bytes ≡ 3 + section_length bytes = omega arith in
     let its_length : has_its_length bytes ≡ true =
-    and_both (nat_le 3 (length bytes) && length bytes == 3 + section_length bytes && nat_le (length bytes) 4096) (not (is_long bytes) || nat_le 12 (length bytes))
-    (and_both (nat_le 3 (length bytes) && length bytes == 3 + section_length bytes) (nat_le (length bytes) 4096)
-    (and_both (nat_le 3 (length bytes)) (length bytes == 3 + section_length bytes) (le-leb 3 (length bytes) (omega arith)) (eq-eqb (length bytes) (3 + section_length bytes) told))
+    and_from (nat_le 3 (length bytes) && length bytes == 3 + section_length bytes && nat_le (length bytes) 4096) (not (is_long bytes) || nat_le 12 (length bytes))
+    (and_from (nat_le 3 (length bytes) && length bytes == 3 + section_length bytes) (nat_le (length bytes) 4096)
+    (and_from (nat_le 3 (length bytes)) (length bytes == 3 + section_length bytes) (le-leb 3 (length bytes) (omega arith)) (eq-eqb (length bytes) (3 + section_length bytes) told))
     (le-leb (length bytes) 4096 (omega arith)))
     (ap (λ (x : Bool). not x || nat_le 12 (length bytes)) short) in
     let its_crc : has_its_crc bytes ≡ true = ap (λ (x : Bool). not x || kept_crc bytes == found_crc bytes) short in
@@ -131,7 +129,7 @@ flags_low table n lt = go (table == 0x00 || table == 0x02)
     go true = omega arith
     go false = omega arith
 
-within : (table n : ℕ) → n ≤ longest_body table → n ≤ 4084
+pub within : (table n : ℕ) → n ≤ longest_body table → n ≤ 4084
 within table n le = go (is_eit table) le
   where
     go : (b : Bool) → n ≤ (if b then 4084 else 1012) → n ≤ 4084

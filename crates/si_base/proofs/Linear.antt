@@ -1,8 +1,8 @@
 -- The remainder is linear: that of two numbers with their bits added is the sum of theirs, bit by bit.
-use Rattle.std.proofs.Common.{◌≡◌, ℕ, zero, suc, ◌+◌, ◌*◌, ◌/◌, ◌%◌, ◌^◌, ◌<◌, ◌≤◌, Bool, true, false, List, [], ◌∷◌, ◌++◌, replicate, refl, sym, ap, ◌∙◌, arith, inl, inr}
+use Rattle.std.proofs.Common.{◌≡◌, ℕ, zero, suc, ◌+◌, ◌*◌, ◌/◌, ◌%◌, ◌^◌, ◌<◌, ◌≤◌, Bool, true, List, [], ◌∷◌, ◌++◌, replicate, refl, sym, ap, ◌∙◌, arith, inl, inr}
 use Rattle.std.specs.Prelude.{◌&&◌, ◌==◌, bit_xor, map}
 use Rattle.std.specs.Int.{bit_at}
-use Rattle.std.proofs.lemmas.Bool.{cases_lt, eqb-true}
+use Rattle.std.proofs.lemmas.Bool.{cases_lt, eqb-true, and_parts}
 use Rattle.std.proofs.lemmas.List.Sums.{fold-append}
 use Rattle.std.proofs.lemmas.Nat.{xor_lt, xor_block, xor_comm, pow_pos}
 use Rattle.std.proofs.lemmas.Nat.Bits.{bit_at_above, same_from_bits, bit_at-zero, bit_at_xor, bit_at-suc, bit_at_lowest, bit_at-lt, bit_at_cat_low}
@@ -125,19 +125,11 @@ abbrev bytes_below : ℕ → Bool
 bytes_below zero = true
 bytes_below (suc n) = crc_bits 0 (bits_of n) == crc_bits (n * 16777216) (bits_of 0) && bytes_below n
 
-and_left : (a b : Bool) → (a && b) ≡ true → a ≡ true
-and_left true b e = refl
-and_left false b e = cc
-
-and_right : (a b : Bool) → (a && b) ≡ true → b ≡ true
-and_right true b e = e
-and_right false b e = cc
-
 byte_below : (n b : ℕ) → bytes_below n ≡ true → b < n → crc_bits 0 (bits_of b) ≡ crc_bits (b * 16777216) (bits_of 0)
 byte_below zero b r lt = absurd (omega arith)
 byte_below (suc n) b r lt = elim (cases_lt b n) [
-  | inl less ↦ byte_below n b (and_right (crc_bits 0 (bits_of n) == crc_bits (n * 16777216) (bits_of 0)) (bytes_below n) r) less
-  | inr le ↦ let e : b ≡ n = omega arith in rw e (eqb-true (crc_bits 0 (bits_of n)) (crc_bits (n * 16777216) (bits_of 0)) (and_left (crc_bits 0 (bits_of n) == crc_bits (n * 16777216) (bits_of 0)) (bytes_below n) r))
+  | inl less ↦ byte_below n b (and_parts (crc_bits 0 (bits_of n) == crc_bits (n * 16777216) (bits_of 0)) (bytes_below n) r).1 less
+  | inr le ↦ let e : b ≡ n = omega arith in rw e (eqb-true (crc_bits 0 (bits_of n)) (crc_bits (n * 16777216) (bits_of 0)) (and_parts (crc_bits 0 (bits_of n) == crc_bits (n * 16777216) (bits_of 0)) (bytes_below n) r).0)
 ]
 
 -- a byte is added to the highest one, and a byte of zero follows

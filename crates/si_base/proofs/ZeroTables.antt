@@ -1,7 +1,7 @@
 -- Each table is the one before, moved on by a byte of zero.
 use Rattle.std.proofs.Common.{◌≡◌, ℕ, zero, suc, ◌+◌, ◌*◌, ◌<◌, Bool, true, false, List, [], ◌∷◌, refl, sym, ap, ◌∙◌, arith, length}
 use Rattle.std.specs.Prelude.{◌&&◌, ◌==◌, slice_index}
-use Rattle.std.proofs.lemmas.Bool.{eqb-true}
+use Rattle.std.proofs.lemmas.Bool.{eqb-true, and_parts}
 use Rattle.si_base.specs.Crc.{crc_bits, bits_of}
 use Rattle.si_base.proofs.Linear.{zero_byte, zero_bytes, zero_bytes-none, zero_bytes-more, zero_bytes-last}
 use Rattle.si_base.specs.declared.tables.TheConstants.{ZEROS_0, ZEROS_1, ZEROS_2, ZEROS_3, ZEROS_4, ZEROS_5, ZEROS_6, ZEROS_7}
@@ -42,23 +42,15 @@ zeros_6_rule = refl
 zeros_7_rule : are_moved ZEROS_6 ZEROS_7 ≡ true
 zeros_7_rule = refl
 
-and_left : (a b : Bool) → (a && b) ≡ true → a ≡ true
-and_left true b e = refl
-and_left false b e = cc
-
-and_right : (a b : Bool) → (a && b) ≡ true → b ≡ true
-and_right true b e = e
-and_right false b e = cc
-
 first_at : (i : ℕ) (ts : List ℕ) (k : ℕ) → are_first i ts ≡ true → k < length ts → slice_index ts k ≡ zero_byte ((i + k) * 16777216)
 unfolding zero_byte
 first_at i [] k r lt = absurd (omega arith)
 first_at i (t ∷ ts) zero r lt =
     let e : i + 0 ≡ i = omega arith in
-    rw e (eqb-true t (crc_bits (i * 16777216) (bits_of 0)) (and_left (t == crc_bits (i * 16777216) (bits_of 0)) (are_first (i + 1) ts) r))
+    rw e (eqb-true t (crc_bits (i * 16777216) (bits_of 0)) (and_parts (t == crc_bits (i * 16777216) (bits_of 0)) (are_first (i + 1) ts) r).0)
 first_at i (t ∷ ts) (suc k) r lt =
     let e : i + suc k ≡ i + 1 + k = omega arith in
-    rw e (first_at (i + 1) ts k (and_right (t == crc_bits (i * 16777216) (bits_of 0)) (are_first (i + 1) ts) r) (omega arith))
+    rw e (first_at (i + 1) ts k (and_parts (t == crc_bits (i * 16777216) (bits_of 0)) (are_first (i + 1) ts) r).1 (omega arith))
 
 moved_at : (ss ts : List ℕ) (k : ℕ) → are_moved ss ts ≡ true → k < length ts → slice_index ts k ≡ zero_byte (slice_index ss k)
 unfolding zero_byte
@@ -66,9 +58,9 @@ moved_at [] [] k r lt = absurd (omega arith)
 moved_at [] (t ∷ ts) k r lt = cc
 moved_at (s ∷ ss) [] k r lt = cc
 moved_at (s ∷ ss) (t ∷ ts) zero r lt =
-    eqb-true t (crc_bits s (bits_of 0)) (and_left (t == crc_bits s (bits_of 0)) (are_moved ss ts) r)
+    eqb-true t (crc_bits s (bits_of 0)) (and_parts (t == crc_bits s (bits_of 0)) (are_moved ss ts) r).0
 moved_at (s ∷ ss) (t ∷ ts) (suc k) r lt =
-    moved_at ss ts k (and_right (t == crc_bits s (bits_of 0)) (are_moved ss ts) r) (omega arith)
+    moved_at ss ts k (and_parts (t == crc_bits s (bits_of 0)) (are_moved ss ts) r).1 (omega arith)
 
 -- an entry of the next table, where that of this one is known
 next_at : (ss ts : List ℕ) (n k : ℕ) → are_moved ss ts ≡ true → k < length ts → slice_index ss k ≡ zero_bytes n (k * 16777216) → slice_index ts k ≡ zero_bytes (suc n) (k * 16777216)

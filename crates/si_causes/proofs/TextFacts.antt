@@ -5,14 +5,14 @@ use Rattle.std.specs.Io.KnownBytes.{Consumes, IsAtEnd, prepend_known}
 use Rattle.std.proofs.KnownBytes.{prepend_known-nil}
 use Rattle.std.proofs.lemmas.Bool.Decides.{nat_tests, leb_tells}
 use Rattle.std.proofs.Math.Seq.{take-append-add, take-append_seam}
-use Rattle.std.proofs.lemmas.Bool.{le-leb}
+use Rattle.std.proofs.lemmas.Bool.{le-leb, cases_Bool}
 use Rattle.si_causes.specs.Lines.{first_line, after_line, has_end, raw_lines, whole_lines, shown}
 use Rattle.si_causes.specs.Text.{TextEnd, AtEnd, PastLimit, text_limit, lines_in, end_in, lines_left}
 use Rattle.si_causes.specs.Reading.{Reading, LineCame, EndCame, GivesLine, fresh, text_left, room}
 use Rattle.si_causes.specs.Gathering.{GatherStop, hand}
 use Rattle.si_causes.specs.declared.stop.ReadStop.{ReadStop}
 use Rattle.si_causes.specs.declared.stop.ReadStop.TheVariants.{Failed, TooLong}
-use Rattle.si_causes.proofs.LineFacts.{b_cases, raw_step, whole_step, whole_none, parted, first_of_front, after_of_front, end_of_front, after_line_none, some_length}
+use Rattle.si_causes.proofs.LineFacts.{raw_step, whole_step, whole_none, parted, first_of_front, after_of_front, end_of_front, after_line_none, some_length}
 
 lt-leb-false : (a b : ℕ) → b < a → nat_le a b ≡ false
 lt-leb-false a b lt = grind (arith, nat_tests)
@@ -76,7 +76,7 @@ held_told : (held : List ℕ) (left : Option (List ℕ)) (text : List ℕ) → p
 held_told held None text e = cc
 held_told held (Some rest) text e = let same : held ++ rest ≡ text = cc in (rest, refl, sym same)
 
-nothing_left : (o : Option (List ℕ)) (rest : List ℕ) → o ≡ Some rest → IsAtEnd o → rest ≡ []
+pub nothing_left : (o : Option (List ℕ)) (rest : List ℕ) → o ≡ Some rest → IsAtEnd o → rest ≡ []
 nothing_left None rest e end = cc
 nothing_left (Some xs) rest e end = let same : xs ≡ rest = cc in sym same ∙ end
 
@@ -84,7 +84,7 @@ nothing_left (Some xs) rest e end = let same : xs ≡ rest = cc in sym same ∙ 
 pub line_falls : {S : Type 0} (left : S → Option (List ℕ)) (old new : Reading S) (n : ℕ) (more : List ℕ) → LineCame left old new n more → room new < room old
 line_falls left old new n more came =
     let t = old.held ++ more in
-    elim (b_cases (has_end t)) [
+    elim (cases_Bool (has_end t)) [
       | inl whole ↦ omega (arith, came.passed, came.within, parted t whole, ap length came.rest)
       | inr open_end ↦ omega (arith, came.passed, came.within, some_length t (came.last open_end).0, ap length (came.rest ∙ after_line_none t open_end))
     ]
@@ -97,7 +97,7 @@ line_gives left old new n more text came told =
     let s = still_told (left old.source) (left new.source) more h.0 h.1 came.gave in
     let t = old.held ++ more in
     let fits : length t ≤ room old = omega (arith, came.passed, came.within) in
-    elim (b_cases (has_end t)) [
+    elim (cases_Bool (has_end t)) [
       | inl whole ↦
           let all : text ≡ t ++ s.0 = h.2 ∙ ap (λ l. old.held ++ l) s.2 ∙ sym (append_assoc old.held more s.0) in
           let less : room old - (length (first_line t) + 1) ≡ room new = omega (arith, came.passed, came.within, parted t whole, ap length came.rest) in

@@ -6,9 +6,9 @@ use Rattle.std.proofs.lemmas.Bool.Decides.{nat_tests}
 use Rattle.std.proofs.lemmas.List.{length-take-le, length-drop}
 use Rattle.std.proofs.lemmas.Str.{IsCharBoundary-start, IsCharBoundary-past_char, IsUtf8-drop, len_utf8_bounds}
 use Rattle.std.specs.Char.{len_utf8}
+use Rattle.si_lists.proofs.Truths.{first_true, second_true}
 use Rattle.si_text.specs.Coding.{all_plain, coded_size}
 use Rattle.si_text.specs.Cutting.{is_boundary, is_cut, greatest_cut, cut_size, IsLongestCut}
-use Rattle.si_text.proofs.PlainFacts.{and_left, and_right}
 
 -- ---- how long a coded form is
 
@@ -90,9 +90,9 @@ longest_from text zero u h = record {
 }
 longest_from text (suc r) u h =
     let passes : is_cut text (suc r) ≡ true = h.passes (omega arith) in
-    let size = and_right (is_boundary text (suc r)) (nat_le (coded_size (take (suc r) text)) 249) passes in
+    let size = second_true (is_boundary text (suc r)) (nat_le (coded_size (take (suc r) text)) 249) passes in
     record {
-      whole = IsCharBoundary-from_test text (suc r) (and_left (is_boundary text (suc r)) (nat_le (coded_size (take (suc r) text)) 249) passes);
+      whole = IsCharBoundary-from_test text (suc r) (first_true (is_boundary text (suc r)) (nat_le (coded_size (take (suc r) text)) 249) passes);
       fits = grind (arith, nat_tests);
       longest = λ m lt b. elim (cases_lt 249 m) [
         | inl far ↦ beyond text m far b

@@ -1,9 +1,9 @@
 -- The pieces of a text.
-use Rattle.std.proofs.Common.{◌≡◌, ℕ, zero, suc, ◌+◌, ◌*◌, ◌<◌, ◌≤◌, Bool, true, false, List, [], ◌∷◌, ◌++◌, length, take, drop, refl, sym, ap, ◌∙◌, subst, arith, inl, inr}
+use Rattle.std.proofs.Common.{◌≡◌, ℕ, zero, suc, ◌+◌, ◌*◌, ◌<◌, ◌≤◌, List, [], ◌∷◌, ◌++◌, length, take, drop, refl, sym, ap, ◌∙◌, subst, arith, inl, inr}
 use Rattle.std.specs.Prelude.{◌||◌, IsUtf8}
 use Rattle.std.specs.Str.{chars}
 use Rattle.std.specs.List.{concat, list_any, AllByRecursion}
-use Rattle.std.proofs.lemmas.Bool.{cases_lt}
+use Rattle.std.proofs.lemmas.Bool.{cases_lt, or_parts}
 use Rattle.std.proofs.lemmas.List.{length-take-le, length-drop, take-append-drop}
 use Rattle.std.proofs.lemmas.List.Folds.{list_any-append}
 use Rattle.std.proofs.lemmas.Str.{IsUtf8-nil, IsUtf8-append, IsUtf8-take, IsUtf8-drop, chars-nil, chars-append}
@@ -89,10 +89,6 @@ pieces-longest text u =
     (drop (cut_size t) t, sym (take-append-drop (cut_size t) t), subst (IsLongestCut t) (sym same) (cut_size-longest t ut), h))
     (length text) text u (omega arith)
 
-or_none : (a b : Bool) → (a || b) ≡ false → (a ≡ false) × (b ≡ false)
-or_none false b e = (refl, e)
-or_none true b e = cc
-
 -- a control character of two texts one behind the other is one of either
 pub has_control-append : (front rest : List ℕ) → IsUtf8 front → has_control (front ++ rest) ≡ (has_control front || has_control rest)
 has_control-append front rest u = ap (list_any is_control) (chars-append front rest u) ∙ list_any-append is_control (chars front) (chars rest)
@@ -116,7 +112,7 @@ IsKept-parts text k =
     let uf = IsUtf8-front text k.utf8 in
     let split : has_control text ≡ (has_control front || has_control rest) =
     ap has_control (sym (take-append-drop (cut_size text) text)) ∙ has_control-append front rest uf in
-    let clean = or_none (has_control front) (has_control rest) (sym split ∙ k.clean) in
+    let clean = or_parts (has_control front) (has_control rest) (sym split ∙ k.clean) in
     (record { utf8 = uf; clean = clean.0 }, record { utf8 = IsUtf8-rest text k.utf8; clean = clean.1 })
 
 pub pieces-kept : (text : List ℕ) → IsKept text → AllByRecursion IsKept (pieces text)

@@ -1,9 +1,10 @@
 -- Text of the plain set is ASCII, and has no control character.
-use Rattle.std.proofs.Common.{◌≡◌, ℕ, zero, suc, ◌<◌, ◌≤◌, Bool, true, false, List, [], ◌∷◌, arith, lit<, refl, ap, ◌∙◌}
+use Rattle.std.proofs.Common.{◌≡◌, ℕ, zero, suc, ◌<◌, ◌≤◌, true, false, List, [], ◌∷◌, arith, lit<, refl, ap, ◌∙◌}
 use Rattle.std.specs.Prelude.{IsAscii, ◌&&◌, ◌||◌}
 use Rattle.std.specs.List.{list_any}
 use Rattle.std.proofs.lemmas.Str.{chars-IsAscii}
 use Rattle.std.proofs.lemmas.Bool.Decides.{nat_tests}
+use Rattle.si_lists.proofs.Truths.{first_true, second_true}
 use Rattle.si_text.specs.Coding.{is_plain, all_plain}
 use Rattle.si_text.specs.Control.{is_control, has_control}
 
@@ -16,23 +17,15 @@ plain_shown b h =
     let high : b < 127 = grind (arith, nat_tests) in
     grind (arith, nat_tests)
 
-pub and_left : (a b : Bool) → (a && b) ≡ true → a ≡ true
-and_left true b e = refl
-and_left false b e = cc
-
-pub and_right : (a b : Bool) → (a && b) ≡ true → b ≡ true
-and_right true b e = e
-and_right false b e = cc
-
 pub plain_ascii : (text : List ℕ) → all_plain text ≡ true → IsAscii text
 plain_ascii [] h i = lit< tt
-plain_ascii (b ∷ bs) h zero = plain_small b (and_left (is_plain b) (all_plain bs) h)
-plain_ascii (b ∷ bs) h (suc i) = plain_ascii bs (and_right (is_plain b) (all_plain bs) h) i
+plain_ascii (b ∷ bs) h zero = plain_small b (first_true (is_plain b) (all_plain bs) h)
+plain_ascii (b ∷ bs) h (suc i) = plain_ascii bs (second_true (is_plain b) (all_plain bs) h) i
 
 none_control : (text : List ℕ) → all_plain text ≡ true → list_any is_control text ≡ false
 none_control [] h = refl
 none_control (b ∷ bs) h =
-    ap (λ c. c || list_any is_control bs) (plain_shown b (and_left (is_plain b) (all_plain bs) h)) ∙ none_control bs (and_right (is_plain b) (all_plain bs) h)
+    ap (λ c. c || list_any is_control bs) (plain_shown b (first_true (is_plain b) (all_plain bs) h)) ∙ none_control bs (second_true (is_plain b) (all_plain bs) h)
 
 pub plain_clean : (text : List ℕ) → all_plain text ≡ true → has_control text ≡ false
 plain_clean text h = ap (list_any is_control) (chars-IsAscii text (plain_ascii text h)) ∙ none_control text h

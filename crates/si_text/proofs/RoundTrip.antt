@@ -4,11 +4,12 @@ use Rattle.std.specs.Prelude.{◌==◌, IsUtf8, MatchOption, Option, Some, None,
 use Rattle.std.specs.Str.{is_utf8}
 use Rattle.std.proofs.lemmas.Str.{IsUtf8-from_is_utf8, is_utf8-from_IsUtf8, IsUtf8-from_ascii, IsUtf8-nil}
 use Rattle.std.proofs.lemmas.Bool.Decides.{nat_tests}
+use Rattle.si_lists.proofs.Truths.{first_true}
 use Rattle.si_text.specs.Coding.{is_plain, all_plain, coded_text}
 use Rattle.si_text.specs.Control.{has_control}
 use Rattle.si_text.specs.Decoding.{text_in, shown_by, decoded, IsAsDecoded, IsKept}
 use Rattle.si_text.specs.declared.shown.Shown.TheVariants.{Text, Hex}
-use Rattle.si_text.proofs.PlainFacts.{plain_ascii, and_left}
+use Rattle.si_text.proofs.PlainFacts.{plain_ascii}
 
 -- 0x15 is not of the plain set
 plain_marks_not : (b : ℕ) → is_plain b ≡ true → (b == 0x15) ≡ false
@@ -21,7 +22,7 @@ shown_text text bytes h = ap (λ c. if c then Hex bytes else Text text) h
 pub text_in-plain : (text : List ℕ) → all_plain text ≡ true → text_in text ≡ Some text
 text_in-plain [] h = refl
 text_in-plain (b ∷ bs) h =
-    let other = plain_marks_not b (and_left (is_plain b) (all_plain bs) h) in
+    let other = plain_marks_not b (first_true (is_plain b) (all_plain bs) h) in
     ap (λ c. if c then (if is_utf8 bs then Some bs else None) else (if all_plain (b ∷ bs) then Some (b ∷ bs) else None)) other
     ∙ ap (λ c. if c then Some (b ∷ bs) else None) h
 

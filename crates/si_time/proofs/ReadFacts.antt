@@ -1,8 +1,8 @@
 -- Reading dates: the day number of a date is its Modified Julian Date.
-use Rattle.std.proofs.Common.{◌≡◌, ◌∙◌, refl, sym, ap, ℕ, suc, ◌+◌, ◌-◌, ◌<◌, ◌≤◌, List, [], ◌∷◌, length, take, take_all, sum, nat_le, nat_lt, Bool, true, false, Option, Some, None, IfSome, IfNone, arith, ℤ, pos, negsuc, unsigned_abs, ◌≤ℤ◌, ◌&&◌}
+use Rattle.std.proofs.Common.{◌≡◌, ◌∙◌, refl, sym, ap, ℕ, suc, ◌+◌, ◌-◌, ◌<◌, ◌≤◌, List, [], ◌∷◌, length, take, take_all, sum, nat_le, nat_lt, true, false, Option, Some, None, IfSome, IfNone, arith, ℤ, pos, negsuc, unsigned_abs, ◌≤ℤ◌, ◌&&◌}
 use Rattle.std.proofs.lemmas.Bool.Decides.{nat_tests}
 use Rattle.std.proofs.lemmas.Int.{by_lt_z}
-use Rattle.std.proofs.lemmas.Bool.{false≢true}
+use Rattle.std.proofs.lemmas.Bool.{false≢true, false_from_ne_true}
 use Rattle.std.proofs.lemmas.Option.{cond_some}
 use Rattle.jiff_core.specs.Calendar.{days_in_month, day_count}
 use Rattle.jiff_core.proofs.SignedLemmas.{signed_arith}
@@ -82,13 +82,8 @@ has_shape-length [] (b ∷ bytes) h = absurd (false≢true h)
 has_shape-length (s ∷ shape) [] h = absurd (false≢true h)
 has_shape-length (s ∷ shape) (b ∷ bytes) h = ap suc (has_shape-length shape bytes (grind (arith, nat_tests)))
 
--- a test is false where its truth leads to a contradiction
-false_unless : (b : Bool) → (b ≡ true → ⊥) → b ≡ false
-false_unless true h = absurd (h refl)
-false_unless false h = refl
-
 pub has_shape-other_length : (shape bytes : List ℕ) → (length shape ≡ length bytes → ⊥) → has_shape shape bytes ≡ false
-has_shape-other_length shape bytes differ = false_unless (has_shape shape bytes) (λ e. differ (has_shape-length shape bytes e))
+has_shape-other_length shape bytes differ = false_from_ne_true (has_shape shape bytes) (λ e. differ (has_shape-length shape bytes e))
 
 -- a number of the date, and none only where there is no such date, is its day number
 pub day_number-result : (y m d : ℕ) (o : Option ℕ) → IfSome o (λ n. IsDateOf n (y, m, d)) → IfNone o (¬ (IsCodedDate y m d)) → o ≡ day_number y m d

@@ -1,9 +1,9 @@
 -- Reading a written text gives the value back, and only the written text of a value is read as it.
-use Rattle.std.proofs.Common.{◌≡◌, ◌∙◌, refl, sym, ap, ℕ, ◌+◌, ◌-◌, ◌*◌, ◌/◌, ◌%◌, ◌<◌, ◌≤◌, List, [], ◌∷◌, ◌++◌, length, take, map, get_or, nat_le, Bool, true, false, Some, subst, arith, ◌&&◌, ◌==◌, pos}
+use Rattle.std.proofs.Common.{◌≡◌, ◌∙◌, refl, sym, ap, ℕ, ◌+◌, ◌-◌, ◌*◌, ◌/◌, ◌%◌, ◌<◌, ◌≤◌, List, [], ◌∷◌, ◌++◌, length, take, map, get_or, nat_le, true, false, Some, subst, arith, ◌&&◌, ◌==◌, pos}
 use Rattle.std.specs.Prelude.{codes}
 use Rattle.std.specs.List.{range_with_len, list_all}
 use Rattle.std.specs.Char.{is_ascii_digit}
-use Rattle.std.proofs.lemmas.Bool.{false≢true}
+use Rattle.std.proofs.lemmas.Bool.{and_parts}
 use Rattle.std.proofs.lemmas.Bool.Decides.{nat_tests}
 use Rattle.std.proofs.lemmas.Option.{same_Some}
 use Rattle.std.proofs.lemmas.List.FromFn.{fill_by_all}
@@ -53,20 +53,16 @@ record IsPair (a b : ℕ) (shape bytes : List ℕ) : Type 0 where
   small : (a - 48) * 10 + (b - 48) < 100
   rest : has_shape shape bytes ≡ true
 
-and_true : (a b : Bool) → (a && b) ≡ true → (a ≡ true) × (b ≡ true)
-and_true true b h = (refl, h)
-and_true false b h = absurd (false≢true h)
-
 pair_read : (shape bytes : List ℕ) (a b : ℕ) → has_shape (100 ∷ 100 ∷ shape) (a ∷ b ∷ bytes) ≡ true → IsPair a b shape bytes
 pair_read shape bytes a b h =
-    let first = and_true (is_ascii_digit a) (is_ascii_digit b && has_shape shape bytes) h in
-    let second = and_true (is_ascii_digit b) (has_shape shape bytes) first.1 in
+    let first = and_parts (is_ascii_digit a) (is_ascii_digit b && has_shape shape bytes) h in
+    let second = and_parts (is_ascii_digit b) (has_shape shape bytes) first.1 in
     let back = digits-back a b first.0 second.0 in
     record { high = back.0; low = back.1; small = back.2; rest = second.1 }
 
 mark_read : (s : ℕ) (shape bytes : List ℕ) (b : ℕ) → (s == 100) ≡ false → has_shape (s ∷ shape) (b ∷ bytes) ≡ true → (b ≡ s) × (has_shape shape bytes ≡ true)
 mark_read s shape bytes b other h =
-    let parts = and_true (b == s) (has_shape shape bytes) (rw other at h) in
+    let parts = and_parts (b == s) (has_shape shape bytes) (rw other at h) in
     (grind (arith, nat_tests, parts.0), parts.1)
 
 clock_read : (shape bytes : List ℕ) (h1 h2 c m1 m2 d s1 s2 : ℕ) → has_shape (codes "dd:dd:dd" ++ shape) (h1 ∷ h2 ∷ c ∷ m1 ∷ m2 ∷ d ∷ s1 ∷ s2 ∷ bytes) ≡ true

@@ -4,9 +4,10 @@ use Rattle.std.specs.Prelude.{if◌then◌else◌, cond, filter, Option, Some, N
 use Rattle.std.specs.Option.{option_or}
 use Rattle.std.specs.List.{cons_option, AllByRecursion}
 use Rattle.std.proofs.lemmas.List.Elements.{filter-append}
+use Rattle.std.proofs.lemmas.Bool.{and_parts, and_from}
 use Rattle.section_codec.specs.declared.table.Key.{Key}
 use Rattle.version_book.specs.Airings.{Content, is_key, is_content}
-use Rattle.version_book.proofs.Versions.{and_true, and_both, is_key-same, is_key-itself, is_content-same, is_content-itself}
+use Rattle.version_book.proofs.Versions.{is_key-same, is_key-itself, is_content-same, is_content-itself}
 use Rattle.sub_collect.specs.Runs.{Counted, latest_section, completed}
 use Rattle.sub_collect.specs.Completions.{is_of, IsOfKey, of_key, done_at, completion_at, completion, completions, latest_done, latest_of, repeats, shown_after, shown_at, dones}
 use Rattle.sub_collect.specs.Laws.{is_done_of, KeysApart, LatestApart, LatestIsShown, DonesGoOn, DonesOneMore, LatestOneMore}
@@ -116,11 +117,11 @@ latest_done-key k heard d all e = latest_done-key_from k [] heard d all e
 -- ---- repeated completions
 
 pub repeats-itself : (d : Completed) → repeats d d ≡ true
-repeats-itself d = and_both (d.version == d.version) (is_content d.sections d.sections) (eq-eqb d.version d.version refl) (is_content-itself d.sections)
+repeats-itself d = and_from (d.version == d.version) (is_content d.sections d.sections) (eq-eqb d.version d.version refl) (is_content-itself d.sections)
 
 pub repeats-same : (a b : Completed) → a.key ≡ b.key → repeats a b ≡ true → a ≡ b
 repeats-same a b k e =
-    let p = and_true (a.version == b.version) (is_content a.sections b.sections) e in
+    let p = and_parts (a.version == b.version) (is_content a.sections b.sections) e in
     let v : a.version ≡ b.version = eqb-true a.version b.version p.0 in
     let c : a.sections ≡ b.sections = is_content-same a.sections b.sections p.1 in
     λ i. record { key = k i; version = v i; sections = c i }

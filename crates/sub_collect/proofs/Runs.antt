@@ -1,29 +1,29 @@
 -- The run, one section more.
 use Rattle.std.proofs.Common.{◌≡◌, ◌≢◌, ℕ, List, [], ◌∷◌, ◌++◌, Bool, true, false, ◌==◌, refl, sym, ap, ◌∙◌, subst, eq-eqb, eqb-true}
 use Rattle.std.specs.Prelude.{if◌then◌else◌, Option, Some, None}
-use Rattle.version_book.proofs.Versions.{and_true, and_both}
+use Rattle.std.proofs.lemmas.Bool.{and_parts, and_from}
 use Rattle.sub_collect.specs.Runs.{Counted, latest_section, all_of_version, is_one_version, run_of}
 
 pub all-push : (v : ℕ) (xs : List Counted) (s : Counted) → all_of_version v xs ≡ true → s.version ≡ v → all_of_version v (xs ++ s ∷ []) ≡ true
-all-push v [] s h e = and_both (s.version == v) true (eq-eqb s.version v e) refl
+all-push v [] s h e = and_from (s.version == v) true (eq-eqb s.version v e) refl
 all-push v (x ∷ xs) s h e =
-    let p = and_true (x.version == v) (all_of_version v xs) h in
-    and_both (x.version == v) (all_of_version v (xs ++ s ∷ [])) p.0 (all-push v xs s p.1 e)
+    let p = and_parts (x.version == v) (all_of_version v xs) h in
+    and_from (x.version == v) (all_of_version v (xs ++ s ∷ [])) p.0 (all-push v xs s p.1 e)
 
 all-front : (v : ℕ) (xs : List Counted) (s : Counted) → all_of_version v (xs ++ s ∷ []) ≡ true → (all_of_version v xs ≡ true) × (s.version ≡ v)
-all-front v [] s h = (refl, eqb-true s.version v (and_true (s.version == v) true h).0)
+all-front v [] s h = (refl, eqb-true s.version v (and_parts (s.version == v) true h).0)
 all-front v (x ∷ xs) s h =
-    let p = and_true (x.version == v) (all_of_version v (xs ++ s ∷ [])) h in
+    let p = and_parts (x.version == v) (all_of_version v (xs ++ s ∷ [])) h in
     let r = all-front v xs s p.1 in
-    (and_both (x.version == v) (all_of_version v xs) p.0 r.0, r.1)
+    (and_from (x.version == v) (all_of_version v xs) p.0 r.0, r.1)
 
 -- the latest of sections of one version has it
 pub all-latest : (v : ℕ) (xs : List Counted) (t : Counted) → all_of_version v xs ≡ true → latest_section xs ≡ Some t → t.version ≡ v
 all-latest v [] t h e = cc
 all-latest v (x ∷ []) t h e =
     let f : x ≡ t = cc in
-    ap (λ (c : Counted). c.version) (sym f) ∙ eqb-true x.version v (and_true (x.version == v) true h).0
-all-latest v (x ∷ y ∷ xs) t h e = all-latest v (y ∷ xs) t (and_true (x.version == v) (all_of_version v (y ∷ xs)) h).1 e
+    ap (λ (c : Counted). c.version) (sym f) ∙ eqb-true x.version v (and_parts (x.version == v) true h).0
+all-latest v (x ∷ y ∷ xs) t h e = all-latest v (y ∷ xs) t (and_parts (x.version == v) (all_of_version v (y ∷ xs)) h).1 e
 
 not_both : (b : Bool) → b ≡ true → b ≡ false → Prim.⊥
 not_both b e f = cc
@@ -38,7 +38,7 @@ run_of-push (x ∷ xs) s h = go (is_one_version (x ∷ xs)) refl (is_one_version
     go true e true f rec h = ap (λ (b : Bool). if b then x ∷ xs ++ s ∷ [] else run_of (xs ++ s ∷ [])) f ∙ ap (λ (b : Bool). (if b then x ∷ xs else run_of xs) ++ s ∷ []) (sym e)
     go true e false f rec h =
         let all : all_of_version s.version (x ∷ xs) ≡ true = subst (λ (b : Bool). all_of_version s.version (if b then x ∷ xs else run_of xs) ≡ true) e h in
-        let v : x.version ≡ s.version = eqb-true x.version s.version (and_true (x.version == s.version) (all_of_version s.version xs) all).0 in
+        let v : x.version ≡ s.version = eqb-true x.version s.version (and_parts (x.version == s.version) (all_of_version s.version xs) all).0 in
         absurd (not_both (is_one_version (x ∷ xs ++ s ∷ [])) (all-push x.version xs s e (sym v)) f)
     go false e true f rec h = absurd (not_both (is_one_version (x ∷ xs)) (all-front x.version xs s f).0 e)
     go false e false f rec h =
@@ -85,7 +85,7 @@ latest-run (x ∷ y ∷ xs) = go (is_one_version (x ∷ y ∷ xs)) (latest-run (
 of_latest : (xs : List Counted) (t : Counted) → is_one_version xs ≡ true → latest_section xs ≡ Some t → all_of_version t.version xs ≡ true
 of_latest [] t h e = refl
 of_latest (x ∷ xs) t h e =
-    let all = and_both (x.version == x.version) (all_of_version x.version xs) (eq-eqb x.version x.version refl) h in
+    let all = and_from (x.version == x.version) (all_of_version x.version xs) (eq-eqb x.version x.version refl) h in
     subst (λ (v : ℕ). all_of_version v (x ∷ xs) ≡ true) (sym (all-latest x.version (x ∷ xs) t all e)) all
 
 -- the run has the version of the latest section

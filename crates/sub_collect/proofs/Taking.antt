@@ -4,9 +4,9 @@ use Rattle.std.specs.Prelude.{if◌then◌else◌, Option, Some, None, is_some, 
 use Rattle.std.specs.Option.{option_or}
 use Rattle.std.specs.List.{AllByRecursion}
 use Rattle.std.proofs.lemmas.Slice.Eq.{bytes_eq-Decides}
+use Rattle.std.proofs.lemmas.Bool.{and_parts}
 use Rattle.section_codec.specs.declared.table.Key.{Key}
 use Rattle.version_book.specs.Airings.{Content}
-use Rattle.version_book.proofs.Versions.{and_true}
 use Rattle.section_codec.specs.Contents.{numbers_from}
 use Rattle.sub_collect.specs.Runs.{Counted, all_of_version, latest_section, latest_with, run_of, whole, completed}
 use Rattle.sub_collect.specs.Completions.{IsOfKey, done_at, completion_at, completion, completions, latest_done, repeats, shown_after}
@@ -137,5 +137,5 @@ module _ (k : Key) (heard : List Counted) (all : AllByRecursion (IsOfKey k) hear
 -- the test that a section repeats what is kept
 pub repeat-test : (a b : ℕ) (o : Option (List ℕ)) (body : List ℕ) → (a == b && is_body o body) ≡ true → (a ≡ b) × (o ≡ Some body)
 repeat-test a b o body e =
-    let p = and_true (a == b) (is_body o body) e in
+    let p = and_parts (a == b) (is_body o body) e in
     (eqb-true a b p.0, is_body-same o body p.1)

@@ -4,6 +4,7 @@ use Rattle.std.specs.Prelude.{if◌then◌else◌, nat_lt, ◌||◌, Ok, Err}
 use Rattle.std.specs.List.{cons_option}
 use Rattle.std.proofs.lemmas.List.{drop_at}
 use Rattle.std.proofs.lemmas.List.Elements.{filter_map-append}
+use Rattle.std.proofs.lemmas.Bool.{eqb-true}
 use Rattle.ts_packets.specs.declared.shape.Shape.TheVariants as shape
 use Rattle.ts_packets.specs.declared.shape.BadPacket.TheVariants.{Sync}
 use Rattle.ts_packets.specs.Bytes.{pid_in, transport_error_indicator, transport_scrambling_control, adaptation_field_control, adaptation_field_length, payload_unit_start_indicator, continuity_counter}
@@ -13,7 +14,6 @@ use Rattle.ts_demux.specs.Sections.{sections_on, on_pid, ended_by, heard_all, by
 use Rattle.ts_demux.specs.Keeping.{nothing}
 use Rattle.ts_demux.specs.Steps.{given_after, kept_behind}
 use Rattle.ts_demux.specs.Laws.{OrderKept}
-use Rattle.ts_demux.proofs.Deciding.{same_number}
 use Rattle.ts_demux.proofs.Stretches.{heard_of-push}
 
 -- a packet is nothing on a PID that is not its own
@@ -89,7 +89,7 @@ ended_on pid past packet = go (pid_in packet == pid) refl
     go true e =
         ap (λ (x : List RawSection). old ++ filter_map (bytes_on pid) x) (ended_by-is past packet)
         ∙ ap (λ (x : List (List ℕ)). old ++ x) (mapped pid q true e (adds q past (arrival_on q packet)))
-        ∙ ap (λ (k : ℕ). old ++ adds k past (arrival_on k packet)) (same_number q pid e)
+        ∙ ap (λ (k : ℕ). old ++ adds k past (arrival_on k packet)) (eqb-true q pid e)
         ∙ sym (sections_on-push pid past packet)
 
 order : (past packets : List (List ℕ)) (pid : ℕ) → sections_on pid past ++ filter_map (bytes_on pid) (heard_all past packets) ≡ sections_on pid (past ++ packets)

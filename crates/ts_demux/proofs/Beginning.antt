@@ -1,19 +1,20 @@
 -- The sections that begin in a packet, one after the other.
 use Rattle.std.proofs.Common.{◌≡◌, ℕ, zero, suc, ◌<◌, ◌≤◌, ◌≢◌, List, [], ◌∷◌, ◌++◌, Bool, true, false, ◌&&◌, ◌==◌, Option, None, length, refl, sym, ap, ◌∙◌, arith, take, drop, append-nil, length-drop}
 use Rattle.std.specs.Prelude.{if◌then◌else◌, nat_le, slice_index}
+use Rattle.std.proofs.lemmas.Bool.{and_parts, ne_eqb}
 use Rattle.ts_demux.specs.declared.headers.Reach.TheVariants.{Ends, Open, TooLong}
 use Rattle.ts_demux.specs.Hearing.{size_in, is_whole, begun}
 use Rattle.ts_demux.specs.Keeping.{is_long}
 use Rattle.ts_demux.specs.Steps.{kept_open, left_open}
 use Rattle.ts_demux.specs.Reaching.{reach_of}
-use Rattle.ts_demux.proofs.Deciding.{and_true, le_told, eq_no}
+use Rattle.ts_demux.proofs.Deciding.{le_told}
 use Rattle.ts_demux.proofs.Hear.{pick, found}
 use Rattle.ts_demux.proofs.Machine.{begun-nothing, begun-whole, size_in-three}
 
 -- a whole section has three bytes at least
 whole_some : (x : List ℕ) → is_whole x ≡ true → 3 ≤ size_in x
 whole_some x e =
-    let p = and_true (nat_le 3 (length x)) (nat_le (size_in x) 4096 && nat_le (size_in x) (length x)) e in
+    let p = and_parts (nat_le 3 (length x)) (nat_le (size_in x) 4096 && nat_le (size_in x) (length x)) e in
     size_in-three x (le_told 3 (length x) p.0)
 
 shorter : (n s : ℕ) (xs : List ℕ) → 3 ≤ s → length xs ≤ suc n → length (drop s xs) ≤ n
@@ -92,7 +93,7 @@ begins_whole (b ∷ xs) n some other e =
     let bytes = b ∷ xs in
     let told = ends_told bytes n (ap reach_of (sym (append-nil bytes)) ∙ e) in
     let size : size_in bytes ≡ n = sym told.1 in
-    let fill = eq_no b 255 other in
+    let fill = ne_eqb b 255 other in
     let three = whole_some bytes told.0 in
     let less : length (drop n bytes) ≤ length xs = omega (arith, length-drop n bytes, size, three) in
     let same : length (drop n bytes) ≤ length (drop n bytes) = omega arith in (

@@ -4,24 +4,25 @@ use Rattle.std.specs.Prelude.{if◌then◌else◌, nat_le}
 use Rattle.std.proofs.lemmas.Bool.Decides.{nat_tests}
 use Rattle.std.proofs.lemmas.List.{take-append-le}
 use Rattle.std.specs.Prelude.{bytes_eq}
+use Rattle.std.proofs.lemmas.Bool.{and_parts, and_from}
 use Rattle.ts_demux.specs.Hearing.{size_in, is_whole, begun, heard}
-use Rattle.ts_demux.specs.Arrivals.{Arrival, Arrival.Came, without_repeats, before_stretches, stretches, heard_of}
+use Rattle.ts_demux.specs.Arrivals.{Arrival, without_repeats, before_stretches, stretches, heard_of}
 use Rattle.ts_packets.specs.Counting.{Load, Count}
-use Rattle.ts_demux.proofs.Deciding.{and_true, and_both, and_no, le_told, le_yes}
+use Rattle.ts_demux.proofs.Deciding.{and_no, le_told, le_yes}
 use Rattle.ts_demux.proofs.Heard.{size_in-append}
 
 -- a section that stands whole does so where more follows
 pub whole_more : (x y : List ℕ) → is_whole x ≡ true → (is_whole (x ++ y) ≡ true) × (size_in (x ++ y) ≡ size_in x) × (take (size_in x) (x ++ y) ≡ take (size_in x) x)
 whole_more x y h =
-    let p = and_true (nat_le 3 (length x)) (nat_le (size_in x) 4096 && nat_le (size_in x) (length x)) h in
-    let q = and_true (nat_le (size_in x) 4096) (nat_le (size_in x) (length x)) p.1 in
+    let p = and_parts (nat_le 3 (length x)) (nat_le (size_in x) 4096 && nat_le (size_in x) (length x)) h in
+    let q = and_parts (nat_le (size_in x) 4096) (nat_le (size_in x) (length x)) p.1 in
     let three = le_told 3 (length x) p.0 in
     let most = le_told (size_in x) 4096 q.0 in
     let fits = le_told (size_in x) (length x) q.1 in
     let n = size_in-append x y three in (
-      and_both (nat_le 3 (length (x ++ y))) (nat_le (size_in (x ++ y)) 4096 && nat_le (size_in (x ++ y)) (length (x ++ y)))
+      and_from (nat_le 3 (length (x ++ y))) (nat_le (size_in (x ++ y)) 4096 && nat_le (size_in (x ++ y)) (length (x ++ y)))
           (le_yes 3 (length (x ++ y)) (omega (arith, length-append x y)))
-          (and_both (nat_le (size_in (x ++ y)) 4096) (nat_le (size_in (x ++ y)) (length (x ++ y))) (le_yes (size_in (x ++ y)) 4096 (omega arith)) (le_yes (size_in (x ++ y)) (length (x ++ y)) (omega (arith, length-append x y)))),
+          (and_from (nat_le (size_in (x ++ y)) 4096) (nat_le (size_in (x ++ y)) (length (x ++ y))) (le_yes (size_in (x ++ y)) 4096 (omega arith)) (le_yes (size_in (x ++ y)) (length (x ++ y)) (omega (arith, length-append x y)))),
       n,
       take-append-le (size_in x) x y fits,
     )

@@ -3,9 +3,10 @@ use Rattle.std.proofs.Common.{◌≡◌, ℕ, zero, suc, ◌+◌, ◌-◌, ◌<�
 use Rattle.std.specs.Prelude.{if◌then◌else◌, nat_le}
 use Rattle.std.specs.List.{AllByRecursion}
 use Rattle.std.proofs.lemmas.List.{take_at, drop_at}
+use Rattle.std.proofs.lemmas.Bool.{and_from, ne_eqb}
 use Rattle.ts_packets.specs.Packets.{joined, filled, piece_of, left_by, Begin, pieces, left, HaveRoom, all_of}
 use Rattle.ts_demux.specs.Hearing.{size_in, is_whole, begun, passed_over, goes_on, begun_in, heard, IsSection}
-use Rattle.ts_demux.proofs.Deciding.{and_both, le_yes, le_no, eq_no}
+use Rattle.ts_demux.proofs.Deciding.{le_yes, le_no}
 use Rattle.ts_demux.specs.Laws.{but_last, ended}
 use Rattle.ts_demux.proofs.Lists.{length-filled, drop-filled, filled-append, drop-append_past, take-filled_front, filled-rest, filled-cut, drop-past}
 
@@ -19,9 +20,9 @@ whole : (s w : List ℕ) → IsSection s → is_whole (s ++ w) ≡ true
 whole s w is =
     let n : size_in (s ++ w) ≡ length s = size_in-append s w is.header ∙ is.size in
     let l : length s ≤ length (s ++ w) = omega (arith, length-append s w) in
-    and_both (nat_le 3 (length (s ++ w))) (nat_le (size_in (s ++ w)) 4096 && nat_le (size_in (s ++ w)) (length (s ++ w)))
+    and_from (nat_le 3 (length (s ++ w))) (nat_le (size_in (s ++ w)) 4096 && nat_le (size_in (s ++ w)) (length (s ++ w)))
     (le_yes 3 (length (s ++ w)) (omega (arith, is.header)))
-    (and_both (nat_le (size_in (s ++ w)) 4096) (nat_le (size_in (s ++ w)) (length (s ++ w)))
+    (and_from (nat_le (size_in (s ++ w)) 4096) (nat_le (size_in (s ++ w)) (length (s ++ w)))
     (le_yes (size_in (s ++ w)) 4096 (omega (arith, is.most)))
     (le_yes (size_in (s ++ w)) (length (s ++ w)) (omega arith)))
 
@@ -39,7 +40,7 @@ begun-section f b here later s w is ne e =
     let n : size_in bytes ≡ length s = ap size_in e ∙ size_in-append s w is.header ∙ is.size in
     let wh : is_whole bytes ≡ true = ap is_whole e ∙ whole s w is in
     let t : take (size_in bytes) bytes ≡ s = ap (λ (k : ℕ). take k bytes) n ∙ ap (take (length s)) e ∙ take_at s w (length s) refl in
-    choose_then (b == 255) (is_whole bytes) [] (take (size_in bytes) bytes ∷ begun f (drop (size_in bytes) (b ∷ here)) later) [] (eq_no b 255 ne) wh
+    choose_then (b == 255) (is_whole bytes) [] (take (size_in bytes) bytes ∷ begun f (drop (size_in bytes) (b ∷ here)) later) [] (ne_eqb b 255 ne) wh
     ∙ ap (λ (x : List ℕ). x ∷ begun f (drop (size_in bytes) (b ∷ here)) later) t
     ∙ ap (λ (k : ℕ). s ∷ begun f (drop k (b ∷ here)) later) n
 
@@ -118,7 +119,7 @@ begun-short (b ∷ s) later missing c (suc f) (suc m) is h e =
     let H = filled (suc m) (b ∷ s) in
     let all : b ∷ s ≡ (H ++ later) ++ c ∷ missing =
     sym (filled-cut (suc m) (b ∷ s) (omega arith)) ∙ ap (λ (x : List ℕ). H ++ x) e ∙ sym (append_assoc H later (c ∷ missing)) in
-    choose_else (b == 255) (is_whole (H ++ later)) [] _ [] (eq_no b 255 (is.no_fill b s refl)) (not_whole (H ++ later) c missing (subst IsSection all is))
+    choose_else (b == 255) (is_whole (H ++ later)) [] _ [] (ne_eqb b 255 (is.no_fill b s refl)) (not_whole (H ++ later) c missing (subst IsSection all is))
 
 -- the sections that begin in a packet are heard where the bytes left of the last follow
 begun-group : (g : List (List ℕ)) (later more : List ℕ) (f m : ℕ) → AllByRecursion IsSection g → Within m g → m ≤ f → later ≡ drop m (joined g) ++ more → begun f (filled m (joined g)) later ≡ g

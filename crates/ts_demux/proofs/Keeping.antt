@@ -2,12 +2,12 @@
 use Rattle.std.proofs.Common.{◌≡◌, ℕ, ◌+◌, ◌%◌, List, [], ◌∷◌, ◌++◌, Bool, true, false, ◌&&◌, ◌==◌, Option, Some, None, refl, sym, ap, ap₂, ◌∙◌, append_assoc, append-nil}
 use Rattle.std.specs.Prelude.{if◌then◌else◌, option_map, bytes_eq}
 use Rattle.std.specs.Cmp.Lexicographic.{same_text}
+use Rattle.std.proofs.lemmas.Bool.{and_parts, eqb-true}
 use Rattle.ts_packets.specs.Packets.{Piece}
 use Rattle.ts_packets.specs.Counting.{Load}
-use Rattle.ts_demux.specs.Arrivals.{Arrival, Arrival.Gap, Arrival.Came, is_repeat, without_repeats}
+use Rattle.ts_demux.specs.Arrivals.{Arrival, is_repeat, without_repeats}
 use Rattle.ts_demux.specs.Keeping.{Seen, seen, Kept, nothing, seen_in, last_load, is_one_stretch, pieces_of, last_stretch, open_section, Keeps}
 use Rattle.ts_demux.specs.Steps.{is_again, is_next, still_open, open_behind, kept_after, kept_behind}
-use Rattle.ts_demux.proofs.Deciding.{and_true, same_number}
 use Rattle.ts_demux.proofs.Open.{open_section-push}
 
 -- ---- the last load
@@ -38,8 +38,8 @@ same_bytes xs ys e = same_text xs ys (sym e)
 
 same_seen : (a : Seen) (l : Load) → ((a.counter == l.counter) && bytes_eq a.payload l.piece.payload) ≡ true → a ≡ seen l
 same_seen a l e =
-    let p = and_true (a.counter == l.counter) (bytes_eq a.payload l.piece.payload) e in
-    ap₂ (λ (n : ℕ) (xs : List ℕ). let s : Seen = record { counter = n; payload = xs } in s) (same_number a.counter l.counter p.0) (same_bytes a.payload l.piece.payload p.1)
+    let p = and_parts (a.counter == l.counter) (bytes_eq a.payload l.piece.payload) e in
+    ap₂ (λ (n : ℕ) (xs : List ℕ). let s : Seen = record { counter = n; payload = xs } in s) (eqb-true a.counter l.counter p.0) (same_bytes a.payload l.piece.payload p.1)
 
 again_told : (o : Option Seen) (l : Load) → is_again o l ≡ true → o ≡ Some (seen l)
 again_told None l e = cc

@@ -1,9 +1,10 @@
 -- A demultiplexer that open_behind one open buffer hears what the definition says.
 use Rattle.std.proofs.Common.{◌≡◌, ℕ, zero, suc, ◌<◌, ◌≤◌, List, [], ◌∷◌, ◌++◌, Bool, true, false, not, ◌&&◌, ◌==◌, Option, Some, None, length, refl, sym, ap, ◌∙◌, arith, take, drop, append_assoc, append-nil}
 use Rattle.std.specs.Prelude.{if◌then◌else◌, nat_le}
+use Rattle.std.proofs.lemmas.Bool.{and_parts, and_from}
 use Rattle.ts_packets.specs.Packets.{Piece}
 use Rattle.ts_demux.specs.Hearing.{size_in, is_whole, begun, passed_over, goes_on, behind_pointer, heard}
-use Rattle.ts_demux.proofs.Deciding.{and_true, and_both, le_told, le_false, le_yes}
+use Rattle.ts_demux.proofs.Deciding.{le_told, le_false, le_yes}
 use Rattle.ts_demux.proofs.Heard.{size_in-append}
 use Rattle.ts_demux.specs.Keeping.{is_long}
 use Rattle.ts_demux.specs.Steps.{kept_open, left_open, open_from_start, open_further, open_behind, finished, finished_with, given_from_start, given_by, IsOpen}
@@ -28,9 +29,9 @@ long_more x y h = go (is_whole (x ++ y)) refl
     go : (w : Bool) → is_whole (x ++ y) ≡ w → is_whole (x ++ y) ≡ false
     go false e = e
     go true e =
-        let p = and_true (nat_le 3 (length x)) (not (nat_le (size_in x) 4096)) h in
-        let q = and_true (nat_le 3 (length (x ++ y))) (nat_le (size_in (x ++ y)) 4096 && nat_le (size_in (x ++ y)) (length (x ++ y))) e in
-        let r = and_true (nat_le (size_in (x ++ y)) 4096) (nat_le (size_in (x ++ y)) (length (x ++ y))) q.1 in
+        let p = and_parts (nat_le 3 (length x)) (not (nat_le (size_in x) 4096)) h in
+        let q = and_parts (nat_le 3 (length (x ++ y))) (nat_le (size_in (x ++ y)) 4096 && nat_le (size_in (x ++ y)) (length (x ++ y))) e in
+        let r = and_parts (nat_le (size_in (x ++ y)) 4096) (nat_le (size_in (x ++ y)) (length (x ++ y))) q.1 in
         absurd (no (nat_le (size_in x) 4096) p.1 (ap (λ (n : ℕ). nat_le n 4096) (sym (size_in-append x y (le_told 3 (length x) p.0))) ∙ r.0))
 
 pub size_in-three : (x : List ℕ) → 3 ≤ length x → 3 ≤ size_in x
@@ -42,8 +43,8 @@ size_in-three (a ∷ b ∷ c ∷ x) h = omega arith
 -- where a section is whole only with what follows, it ends there
 pub ends_later : (x y : List ℕ) → is_whole x ≡ false → is_whole (x ++ y) ≡ true → length x ≤ size_in (x ++ y)
 ends_later x y part all =
-    let q = and_true (nat_le 3 (length (x ++ y))) (nat_le (size_in (x ++ y)) 4096 && nat_le (size_in (x ++ y)) (length (x ++ y))) all in
-    let r = and_true (nat_le (size_in (x ++ y)) 4096) (nat_le (size_in (x ++ y)) (length (x ++ y))) q.1 in
+    let q = and_parts (nat_le 3 (length (x ++ y))) (nat_le (size_in (x ++ y)) 4096 && nat_le (size_in (x ++ y)) (length (x ++ y))) all in
+    let r = and_parts (nat_le (size_in (x ++ y)) 4096) (nat_le (size_in (x ++ y)) (length (x ++ y))) q.1 in
     go (le_told 3 (length (x ++ y)) q.0) (le_told (size_in (x ++ y)) 4096 r.0) (nat_le 3 (length x)) refl (nat_le (size_in x) (length x)) refl
   where
     go : 3 ≤ length (x ++ y) → size_in (x ++ y) ≤ 4096 → (a : Bool) → nat_le 3 (length x) ≡ a → (b : Bool) → nat_le (size_in x) (length x) ≡ b → length x ≤ size_in (x ++ y)
@@ -52,7 +53,7 @@ ends_later x y part all =
         omega (arith, size_in-three (x ++ y) three)
     go three most true e true f =
         let n : size_in (x ++ y) ≡ size_in x = size_in-append x y (le_told 3 (length x) e) in
-        absurd (no_from (is_whole x) (and_both (nat_le 3 (length x)) (nat_le (size_in x) 4096 && nat_le (size_in x) (length x)) e (and_both (nat_le (size_in x) 4096) (nat_le (size_in x) (length x)) (le_yes (size_in x) 4096 (omega arith)) f)) part)
+        absurd (no_from (is_whole x) (and_from (nat_le 3 (length x)) (nat_le (size_in x) 4096 && nat_le (size_in x) (length x)) e (and_from (nat_le (size_in x) 4096) (nat_le (size_in x) (length x)) (le_yes (size_in x) 4096 (omega arith)) f)) part)
     go three most true e false f =
         let n : size_in (x ++ y) ≡ size_in x = size_in-append x y (le_told 3 (length x) e) in
         let l : length x < size_in x = le_false (size_in x) (length x) f in

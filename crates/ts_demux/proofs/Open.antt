@@ -1,11 +1,12 @@
 -- What is kept behind a packet is what the definition says of all packets.
 use Rattle.std.proofs.Common.{◌≡◌, ℕ, zero, suc, List, [], ◌∷◌, ◌++◌, Bool, true, false, not, ◌==◌, Option, Some, None, length, refl, sym, ap, ap₂, ◌∙◌, arith, drop, append_assoc, append-nil, length-append}
 use Rattle.std.specs.Prelude.{if◌then◌else◌, nat_le, ◌||◌}
+use Rattle.std.proofs.lemmas.Bool.{and_parts, and_from, or_parts}
 use Rattle.ts_packets.specs.Packets.{Piece}
 use Rattle.ts_demux.specs.Hearing.{size_in, is_whole, passed_over, goes_on}
 use Rattle.ts_demux.specs.Keeping.{is_long, unended, unended_behind, unended_in, has_start, open_section}
 use Rattle.ts_demux.specs.Steps.{kept_open, left_open, open_from_start, open_further, open_behind, IsOpen}
-use Rattle.ts_demux.proofs.Deciding.{and_true, and_both, le_told, le_yes}
+use Rattle.ts_demux.proofs.Deciding.{le_told, le_yes}
 use Rattle.ts_demux.proofs.Lists.{drop-past}
 use Rattle.ts_demux.proofs.Heard.{size_in-append}
 use Rattle.ts_demux.proofs.Hear.{whole_more}
@@ -14,9 +15,9 @@ use Rattle.ts_demux.proofs.Machine.{long_more, ends_later, left_open-open}
 -- a section_length that is too long stays so where more follows
 long_stays : (x y : List ℕ) → is_long x ≡ true → is_long (x ++ y) ≡ true
 long_stays x y e =
-    let p = and_true (nat_le 3 (length x)) (not (nat_le (size_in x) 4096)) e in
+    let p = and_parts (nat_le 3 (length x)) (not (nat_le (size_in x) 4096)) e in
     let three = le_told 3 (length x) p.0 in
-    and_both (nat_le 3 (length (x ++ y))) (not (nat_le (size_in (x ++ y)) 4096))
+    and_from (nat_le 3 (length (x ++ y))) (not (nat_le (size_in (x ++ y)) 4096))
     (le_yes 3 (length (x ++ y)) (omega (arith, length-append x y)))
     (ap (λ (n : ℕ). not (nat_le n 4096)) (size_in-append x y three) ∙ p.1)
 
@@ -135,15 +136,11 @@ has_start-push (p ∷ ps) q = ap (λ (b : Bool). p.start || b) (has_start-push p
     or_assoc true b c = refl
     or_assoc false b c = refl
 
-or_no : (a b : Bool) → (a || b) ≡ false → (a ≡ false) × (b ≡ false)
-or_no true b e = cc
-or_no false b e = (refl, e)
-
 -- where no packet starts, all go on
 goes_on-more : (ps : List Piece) (q : Piece) → has_start ps ≡ false → q.start ≡ false → goes_on (ps ++ q ∷ []) ≡ goes_on ps ++ q.payload
 goes_on-more [] q e f = ap (λ (s : Bool). if s then passed_over q.payload else q.payload ++ []) f ∙ append-nil q.payload
 goes_on-more (p ∷ ps) q e f =
-    let no = or_no p.start (has_start ps) e in
+    let no = or_parts p.start (has_start ps) e in
     ap (λ (s : Bool). if s then passed_over p.payload else p.payload ++ goes_on (ps ++ q ∷ [])) no.0
     ∙ ap (λ (x : List ℕ). p.payload ++ x) (goes_on-more ps q no.1 f) ∙ sym (append_assoc p.payload (goes_on ps) q.payload)
     ∙ sym (ap (λ (s : Bool). (if s then passed_over p.payload else p.payload ++ goes_on ps) ++ q.payload) no.0)

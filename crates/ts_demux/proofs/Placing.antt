@@ -3,8 +3,9 @@ use Rattle.std.proofs.Common.{◌≡◌, ℕ, zero, suc, ◌<◌, ◌≤◌, Lis
 use Rattle.std.specs.Prelude.{if◌then◌else◌, slice_set, option_map, Result, Ok, Err, OnOk}
 use Rattle.std.proofs.lemmas.Bool.Decides.{nat_tests}
 use Rattle.std.proofs.lemmas.List.{map-set, map-append}
+use Rattle.std.proofs.lemmas.Bool.{eqb-true}
+use Rattle.si_lists.proofs.Outcomes.{on_ok}
 use Rattle.ts_demux.specs.Keeping.{Kept, nothing, kept_in, kept_on}
-use Rattle.ts_demux.proofs.Deciding.{same_number}
 
 kept_on-none : (q : ℕ) (slots : List (Option Kept)) → kept_on q (slots ++ None ∷ []) ≡ kept_on q slots
 kept_on-none zero [] = refl
@@ -55,12 +56,7 @@ no_place q p slots h = go (p == q) refl
   where
     go : (b : Bool) → (p == q) ≡ b → kept_on q slots ≡ (if p == q then nothing else kept_on q slots)
     go false e = sym (ap (λ (b : Bool). if b then nothing else kept_on q slots) e)
-    go true e = kept_on-behind q slots (subst (λ (n : ℕ). length slots ≤ n) (same_number p q e) h) ∙ sym (ap (λ (b : Bool). if b then nothing else kept_on q slots) e)
-
--- what holds holds where a result is Ok
-pub whatever : {X Y : Type 0} (r : Result X Y) (P : Type 0) → P → OnOk r P
-whatever (Ok x) P p = p
-whatever (Err y) P p = tt
+    go true e = kept_on-behind q slots (subst (λ (n : ℕ). length slots ≤ n) (eqb-true p q e) h) ∙ sym (ap (λ (b : Bool). if b then nothing else kept_on q slots) e)
 
 pub on_ok : {X Y : Type 0} (r : Result X Y) (P Q : Type 0) → (P → Q) → OnOk r P → OnOk r Q
 on_ok (Ok x) P Q f p = f p

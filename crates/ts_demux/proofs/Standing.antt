@@ -3,14 +3,14 @@ use Rattle.std.proofs.Common.{◌≡◌, ℕ, ◌+◌, ◌<◌, ◌≤◌, List,
 use Rattle.std.specs.Prelude.{if◌then◌else◌, nat_lt, ◌||◌, Ok, Err, slice_index}
 use Rattle.std.specs.List.{cons_option}
 use Rattle.std.proofs.lemmas.Bool.Decides.{nat_tests}
+use Rattle.std.proofs.lemmas.Bool.{eqb-true}
 use Rattle.ts_packets.specs.declared.shape.Shape.TheVariants as shape
 use Rattle.ts_packets.specs.declared.shape.BadPacket.TheVariants.{Sync}
 use Rattle.ts_packets.specs.Bytes.{pid_in, shape_in, transport_error_indicator, transport_scrambling_control, adaptation_field_control, adaptation_field_length, payload_unit_start_indicator, continuity_counter}
-use Rattle.ts_demux.specs.Arrivals.{Arrival, Arrival.Gap, Arrival.Came, load_in, arrival_by, arrival_on, arrivals_on}
+use Rattle.ts_demux.specs.Arrivals.{Arrival, load_in, arrival_by, arrival_on, arrivals_on}
 use Rattle.ts_demux.specs.Sections.{on_pid, ended_by}
 use Rattle.ts_demux.specs.Keeping.{Kept, nothing, kept_on, Stands}
 use Rattle.ts_demux.specs.Steps.{given_after, kept_after, kept_behind}
-use Rattle.ts_demux.proofs.Deciding.{same_number}
 use Rattle.ts_demux.proofs.Stretches.{kept_behind-push}
 use Rattle.ts_demux.proofs.Keeping.{keeps_told, keeps_is}
 use Rattle.ts_demux.proofs.Adding.{elsewhere, adds, arrivals_on-push, ended_by-is}
@@ -44,7 +44,7 @@ one_came past packet old new pid x its small came after stands q lt = keeps_is (
     go false e = told q lt ∙ stays past packet q (elsewhere q packet (ap (λ (n : ℕ). n == q) (sym its) ∙ e))
     go true e =
         ap (λ (kept : Kept). kept_after kept x) (told pid small) ∙ changes past packet pid x came
-        ∙ ap (λ (n : ℕ). kept_behind nothing (arrivals_on n (past ++ packet ∷ []))) (same_number pid q e)
+        ∙ ap (λ (n : ℕ). kept_behind nothing (arrivals_on n (past ++ packet ∷ []))) (eqb-true pid q e)
 
 pub one_ended : (past : List (List ℕ)) (packet : List ℕ) (old : List (Option Kept)) (pid : ℕ) (x : Arrival) → pid ≡ pid_in packet → pid < 8192 → arrival_on pid packet ≡ Some x
     → Stands past old → map (on_pid pid) (given_after (kept_on pid old) x) ≡ ended_by past packet

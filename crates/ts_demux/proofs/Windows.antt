@@ -1,20 +1,11 @@
 -- Packets and sections, cut into parts.
-use Rattle.std.proofs.Common.{◌≡◌, ℕ, suc, List, [], ◌∷◌, ◌++◌, length, refl, sym, ap, ◌∙◌, arith}
+use Rattle.std.proofs.Common.{◌≡◌, ℕ, suc, List, [], ◌∷◌, ◌++◌, length, refl, sym, ap, ◌∙◌}
 use Rattle.std.specs.List.{AllByRecursion}
+use Rattle.si_lists.proofs.Lists.{same_parts}
 use Rattle.ts_demux.specs.Laws.{ended}
 use Rattle.ts_packets.specs.Packets.{Piece, piece_of, left_by, pieces, left, HaveRoom, all_of}
 use Rattle.ts_demux.specs.Hearing.{IsSection, heard}
 use Rattle.ts_demux.proofs.Heard.{AllSections, heard-pieces}
-
-pub same_parts : {X : Type 0} (xs us ys vs : List X) → length xs ≡ length us → xs ++ ys ≡ us ++ vs → (xs ≡ us) × (ys ≡ vs)
-same_parts [] [] ys vs l e = (refl, e)
-same_parts [] (u ∷ us) ys vs l e = cc
-same_parts (x ∷ xs) [] ys vs l e = cc
-same_parts (x ∷ xs) (u ∷ us) ys vs l e =
-    let h : x ≡ u = cc in
-    let t : xs ++ ys ≡ us ++ vs = cc in
-    let r = same_parts xs us ys vs (omega arith) t in
-    (let f : x ∷ xs ≡ u ∷ us = cc (h, r.0) in f, r.1)
 
 pub pieces-append : (rest : List ℕ) (gs hs : List (List (List ℕ))) → pieces rest (gs ++ hs) ≡ pieces rest gs ++ pieces (left rest gs) hs
 pieces-append rest [] hs = refl

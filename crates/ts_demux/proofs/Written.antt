@@ -3,15 +3,15 @@ use Rattle.std.proofs.Common.{◌≡◌, ℕ, ◌+◌, ◌<◌, List, [], ◌∷
 use Rattle.std.specs.Prelude.{if◌then◌else◌, option_map}
 use Rattle.std.specs.List.{cons_option, AllByRecursion}
 use Rattle.std.proofs.lemmas.List.Elements.{filter_map-append}
+use Rattle.std.proofs.lemmas.Bool.{eqb-true}
 use Rattle.ts_packets.specs.Packets.{Piece, pieces, left, HaveRoom, all_of}
 use Rattle.ts_packets.specs.Bytes.{Packet, HasFields, bytes_of_packet}
 use Rattle.ts_packets.specs.Counting.{Load, load_on, loads_on, of_pid, Count}
 use Rattle.ts_packets.proofs.Headers.{reads-written, pid_in-bytes}
 use Rattle.ts_demux.specs.Hearing.{heard, IsSection}
-use Rattle.ts_demux.specs.Arrivals.{Arrival, Arrival.Came, arrival_by, arrival_on, arrivals_on, heard_of}
+use Rattle.ts_demux.specs.Arrivals.{Arrival, arrival_by, arrival_on, arrivals_on, heard_of}
 use Rattle.ts_demux.specs.Sections.{sections_on}
 use Rattle.ts_demux.specs.Laws.{ended, GoOn, PartGoesOn, PartIsHeard, CarriedIsHeard}
-use Rattle.ts_demux.proofs.Deciding.{same_number}
 use Rattle.ts_demux.proofs.Hear.{heard_of-counting}
 use Rattle.ts_demux.proofs.Heard.{AllSections, heard-pieces}
 use Rattle.ts_demux.proofs.Windows.{all-front, all-behind, length-pieces, left-append, heard_part}
@@ -26,7 +26,7 @@ arrives pid small p h = go (p.pid == pid) refl
 
     go : (b : Bool) → (p.pid == pid) ≡ b → arrival_on pid (bytes_of_packet p) ≡ option_map Came (load_on pid p)
     go true e =
-        let lt : p.pid < 8191 = subst (λ (n : ℕ). n < 8191) (sym (same_number p.pid pid e)) small in
+        let lt : p.pid < 8191 = subst (λ (n : ℕ). n < 8191) (sym (eqb-true p.pid pid e)) small in
         ap (arrival_by pid (bytes_of_packet p)) (reads-written p lt h.counter)
         ∙ ap (λ (b : Bool). if b then Some (Came load) else None) e
         ∙ sym (ap (λ (b : Bool). option_map Came (if b then Some load else None)) e)

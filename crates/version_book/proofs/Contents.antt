@@ -1,22 +1,13 @@
 -- Contents that are compared as one are one.
-use Rattle.std.proofs.Common.{◌≡◌, ◌∙◌, ◌==◌, ◌&&◌, ℕ, Bool, true, false, List, [], ◌∷◌, refl, ap, subst, arith}
+use Rattle.std.proofs.Common.{◌≡◌, ◌∙◌, ◌==◌, ◌&&◌, ℕ, true, List, [], ◌∷◌, refl, ap, subst, arith}
 use Rattle.std.proofs.lemmas.Bool.Decides.{nat_tests}
 use Rattle.std.proofs.lemmas.Slice.Eq.{bytes_eq-Decides}
 use Rattle.std.specs.Prelude.{bytes_eq}
+use Rattle.std.proofs.lemmas.Bool.{eqb-true}
+use Rattle.si_lists.proofs.Truths.{first_true, second_true}
 use Rattle.section_codec.specs.declared.table.NumberedBody.{NumberedBody}
 use Rattle.version_book.specs.Airings.{Content, is_content}
 use Rattle.version_book.specs.Laws.{ContentsAreCompared}
-
-first_true : (a b : Bool) → (a && b) ≡ true → a ≡ true
-first_true true b e = refl
-first_true false b e = cc
-
-second_true : (a b : Bool) → (a && b) ≡ true → b ≡ true
-second_true true b e = e
-second_true false b e = cc
-
-same_number : (m n : ℕ) → (m == n) ≡ true → m ≡ n
-same_number m n e = grind (arith, nat_tests)
 
 number_same : (n : ℕ) → (n == n) ≡ true
 number_same n = grind (arith, nat_tests)
@@ -31,7 +22,7 @@ same_content (x ∷ xs) (y ∷ ys) e =
     let number = first_true (x.number == y.number) (bytes_eq x.body y.body) both in
     let body = second_true (x.number == y.number) (bytes_eq x.body y.body) both in
     let others = same_content xs ys (second_true (x.number == y.number && bytes_eq x.body y.body) (is_content xs ys) e) in
-    ap (λ (s : NumberedBody). s ∷ xs) (same_body x y (same_number x.number y.number number) ((bytes_eq-Decides x.body y.body).0 body)) ∙ ap (λ (l : Content). y ∷ l) others
+    ap (λ (s : NumberedBody). s ∷ xs) (same_body x y (eqb-true x.number y.number number) ((bytes_eq-Decides x.body y.body).0 body)) ∙ ap (λ (l : Content). y ∷ l) others
 same_content a b e = cc
 
 content_same : (a : Content) → is_content a a ≡ true

@@ -4,6 +4,7 @@ use Rattle.std.specs.List.{cons_option}
 use Rattle.std.specs.Prelude.{if◌then◌else◌, option_to_list, Option, Some, None, bytes_eq}
 use Rattle.std.proofs.lemmas.List.Elements.{filter_map-append}
 use Rattle.std.proofs.lemmas.Slice.Eq.{bytes_eq-Decides}
+use Rattle.std.proofs.lemmas.Bool.{and_parts, and_from}
 use Rattle.section_codec.specs.declared.table.Key.{Key}
 use Rattle.section_codec.specs.declared.table.NumberedBody.{NumberedBody}
 use Rattle.version_book.specs.Airings.{Content, Airing, is_key, is_content, content_at, carried, changes_after}
@@ -12,31 +13,24 @@ use Rattle.version_book.specs.Laws.{NeighboursAgree, AnotherBetween}
 
 -- ---- tests
 
-pub and_true : (a b : Bool) → (a && b) ≡ true → (a ≡ true) × (b ≡ true)
-and_true true b e = (refl, e)
-and_true false b e = cc
-
-pub and_both : (a b : Bool) → a ≡ true → b ≡ true → (a && b) ≡ true
-and_both a b p q = ap (λ x. x && b) p ∙ q
-
 same_key : (a b : Key) → a.pid ≡ b.pid → a.table ≡ b.table → a.ext ≡ b.ext → a.stream ≡ b.stream → a.network ≡ b.network → a ≡ b
 same_key a b p t e s n = λ i. record { pid = p i; table = t i; ext = e i; stream = s i; network = n i }
 
 -- the test of equal keys tells equal keys
 pub is_key-same : (a b : Key) → is_key a b ≡ true → a ≡ b
 is_key-same a b h =
-    let one = and_true (a.pid == b.pid && a.table == b.table && a.ext == b.ext && a.stream == b.stream) (a.network == b.network) h in
-    let two = and_true (a.pid == b.pid && a.table == b.table && a.ext == b.ext) (a.stream == b.stream) one.0 in
-    let three = and_true (a.pid == b.pid && a.table == b.table) (a.ext == b.ext) two.0 in
-    let four = and_true (a.pid == b.pid) (a.table == b.table) three.0 in
+    let one = and_parts (a.pid == b.pid && a.table == b.table && a.ext == b.ext && a.stream == b.stream) (a.network == b.network) h in
+    let two = and_parts (a.pid == b.pid && a.table == b.table && a.ext == b.ext) (a.stream == b.stream) one.0 in
+    let three = and_parts (a.pid == b.pid && a.table == b.table) (a.ext == b.ext) two.0 in
+    let four = and_parts (a.pid == b.pid) (a.table == b.table) three.0 in
     same_key a b (eqb-true a.pid b.pid four.0) (eqb-true a.table b.table four.1) (eqb-true a.ext b.ext three.1) (eqb-true a.stream b.stream two.1) (eqb-true a.network b.network one.1)
 
 pub is_key-itself : (k : Key) → is_key k k ≡ true
 is_key-itself k =
-    and_both (k.pid == k.pid && k.table == k.table && k.ext == k.ext && k.stream == k.stream) (k.network == k.network)
-    (and_both (k.pid == k.pid && k.table == k.table && k.ext == k.ext) (k.stream == k.stream)
-    (and_both (k.pid == k.pid && k.table == k.table) (k.ext == k.ext)
-    (and_both (k.pid == k.pid) (k.table == k.table) (eq-eqb k.pid k.pid refl) (eq-eqb k.table k.table refl))
+    and_from (k.pid == k.pid && k.table == k.table && k.ext == k.ext && k.stream == k.stream) (k.network == k.network)
+    (and_from (k.pid == k.pid && k.table == k.table && k.ext == k.ext) (k.stream == k.stream)
+    (and_from (k.pid == k.pid && k.table == k.table) (k.ext == k.ext)
+    (and_from (k.pid == k.pid) (k.table == k.table) (eq-eqb k.pid k.pid refl) (eq-eqb k.table k.table refl))
     (eq-eqb k.ext k.ext refl))
     (eq-eqb k.stream k.stream refl))
     (eq-eqb k.network k.network refl)
@@ -57,16 +51,16 @@ is_content-same [] [] e = refl
 is_content-same [] (y ∷ ys) e = cc
 is_content-same (x ∷ xs) [] e = cc
 is_content-same (x ∷ xs) (y ∷ ys) e =
-    let p = and_true (x.number == y.number && bytes_eq x.body y.body) (is_content xs ys) e in
-    let q = and_true (x.number == y.number) (bytes_eq x.body y.body) p.0 in
+    let p = and_parts (x.number == y.number && bytes_eq x.body y.body) (is_content xs ys) e in
+    let q = and_parts (x.number == y.number) (bytes_eq x.body y.body) p.0 in
     let h : x ≡ y = same_part x y (eqb-true x.number y.number q.0) ((bytes_eq-Decides x.body y.body).0 q.1) in
     let t : xs ≡ ys = is_content-same xs ys p.1 in
     cc
 
 pub is_content-itself : (xs : Content) → is_content xs xs ≡ true
 is_content-itself [] = refl
-is_content-itself (x ∷ xs) = and_both (x.number == x.number && bytes_eq x.body x.body) (is_content xs xs)
-    (and_both (x.number == x.number) (bytes_eq x.body x.body) (eq-eqb x.number x.number refl) ((bytes_eq-Decides x.body x.body).1 refl)) (is_content-itself xs)
+is_content-itself (x ∷ xs) = and_from (x.number == x.number && bytes_eq x.body x.body) (is_content xs xs)
+    (and_from (x.number == x.number) (bytes_eq x.body x.body) (eq-eqb x.number x.number refl) ((bytes_eq-Decides x.body x.body).1 refl)) (is_content-itself xs)
 
 pub is_content-apart : (xs ys : Content) → xs ≢ ys → is_content xs ys ≡ false
 is_content-apart xs ys other = go (is_content xs ys) refl

@@ -1,7 +1,7 @@
 use Rattle.std.proofs.Common.{take, drop, sym, ap, ◌∙◌, take-append-drop}
 use Rattle.std.proofs.lemmas.List.{map-append}
+use Rattle.si_lists.proofs.Outcomes.{on_err}
 use Rattle.air_monitor.specs.Heard.{AppendsFrontOf, line_at, lines_at}
-use Rattle.air_monitor.proofs.Outcomes.{on_err}
 use Rattle.air_monitor.proofs.done_line.push_lines.Goals as goal
 
 pub returns-in_err-push_line-clause-memory : goal.returns-in_err-push_line-clause-memory

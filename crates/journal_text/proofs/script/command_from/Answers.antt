@@ -1,6 +1,6 @@
 use Rattle.std.proofs.Common.{sym, arith}
 use Rattle.std.proofs.lemmas.Grind.{common_steps}
-use Rattle.feed_edits.proofs.Turns.{stuck_at}
+use Rattle.input_lines.proofs.Steps.{stuck_at}
 use Rattle.journal_text.proofs.ScriptFacts.{short_passes, feed_passes, feed_leaves, feed_stop_takes, feed_stop_gives, no_feed_takes}
 use Rattle.journal_text.proofs.script.command_from.Goals as goal
 

@@ -2,10 +2,11 @@ use Rattle.std.proofs.Common.{◌≡◌, ◌<◌, ◌++◌, [], length, sym, ap,
 use Rattle.std.proofs.lemmas.Bool.Decides.{nat_tests}
 use Rattle.std.specs.Io.KnownBytes.{Appends}
 use Rattle.std.proofs.KnownBytes.{Appends-trans}
+use Rattle.si_lists.proofs.Outcomes.{on_err}
 use Rattle.carousel_player.specs.Sending.{Sends}
 use Rattle.carousel_player.specs.Playing.{Playing, GaveUp}
 use Rattle.carousel_player.proofs.Sendings.{Sends-trans}
-use Rattle.carousel_player.proofs.Plays.{on_err, all_out, front_behind, gave_up, none_left}
+use Rattle.carousel_player.proofs.Plays.{all_out, front_behind, gave_up, none_left}
 use Rattle.carousel_player.proofs.player.Player.play_cycle.Goals as goal
 
 pub batches-preserved : goal.batches-preserved

@@ -1,0 +1,36 @@
+-- Lists, and what holds of each of their elements.
+use Rattle.std.proofs.Common.{◌≡◌, ◌∙◌, ◌+◌, ◌-◌, ◌≤◌, ◌++◌, ℕ, List, [], ◌∷◌, refl, sym, ap, arith}
+use Rattle.std.specs.List.{AllByRecursion}
+use Rattle.std.specs.Prelude.{length, take, drop, slice_range}
+use Rattle.std.proofs.lemmas.List.{drop-take, drop-drop, length-take, length-drop}
+
+pub all_push : {X : Type 0} (P : X → Type 0) (xs : List X) (x : X) → AllByRecursion P xs → P x → AllByRecursion P (xs ++ x ∷ [])
+all_push P [] x h p = (p, tt)
+all_push P (y ∷ ys) x h p = (h.0, all_push P ys x h.1 p)
+
+pub all_append : {X : Type 0} (P : X → Type 0) (xs ys : List X) → AllByRecursion P xs → AllByRecursion P ys → AllByRecursion P (xs ++ ys)
+all_append P [] ys a b = b
+all_append P (x ∷ xs) ys a b = (a.0, all_append P xs ys a.1 b)
+
+pub all_map : {X : Type 0} (P Q : X → Type 0) → ((x : X) → P x → Q x) → (xs : List X) → AllByRecursion P xs → AllByRecursion Q xs
+all_map P Q f [] h = tt
+all_map P Q f (x ∷ xs) h = (f x h.0, all_map P Q f xs h.1)
+
+pub same_parts : {X : Type 0} (xs us ys vs : List X) → length xs ≡ length us → xs ++ ys ≡ us ++ vs → (xs ≡ us) × (ys ≡ vs)
+same_parts [] [] ys vs l e = (refl, e)
+same_parts [] (u ∷ us) ys vs l e = cc
+same_parts (x ∷ xs) [] ys vs l e = cc
+same_parts (x ∷ xs) (u ∷ us) ys vs l e =
+    let h : x ≡ u = cc in
+    let t : xs ++ ys ≡ us ++ vs = cc in
+    let r = same_parts xs us ys vs (omega arith) t in
+    (let f : x ∷ xs ≡ u ∷ us = cc (h, r.0) in f, r.1)
+
+-- a part of a list from one place to another
+pub range_drop : (xs : List ℕ) (start count end : ℕ) → start + count ≤ end → slice_range xs (start + count) end ≡ drop count (slice_range xs start end)
+range_drop xs start count end le =
+    let apart : end - start ≡ count + (end - (start + count)) = omega arith in
+    sym (ap (λ k. drop count (take k (drop start xs))) apart ∙ drop-take count (end - (start + count)) (drop start xs) ∙ ap (take (end - (start + count))) (drop-drop count start xs))
+
+pub range_length : (xs : List ℕ) (start end : ℕ) → end ≤ length xs → length (slice_range xs start end) ≡ end - start
+range_length xs start end le = simp (length-take, length-drop) (omega arith)

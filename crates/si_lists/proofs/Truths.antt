@@ -1,0 +1,15 @@
+-- Truth values.
+use Rattle.std.proofs.Common.{◌≡◌, ◌&&◌, ℕ, Bool, true, false, Some, None, refl}
+use Rattle.std.specs.Prelude.{cond}
+
+pub first_true : (a b : Bool) → (a && b) ≡ true → a ≡ true
+first_true true b e = refl
+first_true false b e = cc
+
+pub second_true : (a b : Bool) → (a && b) ≡ true → b ≡ true
+second_true true b e = e
+second_true false b e = cc
+
+pub none_not : (b : Bool) (x : ℕ) → cond b (Some x) None ≡ None → b ≡ false
+none_not true x e = cc
+none_not false x e = refl
