@@ -1,4 +1,3 @@
 pub mod Entries
-pub mod Loops
 pub mod Fields
 pub mod Pieces

@@ -8,7 +8,7 @@ use Rattle.si_text.proofs.CutFacts.{coded_size-bounds, cut_size-pos}
 use Rattle.si_text.proofs.PieceFacts.{pieces-join, pieces-few, pieces-none, pieces-next, IsUtf8-rest}
 use Rattle.std.proofs.lemmas.List.{nil_from_length}
 use Rattle.desc_event.specs.ExtendedEvent.{extended_event_fields}
-use Rattle.desc_event.specs.Descriptors.{descriptor}
+use Rattle.desc_parts.specs.Descriptors.{descriptor}
 use Rattle.desc_event.specs.EventDescriptors.{numbered, extended_events, content_of}
 use Rattle.guide_model.specs.declared.event.Genre.{Genre}
 use Rattle.desc_event.proofs.Entries.{length-content_body}

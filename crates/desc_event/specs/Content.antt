@@ -3,7 +3,7 @@ use Rattle.std.specs.Prelude.{◌≡◌, ℕ, ◌+◌, ◌*◌, ◌/◌, ◌%◌
 use Rattle.std.specs.Option.{option_map}
 use Rattle.std.specs.List.{flat_map, AllByRecursion}
 use Rattle.guide_model.specs.declared.event.Genre.{Genre}
-use Rattle.desc_event.specs.Descriptors.{descriptor}
+use Rattle.desc_parts.specs.Descriptors.{descriptor}
 
 -- ---- written
 

@@ -1,7 +1,8 @@
 -- extended_event_descriptor: a piece of the extended text of an event (EN 300 468, 6.2.15).
 use Rattle.std.specs.Prelude.{◌≡◌, ℕ, ◌+◌, ◌*◌, ◌/◌, ◌%◌, ◌<◌, ◌==◌, Bool, List, ◌∷◌, ◌++◌, length, take, drop, slice_index, Option, Some, None, if◌then◌else◌}
 use Rattle.desc_event.specs.declared.extended_event.ExtendedPiece.{ExtendedPiece}
-use Rattle.desc_event.specs.Descriptors.{descriptor, with_length}
+use Rattle.desc_parts.specs.Descriptors.{descriptor}
+use Rattle.desc_parts.specs.Lengths.{with_length}
 
 -- ---- written
 

@@ -1,4 +1,3 @@
-pub mod Descriptors
 pub mod ShortEvent
 pub mod ExtendedEvent
 pub mod Content

@@ -3,7 +3,7 @@ use Rattle.std.specs.Prelude.{◌≡◌, ℕ, List, [], ◌∷◌, ◌++◌, len
 use Rattle.std.specs.Option.{option_map}
 use Rattle.std.specs.List.{flat_map, AllByRecursion}
 use Rattle.guide_model.specs.declared.event.Rating.{Rating}
-use Rattle.desc_event.specs.Descriptors.{descriptor}
+use Rattle.desc_parts.specs.Descriptors.{descriptor}
 
 -- ---- written
 

@@ -1,13 +1,11 @@
 -- Worked descriptors.
 use Rattle.std.specs.Prelude.{◌≡◌, [], ◌∷◌, Some, None, refl, codes}
 use Rattle.std.specs.Str.{chars}
-use Rattle.std.proofs.Common.{lit<}
 use Rattle.si_text.specs.Cutting.{pieces, first_pieces, cut_size, greatest_cut}
 use Rattle.si_text.specs.declared.shown.Shown.TheVariants.{Text}
 use Rattle.guide_model.specs.declared.event.Event.{Event}
 use Rattle.desc_event.specs.declared.short_event.ShortEvent.{ShortEvent}
 use Rattle.desc_event.specs.declared.extended_event.ExtendedPiece.{ExtendedPiece}
-use Rattle.desc_event.specs.Descriptors.{AreDescriptors}
 use Rattle.desc_event.specs.ShortEvent.{short_event, short_event_in}
 use Rattle.desc_event.specs.ExtendedEvent.{extended_event, extended_event_in}
 use Rattle.desc_event.specs.Content.{content, content_in}
@@ -118,8 +116,3 @@ row_size = refl
 row_bare_size : entry_size (record { id = 7; start = record { 0 = 4257234000 }; seconds = 1800; language = codes "eng"; name = codes "News"; short = []; extended = []; rating = None; genres = [] }) ≡ 23
 unfolding pieces first_pieces
 row_bare_size = refl
-
--- ---- descriptors one after the other
-
-row_descriptors : AreDescriptors (0x54 ∷ 0x02 ∷ 0x20 ∷ 0x00 ∷ 0x7F ∷ 0x00 ∷ []) (record { tag = 0x54; body = 0x20 ∷ 0x00 ∷ [] } ∷ record { tag = 0x7F; body = [] } ∷ [])
-row_descriptors = record { whole = refl; lengths = (lit< tt, (lit< tt, tt)) }

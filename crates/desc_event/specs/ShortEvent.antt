@@ -2,7 +2,8 @@
 use Rattle.std.specs.Prelude.{◌≡◌, ℕ, ◌+◌, ◌==◌, Bool, List, ◌++◌, length, take, drop, slice_index, Option, Some, None, if◌then◌else◌}
 use Rattle.si_text.specs.Decoding.{decoded, shown_bytes, IsAsDecoded}
 use Rattle.desc_event.specs.declared.short_event.ShortEvent.{ShortEvent}
-use Rattle.desc_event.specs.Descriptors.{descriptor, with_length}
+use Rattle.desc_parts.specs.Descriptors.{descriptor}
+use Rattle.desc_parts.specs.Lengths.{with_length}
 
 -- ---- written
 

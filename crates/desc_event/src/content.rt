@@ -3,7 +3,7 @@ ghost use Rattle.std.specs.Prelude.{◌≡◌, ◌*◌, ◌≤◌, ◌++◌, len
 ghost use Rattle.std.specs.List.{All};
 ghost use Rattle.desc_event.specs.Content.{content, content_in, HasNibbles};
 
-use crate::room::put;
+use desc_parts::put;
 use guide_model::{Genre, Genres};
 use si_base::Items;
 use std::alloc::{AllocError, Global};

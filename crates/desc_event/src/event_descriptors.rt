@@ -6,11 +6,11 @@ ghost use Rattle.std.specs.List.{All};
 ghost use Rattle.desc_event.specs.Content.{HasNibbles};
 ghost use Rattle.desc_event.specs.EventDescriptors.{event_descriptors, extended_events, content_of, rating_of, entry_size, IsWithinLimits};
 
-use crate::coded::Coded;
 use crate::content::put_content;
 use crate::extended_event::put_extended_event;
 use crate::parental_rating::put_parental_rating;
 use crate::short_event::{put_short_event, short_event_len};
+use desc_parts::Coded;
 use guide_model::{Event, Genre, Rating};
 use si_text::{coded_len, cut_len};
 use std::alloc::AllocError;

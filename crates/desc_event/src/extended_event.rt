@@ -1,10 +1,9 @@
 // extended_event_descriptor.
 ghost use Rattle.std.specs.Prelude.{◌≡◌, ◌+◌, ◌<◌, ◌≤◌, ◌++◌, true, false, length, drop, IfOk, OnOk, OnErr, IfSome, IfNone, OnSome, vec_len, vec_capacity};
-ghost use Rattle.desc_event.specs.Descriptors.{descriptor};
+ghost use Rattle.desc_parts.specs.Descriptors.{descriptor};
 ghost use Rattle.desc_event.specs.ExtendedEvent.{extended_event, extended_event_fields, extended_event_in, has_its_lengths, items_length};
 
-use crate::coded::Coded;
-use crate::room::put;
+use desc_parts::{Coded, put};
 use si_base::{Bytes, Items};
 use std::alloc::{AllocError, Global};
 
@@ -54,8 +53,8 @@ pub(crate) fn put_extended_event(
 {
     put(out, &[TAG, (6 + text.len()) as u8, 16 * number + last]);
     put(out, language);
-    put(out, &[0, text.len() as u8]);
-    text.put(out);
+    put(out, &[0]);
+    text.put_with_length(out);
 }
 
 /// The piece of the body of an extended_event_descriptor, or `None` exactly where a length runs past the end or bytes

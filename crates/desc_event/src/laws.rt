@@ -1,13 +1,11 @@
 // Laws of the written and the read forms.
-ghost use Rattle.desc_event.specs.Descriptors.{DescriptorsAreUnique};
 ghost use Rattle.desc_event.specs.ShortEvent.{ShortEventReadsBack};
 ghost use Rattle.desc_event.specs.ExtendedEvent.{ExtendedEventReadsBack};
 ghost use Rattle.desc_event.specs.Content.{ContentReadsBack};
 ghost use Rattle.desc_event.specs.ParentalRating.{ParentalRatingReadsBack};
 
-/// Bytes are the descriptors of one list at most, and reading a written body gives its value back.
+/// Reading a written body gives its value back.
 pub fn written_descriptors_read_back()
-    ensures unique { DescriptorsAreUnique }
     ensures short_event { ShortEventReadsBack }
     ensures extended_event { ExtendedEventReadsBack }
     ensures content { ContentReadsBack }

@@ -3,25 +3,22 @@
 //!
 //! The layers above use: a writer appends the written form or changes nothing; a reader gives the value of a body, and
 //! `None` exactly where it has none; reading a written body gives its value back (`written_descriptors_read_back`).
-//! `read_descriptors` cuts a loop into its descriptors. `write_event_descriptors` appends all those of an event, and
-//! `event_len` is the size of its entry in a section.
+//! `write_event_descriptors` appends all those of an event, and `event_len` is the size of its entry in a section.
 //!
 //! Each descriptor has a module, and its written form and its reading side by side in the file of that name in
-//! `specs/`. `specs/Descriptors.antt` has the loop, `specs/EventDescriptors.antt` the descriptors of an event.
+//! `specs/`; `specs/EventDescriptors.antt` has the descriptors of an event. What all descriptors are made of is a crate
+//! of its own, `desc_parts`, whose loop of descriptors is passed on here.
 #![tactic(auto)]
 
-mod coded;
 mod content;
-mod descriptors;
 mod event_descriptors;
 mod extended_event;
 mod laws;
 mod parental_rating;
-mod room;
 mod short_event;
 
 pub use content::{read_content, write_content};
-pub use descriptors::{RawDesc, RawDescs, read_descriptors};
+pub use desc_parts::{RawDesc, RawDescs, descriptors_are_unique, read_descriptors};
 pub use event_descriptors::{event_len, write_event_descriptors};
 pub use extended_event::{ExtendedPiece, read_extended_event, write_extended_event};
 pub use laws::written_descriptors_read_back;

@@ -2,7 +2,7 @@
 ghost use Rattle.std.specs.Prelude.{◌≡◌, ◌*◌, ◌≤◌, ◌++◌, length, IfOk, OnOk, OnErr, vec_len, vec_capacity, ◌+◌};
 ghost use Rattle.desc_event.specs.ParentalRating.{parental_rating, parental_rating_in};
 
-use crate::room::put;
+use desc_parts::put;
 use guide_model::Rating;
 use si_base::Items;
 use std::alloc::{AllocError, Global};

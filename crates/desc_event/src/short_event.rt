@@ -1,11 +1,10 @@
 // short_event_descriptor.
 ghost use Rattle.std.specs.Prelude.{◌≡◌, ◌+◌, ◌≤◌, ◌++◌, true, false, length, IfOk, OnOk, OnErr, IfSome, IfNone, OnSome, vec_len, vec_capacity};
 ghost use Rattle.si_text.specs.Decoding.{shown_bytes};
-ghost use Rattle.desc_event.specs.Descriptors.{descriptor};
+ghost use Rattle.desc_parts.specs.Descriptors.{descriptor};
 ghost use Rattle.desc_event.specs.ShortEvent.{short_event, short_event_fields, short_event_in, has_its_lengths, name_in, text_in};
 
-use crate::coded::Coded;
-use crate::room::put;
+use desc_parts::{Coded, put};
 use si_text::{Shown, decode_text};
 use std::alloc::{AllocError, Global};
 
@@ -54,10 +53,8 @@ pub(crate) fn put_short_event(language: &[u8; 3], name: &Coded, text: &Coded, ou
 {
     put(out, &[TAG, (5 + name.len() + text.len()) as u8]);
     put(out, language);
-    put(out, &[name.len() as u8]);
-    name.put(out);
-    put(out, &[text.len() as u8]);
-    text.put(out);
+    name.put_with_length(out);
+    text.put_with_length(out);
 }
 
 /// The short_event of the body of a short_event_descriptor, or `None` exactly where a length runs past the end or

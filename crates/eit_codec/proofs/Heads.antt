@@ -3,8 +3,8 @@ use Rattle.std.proofs.Common.{◌≡◌, ℕ, List, [], ◌∷◌, ◌++◌, ref
 use Rattle.std.specs.List.{flat_map}
 use Rattle.si_base.specs.Fields.{two}
 use Rattle.guide_model.specs.declared.screen.ScreenEvent.{ScreenEvent}
-use Rattle.desc_event.specs.declared.descriptors.RawDesc.{RawDesc}
-use Rattle.desc_event.proofs.Loops.{same_parts, descriptors-unique}
+use Rattle.desc_parts.specs.declared.descriptors.RawDesc.{RawDesc}
+use Rattle.desc_parts.proofs.Loops.{same_parts, descriptors-unique}
 use Rattle.eit_codec.specs.declared.eit.EitHead.{EitHead}
 use Rattle.eit_codec.specs.declared.eit.Eit.{Eit}
 use Rattle.eit_codec.specs.Entries.{Entry, entry_bytes}

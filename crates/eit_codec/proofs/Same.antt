@@ -6,7 +6,7 @@ use Rattle.std.proofs.lemmas.Nat.{from_be_bytes-to_be_bytes_2}
 use Rattle.std.proofs.lemmas.List.{append-nil}
 use Rattle.si_base.specs.Fields.{two}
 use Rattle.guide_model.specs.declared.screen.ScreenEvent.{ScreenEvent}
-use Rattle.desc_event.proofs.Loops.{same_parts}
+use Rattle.desc_parts.proofs.Loops.{same_parts}
 use Rattle.eit_codec.specs.Entries.{Entry, entry_bytes, FitsEntry}
 use Rattle.eit_codec.specs.Eit.{IsEvent, AreEvents, AreEntries}
 

@@ -13,10 +13,10 @@ use Rattle.si_text.proofs.RoundTrip.{decoded-coded}
 use Rattle.guide_model.specs.declared.event.Event.{Event}
 use Rattle.guide_model.specs.declared.event.Genre.{Genre}
 use Rattle.guide_model.specs.declared.event.Rating.{Rating}
-use Rattle.desc_event.specs.declared.descriptors.RawDesc.{RawDesc}
+use Rattle.desc_parts.specs.declared.descriptors.RawDesc.{RawDesc}
 use Rattle.desc_event.specs.declared.short_event.ShortEvent.{ShortEvent}
 use Rattle.desc_event.specs.declared.extended_event.ExtendedPiece.{ExtendedPiece}
-use Rattle.desc_event.specs.Descriptors.{descriptor_bytes, AreDescriptors}
+use Rattle.desc_parts.specs.Descriptors.{descriptor_bytes, AreDescriptors}
 use Rattle.desc_event.specs.ShortEvent.{short_event_body, short_event_in}
 use Rattle.desc_event.specs.ExtendedEvent.{extended_event_body}
 use Rattle.desc_event.specs.Content.{content_body, content_in, HasNibbles}

@@ -8,8 +8,8 @@ use Rattle.si_text.specs.declared.shown.Shown.TheVariants.{Text}
 use Rattle.si_text.specs.Decoding.{IsKept}
 use Rattle.guide_model.specs.declared.event.Event.{Event}
 use Rattle.guide_model.specs.declared.screen.ScreenEvent.{ScreenEvent}
-use Rattle.desc_event.specs.declared.descriptors.RawDesc.{RawDesc}
-use Rattle.desc_event.specs.Descriptors.{AreDescriptors}
+use Rattle.desc_parts.specs.declared.descriptors.RawDesc.{RawDesc}
+use Rattle.desc_parts.specs.Descriptors.{AreDescriptors}
 use Rattle.desc_event.specs.EventDescriptors.{event_descriptors, entry_size, IsWithinLimits}
 use Rattle.desc_event.specs.ParentalRating.{HasThreeLetters}
 use Rattle.eit_codec.specs.declared.eit.EitHead.{EitHead}

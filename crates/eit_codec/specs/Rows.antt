@@ -8,7 +8,7 @@ use Rattle.si_time.specs.Moments.{moment_bcd, duration_bcd}
 use Rattle.si_time.specs.Readings.{moment_from_bcd, duration_from_bcd}
 use Rattle.guide_model.specs.declared.event.Event.{Event}
 use Rattle.guide_model.specs.declared.screen.ScreenEvent.{ScreenEvent}
-use Rattle.desc_event.specs.declared.descriptors.RawDesc.{RawDesc}
+use Rattle.desc_parts.specs.declared.descriptors.RawDesc.{RawDesc}
 use Rattle.eit_codec.specs.declared.eit.EitHead.{EitHead}
 use Rattle.eit_codec.specs.Entries.{Entry, entry_bytes}
 use Rattle.eit_codec.specs.Shows.{short_of, genres_of, rating_of, pieces_in, joined, event_of}

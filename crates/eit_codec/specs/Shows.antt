@@ -7,7 +7,7 @@ use Rattle.si_text.specs.declared.shown.Shown.TheVariants.{Text, Hex}
 use Rattle.guide_model.specs.declared.event.Genre.{Genre}
 use Rattle.guide_model.specs.declared.event.Rating.{Rating}
 use Rattle.guide_model.specs.declared.screen.ScreenEvent.{ScreenEvent}
-use Rattle.desc_event.specs.declared.descriptors.RawDesc.{RawDesc}
+use Rattle.desc_parts.specs.declared.descriptors.RawDesc.{RawDesc}
 use Rattle.desc_event.specs.declared.short_event.ShortEvent.{ShortEvent}
 use Rattle.desc_event.specs.declared.extended_event.ExtendedPiece.{ExtendedPiece}
 use Rattle.desc_event.specs.ShortEvent.{short_event_in}

@@ -3,7 +3,7 @@ use Rattle.std.proofs.lemmas.Bool.{eqb-true}
 use Rattle.std.proofs.lemmas.List.{append-nil}
 use Rattle.si_text.specs.Cutting.{pieces}
 use Rattle.desc_event.specs.EventDescriptors.{numbered}
-use Rattle.desc_event.specs.Descriptors.{descriptor}
+use Rattle.desc_parts.specs.Descriptors.{descriptor}
 use Rattle.desc_event.specs.ExtendedEvent.{extended_event_fields}
 use Rattle.desc_event.proofs.Pieces.{extended_size, length-extended_events, no_pieces, length-coded_text, numbered-next}
 use Rattle.desc_event.proofs.event_descriptors.put_extended_events.Goals as goal

@@ -1,11 +1,9 @@
-use Rattle.desc_event.proofs.Loops.{descriptors-unique}
 use Rattle.desc_event.proofs.Entries.{content-reads_back, parental_rating-reads_back}
 use Rattle.desc_event.proofs.Fields.{short_event-reads_back, extended_event-reads_back}
 use Rattle.desc_event.proofs.laws.written_descriptors_read_back.Goals as goal
 
 pub returns : goal.returns
 returns c = record {
-  unique = descriptors-unique;
   short_event = short_event-reads_back;
   extended_event = extended_event-reads_back;
   content = content-reads_back;

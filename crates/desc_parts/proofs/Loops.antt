@@ -2,18 +2,9 @@
 use Rattle.std.proofs.Common.{◌≡◌, ℕ, ◌+◌, ◌<◌, ◌≤◌, List, [], ◌∷◌, ◌++◌, length, get_or, refl, sym, ap, ◌∙◌, append_assoc, arith, length-append}
 use Rattle.std.specs.List.{flat_map}
 use Rattle.std.proofs.lemmas.List.{append-nil}
-use Rattle.desc_event.specs.declared.descriptors.RawDesc.{RawDesc}
-use Rattle.desc_event.specs.Descriptors.{descriptor_bytes, AreDescriptors, DescriptorsAreUnique}
-
--- fronts of one length are equal, and so is what stands behind them
-pub same_parts : (a b x y : List ℕ) → length a ≡ length b → a ++ x ≡ b ++ y → (a ≡ b) × (x ≡ y)
-same_parts [] [] x y n e = (refl, e)
-same_parts [] (d ∷ b) x y n e = absurd (omega arith)
-same_parts (c ∷ a) [] x y n e = absurd (omega arith)
-same_parts (c ∷ a) (d ∷ b) x y n e =
-    let head : c ≡ d = cc in
-    let behind = same_parts a b x y (omega arith) (cc) in
-    (cc (head, behind.0), behind.1)
+use Rattle.si_lists.proofs.Lists.{same_parts}
+use Rattle.desc_parts.specs.declared.descriptors.RawDesc.{RawDesc}
+use Rattle.desc_parts.specs.Descriptors.{descriptor_bytes, AreDescriptors, DescriptorsAreUnique}
 
 same_desc : (a b : RawDesc) → a.tag ≡ b.tag → a.body ≡ b.body → a ≡ b
 same_desc a b t e = ap (λ n. record { tag = n; body = a.body }) t ∙ ap (λ xs. record { tag = b.tag; body = xs }) e

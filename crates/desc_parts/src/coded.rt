@@ -1,7 +1,8 @@
 // The coded form of a text, without a copy of it.
-ghost use Rattle.std.specs.Prelude.{◌≡◌, ◌+◌, ◌≤◌, ◌++◌, length, vec_len, vec_capacity};
+ghost use Rattle.std.specs.Prelude.{◌≡◌, ◌+◌, ◌<◌, ◌≤◌, ◌++◌, length, vec_len, vec_capacity};
 ghost use Rattle.si_text.specs.Coding.{coded_text};
 ghost use Rattle.si_text.specs.Decoding.{shown_bytes};
+ghost use Rattle.desc_parts.specs.Lengths.{with_length};
 
 use crate::room::put;
 use si_text::{Shown, coded_len};
@@ -12,7 +13,7 @@ const UTF8: u8 = 0x15;
 
 /// The bytes of a coded text, which contracts see as their list.
 #[derive(Drop)]
-pub(crate) struct Coded<'a> {
+pub struct Coded<'a> {
     is_utf8: bool,
     bytes: &'a [u8],
 }
@@ -27,7 +28,7 @@ impl<'a> Model for Coded<'a> {
 
 impl<'a> Coded<'a> {
     /// The bytes that a text is coded as.
-    pub(crate) fn of_text(text: &'a str) -> Coded<'a>
+    pub fn of_text(text: &'a str) -> Coded<'a>
         ensures { result ≡ coded_text text.now }
     {
         Coded {
@@ -37,7 +38,7 @@ impl<'a> Coded<'a> {
     }
 
     /// These bytes, which are coded.
-    pub(crate) fn of_bytes(bytes: &'a [u8]) -> Coded<'a>
+    pub fn of_bytes(bytes: &'a [u8]) -> Coded<'a>
         ensures { result ≡ bytes.now }
     {
         Coded {
@@ -47,7 +48,7 @@ impl<'a> Coded<'a> {
     }
 
     /// The bytes of what is shown.
-    pub(crate) fn of_shown(shown: &'a Shown) -> Coded<'a>
+    pub fn of_shown(shown: &'a Shown) -> Coded<'a>
         ensures { result ≡ shown_bytes shown.now }
     {
         match shown {
@@ -57,7 +58,7 @@ impl<'a> Coded<'a> {
     }
 
     /// How many they are.
-    pub(crate) fn len(&self) -> usize
+    pub fn len(&self) -> usize
         ensures { result ≡ length self.now }
     {
         if self.is_utf8 {
@@ -68,7 +69,7 @@ impl<'a> Coded<'a> {
     }
 
     /// Appends them to a buffer that has room.
-    pub(crate) fn put(&self, out: &mut Vec<u8>)
+    pub fn put(&self, out: &mut Vec<u8>)
         requires room { vec_len out.old + length self.now ≤ vec_capacity out.old }
         ensures items { out.new.items ≡ out.old.items ++ self.now }
         ensures len { vec_len out.new ≡ vec_len out.old + length self.now }
@@ -78,5 +79,17 @@ impl<'a> Coded<'a> {
             put(out, &[UTF8]);
         }
         put(out, self.bytes);
+    }
+
+    /// Appends their length and them to a buffer that has room. They are at most 255.
+    pub fn put_with_length(&self, out: &mut Vec<u8>)
+        requires length { length self.now < 256 }
+        requires room { vec_len out.old + (1 + length self.now) ≤ vec_capacity out.old }
+        ensures items { out.new.items ≡ out.old.items ++ with_length self.now }
+        ensures len { vec_len out.new ≡ vec_len out.old + (1 + length self.now) }
+        ensures capacity { vec_capacity out.old ≤ vec_capacity out.new }
+    {
+        put(out, &[self.len() as u8]);
+        self.put(out);
     }
 }

@@ -1,7 +1,7 @@
 use Rattle.std.proofs.Common.{◌≡◌, ◌<◌, ◌++◌, length}
 use Rattle.std.specs.List.{flat_map, AllByRecursion}
-use Rattle.desc_event.specs.Descriptors.{descriptor_bytes}
-use Rattle.desc_event.proofs.descriptors.read_descriptors.Given as goal
+use Rattle.desc_parts.specs.Descriptors.{descriptor_bytes}
+use Rattle.desc_parts.proofs.descriptors.read_descriptors.Given as goal
 
 abbrev pub invariant-loop-rest : goal.invariant-loop-rest
 invariant-loop-rest l = record {

@@ -1,11 +1,8 @@
 -- Descriptors, one after the other (ISO/IEC 13818-1, 2.6; EN 300 468, 6.1).
 use Rattle.std.specs.Prelude.{◌≡◌, ℕ, ◌<◌, List, ◌∷◌, length}
 use Rattle.std.specs.List.{flat_map, AllByRecursion}
-use Rattle.desc_event.specs.declared.descriptors.RawDesc.{RawDesc}
-
--- a length of 8 bits, and so many bytes
-abbrev pub with_length : List ℕ → List ℕ
-with_length bytes = length bytes ∷ bytes
+use Rattle.desc_parts.specs.Lengths.{with_length}
+use Rattle.desc_parts.specs.declared.descriptors.RawDesc.{RawDesc}
 
 -- a descriptor as it is written: descriptor_tag 8, descriptor_length 8, body
 abbrev pub descriptor : ℕ → List ℕ → List ℕ

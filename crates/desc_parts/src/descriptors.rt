@@ -1,6 +1,6 @@
 // Descriptors, one after the other.
 ghost use Rattle.std.specs.Prelude.{◌≡◌, List, IfOk, IfSome, IfNone};
-ghost use Rattle.desc_event.specs.Descriptors.{AreDescriptors};
+ghost use Rattle.desc_parts.specs.Descriptors.{AreDescriptors};
 
 use si_base::{Bytes, Items};
 use std::alloc::{AllocError, Global};

@@ -1,8 +1,8 @@
 use Rattle.std.proofs.Common.{arith, sym, length-drop}
 use Rattle.std.proofs.lemmas.Bool.{eqb-false}
 use Rattle.std.proofs.lemmas.List.{length-take}
-use Rattle.desc_event.proofs.Loops.{past_end, left_over}
-use Rattle.desc_event.proofs.descriptors.read_descriptors.Goals as goal
+use Rattle.desc_parts.proofs.Loops.{past_end, left_over}
+use Rattle.desc_parts.proofs.descriptors.read_descriptors.Goals as goal
 
 pub returns-then-behind-len-clause-none : goal.returns-then-behind-len-clause-none
 returns-then-behind-len-clause-none c descs p =

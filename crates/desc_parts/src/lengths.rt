@@ -1,0 +1,19 @@
+// Bytes behind their length.
+ghost use Rattle.std.specs.Prelude.{◌≡◌, Some, None, IfSome, IfNone};
+ghost use Rattle.desc_parts.specs.Lengths.{split_length};
+
+/// The bytes behind a length of 8 bits, and those that follow them, or `None` exactly where the length is missing or runs past the
+/// end.
+pub fn split_length(bytes: &[u8]) -> Option<(&[u8], &[u8])>
+    ensures some { IfSome result (λ parts. split_length bytes.now ≡ Some (parts.0.now, parts.1.now)) }
+    ensures none { IfNone result (split_length bytes.now ≡ None) }
+{
+    let [length, behind @ ..] = bytes else {
+        return None;
+    };
+    let length = *length as usize;
+    if behind.len() < length {
+        return None;
+    }
+    Some(behind.split_at(length))
+}

@@ -1,0 +1,19 @@
+//! What the descriptors of all tables are made of (EN 300 468, 6.1): descriptors one after the other, bytes behind a length of 8 bits,
+//! both ways, and the coded bytes of a text.
+//!
+//! The layers above use: [`read_descriptors`] gives the descriptors of a loop, of which there is one list at most
+//! (`descriptors_are_unique`); [`Coded`] writes a text, alone or behind its length, into room that was taken before, and
+//! [`split_length`] reads what stands behind a length back (`lengths_read_back`).
+#![tactic(auto)]
+
+mod coded;
+mod descriptors;
+mod laws;
+mod lengths;
+mod room;
+
+pub use coded::Coded;
+pub use descriptors::{RawDesc, RawDescs, read_descriptors};
+pub use laws::{descriptors_are_unique, lengths_read_back};
+pub use lengths::split_length;
+pub use room::put;
