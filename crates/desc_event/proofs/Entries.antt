@@ -2,22 +2,11 @@
 use Rattle.std.proofs.Common.{◌≡◌, ℕ, ◌+◌, ◌*◌, ◌/◌, ◌%◌, List, [], ◌∷◌, ◌++◌, length, Option, Some, None, refl, sym, ap, subst, ◌∙◌, append_assoc, arith, length-append}
 use Rattle.std.specs.Option.{option_map}
 use Rattle.std.specs.List.{AllByRecursion}
+use Rattle.si_lists.proofs.Lists.{behind, three_of}
 use Rattle.guide_model.specs.declared.event.Genre.{Genre}
 use Rattle.guide_model.specs.declared.event.Rating.{Rating}
 use Rattle.desc_event.specs.Content.{content_body, genre_of, ContentReadsBack}
 use Rattle.desc_event.specs.ParentalRating.{parental_rating_body, rating_of, parental_rating_in, HasThreeLetters, ParentalRatingReadsBack}
-
--- entries that were read stand before those still to be read
-abbrev pub behind : {A : Type 0} → List A → Option (List A) → Option (List A)
-behind front read = option_map (λ more. front ++ more) read
-
-pub behind-next : {A : Type 0} (front : List A) (x : A) (read : Option (List A)) → behind front (option_map (λ xs. x ∷ xs) read) ≡ behind (front ++ x ∷ []) read
-behind-next front x None = refl
-behind-next front x (Some xs) = ap (λ ys. Some ys) (sym (append_assoc front (x ∷ []) xs))
-
-pub behind-none : {A : Type 0} (read : Option (List A)) → behind [] read ≡ read
-behind-none None = refl
-behind-none (Some xs) = refl
 
 -- ---- content
 
@@ -35,13 +24,6 @@ content-reads_back (g ∷ genres) fit =
     ∙ ap (λ (n : ℕ). Some (record { level1 = g.level1; level2 = n; user = g.user } ∷ genres)) low
 
 -- ---- parental_rating
-
-pub three_of : (xs : List ℕ) → length xs ≡ 3 → (a : ℕ) × (b : ℕ) × (c : ℕ) × (xs ≡ a ∷ b ∷ c ∷ [])
-three_of [] e = absurd (omega arith)
-three_of (a ∷ []) e = absurd (omega arith)
-three_of (a ∷ b ∷ []) e = absurd (omega arith)
-three_of (a ∷ b ∷ c ∷ []) e = (a, b, c, refl)
-three_of (a ∷ b ∷ c ∷ d ∷ xs) e = absurd (omega arith)
 
 pub length-parental_rating_body : (ratings : List Rating) → AllByRecursion HasThreeLetters ratings → length (parental_rating_body ratings) ≡ 4 * length ratings
 length-parental_rating_body [] three = refl

@@ -3,13 +3,13 @@ use Rattle.std.proofs.Common.{◌≡◌, ℕ, ◌+◌, ◌*◌, ◌/◌, ◌%◌
 use Rattle.std.specs.Prelude.{slice_index}
 use Rattle.std.proofs.lemmas.List.{get_or-append-add}
 use Rattle.std.proofs.Math.Seq.{take-append_seam, drop-append-add}
+use Rattle.si_lists.proofs.Lists.{three_of}
 use Rattle.si_text.specs.Decoding.{decoded, shown_bytes}
 use Rattle.si_text.specs.declared.shown.Shown.{Shown}
 use Rattle.desc_event.specs.declared.short_event.ShortEvent.{ShortEvent}
 use Rattle.desc_event.specs.declared.extended_event.ExtendedPiece.{ExtendedPiece}
 use Rattle.desc_event.specs.ShortEvent as short
 use Rattle.desc_event.specs.ExtendedEvent as extended
-use Rattle.desc_event.proofs.Entries.{three_of}
 
 -- ---- short_event
 

@@ -1,10 +1,11 @@
 -- A body is of one head and one list of events at most.
 use Rattle.std.proofs.Common.{◌≡◌, ℕ, List, [], ◌∷◌, ◌++◌, refl, sym, ap, subst, ◌∙◌, append_assoc}
 use Rattle.std.specs.List.{flat_map}
+use Rattle.si_lists.proofs.Lists.{same_parts}
 use Rattle.si_base.specs.Fields.{two}
 use Rattle.guide_model.specs.declared.screen.ScreenEvent.{ScreenEvent}
 use Rattle.desc_parts.specs.declared.descriptors.RawDesc.{RawDesc}
-use Rattle.desc_parts.proofs.Loops.{same_parts, descriptors-unique}
+use Rattle.desc_parts.proofs.Loops.{descriptors-unique}
 use Rattle.eit_codec.specs.declared.eit.EitHead.{EitHead}
 use Rattle.eit_codec.specs.declared.eit.Eit.{Eit}
 use Rattle.eit_codec.specs.Entries.{Entry, entry_bytes}

@@ -4,9 +4,9 @@ use Rattle.std.specs.Int.{from_be_bytes, w16}
 use Rattle.std.specs.List.{flat_map}
 use Rattle.std.proofs.lemmas.Nat.{from_be_bytes-to_be_bytes_2}
 use Rattle.std.proofs.lemmas.List.{append-nil}
+use Rattle.si_lists.proofs.Lists.{same_parts}
 use Rattle.si_base.specs.Fields.{two}
 use Rattle.guide_model.specs.declared.screen.ScreenEvent.{ScreenEvent}
-use Rattle.desc_parts.proofs.Loops.{same_parts}
 use Rattle.eit_codec.specs.Entries.{Entry, entry_bytes, FitsEntry}
 use Rattle.eit_codec.specs.Eit.{IsEvent, AreEvents, AreEntries}
 

@@ -184,7 +184,7 @@ back_from (Withdraw service event) rows more tail h k e = ap (λ (a : Ahead). le
 back_from (Clear service) rows more tail h k e = ap (λ (a : Ahead). let r : Found Edit = Came (Clear service) a in r) (no_rows rows more tail e)
 back_from (Name service provider name) rows more tail h k e = ap (λ (a : Ahead). let r : Found Edit = Came (Name service provider name) a in r) (no_rows rows more tail e)
 back_from (Day service date items) rows more tail h k e =
-    ap (λ (r : Found (List Item)). and_then r (λ l rest. Came (Day service date l) rest)) (items_back items rows more tail (recursion_from_All items h.items) k.1 e)
+    ap (λ (r : Found (List Item)). and_then r (λ l rest. Came (Day service date l) rest)) (items_back items rows more tail (recursion_from_All IsShapedItem items h.items) k.1 e)
 
 pub edits_read_back : EditsReadBack
 edits_read_back edit h k at rows more tail e =

@@ -5,7 +5,7 @@ use Rattle.std.proofs.lemmas.Bool.Decides.{nat_tests, leb_tells}
 use Rattle.std.specs.Io.KnownBytes.{IsAtEnd, prepend_known}
 use Rattle.si_causes.proofs.TextFacts.{nothing_left}
 use Rattle.si_lists.proofs.Truths.{second_true}
-use Rattle.packet_reader.specs.Recordings.{is_packet, and_packet, packets_in}
+use Rattle.packet_reader.specs.Recordings.{is_packet, and_packet, packets_in, RecordingEnd.Broken, RecordingEnd.PastLimit}
 use Rattle.packet_reader.specs.Reading.{Gathers}
 
 false-true : false ≡ true → ⊥

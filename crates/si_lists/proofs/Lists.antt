@@ -1,7 +1,7 @@
 -- Lists, and what holds of each of their elements.
-use Rattle.std.proofs.Common.{◌≡◌, ◌∙◌, ◌+◌, ◌-◌, ◌≤◌, ◌++◌, ℕ, List, [], ◌∷◌, refl, sym, ap, arith}
+use Rattle.std.proofs.Common.{◌≡◌, ◌∙◌, ◌+◌, ◌-◌, ◌≤◌, ◌++◌, ℕ, List, [], ◌∷◌, Option, Some, None, refl, sym, ap, append_assoc, arith}
 use Rattle.std.specs.List.{AllByRecursion}
-use Rattle.std.specs.Prelude.{length, take, drop, slice_range}
+use Rattle.std.specs.Prelude.{length, take, drop, slice_range, option_map}
 use Rattle.std.proofs.lemmas.List.{drop-take, drop-drop, length-take, length-drop}
 
 pub all_push : {X : Type 0} (P : X → Type 0) (xs : List X) (x : X) → AllByRecursion P xs → P x → AllByRecursion P (xs ++ x ∷ [])
@@ -34,3 +34,22 @@ range_drop xs start count end le =
 
 pub range_length : (xs : List ℕ) (start end : ℕ) → end ≤ length xs → length (slice_range xs start end) ≡ end - start
 range_length xs start end le = simp (length-take, length-drop) (omega arith)
+
+pub three_of : (xs : List ℕ) → length xs ≡ 3 → (a : ℕ) × (b : ℕ) × (c : ℕ) × (xs ≡ a ∷ b ∷ c ∷ [])
+three_of [] e = absurd (omega arith)
+three_of (a ∷ []) e = absurd (omega arith)
+three_of (a ∷ b ∷ []) e = absurd (omega arith)
+three_of (a ∷ b ∷ c ∷ []) e = (a, b, c, refl)
+three_of (a ∷ b ∷ c ∷ d ∷ xs) e = absurd (omega arith)
+
+-- what was read stands before what is still to be read
+abbrev pub behind : {A : Type 0} → List A → Option (List A) → Option (List A)
+behind front read = option_map (λ more. front ++ more) read
+
+pub behind-next : {A : Type 0} (front : List A) (x : A) (read : Option (List A)) → behind front (option_map (λ xs. x ∷ xs) read) ≡ behind (front ++ x ∷ []) read
+behind-next front x None = refl
+behind-next front x (Some xs) = ap (λ ys. Some ys) (sym (append_assoc front (x ∷ []) xs))
+
+pub behind-none : {A : Type 0} (read : Option (List A)) → behind [] read ≡ read
+behind-none None = refl
+behind-none (Some xs) = refl

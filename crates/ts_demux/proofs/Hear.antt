@@ -6,7 +6,7 @@ use Rattle.std.proofs.lemmas.List.{take-append-le}
 use Rattle.std.specs.Prelude.{bytes_eq}
 use Rattle.std.proofs.lemmas.Bool.{and_parts, and_from}
 use Rattle.ts_demux.specs.Hearing.{size_in, is_whole, begun, heard}
-use Rattle.ts_demux.specs.Arrivals.{Arrival, without_repeats, before_stretches, stretches, heard_of}
+use Rattle.ts_demux.specs.Arrivals.{Arrival, without_repeats, before_stretches, stretches, heard_of, Arrival.Came}
 use Rattle.ts_packets.specs.Counting.{Load, Count}
 use Rattle.ts_demux.proofs.Deciding.{and_no, le_told, le_yes}
 use Rattle.ts_demux.proofs.Heard.{size_in-append}

@@ -5,7 +5,7 @@ use Rattle.std.specs.Cmp.Lexicographic.{same_text}
 use Rattle.std.proofs.lemmas.Bool.{and_parts, eqb-true}
 use Rattle.ts_packets.specs.Packets.{Piece}
 use Rattle.ts_packets.specs.Counting.{Load}
-use Rattle.ts_demux.specs.Arrivals.{Arrival, is_repeat, without_repeats}
+use Rattle.ts_demux.specs.Arrivals.{Arrival, is_repeat, without_repeats, Arrival.Gap, Arrival.Came}
 use Rattle.ts_demux.specs.Keeping.{Seen, seen, Kept, nothing, seen_in, last_load, is_one_stretch, pieces_of, last_stretch, open_section, Keeps}
 use Rattle.ts_demux.specs.Steps.{is_again, is_next, still_open, open_behind, kept_after, kept_behind}
 use Rattle.ts_demux.proofs.Open.{open_section-push}

@@ -7,7 +7,7 @@ use Rattle.std.proofs.lemmas.Bool.{eqb-true}
 use Rattle.ts_packets.specs.declared.shape.Shape.TheVariants as shape
 use Rattle.ts_packets.specs.declared.shape.BadPacket.TheVariants.{Sync}
 use Rattle.ts_packets.specs.Bytes.{pid_in, shape_in, transport_error_indicator, transport_scrambling_control, adaptation_field_control, adaptation_field_length, payload_unit_start_indicator, continuity_counter}
-use Rattle.ts_demux.specs.Arrivals.{Arrival, load_in, arrival_by, arrival_on, arrivals_on}
+use Rattle.ts_demux.specs.Arrivals.{Arrival, load_in, arrival_by, arrival_on, arrivals_on, Arrival.Gap, Arrival.Came}
 use Rattle.ts_demux.specs.Sections.{on_pid, ended_by}
 use Rattle.ts_demux.specs.Keeping.{Kept, nothing, kept_on, Stands}
 use Rattle.ts_demux.specs.Steps.{given_after, kept_after, kept_behind}

@@ -9,7 +9,7 @@ use Rattle.ts_packets.specs.Bytes.{Packet, HasFields, bytes_of_packet}
 use Rattle.ts_packets.specs.Counting.{Load, load_on, loads_on, of_pid, Count}
 use Rattle.ts_packets.proofs.Headers.{reads-written, pid_in-bytes}
 use Rattle.ts_demux.specs.Hearing.{heard, IsSection}
-use Rattle.ts_demux.specs.Arrivals.{Arrival, arrival_by, arrival_on, arrivals_on, heard_of}
+use Rattle.ts_demux.specs.Arrivals.{Arrival, arrival_by, arrival_on, arrivals_on, heard_of, Arrival.Came}
 use Rattle.ts_demux.specs.Sections.{sections_on}
 use Rattle.ts_demux.specs.Laws.{ended, GoOn, PartGoesOn, PartIsHeard, CarriedIsHeard}
 use Rattle.ts_demux.proofs.Hear.{heard_of-counting}

@@ -1,6 +1,6 @@
 use Rattle.std.proofs.Common.{◌≡◌, length}
+use Rattle.si_lists.proofs.Lists.{behind}
 use Rattle.desc_event.specs.Content.{content_in}
-use Rattle.desc_event.proofs.Entries.{behind}
 use Rattle.desc_event.proofs.content.read_content.Given as goal
 
 abbrev pub invariant-loop-rest : goal.invariant-loop-rest

@@ -1,6 +1,6 @@
 use Rattle.std.proofs.Common.{◌≡◌, length}
+use Rattle.si_lists.proofs.Lists.{behind}
 use Rattle.desc_event.specs.ParentalRating.{parental_rating_in}
-use Rattle.desc_event.proofs.Entries.{behind}
 use Rattle.desc_event.proofs.parental_rating.read_parental_rating.Given as goal
 
 abbrev pub invariant-loop-rest : goal.invariant-loop-rest
