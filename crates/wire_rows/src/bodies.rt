@@ -4,9 +4,9 @@ ghost use Rattle.std.specs.List.{All};
 ghost use Rattle.eit_codec.specs.Eit.{IsCodable};
 
 use crate::events::{event, is_codable, put_event};
-use crate::line::{MOST, Row};
 use eit_codec::{Eit, EitHead, read_eit, write_eit};
 use guide_model::Event;
+use row_lines::{MOST, Row};
 use si_base::{Bytes, Items};
 
 /// `write_eit HEAD / EVENT / EVENT ..`: the body.

@@ -1,5 +1,5 @@
 // Completions of lists of sections.
-use crate::line::{MOST, Row};
+use row_lines::{MOST, Row};
 use section_codec::{Key, LongHeader};
 use si_base::{Bytes, Items};
 use std::alloc::{AllocError, Global};

@@ -1,11 +1,11 @@
 // Descriptors both ways.
-use crate::events::{code, event, genres, have_nibbles, is_codable, rating, text};
-use crate::line::Row;
+use crate::events::{event, genres, have_nibbles, is_codable, rating};
 use desc_event::{
     ExtendedPiece, RawDesc, ShortEvent, event_len, read_descriptors, write_content,
     write_event_descriptors, write_extended_event, write_parental_rating, write_short_event,
 };
 use guide_model::Event;
+use row_lines::{Row, code, text};
 use si_base::Items;
 use si_text::Shown;
 

@@ -4,12 +4,11 @@ ghost use Rattle.std.specs.List.{All};
 ghost use Rattle.desc_event.specs.Content.{HasNibbles};
 ghost use Rattle.eit_codec.specs.Eit.{IsCodable};
 
-use crate::line::{MOST, Row, quoted, repeated};
 use guide_model::{Event, Genre, Genres, Rating, ScreenEvent};
+use row_lines::{MOST, Row, code, code_in, put_code, put_letters, put_shown, text};
 use si_base::Items;
 use si_text::{Shown, Txt, coded_len};
 use si_time::{Moment, read_duration, read_moment, write_duration, write_moment};
-use std::alloc::{AllocError, Global};
 
 /// An event: its id, start, duration and language, its name and its short and extended text, its rating or `-`, and its genres or
 /// `-`, with bars between.
@@ -83,56 +82,10 @@ fn duration(row: &mut Row) -> u32 {
     }
 }
 
-/// A code of three letters.
-pub fn code(row: &mut Row) -> [u8; 3] {
-    let word = row.word();
-    code_in(row, word)
-}
-
-fn code_in(row: &mut Row, word: &str) -> [u8; 3] {
-    match word.as_bytes() {
-        [a, b, c] => [*a, *b, *c],
-        _ => {
-            row.refuse();
-            [0; 3]
-        }
-    }
-}
-
 fn text_and_bar(row: &mut Row) -> Option<Txt> {
     let text = text(row);
     row.pass("|");
     text
-}
-
-/// A text in quotes without blanks; behind a star stands how often it comes.
-pub fn text(row: &mut Row) -> Option<Txt> {
-    let word = row.word();
-    match text_in(row.alloc(), word) {
-        Ok(Some(text)) => Some(text),
-        Ok(None) => {
-            row.refuse();
-            None
-        }
-        Err(_) => {
-            row.lack_memory();
-            None
-        }
-    }
-}
-
-fn text_in(alloc: Global, word: &str) -> Result<Option<Txt>, AllocError> {
-    let Some((unit, count)) = repeated(word) else {
-        return Ok(None);
-    };
-    let Some(unit) = quoted(unit) else {
-        return Ok(None);
-    };
-    let mut text = String::new(alloc);
-    for _ in 0..count {
-        text.push_str(unit)?;
-    }
-    Txt::of(alloc, text.as_str())
 }
 
 /// A rating, as `GBR 5`, or `-`.
@@ -236,30 +189,6 @@ fn put_times(row: &mut Row, start: Moment, seconds: u32) {
     row.put(" |");
     put_letters(row, &write_duration(seconds));
     row.put(" |");
-}
-
-fn put_letters(row: &mut Row, letters: &[u8]) {
-    row.put(" ");
-    for letter in letters {
-        row.put_char(char::from(*letter));
-    }
-}
-
-/// Appends a code of three letters.
-pub fn put_code(row: &mut Row, code: &[u8; 3]) {
-    put_letters(row, code);
-}
-
-/// Appends a text in quotes, or all its bytes where it is not shown as text.
-pub fn put_shown(row: &mut Row, shown: &Shown) {
-    match shown {
-        Shown::Text(text) => {
-            row.put(" \"");
-            row.put(text.as_str());
-            row.put("\"");
-        }
-        Shown::Hex(bytes) => row.put_bytes(bytes.as_slice()),
-    }
 }
 
 /// Appends genres, or `-` where there is none.

@@ -10,14 +10,13 @@ mod completions;
 mod descriptors;
 mod events;
 mod hearing;
-mod line;
 mod packets;
 mod playing;
 mod readings;
 mod sections;
 mod versions;
 
-use line::Row;
+use row_lines::Row;
 use std::alloc::{AllocError, Global};
 use std::io;
 

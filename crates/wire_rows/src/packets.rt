@@ -1,5 +1,5 @@
 // Packets: a section cut into them, and what a packet is.
-use crate::line::Row;
+use row_lines::Row;
 use ts_packets::{BadPacket, Counters, Shape, packet, packets_of, read_packet};
 
 /// `packets_of LENGTH`: how many packets a section of so many bytes has.

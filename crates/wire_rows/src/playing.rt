@@ -2,8 +2,8 @@
 ghost use Rattle.std.specs.Prelude.{◌≤◌, length, IfOk};
 ghost use Rattle.air_model.specs.Fit.{AreFit};
 
-use crate::line::{MOST, Row};
 use carousel_player::Player;
+use row_lines::{MOST, Row};
 use section_codec::{Key, NumberedBody, SubTable, Tables, Tier3};
 use si_base::Items;
 use si_causes::MemSink;

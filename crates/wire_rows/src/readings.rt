@@ -1,11 +1,11 @@
 // What bytes of descriptors and bodies are read as.
 use crate::bodies;
-use crate::events::{put_code, put_genres, put_ratings, put_shown};
-use crate::line::Row;
+use crate::events::{put_genres, put_ratings};
 use desc_event::{
     ExtendedPiece, RawDesc, ShortEvent, read_content, read_descriptors, read_extended_event,
     read_parental_rating, read_short_event,
 };
+use row_lines::{Row, put_code, put_shown};
 use std::alloc::Global;
 
 /// Appends what the bytes are read as by this call.

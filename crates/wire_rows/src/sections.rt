@@ -3,7 +3,7 @@ ghost use Rattle.std.specs.Prelude.{◌≡◌};
 ghost use Rattle.section_codec.specs.Section.{longest_body};
 ghost use Rattle.section_codec.specs.Tables.{has_long_form};
 
-use crate::line::Row;
+use row_lines::Row;
 use section_codec::{
     BadSection, Key, LongHeader, Section, eit_numbers, key_of, read_section, write_long,
     write_short,

@@ -2,7 +2,7 @@
 ghost use Rattle.std.specs.Prelude.{◌≡◌, IfOk};
 ghost use Rattle.version_book.specs.Book.{KeysDiffer};
 
-use crate::line::{MOST, Row};
+use row_lines::{MOST, Row};
 use section_codec::{Key, NumberedBody, SubTable, Tables, Tier3};
 use si_base::Items;
 use std::alloc::{AllocError, Global};

@@ -1,0 +1,217 @@
+// The descriptors of networks, streams, services and components, both ways.
+ghost use Rattle.std.specs.Prelude.{IsTrue};
+ghost use Rattle.desc_service.specs.CableDelivery.{FitsCable};
+
+use desc_service::{
+    ServiceKind, ServiceText, read_cable_delivery_system, read_iso_639_language, read_network_name,
+    read_service, read_service_list, write_cable_delivery_system, write_iso_639_language,
+    write_network_name, write_service, write_service_list,
+};
+use guide_model::Cable;
+use row_lines::{MOST, Row, code_in, put_code, put_shown, text};
+use si_text::Shown;
+use std::alloc::AllocError;
+
+// What was written, or want of memory.
+fn put_written(row: &mut Row, done: Result<(), AllocError>, out: &[u8]) {
+    match done {
+        Ok(()) => row.put_bytes(out),
+        Err(_) => row.lack_memory(),
+    }
+}
+
+/// `write_iso_639_language CODE ..`.
+pub fn write_languages(row: &mut Row) {
+    let mut languages = Vec::new(row.alloc());
+    for _ in 0..MOST {
+        let word = row.word();
+        if row.is_end(word) {
+            break;
+        }
+        if languages.push(code_in(row, word)).is_err() {
+            return row.lack_memory();
+        }
+    }
+    if languages.len() > 63 {
+        return row.refuse();
+    }
+    let mut out = Vec::new(row.alloc());
+    let done = write_iso_639_language(&languages, &mut out);
+    put_written(row, done, &out);
+}
+
+/// `read_iso_639_language BYTES`.
+pub fn read_languages(row: &mut Row) {
+    let body = row.bytes();
+    match read_iso_639_language(row.alloc(), &body) {
+        Ok(Some(languages)) => {
+            for language in languages.as_slice() {
+                put_code(row, language);
+            }
+            row.put(";");
+        }
+        Ok(None) => row.put(" none"),
+        Err(_) => row.lack_memory(),
+    }
+}
+
+/// `write_network_name TEXT`.
+pub fn write_name(row: &mut Row) {
+    let Some(name) = text(row) else {
+        return;
+    };
+    let name = Shown::Text(name);
+    if name.coded_len() > 255 {
+        return row.refuse();
+    }
+    let mut out = Vec::new(row.alloc());
+    let done = write_network_name(&name, &mut out);
+    put_written(row, done, &out);
+}
+
+/// `read_network_name BYTES`.
+pub fn read_name(row: &mut Row) {
+    let body = row.bytes();
+    match read_network_name(row.alloc(), &body) {
+        Ok(Some(name)) => put_shown(row, &name),
+        Ok(None) => row.put(" none"),
+        Err(_) => row.lack_memory(),
+    }
+}
+
+// A service and its type, as `101:1`.
+fn kind_in(row: &mut Row, word: &str) -> ServiceKind {
+    let (service, kind) = word.split_once(':').unwrap_or((word, ""));
+    match (service.parse::<u16>(), kind.parse::<u8>()) {
+        (Ok(service), Ok(kind)) => ServiceKind { service, kind },
+        _ => {
+            row.refuse();
+            ServiceKind {
+                service: 0,
+                kind: 0,
+            }
+        }
+    }
+}
+
+/// `write_service_list SERVICE:TYPE ..`.
+pub fn write_list(row: &mut Row) {
+    let mut services = Vec::new(row.alloc());
+    for _ in 0..MOST {
+        let word = row.word();
+        if row.is_end(word) {
+            break;
+        }
+        if services.push(kind_in(row, word)).is_err() {
+            return row.lack_memory();
+        }
+    }
+    if services.len() > 85 {
+        return row.refuse();
+    }
+    let mut out = Vec::new(row.alloc());
+    let done = write_service_list(&services, &mut out);
+    put_written(row, done, &out);
+}
+
+/// `read_service_list BYTES`.
+pub fn read_list(row: &mut Row) {
+    let body = row.bytes();
+    match read_service_list(row.alloc(), &body) {
+        Ok(Some(services)) => {
+            for service in services.as_slice() {
+                row.put_number(" ", u64::from(service.service));
+                row.put_number(":", u64::from(service.kind));
+            }
+            row.put(";");
+        }
+        Ok(None) => row.put(" none"),
+        Err(_) => row.lack_memory(),
+    }
+}
+
+// Whether the digits and the halves of bytes fit.
+fn fits(cable: &Cable) -> bool
+    ensures { IsTrue result → FitsCable cable.now }
+{
+    cable.frequency < 100_000_000
+        && cable.symbol_rate < 10_000_000
+        && cable.fec_outer < 16
+        && cable.fec_inner < 16
+}
+
+/// `write_cable_delivery_system FREQUENCY MODULATION SYMBOL_RATE OUTER INNER`.
+pub fn write_cable(row: &mut Row) {
+    let cable = Cable {
+        frequency: (row.number() % 4_294_967_296) as u32,
+        modulation: (row.number() % 256) as u8,
+        symbol_rate: (row.number() % 4_294_967_296) as u32,
+        fec_outer: (row.number() % 256) as u8,
+        fec_inner: (row.number() % 256) as u8,
+    };
+    if !fits(&cable) {
+        return row.refuse();
+    }
+    let mut out = Vec::new(row.alloc());
+    let done = write_cable_delivery_system(&cable, &mut out);
+    put_written(row, done, &out);
+}
+
+/// `read_cable_delivery_system BYTES`.
+pub fn read_cable(row: &mut Row) {
+    let body = row.bytes();
+    match read_cable_delivery_system(&body) {
+        Ok(Some(cable)) => {
+            row.put_number(" ", u64::from(cable.frequency));
+            row.put_number(" ", u64::from(cable.modulation));
+            row.put_number(" ", u64::from(cable.symbol_rate));
+            row.put_number(" ", u64::from(cable.fec_outer));
+            row.put_number(" ", u64::from(cable.fec_inner));
+        }
+        Ok(None) => row.put(" none"),
+        Err(_) => row.lack_memory(),
+    }
+}
+
+/// `write_service TYPE | PROVIDER | NAME`.
+pub fn write_text(row: &mut Row) {
+    let word = row.word();
+    let kind = row.small_in(word);
+    row.pass("|");
+    let provider = text(row);
+    row.pass("|");
+    if let (Some(provider), Some(name)) = (provider, text(row)) {
+        let service = ServiceText {
+            kind,
+            provider: Shown::Text(provider),
+            name: Shown::Text(name),
+        };
+        put_text(row, &service);
+    }
+}
+
+fn put_text(row: &mut Row, service: &ServiceText) {
+    let provider = service.provider.coded_len();
+    if provider > 252 || service.name.coded_len() > 252 - provider {
+        return row.refuse();
+    }
+    let mut out = Vec::new(row.alloc());
+    let done = write_service(service, &mut out);
+    put_written(row, done, &out);
+}
+
+/// `read_service BYTES`.
+pub fn read_text(row: &mut Row) {
+    let body = row.bytes();
+    match read_service(row.alloc(), &body) {
+        Ok(Some(service)) => {
+            row.put_number(" ", u64::from(service.kind));
+            row.put(" |");
+            put_shown(row, &service.provider);
+            row.put(" |");
+            put_shown(row, &service.name);
+        }
+        Ok(None) => row.put(" none"),
+        Err(_) => row.lack_memory(),
+    }
+}

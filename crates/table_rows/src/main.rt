@@ -1,0 +1,47 @@
+//! The rows of tables beside the events: reads rows of text on its standard input, and prints each with what its call gives. A blank
+//! line and a line that begins with `#` are printed as they are.
+//!
+//! `stdin` has the rows, and its head says how they are written; `stdout` has what they give, which stands there from the standards
+//! and not from this program.
+#![tactic(auto)]
+
+mod descriptors;
+
+use row_lines::Row;
+use std::alloc::{AllocError, Global};
+use std::io;
+
+// Answers a row.
+fn answer(row: &mut Row) {
+    match row.word() {
+        "write_iso_639_language" => descriptors::write_languages(row),
+        "read_iso_639_language" => descriptors::read_languages(row),
+        "write_network_name" => descriptors::write_name(row),
+        "read_network_name" => descriptors::read_name(row),
+        "write_service_list" => descriptors::write_list(row),
+        "read_service_list" => descriptors::read_list(row),
+        "write_cable_delivery_system" => descriptors::write_cable(row),
+        "read_cable_delivery_system" => descriptors::read_cable(row),
+        "write_service" => descriptors::write_text(row),
+        "read_service" => descriptors::read_text(row),
+        _ => row.refuse(),
+    }
+}
+
+// A line as it is printed.
+fn told(alloc: Global, line: &str) -> Result<String, AllocError> {
+    if line.is_empty() || line.starts_with('#') {
+        return String::from_str(alloc, line);
+    }
+    let mut row = Row::open(alloc, line);
+    answer(&mut row);
+    row.finish(line)
+}
+
+fn main(rt: HostRuntime) -> io::Result<()> {
+    for line in rt.lines(rt.alloc()) {
+        let text = told(rt.alloc(), line?.as_str())?;
+        println!(rt; "{text}")?;
+    }
+    Ok(())
+}
