@@ -11,7 +11,8 @@ use Rattle.eit_codec.specs.declared.eit.Eit.{Eit}
 use Rattle.eit_codec.specs.Entries.{Entry, entry_bytes}
 use Rattle.eit_codec.specs.Shows.{event_of}
 use Rattle.eit_codec.specs.Eit.{head_bytes, IsEvent, AreEvents, AreEntries, FitsHead, IsEit, EitIsUnique}
-use Rattle.eit_codec.proofs.Same.{same_two, same_entry, not_nothing}
+use Rattle.table_entries.proofs.Same.{same_two}
+use Rattle.eit_codec.proofs.Same.{same_entry, not_nothing}
 
 pub no_entries : (body behind : List ℕ) (head : EitHead) (eit : Eit) → body ≡ head_bytes head ++ behind → ((events : List ScreenEvent) → AreEntries behind events → ⊥) → IsEit body eit → ⊥
 no_entries body behind head eit e none p =

@@ -1,20 +1,13 @@
 -- Bytes are the entries of one list of events at most.
 use Rattle.std.proofs.Common.{◌≡◌, ℕ, ◌+◌, ◌*◌, ◌<◌, List, [], ◌∷◌, ◌++◌, length, refl, sym, ap, subst, ◌∙◌, append_assoc, arith}
-use Rattle.std.specs.Int.{from_be_bytes, w16}
 use Rattle.std.specs.List.{flat_map}
-use Rattle.std.proofs.lemmas.Nat.{from_be_bytes-to_be_bytes_2}
 use Rattle.std.proofs.lemmas.List.{append-nil}
 use Rattle.si_lists.proofs.Lists.{same_parts}
 use Rattle.si_base.specs.Fields.{two}
+use Rattle.table_entries.proofs.Same.{same_two}
 use Rattle.guide_model.specs.declared.screen.ScreenEvent.{ScreenEvent}
 use Rattle.eit_codec.specs.Entries.{Entry, entry_bytes, FitsEntry}
 use Rattle.eit_codec.specs.Eit.{IsEvent, AreEvents, AreEntries}
-
--- fields of 16 bits with the same bytes are the same
-pub same_two : (a b : ℕ) (x y : List ℕ) → a < 65536 → b < 65536 → two a ++ x ≡ two b ++ y → (a ≡ b) × (x ≡ y)
-same_two a b x y s t e =
-    let parts = same_parts (two a) (two b) x y refl e in
-    (sym (from_be_bytes-to_be_bytes_2 a s) ∙ ap (λ bytes. from_be_bytes w16 bytes) parts.0 ∙ from_be_bytes-to_be_bytes_2 b t, parts.1)
 
 same_fields : (a b : Entry) → a.id ≡ b.id → a.time ≡ b.time → a.duration ≡ b.duration → a.flags ≡ b.flags → a.descriptors ≡ b.descriptors → a ≡ b
 same_fields a b i t d f s =

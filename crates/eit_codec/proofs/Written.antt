@@ -1,5 +1,6 @@
 -- The entry of an event shows that event.
 use Rattle.std.proofs.Common.{◌≡◌, ℕ, suc, ◌-◌, ◌<◌, ◌≤◌, Bool, true, List, [], ◌∷◌, ◌++◌, length, map, take, Option, Some, None, IfSome, refl, sym, ap, subst, ◌∙◌, append_assoc, arith, length-append, eq-eqb, if◌then◌else◌}
+use Rattle.std.specs.Option.{option_or}
 use Rattle.std.specs.List.{flat_map, AllByRecursion}
 use Rattle.std.proofs.lemmas.Grind.{flat_map-append}
 use Rattle.std.proofs.lemmas.List.{append-nil}
@@ -25,6 +26,7 @@ use Rattle.desc_event.specs.EventDescriptors.{numbered, event_descriptors, conte
 use Rattle.desc_event.proofs.Entries.{content-reads_back, parental_rating-reads_back, length-content_body, length-parental_rating_body}
 use Rattle.desc_event.proofs.Fields.{short_event-reads_back, extended_event-reads_back}
 use Rattle.desc_event.proofs.Pieces.{length-coded_text, few_pieces}
+use Rattle.table_entries.specs.First.{first_in}
 use Rattle.eit_codec.specs.Shows as shows
 use Rattle.eit_codec.specs.Eit.{IsTyped, IsCodable, shown_event}
 
@@ -146,27 +148,27 @@ descs-are e p q = record {
 
 short-shown : (e : Event) → IsTyped e → shows.short_of (descs_of e) ≡ short_value e
 short-shown e q =
-    ap (λ o. shows.short_or_none (shows.or_else o (shows.first_in 0x4D short_event_in (all_pieces e ++ (genre_descs e.genres ++ rating_descs e.rating)))))
+    ap (λ o. shows.short_or_none (option_or o (first_in 0x4D short_event_in (all_pieces e ++ (genre_descs e.genres ++ rating_descs e.rating)))))
     (short_event-reads_back (short_value e) (record { language = q.language; name = decoded-coded e.name q.name; short = decoded-coded e.short q.short }))
 
-content-behind : (n last : ℕ) (language : List ℕ) (ps : List (List ℕ)) (ds : List RawDesc) → shows.first_in 0x54 content_in (piece_descs n last language ps ++ ds) ≡ shows.first_in 0x54 content_in ds
+content-behind : (n last : ℕ) (language : List ℕ) (ps : List (List ℕ)) (ds : List RawDesc) → first_in 0x54 content_in (piece_descs n last language ps ++ ds) ≡ first_in 0x54 content_in ds
 content-behind n last language [] ds = refl
 content-behind n last language (p ∷ ps) ds = content-behind (suc n) last language ps ds
 
-content-first : (genres : List Genre) (r : Option Rating) → AllByRecursion HasNibbles genres → shows.genres_or_none (shows.first_in 0x54 content_in (genre_descs genres ++ rating_descs r)) ≡ genres
+content-first : (genres : List Genre) (r : Option Rating) → AllByRecursion HasNibbles genres → shows.genres_or_none (first_in 0x54 content_in (genre_descs genres ++ rating_descs r)) ≡ genres
 content-first [] None fit = refl
 content-first [] (Some r) fit = refl
-content-first (g ∷ genres) r fit = ap (λ o. shows.genres_or_none (shows.or_else o (shows.first_in 0x54 content_in (rating_descs r)))) (content-reads_back (g ∷ genres) fit)
+content-first (g ∷ genres) r fit = ap (λ o. shows.genres_or_none (option_or o (first_in 0x54 content_in (rating_descs r)))) (content-reads_back (g ∷ genres) fit)
 
-rating-behind : (n last : ℕ) (language : List ℕ) (ps : List (List ℕ)) (ds : List RawDesc) → shows.first_in 0x55 parental_rating_in (piece_descs n last language ps ++ ds) ≡ shows.first_in 0x55 parental_rating_in ds
+rating-behind : (n last : ℕ) (language : List ℕ) (ps : List (List ℕ)) (ds : List RawDesc) → first_in 0x55 parental_rating_in (piece_descs n last language ps ++ ds) ≡ first_in 0x55 parental_rating_in ds
 rating-behind n last language [] ds = refl
 rating-behind n last language (p ∷ ps) ds = rating-behind (suc n) last language ps ds
 
-rating-first : (genres : List Genre) (r : Option Rating) → IfSome r HasThreeLetters → shows.first_rating (shows.first_in 0x55 parental_rating_in (genre_descs genres ++ rating_descs r)) ≡ r
+rating-first : (genres : List Genre) (r : Option Rating) → IfSome r HasThreeLetters → shows.first_rating (first_in 0x55 parental_rating_in (genre_descs genres ++ rating_descs r)) ≡ r
 rating-first [] None three = refl
 rating-first (g ∷ genres) None three = refl
-rating-first [] (Some r) three = ap (λ o. shows.first_rating (shows.or_else o None)) (parental_rating-reads_back (r ∷ []) (three, tt))
-rating-first (g ∷ genres) (Some r) three = ap (λ o. shows.first_rating (shows.or_else o None)) (parental_rating-reads_back (r ∷ []) (three, tt))
+rating-first [] (Some r) three = ap (λ o. shows.first_rating (option_or o None)) (parental_rating-reads_back (r ∷ []) (three, tt))
+rating-first (g ∷ genres) (Some r) three = ap (λ o. shows.first_rating (option_or o None)) (parental_rating-reads_back (r ∷ []) (three, tt))
 
 same_code-refl : (code : List ℕ) → shows.same_code code code ≡ true
 same_code-refl [] = refl

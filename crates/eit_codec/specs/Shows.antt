@@ -8,6 +8,7 @@ use Rattle.guide_model.specs.declared.event.Genre.{Genre}
 use Rattle.guide_model.specs.declared.event.Rating.{Rating}
 use Rattle.guide_model.specs.declared.screen.ScreenEvent.{ScreenEvent}
 use Rattle.desc_parts.specs.declared.descriptors.RawDesc.{RawDesc}
+use Rattle.table_entries.specs.First.{first_in}
 use Rattle.desc_event.specs.declared.short_event.ShortEvent.{ShortEvent}
 use Rattle.desc_event.specs.declared.extended_event.ExtendedPiece.{ExtendedPiece}
 use Rattle.desc_event.specs.ShortEvent.{short_event_in}
@@ -15,15 +16,7 @@ use Rattle.desc_event.specs.ExtendedEvent.{extended_event_in}
 use Rattle.desc_event.specs.Content.{content_in}
 use Rattle.desc_event.specs.ParentalRating.{parental_rating_in}
 
--- ---- the first descriptor of a tag whose body has a value
-
-abbrev pub or_else : {A : Type 0} → Option A → Option A → Option A
-or_else (Some x) other = Some x
-or_else None other = other
-
-abbrev pub first_in : {A : Type 0} → ℕ → (List ℕ → Option A) → List RawDesc → Option A
-first_in tag read [] = None
-first_in tag read (d ∷ ds) = or_else (if d.tag == tag then read d.body else None) (first_in tag read ds)
+-- ---- fields of the first descriptors
 
 -- the first short_event; without one the language is und and both texts are empty
 abbrev pub short_or_none : Option ShortEvent → ShortEvent

@@ -6,6 +6,7 @@
 #![tactic(auto)]
 
 mod descriptors;
+mod programs;
 
 use row_lines::Row;
 use std::alloc::{AllocError, Global};
@@ -24,6 +25,10 @@ fn answer(row: &mut Row) {
         "read_cable_delivery_system" => descriptors::read_cable(row),
         "write_service" => descriptors::write_text(row),
         "read_service" => descriptors::read_text(row),
+        "write_pat" => programs::write_programs(row),
+        "read_pat" => programs::read_programs(row),
+        "write_pmt" => programs::write_program(row),
+        "read_pmt" => programs::read_program(row),
         _ => row.refuse(),
     }
 }

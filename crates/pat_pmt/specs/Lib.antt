@@ -1,0 +1,3 @@
+pub mod Pat
+pub mod Pmt
+pub mod Rows

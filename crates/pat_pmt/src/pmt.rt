@@ -1,0 +1,131 @@
+// The program map table.
+ghost use Rattle.std.specs.Prelude.{◌≡◌, ◌<◌, ◌++◌, List, ℕ, Option, length, IfOk, IfSome, IfNone, OnOk};
+ghost use Rattle.std.specs.List.{All, flat_map};
+ghost use Rattle.guide_model.specs.declared.stream.Component.{Component};
+ghost use Rattle.table_entries.specs.Entries.{AreEntries};
+ghost use Rattle.pat_pmt.specs.declared.pmt.Pmt.{Pmt};
+ghost use Rattle.pat_pmt.specs.Pmt.{HasPid, IsPmt, component_bytes, component_of, language_descriptors, language_of, pmt_body};
+
+use desc_service::{RawDesc, read_iso_639_language, write_iso_639_language};
+use guide_model::{Component, Components};
+use si_base::{Bytes, Items};
+use std::alloc::{AllocError, Global};
+use table_entries::{RawEntry, split_entry};
+
+/// What a program map table holds: the PID of the program's clock reference (13 bits) and its components.
+#[derive(Drop)]
+pub struct Pmt {
+    pub pcr_pid: u16,
+    pub components: Components,
+}
+
+/// The body of a section of the program map table, without descriptors of the program (ISO/IEC 13818-1, 2.4.4.8). A component has an
+/// ISO_639_language_descriptor where it has a language. It needs PIDs below 8,192.
+pub fn write_pmt(alloc: Global, pmt: &Pmt) -> Result<Bytes, AllocError>
+    requires pcr_pid { pmt.now.pcr_pid < 8192 }
+    requires components { All HasPid pmt.now.components }
+    ensures { IfOk result (λ body. body ≡ pmt_body pmt.now) }
+{
+    let mut out = Vec::new(alloc);
+    out.extend_from_slice(&(0xE000 + pmt.pcr_pid).to_be_bytes())?;
+    out.extend_from_slice(&[0xF0, 0x00])?;
+    put_components(pmt.components.as_slice(), &mut out)?;
+    Ok(Items::of(out))
+}
+
+// Appends the entries of components; want of memory may leave a part of them.
+fn put_components(components: &[Component], out: &mut Vec<u8>) -> Result<(), AllocError>
+    requires { All HasPid components.now }
+    ensures { OnOk result (out.new.items ≡ out.old.items ++ flat_map component_bytes components.now) }
+{
+    for component in components {
+        put_component(component, out)?;
+    }
+    Ok(())
+}
+
+// Appends the entry of a component; want of memory may leave a part of it.
+fn put_component(component: &Component, out: &mut Vec<u8>) -> Result<(), AllocError>
+    requires { HasPid component.now }
+    ensures { OnOk result (out.new.items ≡ out.old.items ++ component_bytes component.now) }
+{
+    out.push(component.stream_type)?;
+    out.extend_from_slice(&(0xE000 + component.pid).to_be_bytes())?;
+    match component.language {
+        None => out.extend_from_slice(&[0xF0, 0x00]),
+        Some(language) => {
+            out.extend_from_slice(&[0xF0, 0x06])?;
+            write_iso_639_language(&[language], out)
+        }
+    }
+}
+
+/// What the body of a section of the program map table says, or `None` exactly where it ends within an entry, a length runs past the
+/// end, a descriptor runs past the end of its loop, or bytes are left over. Reserved bits may have any value, and descriptors of the
+/// program are passed over (ISO/IEC 13818-1, 2.4.4.8).
+///
+/// The language of a component is the first of its first ISO_639_language_descriptor whose body fits.
+pub fn read_pmt(alloc: Global, body: &[u8]) -> Result<Option<Pmt>, AllocError>
+    ensures some { IfOk result (λ read. IfSome read (λ pmt. IsPmt body.now pmt)) }
+    ensures none { IfOk result (λ read. IfNone read ((pmt : Pmt) → ¬ IsPmt body.now pmt)) }
+{
+    let Some((program, behind)) = split_entry(2, body) else {
+        return Ok(None);
+    };
+    let Some(_descs) = program.descriptors(alloc)? else {
+        return Ok(None);
+    };
+    let Some(components) = read_components(alloc, behind)? else {
+        return Ok(None);
+    };
+    Ok(Some(Pmt {
+        pcr_pid: program.two(0) % 8192,
+        components,
+    }))
+}
+
+// The components of the entries that these bytes are.
+fn read_components(alloc: Global, bytes: &[u8]) -> Result<Option<Components>, AllocError>
+    ensures some { IfOk result (λ read. IfSome read (λ components. AreEntries 3 component_of bytes.now components)) }
+    ensures none { IfOk result (λ read. IfNone read ((components : List Component) → ¬ AreEntries 3 component_of bytes.now components)) }
+{
+    let mut components = Vec::new(alloc);
+    let mut rest = bytes;
+    while !rest.is_empty() {
+        let Some((entry, behind)) = split_entry(3, rest) else {
+            return Ok(None);
+        };
+        let Some(descs) = entry.descriptors(alloc)? else {
+            return Ok(None);
+        };
+        components.push(component_of(alloc, &entry, descs.as_slice())?)?;
+        rest = behind;
+    }
+    Ok(Some(Items::of(components)))
+}
+
+// What an entry with these descriptors says of a component.
+fn component_of(alloc: Global, entry: &RawEntry, descs: &[RawDesc]) -> Result<Component, AllocError>
+    requires { length entry.now.fields ≡ 3 }
+    ensures { IfOk result (λ component. component ≡ component_of entry.now.fields entry.now.bits descs.now) }
+{
+    Ok(Component {
+        stream_type: entry.byte(0),
+        pid: entry.two(1) % 8192,
+        language: language_of(alloc, descs)?,
+    })
+}
+
+// The first language of the first descriptor of languages that fits.
+fn language_of(alloc: Global, descs: &[RawDesc]) -> Result<Option<[u8; 3]>, AllocError>
+    ensures { IfOk result (λ language. language ≡ language_of descs.now) }
+{
+    for desc in descs {
+        if desc.tag == 0x0A {
+            if let Some(languages) = read_iso_639_language(alloc, desc.body.as_slice())? {
+                return Ok(languages.as_slice().first().copied());
+            }
+        }
+    }
+    Ok(None)
+}

@@ -1,0 +1,11 @@
+//! Entries of tables: some fields, four bits, and descriptors behind a length of 12 bits. The loops of the PMT (ISO/IEC 13818-1,
+//! 2.4.4.8), the NIT, the SDT and the EIT (EN 300 468, 5.2.1, 5.2.3 and 5.2.4) are lists of such entries; they differ in how many
+//! bytes their fields have.
+//!
+//! The layers above use: [`split_entry`] cuts an entry off the front of bytes. Bytes are the entries of one list of values at most
+//! (`AreEntries`, in `specs/`; the lemmas of reading one by one are in `proofs/Reading.antt`).
+#![tactic(auto)]
+
+mod entry;
+
+pub use entry::{RawEntry, split_entry};
