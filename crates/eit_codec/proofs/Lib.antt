@@ -4,3 +4,5 @@ pub mod Heads
 pub mod Written
 pub mod ReadBack
 pub mod Codes
+pub mod Looked
+pub mod ReadBodies

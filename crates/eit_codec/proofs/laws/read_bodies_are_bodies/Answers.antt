@@ -1,0 +1,5 @@
+use Rattle.eit_codec.proofs.ReadBodies.{read_bodies}
+use Rattle.eit_codec.proofs.laws.read_bodies_are_bodies.Goals as goal
+
+pub returns : goal.returns
+returns c = read_bodies
