@@ -6,3 +6,4 @@ pub mod ReadBack
 pub mod Codes
 pub mod Looked
 pub mod ReadBodies
+pub mod MadeBodies

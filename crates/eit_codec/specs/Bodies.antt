@@ -1,5 +1,6 @@
 -- Whether bytes are the body of an event information section, by computing (EN 300 468, 5.2.4 and 6.1).
-use Rattle.std.specs.Prelude.{◌≡◌, ℕ, zero, suc, ◌+◌, ◌%◌, Bool, true, false, ◌&&◌, nat_le, List, [], ◌∷◌, length, take, drop, slice_index, is_some}
+use Rattle.std.specs.Prelude.{◌≡◌, ℕ, zero, suc, ◌+◌, ◌%◌, ◌<◌, Bool, true, false, ◌&&◌, nat_le, List, [], ◌∷◌, length, take, drop, slice_index, is_some}
+use Rattle.std.specs.List.{AllByRecursion}
 use Rattle.si_base.specs.Fields.{two_at}
 use Rattle.si_time.specs.Readings.{moment_from_bcd, duration_from_bcd}
 use Rattle.eit_codec.specs.declared.eit.Eit.{Eit}
@@ -45,8 +46,15 @@ are_entries (suc n) (b ∷ bytes) = begins_with_entry (b ∷ bytes) && are_entri
 abbrev pub is_eit_body : List ℕ → Bool
 is_eit_body body = nat_le 6 (length body) && are_entries (length (drop 6 body)) (drop 6 body)
 
--- ---- a law
+-- ---- laws
 
 -- Each body that can be read is one.
 abbrev pub ReadBodiesAreBodies : Type 0
 ReadBodiesAreBodies = (body : List ℕ) (eit : Eit) → IsEit body eit → is_eit_body body ≡ true
+
+abbrev pub AreBytes : List ℕ → Type 0
+AreBytes body = AllByRecursion (λ (b : ℕ). b < 256) body
+
+-- And each such body of bytes can be read.
+abbrev pub BodiesCanBeRead : Type 0
+BodiesCanBeRead = (body : List ℕ) → AreBytes body → is_eit_body body ≡ true → (eit : Eit) × IsEit body eit

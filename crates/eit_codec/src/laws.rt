@@ -1,7 +1,7 @@
 // Laws of the written and the read bodies.
 ghost use Rattle.std.specs.Prelude.{◌≡◌, ◌<◌, length};
 ghost use Rattle.eit_codec.specs.Shows.{CodesAreCompared};
-ghost use Rattle.eit_codec.specs.Bodies.{ReadBodiesAreBodies};
+ghost use Rattle.eit_codec.specs.Bodies.{ReadBodiesAreBodies, BodiesCanBeRead};
 ghost use Rattle.eit_codec.specs.Eit.{EitIsUnique, EntryHasItsSize, EitReadsBack, IsTyped};
 
 use guide_model::Event;
@@ -14,9 +14,10 @@ pub fn written_events_read_back()
     ensures reads_back { EitReadsBack }
 {}
 
-/// Each body that `read_eit` reads is one of which `is_eit_body` is true.
+/// Bodies that `read_eit` reads are just those of which `is_eit_body` is true.
 pub fn read_bodies_are_bodies()
-    ensures { ReadBodiesAreBodies }
+    ensures bodies { ReadBodiesAreBodies }
+    ensures read { BodiesCanBeRead }
 {}
 
 /// Codes are compared as values: the comparison is true exactly where they are equal.
