@@ -19,7 +19,7 @@ use Rattle.version_book.proofs.Airs.{AreOwn-all}
 use Rattle.sub_collect.specs.Runs.{Counted, counted, latest_section, has_number, latest_with}
 use Rattle.sub_collect.specs.Completions.{is_of, of_key}
 use Rattle.sub_collect.specs.Laws.{section_with, sections_with, HoldAll, IsWith, IsNumbered}
-use Rattle.guide_receiver.specs.Counting.{is_counted, counted_by, counted_in, counted_among}
+use Rattle.guide_receiver.specs.Counting.{is_counted, is_body_of_table, counted_by, counted_in, counted_among}
 use Rattle.guide_receiver.proofs.Shown.{among-append}
 use Rattle.air_model.specs.Air.{Sent, sent_section, header_of}
 use Rattle.air_model.specs.Fit.{IsFit}
@@ -36,16 +36,18 @@ version_at-lt k airings = omega arith
 -- what a section of a sub-table needs
 pub record CanCount (t : SubTable) (p : NumberedBody) : Type 0 where
   pub keyed : key_in t.key.pid (header_of 0 t p) p.body ≡ Some t.key
+  pub body : is_body_of_table (header_of 0 t p) p.body ≡ true
   pub number : p.number ≤ last_number t.sections
   pub within : length p.body ≤ longest_body t.key.table
 
 pub can_count : (t : SubTable) → IsFit t → IsReadable t → AllByRecursion (CanCount t) t.sections
-can_count t fit read = go t.sections read.keyed (below_last t.sections fit.ascending) (recursion_from_All (λ (p : NumberedBody). length p.body ≤ longest_body t.key.table) t.sections fit.bodies)
+can_count t fit read = go t.sections read.keyed read.bodies (below_last t.sections fit.ascending) (recursion_from_All (λ (p : NumberedBody). length p.body ≤ longest_body t.key.table) t.sections fit.bodies)
   where
-    go : (ps : List NumberedBody) → AllByRecursion (λ (p : NumberedBody). key_in t.key.pid (header_of 0 t p) p.body ≡ Some t.key) ps → AllByRecursion (λ (p : NumberedBody). p.number ≤ last_number t.sections) ps
+    go : (ps : List NumberedBody) → AllByRecursion (λ (p : NumberedBody). key_in t.key.pid (header_of 0 t p) p.body ≡ Some t.key) ps
+        → AllByRecursion (λ (p : NumberedBody). is_body_of_table (header_of 0 t p) p.body ≡ true) ps → AllByRecursion (λ (p : NumberedBody). p.number ≤ last_number t.sections) ps
         → AllByRecursion (λ (p : NumberedBody). length p.body ≤ longest_body t.key.table) ps → AllByRecursion (CanCount t) ps
-    go [] a b c = tt
-    go (p ∷ ps) a b c = (record { keyed = a.0; number = b.0; within = c.0 }, go ps a.1 b.1 c.1)
+    go [] a d b c = tt
+    go (p ∷ ps) a d b c = (record { keyed = a.0; body = d.0; number = b.0; within = c.0 }, go ps a.1 d.1 b.1 c.1)
 
 -- a section of a sub-table under a version, as it counts
 abbrev pub as_counted : ℕ → SubTable → NumberedBody → Counted
@@ -66,7 +68,16 @@ one_counts t fit read version lt p can =
     } in
     let key : key_in t.key.pid h p.body ≡ Some t.key = can.keyed in
     ap (counted_by t.key.pid) (section_in-section_bytes h p.body fits)
-    ∙ ap (λ (o : Option Key). if true && is_counted t.key.pid t.key.table then option_map (λ (k : Key). counted k h p.body) o else None) key
+    ∙ ap (λ (o : Option Key). if true && is_counted t.key.pid t.key.table && is_body_of_table h p.body then option_map (λ (k : Key). counted k h p.body) o else None) key
+    ∙ ap (λ (b : Bool). if true && is_counted t.key.pid t.key.table && b then Some (as_counted version t p) else None) body
+    ∙ go (is_counted t.key.pid t.key.table)
+  where
+    body : is_body_of_table (header_of version t p) p.body ≡ true
+    body = can.body
+
+    go : (b : Bool) → (if true && b && true then Some (as_counted version t p) else None) ≡ (if b then Some (as_counted version t p) else None)
+    go true = refl
+    go false = refl
 
 pub table_counts : TableCounts
 table_counts t fit read version lt = go t.sections (can_count t fit read) ∙ all (is_counted t.key.pid t.key.table)

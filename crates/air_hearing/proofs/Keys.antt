@@ -16,7 +16,7 @@ use Rattle.ts_demux.specs.Sections.{sections_on, on_pid, heard_all, bytes_on}
 use Rattle.ts_demux.proofs.Adding.{order_kept}
 use Rattle.sub_collect.specs.Runs.{Counted, counted}
 use Rattle.sub_collect.specs.Completions.{of_key}
-use Rattle.guide_receiver.specs.Counting.{is_counted, counted_by, counted_in, counted_among}
+use Rattle.guide_receiver.specs.Counting.{is_counted, is_body_of_table, counted_by, counted_in, counted_among}
 use Rattle.guide_receiver.specs.Heard.{counted_heard}
 use Rattle.air_model.specs.Air.{Sent, sent_on}
 use Rattle.air_hearing.specs.Counting.{raw_of}
@@ -29,7 +29,7 @@ count_on pid bytes = counted_in (on_pid pid bytes)
 counted_pid : (pid : ℕ) (r : Result Section BadSection) (c : Counted) → counted_by pid r ≡ Some c → c.key.pid ≡ pid
 counted_pid pid (Err bad) c e = cc
 counted_pid pid (Ok (Short table body)) c e = cc
-counted_pid pid (Ok (Long h body)) c e = go (h.current && is_counted pid h.table) (key_in pid h body) refl e
+counted_pid pid (Ok (Long h body)) c e = go (h.current && is_counted pid h.table && is_body_of_table h body) (key_in pid h body) refl e
   where
     go : (b : Bool) (o : Option Key) → key_in pid h body ≡ o → (if b then option_map (λ (k : Key). counted k h body) o else None) ≡ Some c → c.key.pid ≡ pid
     go true None f e = cc

@@ -1,5 +1,5 @@
 -- Sub-tables that a receiver reads as they were meant (ISO/IEC 13818-1, 2.4.4; EN 300 468, 5.1.1).
-use Rattle.std.specs.Prelude.{◌≡◌, ◌<◌, Some}
+use Rattle.std.specs.Prelude.{◌≡◌, ◌<◌, true, Some}
 use Rattle.std.specs.List.{All, AllByRecursion}
 use Rattle.section_codec.specs.declared.table.NumberedBody.{NumberedBody}
 use Rattle.section_codec.specs.declared.table.SubTable.{SubTable}
@@ -9,6 +9,7 @@ use Rattle.version_book.specs.Airings.{Airing}
 use Rattle.version_book.specs.Book.{KeysDiffer}
 use Rattle.ts_demux.specs.declared.section.RawSection.{RawSection}
 use Rattle.sub_collect.specs.Laws.{IsNumbered}
+use Rattle.guide_receiver.specs.Counting.{is_body_of_table}
 use Rattle.air_model.specs.Air.{Sent, header_of}
 use Rattle.air_model.specs.Fit.{IsFit}
 
@@ -16,12 +17,13 @@ use Rattle.air_model.specs.Fit.{IsFit}
 abbrev pub raw_of : Sent → RawSection
 raw_of s = record { pid = s.pid; bytes = s.bytes }
 
--- The fields of its sections fit their bits, each section tells the key, and the content describes itself.
+-- The fields of its sections fit their bits, each section tells the key and has a body of its table, and the content describes itself.
 pub record IsReadable (t : SubTable) : Type 0 where
   pub table : t.key.table < 256
   pub ext : t.key.ext < 65536
   pub last : last_number t.sections < 256
   pub keyed : AllByRecursion (λ (s : NumberedBody). key_in t.key.pid (header_of 0 t s) s.body ≡ Some t.key) t.sections
+  pub bodies : AllByRecursion (λ (s : NumberedBody). is_body_of_table (header_of 0 t s) s.body ≡ true) t.sections
   pub numbered : IsNumbered t.key t.sections
 
 -- The sub-tables of an airing can be sent, and be heard; no two have one key.

@@ -4,3 +4,6 @@ pub mod Heads
 pub mod Written
 pub mod ReadBack
 pub mod Codes
+pub mod Looked
+pub mod ReadBodies
+pub mod MadeBodies

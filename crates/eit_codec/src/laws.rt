@@ -1,6 +1,7 @@
 // Laws of the written and the read bodies.
 ghost use Rattle.std.specs.Prelude.{◌≡◌, ◌<◌, length};
 ghost use Rattle.eit_codec.specs.Shows.{CodesAreCompared};
+ghost use Rattle.eit_codec.specs.Bodies.{ReadBodiesAreBodies, BodiesCanBeRead};
 ghost use Rattle.eit_codec.specs.Eit.{EitIsUnique, EntryHasItsSize, EitReadsBack, IsTyped};
 
 use guide_model::Event;
@@ -11,6 +12,12 @@ pub fn written_events_read_back()
     ensures unique { EitIsUnique }
     ensures size { EntryHasItsSize }
     ensures reads_back { EitReadsBack }
+{}
+
+/// Bodies that `read_eit` reads are just those of which `is_eit_body` is true.
+pub fn read_bodies_are_bodies()
+    ensures bodies { ReadBodiesAreBodies }
+    ensures read { BodiesCanBeRead }
 {}
 
 /// Codes are compared as values: the comparison is true exactly where they are equal.

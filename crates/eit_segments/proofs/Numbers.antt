@@ -5,11 +5,13 @@ use Rattle.std.specs.List.{AllByRecursion, range_with_len}
 use Rattle.std.proofs.lemmas.Bool.{cond-true, cond-false, eq-eqb, ne_eqb, cases_lt}
 use Rattle.std.proofs.lemmas.List.{map-append}
 use Rattle.si_lists.proofs.Lists.{all_map, all_append}
+use Rattle.section_codec.specs.Contents.{numbers_from}
+use Rattle.section_codec.specs.Segments.{segment_of, numbers_in_segment, and_numbers, segments_need}
 use Rattle.eit_segments.specs.declared.event.EventAt.{EventAt}
 use Rattle.eit_segments.specs.declared.piece.Piece.{Piece}
 use Rattle.eit_segments.specs.Placement.{block_place}
 use Rattle.eit_segments.specs.Schedule.{FitSegments, block_runs, sections_from, segment_sections, last_used, last_number, table_sections}
-use Rattle.eit_segments.specs.Laws.{is_of_segment, told_last, needed_of, joined, needed, TablesAreWhole}
+use Rattle.eit_segments.specs.Laws.{is_of_segment, told_last, TablesAreWhole}
 use Rattle.eit_segments.proofs.Order.{runs_few}
 
 eighth : (h i : ℕ) → i < 8 → (8 * h + i) / 8 ≡ h
@@ -17,10 +19,9 @@ eighth h i lt = grind arith
 
 -- the sections of one segment, from its i-th on
 module _ (table last segment_last segment : ℕ) where
-  numbers_from : (number from : ℕ) (runs : List (List EventAt)) → map (λ (p : Piece). p.number) (sections_from table last segment_last number from runs) ≡ range_with_len number (length runs)
-  numbers_from number from [] = refl
-  numbers_from number from (run ∷ runs) =
-      ap (λ (l : List ℕ). number ∷ l) (numbers_from (1 + number) (from + length run) runs ∙ ap (λ (n : ℕ). range_with_len n (length runs)) (let e : 1 + number ≡ number + 1 = omega arith in e))
+  numbers_are : (number from : ℕ) (runs : List (List EventAt)) → map (λ (p : Piece). p.number) (sections_from table last segment_last number from runs) ≡ numbers_from number (length runs)
+  numbers_are number from [] = refl
+  numbers_are number from (run ∷ runs) = ap (λ (l : List ℕ). number ∷ l) (numbers_are (1 + number) (from + length run) runs)
 
   -- a section of the segment
   abbrev IsOf : Piece → Type 0
@@ -35,7 +36,7 @@ module _ (table last segment_last segment : ℕ) where
   )
 
 -- sections of other segments are passed over
-find_past : (segment : ℕ) (ps qs : List Piece) → AllByRecursion (λ (p : Piece). p.number / 8 ≡ segment → ⊥) ps → told_last segment (ps ++ qs) ≡ told_last segment qs
+find_past : (segment : ℕ) (ps qs : List Piece) → AllByRecursion (λ (p : Piece). p.number / 8 ≡ segment → ⊥) ps → told_last (ps ++ qs) segment ≡ told_last qs segment
 find_past segment [] qs h = refl
 find_past segment (p ∷ ps) qs h =
     ap (option_map (λ (x : Piece). x.segment_last)) (cond-false (is_of_segment segment p) (Some p) (find (is_of_segment segment) (ps ++ qs)) (ne_eqb (p.number / 8) segment h.0)) ∙ find_past segment ps qs h.1
@@ -61,32 +62,32 @@ module _ (table last first : ℕ) (events : List EventAt) (fit : FitSegments eve
       (are_of table last (8 * n + (count n - 1)) n 0 (block_place (first + n) events) (block_runs (first + n) events) (omega (arith, (few n).1)))
 
   -- the first section of a segment tells its last number
-  told_here : (n : ℕ) (qs : List Piece) → told_last n (of n ++ qs) ≡ Some (8 * n + (count n - 1))
+  told_here : (n : ℕ) (qs : List Piece) → told_last (of n ++ qs) n ≡ Some (8 * n + (count n - 1))
   told_here n qs = go (block_runs (first + n) events) (few n).0 (of_segment n)
     where
       go : (runs : List (List EventAt)) → 0 < length runs → AllByRecursion (IsOf table last (8 * n + (count n - 1)) n) (sections_from table last (8 * n + (count n - 1)) (8 * n) (block_place (first + n) events) runs)
-          → told_last n (sections_from table last (8 * n + (count n - 1)) (8 * n) (block_place (first + n) events) runs ++ qs) ≡ Some (8 * n + (count n - 1))
+          → told_last (sections_from table last (8 * n + (count n - 1)) (8 * n) (block_place (first + n) events) runs ++ qs) n ≡ Some (8 * n + (count n - 1))
       go [] some h = absurd (omega arith)
       go (run ∷ runs) some h = ap (option_map (λ (x : Piece). x.segment_last)) (cond-true (eqb ((8 * n) / 8) n) (Some _) _ (eq-eqb ((8 * n) / 8) n (h.0).0))
 
-  told : (n a k : ℕ) → a ≤ n → n < a + k → told_last n (pieces a k) ≡ Some (8 * n + (count n - 1))
+  told : (n a k : ℕ) → a ≤ n → n < a + k → told_last (pieces a k) n ≡ Some (8 * n + (count n - 1))
   told n a zero le lt = absurd (omega arith)
   told n a (suc k) le lt = elim (cases_lt a n) [
     | inl b ↦ find_past n (of a) (pieces (a + 1) k) (all_map (IsOf table last (8 * a + (count a - 1)) a) (λ (p : Piece). p.number / 8 ≡ n → ⊥) (λ p h e. let s : p.number / 8 ≡ a = h.0 in omega arith) (of a) (of_segment a))
         ∙ told n (a + 1) k (omega arith) (omega arith)
-    | inr b ↦ let same : a ≡ n = omega arith in subst (λ (m : ℕ). told_last n (of m ++ pieces (m + 1) k) ≡ Some (8 * n + (count n - 1))) (sym same) (told_here n (pieces (n + 1) k))
+    | inr b ↦ let same : a ≡ n = omega arith in subst (λ (m : ℕ). told_last (of m ++ pieces (m + 1) k) n ≡ Some (8 * n + (count n - 1))) (sym same) (told_here n (pieces (n + 1) k))
   ]
 
   -- what is needed are the numbers
-  need : (many g k : ℕ) → g + k ≤ many → needed (pieces 0 many) g k ≡ Some (map (λ (p : Piece). p.number) (pieces g k))
+  need : (many g k : ℕ) → g + k ≤ many → segments_need (told_last (pieces 0 many)) g k ≡ Some (map (λ (p : Piece). p.number) (pieces g k))
   need many g zero le = refl
   need many g (suc k) le =
       let here = told g 0 many (omega arith) (omega arith) in
       let behind = need many (1 + g) k (omega arith) in
-      let numbers : range_with_len (8 * g) (8 * g + (count g - 1) + 1 - 8 * g) ≡ map (λ (p : Piece). p.number) (of g) =
-      ap (range_with_len (8 * g)) (let e : 8 * g + (count g - 1) + 1 - 8 * g ≡ count g = omega (arith, (few g).0) in e)
-      ∙ sym (numbers_from table last (8 * g + (count g - 1)) g (8 * g) (block_place (first + g) events) (block_runs (first + g) events)) in
-      ap₂ joined (ap (needed_of g) here) behind
+      let numbers : numbers_in_segment g (8 * g + (count g - 1)) ≡ map (λ (p : Piece). p.number) (of g) =
+      ap (numbers_from (8 * g)) (let e : 1 + (8 * g + (count g - 1)) - 8 * g ≡ count g = omega (arith, (few g).0) in e)
+      ∙ sym (numbers_are table last (8 * g + (count g - 1)) g (8 * g) (block_place (first + g) events) (block_runs (first + g) events)) in
+      ap₂ and_numbers (ap (option_map (numbers_in_segment g)) here) behind
       ∙ ap (λ (l : List ℕ). Some (l ++ map (λ (p : Piece). p.number) (pieces (1 + g) k))) numbers
       ∙ ap (λ (a : ℕ). Some (map (λ (p : Piece). p.number) (of g) ++ map (λ (p : Piece). p.number) (pieces a k))) (let e : 1 + g ≡ g + 1 = omega arith in e)
       ∙ ap Some (sym (map-append (λ (p : Piece). p.number) (of g) (pieces (g + 1) k)))
@@ -97,12 +98,12 @@ module _ (table last first : ℕ) (events : List EventAt) (fit : FitSegments eve
       all_append (λ (p : Piece). p.last ≡ last) (of a) (pieces (a + 1) k)
       (all_map (IsOf table last (8 * a + (count a - 1)) a) (λ (p : Piece). p.last ≡ last) (λ p h. h.1) (of a) (of_segment a)) (same_last (a + 1) k)
 
-  same_segment : (many a k : ℕ) → a + k ≤ many → AllByRecursion (λ (p : Piece). told_last (p.number / 8) (pieces 0 many) ≡ Some p.segment_last) (pieces a k)
+  same_segment : (many a k : ℕ) → a + k ≤ many → AllByRecursion (λ (p : Piece). told_last (pieces 0 many) (segment_of p.number) ≡ Some p.segment_last) (pieces a k)
   same_segment many a zero le = tt
   same_segment many a (suc k) le =
-      all_append (λ (p : Piece). told_last (p.number / 8) (pieces 0 many) ≡ Some p.segment_last) (of a) (pieces (a + 1) k)
-      (all_map (IsOf table last (8 * a + (count a - 1)) a) (λ (p : Piece). told_last (p.number / 8) (pieces 0 many) ≡ Some p.segment_last)
-      (λ p h. ap (λ (n : ℕ). told_last n (pieces 0 many)) h.0 ∙ told a 0 many (omega arith) (omega arith) ∙ ap Some (sym h.2)) (of a) (of_segment a))
+      all_append (λ (p : Piece). told_last (pieces 0 many) (segment_of p.number) ≡ Some p.segment_last) (of a) (pieces (a + 1) k)
+      (all_map (IsOf table last (8 * a + (count a - 1)) a) (λ (p : Piece). told_last (pieces 0 many) (segment_of p.number) ≡ Some p.segment_last)
+      (λ p h. ap (told_last (pieces 0 many)) h.0 ∙ told a 0 many (omega arith) (omega arith) ∙ ap Some (sym h.2)) (of a) (of_segment a))
       (same_segment many (a + 1) k (omega arith))
 
 pub tables_are_whole : TablesAreWhole
@@ -110,9 +111,9 @@ tables_are_whole table first events fit =
     let used = last_used first 32 events in
     let last = last_number first events in
     let some = few table last first events fit used in
-    let many : last / 8 + 1 ≡ used + 1 = ap (λ (n : ℕ). n + 1) (eighth used (length (block_runs (first + used) events) - 1) (omega (arith, some.0, some.1))) in
+    let many : 1 + segment_of last ≡ used + 1 = ap (λ (n : ℕ). 1 + n) (eighth used (length (block_runs (first + used) events) - 1) (omega (arith, some.0, some.1))) ∙ (let e : 1 + used ≡ used + 1 = omega arith in e) in
     record {
-      numbers = ap (λ (k : ℕ). needed (table_sections table first events) 0 k) many ∙ need table last first events fit (used + 1) 0 (used + 1) (omega arith);
+      numbers = ap (segments_need (told_last (table_sections table first events)) 0) many ∙ need table last first events fit (used + 1) 0 (used + 1) (omega arith);
       last = same_last table last first events fit 0 (used + 1);
       segment_last = same_segment table last first events fit (used + 1) 0 (used + 1) (omega arith);
     }

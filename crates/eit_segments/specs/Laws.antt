@@ -1,6 +1,7 @@
 -- What the sections of a schedule are, for the layers above.
-use Rattle.std.specs.Prelude.{◌≡◌, ℕ, zero, suc, ◌+◌, ◌-◌, ◌*◌, ◌/◌, ◌%◌, ◌≤◌, Bool, ◌&&◌, ◌==◌, nat_le, nat_lt, List, [], ◌++◌, Option, Some, None, option_map, find, map, take, drop, filter, flat_map}
-use Rattle.std.specs.List.{AllByRecursion, range_with_len}
+use Rattle.std.specs.Prelude.{◌≡◌, ℕ, ◌+◌, ◌-◌, ◌%◌, ◌≤◌, Bool, ◌&&◌, ◌==◌, nat_le, nat_lt, List, Option, Some, option_map, find, map, take, drop, filter, flat_map}
+use Rattle.std.specs.List.{AllByRecursion}
+use Rattle.section_codec.specs.Segments.{segment_of, table_needs}
 use Rattle.guide_model.specs.declared.event.Event.{Event}
 use Rattle.desc_event.specs.EventDescriptors.{entry_size}
 use Rattle.guide_limits.specs.Limits.{AreWithin}
@@ -11,31 +12,18 @@ use Rattle.eit_segments.specs.Schedule.{FitSegments, CanBePlaced, block_runs, la
 -- ---- what a receiver needs of a table
 
 abbrev pub is_of_segment : ℕ → Piece → Bool
-is_of_segment segment piece = (piece.number / 8) == segment
+is_of_segment segment piece = segment_of piece.number == segment
 
--- the last number of a segment, as a section of it tells, if there is one
-abbrev pub told_last : ℕ → List Piece → Option ℕ
-told_last segment pieces = option_map (λ (piece : Piece). piece.segment_last) (find (is_of_segment segment) pieces)
+-- the last number of a segment, as the first section of it tells, if there is one
+abbrev pub told_last : List Piece → ℕ → Option ℕ
+told_last pieces segment = option_map (λ (piece : Piece). piece.segment_last) (find (is_of_segment segment) pieces)
 
--- the numbers that are needed of a segment, where its last one is known: 8n and on
-abbrev pub needed_of : ℕ → Option ℕ → Option (List ℕ)
-needed_of segment last = option_map (λ n. range_with_len (8 * segment) (n + 1 - 8 * segment)) last
-
-abbrev pub joined : Option (List ℕ) → Option (List ℕ) → Option (List ℕ)
-joined None more = None
-joined (Some ns) more = option_map (λ ms. ns ++ ms) more
-
--- the numbers that are needed of so many segments from one on, where all their last ones are known
-abbrev pub needed : List Piece → ℕ → ℕ → Option (List ℕ)
-needed pieces segment zero = Some []
-needed pieces segment (suc many) = joined (needed_of segment (told_last segment pieces)) (needed pieces (1 + segment) many)
-
--- The sections of a table: their numbers are just those that a receiver needs, of all segments up to that of the last
--- number. All tell the same last number, and those of a segment the same last number of it.
+-- The sections of a table: their numbers are just those that a receiver needs. All tell the same last number, and those of
+-- a segment the same last number of it.
 pub record IsWholeTable (last_of : ℕ) (pieces : List Piece) : Type 0 where
-  pub numbers : needed pieces 0 (last_of / 8 + 1) ≡ Some (map (λ (piece : Piece). piece.number) pieces)
+  pub numbers : table_needs (told_last pieces) last_of ≡ Some (map (λ (piece : Piece). piece.number) pieces)
   pub last : AllByRecursion (λ (piece : Piece). piece.last ≡ last_of) pieces
-  pub segment_last : AllByRecursion (λ (piece : Piece). told_last (piece.number / 8) pieces ≡ Some piece.segment_last) pieces
+  pub segment_last : AllByRecursion (λ (piece : Piece). told_last pieces (segment_of piece.number) ≡ Some piece.segment_last) pieces
 
 abbrev pub TablesAreWhole : Type 0
 TablesAreWhole = (table first : ℕ) (events : List EventAt) → FitSegments events → IsWholeTable (last_number first events) (table_sections table first events)

@@ -28,9 +28,8 @@ use Rattle.version_book.proofs.Versions.{is_key-same}
 use Rattle.air_hearing.specs.Counting.{CanBeHeard}
 use Rattle.air_hearing.specs.Changes.{is_new_at, version_with, changes_of, is_done_key}
 use Rattle.air_hearing.proofs.Told.{changes_heard}
-use Rattle.publication.specs.Tables.{sdt_key}
 use Rattle.headend_live.specs.Air.{airings}
-use Rattle.headend_live.proofs.CarryFacts.{airings_heard, airings_carry}
+use Rattle.headend_live.proofs.CarryFacts.{airings_heard, airings_counted}
 use Rattle.epg_cli.specs.Script.{script_with}
 use Rattle.epg_cli.specs.Hearing.{PlayIsHeard}
 
@@ -63,29 +62,30 @@ recorded (suc n) (p ∷ ps) all le =
 
 -- ---- a key that no airing carries
 
-other_key : (k own : Key) (ts : List SubTable) → map (λ (t : SubTable). t.key) ts ≡ own ∷ [] → is_key k own ≡ false → content_in k ts ≡ None
-other_key k own [] are other = cc
-other_key k own (t ∷ u ∷ ts) are other = cc
-other_key k own (t ∷ []) are other =
-    let same : t.key ≡ own = cc in
-    ap (λ (b : Bool). if b then Some t.sections else None) (ap (is_key k) same ∙ other)
+-- all tables of an airing are such as receivers count
+abbrev AreCounted : Airing → Type 0
+AreCounted a = AllByRecursion (λ (t : SubTable). is_counted t.key.pid t.key.table ≡ true) a.tables
 
-unchanged : (k own : Key) (past airs : List Airing) → AllByRecursion (λ (a : Airing). map (λ (t : SubTable). t.key) a.tables ≡ own ∷ []) airs → is_key k own ≡ false → changes_of k past airs ≡ []
-unchanged k own past [] are other = refl
-unchanged k own past (a ∷ airs) are other =
-    ap₂ (λ (o : Option Content) (l : List DoneKey). (if is_new_at (carried k past) o then version_with k past a ∷ [] else []) ++ l) (other_key k own a.tables are.0 other) (unchanged k own (past ++ a ∷ []) airs are.1 other)
-
--- a key that the receiver does not count is not that of the SDT
-counted_or_not : (mux : Mux) (airs : List Airing) (k : Key) → AllByRecursion (λ (a : Airing). map (λ (t : SubTable). t.key) a.tables ≡ sdt_key mux ∷ []) airs
-    → (b : Bool) → is_counted k.pid k.table ≡ b → (if is_counted k.pid k.table then changes_of k [] airs else []) ≡ changes_of k [] airs
-counted_or_not mux airs k are true e = ap (λ (b : Bool). if b then changes_of k [] airs else []) e
-counted_or_not mux airs k are false e = ap (λ (b : Bool). if b then changes_of k [] airs else []) e ∙ sym (unchanged k (sdt_key mux) [] airs are (apart (is_key k (sdt_key mux)) refl))
+other_key : (k : Key) (ts : List SubTable) → AllByRecursion (λ (t : SubTable). is_counted t.key.pid t.key.table ≡ true) ts → is_counted k.pid k.table ≡ false → content_in k ts ≡ None
+other_key k [] are other = refl
+other_key k (t ∷ ts) are other = go (is_key k t.key) refl (other_key k ts are.1 other)
   where
-    apart : (b : Bool) → is_key k (sdt_key mux) ≡ b → is_key k (sdt_key mux) ≡ false
-    apart false f = f
-    apart true f =
-        let none : true ≡ false = sym (ap (λ (q : Key). is_counted q.pid q.table) (is_key-same k (sdt_key mux) f)) ∙ e in
+    go : (b : Bool) → is_key k t.key ≡ b → content_in k ts ≡ None → (if b then Some t.sections else content_in k ts) ≡ None
+    go false e rest = rest
+    go true e rest =
+        let none : true ≡ false = sym are.0 ∙ ap (λ (q : Key). is_counted q.pid q.table) (sym (is_key-same k t.key e)) ∙ other in
         absurd (let z : Prim.⊥ = cc in z)
+
+unchanged : (k : Key) (past airs : List Airing) → AllByRecursion AreCounted airs → is_counted k.pid k.table ≡ false → changes_of k past airs ≡ []
+unchanged k past [] are other = refl
+unchanged k past (a ∷ airs) are other =
+    ap₂ (λ (o : Option Content) (l : List DoneKey). (if is_new_at (carried k past) o then version_with k past a ∷ [] else []) ++ l) (other_key k a.tables are.0 other) (unchanged k (past ++ a ∷ []) airs are.1 other)
+
+-- a key that receivers do not count has no version changes
+counted_or_not : (airs : List Airing) (k : Key) → AllByRecursion AreCounted airs → (b : Bool) → is_counted k.pid k.table ≡ b
+    → (if is_counted k.pid k.table then changes_of k [] airs else []) ≡ changes_of k [] airs
+counted_or_not airs k are true e = ap (λ (b : Bool). if b then changes_of k [] airs else []) e
+counted_or_not airs k are false e = ap (λ (b : Bool). if b then changes_of k [] airs else []) e ∙ sym (unchanged k [] airs are e)
 
 pub play-heard : PlayIsHeard
 play-heard text mux commands xs script is_air few =
@@ -97,5 +97,5 @@ play-heard text mux commands xs script is_air few =
       λ k lt.
           ap (λ (r : List (List ℕ) × RecordingEnd). filter (is_done_key k) (map (λ (d : DoneAt). d.done) (dones_of r.0))) record_is
           ∙ changes_heard (airings mux journal) xs (airs_repeat (airings mux journal) xs is_air) can k lt
-          ∙ counted_or_not mux (airings mux journal) k (airings_carry mux journal) (is_counted k.pid k.table) refl,
+          ∙ counted_or_not (airings mux journal) k (airings_counted mux journal) (is_counted k.pid k.table) refl,
     )

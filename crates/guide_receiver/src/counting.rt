@@ -1,10 +1,14 @@
 // The sections that count.
 ghost use Rattle.std.specs.Prelude.{◌≡◌, ◌&&◌, IfOk, option_map};
-ghost use Rattle.section_codec.specs.Tables.{is_sdt};
+ghost use Rattle.section_codec.specs.Tables.{is_sdt, is_events};
+ghost use Rattle.section_codec.specs.Segments.{segment_last_in};
 ghost use Rattle.sub_collect.specs.Runs.{counted};
-ghost use Rattle.guide_receiver.specs.Counting.{counted_in};
+ghost use Rattle.guide_receiver.specs.Counting.{is_counted, is_last_within, is_body_of_table, counted_in};
 
-use section_codec::{BadSection, Key, LongHeader, Section, key_of, read_section};
+use eit_codec::is_eit_body;
+use section_codec::{
+    BadSection, Key, LongHeader, Section, is_eit, key_of, read_section, segment_last,
+};
 use si_base::Bytes;
 use std::alloc::{AllocError, Global};
 use ts_demux::RawSection;
@@ -29,7 +33,10 @@ pub(crate) fn counted_section(
         Err(BadSection::Memory) => return Err(AllocError),
         _ => return Ok(None),
     };
-    if !header.current || !is_sdt(raw.pid, header.table) {
+    if !header.current
+        || !is_counted(raw.pid, header.table)
+        || !is_body_of_table(&header, body.as_slice())
+    {
         return Ok(None);
     }
     match key_of(raw.pid, &header, body.as_slice()) {
@@ -38,9 +45,41 @@ pub(crate) fn counted_section(
     }
 }
 
-// Whether PID and table_id are those of the SDT of the actual stream.
+// Whether sections of this table on this PID count: the SDT of the actual stream, and event information of this
+// multiplex.
+fn is_counted(pid: u16, table: u8) -> bool
+    ensures { result ≡ is_counted pid table }
+{
+    is_sdt(pid, table) || is_events(pid, table)
+}
+
 fn is_sdt(pid: u16, table: u8) -> bool
     ensures { result ≡ is_sdt pid table }
 {
     pid == 0x0011 && table == 0x42
+}
+
+fn is_events(pid: u16, table: u8) -> bool
+    ensures { result ≡ is_events pid table }
+{
+    pid == 0x0012 && (table == 0x4E || 0x50 <= table && table <= 0x5F)
+}
+
+// Whether the body is one of its table. Of event information it is looked at and not read, which takes no memory.
+fn is_body_of_table(header: &LongHeader, body: &[u8]) -> bool
+    ensures { result ≡ is_body_of_table header.now body.now }
+{
+    if !is_eit(header.table) {
+        return true;
+    }
+    is_eit_body(body) && is_last_within(segment_last(header, body), header.last)
+}
+
+fn is_last_within(segment_last: Option<u8>, last: u8) -> bool
+    ensures { result ≡ is_last_within segment_last last }
+{
+    match segment_last {
+        Some(number) => number <= last,
+        None => false,
+    }
 }

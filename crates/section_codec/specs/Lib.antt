@@ -2,4 +2,5 @@ pub mod Tables
 pub mod Section
 pub mod Contents
 pub mod Keys
+pub mod Segments
 pub mod Rows

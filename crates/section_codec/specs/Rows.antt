@@ -1,8 +1,9 @@
 -- Worked sections, and their keys.
-use Rattle.std.specs.Prelude.{◌≡◌, ℕ, true, false, List, [], ◌∷◌, ◌++◌, Some, None, Ok, Err, refl, replicate}
+use Rattle.std.specs.Prelude.{◌≡◌, ℕ, ◌*◌, ◌==◌, if◌then◌else◌, true, false, List, [], ◌∷◌, ◌++◌, Some, None, Ok, Err, refl, replicate}
 use Rattle.si_base.specs.Crc.{crc_of, crc_from}
 use Rattle.section_codec.specs.Section.{section_bytes, before_crc, short_bytes, section_in}
 use Rattle.section_codec.specs.Keys.{key_in, eit_numbers_in}
+use Rattle.section_codec.specs.Segments.{segment_last_in, table_needs}
 use Rattle.section_codec.specs.declared.section.LongHeader.{LongHeader}
 use Rattle.section_codec.specs.declared.section.Section.TheVariants.{Long, Short}
 use Rattle.section_codec.specs.declared.section.BadSection.TheVariants.{Length, Crc, Syntax}
@@ -96,6 +97,20 @@ present_numbers = refl
 
 no_numbers : eit_numbers_in (0x12 ∷ 0x34 ∷ 0x56 ∷ 0x78 ∷ 0x01 ∷ []) ≡ None
 no_numbers = refl
+
+-- segment_last_section_number is of the section's own segment, or it is none
+segment_last : segment_last_in 8 (0x12 ∷ 0x34 ∷ 0x56 ∷ 0x78 ∷ 0x09 ∷ 0x50 ∷ []) ≡ Some 9
+segment_last = refl
+
+segment_last_of_another : segment_last_in 7 (0x12 ∷ 0x34 ∷ 0x56 ∷ 0x78 ∷ 0x09 ∷ 0x50 ∷ []) ≡ None
+segment_last_of_another = refl
+
+-- of a table with last_section_number 24, whose segment 1 has two sections
+four_segments : table_needs (λ n. if n == 1 then Some 9 else Some (8 * n)) 24 ≡ Some (0 ∷ 8 ∷ 9 ∷ 16 ∷ 24 ∷ [])
+four_segments = refl
+
+segment_not_met : table_needs (λ n. if n == 1 then None else Some (8 * n)) 24 ≡ None
+segment_not_met = refl
 
 -- an SDT on the PID of the event tables, and an EIT whose body is too short
 no_key : key_in 0x0012 (alone 0x42 1) sdt_body ≡ None

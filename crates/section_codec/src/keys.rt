@@ -1,7 +1,9 @@
 // The keys of sections.
 ghost use Rattle.std.specs.Prelude.{◌≡◌, ◌+◌, ◌*◌, ◌<◌, length, slice_index};
 ghost use Rattle.si_base.specs.Fields.{two_at};
+ghost use Rattle.section_codec.specs.Tables.{is_eit};
 ghost use Rattle.section_codec.specs.Keys.{key_in, eit_numbers_in};
+ghost use Rattle.section_codec.specs.Segments.{segment_last_in};
 
 use crate::section::LongHeader;
 use crate::table::Key;
@@ -36,6 +38,28 @@ pub fn eit_numbers(_header: &LongHeader, body: &[u8]) -> Option<(u8, u8)>
         return None;
     }
     Some((body[4], body[5]))
+}
+
+/// Whether a table has event information, of this multiplex or of others, present and following or a schedule
+/// (EN 300 468, 5.2.4).
+pub fn is_eit(table: u8) -> bool
+    ensures { result ≡ is_eit table }
+{
+    0x4E <= table && table <= 0x6F
+}
+
+/// segment_last_section_number of the section of an EIT with this number and body, or None where the body has
+/// fewer than 6 bytes or tells a number of another segment than the section's own (EN 300 468, 5.2.4). A segment
+/// has eight numbers.
+pub fn segment_last(header: &LongHeader, body: &[u8]) -> Option<u8>
+    ensures { result ≡ segment_last_in header.now.number body.now }
+{
+    let (last, _) = eit_numbers(header, body)?;
+    if last / 8 == header.number / 8 {
+        Some(last)
+    } else {
+        None
+    }
 }
 
 // The field of 16 bits at a place.

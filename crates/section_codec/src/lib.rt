@@ -12,7 +12,7 @@ mod section;
 mod table;
 mod writing;
 
-pub use keys::{eit_numbers, key_of};
+pub use keys::{eit_numbers, is_eit, key_of, segment_last};
 pub use reading::{read_section, written_sections_read_back};
 pub use section::{BadSection, LongHeader, Section};
 pub use table::{Key, NumberedBodies, NumberedBody, SubTable, SubTables, Tables, Tier3};

@@ -4,8 +4,10 @@ pub mod Done
 pub mod Whole
 pub mod Fronts
 pub mod Gathering
+pub mod Needing
 pub mod Putting
 pub mod Taking
 pub mod Keys
 pub mod OneContent
+pub mod Segmented
 pub mod Shown

@@ -12,7 +12,7 @@ use Rattle.sub_collect.specs.Collectors.{body_of}
 use Rattle.sub_collect.specs.Laws.{IsSectionOf, HoldAll, IsNumbered, RunCompletesNoOther, RunCompletes}
 use Rattle.sub_collect.proofs.Whole.{same_part, gathers, latest-of}
 
-passes : (P : Counted → Type 0) (test : Counted → Bool) (ss : List Counted) → AllByRecursion P ss → AllByRecursion (λ (s : Counted). P s × (test s ≡ true)) (filter test ss)
+pub passes : (P : Counted → Type 0) (test : Counted → Bool) (ss : List Counted) → AllByRecursion P ss → AllByRecursion (λ (s : Counted). P s × (test s ≡ true)) (filter test ss)
 passes P test [] all = tt
 passes P test (s ∷ ss) all = go (test s) refl (passes P test ss all.1)
   where

@@ -1,5 +1,5 @@
 -- What is kept of a key, once a section more is taken.
-use Rattle.std.proofs.Common.{◌≡◌, ℕ, ◌+◌, ◌<◌, List, [], ◌∷◌, ◌++◌, Bool, true, false, ◌&&◌, ◌==◌, refl, sym, ap, ◌∙◌, subst, eqb-true}
+use Rattle.std.proofs.Common.{◌≡◌, ℕ, ◌<◌, List, [], ◌∷◌, ◌++◌, Bool, true, false, ◌&&◌, ◌==◌, refl, sym, ap, ap₂, ◌∙◌, subst, eqb-true}
 use Rattle.std.specs.Prelude.{if◌then◌else◌, Option, Some, None, is_some, option_map}
 use Rattle.std.specs.Option.{option_or}
 use Rattle.std.specs.List.{AllByRecursion}
@@ -7,11 +7,12 @@ use Rattle.std.proofs.lemmas.Slice.Eq.{bytes_eq-Decides}
 use Rattle.std.proofs.lemmas.Bool.{and_parts}
 use Rattle.section_codec.specs.declared.table.Key.{Key}
 use Rattle.version_book.specs.Airings.{Content}
-use Rattle.section_codec.specs.Contents.{numbers_from}
-use Rattle.sub_collect.specs.Runs.{Counted, all_of_version, latest_section, latest_with, run_of, whole, completed}
+use Rattle.section_codec.specs.Tables.{is_eit}
+use Rattle.section_codec.specs.Segments.{segment_of}
+use Rattle.sub_collect.specs.Runs.{Counted, all_of_version, latest_section, latest_with, segment_last_of, run_of, whole, completed}
 use Rattle.sub_collect.specs.Completions.{IsOfKey, done_at, completion_at, completion, completions, latest_done, repeats, shown_after}
-use Rattle.sub_collect.specs.Collectors.{KeptRun, Kept, body_in, body_of, StandsForRun, IsKeptOf}
-use Rattle.sub_collect.specs.Slots.{held_with, is_body, content_by, latest_with_done}
+use Rattle.sub_collect.specs.Collectors.{KeptRun, Kept, body_in, body_of, last_in, StandsForRun, IsKeptOf}
+use Rattle.sub_collect.specs.Slots.{held_with, told_with, needed_by, is_body, same_last, whole_by, latest_with_done}
 use Rattle.sub_collect.specs.declared.completed.Completed.{Completed}
 use Rattle.sub_collect.proofs.Runs.{run_of-push, latest-run, latest-push, all-latest, no-latest}
 use Rattle.sub_collect.proofs.Slots.{whole-by}
@@ -71,11 +72,19 @@ held-stays held number body e n = go (n == number) refl
     go true f = ap held (eqb-true n number f) ∙ e
     go false f = refl
 
+told-stays : (lasts : ℕ → Option ℕ) (number : ℕ) (told : Option ℕ) → lasts (segment_of number) ≡ told → (n : ℕ) → lasts n ≡ told_with lasts number told n
+told-stays lasts number told e n = go (segment_of number == n) refl
+  where
+    go : (b : Bool) → (segment_of number == n) ≡ b → lasts n ≡ (if b then told else lasts n)
+    go true f = ap lasts (sym (eqb-true (segment_of number) n f)) ∙ e
+    go false f = refl
+
 done_at-same : (s t : Counted) (c : Content) → s.key ≡ t.key → s.version ≡ t.version → done_at s c ≡ done_at t c
 done_at-same s t c k v = λ i. record { key = k i; version = v i; sections = c }
 
 module _ (k : Key) (heard : List Counted) (all : AllByRecursion (IsOfKey k) heard) (s : Counted) (of_key : s.key ≡ k) (kept : Kept) (is : IsKeptOf heard kept)
-    (version : s.version ≡ kept.run.version) (last : kept.run.last ≡ s.last) (held : body_in s.number kept.run.held ≡ Some s.body) where
+    (version : s.version ≡ kept.run.version) (last : kept.run.last ≡ s.last) (told : last_in kept.run.lasts (segment_of s.number) ≡ segment_last_of s)
+    (held : body_in s.number kept.run.held ≡ Some s.body) where
   some : (t : Counted) × (latest_section (run_of heard) ≡ Some t)
   some = run-some (run_of heard) s.number s.body (sym (is.run.held s.number) ∙ held)
 
@@ -88,13 +97,23 @@ module _ (k : Key) (heard : List Counted) (all : AllByRecursion (IsOfKey k) hear
         below = λ (n : ℕ) (lt : n < kept.run.front). ap is_some (sym (held-stays (λ (m : ℕ). body_in m kept.run.held) s.number s.body held n)) ∙ is.run.front.below n lt;
         gap = λ (lt : kept.run.front < 256). sym (held-stays (λ (m : ℕ). body_in m kept.run.held) s.number s.body held kept.run.front) ∙ is.run.front.gap lt;
       })
+      (λ n. told-stays (last_in kept.run.lasts) s.number (segment_last_of s) told n)
+
+  same_last_number : s.last ≡ some.0.last
+  same_last_number = sym last ∙ is.run.last some.0 some.1
+
+  same_key : s.key ≡ some.0.key
+  same_key = of_key ∙ sym (latest-key k heard some.0 all (sym (latest-run heard) ∙ some.1))
 
   same_content : completed (heard ++ s ∷ []) ≡ completed heard
   same_content =
       ap whole more
-      ∙ whole-by (run_of heard ++ s ∷ []) s (λ (n : ℕ). body_in n kept.run.held) (latest-push (run_of heard) s) stands.held
-      ∙ ap (λ (n : ℕ). content_by (λ (m : ℕ). body_in m kept.run.held) (numbers_from 0 (1 + n))) (sym last ∙ is.run.last some.0 some.1)
-      ∙ sym (whole-by (run_of heard) some.0 (λ (n : ℕ). body_in n kept.run.held) some.1 is.run.held)
+      ∙ whole-by (run_of heard ++ s ∷ []) s bodies (last_in kept.run.lasts) (latest-push (run_of heard) s) stands.held stands.lasts
+      ∙ ap₂ (λ (q : Key) (n : ℕ). whole_by bodies (needed_by (is_eit q.table) (last_in kept.run.lasts) n)) same_key same_last_number
+      ∙ sym (whole-by (run_of heard) some.0 bodies (last_in kept.run.lasts) some.1 is.run.held is.run.lasts)
+    where
+      bodies : ℕ → Option (List ℕ)
+      bodies n = body_in n kept.run.held
 
   same_completion : completion (heard ++ s ∷ []) ≡ completion heard
   same_completion =
@@ -105,7 +124,7 @@ module _ (k : Key) (heard : List Counted) (all : AllByRecursion (IsOfKey k) hear
     where
       go : (o : Option Content) → option_map (done_at s) o ≡ option_map (done_at some.0) o
       go None = refl
-      go (Some c) = ap (λ (d : Completed). Some d) (done_at-same s some.0 c (of_key ∙ sym (latest-key k heard some.0 all (sym (latest-run heard) ∙ some.1)))
+      go (Some c) = ap (λ (d : Completed). Some d) (done_at-same s some.0 c same_key
           (version ∙ sym (all-latest kept.run.version (run_of heard) some.0 is.run.version some.1)))
 
   -- it leaves all that is kept
@@ -135,7 +154,14 @@ module _ (k : Key) (heard : List Counted) (all : AllByRecursion (IsOfKey k) hear
           ∙ ap (λ (b : Bool). if b then None else Some d) (repeats-itself d)
 
 -- the test that a section repeats what is kept
-pub repeat-test : (a b : ℕ) (o : Option (List ℕ)) (body : List ℕ) → (a == b && is_body o body) ≡ true → (a ≡ b) × (o ≡ Some body)
-repeat-test a b o body e =
-    let p = and_parts (a == b) (is_body o body) e in
-    (eqb-true a b p.0, is_body-same o body p.1)
+same_last-same : (a b : Option ℕ) → same_last a b ≡ true → a ≡ b
+same_last-same None None e = refl
+same_last-same None (Some b) e = cc
+same_last-same (Some a) None e = cc
+same_last-same (Some a) (Some b) e = ap Some (eqb-true a b e)
+
+pub repeat-test : (a b : ℕ) (c d : Option ℕ) (o : Option (List ℕ)) (body : List ℕ) → (a == b && same_last c d && is_body o body) ≡ true → (a ≡ b) × (c ≡ d) × (o ≡ Some body)
+repeat-test a b c d o body e =
+    let p = and_parts (a == b && same_last c d) (is_body o body) e in
+    let q = and_parts (a == b) (same_last c d) p.0 in
+    (eqb-true a b q.0, same_last-same c d q.1, is_body-same o body p.1)

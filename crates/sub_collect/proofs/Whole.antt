@@ -1,15 +1,17 @@
 -- The sections of a content, in order, complete it.
 use Rattle.std.proofs.Common.{◌≡◌, ℕ, ◌+◌, ◌<◌, List, [], ◌∷◌, ◌++◌, Bool, true, false, ◌==◌, length, map, refl, sym, ap, ◌∙◌, subst, arith, append_assoc, append-nil, eq-eqb, eqb-true}
-use Rattle.std.specs.Prelude.{cond, filter, Option, Some, None, is_some, IsSome}
+use Rattle.std.specs.Prelude.{cond, if◌then◌else◌, filter, Option, Some, None, is_some, IsSome}
 use Rattle.std.specs.List.{AllByRecursion}
 use Rattle.std.proofs.lemmas.List.Elements.{filter-append}
 use Rattle.section_codec.specs.declared.table.Key.{Key}
 use Rattle.section_codec.specs.declared.table.NumberedBody.{NumberedBody}
+use Rattle.section_codec.specs.Tables.{is_eit}
 use Rattle.section_codec.specs.Contents.{numbers, numbers_from, last_number, Ascend}
+use Rattle.section_codec.specs.Segments.{table_needs}
 use Rattle.section_codec.proofs.ContentFacts.{above_first, Ascend-rest, Ascend-from, last_number-from}
 use Rattle.version_book.specs.Airings.{Content}
 use Rattle.version_book.proofs.Versions.{is_key-itself}
-use Rattle.sub_collect.specs.Runs.{Counted, latest_section, has_number, latest_with, run_of, needed, needed_at, with_part, gathered, gathered_at, whole, completed}
+use Rattle.sub_collect.specs.Runs.{Counted, latest_section, has_number, latest_with, run_of, last_told, needed, needed_at, with_part, gathered, gathered_at, whole, completed}
 use Rattle.sub_collect.specs.Completions.{is_of, of_key}
 use Rattle.sub_collect.specs.Collectors.{body_of}
 use Rattle.sub_collect.specs.Laws.{section_with, sections_with, IsSectionOf, HoldAll, WholeCompletes, FromZeroIsNumbered}
@@ -72,7 +74,7 @@ module _ (k : Key) (v last : ℕ) where
       apart true e lt = let same : p.number ≡ n = eqb-true p.number n e in absurd (omega (arith, same, lt))
       apart false e lt = e
 
-  bodies : (before : List Counted) (ps : List NumberedBody) → Ascend ps → AllByRecursion (λ (p : NumberedBody). body_of (latest_with p.number (before ++ sent ps)) ≡ Some p.body) ps
+  pub bodies : (before : List Counted) (ps : List NumberedBody) → Ascend ps → AllByRecursion (λ (p : NumberedBody). body_of (latest_with p.number (before ++ sent ps)) ≡ Some p.body) ps
   bodies before [] up = tt
   bodies before (p ∷ ps) up =
       let s = section_with k v last p in
@@ -87,11 +89,11 @@ module _ (k : Key) (v last : ℕ) where
       ∙ latest-push (filter (has_number p.number) before) s in
       (ap body_of found, subst (λ (l : List Counted). AllByRecursion (λ (q : NumberedBody). body_of (latest_with q.number l) ≡ Some q.body) ps) e (bodies (before ++ s ∷ []) ps (Ascend-rest p ps up)))
 
-  last_sent : (before : List Counted) (p : NumberedBody) (ps : List NumberedBody) → (s : Counted) × (latest_section (before ++ sent (p ∷ ps)) ≡ Some s) × (s.last ≡ last)
-  last_sent before p [] = (section_with k v last p, latest-push before (section_with k v last p), refl)
+  pub last_sent : (before : List Counted) (p : NumberedBody) (ps : List NumberedBody) → (s : Counted) × (latest_section (before ++ sent (p ∷ ps)) ≡ Some s) × (s.last ≡ last) × (s.key ≡ k)
+  last_sent before p [] = (section_with k v last p, latest-push before (section_with k v last p), refl, refl)
   last_sent before p (q ∷ ps) =
       let r = last_sent (before ++ section_with k v last p ∷ []) q ps in
-      (r.0, ap latest_section (sym (append_assoc before (section_with k v last p ∷ []) (sent (q ∷ ps)))) ∙ r.1, r.2)
+      (r.0, ap latest_section (sym (append_assoc before (section_with k v last p ∷ []) (sent (q ∷ ps)))) ∙ r.1, r.2, r.3)
 
   all_one : (ps : List NumberedBody) → AllByRecursion (λ (t : Counted). t.version ≡ v) (sent ps)
   all_one [] = tt
@@ -151,16 +153,23 @@ none_held (p ∷ ps) some holds =
     let z : Prim.⊥ = cc in
     z
 
+-- what a run of a table without segments needs, by its latest section
+plain_needs : (run : List Counted) (s : Counted) (k : Key) → latest_section run ≡ Some s → s.key ≡ k → is_eit k.table ≡ false → needed run ≡ Some (numbers_from 0 (1 + s.last))
+plain_needs run s k e key plain =
+    ap (needed_at run) e
+    ∙ ap (λ (q : Key). if is_eit q.table then table_needs (last_told run) s.last else Some (numbers_from 0 (1 + s.last))) key
+    ∙ ap (λ (b : Bool). if b then table_needs (last_told run) s.last else Some (numbers_from 0 (1 + s.last))) plain
+
 pub from_zero : FromZeroIsNumbered
-from_zero k [] some are = absurd (let none : 0 < 0 = some in omega arith)
-from_zero k (p ∷ ps) some are = record {
+from_zero k [] plain some are = absurd (let none : 0 < 0 = some in omega arith)
+from_zero k (p ∷ ps) plain some are = record {
   some = some;
   ascending = Ascend-from 0 (p ∷ ps) are;
   whole = λ v before.
       let r = last_sent k v (last_number (p ∷ ps)) before p ps in
-      ap needed_at r.1 ∙ ap (λ (n : ℕ). Some (numbers_from 0 (1 + n))) r.2 ∙ ap (λ (ns : List ℕ). Some ns) is;
+      plain_needs (before ++ sections_with k v (p ∷ ps)) r.0 k r.1 r.3 plain ∙ ap (λ (n : ℕ). Some (numbers_from 0 (1 + n))) r.2 ∙ ap (λ (ns : List ℕ). Some ns) is;
   no_other = λ run ns all e. other run ns all e (latest_section run) refl;
-  known = λ run all holds. known run holds (latest_section run) refl;
+  known = λ run all holds. known run all holds (latest_section run) refl;
 }
   where
     is : numbers_from 0 (1 + last_number (p ∷ ps)) ≡ numbers (p ∷ ps)
@@ -168,14 +177,14 @@ from_zero k (p ∷ ps) some are = record {
 
     other : (run : List Counted) (ns : List ℕ) → AllByRecursion (IsSectionOf k (p ∷ ps)) run → needed run ≡ Some ns → (o : Option Counted) → latest_section run ≡ o → ns ≡ numbers (p ∷ ps)
     other run ns all e None f =
-        let none : None ≡ Some ns = ap needed_at (sym f) ∙ e in
+        let none : None ≡ Some ns = ap (needed_at run) (sym f) ∙ e in
         absurd (let z : Prim.⊥ = cc in z)
     other run ns all e (Some s) f =
-        let last = (latest-of (IsSectionOf k (p ∷ ps)) run s all f).last in
-        let told : Some (numbers_from 0 (1 + s.last)) ≡ Some ns = ap needed_at (sym f) ∙ e in
+        let one = latest-of (IsSectionOf k (p ∷ ps)) run s all f in
+        let told : Some (numbers_from 0 (1 + s.last)) ≡ Some ns = sym (plain_needs run s k f one.key plain) ∙ e in
         let same : numbers_from 0 (1 + s.last) ≡ ns = cc in
-        sym same ∙ ap (λ (n : ℕ). numbers_from 0 (1 + n)) last ∙ is
+        sym same ∙ ap (λ (n : ℕ). numbers_from 0 (1 + n)) one.last ∙ is
 
-    known : (run : List Counted) → HoldAll (p ∷ ps) run → (o : Option Counted) → latest_section run ≡ o → IsSome (needed run)
-    known run holds None f = absurd (none_held (p ∷ ps) some (subst (HoldAll (p ∷ ps)) (no-latest run f) holds))
-    known run holds (Some s) f = ap (λ (o : Option Counted). is_some (needed_at o)) f
+    known : (run : List Counted) → AllByRecursion (IsSectionOf k (p ∷ ps)) run → HoldAll (p ∷ ps) run → (o : Option Counted) → latest_section run ≡ o → IsSome (needed run)
+    known run all holds None f = absurd (none_held (p ∷ ps) some (subst (HoldAll (p ∷ ps)) (no-latest run f) holds))
+    known run all holds (Some s) f = ap (λ (o : Option (List ℕ)). is_some o) (plain_needs run s k f (latest-of (IsSectionOf k (p ∷ ps)) run s all f).key plain)

@@ -1,17 +1,19 @@
 -- What a collector keeps, and the counted sections that it stands for.
-use Rattle.std.specs.Prelude.{◌≡◌, ◌≢◌, ℕ, ◌<◌, List, [], ◌∷◌, true, ◌==◌, if◌then◌else◌, Option, Some, None, option_map, is_some}
+use Rattle.std.specs.Prelude.{◌≡◌, ◌≢◌, ℕ, ◌<◌, List, [], ◌∷◌, true, ◌==◌, if◌then◌else◌, Option, Some, None, option_map, is_some, slice_index_or}
 use Rattle.section_codec.specs.declared.table.Key.{Key}
 use Rattle.version_book.specs.Airings.{is_key}
-use Rattle.sub_collect.specs.Runs.{Counted, all_of_version, run_of, latest_section, latest_with}
+use Rattle.sub_collect.specs.Runs.{Counted, all_of_version, run_of, latest_section, latest_with, last_told}
 use Rattle.sub_collect.specs.Completions.{of_key, completions, latest_done}
 use Rattle.sub_collect.specs.declared.completed.Completed.{Completed}
 
--- what is kept of a run: its version, the last_section_number of its latest section, the latest body of each number that it holds, and how many numbers it holds from 0 on
+-- what is kept of a run: its version, the last_section_number of its latest section, the latest body of each number that it holds, how many numbers it holds from 0 on, and of each of
+-- 32 segments the last number that its latest section tells
 pub record KeptRun : Type 0 where
   pub version : ℕ
   pub last : ℕ
   pub held : List (ℕ × List ℕ)
   pub front : ℕ
+  pub lasts : List (Option ℕ)
 
 -- what is kept of a key: its run and its latest completion
 pub record Kept : Type 0 where
@@ -32,6 +34,10 @@ abbrev pub body_in : ℕ → List (ℕ × List ℕ) → Option (List ℕ)
 body_in n [] = None
 body_in n (entry ∷ entries) = if n == entry.0 then Some entry.1 else body_in n entries
 
+-- the last number that is kept of a segment
+abbrev pub last_in : List (Option ℕ) → ℕ → Option ℕ
+last_in lasts segment = slice_index_or lasts segment None
+
 abbrev pub body_of : Option Counted → Option (List ℕ)
 body_of s = option_map (λ (x : Counted). x.body) s
 
@@ -46,6 +52,7 @@ pub record StandsForRun (run : List Counted) (kept : KeptRun) : Type 0 where
   pub last : (s : Counted) → latest_section run ≡ Some s → kept.last ≡ s.last
   pub held : (n : ℕ) → body_in n kept.held ≡ body_of (latest_with n run)
   pub front : IsFront (λ n. body_in n kept.held) kept.front
+  pub lasts : (segment : ℕ) → last_in kept.lasts segment ≡ last_told run segment
 
 -- What is kept of a key stands for these sections of it.
 pub record IsKeptOf (heard : List Counted) (kept : Kept) : Type 0 where

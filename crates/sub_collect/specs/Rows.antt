@@ -129,3 +129,46 @@ needs = refl
 
 needs_none : needed [] ≡ None
 needs_none = refl
+
+-- ---- a schedule, whose sections tell the last number of their segment
+
+abbrev schedule : Key
+schedule = record { pid = 18; table = 80; ext = 101; stream = 1; network = 1 }
+
+-- the body of an event information section with this segment_last_section_number, and one byte behind its head
+abbrev body_with : ℕ → ℕ → List ℕ
+body_with segment_last b = 0 ∷ 1 ∷ 0 ∷ 1 ∷ segment_last ∷ 80 ∷ b ∷ []
+
+-- a section with section_number n of last, segment_last_section_number m, and one byte behind the body's head
+abbrev e : ℕ → ℕ → ℕ → ℕ → Counted
+e n last m b = record { key = schedule; version = 0; number = n; last = last; body = body_with m b }
+
+abbrev event_part : ℕ → ℕ → ℕ → NumberedBody
+event_part n m b = record { number = n; body = body_with m b }
+
+-- nothing is waited for between the last number of a segment and the next segment
+by_segments : shows (e 0 8 0 7 ∷ e 8 8 8 9 ∷ []) ≡ done schedule 0 (event_part 0 0 7 ∷ event_part 8 8 9 ∷ []) ∷ []
+by_segments = refl
+
+-- a segment short of one
+short_of_one : shows (e 0 8 1 7 ∷ e 8 8 8 9 ∷ e 0 8 1 7 ∷ []) ≡ []
+short_of_one = refl
+
+and_then_whole : shows (e 0 8 1 7 ∷ e 8 8 8 9 ∷ e 1 8 1 8 ∷ []) ≡ done schedule 0 (event_part 0 1 7 ∷ event_part 1 1 8 ∷ event_part 8 8 9 ∷ []) ∷ []
+and_then_whole = refl
+
+-- a segment that was not met
+not_met : needed (e 0 16 0 7 ∷ e 16 16 16 9 ∷ []) ≡ None
+not_met = refl
+
+-- last_section_number falls within a version: the segments above it are not needed
+last_falls : shows (e 0 16 0 7 ∷ e 16 16 16 9 ∷ e 0 0 0 7 ∷ []) ≡ done schedule 0 (event_part 0 0 7 ∷ []) ∷ []
+last_falls = refl
+
+-- the latest section of a segment decides on its last number: section 0 again makes section 1 needed, which is held
+segment_tells_again : shows (e 0 1 1 7 ∷ e 1 1 0 8 ∷ e 0 1 1 7 ∷ []) ≡ done schedule 0 (event_part 0 1 7 ∷ []) ∷ done schedule 0 (event_part 0 1 7 ∷ event_part 1 0 8 ∷ []) ∷ []
+segment_tells_again = refl
+
+-- a body without a segment_last_section_number tells none
+tells_none : needed (record { key = schedule; version = 0; number = 0; last = 0; body = 0 ∷ 1 ∷ [] } ∷ []) ≡ None
+tells_none = refl

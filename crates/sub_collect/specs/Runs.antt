@@ -1,7 +1,9 @@
--- The sections that count for a key, their run, and what it completes (ISO/IEC 13818-1, 2.4.4; EN 300 468, 5.1.1).
+-- The sections that count for a key, their run, and what it completes (ISO/IEC 13818-1, 2.4.4; EN 300 468, 5.1.1 and 5.2.4).
 use Rattle.std.specs.Prelude.{ℕ, ◌+◌, List, [], ◌∷◌, Bool, true, ◌&&◌, ◌==◌, if◌then◌else◌, filter, Option, Some, None}
 use Rattle.section_codec.specs.declared.table.Key.{Key}
+use Rattle.section_codec.specs.Tables.{is_eit}
 use Rattle.section_codec.specs.Contents.{numbers_from}
+use Rattle.section_codec.specs.Segments.{segment_of, segment_last_in, table_needs}
 use Rattle.section_codec.specs.declared.section.LongHeader.{LongHeader}
 use Rattle.version_book.specs.Airings.{Content}
 
@@ -36,14 +38,29 @@ latest_section [] = None
 latest_section (s ∷ []) = Some s
 latest_section (s ∷ t ∷ ss) = latest_section (t ∷ ss)
 
--- the needed numbers, by the latest section: 0 to its last_section_number
-abbrev pub needed_at : Option Counted → Option (List ℕ)
-needed_at None = None
-needed_at (Some s) = Some (numbers_from 0 (1 + s.last))
+-- the last number of its own segment that a section of an event information table tells; those of other tables tell none
+abbrev pub segment_last_of : Counted → Option ℕ
+segment_last_of s = if is_eit s.key.table then segment_last_in s.number s.body else None
 
--- the numbers that a run has to hold; None where they are not known, as of no section
+abbrev pub last_told_by : Option Counted → Option ℕ
+last_told_by None = None
+last_told_by (Some s) = segment_last_of s
+
+abbrev pub is_in_segment : ℕ → Counted → Bool
+is_in_segment segment s = segment_of s.number == segment
+
+-- the last number of a segment, as the latest section of the segment tells it
+abbrev pub last_told : List Counted → ℕ → Option ℕ
+last_told run segment = last_told_by (latest_section (filter (is_in_segment segment) run))
+
+-- the needed numbers, by the latest section: of an event information table those of its segments, else 0 to its last_section_number
+abbrev pub needed_at : List Counted → Option Counted → Option (List ℕ)
+needed_at run None = None
+needed_at run (Some s) = if is_eit s.key.table then table_needs (last_told run) s.last else Some (numbers_from 0 (1 + s.last))
+
+-- the numbers that a run has to hold; None where they are not known, as of no section or where a segment was not met
 abbrev pub needed : List Counted → Option (List ℕ)
-needed run = needed_at (latest_section run)
+needed run = needed_at run (latest_section run)
 
 abbrev pub has_number : ℕ → Counted → Bool
 has_number n s = s.number == n

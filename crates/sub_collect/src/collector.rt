@@ -59,10 +59,12 @@ impl Collector {
 
     /// Counts one section more of a key, and gives its version_number exactly where it shows a completion:
     /// where the run of the key, which is its sections since it last had another version_number, holds every
-    /// number from 0 to this section's last_section_number, and the version or the content that it has whole
-    /// differs from the key's latest completion, or the key had none (ISO/IEC 13818-1, 2.4.4; EN 300 468,
-    /// 5.1.1). The content has for each number the body that was heard last. Where memory is wanting, the
-    /// collector stays as it was, and the section does not count.
+    /// number that it needs, and the version or the content that it has whole differs from the key's latest
+    /// completion, or the key had none (ISO/IEC 13818-1, 2.4.4; EN 300 468, 5.1.1). It needs the numbers from 0 to
+    /// this section's last_section_number; of a table with event information, of each segment up to that of
+    /// last_section_number those up to the segment_last_section_number that the segment's latest section tells
+    /// (EN 300 468, 5.2.4). The content has for each number the body that was heard last. Where memory is wanting,
+    /// the collector stays as it was, and the section does not count.
     pub fn take(
         &mut self,
         key: Key,
@@ -129,7 +131,7 @@ impl Slot {
             self.run = run;
             return Ok(show(&mut self.latest, done));
         }
-        if self.run.repeats(header, &body) {
+        if self.run.repeats(key, header, &body) {
             return Ok(None);
         }
         let done = self.run.put(alloc, key, header, body)?;

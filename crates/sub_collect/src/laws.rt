@@ -1,5 +1,5 @@
 // Laws of completions.
-ghost use Rattle.sub_collect.specs.Laws.{KeysApart, LatestApart, LatestIsShown, LatestOneMore, DonesGoOn, DonesOneMore, FromZeroIsNumbered, WholeCompletes, RunCompletes, RunCompletesNoOther, VersionBeginsRun, VersionKeepsRun, NewIsShown, SameIsQuiet};
+ghost use Rattle.sub_collect.specs.Laws.{KeysApart, LatestApart, LatestIsShown, LatestOneMore, DonesGoOn, DonesOneMore, FromZeroIsNumbered, BySegmentsIsNumbered, WholeCompletes, RunCompletes, RunCompletesNoOther, VersionBeginsRun, VersionKeepsRun, NewIsShown, SameIsQuiet};
 
 /// The completions of a key depend on the sections of that key alone: those that are shown, and the latest
 /// one, which is the last one that was shown.
@@ -17,10 +17,12 @@ pub fn completions_go_on()
 {}
 
 /// Whatever was heard before, the sections of a content that describes itself, in order under one version, complete it. A content with
-/// the numbers 0, 1, .. describes itself.
+/// the numbers 0, 1, .. describes itself where its table has no event information, and one that goes by segments where it has
+/// (EN 300 468, 5.2.4).
 pub fn whole_versions_complete()
     ensures whole { WholeCompletes }
     ensures from_zero { FromZeroIsNumbered }
+    ensures by_segments { BySegmentsIsNumbered }
 {}
 
 /// A section of another version begins a run, which holds nothing of before, and one of the same version

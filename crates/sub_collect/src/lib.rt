@@ -10,6 +10,7 @@
 mod collector;
 mod completed;
 mod laws;
+mod needed;
 mod run;
 
 pub use collector::Collector;

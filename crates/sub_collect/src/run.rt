@@ -1,25 +1,29 @@
 // The present run of a key: its sections of one version.
 ghost use Rattle.std.specs.Prelude.{◌≡◌, ◌<◌, ◌≤◌, ◌+◌, ◌∷◌, ◌++◌, ◌==◌, ◌&&◌, [], List, ℕ, Option, Some, None, option_map, option_copied, IfOk, OnOk, OnErr, true, false};
+ghost use Rattle.section_codec.specs.Tables.{is_eit};
 ghost use Rattle.section_codec.specs.Contents.{numbers_from};
-ghost use Rattle.sub_collect.specs.Runs.{Counted, counted, whole};
+ghost use Rattle.section_codec.specs.Segments.{segment_of};
+ghost use Rattle.sub_collect.specs.Runs.{Counted, counted, segment_last_of, whole};
 ghost use Rattle.sub_collect.specs.Completions.{done_at};
-ghost use Rattle.sub_collect.specs.Collectors.{StandsForRun, IsFront, body_in};
-ghost use Rattle.sub_collect.specs.Slots.{kept_run, held_with, is_body, content_by};
+ghost use Rattle.sub_collect.specs.Collectors.{StandsForRun, IsFront, body_in, last_in};
+ghost use Rattle.sub_collect.specs.Slots.{kept_run, held_with, told_with, needed_by, is_body, same_last, content_by, whole_by};
 
 use crate::completed::Completed;
-use section_codec::{Key, LongHeader, NumberedBodies, NumberedBody};
+use crate::needed::needed_numbers;
+use section_codec::{Key, LongHeader, NumberedBodies, NumberedBody, is_eit, segment_last};
 use si_base::{Bytes, Items};
 use std::alloc::{AllocError, Global};
 use std::collections::BTreeMap;
 
 // The version of the run, the last_section_number of its latest section, the latest body of each number that
-// it holds, and how many numbers it holds from 0 on.
+// it holds, how many numbers it holds from 0 on, and of each segment the last number that its latest section tells.
 #[derive(Drop)]
 pub struct Run {
     pub version: u8,
     pub last: u8,
     pub held: BTreeMap<u8, Bytes>,
     pub front: u16,
+    pub lasts: [Option<u8>; 32],
 }
 
 impl Run {
@@ -33,6 +37,7 @@ impl Run {
             last: 0,
             held: BTreeMap::new(alloc),
             front: 0,
+            lasts: [None; 32],
         }
     }
 
@@ -53,28 +58,44 @@ impl Run {
             → StandsForRun (run ++ counted key header.now body ∷ []) (kept_run self.new)) }
         ensures memory { OnErr result (kept_run self.new ≡ kept_run self.old) }
     {
-        // The bodies are walked only where no number is missing, and nothing changes before all memory is had.
+        // Without segments the bodies are walked only where no number is missing. Nothing changes before all memory
+        // is had.
+        let told = last_told_by(key, header, body.as_slice());
         let front = self.front_with(header.number);
-        let done = if u16::from(header.last) < front {
-            self.whole_with(alloc, key, header, body.as_slice())?
+        let done = if is_eit(key.table) || u16::from(header.last) < front {
+            self.whole_with(alloc, key, header, body.as_slice(), told)?
         } else {
             None
         };
         self.held.insert(header.number, body)?;
         self.front = front;
         self.last = header.last;
+        self.lasts[usize::from(header.number / 8)] = told;
         Ok(done)
     }
 
-    // Whether a section of the version of the run has the last_section_number and the body that are kept.
-    pub fn repeats(&self, header: &LongHeader, body: &Bytes) -> bool
-        ensures { result ≡ (self.now.last == header.now.last && is_body (body_in header.now.number self.now.held.entries) body.now) }
+    // Whether a section of the version of the run has the last_section_number and the body that are kept, and tells
+    // the last number of its segment that is kept.
+    pub fn repeats(&self, key: Key, header: &LongHeader, body: &Bytes) -> bool
+        ensures { result ≡ (self.now.last == header.now.last && same_last (last_in self.now.lasts (segment_of header.now.number)) (segment_last_of (counted key header.now body.now))
+            && is_body (body_in header.now.number self.now.held.entries) body.now) }
     {
         self.last == header.last
-            && match self.held.get(&header.number) {
-                Some(held) => held.as_slice() == body.as_slice(),
-                None => false,
-            }
+            && same_last(
+                self.lasts[usize::from(header.number / 8)],
+                last_told_by(key, header, body.as_slice()),
+            )
+            && self.has_body(header.number, body.as_slice())
+    }
+
+    // Whether this body is held of a number.
+    fn has_body(&self, number: u8, body: &[u8]) -> bool
+        ensures { result ≡ is_body (body_in number self.now.held.entries) body.now }
+    {
+        match self.held.get(&number) {
+            Some(held) => held.as_slice() == body,
+            None => false,
+        }
     }
 
     // How many numbers from 0 on are held once this number is. Each number is passed once in a run.
@@ -92,30 +113,71 @@ impl Run {
         front
     }
 
-    // What the run completes once a section is put: a copy of each body, or None where one is missing.
+    // What the run completes once a section is put, which tells this last number of its segment: a copy of each body,
+    // or None where one is missing.
     fn whole_with(
         &self,
         alloc: Global,
         key: Key,
         header: &LongHeader,
         body: &[u8],
+        told: Option<u8>,
     ) -> Result<Option<Completed>, AllocError>
         ensures { IfOk result (λ done. done ≡ option_map (done_at (counted key header.now body.now))
-            (content_by (held_with (λ n. body_in n self.now.held.entries) header.now.number body.now) (numbers_from 0 (1 + header.now.last)))) }
+            (whole_by (held_with (λ n. body_in n self.now.held.entries) header.now.number body.now)
+            (needed_by (is_eit key.table) (told_with (last_in self.now.lasts) header.now.number told) header.now.last))) }
     {
-        let mut sections = Vec::with_capacity(alloc, header.last as usize + 1)?;
-        for number in 0..=header.last {
-            let Some(held) = self.body_with(number, header.number, body) else {
+        let mut lasts = self.lasts;
+        lasts[usize::from(header.number / 8)] = told;
+        let Some(needed) = needed_numbers(alloc, is_eit(key.table), &lasts, header.last)? else {
+            return Ok(None);
+        };
+        if self.misses(needed.as_slice(), header.number) {
+            return Ok(None);
+        }
+        match self.bodies_with(alloc, needed.as_slice(), header.number, body)? {
+            Some(sections) => Ok(Some(Completed {
+                key,
+                version: header.version,
+                sections,
+            })),
+            None => Ok(None),
+        }
+    }
+
+    // Whether one of these numbers is missing once this number is put. The first that is missing ends the walk.
+    fn misses(&self, numbers: &[u8], put: u8) -> bool
+        ensures { (body : List ℕ) → result ≡ true → content_by (held_with (λ n. body_in n self.now.held.entries) put body) numbers.now ≡ None }
+    {
+        for i in 0..numbers.len() {
+            if numbers[i] != put && !self.held.contains_key(&numbers[i]) {
+                return true;
+            }
+        }
+        false
+    }
+
+    // Of each of these numbers a copy of the body that is held of it once this body is put under that one, or None
+    // where one is missing.
+    fn bodies_with(
+        &self,
+        alloc: Global,
+        numbers: &[u8],
+        put: u8,
+        body: &[u8],
+    ) -> Result<Option<NumberedBodies>, AllocError>
+        ensures { IfOk result (λ sections. sections ≡ content_by (held_with (λ n. body_in n self.now.held.entries) put body.now) numbers.now) }
+    {
+        let mut sections = Vec::with_capacity(alloc, numbers.len())?;
+        for i in 0..numbers.len() {
+            let number = numbers[i];
+            let Some(held) = self.body_with(number, put, body) else {
                 return Ok(None);
             };
             let body = Items::of(Vec::from_slice(alloc, held)?);
             sections.push(NumberedBody { number, body })?;
         }
-        Ok(Some(Completed {
-            key,
-            version: header.version,
-            sections: Items::of(sections),
-        }))
+        Ok(Some(Items::of(sections)))
     }
 
     // The body that is held of a number once this body is put under that one.
@@ -129,5 +191,28 @@ impl Run {
             Some(held) => Some(held.as_slice()),
             None => None,
         }
+    }
+}
+
+// The last number of its own segment that a section of an event information table tells; those of other tables
+// tell none.
+fn last_told_by(key: Key, header: &LongHeader, body: &[u8]) -> Option<u8>
+    ensures { result ≡ segment_last_of (counted key header.now body.now) }
+{
+    if is_eit(key.table) {
+        segment_last(header, body)
+    } else {
+        None
+    }
+}
+
+// Whether two sections tell the same.
+fn same_last(a: Option<u8>, b: Option<u8>) -> bool
+    ensures { result ≡ same_last a b }
+{
+    match (a, b) {
+        (Some(a), Some(b)) => a == b,
+        (None, None) => true,
+        _ => false,
     }
 }

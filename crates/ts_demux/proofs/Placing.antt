@@ -4,7 +4,6 @@ use Rattle.std.specs.Prelude.{if◌then◌else◌, slice_set, option_map, Result
 use Rattle.std.proofs.lemmas.Bool.Decides.{nat_tests}
 use Rattle.std.proofs.lemmas.List.{map-set, map-append}
 use Rattle.std.proofs.lemmas.Bool.{eqb-true}
-use Rattle.si_lists.proofs.Outcomes.{on_ok}
 use Rattle.ts_demux.specs.Keeping.{Kept, nothing, kept_in, kept_on}
 
 kept_on-none : (q : ℕ) (slots : List (Option Kept)) → kept_on q (slots ++ None ∷ []) ≡ kept_on q slots

@@ -5,7 +5,7 @@ use si_base::{Bytes, Items};
 use std::alloc::{AllocError, Global};
 use sub_collect::Collector;
 
-/// `take SECTION / SECTION ..`: each section that shows a completion, and then the latest completions of tables 42 and 40. A section is
+/// `take SECTION / SECTION ..`: each section that shows a completion, and then the latest completions of tables 42, 40 and 50. A section is
 /// its table, version, number and last number, and its body, as `42 v0 1/3 07`. Numbers from one to another have their number as
 /// body, as `42 v0 0-3/3`.
 pub fn take(row: &mut Row) {
@@ -13,6 +13,7 @@ pub fn take(row: &mut Row) {
     take_all(row, &mut collector);
     put_latest(row, &collector, 0x42);
     put_latest(row, &collector, 0x40);
+    put_latest(row, &collector, 0x50);
 }
 
 fn take_all(row: &mut Row, collector: &mut Collector) {

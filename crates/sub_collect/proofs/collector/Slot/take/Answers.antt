@@ -1,7 +1,8 @@
 use Rattle.std.proofs.Common.{ℕ, ◌++◌, ◌∷◌, [], Option, option_map, ap, sym, refl, subst, ◌∙◌}
-use Rattle.sub_collect.specs.Runs.{all_of_version, counted, run_of}
+use Rattle.section_codec.specs.Segments.{segment_of}
+use Rattle.sub_collect.specs.Runs.{all_of_version, counted, run_of, segment_last_of}
 use Rattle.sub_collect.specs.Completions.{completion, shown_after}
-use Rattle.sub_collect.specs.Collectors.{IsKeptOf, body_in}
+use Rattle.sub_collect.specs.Collectors.{IsKeptOf, body_in, last_in}
 use Rattle.sub_collect.specs.Slots.{kept_run, kept_by, latest_with_done}
 use Rattle.sub_collect.specs.declared.completed.Completed.{Completed}
 use Rattle.sub_collect.proofs.Runs.{run_of-push, run_of-other}
@@ -31,15 +32,15 @@ pub returns-then-repeats-clause-shown : goal.returns-then-repeats-clause-shown
 returns-then-repeats-clause-shown c = λ heard is all.
     let s = counted c.args.key c.args.header.now c.args.body in
     let kept = kept_by c.args.self.now in
-    let test = repeat-test kept.run.last s.last (body_in s.number kept.run.held) s.body (sym c.repeats.ensures ∙ c.if-repeats.true) in
-    ap (option_map (λ (d : Completed). d.version)) (sym (repeat-shows c.args.key heard all s refl kept is (sym c.if-self-header.false) test.0 test.1))
+    let test = repeat-test kept.run.last s.last (last_in kept.run.lasts (segment_of s.number)) (segment_last_of s) (body_in s.number kept.run.held) s.body (sym c.repeats.ensures ∙ c.if-repeats.true) in
+    ap (option_map (λ (d : Completed). d.version)) (sym (repeat-shows c.args.key heard all s refl kept is (sym c.if-self-header.false) test.0 test.1 test.2))
 
 pub returns-then-repeats-clause-stands : goal.returns-then-repeats-clause-stands
 returns-then-repeats-clause-stands c = λ heard is all.
     let s = counted c.args.key c.args.header.now c.args.body in
     let kept = kept_by c.args.self.now in
-    let test = repeat-test kept.run.last s.last (body_in s.number kept.run.held) s.body (sym c.repeats.ensures ∙ c.if-repeats.true) in
-    repeat-kept c.args.key heard all s refl kept is (sym c.if-self-header.false) test.0 test.1
+    let test = repeat-test kept.run.last s.last (last_in kept.run.lasts (segment_of s.number)) (segment_last_of s) (body_in s.number kept.run.held) s.body (sym c.repeats.ensures ∙ c.if-repeats.true) in
+    repeat-kept c.args.key heard all s refl kept is (sym c.if-self-header.false) test.0 test.1 test.2
 
 pub returns-clause-shown : goal.returns-clause-shown
 returns-clause-shown c = λ heard is all.

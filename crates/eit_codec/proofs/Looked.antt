@@ -1,0 +1,46 @@
+-- Bodies, looked at from the front.
+use Rattle.std.proofs.Common.{◌≡◌, ℕ, zero, suc, ◌<◌, ◌≤◌, Bool, true, false, ◌&&◌, List, [], ◌∷◌, length, drop, refl, sym, ap, ◌∙◌, arith}
+use Rattle.std.proofs.lemmas.List.{length-drop}
+use Rattle.eit_codec.specs.Bodies.{entry_length, begins_with_entry, are_entries}
+
+-- what is left decides, and n bounds how many there are
+pub record Decides (test : ℕ → List ℕ → Bool) (bytes rest : List ℕ) : Type 0 where
+  pub n : ℕ
+  pub enough : length rest ≤ n
+  pub same : test n rest ≡ test (length bytes) bytes
+
+pub all_left : (test : ℕ → List ℕ → Bool) (bytes : List ℕ) → Decides test bytes bytes
+all_left test bytes = record { n = length bytes; enough = omega arith; same = refl }
+
+and_true : (a b : Bool) → a ≡ true → (a && b) ≡ b
+and_true a b e = ap (λ (x : Bool). x && b) e
+
+and_false : (a b : Bool) → a ≡ false → (a && b) ≡ false
+and_false a b e = ap (λ (x : Bool). x && b) e
+
+-- ---- entries
+
+pub next_entry : (bytes rest : List ℕ) → Decides are_entries bytes rest → 0 < length rest → begins_with_entry rest ≡ true → Decides are_entries bytes (drop (entry_length rest) rest)
+next_entry bytes rest is some e = go rest is.n is.enough is.same some e
+  where
+    go : (rest : List ℕ) (n : ℕ) → length rest ≤ n → are_entries n rest ≡ are_entries (length bytes) bytes → 0 < length rest → begins_with_entry rest ≡ true
+        → Decides are_entries bytes (drop (entry_length rest) rest)
+    go [] n le same some e = absurd (omega arith)
+    go (b ∷ more) zero le same some e = absurd (omega arith)
+    go (b ∷ more) (suc n) le same some e = record {
+      n = n;
+      enough = omega (arith, length-drop (entry_length (b ∷ more)) (b ∷ more));
+      same = sym (and_true (begins_with_entry (b ∷ more)) (are_entries n (drop (entry_length (b ∷ more)) (b ∷ more))) e) ∙ same;
+    }
+
+pub no_entry : (bytes rest : List ℕ) → Decides are_entries bytes rest → 0 < length rest → begins_with_entry rest ≡ false → are_entries (length bytes) bytes ≡ false
+no_entry bytes rest is some e = go rest is.n is.same some e
+  where
+    go : (rest : List ℕ) (n : ℕ) → are_entries n rest ≡ are_entries (length bytes) bytes → 0 < length rest → begins_with_entry rest ≡ false → are_entries (length bytes) bytes ≡ false
+    go [] n same some e = absurd (omega arith)
+    go (b ∷ more) zero same some e = sym same
+    go (b ∷ more) (suc n) same some e = sym same ∙ and_false (begins_with_entry (b ∷ more)) (are_entries n (drop (entry_length (b ∷ more)) (b ∷ more))) e
+
+pub entries_end : (bytes rest : List ℕ) → Decides are_entries bytes rest → length rest ≡ 0 → are_entries (length bytes) bytes ≡ true
+entries_end bytes [] is none = sym is.same
+entries_end bytes (b ∷ rest) is none = absurd (omega arith)
