@@ -1,5 +1,5 @@
 -- A command as it was read, and what its words spelled.
-use Rattle.std.specs.Prelude.{List, ℕ, map, String, string_bytes}
+use Rattle.std.specs.Prelude.{◌≤◌, List, ℕ, length, map, String, string_bytes}
 use Rattle.command_words.specs.declared.command.Command.{Command}
 use Rattle.command_words.specs.declared.command.Command.TheVariants as command
 use Rattle.command_words.specs.declared.setting.Setting.{Setting}
@@ -21,3 +21,9 @@ abbrev pub said : Command → CommandLine
 said command.Play = Play
 said command.Listen = Listen
 said (command.Live live) = Live (texts live.feeds.items) live.cycles live.join
+
+-- the limits of a command: at most 16 feeds, and 1,000 cycles
+abbrev pub IsWithin : Command → Type 0
+IsWithin command.Play = Unit {0}
+IsWithin command.Listen = Unit {0}
+IsWithin (command.Live live) = (length live.feeds.items ≤ 16) × (live.cycles ≤ 1000)

@@ -1,7 +1,7 @@
 // Commands.
-ghost use Rattle.std.specs.Prelude.{◌≡◌, ◌↔◌, Some, None, Err, IfOk, option_and_then, option_map};
+ghost use Rattle.std.specs.Prelude.{◌≡◌, ◌↔◌, Some, None, Err, IfOk, IfSome, option_and_then, option_map};
 ghost use Rattle.command_words.specs.declared.command.WordsStop.TheVariants.{Usage};
-ghost use Rattle.command_words.specs.Commands.{said, texts};
+ghost use Rattle.command_words.specs.Commands.{IsWithin, said, texts};
 ghost use Rattle.command_words.specs.Grammar.{alone as alone_in, command_of, live_of, settings_of};
 
 use crate::live::{live_numbers, live_paths};
@@ -43,6 +43,7 @@ pub enum WordsStop {
 /// `Usage` comes exactly where the words spell no command. `Memory` comes only where they do and memory is wanting.
 pub fn parse_words(alloc: Global, words: &[String]) -> Result<Command, WordsStop>
     ensures command { IfOk result (λ command. command_of (texts words.now) ≡ Some (said command)) }
+    ensures within { IfOk result IsWithin }
     ensures usage { result ≡ Err Usage ↔ (command_of (texts words.now) ≡ None) }
 {
     let Some((word, options)) = words.split_first() else {
@@ -59,7 +60,8 @@ pub fn parse_words(alloc: Global, words: &[String]) -> Result<Command, WordsStop
 
 // The command without options that this word is.
 fn alone(word: &str) -> Option<Command>
-    ensures { option_map said result ≡ alone_in word.now }
+    ensures value { option_map said result ≡ alone_in word.now }
+    ensures within { IfSome result IsWithin }
 {
     if word == "play" {
         Some(Command::Play)
@@ -73,6 +75,7 @@ fn alone(word: &str) -> Option<Command>
 // The command of these options of `live`.
 fn live(alloc: Global, options: &[String]) -> Result<Command, WordsStop>
     ensures command { IfOk result (λ command. option_and_then live_of (settings_of (texts options.now)) ≡ Some (said command)) }
+    ensures within { IfOk result IsWithin }
     ensures usage { result ≡ Err Usage ↔ (option_and_then live_of (settings_of (texts options.now)) ≡ None) }
 {
     let Some(numbers) = live_numbers(options) else {

@@ -1,5 +1,5 @@
 // Readers and writers of std as sources and sinks.
-ghost use Rattle.std.specs.Prelude.{◌≡◌, ◌≤◌, refl};
+ghost use Rattle.std.specs.Prelude.{◌≡◌, ◌≤◌, ◌<◌, ◌↔◌, IsTrue, refl};
 
 use si_causes::{Failed, Sink, Source};
 use std::io::{Read, Write};
@@ -13,8 +13,17 @@ pub struct Reading<R: Read> {
 
 impl<R: Read> Reading<R> {
     /// A source that has had no fault.
-    pub fn open(inner: R) -> Reading<R> {
+    pub fn open(inner: R) -> Reading<R>
+        ensures { result.faults ≡ 0 }
+    {
         Reading { inner, faults: 0 }
+    }
+
+    // Whether a read has failed.
+    pub(crate) fn has_failed(&self) -> bool
+        ensures { IsTrue result ↔ 0 < self.now.faults }
+    {
+        0 < self.faults
     }
 }
 

@@ -1,0 +1,126 @@
+-- The limits of what the words of `live` say.
+use Rattle.std.proofs.Common.{◌≡◌, ◌≤◌, ℕ, true, false, List, [], ◌∷◌, length, Option, Some, None, refl, sym, ap, ◌∙◌, subst, arith}
+use Rattle.std.specs.Prelude.{Bool, ◌&&◌, nat_le, filter_map, option_map, option_and_then, bytes_eq, codes, string_bytes, String, if◌then◌else◌}
+use Rattle.std.specs.List.{AllByRecursion, list_any, before_first, after_first}
+use Rattle.std.proofs.lemmas.Bool.Decides.{nat_tests}
+use Rattle.std.proofs.lemmas.List.{length-map}
+use Rattle.input_lines.specs.Numbers.{in_range, is_numeral, number_in, value_from}
+use Rattle.command_words.specs.Commands.{texts}
+use Rattle.command_words.specs.Drafts.{AreOptions}
+use Rattle.command_words.specs.Grammar.{CommandLine, Play, Listen, Live, Setting, Feed, Cycles, Join, and_setting, cycles_of, feed_of, join_of, is_dashed, is_equals, is_empty, live_of, live_with, path_of, setting_in, setting_in_two, setting_of, settings_of}
+
+-- a number of cycles is at most 1,000
+abbrev IsSettingWithin : Setting → Type 0
+IsSettingWithin (Feed path) = Unit {0}
+IsSettingWithin (Cycles n) = n ≤ 1000
+IsSettingWithin (Join j) = Unit {0}
+
+abbrev IfSetting : Option Setting → Type 0
+IfSetting None = Unit {0}
+IfSetting (Some setting) = IsSettingWithin setting
+
+and_right : (a b : Bool) → (a && b) ≡ true → b ≡ true
+and_right true b e = e
+and_right false b e = cc e
+
+in_range_high : (low high n : ℕ) → in_range low high n ≡ true → n ≤ high
+in_range_high low high n e = let b = and_right (nat_le low n) (nat_le n high) e in grind (arith, nat_tests)
+
+cycles_if : (n : ℕ) (is : Bool) → (is ≡ true → n ≤ 1000) → IfSetting (option_map Cycles (if is then Some n else None))
+cycles_if n true h = h refl
+cycles_if n false h = tt
+
+cycles_in : (value : List ℕ) → IfSetting (option_map Cycles (number_in 1 1000 value))
+cycles_in value =
+    elim (is_numeral value) as (λ is. IfSetting (option_map Cycles (if is then (let n = value_from 0 value in if in_range 1 1000 n then Some n else None) else None))) [
+      | true ↦ cycles_if (value_from 0 value) (in_range 1 1000 (value_from 0 value)) (in_range_high 1 1000 (value_from 0 value))
+      | false ↦ tt
+    ]
+
+path_in : (is : Bool) (value : List ℕ) → IfSetting (if is then None else Some (Feed value))
+path_in true value = tt
+path_in false value = tt
+
+join_in : (o : Option ℕ) → IfSetting (option_map Join o)
+join_in None = tt
+join_in (Some j) = tt
+
+by_name : (feed cycles join : Bool) (a b c : Option Setting) → IfSetting a → IfSetting b → IfSetting c → IfSetting (if feed then a else if cycles then b else if join then c else None)
+by_name true cycles join a b c p q r = p
+by_name false true join a b c p q r = q
+by_name false false true a b c p q r = r
+by_name false false false a b c p q r = tt
+
+setting_within : (name value : List ℕ) → IfSetting (setting_of name value)
+setting_within name value =
+    by_name (bytes_eq name (codes "--feed")) (bytes_eq name (codes "--cycles")) (bytes_eq name (codes "--join")) (path_of value) (option_map Cycles (number_in 1 1000 value)) (option_map Join (number_in 0 999999999 value))
+    (path_in _ value) (cycles_in value) (join_in (number_in 0 999999999 value))
+
+two_within : (dashed : Bool) (name value : List ℕ) → IfSetting (if dashed then None else setting_of name value)
+two_within true name value = tt
+two_within false name value = setting_within name value
+
+-- ---- options
+
+abbrev IfSettings : Option (List Setting) → Type 0
+IfSettings None = Unit {0}
+IfSettings (Some settings) = AllByRecursion IsSettingWithin settings
+
+and_within : (setting : Option Setting) (others : Option (List Setting)) → IfSetting setting → IfSettings others → IfSettings (and_setting setting others)
+and_within None others p q = tt
+and_within (Some setting) None p q = tt
+and_within (Some setting) (Some settings) p q = (p, q)
+
+one_within : (is : Bool) (a b : Option (List Setting)) → IfSettings a → IfSettings b → IfSettings (if is then a else b)
+one_within true a b p q = p
+one_within false a b p q = q
+
+settings_within : (words : List (List ℕ)) → IfSettings (settings_of words)
+settings_within [] = tt
+settings_within (word ∷ []) =
+    one_within (list_any is_equals word) (and_setting (setting_in word) (Some [])) None (and_within (setting_in word) (Some []) (setting_within (before_first is_equals word) (after_first is_equals word)) tt) tt
+settings_within (word ∷ next ∷ words) =
+    one_within (list_any is_equals word) (and_setting (setting_in word) (settings_of (next ∷ words))) (and_setting (setting_in_two word next) (settings_of words))
+    (and_within (setting_in word) (settings_of (next ∷ words)) (setting_within (before_first is_equals word) (after_first is_equals word)) (settings_within (next ∷ words)))
+    (and_within (setting_in_two word next) (settings_of words) (two_within (is_dashed next) word next) (settings_within words))
+
+-- ---- commands
+
+cycles_all : (settings : List Setting) → AllByRecursion IsSettingWithin settings → AllByRecursion (λ (n : ℕ). n ≤ 1000) (filter_map cycles_of settings)
+cycles_all [] all = tt
+cycles_all (Feed path ∷ settings) (here, all) = cycles_all settings all
+cycles_all (Cycles n ∷ settings) (here, all) = (here, cycles_all settings all)
+cycles_all (Join j ∷ settings) (here, all) = cycles_all settings all
+
+abbrev IsLineWithin : CommandLine → Type 0
+IsLineWithin Play = Unit {0}
+IsLineWithin Listen = Unit {0}
+IsLineWithin (Live feeds cycles join) = (length feeds ≤ 16) × (cycles ≤ 1000)
+
+abbrev IfLine : Option CommandLine → Type 0
+IfLine None = Unit {0}
+IfLine (Some line) = IsLineWithin line
+
+line_if : (feeds : List (List ℕ)) (cycles join : ℕ) (is : Bool) → (is ≡ true → length feeds ≤ 16) → cycles ≤ 1000 → IfLine (if is then Some (Live feeds cycles join) else None)
+line_if feeds cycles join true few c = (few refl, c)
+line_if feeds cycles join false few c = tt
+
+with_within : (feeds : List (List ℕ)) (cycles joins : List ℕ) → AllByRecursion (λ (n : ℕ). n ≤ 1000) cycles → IfLine (live_with feeds cycles joins)
+with_within feeds [] joins all = tt
+with_within feeds (n ∷ []) [] all = tt
+with_within feeds (n ∷ []) (j ∷ []) all = line_if feeds n j (in_range 1 16 (length feeds)) (in_range_high 1 16 (length feeds)) all.0
+with_within feeds (n ∷ []) (i ∷ j ∷ joins) all = tt
+with_within feeds (m ∷ n ∷ cycles) joins all = tt
+
+line_within : (settings : Option (List Setting)) → IfSettings settings → IfLine (option_and_then live_of settings)
+line_within None all = tt
+line_within (Some settings) all = with_within (filter_map feed_of settings) (filter_map cycles_of settings) (filter_map join_of settings) (cycles_all settings all)
+
+-- what options say is within its limits
+pub options_within : {Y : Type 0} (words : List (List ℕ)) (cycles join : ℕ) (paths : List (String Y)) (o : AreOptions words cycles join) → texts paths ≡ filter_map feed_of o.settings → (length paths ≤ 16) × (cycles ≤ 1000)
+options_within words cycles join paths o are =
+    let line : IfLine (option_and_then live_of (settings_of words)) = line_within (settings_of words) (settings_within words) in
+    let spelled : option_and_then live_of (settings_of words) ≡ Some (Live (filter_map feed_of o.settings) cycles join) = ap (option_and_then live_of) o.spelled ∙ o.live in
+    let both : IsLineWithin (Live (filter_map feed_of o.settings) cycles join) = subst IfLine spelled line in
+    let count : length paths ≡ length (filter_map feed_of o.settings) = sym (length-map paths string_bytes) ∙ ap length are in
+    (omega (arith, both.0, count), both.1)
