@@ -69,7 +69,7 @@ all_sizes : (most n : ℕ) → most ≤ n → (events : List Event) → AllByRec
 all_sizes most n le [] h = tt
 all_sizes most n le (e ∷ events) h = (omega (arith, h.0, le), all_sizes most n le events h.1)
 
-sum_map : {X Y : Type 0} (f : X → Y) (g : Y → ℕ) (xs : List X) → sum_by g (map f xs) ≡ sum_by (λ (x : X). g (f x)) xs
+pub sum_map : {X Y : Type 0} (f : X → Y) (g : Y → ℕ) (xs : List X) → sum_by g (map f xs) ≡ sum_by (λ (x : X). g (f x)) xs
 sum_map f g [] = refl
 sum_map f g (x ∷ xs) = sum_by-cons g (f x) (map f xs) ∙ ap (λ (n : ℕ). g (f x) + n) (sum_map f g xs) ∙ sym (sum_by-cons (λ y. g (f y)) x xs)
 

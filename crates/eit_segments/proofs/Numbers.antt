@@ -12,7 +12,7 @@ use Rattle.eit_segments.specs.declared.piece.Piece.{Piece}
 use Rattle.eit_segments.specs.Placement.{block_place}
 use Rattle.eit_segments.specs.Schedule.{FitSegments, block_runs, sections_from, segment_sections, last_used, last_number, table_sections}
 use Rattle.eit_segments.specs.Laws.{is_of_segment, told_last, TablesAreWhole}
-use Rattle.eit_segments.proofs.Order.{runs_few}
+use Rattle.eit_segments.proofs.Order.{runs_few, used_less}
 
 eighth : (h i : ℕ) → i < 8 → (8 * h + i) / 8 ≡ h
 eighth h i lt = grind arith
@@ -105,6 +105,82 @@ module _ (table last first : ℕ) (events : List EventAt) (fit : FitSegments eve
       (all_map (IsOf table last (8 * a + (count a - 1)) a) (λ (p : Piece). told_last (pieces 0 many) (segment_of p.number) ≡ Some p.segment_last)
       (λ p h. ap (told_last (pieces 0 many)) h.0 ∙ told a 0 many (omega arith) (omega arith) ∙ ap Some (sym h.2)) (of a) (of_segment a))
       (same_segment many (a + 1) k (omega arith))
+
+-- numbers that rise from one on
+abbrev pub Rise : ℕ → List Piece → Type 0
+Rise m [] = Unit {0}
+Rise m (p ∷ ps) = (m ≤ p.number) × Rise (1 + p.number) ps
+
+rise_less : (m k : ℕ) (ps : List Piece) → m ≤ k → Rise k ps → Rise m ps
+rise_less m k [] le r = tt
+rise_less m k (p ∷ ps) le r = (omega (arith, le, r.0), r.1)
+
+rise_behind : (m k : ℕ) (ps qs : List Piece) → m ≤ k → Rise m ps → AllByRecursion (λ (p : Piece). p.number < k) ps → Rise k qs → Rise m (ps ++ qs)
+rise_behind m k [] qs le r below q = rise_less m k qs le q
+rise_behind m k (p ∷ ps) qs le r below q = (r.0, rise_behind (1 + p.number) k ps qs (omega (arith, below.0)) r.1 below.1 q)
+
+rise_from : (table last segment_last number from : ℕ) (runs : List (List EventAt)) → Rise number (sections_from table last segment_last number from runs)
+rise_from table last segment_last number from [] = tt
+rise_from table last segment_last number from (run ∷ runs) = (omega arith, rise_from table last segment_last (1 + number) (from + length run) runs)
+
+-- a section with a number below 256, which tells a last number of its own segment
+abbrev pub IsInSegment : Piece → Type 0
+IsInSegment p = (segment_of p.segment_last ≡ segment_of p.number) × (p.number < 256)
+
+module _ (table last first : ℕ) (events : List EventAt) (fit : FitSegments events) where
+  segments_rise : (a k : ℕ) → Rise (8 * a) (pieces table last first events fit a k)
+  segments_rise a zero = tt
+  segments_rise a (suc k) =
+      rise_behind (8 * a) (8 * (a + 1)) (of table last first events fit a) (pieces table last first events fit (a + 1) k) (omega arith)
+      (rise_from table last (8 * a + (count table last first events fit a - 1)) (8 * a) (block_place (first + a) events) (block_runs (first + a) events))
+      (all_map (IsOf table last (8 * a + (count table last first events fit a - 1)) a) (λ (p : Piece). p.number < 8 * (a + 1)) (λ p h. let s : p.number / 8 ≡ a = h.0 in omega arith)
+      (of table last first events fit a) (of_segment table last first events fit a))
+      (segments_rise (a + 1) k)
+
+  in_segment : (n : ℕ) → n < 32 → AllByRecursion IsInSegment (of table last first events fit n)
+  in_segment n lt =
+      all_map (IsOf table last (8 * n + (count table last first events fit n - 1)) n) IsInSegment
+      (λ p h.
+      let s : p.number / 8 ≡ n = h.0 in
+      let some = few table last first events fit n in
+      (ap segment_of h.2 ∙ eighth n (count table last first events fit n - 1) (omega (arith, some.0, some.1)) ∙ sym s, omega (arith, s, lt)))
+      (of table last first events fit n) (of_segment table last first events fit n)
+
+  in_segments : (a k : ℕ) → a + k ≤ 32 → AllByRecursion IsInSegment (pieces table last first events fit a k)
+  in_segments a zero le = tt
+  in_segments a (suc k) le =
+      all_append IsInSegment (of table last first events fit a) (pieces table last first events fit (a + 1) k) (in_segment a (omega (arith, le))) (in_segments (a + 1) k (omega (arith, le)))
+
+  -- no section of a segment up to the used one tells a number above the last
+  below_last : (used n : ℕ) → n ≤ used → last ≡ 8 * used + (count table last first events fit used - 1) → AllByRecursion (λ (p : Piece). p.segment_last ≤ last) (of table last first events fit n)
+  below_last used n le is = elim (cases_lt n used) [
+    | inl b ↦ all_map (IsOf table last (8 * n + (count table last first events fit n - 1)) n) (λ (p : Piece). p.segment_last ≤ last)
+        (λ p h. let some = few table last first events fit n in omega (arith, h.2, b, is, some.0, some.1)) (of table last first events fit n) (of_segment table last first events fit n)
+    | inr b ↦
+        let same : used ≡ n = omega (arith, le, b) in
+        all_map (IsOf table last (8 * n + (count table last first events fit n - 1)) n) (λ (p : Piece). p.segment_last ≤ last)
+        (λ p h. let e : last ≡ 8 * n + (count table last first events fit n - 1) = subst (λ (m : ℕ). last ≡ 8 * m + (count table last first events fit m - 1)) same is in omega (arith, h.2, e))
+        (of table last first events fit n) (of_segment table last first events fit n)
+  ]
+
+  all_below : (used a k : ℕ) → a + k ≤ used + 1 → last ≡ 8 * used + (count table last first events fit used - 1) → AllByRecursion (λ (p : Piece). p.segment_last ≤ last) (pieces table last first events fit a k)
+  all_below used a zero le is = tt
+  all_below used a (suc k) le is =
+      all_append (λ (p : Piece). p.segment_last ≤ last) (of table last first events fit a) (pieces table last first events fit (a + 1) k) (below_last used a (omega (arith, le)) is)
+      (all_below used (a + 1) k (omega (arith, le)) is)
+
+pub table_below : (table first : ℕ) (events : List EventAt) → FitSegments events → AllByRecursion (λ (p : Piece). p.segment_last ≤ last_number first events) (table_sections table first events)
+table_below table first events fit =
+    let used = last_used first 32 events in
+    all_below table (last_number first events) first events fit used 0 (used + 1) (omega arith) refl
+
+pub table_rises : (table first : ℕ) (events : List EventAt) → FitSegments events → Rise 0 (table_sections table first events)
+table_rises table first events fit = segments_rise table (last_number first events) first events fit 0 (last_used first 32 events + 1)
+
+pub table_in_segments : (table first : ℕ) (events : List EventAt) → FitSegments events → AllByRecursion IsInSegment (table_sections table first events)
+table_in_segments table first events fit =
+    let less : last_used first 32 events < 32 = used_less first 32 events (omega arith) in
+    in_segments table (last_number first events) first events fit 0 (last_used first 32 events + 1) (omega (arith, less))
 
 pub tables_are_whole : TablesAreWhole
 tables_are_whole table first events fit =

@@ -1,5 +1,5 @@
 -- The sections of a service's schedule, table by table and segment by segment (EN 300 468, 5.2.4).
-use Rattle.std.specs.Prelude.{ℕ, zero, suc, ◌+◌, ◌-◌, ◌*◌, ◌/◌, ◌≤◌, Bool, List, [], ◌∷◌, length, flat_map, if◌then◌else◌}
+use Rattle.std.specs.Prelude.{ℕ, zero, suc, ◌+◌, ◌-◌, ◌*◌, ◌/◌, ◌≤◌, Bool, List, [], ◌∷◌, length, take, drop, flat_map, if◌then◌else◌}
 use Rattle.std.specs.List.{AllByRecursion, range_with_len}
 use Rattle.guide_limits.specs.Events.{block_of}
 use Rattle.guide_limits.specs.Runs.{longest_runs}
@@ -65,3 +65,15 @@ abbrev pub schedule_of : ℕ → List EventAt → List Piece
 schedule_of day events =
     let first = block_of day in
     flat_map (λ table. table_sections (80 + table) (first + 32 * table) events) (range_with_len 0 (last_used first 512 events / 32 + 1))
+
+-- last_table_id of that schedule: the table of its last event, or 0x50 without one
+abbrev pub last_table : ℕ → List EventAt → ℕ
+last_table day events = 0x50 + last_used (block_of day) 512 events / 32
+
+-- the sections of one of its tables, by table_id
+abbrev pub sections_in_table : ℕ → ℕ → List EventAt → List Piece
+sections_in_table day table events = table_sections table (block_of day + 32 * (table - 0x50)) events
+
+-- the events of a section, of those of its service
+abbrev pub section_events : {X : Type 0} → Piece → List X → List X
+section_events piece events = take (piece.to - piece.from) (drop piece.from events)

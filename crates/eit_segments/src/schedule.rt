@@ -1,6 +1,6 @@
 // The sections of a schedule.
 ghost use Rattle.std.specs.Prelude.{◌≡◌, ◌+◌, ◌*◌, ◌%◌, ◌≤◌, ◌<◌, ◌^◌, ◌++◌, length, IfOk, OnOk};
-ghost use Rattle.eit_segments.specs.Schedule.{CanBePlaced, last_used, last_number, table_sections, schedule_of};
+ghost use Rattle.eit_segments.specs.Schedule.{CanBePlaced, last_used, last_number, table_sections, schedule_of, last_table, sections_in_table};
 
 use crate::blocks::{block_begin, block_end, last_used};
 use crate::event::EventAt;
@@ -86,5 +86,34 @@ pub fn segments(alloc: Global, events: &[EventAt], day: Moment) -> Result<Pieces
             first + SEGMENTS * t,
         )?;
     }
+    Ok(pieces)
+}
+
+/// last_table_id of that schedule: the table of the last event of the 64 days from the midnight `day` on, or 0x50 where
+/// they have none. It takes no memory.
+pub fn last_table(events: &[EventAt], day: Moment) -> u8
+    requires events { CanBePlaced events.now }
+    requires midnight { day.0 % 86400 ≡ 0 }
+    ensures table { result ≡ last_table day.0 events.now }
+    ensures bound { (80 ≤ result) × (result ≤ 95) }
+{
+    SCHEDULE + (last_used(events, block_of(day), BLOCKS) / SEGMENTS) as u8
+}
+
+/// The sections of one table of that schedule, as `segments` has them. It fails only for want of memory.
+pub fn sections_in_table(
+    alloc: Global,
+    events: &[EventAt],
+    day: Moment,
+    table: u8,
+) -> Result<Pieces, AllocError>
+    requires events { CanBePlaced events.now }
+    requires midnight { day.0 % 86400 ≡ 0 }
+    requires table { (80 ≤ table) × (table ≤ 95) }
+    ensures { IfOk result (λ pieces. pieces ≡ sections_in_table day.0 table events.now) }
+{
+    let first = block_of(day) + SEGMENTS * u64::from(table - SCHEDULE);
+    let mut pieces = Pieces::new(alloc);
+    put_table(&mut pieces, events, table, first)?;
     Ok(pieces)
 }

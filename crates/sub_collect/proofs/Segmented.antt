@@ -7,12 +7,12 @@ use Rattle.section_codec.specs.declared.table.Key.{Key}
 use Rattle.section_codec.specs.declared.table.NumberedBody.{NumberedBody}
 use Rattle.section_codec.specs.Tables.{is_eit}
 use Rattle.section_codec.specs.Contents.{numbers, numbers_from, last_number, part_in}
-use Rattle.section_codec.specs.Segments.{segment_of, segment_last_in, numbers_in_segment, and_numbers, segments_need, table_needs}
+use Rattle.section_codec.specs.Segments.{segment_of, segment_last_in, numbers_in_segment, and_numbers, segments_need, table_needs, told_by, segment_last_at, GoBySegments}
 use Rattle.section_codec.proofs.ContentFacts.{own_parts}
 use Rattle.version_book.specs.Airings.{Content}
 use Rattle.sub_collect.specs.Runs.{Counted, latest_section, has_number, latest_with, segment_last_of, last_told_by, is_in_segment, last_told, needed, needed_at}
 use Rattle.sub_collect.specs.Collectors.{body_of}
-use Rattle.sub_collect.specs.Laws.{section_with, sections_with, IsSectionOf, HoldAll, part_last, segment_last_at, IsBySegments, BySegmentsIsNumbered}
+use Rattle.sub_collect.specs.Laws.{section_with, sections_with, IsSectionOf, HoldAll, BySegmentsIsNumbered}
 use Rattle.sub_collect.proofs.Runs.{no-latest}
 use Rattle.sub_collect.proofs.Whole.{last_sent, bodies, latest-of, none_held}
 use Rattle.sub_collect.proofs.OneContent.{passes}
@@ -80,18 +80,18 @@ module _ (content : Content) where
       go false other f rec = rec f
 
 -- a part of a segment, where the content tells its last number
-part_of : (segment x : ℕ) (P : NumberedBody → Type 0) (ps : Content) → AllByRecursion P ps → part_last (find (λ (p : NumberedBody). segment_of p.number == segment) ps) ≡ Some x
+part_of : (segment x : ℕ) (P : NumberedBody → Type 0) (ps : Content) → AllByRecursion P ps → told_by (find (λ (p : NumberedBody). segment_of p.number == segment) ps) ≡ Some x
     → (p : NumberedBody) × (segment_of p.number ≡ segment) × P p
 part_of segment x P [] all e = cc
 part_of segment x P (p ∷ ps) all e = go (segment_of p.number == segment) refl e (λ f. part_of segment x P ps all.1 f)
   where
-    go : (b : Bool) → (segment_of p.number == segment) ≡ b → part_last (cond b (Some p) (find (λ (q : NumberedBody). segment_of q.number == segment) ps)) ≡ Some x
-        → (part_last (find (λ (q : NumberedBody). segment_of q.number == segment) ps) ≡ Some x → (p : NumberedBody) × (segment_of p.number ≡ segment) × P p)
+    go : (b : Bool) → (segment_of p.number == segment) ≡ b → told_by (cond b (Some p) (find (λ (q : NumberedBody). segment_of q.number == segment) ps)) ≡ Some x
+        → (told_by (find (λ (q : NumberedBody). segment_of q.number == segment) ps) ≡ Some x → (p : NumberedBody) × (segment_of p.number ≡ segment) × P p)
         → (p : NumberedBody) × (segment_of p.number ≡ segment) × P p
     go true f h rec = (p, eqb-true (segment_of p.number) segment f, all.0)
     go false f h rec = rec h
 
-module _ (k : Key) (content : Content) (events : is_eit k.table ≡ true) (by : IsBySegments content) where
+module _ (k : Key) (content : Content) (events : is_eit k.table ≡ true) (by : GoBySegments content) where
   its_last : (s : Counted) → IsSectionOf k content s → segment_last_of s ≡ segment_last_at content (segment_of s.number)
   its_last s is =
       ap (λ (q : Key). if is_eit q.table then segment_last_in s.number s.body else None) is.key

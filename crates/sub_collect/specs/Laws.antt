@@ -6,7 +6,7 @@ use Rattle.section_codec.specs.declared.table.Key.{Key}
 use Rattle.section_codec.specs.declared.table.NumberedBody.{NumberedBody}
 use Rattle.section_codec.specs.Tables.{is_eit}
 use Rattle.section_codec.specs.Contents.{numbers, numbers_from, last_number, Ascend, part_in}
-use Rattle.section_codec.specs.Segments.{segment_of, segment_last_in, table_needs}
+use Rattle.section_codec.specs.Segments.{GoBySegments}
 use Rattle.version_book.specs.Airings.{Content, is_key}
 use Rattle.sub_collect.specs.Runs.{Counted, run_of, latest_section, latest_with, needed, completed}
 use Rattle.sub_collect.specs.Completions.{is_of, of_key, completion, latest_done, latest_of, shown_at, dones}
@@ -83,25 +83,9 @@ abbrev pub FromZeroIsNumbered : Type 0
 FromZeroIsNumbered =
     (k : Key) (content : Content) → is_eit k.table ≡ false → 0 < length content → numbers content ≡ numbers_from 0 (length content) → IsNumbered k content
 
--- the last number of its segment that a section of a content tells
-abbrev pub part_last : Option NumberedBody → Option ℕ
-part_last None = None
-part_last (Some p) = segment_last_in p.number p.body
-
--- the last number of a segment, as the first section of the segment in a content tells it
-abbrev pub segment_last_at : Content → ℕ → Option ℕ
-segment_last_at content segment = part_last (find (λ (p : NumberedBody). segment_of p.number == segment) content)
-
--- A content goes by segments: its numbers ascend and are those that its segments need, and the sections of a segment tell one last number.
-pub record IsBySegments (content : Content) : Type 0 where
-  pub some : 0 < length content
-  pub ascending : Ascend content
-  pub needed : table_needs (segment_last_at content) (last_number content) ≡ Some (numbers content)
-  pub agree : AllByRecursion (λ (p : NumberedBody). segment_last_in p.number p.body ≡ segment_last_at content (segment_of p.number)) content
-
 -- A content of an event information table that goes by segments describes itself.
 abbrev pub BySegmentsIsNumbered : Type 0
-BySegmentsIsNumbered = (k : Key) (content : Content) → is_eit k.table ≡ true → IsBySegments content → IsNumbered k content
+BySegmentsIsNumbered = (k : Key) (content : Content) → is_eit k.table ≡ true → GoBySegments content → IsNumbered k content
 
 -- Whatever was heard before, the sections of a content in order complete it at the last of them.
 abbrev pub WholeCompletes : Type 0

@@ -1,0 +1,4 @@
+pub mod ListFacts
+pub mod EventFacts
+pub mod EntryFacts
+pub mod EitFacts

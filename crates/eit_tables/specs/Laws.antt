@@ -1,0 +1,67 @@
+-- That the sections of event information can be sent, for the layers above.
+use Rattle.std.specs.Prelude.{◌≡◌, ℕ, ◌<◌, ◌≤◌, List, length, Some}
+use Rattle.std.specs.List.{AllByRecursion}
+use Rattle.si_base.specs.Fields.{two_at}
+use Rattle.guide_model.specs.declared.event.Event.{Event}
+use Rattle.guide_model.specs.declared.guide.Guide.{Guide}
+use Rattle.guide_model.specs.declared.guide.ServiceGuide.{ServiceGuide}
+use Rattle.desc_event.specs.EventDescriptors.{entry_size}
+use Rattle.mux_config.specs.declared.mux.Mux.{Mux}
+use Rattle.guide_limits.specs.Limits.{IsServiceWithin, IsGuideWithin}
+use Rattle.section_codec.specs.declared.table.NumberedBody.{NumberedBody}
+use Rattle.section_codec.specs.Contents.{last_number}
+use Rattle.section_codec.specs.Segments.{segment_last_in, GoBySegments}
+use Rattle.eit_codec.specs.declared.eit.Eit.{Eit}
+use Rattle.eit_codec.specs.Eit.{IsTyped, IsEit}
+use Rattle.eit_tables.specs.Present.{present_table}
+use Rattle.eit_tables.specs.Schedule.{schedule_table}
+
+-- each of these events has an entry of at most 1,338 bytes
+abbrev pub AreSmallEntries : List Event → Type 0
+AreSmallEntries events = AllByRecursion (λ (event : Event). entry_size event ≤ 1338) events
+
+abbrev pub HasSmallEntries : Guide → Type 0
+HasSmallEntries guide = AllByRecursion (λ (s : ServiceGuide). AreSmallEntries s.events) guide.services
+
+-- the events of a guide have what each value of the type Event has
+abbrev pub HasTypedEvents : Guide → Type 0
+HasTypedEvents guide = AllByRecursion (λ (s : ServiceGuide). AllByRecursion IsTyped s.events) guide.services
+
+-- The entries of a guide within its limits are small.
+abbrev pub TypedEntriesAreSmall : Type 0
+TypedEntriesAreSmall = (guide : Guide) → IsGuideWithin guide → HasTypedEvents guide → HasSmallEntries guide
+
+-- Sections of event information that can be sent, and that describe themselves: what they tell a receiver to need is just their numbers.
+pub record AreEit (sections : List NumberedBody) : Type 0 where
+  pub below : last_number sections < 256
+  pub bodies : AllByRecursion (λ (s : NumberedBody). (6 ≤ length s.body) × (length s.body ≤ 4084)) sections
+  pub by_segments : GoBySegments sections
+  -- each tells the last number of its segment, which is not above that of the table
+  pub told : AllByRecursion (λ (s : NumberedBody). (n : ℕ) × (segment_last_in s.number s.body ≡ Some n) × (n ≤ last_number sections)) sections
+
+-- The sections of present and following are such, at whatever moment, and so are those of each table of a schedule, from whatever day on.
+abbrev pub PresentIsFit : Type 0
+PresentIsFit = (mux : Mux) (moment : ℕ) (service : ServiceGuide) → AreSmallEntries service.events → AreEit (present_table mux moment service).sections
+
+abbrev pub ScheduleIsFit : Type 0
+ScheduleIsFit =
+    (mux : Mux) (day : ℕ) (service : ServiceGuide) (table : ℕ) → IsServiceWithin service → AreSmallEntries service.events
+    → AreEit (schedule_table mux day service table).sections
+
+-- Each of their bodies is read as event information.
+abbrev pub EventsAreRead : Type 0
+EventsAreRead =
+    (mux : Mux) (moment : ℕ) (service : ServiceGuide) (table : ℕ) → mux.stream < 65536 → mux.original < 65536 → IsServiceWithin service → AllByRecursion IsTyped service.events
+    → AllByRecursion (λ (s : NumberedBody). (eit : Eit) × IsEit s.body eit) (present_table mux moment service).sections
+    × AllByRecursion (λ (s : NumberedBody). (eit : Eit) × IsEit s.body eit) (schedule_table mux moment service table).sections
+
+-- a body that names the multiplex: it begins with transport_stream_id and original_network_id
+abbrev pub Names : Mux → List ℕ → Type 0
+Names mux body = (two_at 0 body ≡ mux.stream) × (two_at 2 body ≡ mux.original)
+
+-- All of them name the multiplex.
+abbrev pub EventsNameTheMux : Type 0
+EventsNameTheMux =
+    (mux : Mux) (moment : ℕ) (service : ServiceGuide) (table : ℕ) → mux.stream < 65536 → mux.original < 65536
+    → AllByRecursion (λ (s : NumberedBody). Names mux s.body) (present_table mux moment service).sections
+    × AllByRecursion (λ (s : NumberedBody). Names mux s.body) (schedule_table mux moment service table).sections

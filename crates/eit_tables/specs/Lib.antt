@@ -1,0 +1,5 @@
+pub mod Eit
+pub mod Present
+pub mod Schedule
+pub mod Laws
+pub mod Rows

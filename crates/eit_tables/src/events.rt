@@ -1,0 +1,69 @@
+// Events as their place depends on them, and bodies of event information.
+ghost use Rattle.std.specs.Prelude.{◌≡◌, ◌≤◌, ◌<◌, map, IfOk};
+ghost use Rattle.std.specs.List.{All};
+ghost use Rattle.desc_event.specs.EventDescriptors.{IsWithinLimits};
+ghost use Rattle.eit_segments.specs.declared.event.EventAt.{EventAt as EventShape};
+ghost use Rattle.eit_segments.specs.Laws.{at_of};
+ghost use Rattle.eit_tables.specs.Eit.{eit_key, eit_head};
+
+use desc_event::event_len;
+use eit_codec::EitHead;
+use eit_segments::EventAt;
+use guide_model::Event;
+use mux_config::Mux;
+use section_codec::Key;
+use std::alloc::{AllocError, Global};
+
+/// The PID of the event information tables (EN 300 468, 5.1.3).
+const EIT_PID: u16 = 0x0012;
+
+/// What names a table of event information of a service.
+pub(crate) fn eit_key(mux: &Mux, table: u8, service: u16) -> Key
+    ensures { result ≡ eit_key mux.now table service }
+{
+    Key {
+        pid: EIT_PID,
+        table,
+        ext: service,
+        stream: mux.stream,
+        network: mux.original,
+    }
+}
+
+/// What the body of a section begins with.
+pub(crate) fn eit_head(mux: &Mux, segment_last: u8, last_table: u8) -> EitHead
+    ensures { result ≡ eit_head mux.now segment_last last_table }
+{
+    EitHead {
+        stream: mux.stream,
+        original: mux.original,
+        segment_last,
+        last_table,
+    }
+}
+
+// An event as its place depends on it.
+fn event_at(event: &Event) -> EventAt
+    requires { IsWithinLimits event.now }
+    ensures event { result ≡ at_of event.now }
+    ensures small { result.size ≤ 1338 }
+{
+    EventAt {
+        start: event.start,
+        seconds: event.seconds,
+        size: event_len(event),
+    }
+}
+
+/// These events as their places depend on them.
+pub(crate) fn events_at(alloc: Global, events: &[Event]) -> Result<Vec<EventAt>, AllocError>
+    requires { All IsWithinLimits events.now }
+    ensures events { IfOk result (λ at. at.items ≡ map at_of events.now) }
+    ensures small { IfOk result (λ at. All (λ (e : EventShape). e.size ≤ 1338) at.items) }
+{
+    let mut at = Vec::with_capacity(alloc, events.len())?;
+    for event in events {
+        at.push(event_at(event))?;
+    }
+    Ok(at)
+}
