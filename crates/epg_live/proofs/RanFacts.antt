@@ -111,8 +111,7 @@ module _ {F : Type 0} (left : F → Option (List ℕ)) (faults : F → ℕ) (is_
   feeds_caused turns mux before now f (p ∷ ps) known [] jobs opened is rose = absurd opened
   feeds_caused turns mux before now f (p ∷ ps) known (r ∷ rs) jobs (one, opened) (rest, job, is, did, more) rose =
       let both : (0 < faults job.lines.source → Rose before now) × IfFailed faults (Rose before now) (lines_back rest) = subst (λ (l : List (Reading F)). IfFailed faults (Rose before now) l) (ap lines_back is ∙ lines_last rest job) rose in
-      subst (λ (l : List (Option EditStop)). HaveReadCauses before now l) (sym (ap stops_back is ∙ stops_last rest job))
-      (
+      subst (λ (l : List (Option EditStop)). HaveReadCauses before now l) (sym (ap stops_back is ∙ stops_last rest job)) (
         feed_cause before now (faults r.source) (faults job.lines.source) job.stop (ap (λ (o : Reading F). faults o.source) one.unread ∙ one.sound) both.0 (did.read.cause (ap (λ (o : Reading F). o.stop) one.unread)),
         feeds_caused turns mux before now (f + 1) ps known rs rest opened more both.1,
       )
@@ -129,31 +128,31 @@ module _ {F S : Type 0} (left : F → Option (List ℕ)) (faults : F → ℕ) (i
       let first : first_stop jobs ≡ feeds_stop None 1 (stops_back jobs) = first_is jobs ∙ feeds_first left faults is_same files end.desk.entries None 1 feeds jobs ran.commands.feeds_read in
       let low : ran.did.control.pass.own.low ≡ 0 = ap (λ z. z.own.low) ran.did.control_did.did.1.gained in
       elim (memory_or end.stop) [
-        inl memory ↦ inl (is ∙ ap live_status memory)
-      | inr other ↦
-          let heard = ran.whole sent knows other in
-          inr (record {
-            player = ran.did.player.end;
-            sent = ran.sent;
-            control_stop = ran.did.control.stop;
-            feed_stops = stops_back jobs;
-            final = ran.did.final;
-            journal_is = record {
-              legal = ran.did.journal_did.legal;
-              control_did = ran.commands.control_read.told going rest told;
-              player_did = ran.commands.player_swapped;
-              feeds_did = feeds_did left faults is_same files end.desk.entries 1 paths feeds jobs opened ran.commands.feeds_read;
-              others = λ k le. ran.commands.others k (omega (arith, le, opened_length left faults (Some files) paths feeds opened));
-              front = ran.did.journal_did.front;
-              ends = ran.did.journal_did.ends;
-            };
-            last = subst (λ (o : Option LiveStop). LastMade (halts ran.did.player.end ran.did.control.stop o) 0 ran.did.final ran.sent) first
-                (subst (λ (k : ℕ). LastMade (halts ran.did.player.end ran.did.control.stop (first_stop jobs)) k ran.did.final ran.sent) low ran.did.last);
-            status_is = is ∙ ap live_status (unless_wanting ran.wanting end.stop (run_stop ran.sent ran.did.control.stop (first_stop jobs)) ran.stop_is other ∙ ap (run_stop ran.sent ran.did.control.stop) first);
-            causes = feeds_caused left faults is_same files end.desk.entries ran.turns mux feeds_before feeds_now 1 paths (Some files) feeds jobs opened ran.did.feeds_ran (subst (λ (l : List (Reading F)). IfFailed faults (Rose feeds_before feeds_now) l) ran.feeds_are rose);
-            air_is = ran.did.air;
-            heard = record { taken = heard.taken; gave = heard.gave; lines = heard.lines };
-          })
+        | inl memory ↦ inl (is ∙ ap live_status memory)
+        | inr other ↦
+            let heard = ran.whole sent knows other in
+            inr (record {
+              player = ran.did.player.end;
+              sent = ran.sent;
+              control_stop = ran.did.control.stop;
+              feed_stops = stops_back jobs;
+              final = ran.did.final;
+              journal_is = record {
+                legal = ran.did.journal_did.legal;
+                control_did = ran.commands.control_read.told going rest told;
+                player_did = ran.commands.player_swapped;
+                feeds_did = feeds_did left faults is_same files end.desk.entries 1 paths feeds jobs opened ran.commands.feeds_read;
+                others = λ k le. ran.commands.others k (omega (arith, le, opened_length left faults (Some files) paths feeds opened));
+                front = ran.did.journal_did.front;
+                ends = ran.did.journal_did.ends;
+              };
+              last = subst (λ (o : Option LiveStop). LastMade (halts ran.did.player.end ran.did.control.stop o) 0 ran.did.final ran.sent) first
+                  (subst (λ (k : ℕ). LastMade (halts ran.did.player.end ran.did.control.stop (first_stop jobs)) k ran.did.final ran.sent) low ran.did.last);
+              status_is = is ∙ ap live_status (unless_wanting ran.wanting end.stop (run_stop ran.sent ran.did.control.stop (first_stop jobs)) ran.stop_is other ∙ ap (run_stop ran.sent ran.did.control.stop) first);
+              causes = feeds_caused left faults is_same files end.desk.entries ran.turns mux feeds_before feeds_now 1 paths (Some files) feeds jobs opened ran.did.feeds_ran (subst (λ (l : List (Reading F)). IfFailed faults (Rose feeds_before feeds_now) l) ran.feeds_are rose);
+              air_is = ran.did.air;
+              heard = record { taken = heard.taken; gave = heard.gave; lines = heard.lines };
+            })
       ]
 
   -- each fault has its cause

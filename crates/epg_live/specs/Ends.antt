@@ -77,7 +77,7 @@ abbrev pub LeavesLive : List (List ℕ) → ℕ → ℕ → List ℕ → Files �
 LeavesLive paths cycles join text files left faults_before faults_now air report status =
     (status ≡ Memory)
     ⊎ ((journal : List Entry) × (dones : List DoneLine) × (met : Status)
-        × HasMet paths cycles join text files left faults_before faults_now air.old air.new journal dones met × ReportEnds met (run_text journal dones) report status)
+    × HasMet paths cycles join text files left faults_before faults_now air.old air.new journal dones met × ReportEnds met (run_text journal dones) report status)
 
 -- ---- inside a run
 

@@ -14,7 +14,7 @@ use Rattle.epg_report.specs.declared.status.Status.{Status}
 use Rattle.epg_report.specs.declared.status.Status.TheVariants.{Done, Usage, BadScript, Disagrees, BadMux, BadFeed, BadStream, TooLong, OpenFault, ReadFault, WriteFault, Memory}
 use Rattle.epg_report.specs.declared.status.Origin.{Origin}
 use Rattle.epg_report.specs.declared.status.Origin.TheVariants.{Input, Feed}
-use Rattle.epg_report.specs.declared.status.Outlet.TheVariants.{Air}
+use Rattle.epg_report.specs.declared.status.Outlet.TheVariants.{Air, Report}
 use Rattle.epg_live.specs.declared.feeds.OpenStop.{OpenStop}
 use Rattle.epg_live.specs.declared.feeds.OpenStop.TheVariants as opening
 
@@ -69,8 +69,13 @@ IsOfLive (Disagrees n kept found) = ⊥
 IsOfLive (BadStream n) = ⊥
 IsOfLive status = Unit {0}
 
--- the statuses of a run whose jobs started
+-- those that a run may have met before it reports
+abbrev pub IsMet : Status → Type 0
+IsMet (WriteFault Report) = ⊥
+IsMet status = IsOfLive status
+
+-- and those of a run whose jobs started
 abbrev pub IsOfRun : Status → Type 0
 IsOfRun (BadMux fault) = ⊥
 IsOfRun (OpenFault f) = ⊥
-IsOfRun status = IsOfLive status
+IsOfRun status = IsMet status

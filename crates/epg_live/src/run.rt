@@ -1,5 +1,5 @@
 // A run of feeds, control and player over files.
-ghost use Rattle.std.specs.Prelude.{◌≡◌, ◌≤◌, ◌⊎◌, List, ℕ, IfOk, None, Some, length};
+ghost use Rattle.std.specs.Prelude.{◌≡◌, ◌≤◌, ◌⊎◌, List, ℕ, IfOk, OnErr, None, Some, length};
 ghost use Rattle.std.specs.Io.KnownBytes.{IsAtEnd};
 ghost use Rattle.si_causes.specs.Causes.{Rose};
 ghost use Rattle.si_causes.specs.Opening.{Files};
@@ -11,7 +11,7 @@ ghost use Rattle.epg_live.specs.Ends.{HasAsked, HasMet, IsBlank, entries_of};
 ghost use Rattle.epg_live.specs.Runs.{JobsRan};
 ghost use Rattle.feed_edits.specs.Ahead.{ahead};
 ghost use Rattle.epg_live.specs.Opened.{AreOpened};
-ghost use Rattle.epg_live.specs.Stops.{HasStatusCause, IsOfLive, IsOfRun, live_status, mux_status, open_status, read_status};
+ghost use Rattle.epg_live.specs.Stops.{HasStatusCause, IsMet, IsOfRun, live_status, mux_status, open_status, read_status};
 
 use crate::feeds::{OpenStop, close_feeds, open_feeds};
 use crate::reporting::LiveRun;
@@ -90,13 +90,7 @@ fn live_status(stop: Option<LiveStop>) -> Status
 }
 
 // Runs the jobs, closes the files, and gives the input back.
-fn run_jobs<
-    W: Threads + Wait + Sync,
-    O: Opener,
-    S: Source + Send,
-    A: Sink + Send,
-    G: Gate,
->(
+fn run_jobs<W: Threads + Wait + Sync, O: Opener, S: Source + Send, A: Sink + Send, G: Gate>(
     rt: &W,
     alloc: Global,
     mux: Mux,
@@ -116,7 +110,7 @@ fn run_jobs<
     ensures ran { (paths : List (List ℕ)) → AreOpened O.From.left O.From.faults (O.files opener.old) paths feeds.items
         → (rest : List ℕ) → text_left S.left lines ≡ Some rest → (files : Files) → O.files opener.old ≡ Some files → (sent : List ℕ) → A.written air.old ≡ Some sent
         → IfOk result (λ _. (run.new.met ≡ Status.Memory) ⊎ JobsRan mux plan.cycles plan.join (ahead lines rest) paths files (O.read_faults opener.old) (O.read_faults opener.new)
-            (A.written air.old) (A.written air.new) (entries_of run.new.desk) run.new.dones run.new.met) }
+        (A.written air.old) (A.written air.new) (entries_of run.new.desk) run.new.dones run.new.met) }
     ensures cause { IfOk result (λ source. HasStatusCause (S.faults lines.source) (S.faults source) (O.read_faults opener.old) (O.read_faults opener.new) (A.faults air.old) (A.faults air.new) run.new.met) }
     ensures end { IfOk result (λ source. run.new.met ≡ Status.Done → IsAtEnd (S.left source)) }
     ensures said { IfOk result (λ _. CanBeSaid run.new.met) }
@@ -157,13 +151,14 @@ pub(crate) fn run_described<
     requires blank { IsBlank run.old }
     ensures met { (text : List ℕ) → S.left lines.source ≡ Some text → (files : Files) → O.files opener.old ≡ Some files → (sent : List ℕ) → A.written air.old ≡ Some sent
         → IfOk result (λ source. HasMet (texts words.now.feeds.items) words.now.cycles words.now.join text files (S.left source) (O.read_faults opener.old) (O.read_faults opener.new)
-            (A.written air.old) (A.written air.new) (entries_of run.new.desk) run.new.dones run.new.met) }
+        (A.written air.old) (A.written air.new) (entries_of run.new.desk) run.new.dones run.new.met) }
     ensures cause { IfOk result (λ source. HasStatusCause (S.faults lines.source) (S.faults source) (O.read_faults opener.old) (O.read_faults opener.new) (A.faults air.old) (A.faults air.new) run.new.met) }
     ensures open_cause { IfOk result (λ _. (f : ℕ) → run.new.met ≡ Status.OpenFault f → Rose (O.faults opener.old) (O.faults opener.new)) }
     ensures asked { IfOk result (λ _. HasAsked (texts words.now.feeds.items) (O.tried opener.old) (O.tried opener.new) run.new.met) }
+    ensures asked_some { OnErr result (HasAsked (texts words.now.feeds.items) (O.tried opener.old) (O.tried opener.new) Status.Memory) }
     ensures end { IfOk result (λ source. run.new.met ≡ Status.Done → IsAtEnd (S.left source)) }
     ensures said { IfOk result (λ _. CanBeSaid run.new.met) }
-    ensures status { IfOk result (λ _. IsOfLive run.new.met) }
+    ensures status { IfOk result (λ _. IsMet run.new.met) }
     ensures same { IfOk result (λ source. S.same lines.source source) }
 {
     let mux = match read_mux(alloc, &mut lines) {
@@ -184,7 +179,5 @@ pub(crate) fn run_described<
         cycles: words.cycles,
         join: words.join,
     };
-    run_jobs(
-        rt, alloc, mux, plan, feeds, lines, opener, air, gate, run,
-    )
+    run_jobs(rt, alloc, mux, plan, feeds, lines, opener, air, gate, run)
 }

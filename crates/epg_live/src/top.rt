@@ -43,7 +43,7 @@ pub fn run_live_files<
     // What is left with each status, where the input and the air tell their bytes and the opener its files.
     ensures leaves { (text : List ℕ) → S.left input.old ≡ Some text → (files : Files) → O.files opener.old ≡ Some files → (sent : List ℕ) → A.written air.old ≡ Some sent
         → LeavesLive (texts words.now.feeds.items) words.now.cycles words.now.join text files (S.left input.new) (O.read_faults opener.old) (O.read_faults opener.new)
-            (told A.written A.faults air.old air.new) (told R.written R.faults report.old report.new) result }
+        (told A.written A.faults air.old air.new) (told R.written R.faults report.old report.new) result }
     // Each fault has its cause, and with Done the input was read to its end.
     ensures cause { HasStatusCause (S.faults input.old) (S.faults input.new) (O.read_faults opener.old) (O.read_faults opener.new) (A.faults air.old) (A.faults air.new) result }
     ensures open_cause { (f : ℕ) → result ≡ Status.OpenFault f → Rose (O.faults opener.old) (O.faults opener.new) }

@@ -111,12 +111,7 @@ fn put_no_command(
 }
 
 // Appends what befell a text.
-fn put_of(
-    alloc: Global,
-    out: &mut Vec<u8>,
-    origin: Origin,
-    befell: &[u8],
-) -> Result<(), AllocError>
+fn put_of(alloc: Global, out: &mut Vec<u8>, origin: Origin, befell: &[u8]) -> Result<(), AllocError>
     ensures { OnOk result (out.new.items ≡ out.old.items ++ (origin_text origin ++ befell.now)) }
 {
     put_origin(alloc, out, origin)?;
@@ -151,18 +146,11 @@ fn put_fault(alloc: Global, out: &mut Vec<u8>, status: Status) -> Result<(), All
 fn has_line(status: Status) -> bool
     ensures { result ≡ has_line status }
 {
-    !matches!(
-        status,
-        Status::Done | Status::WriteFault(Outlet::Report)
-    )
+    !matches!(status, Status::Done | Status::WriteFault(Outlet::Report))
 }
 
 /// Appends the line that names the fault of a status. `Done` has none, nor has a report that could not be written.
-pub fn put_fault_line(
-    alloc: Global,
-    out: &mut Vec<u8>,
-    status: Status,
-) -> Result<(), AllocError>
+pub fn put_fault_line(alloc: Global, out: &mut Vec<u8>, status: Status) -> Result<(), AllocError>
     requires { CanBeSaid status }
     ensures { OnOk result (out.new.items ≡ out.old.items ++ fault_lines status) }
 {

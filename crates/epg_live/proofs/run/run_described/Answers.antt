@@ -7,10 +7,10 @@ use Rattle.epg_report.specs.declared.status.Status.{Status}
 use Rattle.epg_live.specs.Ends.{HasAsked, HasMet, entries_of}
 use Rattle.feed_edits.specs.Ahead.{ahead}
 use Rattle.epg_live.specs.Opened.{AreOpened, HasTried, OpenedTo}
-use Rattle.epg_live.specs.Stops.{HasStatusCause, IsOfLive, IsOfRun, mux_status, open_status}
+use Rattle.epg_live.specs.Stops.{HasStatusCause, IsMet, IsOfRun, mux_status, open_status}
 use Rattle.epg_live.proofs.DescribedFacts.{is_described, not_described, unread_going, unread_told}
 use Rattle.epg_live.proofs.OpenFacts.{opened_length}
-use Rattle.epg_live.proofs.MetFacts.{all_asked, as_met, if_ok, mux_asked, mux_caused, mux_not_done, mux_not_open, mux_of_live, not_opened, of_run, open_asked, open_caused, open_fault, open_not_done, open_of_live, ran_caused, ran_met, run_not_open}
+use Rattle.epg_live.proofs.MetFacts.{all_asked, as_met, if_ok, mux_asked, mux_caused, mux_not_done, mux_not_open, mux_of_live, not_opened, of_run, open_asked, open_caused, open_fault, open_not_done, open_of_live, ran_caused, ran_met, run_not_open, some_asked}
 use Rattle.epg_live.proofs.run.run_described.Goals as goal
 
 -- ---- the description was not read
@@ -54,7 +54,7 @@ pub returns-in-Err-clause-end : goal.returns-in-Err-clause-end
 returns-in-Err-clause-end g c = λ e. absurd (mux_not_done c.in-Err.stop (sym c.mux_status-run.ensures.value ∙ e))
 
 pub returns-in-Err-clause-status : goal.returns-in-Err-clause-status
-returns-in-Err-clause-status g c = subst (λ (s : Status). IsOfLive s) (sym c.mux_status-run.ensures.value) (mux_of_live c.in-Err.stop)
+returns-in-Err-clause-status g c = subst (λ (s : Status). IsMet s) (sym c.mux_status-run.ensures.value) (mux_of_live c.in-Err.stop)
 
 -- ---- the files were not opened
 
@@ -110,3 +110,13 @@ returns-clause-asked g c =
     if_ok (λ s. IsOfRun met) (λ s. HasAsked (texts items) old new met) c.run_jobs.result
     (λ s of. all_asked c.open_feeds.result (texts items) old mid new (length paths) c.in-Ok-open_feeds.feeds met c.in-Ok-open_feeds.is (length-map items string_bytes ∙ ap length (sym c.deref.ensures.value)) c.run_jobs.ensures.tried of
     (subst (λ l. (k : ℕ) × HasTried old mid (take k (texts l)) × OpenedTo k (length paths) c.open_feeds.result) c.deref.ensures.value c.open_feeds.ensures.tried)) c.run_jobs.ensures.status
+
+pub returns-clause-asked_some : goal.returns-clause-asked_some
+returns-clause-asked_some g c =
+    let items = c.args.words.now.feeds.items in
+    let paths = c.deref.result.now in
+    let old = g.O.Opener.tried c.args.opener.now in
+    let mid = g.O.Opener.tried c.open_feeds.new.opener in
+    let new = g.O.Opener.tried c.run_jobs.new.opener in
+    some_asked c.run_jobs.result c.open_feeds.result (texts items) old mid new (length paths) c.run_jobs.ensures.tried
+    (subst (λ l. (k : ℕ) × HasTried old mid (take k (texts l)) × OpenedTo k (length paths) c.open_feeds.result) c.deref.ensures.value c.open_feeds.ensures.tried)
