@@ -1,0 +1,63 @@
+-- What reading the description told of the text of the input.
+use Rattle.std.proofs.Common.{◌≡◌, ◌⊎◌, inl, inr, ℕ, ◌+◌, List, [], ◌∷◌, ◌++◌, length, refl, sym, ap, ◌∙◌, subst}
+use Rattle.std.specs.Prelude.{Option, Some, None, Ok, Err, Result}
+use Rattle.std.specs.Io.KnownBytes.{Consumes}
+use Rattle.si_causes.specs.Reading.{Reading, fresh, text_left}
+use Rattle.si_causes.specs.Text.{TextEnd, text_lines}
+use Rattle.si_causes.specs.declared.stop.ReadStop.TheVariants.{Failed, TooLong as Overlong}
+use Rattle.si_causes.proofs.TextFacts.{fresh_text}
+use Rattle.input_lines.specs.Lines.{lines_of, record_lines}
+use Rattle.input_lines.specs.Going.{shown_whole}
+use Rattle.mux_config.specs.declared.mux.Mux.{Mux}
+use Rattle.mux_config.specs.declared.stop.MuxStop.{MuxStop}
+use Rattle.mux_config.specs.declared.stop.MuxStop.TheVariants as mux
+use Rattle.mux_config.specs.Block.{Whole, Unended, block_from}
+use Rattle.mux_config.specs.Reads.{MuxCame, ReadMux}
+use Rattle.feed_edits.specs.Ahead.{Ahead, Row, Tail, ahead, tail_of}
+use Rattle.desk_core.specs.declared.step.Entry.{Entry}
+use Rattle.air_monitor.specs.declared.done_line.DoneLine.{DoneLine}
+use Rattle.epg_report.specs.declared.status.Status.{Status}
+use Rattle.epg_report.specs.declared.status.Status.TheVariants.{Memory}
+use Rattle.epg_live.specs.Stops.{mux_status}
+use Rattle.epg_live.specs.Runs.{NoJobs, behind, described}
+
+-- of known bytes some were taken, and the others are left
+bytes_left : (left : Option (List ℕ)) (text taken : List ℕ) → Consumes (Some text) left taken → (rest : List ℕ) × (text ≡ taken ++ rest) × (left ≡ Some rest)
+bytes_left None text taken h = absurd h
+bytes_left (Some rest) text taken h = (rest, h, refl)
+
+module _ {S : Type 0} (left : S → Option (List ℕ)) (faults : S → ℕ) where
+  pub unread_going : (old : Reading S) (source : S) → old ≡ fresh source → old.stop ≡ None
+  unread_going old source e = ap (λ (r : Reading S). r.stop) e
+
+  pub unread_told : (old : Reading S) (source : S) (text : List ℕ) → old ≡ fresh source → left source ≡ Some text → text_left left old ≡ Some text
+  unread_told old source text e tells = ap (λ (r : Reading S). text_left left r) e ∙ fresh_text left source ∙ tells
+
+  -- why there is no multiplex
+  pub not_described : (old new : Reading S) (source : S) (text : List ℕ) (before now : Option (List ℕ)) (journal : List Entry) (dones : List DoneLine) (stop : MuxStop) → old ≡ fresh source → left source ≡ Some text
+      → ReadMux {S = S} left old new (lines_of old text) (Err stop) → MuxCame left faults old new (Err stop) → journal ≡ [] → dones ≡ [] → now ≡ before
+      → (mux_status stop ≡ Memory) ⊎ NoJobs text (left new.source) before now journal dones (mux_status stop)
+  not_described old new source text before now journal dones (mux.Fault fault) e tells read came none quiet same =
+      inr (record { why = subst (λ (r : Reading S). ReadMux {S = S} left r new (lines_of r text) (Err (mux.Fault fault))) e read; journal_is = none; dones_are = quiet; sent = same })
+  not_described old new source text before now journal dones (mux.Read Overlong) e tells read came none quiet same =
+      inr (record { why = subst (λ (r : Reading S). ReadMux {S = S} left r new (lines_of r text) (Err (mux.Read Overlong))) e read; journal_is = none; dones_are = quiet; sent = same })
+  not_described old new source text before now journal dones (mux.Read Failed) e tells read came none quiet same =
+      let fault = subst (λ (r : Reading S). MuxCame left faults r new (Err (mux.Read Failed))) e came in
+      let b = bytes_left (left new.source) text fault.whole.more (subst (λ (o : Option (List ℕ)). Consumes o (left new.source) fault.whole.more) tells fault.whole.gave) in
+      inr (record {
+        why = record { taken = fault.whole.more; rest = b.0; text_is = b.1; left_is = b.2; unended = ap (λ l. block_from [] (record_lines 1 l)) fault.whole.whole ∙ fault.unended };
+        journal_is = none;
+        dones_are = quiet;
+        sent = same;
+      })
+  not_described old new source text before now journal dones mux.Memory e tells read came none quiet same = inl refl
+
+  -- a multiplex was described, and the reader has what is behind it still to give
+  pub is_described : (old new : Reading S) (source : S) (text : List ℕ) (mux : Mux) → old ≡ fresh source → ReadMux {S = S} left old new (lines_of old text) (Ok mux)
+      → (rest : List ℕ) × (text_left left new ≡ Some rest) × ((rows : List Row) × (described text ≡ Whole mux rows) × (behind text rows ≡ ahead new rest))
+  is_described old new source text mux e read =
+      let d = subst (λ (r : Reading S). ReadMux {S = S} left r new (lines_of r text) (Ok mux)) e read in
+      let rows : List Row = record_lines (new.number + 1) (lines_of new d.rest).0 in
+      let tail : tail_of (1 + length (text_lines text).0) (text_lines text).1 ≡ tail_of ((new.number + 1) + length (lines_of new d.rest).0) (lines_of new d.rest).1 =
+      ap (λ n. tail_of n (text_lines text).1) (sym d.count) ∙ ap (tail_of ((new.number + 1) + length (lines_of new d.rest).0)) d.stop in
+      (d.rest, d.told, (rows, d.whole, ap (λ (t : Tail). let a : Ahead = record { rows = rows; tail = t } in a) tail))

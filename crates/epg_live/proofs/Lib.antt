@@ -1,0 +1,5 @@
+mod StopFacts
+mod OpenFacts
+mod RanFacts
+mod DescribedFacts
+mod MetFacts

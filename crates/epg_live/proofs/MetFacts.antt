@@ -1,0 +1,257 @@
+-- What a run met, from what its parts tell.
+use Rattle.std.proofs.Common.{◌≡◌, ◌⊎◌, inl, inr, ℕ, ◌≤◌, arith, List, [], ◌∷◌, ◌++◌, length, take, refl, sym, ap, ◌∙◌, subst}
+use Rattle.std.specs.Prelude.{Option, Some, None, Ok, Err, Result, IfOk, OnErr}
+use Rattle.si_causes.specs.Causes.{Rose}
+use Rattle.si_causes.specs.Opening.{Files}
+use Rattle.si_causes.specs.Reading.{Reading}
+use Rattle.si_causes.specs.declared.stop.ReadStop.TheVariants.{Failed, TooLong as Overlong}
+use Rattle.si_causes.proofs.CauseFacts.{Rose-from}
+use Rattle.mux_config.specs.declared.mux.Mux.{Mux}
+use Rattle.mux_config.specs.declared.stop.MuxStop.{MuxStop}
+use Rattle.mux_config.specs.declared.stop.MuxStop.TheVariants as mux
+use Rattle.mux_config.specs.Block.{Whole}
+use Rattle.mux_config.specs.Reads.{MuxCame}
+use Rattle.feed_edits.specs.Ahead.{Ahead, Row}
+use Rattle.desk_core.specs.declared.step.Entry.{Entry}
+use Rattle.air_monitor.specs.declared.done_line.DoneLine.{DoneLine}
+use Rattle.epg_report.specs.declared.status.Status.{Status}
+use Rattle.epg_report.specs.declared.status.Status.TheVariants.{Done, Usage, BadScript, Disagrees, BadMux, BadFeed, BadStream, TooLong, OpenFault, ReadFault, WriteFault, Memory}
+use Rattle.epg_report.specs.declared.status.Origin.TheVariants.{Input, Feed}
+use Rattle.epg_report.specs.declared.status.Outlet.TheVariants.{Air, Report}
+use Rattle.epg_live.specs.declared.feeds.OpenStop.{OpenStop}
+use Rattle.epg_live.specs.declared.feeds.OpenStop.TheVariants as opening
+use Rattle.epg_live.specs.Opened.{HasOpenCause, HasTried, OpenedTo}
+use Rattle.epg_live.specs.Stops.{HasStatusCause, IsMet, IsOfLive, IsOfRun, mux_status, open_status}
+use Rattle.epg_live.specs.Runs.{JobsRan, NoJobs, behind, described}
+use Rattle.epg_live.specs.Ends.{AskedFor, HasAsked, HasMet, LeavesLive, ReportEnds, or_report, run_text}
+use Rattle.epg_report.specs.Told.{Told}
+use Rattle.epg_live.proofs.OpenFacts.{tried_none}
+
+-- ---- where the description was not read
+
+pub mux_caused : {S : Type 0} (left : S → Option (List ℕ)) (faults : S → ℕ) (old new : Reading S) (stop : MuxStop) (feeds air : ℕ) → MuxCame left faults old new (Err stop)
+    → HasStatusCause (faults old.source) (faults new.source) feeds feeds air air (mux_status stop)
+mux_caused left faults old new (mux.Fault fault) feeds air came = tt
+mux_caused left faults old new (mux.Read Failed) feeds air came = came.cause
+mux_caused left faults old new (mux.Read Overlong) feeds air came = tt
+mux_caused left faults old new mux.Memory feeds air came = tt
+
+pub mux_asked : (paths : List (List ℕ)) (tried : Option (List (List ℕ))) (stop : MuxStop) → HasAsked paths tried tried (mux_status stop)
+mux_asked paths tried (mux.Fault fault) = (0, tried_none tried, refl)
+mux_asked paths tried (mux.Read Failed) = (0, tried_none tried, inl refl)
+mux_asked paths tried (mux.Read Overlong) = (0, tried_none tried, inl refl)
+mux_asked paths tried mux.Memory = (0, tried_none tried, tt)
+
+pub mux_of_live : (stop : MuxStop) → IsMet (mux_status stop)
+mux_of_live (mux.Fault fault) = tt
+mux_of_live (mux.Read Failed) = tt
+mux_of_live (mux.Read Overlong) = tt
+mux_of_live mux.Memory = tt
+
+pub mux_not_done : (stop : MuxStop) → mux_status stop ≡ Done → ⊥
+mux_not_done (mux.Fault fault) e = cc
+mux_not_done (mux.Read Failed) e = cc
+mux_not_done (mux.Read Overlong) e = cc
+mux_not_done mux.Memory e = cc
+
+pub mux_not_open : (stop : MuxStop) (f : ℕ) → mux_status stop ≡ OpenFault f → ⊥
+mux_not_open (mux.Fault fault) f e = cc
+mux_not_open (mux.Read Failed) f e = cc
+mux_not_open (mux.Read Overlong) f e = cc
+mux_not_open mux.Memory f e = cc
+
+-- ---- where the files were not opened
+
+pub not_opened : (text : List ℕ) (left before now : Option (List ℕ)) (journal : List Entry) (dones : List DoneLine) (stop : OpenStop) (mux : Mux) (rows : List Row) → described text ≡ Whole mux rows → journal ≡ [] → dones ≡ [] → now ≡ before
+    → (open_status stop ≡ Memory) ⊎ NoJobs text left before now journal dones (open_status stop)
+not_opened text left before now journal dones (opening.Feed f) mux rows whole none quiet same = inr (record { why = (mux, rows, whole); journal_is = none; dones_are = quiet; sent = same })
+not_opened text left before now journal dones opening.Memory mux rows whole none quiet same = inl refl
+
+pub open_caused : (stop : OpenStop) (input_before input_now feeds_before feeds_now air_before air_now : ℕ) → HasStatusCause input_before input_now feeds_before feeds_now air_before air_now (open_status stop)
+open_caused (opening.Feed f) input_before input_now feeds_before feeds_now air_before air_now = tt
+open_caused opening.Memory input_before input_now feeds_before feeds_now air_before air_now = tt
+
+pub open_fault : (stop : OpenStop) (before now : ℕ) (f : ℕ) → HasOpenCause before now stop → open_status stop ≡ OpenFault f → Rose before now
+open_fault (opening.Feed f) before now g cause e = cause
+open_fault opening.Memory before now g cause e = cc
+
+pub open_asked : {T : Type 0} (r : Result T OpenStop) (paths : List (List ℕ)) (old new : Option (List (List ℕ))) (n : ℕ) (stop : OpenStop) → r ≡ Err stop → (k : ℕ) × HasTried old new (take k paths) × OpenedTo k n r → HasAsked paths old new (open_status stop)
+open_asked r paths old new n (opening.Feed f) is (k, tried, to) = (k, tried, subst (OpenedTo k n) is to)
+open_asked r paths old new n opening.Memory is (k, tried, to) = (k, tried, tt)
+
+pub open_of_live : (stop : OpenStop) → IsMet (open_status stop)
+open_of_live (opening.Feed f) = tt
+open_of_live opening.Memory = tt
+
+pub open_not_done : (stop : OpenStop) → open_status stop ≡ Done → ⊥
+open_not_done (opening.Feed f) e = cc
+open_not_done opening.Memory e = cc
+
+-- ---- where jobs ran
+
+pub of_run : (met : Status) → IsOfRun met → IsMet met
+of_run Done is = is
+of_run Usage is = is
+of_run (BadScript n) is = is
+of_run (Disagrees n kept found) is = is
+of_run (BadMux fault) is = absurd is
+of_run (BadFeed f n) is = is
+of_run (BadStream n) is = is
+of_run (TooLong origin) is = is
+of_run (OpenFault f) is = absurd is
+of_run (ReadFault origin) is = is
+of_run (WriteFault Air) is = is
+of_run (WriteFault Report) is = is
+of_run Memory is = is
+
+pub run_not_open : (met : Status) (f : ℕ) → IsOfRun met → met ≡ OpenFault f → ⊥
+run_not_open met f is e = subst IsOfRun e is
+
+run_asked : (n k : ℕ) (met : Status) → IsOfRun met → k ≡ n → AskedFor n k met
+run_asked n k Done is e = e
+run_asked n k Usage is e = absurd is
+run_asked n k (BadScript m) is e = e
+run_asked n k (Disagrees m kept found) is e = absurd is
+run_asked n k (BadMux fault) is e = absurd is
+run_asked n k (BadFeed f m) is e = e
+run_asked n k (BadStream m) is e = absurd is
+run_asked n k (TooLong Input) is e = inr e
+run_asked n k (TooLong (Feed f)) is e = e
+run_asked n k (OpenFault f) is e = absurd is
+run_asked n k (ReadFault Input) is e = inr e
+run_asked n k (ReadFault (Feed f)) is e = e
+run_asked n k (WriteFault Air) is e = e
+run_asked n k (WriteFault Report) is e = absurd is
+run_asked n k Memory is e = tt
+
+pub all_asked : {T : Type 0} (r : Result T OpenStop) (paths : List (List ℕ)) (old mid new : Option (List (List ℕ))) (n : ℕ) (feeds : T) (met : Status) → r ≡ Ok feeds → length paths ≡ n → new ≡ mid → IsOfRun met
+    → (k : ℕ) × HasTried old mid (take k paths) × OpenedTo k n r → HasAsked paths old new met
+all_asked r paths old mid new n feeds met is count same of (k, tried, to) =
+    let all : k ≡ n = subst (OpenedTo k n) is to in
+    (k, subst (λ (o : Option (List (List ℕ))). HasTried old o (take k paths)) (sym same) tried, run_asked (length paths) k met of (all ∙ sym count))
+
+pub ran_met : {S E : Type 0} (left : S → Option (List ℕ)) (r : Result S E) (paths : List (List ℕ)) (cycles join : ℕ) (text : List ℕ) (files : Files) (feeds_old feeds_mid feeds_now : ℕ) (before now : Option (List ℕ)) (journal : List Entry) (dones : List DoneLine)
+    (met : Status) (mux : Mux) (rows : List Row) (control : Ahead) → described text ≡ Whole mux rows → behind text rows ≡ control → feeds_mid ≡ feeds_old
+    → IfOk r (λ s. (met ≡ Memory) ⊎ JobsRan mux cycles join control paths files feeds_mid feeds_now before now journal dones met)
+    → IfOk r (λ s. HasMet paths cycles join text files (left s) feeds_old feeds_now before now journal dones met)
+ran_met left (Err e) paths cycles join text files feeds_old feeds_mid feeds_now before now journal dones met mux rows control whole is same did = tt
+ran_met left (Ok s) paths cycles join text files feeds_old feeds_mid feeds_now before now journal dones met mux rows control whole is same (inl memory) = inl memory
+ran_met left (Ok s) paths cycles join text files feeds_old feeds_mid feeds_now before now journal dones met mux rows control whole is same (inr ran) =
+    inr (inr (
+      mux,
+      rows,
+      whole,
+      subst (λ (n : ℕ). JobsRan mux cycles join (behind text rows) paths files n feeds_now before now journal dones met) same
+          (subst (λ (a : Ahead). JobsRan mux cycles join a paths files feeds_mid feeds_now before now journal dones met) (sym is) ran),
+    ))
+
+cause_from : (old mid now feeds_old feeds_mid feeds_now air_before air_now : ℕ) (met : Status) → old ≤ mid → feeds_mid ≡ feeds_old → HasStatusCause mid now feeds_mid feeds_now air_before air_now met → HasStatusCause old now feeds_old feeds_now air_before air_now met
+cause_from old mid now feeds_old feeds_mid feeds_now air_before air_now Done le same cause = tt
+cause_from old mid now feeds_old feeds_mid feeds_now air_before air_now Usage le same cause = tt
+cause_from old mid now feeds_old feeds_mid feeds_now air_before air_now (BadScript n) le same cause = tt
+cause_from old mid now feeds_old feeds_mid feeds_now air_before air_now (Disagrees n kept found) le same cause = tt
+cause_from old mid now feeds_old feeds_mid feeds_now air_before air_now (BadMux fault) le same cause = tt
+cause_from old mid now feeds_old feeds_mid feeds_now air_before air_now (BadFeed f n) le same cause = tt
+cause_from old mid now feeds_old feeds_mid feeds_now air_before air_now (BadStream n) le same cause = tt
+cause_from old mid now feeds_old feeds_mid feeds_now air_before air_now (TooLong origin) le same cause = tt
+cause_from old mid now feeds_old feeds_mid feeds_now air_before air_now (OpenFault f) le same cause = tt
+cause_from old mid now feeds_old feeds_mid feeds_now air_before air_now (ReadFault Input) le same cause = Rose-from old mid now le cause
+cause_from old mid now feeds_old feeds_mid feeds_now air_before air_now (ReadFault (Feed f)) le same cause = subst (λ n. Rose n feeds_now) same cause
+cause_from old mid now feeds_old feeds_mid feeds_now air_before air_now (WriteFault Air) le same cause = cause
+cause_from old mid now feeds_old feeds_mid feeds_now air_before air_now (WriteFault Report) le same cause = tt
+cause_from old mid now feeds_old feeds_mid feeds_now air_before air_now Memory le same cause = tt
+
+pub ran_caused : {S E : Type 0} (faults : S → ℕ) (r : Result S E) (old mid feeds_old feeds_mid feeds_now air_before air_now : ℕ) (met : Status) → old ≤ mid → feeds_mid ≡ feeds_old
+    → IfOk r (λ s. HasStatusCause mid (faults s) feeds_mid feeds_now air_before air_now met) → IfOk r (λ s. HasStatusCause old (faults s) feeds_old feeds_now air_before air_now met)
+ran_caused faults (Err e) old mid feeds_old feeds_mid feeds_now air_before air_now met le same cause = tt
+ran_caused faults (Ok s) old mid feeds_old feeds_mid feeds_now air_before air_now met le same cause = cause_from old mid (faults s) feeds_old feeds_mid feeds_now air_before air_now met le same cause
+
+-- where it is not known that memory was there, what holds of each end
+pub if_ok : {S E : Type 0} (P Q : S → Type 0) (r : Result S E) → ((s : S) → P s → Q s) → IfOk r P → IfOk r Q
+if_ok P Q (Err e) f p = tt
+if_ok P Q (Ok s) f p = f s p
+
+pub as_met : (paths : List (List ℕ)) (cycles join : ℕ) (text : List ℕ) (files : Files) (left : Option (List ℕ)) (feeds_old feeds_now : ℕ) (before now : Option (List ℕ)) (journal : List Entry) (dones : List DoneLine) (met : Status)
+    → (met ≡ Memory) ⊎ NoJobs text left before now journal dones met → HasMet paths cycles join text files left feeds_old feeds_now before now journal dones met
+as_met paths cycles join text files left feeds_old feeds_now before now journal dones met (inl memory) = inl memory
+as_met paths cycles join text files left feeds_old feeds_now before now journal dones met (inr none) = inr (inl none)
+
+-- where memory was wanting behind the opening, all were asked for
+pub some_asked : {S E T : Type 0} (r : Result S E) (opened : Result T OpenStop) (paths : List (List ℕ)) (old mid new : Option (List (List ℕ))) (n : ℕ) → new ≡ mid → (k : ℕ) × HasTried old mid (take k paths) × OpenedTo k n opened
+    → OnErr r (HasAsked paths old new Memory)
+some_asked (Ok s) opened paths old mid new n same asked = tt
+some_asked (Err e) opened paths old mid new n same (k, tried, to) = (k, subst (λ (o : Option (List (List ℕ))). HasTried old o (take k paths)) (sym same) tried, tt)
+
+-- ---- the report
+
+abbrev Ends : Status → List ℕ → Told → Status → Type 0
+Ends met text report status = (status ≡ Memory) ⊎ ReportEnds met text report status
+
+report_asked : (n k : ℕ) (met : Status) → IsMet met → AskedFor n k met → AskedFor n k (or_report met)
+report_asked n k Done is asked = asked
+report_asked n k Usage is asked = asked
+report_asked n k (BadScript m) is asked = asked
+report_asked n k (Disagrees m kept found) is asked = asked
+report_asked n k (BadMux fault) is asked = asked
+report_asked n k (BadFeed f m) is asked = asked
+report_asked n k (BadStream m) is asked = asked
+report_asked n k (TooLong origin) is asked = asked
+report_asked n k (OpenFault f) is asked = asked
+report_asked n k (ReadFault origin) is asked = asked
+report_asked n k (WriteFault outlet) is asked = asked
+report_asked n k Memory is asked = asked
+
+pub ends_asked : (paths : List (List ℕ)) (old new : Option (List (List ℕ))) (met : Status) (text : List ℕ) (report : Told) (status : Status) → IsMet met → HasAsked paths old new met → Ends met text report status → HasAsked paths old new status
+ends_asked paths old new met text report status is (k, tried, asked) (inl memory) = subst (HasAsked paths old new) (sym memory) (k, tried, tt)
+ends_asked paths old new met text report status is asked (inr (inl (took, same))) = subst (HasAsked paths old new) (sym same) asked
+ends_asked paths old new met text report status is (k, tried, asked) (inr (inr (rose, took, same))) = subst (HasAsked paths old new) (sym same) (k, tried, report_asked (length paths) k met is asked)
+
+pub ends_rose : (met : Status) (text : List ℕ) (report : Told) (status : Status) → IsMet met → Ends met text report status → status ≡ WriteFault Report → Rose report.faults_old report.faults_new
+ends_rose met text report status is (inl memory) e = cc
+ends_rose met text report status is (inr (inl (took, same))) e = absurd (subst IsMet (sym same ∙ e) is)
+ends_rose met text report status is (inr (inr (rose, took, same))) e = rose
+
+report_of_live : (met : Status) → IsMet met → IsOfLive (or_report met)
+report_of_live Done is = tt
+report_of_live Usage is = is
+report_of_live (BadScript m) is = tt
+report_of_live (Disagrees m kept found) is = is
+report_of_live (BadMux fault) is = tt
+report_of_live (BadFeed f m) is = tt
+report_of_live (BadStream m) is = is
+report_of_live (TooLong origin) is = tt
+report_of_live (OpenFault f) is = tt
+report_of_live (ReadFault origin) is = tt
+report_of_live (WriteFault outlet) is = tt
+report_of_live Memory is = tt
+
+met_of_live : (met : Status) → IsMet met → IsOfLive met
+met_of_live Done is = tt
+met_of_live Usage is = is
+met_of_live (BadScript m) is = tt
+met_of_live (Disagrees m kept found) is = is
+met_of_live (BadMux fault) is = tt
+met_of_live (BadFeed f m) is = tt
+met_of_live (BadStream m) is = is
+met_of_live (TooLong origin) is = tt
+met_of_live (OpenFault f) is = tt
+met_of_live (ReadFault origin) is = tt
+met_of_live (WriteFault outlet) is = tt
+met_of_live Memory is = tt
+
+pub ends_of_live : (met : Status) (text : List ℕ) (report : Told) (status : Status) → IsMet met → Ends met text report status → IsOfLive status
+ends_of_live met text report status is (inl memory) = subst IsOfLive (sym memory) tt
+ends_of_live met text report status is (inr (inl (took, same))) = subst IsOfLive (sym same) (met_of_live met is)
+ends_of_live met text report status is (inr (inr (rose, took, same))) = subst IsOfLive (sym same) (report_of_live met is)
+
+leaves : (paths : List (List ℕ)) (cycles join : ℕ) (text : List ℕ) (files : Files) (left : Option (List ℕ)) (feeds_old feeds_now : ℕ) (air report : Told) (journal : List Entry) (dones : List DoneLine) (met status : Status)
+    → HasMet paths cycles join text files left feeds_old feeds_now air.old air.new journal dones met → Ends met (run_text journal dones) report status → LeavesLive paths cycles join text files left feeds_old feeds_now air report status
+leaves paths cycles join text files left feeds_old feeds_now air report journal dones met status has (inl memory) = inl memory
+leaves paths cycles join text files left feeds_old feeds_now air report journal dones met status has (inr ends) = inr (journal, dones, met, has, ends)
+
+-- the same of an input that is the source which the reader gave back
+pub leaves_live : {S : Type 0} (left_of : S → Option (List ℕ)) (source input : S) (paths : List (List ℕ)) (cycles join : ℕ) (text : List ℕ) (files : Files) (feeds_old feeds_now : ℕ) (air report : Told) (journal : List Entry) (dones : List DoneLine)
+    (met status : Status) → input ≡ source → HasMet paths cycles join text files (left_of source) feeds_old feeds_now air.old air.new journal dones met → Ends met (run_text journal dones) report status
+    → LeavesLive paths cycles join text files (left_of input) feeds_old feeds_now air report status
+leaves_live {S = S} left_of source input paths cycles join text files feeds_old feeds_now air report journal dones met status e has ends =
+    subst (λ (s : S). LeavesLive paths cycles join text files (left_of s) feeds_old feeds_now air report status) (sym e) (leaves paths cycles join text files (left_of source) feeds_old feeds_now air report journal dones met status has ends)

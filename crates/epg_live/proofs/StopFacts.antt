@@ -1,0 +1,140 @@
+-- One of two stops, and the statuses of stops.
+use Rattle.std.proofs.Common.{◌≡◌, ◌⊎◌, inl, inr, ℕ, ◌+◌, List, [], ◌∷◌, refl, sym, ap, ◌∙◌}
+use Rattle.std.specs.Prelude.{Bool, true, false, Option, Some, None, Ok, Err, Result}
+use Rattle.si_causes.specs.Causes.{Rose}
+use Rattle.si_causes.specs.declared.stop.ReadStop.TheVariants.{Failed, TooLong as Overlong}
+use Rattle.feed_edits.specs.declared.stop.EditStop.{EditStop}
+use Rattle.feed_edits.specs.declared.stop.EditStop.TheVariants as edit
+use Rattle.desk_hall.specs.Reads.{HasReadCause}
+use Rattle.headend_live.specs.declared.live.LiveStop.{LiveStop}
+use Rattle.headend_live.specs.declared.live.LiveStop.TheVariants as live
+use Rattle.headend_live.specs.declared.send.SendStop.{SendStop}
+use Rattle.headend_live.specs.declared.send.SendStop.TheVariants as send
+use Rattle.headend_live.specs.OnAir.{HasAirCause}
+use Rattle.headend_live.specs.Live.{after, and_stop, control_stop, feed_stop, or_feed, run_stop, sent_stop}
+use Rattle.headend_live.specs.Watched.{watched_stop}
+use Rattle.epg_report.specs.declared.status.Status.TheVariants.{Done}
+use Rattle.epg_report.specs.declared.status.Origin.TheVariants.{Input, Feed}
+use Rattle.epg_live.specs.Stops.{HaveReadCauses, HasStatusCause, feeds_stop, live_status, read_status}
+
+-- what holds of either holds of the one that is taken
+and_keeps : (P : Option LiveStop → Type 0) (a b : Option LiveStop) → P (Some live.Memory) → P a → P b → P (and_stop a b)
+and_keeps P None b m p q = q
+and_keeps P (Some live.Memory) b m p q = m
+and_keeps P (Some live.Air) None m p q = p
+and_keeps P (Some live.Air) (Some live.Memory) m p q = m
+and_keeps P (Some live.Air) (Some live.Air) m p q = p
+and_keeps P (Some live.Air) (Some (live.Control s)) m p q = p
+and_keeps P (Some live.Air) (Some (live.Feed f s)) m p q = p
+and_keeps P (Some (live.Control t)) None m p q = p
+and_keeps P (Some (live.Control t)) (Some live.Memory) m p q = m
+and_keeps P (Some (live.Control t)) (Some live.Air) m p q = p
+and_keeps P (Some (live.Control t)) (Some (live.Control s)) m p q = p
+and_keeps P (Some (live.Control t)) (Some (live.Feed f s)) m p q = p
+and_keeps P (Some (live.Feed g t)) None m p q = p
+and_keeps P (Some (live.Feed g t)) (Some live.Memory) m p q = m
+and_keeps P (Some (live.Feed g t)) (Some live.Air) m p q = p
+and_keeps P (Some (live.Feed g t)) (Some (live.Control s)) m p q = p
+and_keeps P (Some (live.Feed g t)) (Some (live.Feed f s)) m p q = p
+
+-- where neither is taken there is neither
+and_none : (a b : Option LiveStop) → and_stop a b ≡ None → (a ≡ None) × (b ≡ None)
+and_none None b e = (refl, e)
+and_none (Some live.Memory) b e = cc
+and_none (Some live.Air) None e = cc
+and_none (Some live.Air) (Some live.Memory) e = cc
+and_none (Some live.Air) (Some live.Air) e = cc
+and_none (Some live.Air) (Some (live.Control s)) e = cc
+and_none (Some live.Air) (Some (live.Feed f s)) e = cc
+and_none (Some (live.Control t)) None e = cc
+and_none (Some (live.Control t)) (Some live.Memory) e = cc
+and_none (Some (live.Control t)) (Some live.Air) e = cc
+and_none (Some (live.Control t)) (Some (live.Control s)) e = cc
+and_none (Some (live.Control t)) (Some (live.Feed f s)) e = cc
+and_none (Some (live.Feed g t)) None e = cc
+and_none (Some (live.Feed g t)) (Some live.Memory) e = cc
+and_none (Some (live.Feed g t)) (Some live.Air) e = cc
+and_none (Some (live.Feed g t)) (Some (live.Control s)) e = cc
+and_none (Some (live.Feed g t)) (Some (live.Feed f s)) e = cc
+
+no_control : (stop : Option EditStop) → control_stop stop ≡ None → stop ≡ None
+no_control None e = refl
+no_control (Some (edit.NoCommand n)) e = cc
+no_control (Some (edit.Read s)) e = cc
+no_control (Some edit.Memory) e = cc
+
+-- Done exactly where there is no stop
+done_none : (stop : Option LiveStop) → live_status stop ≡ Done → stop ≡ None
+done_none None e = refl
+done_none (Some live.Air) e = cc
+done_none (Some live.Memory) e = cc
+done_none (Some (live.Control (edit.NoCommand n))) e = cc
+done_none (Some (live.Control (edit.Read Failed))) e = cc
+done_none (Some (live.Control (edit.Read Overlong))) e = cc
+done_none (Some (live.Control edit.Memory)) e = cc
+done_none (Some (live.Feed f (edit.NoCommand n))) e = cc
+done_none (Some (live.Feed f (edit.Read Failed))) e = cc
+done_none (Some (live.Feed f (edit.Read Overlong))) e = cc
+done_none (Some (live.Feed f edit.Memory)) e = cc
+
+none_watched : (wanting : Bool) (stop : Option LiveStop) → watched_stop wanting stop ≡ None → stop ≡ None
+none_watched true stop e = cc
+none_watched false stop e = e
+
+-- with Done the control met no stop
+pub done_control : (wanting : Bool) (end : Option LiveStop) (sent : Result (Unit {0}) SendStop) (control : Option EditStop) (feeds : Option LiveStop)
+    → end ≡ watched_stop wanting (run_stop sent control feeds) → live_status end ≡ Done → control ≡ None
+done_control wanting end sent control feeds is done =
+    no_control control (and_none (control_stop control) feeds (and_none (sent_stop sent) (and_stop (control_stop control) feeds) (none_watched wanting (run_stop sent control feeds) (sym is ∙ done_none end done))).1).0
+
+pub memory_or : (stop : Option LiveStop) → (stop ≡ Some live.Memory) ⊎ (stop ≡ Some live.Memory → ⊥)
+memory_or None = inr (λ e. cc)
+memory_or (Some live.Memory) = inl refl
+memory_or (Some live.Air) = inr (λ e. cc)
+memory_or (Some (live.Control s)) = inr (λ e. cc)
+memory_or (Some (live.Feed f s)) = inr (λ e. cc)
+
+pub unless_wanting : (wanting : Bool) (end stop : Option LiveStop) → end ≡ watched_stop wanting stop → (end ≡ Some live.Memory → ⊥) → end ≡ stop
+unless_wanting true end stop is other = absurd (other is)
+unless_wanting false end stop is other = is
+
+-- ---- causes
+
+module _ (input_before input_now feeds_before feeds_now air_before air_now : ℕ) where
+  abbrev Caused : Option LiveStop → Type 0
+  Caused stop = HasStatusCause input_before input_now feeds_before feeds_now air_before air_now (live_status stop)
+
+  sent_caused : (sent : Result (Unit {0}) SendStop) → HasAirCause air_before air_now sent → Caused (sent_stop sent)
+  sent_caused (Ok u) cause = tt
+  sent_caused (Err send.Air) cause = cause
+  sent_caused (Err send.Memory) cause = tt
+
+  control_caused : (stop : Option EditStop) → HasReadCause input_before input_now stop → Caused (control_stop stop)
+  control_caused None cause = tt
+  control_caused (Some (edit.NoCommand n)) cause = tt
+  control_caused (Some (edit.Read Failed)) cause = cause
+  control_caused (Some (edit.Read Overlong)) cause = tt
+  control_caused (Some edit.Memory) cause = tt
+
+  feed_caused : (f : ℕ) (stop : Option EditStop) → HasReadCause feeds_before feeds_now stop → Caused (feed_stop f stop)
+  feed_caused f None cause = tt
+  feed_caused f (Some (edit.NoCommand n)) cause = tt
+  feed_caused f (Some (edit.Read Failed)) cause = cause
+  feed_caused f (Some (edit.Read Overlong)) cause = tt
+  feed_caused f (Some edit.Memory) cause = tt
+
+  feeds_caused : (first : Option LiveStop) (f : ℕ) (stops : List (Option EditStop)) → Caused first → HaveReadCauses feeds_before feeds_now stops → Caused (feeds_stop first f stops)
+  feeds_caused first f [] here causes = here
+  feeds_caused first f (stop ∷ stops) here (cause, causes) =
+      feeds_caused (or_feed first f stop) (f + 1) stops (and_keeps Caused first (feed_stop f stop) tt here (feed_caused f stop cause)) causes
+
+  watched_caused : (wanting : Bool) (stop : Option LiveStop) → Caused stop → Caused (watched_stop wanting stop)
+  watched_caused true stop cause = tt
+  watched_caused false stop cause = cause
+
+  pub run_caused : (wanting : Bool) (sent : Result (Unit {0}) SendStop) (control : Option EditStop) (stops : List (Option EditStop)) → HasAirCause air_before air_now sent → HasReadCause input_before input_now control
+      → HaveReadCauses feeds_before feeds_now stops → Caused (watched_stop wanting (run_stop sent control (feeds_stop None 1 stops)))
+  run_caused wanting sent control stops air input feeds =
+      watched_caused wanting (run_stop sent control (feeds_stop None 1 stops))
+      (and_keeps Caused (sent_stop sent) (and_stop (control_stop control) (feeds_stop None 1 stops)) tt (sent_caused sent air)
+      (and_keeps Caused (control_stop control) (feeds_stop None 1 stops) tt (control_caused control input) (feeds_caused None 1 stops tt feeds)))

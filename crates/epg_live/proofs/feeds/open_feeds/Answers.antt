@@ -1,0 +1,52 @@
+use Rattle.std.proofs.Common.{◌≡◌, ◌+◌, ◌∙◌, ℕ, List, Option, Ok, sym, ap, subst, arith, take}
+use Rattle.si_causes.specs.Causes.{Rose}
+use Rattle.si_causes.proofs.CauseFacts.{Rose-from}
+use Rattle.command_words.specs.Commands.{texts}
+use Rattle.epg_live.specs.Opened.{HasTried, NoneFailed}
+use Rattle.epg_live.proofs.OpenFacts.{next_opened, next_tried, opened_sound}
+use Rattle.epg_live.proofs.feeds.open_feeds.Goals as goal
+
+pub returns-in_default-clause-tried : goal.returns-in_default-clause-tried
+returns-in_default-clause-tried g c = (
+  c.loop-path.path-index + 1,
+  next_tried c.args.paths.now c.loop-path.path-index c.path-item.result c.as_str.result.now c.loop-path-test.true c.path-item.is c.as_str.ensures.value
+      (g.O.Opener.tried c.args.opener.now) (g.O.Opener.tried c.loop-path.opener) (g.O.Opener.tried c.open_feed.new.opener) c.loop-path.invariant.tried c.open_feed.ensures.tried,
+  tt,
+)
+
+pub returns-then-not-opened-clause-tried : goal.returns-then-not-opened-clause-tried
+returns-then-not-opened-clause-tried g c = (
+  c.loop-path.path-index + 1,
+  subst (λ (o : Option (List (List ℕ))). HasTried (g.O.Opener.tried c.args.opener.now) o (take (c.loop-path.path-index + 1) (texts c.args.paths.now))) (sym c.close_feeds.ensures.tried)
+      (next_tried c.args.paths.now c.loop-path.path-index c.path-item.result c.as_str.result.now c.loop-path-test.true c.path-item.is c.as_str.ensures.value
+      (g.O.Opener.tried c.args.opener.now) (g.O.Opener.tried c.loop-path.opener) (g.O.Opener.tried c.open_feed.new.opener) c.loop-path.invariant.tried c.open_feed.ensures.tried),
+  ap (λ (n : ℕ). n + 1) (sym c.loop-path.invariant.count),
+)
+
+pub returns-then-not-opened-clause-failed : goal.returns-then-not-opened-clause-failed
+returns-then-not-opened-clause-failed g c =
+    subst (λ (n : ℕ). Rose (g.O.Opener.faults c.args.opener.now) n) (sym c.close_feeds.ensures.faults)
+    (Rose-from (g.O.Opener.faults c.args.opener.now) (g.O.Opener.faults c.loop-path.opener) (g.O.Opener.faults c.open_feed.new.opener) c.loop-path.invariant.later
+    (c.open_feed.ensures.failed (c.in-Ok.is ∙ ap Ok c.if-not-opened.true)))
+
+pub returns-then-not-opened-clause-read_faults : goal.returns-then-not-opened-clause-read_faults
+returns-then-not-opened-clause-read_faults g c =
+    let readers = c.open_feed.new.feeds.items in
+    let sound : NoneFailed g.O.From.Source.faults readers = subst (λ rs. NoneFailed g.O.From.Source.faults rs) (sym (c.open_feed.ensures.kept (c.in-Ok.is ∙ ap Ok c.if-not-opened.true)))
+    (opened_sound g.O.From.Source.left g.O.From.Source.faults (g.O.Opener.files c.args.opener.now) (take c.loop-path.path-index (texts c.args.paths.now)) c.loop-path.feeds.items c.loop-path.invariant.opened) in
+    c.close_feeds.ensures.closes.kept sound ∙ c.open_feed.ensures.read_faults ∙ c.loop-path.invariant.read_faults
+
+pub loop-path-preserved : goal.loop-path-preserved
+loop-path-preserved g c =
+    let i = c.loop-path.invariant in
+    record {
+      count = ap (λ (n : ℕ). n + 1) i.count;
+      opened = next_opened c.args.paths.now c.loop-path.path-index c.path-item.result c.as_str.result.now c.loop-path-test.true c.path-item.is c.as_str.ensures.value
+          g.O.From.Source.left g.O.From.Source.faults (g.O.Opener.files c.args.opener.now) (g.O.Opener.files c.loop-path.opener) c.loop-path.feeds.items c.open_feed.new.feeds.items i.files i.opened
+          (c.open_feed.ensures.opened (c.in-Ok.is ∙ ap Ok c.if-not-opened.false));
+      tried = next_tried c.args.paths.now c.loop-path.path-index c.path-item.result c.as_str.result.now c.loop-path-test.true c.path-item.is c.as_str.ensures.value
+          (g.O.Opener.tried c.args.opener.now) (g.O.Opener.tried c.loop-path.opener) (g.O.Opener.tried c.open_feed.new.opener) i.tried c.open_feed.ensures.tried;
+      files = c.open_feed.ensures.files ∙ i.files;
+      read_faults = c.open_feed.ensures.read_faults ∙ i.read_faults;
+      later = omega (arith, i.later, c.open_feed.ensures.later);
+    }

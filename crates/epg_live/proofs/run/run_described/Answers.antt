@@ -1,0 +1,122 @@
+use Rattle.std.proofs.Common.{◌≡◌, ◌⊎◌, inl, inr, ℕ, List, length, take, refl, sym, ap, ◌∙◌, subst, string_bytes, arith}
+use Rattle.std.specs.Prelude.{Option, Some, None}
+use Rattle.std.proofs.lemmas.List.{length-map}
+use Rattle.si_causes.specs.Opening.{Files}
+use Rattle.command_words.specs.Commands.{texts}
+use Rattle.epg_report.specs.declared.status.Status.{Status}
+use Rattle.epg_live.specs.Ends.{HasAsked, HasMet, entries_of}
+use Rattle.feed_edits.specs.Ahead.{ahead}
+use Rattle.epg_live.specs.Opened.{AreOpened, HasTried, OpenedTo}
+use Rattle.epg_live.specs.Stops.{HasStatusCause, IsMet, IsOfRun, mux_status, open_status}
+use Rattle.epg_live.proofs.DescribedFacts.{is_described, not_described, unread_going, unread_told}
+use Rattle.epg_live.proofs.OpenFacts.{opened_length}
+use Rattle.epg_live.proofs.MetFacts.{all_asked, as_met, if_ok, mux_asked, mux_caused, mux_not_done, mux_not_open, mux_of_live, not_opened, of_run, open_asked, open_caused, open_fault, open_not_done, open_of_live, ran_caused, ran_met, run_not_open, some_asked}
+use Rattle.epg_live.proofs.run.run_described.Goals as goal
+
+-- ---- the description was not read
+
+pub returns-in-Err-clause-met : goal.returns-in-Err-clause-met
+returns-in-Err-clause-met g c = λ text tells files known sent knows.
+    let old = c.args.lines in
+    let mid = c.read_mux.new.lines in
+    let unread = c.requires.unread in
+    let going = unread_going g.S.Source.left g.S.Source.faults old old.source unread in
+    let paths = texts c.args.words.now.feeds.items in
+    let air = g.A.Sink.written c.args.air.now in
+    let faults = g.O.Opener.read_faults c.args.opener.now in
+    let journal = entries_of c.args.run.now.desk in
+    let met = not_described g.S.Source.left g.S.Source.faults old mid old.source text air air journal c.args.run.now.dones c.in-Err.stop unread tells
+    (c.in-Err.ensures.block going text (unread_told g.S.Source.left g.S.Source.faults old old.source text unread tells)) (c.in-Err.ensures.came going) (ap entries_of c.requires.blank.desk) c.requires.blank.dones refl in
+    subst (λ (s : Status). HasMet paths c.args.words.now.cycles c.args.words.now.join text files (g.S.Source.left c.close.result) faults faults air air journal c.args.run.now.dones s) (sym c.mux_status-run.ensures.value)
+    (subst (λ s. HasMet paths c.args.words.now.cycles c.args.words.now.join text files (g.S.Source.left s) faults faults air air journal c.args.run.now.dones (mux_status c.in-Err.stop)) (sym c.close.ensures)
+    (as_met paths c.args.words.now.cycles c.args.words.now.join text files (g.S.Source.left mid.source) faults faults air air journal c.args.run.now.dones (mux_status c.in-Err.stop) met))
+
+pub returns-in-Err-clause-cause : goal.returns-in-Err-clause-cause
+returns-in-Err-clause-cause g c =
+    let old = c.args.lines in
+    let mid = c.read_mux.new.lines in
+    let going = unread_going g.S.Source.left g.S.Source.faults old old.source c.requires.unread in
+    let faults = g.O.Opener.read_faults c.args.opener.now in
+    let air = g.A.Sink.faults c.args.air.now in
+    subst (λ (s : Status). HasStatusCause (g.S.Source.faults old.source) (g.S.Source.faults c.close.result) faults faults air air s) (sym c.mux_status-run.ensures.value)
+    (subst (λ s. HasStatusCause (g.S.Source.faults old.source) (g.S.Source.faults s) faults faults air air (mux_status c.in-Err.stop)) (sym c.close.ensures)
+    (mux_caused g.S.Source.left g.S.Source.faults old mid c.in-Err.stop faults air (c.in-Err.ensures.came going)))
+
+pub returns-in-Err-clause-open_cause : goal.returns-in-Err-clause-open_cause
+returns-in-Err-clause-open_cause g c = λ f e. absurd (mux_not_open c.in-Err.stop f (sym c.mux_status-run.ensures.value ∙ e))
+
+pub returns-in-Err-clause-asked : goal.returns-in-Err-clause-asked
+returns-in-Err-clause-asked g c =
+    subst (λ (s : Status). HasAsked (texts c.args.words.now.feeds.items) (g.O.Opener.tried c.args.opener.now) (g.O.Opener.tried c.args.opener.now) s) (sym c.mux_status-run.ensures.value)
+    (mux_asked (texts c.args.words.now.feeds.items) (g.O.Opener.tried c.args.opener.now) c.in-Err.stop)
+
+pub returns-in-Err-clause-end : goal.returns-in-Err-clause-end
+returns-in-Err-clause-end g c = λ e. absurd (mux_not_done c.in-Err.stop (sym c.mux_status-run.ensures.value ∙ e))
+
+pub returns-in-Err-clause-status : goal.returns-in-Err-clause-status
+returns-in-Err-clause-status g c = subst (λ (s : Status). IsMet s) (sym c.mux_status-run.ensures.value) (mux_of_live c.in-Err.stop)
+
+-- ---- the files were not opened
+
+pub returns-in-Err-open_feeds-clause-met : goal.returns-in-Err-open_feeds-clause-met
+returns-in-Err-open_feeds-clause-met g c = λ text tells files known sent knows.
+    let old = c.args.lines in
+    let mid = c.read_mux.new.lines in
+    let unread = c.requires.unread in
+    let going = unread_going g.S.Source.left g.S.Source.faults old old.source unread in
+    let paths = texts c.args.words.now.feeds.items in
+    let air = g.A.Sink.written c.args.air.now in
+    let journal = entries_of c.args.run.now.desk in
+    let d = is_described g.S.Source.left g.S.Source.faults old mid old.source text c.in-Ok.mux unread (c.in-Ok.ensures.block going text (unread_told g.S.Source.left g.S.Source.faults old old.source text unread tells)) in
+    subst (λ (s : Status). HasMet paths c.args.words.now.cycles c.args.words.now.join text files (g.S.Source.left c.close-in-Err-open_feeds.result) (g.O.Opener.read_faults c.args.opener.now) (g.O.Opener.read_faults c.open_feeds.new.opener) air air journal c.args.run.now.dones s) (sym c.open_status-run.ensures.value)
+    (as_met paths c.args.words.now.cycles c.args.words.now.join text files (g.S.Source.left c.close-in-Err-open_feeds.result) (g.O.Opener.read_faults c.args.opener.now) (g.O.Opener.read_faults c.open_feeds.new.opener) air air journal c.args.run.now.dones (open_status c.in-Err-open_feeds.stop)
+    (not_opened text (g.S.Source.left c.close-in-Err-open_feeds.result) air air journal c.args.run.now.dones c.in-Err-open_feeds.stop c.in-Ok.mux d.2.0 d.2.1 (ap entries_of c.requires.blank.desk) c.requires.blank.dones refl))
+
+-- ---- jobs ran
+
+pub run_jobs-requires-clause-few : goal.run_jobs-requires-clause-few
+run_jobs-requires-clause-few g c =
+    let feeds = c.in-Ok-open_feeds.feeds.items in
+    let paths = c.deref.result.now in
+    let readers : length feeds ≡ length (texts paths) = opened_length g.O.From.Source.left g.O.From.Source.faults (g.O.Opener.files c.args.opener.now) (texts paths) feeds c.in-Ok-open_feeds.ensures.opened in
+    let count : length (texts paths) ≡ length paths = length-map paths string_bytes in
+    let same : length paths ≡ length c.args.words.now.feeds.items = ap length c.deref.ensures.value in
+    omega (arith, readers, count, same, c.requires.few)
+
+pub returns-clause-met : goal.returns-clause-met
+returns-clause-met g c = λ text tells files known sent knows.
+    let old = c.args.lines in
+    let mid = c.read_mux.new.lines in
+    let unread = c.requires.unread in
+    let going = unread_going g.S.Source.left g.S.Source.faults old old.source unread in
+    let items = c.args.words.now.feeds.items in
+    let feeds = c.in-Ok-open_feeds.feeds.items in
+    let d = is_described g.S.Source.left g.S.Source.faults old mid old.source text c.in-Ok.mux unread (c.in-Ok.ensures.block going text (unread_told g.S.Source.left g.S.Source.faults old old.source text unread tells)) in
+    let opened : AreOpened g.O.From.Source.left g.O.From.Source.faults (g.O.Opener.files c.open_feeds.new.opener) (texts items) feeds =
+    subst (λ (o : Option Files). AreOpened g.O.From.Source.left g.O.From.Source.faults o (texts items) feeds) (sym c.open_feeds.ensures.files)
+    (subst (λ l. AreOpened g.O.From.Source.left g.O.From.Source.faults (g.O.Opener.files c.args.opener.now) (texts l) feeds) c.deref.ensures.value c.in-Ok-open_feeds.ensures.opened) in
+    ran_met g.S.Source.left c.run_jobs.result (texts items) c.args.words.now.cycles c.args.words.now.join text files (g.O.Opener.read_faults c.args.opener.now) (g.O.Opener.read_faults c.open_feeds.new.opener) (g.O.Opener.read_faults c.run_jobs.new.opener)
+    (g.A.Sink.written c.args.air.now) (g.A.Sink.written c.run_jobs.new.air) (entries_of c.run_jobs.new.run.desk) c.run_jobs.new.run.dones c.run_jobs.new.run.met c.in-Ok.mux d.2.0 (ahead mid d.0) d.2.1 d.2.2 c.open_feeds.ensures.read_faults
+    (c.run_jobs.ensures.ran (texts items) opened d.0 d.1 files (c.open_feeds.ensures.files ∙ known) sent knows)
+
+pub returns-clause-asked : goal.returns-clause-asked
+returns-clause-asked g c =
+    let items = c.args.words.now.feeds.items in
+    let paths = c.deref.result.now in
+    let old = g.O.Opener.tried c.args.opener.now in
+    let mid = g.O.Opener.tried c.open_feeds.new.opener in
+    let new = g.O.Opener.tried c.run_jobs.new.opener in
+    let met = c.run_jobs.new.run.met in
+    if_ok (λ s. IsOfRun met) (λ s. HasAsked (texts items) old new met) c.run_jobs.result
+    (λ s of. all_asked c.open_feeds.result (texts items) old mid new (length paths) c.in-Ok-open_feeds.feeds met c.in-Ok-open_feeds.is (length-map items string_bytes ∙ ap length (sym c.deref.ensures.value)) c.run_jobs.ensures.tried of
+    (subst (λ l. (k : ℕ) × HasTried old mid (take k (texts l)) × OpenedTo k (length paths) c.open_feeds.result) c.deref.ensures.value c.open_feeds.ensures.tried)) c.run_jobs.ensures.status
+
+pub returns-clause-asked_some : goal.returns-clause-asked_some
+returns-clause-asked_some g c =
+    let items = c.args.words.now.feeds.items in
+    let paths = c.deref.result.now in
+    let old = g.O.Opener.tried c.args.opener.now in
+    let mid = g.O.Opener.tried c.open_feeds.new.opener in
+    let new = g.O.Opener.tried c.run_jobs.new.opener in
+    some_asked c.run_jobs.result c.open_feeds.result (texts items) old mid new (length paths) c.run_jobs.ensures.tried
+    (subst (λ l. (k : ℕ) × HasTried old mid (take k (texts l)) × OpenedTo k (length paths) c.open_feeds.result) c.deref.ensures.value c.open_feeds.ensures.tried)

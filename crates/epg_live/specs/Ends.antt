@@ -1,0 +1,104 @@
+-- What a run of `live` leaves.
+use Rattle.std.specs.Prelude.{◌≡◌, ◌⊎◌, ℕ, ◌≤◌, List, [], ◌++◌, length, take, flat_map, codes, Option, Some, None, Ok, Err, Result}
+use Rattle.std.specs.Io.KnownBytes.{Appends}
+use Rattle.si_causes.specs.Causes.{Rose, AppendsFront}
+use Rattle.si_causes.specs.Opening.{Files}
+use Rattle.mux_config.specs.declared.mux.Mux.{Mux}
+use Rattle.mux_config.specs.Block.{Whole}
+use Rattle.feed_edits.specs.Ahead.{Row}
+use Rattle.desk_core.specs.declared.step.Entry.{Entry}
+use Rattle.desk_core.specs.Desks.{DeskState}
+use Rattle.journal_text.specs.Entries.{journal_text}
+use Rattle.guide_receiver.specs.declared.done.DoneKey.{DoneKey}
+use Rattle.guide_receiver.specs.Heard.{at_packet}
+use Rattle.guide_receiver.specs.Texts.{done_line}
+use Rattle.air_monitor.specs.declared.done_line.DoneLine.{DoneLine}
+use Rattle.epg_report.specs.declared.status.Status.{Status}
+use Rattle.epg_report.specs.declared.status.Status.TheVariants.{Done, BadMux, OpenFault, ReadFault, TooLong, WriteFault, Memory}
+use Rattle.epg_report.specs.declared.status.Origin.TheVariants.{Input}
+use Rattle.epg_report.specs.declared.status.Outlet.TheVariants.{Report}
+use Rattle.epg_report.specs.Texts.{fault_lines}
+use Rattle.epg_report.specs.Told.{Told}
+use Rattle.epg_live.specs.declared.reporting.LiveRun.{LiveRun}
+use Rattle.epg_live.specs.Opened.{HasTried}
+use Rattle.epg_live.specs.Runs.{JobsRan, NoJobs, behind, described}
+
+-- ---- the report
+
+-- the key and the version of a completion
+abbrev pub line_done : DoneLine → DoneKey
+line_done line = record { key = line.key; version = line.version }
+
+-- the lines of completions
+abbrev pub done_text : List DoneLine → List ℕ
+done_text dones = flat_map (λ (line : DoneLine). done_line (at_packet line.packet (line_done line))) dones
+
+-- the journal, and the lines of the completions
+abbrev pub run_text : List Entry → List DoneLine → List ℕ
+run_text journal dones = journal_text journal ++ done_text dones
+
+-- the line that ends them: `end`, or the one that names the fault that was met
+abbrev pub met_lines : Status → List ℕ
+met_lines Done = codes "end\n"
+met_lines met = fault_lines met
+
+-- the status of a run that met this, and whose report failed: the first fault decides
+abbrev pub or_report : Status → Status
+or_report Done = WriteFault Report
+or_report met = met
+
+-- and whose report was written so
+abbrev pub ended_by : {E : Type 0} → Status → Result (Unit {0}) E → Status
+ended_by met (Ok u) = met
+ended_by met (Err failed) = or_report met
+
+-- How the report of a run ends that met this status, and the status of the run.
+abbrev pub ReportEnds : Status → List ℕ → Told → Status → Type 0
+ReportEnds met text report status =
+    (Appends report.old report.new (text ++ met_lines met) × (status ≡ met))
+    ⊎ (Rose report.faults_old report.faults_new × AppendsFront report.old report.new (text ++ met_lines met) × (status ≡ or_report met))
+
+-- ---- the whole run
+
+-- jobs ran over the multiplex of the text
+abbrev pub Ran : List (List ℕ) → ℕ → ℕ → List ℕ → Files → ℕ → ℕ → Option (List ℕ) → Option (List ℕ) → List Entry → List DoneLine → Status → Type 0
+Ran paths cycles join text files faults_before faults_now before now journal dones met =
+    (mux : Mux) × (rows : List Row) × (described text ≡ Whole mux rows)
+    × JobsRan mux cycles join (behind text rows) paths files faults_before faults_now before now journal dones met
+
+-- what was met, and done until then: want of memory; or no job started; or they ran
+abbrev pub HasMet : List (List ℕ) → ℕ → ℕ → List ℕ → Files → Option (List ℕ) → ℕ → ℕ → Option (List ℕ) → Option (List ℕ) → List Entry → List DoneLine → Status → Type 0
+HasMet paths cycles join text files left faults_before faults_now before now journal dones met =
+    (met ≡ Memory) ⊎ (NoJobs text left before now journal dones met ⊎ Ran paths cycles join text files faults_before faults_now before now journal dones met)
+
+-- What a run over the files of these paths leaves, of the text of its input and the files of its opener, and of what is left of that text: the report has the journal
+-- and the completions, and ends by the status that was met. Want of memory, whoever met it, goes before all.
+abbrev pub LeavesLive : List (List ℕ) → ℕ → ℕ → List ℕ → Files → Option (List ℕ) → ℕ → ℕ → Told → Told → Status → Type 0
+LeavesLive paths cycles join text files left faults_before faults_now air report status =
+    (status ≡ Memory)
+    ⊎ ((journal : List Entry) × (dones : List DoneLine) × (met : Status)
+    × HasMet paths cycles join text files left faults_before faults_now air.old air.new journal dones met × ReportEnds met (run_text journal dones) report status)
+
+-- ---- inside a run
+
+abbrev pub entries_of : Option DeskState → List Entry
+entries_of None = []
+entries_of (Some desk) = desk.entries
+
+-- how many paths of so many were asked for
+abbrev pub AskedFor : ℕ → ℕ → Status → Type 0
+AskedFor n k (OpenFault f) = k ≡ f
+AskedFor n k (BadMux fault) = k ≡ 0
+AskedFor n k (TooLong Input) = (k ≡ 0) ⊎ (k ≡ n)
+AskedFor n k (ReadFault Input) = (k ≡ 0) ⊎ (k ≡ n)
+AskedFor n k Memory = Unit {0}
+AskedFor n k status = k ≡ n
+
+-- An opener was asked for the first of these paths, in order: all of them where jobs started.
+abbrev pub HasAsked : List (List ℕ) → Option (List (List ℕ)) → Option (List (List ℕ)) → Status → Type 0
+HasAsked paths old new status = (k : ℕ) × HasTried old new (take k paths) × AskedFor (length paths) k status
+
+-- nothing has run
+pub record IsBlank (run : LiveRun) : Type 0 where
+  pub desk : run.desk ≡ None
+  pub dones : run.dones ≡ []

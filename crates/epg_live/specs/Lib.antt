@@ -1,0 +1,4 @@
+pub mod Opened
+pub mod Stops
+pub mod Runs
+pub mod Ends

@@ -1,0 +1,118 @@
+-- A run over the text of its input and the files of its feeds.
+use Rattle.std.specs.Prelude.{◌≡◌, ℕ, ◌+◌, ◌≤◌, List, [], ◌∷◌, ◌++◌, length, map, Option, Some, None, Ok, Err, Result}
+use Rattle.std.specs.Io.KnownBytes.{Appends}
+use Rattle.si_causes.specs.Causes.{Rose}
+use Rattle.si_causes.specs.Opening.{Files, file_at}
+use Rattle.si_causes.specs.Text.{text_lines}
+use Rattle.si_causes.specs.declared.stop.ReadStop.TheVariants.{Failed}
+use Rattle.input_lines.specs.Lines.{record_lines}
+use Rattle.input_lines.specs.Going.{shown_whole}
+use Rattle.mux_config.specs.declared.mux.Mux.{Mux}
+use Rattle.mux_config.specs.Block.{Block, Faulty, Whole, Unended, block_from, block_of}
+use Rattle.feed_edits.specs.declared.stop.EditStop.{EditStop}
+use Rattle.feed_edits.specs.declared.stop.EditStop.TheVariants.{Read}
+use Rattle.feed_edits.specs.Ahead.{Ahead, Row, Stop, Unread, Breaks, ahead_in, tail_of}
+use Rattle.feed_edits.specs.Edits.{edits_ahead}
+use Rattle.desk_core.specs.declared.step.Step.{Step}
+use Rattle.desk_core.specs.declared.step.Entry.{Entry}
+use Rattle.desk_core.specs.Journal.{Command, Legal, command_of}
+use Rattle.desk_hall.specs.Turn.{caller_of}
+use Rattle.desk_hall.specs.Reads.{ToldDid, commands_by, control_step, controls_ahead, edit_step}
+use Rattle.turn_lock.specs.Journal.{entries_of}
+use Rattle.air_monitor.specs.declared.done_line.DoneLine.{DoneLine}
+use Rattle.air_monitor.specs.Heard.{lines_of_air}
+use Rattle.headend_live.specs.declared.send.SendStop.{SendStop}
+use Rattle.headend_live.specs.Callers.{CommandsAre, PlayerSwapped}
+use Rattle.headend_live.specs.Live.{AirDid, LastMade, halts, run_stop}
+use Rattle.epg_report.specs.declared.status.Status.{Status}
+use Rattle.epg_report.specs.declared.status.Status.TheVariants.{BadMux, TooLong, OpenFault, ReadFault, Memory}
+use Rattle.epg_report.specs.declared.status.Origin.TheVariants.{Input}
+use Rattle.epg_live.specs.Stops.{HaveReadCauses, feeds_stop, live_status}
+
+-- ---- what was asked for
+
+-- the description in a text, and what is ahead behind its `end`
+abbrev pub described : List ℕ → Block
+described text = block_of 1 (text_lines text)
+
+abbrev pub behind : List ℕ → List Row → Ahead
+behind text rows = (let lines = text_lines text in record { rows = rows; tail = tail_of (1 + length lines.0) lines.1 })
+
+-- what is ahead in the text of a feed
+abbrev pub ahead_of : List ℕ → Ahead
+ahead_of text = ahead_in 1 (text_lines text)
+
+-- Under its number the journal has the commands that were ahead of a caller up to its own stop, and then these.
+abbrev pub CallerDid : {T : Type 0} → List Entry → ℕ → (T → Step) → List T × Stop → List Command → Option EditStop → Type 0
+CallerDid journal who step all then stop = ToldDid (λ values. CommandsAre journal who (commands_by who step values ++ then)) all stop
+
+-- Feed f is caller f + 1, and has the commands of the file of its path. The first of these feeds has number f.
+abbrev pub FeedsDid : Files → List Entry → ℕ → List (List ℕ) → List (Option EditStop) → Type 0
+FeedsDid files journal f [] [] = Unit {0}
+FeedsDid files journal f [] (stop ∷ stops) = ⊥
+FeedsDid files journal f (path ∷ paths) [] = ⊥
+FeedsDid files journal f (path ∷ paths) (stop ∷ stops) =
+    ((text : List ℕ) × (file_at path files ≡ Some text) × CallerDid journal (f + 1) (edit_step f) (edits_ahead (ahead_of text)) [] stop)
+    × FeedsDid files journal (f + 1) paths stops
+
+-- ---- a run whose jobs started
+
+-- The journal: each caller's commands stand in it once, in order, whatever other jobs met, each with the reply of a desk of one thread
+-- (`legal`), and no one else's. Caller 0 is the control, caller 1 the player. `final` is what the control made behind all jobs.
+pub record IsJournal (mux : Mux) (cycles : ℕ) (control : Ahead) (paths : List (List ℕ)) (files : Files) (journal : List Entry)
+    (player : Result (Unit {0}) SendStop) (control_stop : Option EditStop) (feed_stops : List (Option EditStop)) (final : List Entry) : Type 0 where
+  pub legal : Legal mux journal
+  pub control_did : CallerDid journal 0 control_step (controls_ahead control) (map command_of final) control_stop
+  pub player_did : PlayerSwapped journal cycles player
+  pub feeds_did : FeedsDid files journal 1 paths feed_stops
+  pub others : (k : ℕ) → length paths + 2 ≤ k → entries_of caller_of k journal ≡ []
+  pub front : List Entry
+  pub ends : journal ≡ front ++ final
+
+-- the completions are those that the whole packets show which the air took, from packet `join` on
+pub record AreHeard (join : ℕ) (before now : Option (List ℕ)) (dones : List DoneLine) : Type 0 where
+  pub taken : List ℕ
+  pub gave : Appends before now taken
+  pub lines : dones ≡ lines_of_air join taken
+
+-- The jobs started, and all have ended. The status is that of the first stop in the order air, control, feeds by number; Done exactly
+-- where there is none, and then the control's publish, swap and swap end the journal (`last`). `sent` says how the last cycle ended. A feed was not read
+-- to its own stop only where the opener's count of read faults rose (`causes`).
+pub record JobsRan (mux : Mux) (cycles join : ℕ) (control : Ahead) (paths : List (List ℕ)) (files : Files) (faults_before faults_now : ℕ) (before now : Option (List ℕ))
+    (journal : List Entry) (dones : List DoneLine) (status : Status) : Type 0 where
+  pub player : Result (Unit {0}) SendStop
+  pub sent : Result (Unit {0}) SendStop
+  pub control_stop : Option EditStop
+  pub feed_stops : List (Option EditStop)
+  pub final : List Entry
+  pub journal_is : IsJournal mux cycles control paths files journal player control_stop feed_stops final
+  pub last : LastMade (halts player control_stop (feeds_stop None 1 feed_stops)) 0 final sent
+  pub status_is : status ≡ live_status (run_stop sent control_stop (feeds_stop None 1 feed_stops))
+  pub causes : HaveReadCauses faults_before faults_now feed_stops
+  pub air_is : AirDid mux journal before now sent
+  pub heard : AreHeard join before now dones
+
+-- ---- a run that ended before
+
+-- A read failed in the description: the lines that were whole in the bytes taken have neither a fault nor the end.
+pub record IsUnread (text : List ℕ) (left : Option (List ℕ)) : Type 0 where
+  pub taken : List ℕ
+  pub rest : List ℕ
+  pub text_is : text ≡ taken ++ rest
+  pub left_is : left ≡ Some rest
+  pub unended : block_from [] (record_lines 1 (shown_whole taken)) ≡ Unended
+
+-- why no job started
+abbrev pub EndsBefore : List ℕ → Option (List ℕ) → Status → Type 0
+EndsBefore text left (BadMux fault) = described text ≡ Faulty fault
+EndsBefore text left (TooLong Input) = described text ≡ Unended
+EndsBefore text left (ReadFault Input) = IsUnread text left
+EndsBefore text left (OpenFault f) = (mux : Mux) × (rows : List Row) × (described text ≡ Whole mux rows)
+EndsBefore text left status = ⊥
+
+-- no job started: nothing was sent
+pub record NoJobs (text : List ℕ) (left : Option (List ℕ)) (before now : Option (List ℕ)) (journal : List Entry) (dones : List DoneLine) (status : Status) : Type 0 where
+  pub why : EndsBefore text left status
+  pub journal_is : journal ≡ []
+  pub dones_are : dones ≡ []
+  pub sent : now ≡ before

@@ -1,0 +1,81 @@
+-- The statuses of stops.
+use Rattle.std.specs.Prelude.{◌≡◌, ℕ, ◌+◌, List, [], ◌∷◌, Option, Some, None}
+use Rattle.si_causes.specs.declared.stop.ReadStop.TheVariants.{Failed, TooLong as Overlong}
+use Rattle.mux_config.specs.declared.stop.MuxStop.{MuxStop}
+use Rattle.mux_config.specs.declared.stop.MuxStop.TheVariants as mux
+use Rattle.feed_edits.specs.declared.stop.EditStop.{EditStop}
+use Rattle.feed_edits.specs.declared.stop.EditStop.TheVariants as edit
+use Rattle.si_causes.specs.Causes.{Rose}
+use Rattle.desk_hall.specs.Reads.{HasReadCause}
+use Rattle.headend_live.specs.declared.live.LiveStop.{LiveStop}
+use Rattle.headend_live.specs.declared.live.LiveStop.TheVariants as live
+use Rattle.headend_live.specs.Live.{or_feed}
+use Rattle.epg_report.specs.declared.status.Status.{Status}
+use Rattle.epg_report.specs.declared.status.Status.TheVariants.{Done, Usage, BadScript, Disagrees, BadMux, BadFeed, BadStream, TooLong, OpenFault, ReadFault, WriteFault, Memory}
+use Rattle.epg_report.specs.declared.status.Origin.{Origin}
+use Rattle.epg_report.specs.declared.status.Origin.TheVariants.{Input, Feed}
+use Rattle.epg_report.specs.declared.status.Outlet.TheVariants.{Air, Report}
+use Rattle.epg_live.specs.declared.feeds.OpenStop.{OpenStop}
+use Rattle.epg_live.specs.declared.feeds.OpenStop.TheVariants as opening
+
+-- where the description of the multiplex was not read
+abbrev pub mux_status : MuxStop → Status
+mux_status (mux.Fault fault) = BadMux fault
+mux_status (mux.Read Failed) = ReadFault Input
+mux_status (mux.Read Overlong) = TooLong Input
+mux_status mux.Memory = Memory
+
+-- where the files of the feeds were not opened
+abbrev pub open_status : OpenStop → Status
+open_status (opening.Feed f) = OpenFault f
+open_status opening.Memory = Memory
+
+abbrev pub read_status : Origin → EditStop → Status
+read_status Input (edit.NoCommand n) = BadScript n
+read_status (Feed f) (edit.NoCommand n) = BadFeed f n
+read_status origin (edit.Read Failed) = ReadFault origin
+read_status origin (edit.Read Overlong) = TooLong origin
+read_status origin edit.Memory = Memory
+
+-- of a run whose jobs started: Done exactly where no job stopped
+abbrev pub live_status : Option LiveStop → Status
+live_status None = Done
+live_status (Some live.Air) = WriteFault Air
+live_status (Some (live.Control stop)) = read_status Input stop
+live_status (Some (live.Feed f stop)) = read_status (Feed f) stop
+live_status (Some live.Memory) = Memory
+
+-- the first of these stops of feeds, of which the first has number n, behind what there was before; want of memory goes before all
+abbrev pub feeds_stop : Option LiveStop → ℕ → List (Option EditStop) → Option LiveStop
+feeds_stop first n [] = first
+feeds_stop first n (stop ∷ stops) = feeds_stop (or_feed first n stop) (n + 1) stops
+
+-- each of these stops that is a failed read has its cause
+abbrev pub HaveReadCauses : ℕ → ℕ → List (Option EditStop) → Type 0
+HaveReadCauses before now [] = Unit {0}
+HaveReadCauses before now (stop ∷ stops) = HasReadCause before now stop × HaveReadCauses before now stops
+
+-- a fault has its cause: the count of the input's faults, of the opener's read faults, or of the air's faults rose
+abbrev pub HasStatusCause : ℕ → ℕ → ℕ → ℕ → ℕ → ℕ → Status → Type 0
+HasStatusCause input_before input_now feeds_before feeds_now air_before air_now (ReadFault Input) = Rose input_before input_now
+HasStatusCause input_before input_now feeds_before feeds_now air_before air_now (ReadFault (Feed f)) = Rose feeds_before feeds_now
+HasStatusCause input_before input_now feeds_before feeds_now air_before air_now (WriteFault Air) = Rose air_before air_now
+HasStatusCause input_before input_now feeds_before feeds_now air_before air_now status = Unit {0}
+
+-- the statuses of `live`
+abbrev pub IsOfLive : Status → Type 0
+IsOfLive Usage = ⊥
+IsOfLive (Disagrees n kept found) = ⊥
+IsOfLive (BadStream n) = ⊥
+IsOfLive status = Unit {0}
+
+-- those that a run may have met before it reports
+abbrev pub IsMet : Status → Type 0
+IsMet (WriteFault Report) = ⊥
+IsMet status = IsOfLive status
+
+-- and those of a run whose jobs started
+abbrev pub IsOfRun : Status → Type 0
+IsOfRun (BadMux fault) = ⊥
+IsOfRun (OpenFault f) = ⊥
+IsOfRun status = IsMet status

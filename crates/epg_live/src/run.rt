@@ -1,0 +1,183 @@
+// A run of feeds, control and player over files.
+ghost use Rattle.std.specs.Prelude.{◌≡◌, ◌≤◌, ◌⊎◌, List, ℕ, IfOk, OnErr, None, Some, length};
+ghost use Rattle.std.specs.Io.KnownBytes.{IsAtEnd};
+ghost use Rattle.si_causes.specs.Causes.{Rose};
+ghost use Rattle.si_causes.specs.Opening.{Files};
+ghost use Rattle.si_causes.specs.Reading.{fresh, text_left};
+ghost use Rattle.command_words.specs.Commands.{texts};
+ghost use Rattle.mux_config.specs.Sound.{IsSound};
+ghost use Rattle.epg_report.specs.Texts.{CanBeSaid};
+ghost use Rattle.epg_live.specs.Ends.{HasAsked, HasMet, IsBlank, entries_of};
+ghost use Rattle.epg_live.specs.Runs.{JobsRan};
+ghost use Rattle.feed_edits.specs.Ahead.{ahead};
+ghost use Rattle.epg_live.specs.Opened.{AreOpened};
+ghost use Rattle.epg_live.specs.Stops.{HasStatusCause, IsMet, IsOfRun, live_status, mux_status, open_status, read_status};
+
+use crate::feeds::{OpenStop, close_feeds, open_feeds};
+use crate::reporting::LiveRun;
+use command_words::LiveWords;
+use epg_report::{Origin, Outlet, Status};
+use feed_edits::EditStop;
+use headend_live::{LivePlan, LiveStop, Readers, run_live};
+use mux_config::{Mux, MuxStop, read_mux};
+use si_causes::{Gate, LineReader, Opener, ReadStop, Sink, Source};
+use std::alloc::{AllocError, Global};
+use std::marker::{Send, Sync};
+use std::sync::Wait;
+use std::thread::Threads;
+
+// The status where the description of the multiplex was not read.
+fn mux_status(stop: MuxStop) -> Status
+    ensures value { result ≡ mux_status stop }
+    ensures said { CanBeSaid result }
+{
+    match stop {
+        MuxStop::Fault(fault) => Status::BadMux(fault),
+        MuxStop::Read(ReadStop::Failed) => Status::ReadFault(Origin::Input),
+        MuxStop::Read(ReadStop::TooLong) => Status::TooLong(Origin::Input),
+        MuxStop::Memory => Status::Memory,
+    }
+}
+
+// The status where the files of the feeds were not opened.
+fn open_status(stop: OpenStop) -> Status
+    ensures value { result ≡ open_status stop }
+    ensures said { CanBeSaid result }
+{
+    match stop {
+        OpenStop::Feed(feed) => Status::OpenFault(feed),
+        OpenStop::Memory => Status::Memory,
+    }
+}
+
+fn no_command(origin: Origin, line: u64) -> Status
+    ensures value { result ≡ read_status origin (EditStop.NoCommand line) }
+    ensures said { CanBeSaid result }
+    ensures status { IsOfRun result }
+{
+    match origin {
+        Origin::Input => Status::BadScript(line),
+        Origin::Feed(feed) => Status::BadFeed(feed, line),
+    }
+}
+
+fn read_status(origin: Origin, stop: EditStop) -> Status
+    ensures value { result ≡ read_status origin stop }
+    ensures said { CanBeSaid result }
+    ensures status { IsOfRun result }
+{
+    match stop {
+        EditStop::NoCommand(line) => no_command(origin, line),
+        EditStop::Read(ReadStop::Failed) => Status::ReadFault(origin),
+        EditStop::Read(ReadStop::TooLong) => Status::TooLong(origin),
+        EditStop::Memory => Status::Memory,
+    }
+}
+
+// The status of a run whose jobs started.
+fn live_status(stop: Option<LiveStop>) -> Status
+    ensures value { result ≡ live_status stop }
+    ensures said { CanBeSaid result }
+    ensures status { IsOfRun result }
+{
+    match stop {
+        None => Status::Done,
+        Some(LiveStop::Air) => Status::WriteFault(Outlet::Air),
+        Some(LiveStop::Control(stop)) => read_status(Origin::Input, stop),
+        Some(LiveStop::Feed(feed, stop)) => read_status(Origin::Feed(feed), stop),
+        Some(LiveStop::Memory) => Status::Memory,
+    }
+}
+
+// Runs the jobs, closes the files, and gives the input back.
+fn run_jobs<W: Threads + Wait + Sync, O: Opener, S: Source + Send, A: Sink + Send, G: Gate>(
+    rt: &W,
+    alloc: Global,
+    mux: Mux,
+    plan: LivePlan,
+    feeds: Readers<O::From>,
+    lines: LineReader<S>,
+    opener: &mut O,
+    air: &mut A,
+    gate: &G,
+    run: &mut LiveRun,
+) -> Result<S, AllocError>
+    requires sound { IsSound mux }
+    requires few { length feeds.items ≤ 16 }
+    requires cycles { plan.cycles ≤ 1000 }
+    requires going { lines.stop ≡ None }
+    requires opened { (paths : List (List ℕ)) × AreOpened O.From.left O.From.faults (O.files opener.old) paths feeds.items }
+    ensures ran { (paths : List (List ℕ)) → AreOpened O.From.left O.From.faults (O.files opener.old) paths feeds.items
+        → (rest : List ℕ) → text_left S.left lines ≡ Some rest → (files : Files) → O.files opener.old ≡ Some files → (sent : List ℕ) → A.written air.old ≡ Some sent
+        → IfOk result (λ _. (run.new.met ≡ Status.Memory) ⊎ JobsRan mux plan.cycles plan.join (ahead lines rest) paths files (O.read_faults opener.old) (O.read_faults opener.new)
+        (A.written air.old) (A.written air.new) (entries_of run.new.desk) run.new.dones run.new.met) }
+    ensures cause { IfOk result (λ source. HasStatusCause (S.faults lines.source) (S.faults source) (O.read_faults opener.old) (O.read_faults opener.new) (A.faults air.old) (A.faults air.new) run.new.met) }
+    ensures end { IfOk result (λ source. run.new.met ≡ Status.Done → IsAtEnd (S.left source)) }
+    ensures said { IfOk result (λ _. CanBeSaid run.new.met) }
+    ensures status { IfOk result (λ _. IsOfRun run.new.met) }
+    ensures same { IfOk result (λ source. S.same lines.source source) }
+    ensures files { IfOk result (λ _. O.files opener.new ≡ O.files opener.old) }
+    ensures tried { O.tried opener.new ≡ O.tried opener.old }
+    ensures faults { O.faults opener.new ≡ O.faults opener.old }
+{
+    let end = run_live(rt, alloc, mux, plan, feeds, lines, air, gate)?;
+    run.desk = Some(end.desk);
+    run.dones = end.dones;
+    run.met = live_status(end.stop);
+    close_feeds(opener, end.feeds);
+    Ok(end.control.close())
+}
+
+/// Reads the description, opens the files of the feeds, and runs; gives the input back.
+pub(crate) fn run_described<
+    W: Threads + Wait + Sync,
+    O: Opener,
+    S: Source + Send,
+    A: Sink + Send,
+    G: Gate,
+>(
+    rt: &W,
+    alloc: Global,
+    words: &LiveWords,
+    opener: &mut O,
+    mut lines: LineReader<S>,
+    air: &mut A,
+    gate: &G,
+    run: &mut LiveRun,
+) -> Result<S, AllocError>
+    requires few { length words.now.feeds.items ≤ 16 }
+    requires cycles { words.now.cycles ≤ 1000 }
+    requires unread { lines ≡ fresh lines.source }
+    requires blank { IsBlank run.old }
+    ensures met { (text : List ℕ) → S.left lines.source ≡ Some text → (files : Files) → O.files opener.old ≡ Some files → (sent : List ℕ) → A.written air.old ≡ Some sent
+        → IfOk result (λ source. HasMet (texts words.now.feeds.items) words.now.cycles words.now.join text files (S.left source) (O.read_faults opener.old) (O.read_faults opener.new)
+        (A.written air.old) (A.written air.new) (entries_of run.new.desk) run.new.dones run.new.met) }
+    ensures cause { IfOk result (λ source. HasStatusCause (S.faults lines.source) (S.faults source) (O.read_faults opener.old) (O.read_faults opener.new) (A.faults air.old) (A.faults air.new) run.new.met) }
+    ensures open_cause { IfOk result (λ _. (f : ℕ) → run.new.met ≡ Status.OpenFault f → Rose (O.faults opener.old) (O.faults opener.new)) }
+    ensures asked { IfOk result (λ _. HasAsked (texts words.now.feeds.items) (O.tried opener.old) (O.tried opener.new) run.new.met) }
+    ensures asked_some { OnErr result (HasAsked (texts words.now.feeds.items) (O.tried opener.old) (O.tried opener.new) Status.Memory) }
+    ensures end { IfOk result (λ source. run.new.met ≡ Status.Done → IsAtEnd (S.left source)) }
+    ensures said { IfOk result (λ _. CanBeSaid run.new.met) }
+    ensures status { IfOk result (λ _. IsMet run.new.met) }
+    ensures same { IfOk result (λ source. S.same lines.source source) }
+{
+    let mux = match read_mux(alloc, &mut lines) {
+        Ok(mux) => mux,
+        Err(stop) => {
+            run.met = mux_status(stop);
+            return Ok(lines.close());
+        }
+    };
+    let feeds = match open_feeds(alloc, opener, &words.feeds) {
+        Ok(feeds) => feeds,
+        Err(stop) => {
+            run.met = open_status(stop);
+            return Ok(lines.close());
+        }
+    };
+    let plan = LivePlan {
+        cycles: words.cycles,
+        join: words.join,
+    };
+    run_jobs(rt, alloc, mux, plan, feeds, lines, opener, air, gate, run)
+}

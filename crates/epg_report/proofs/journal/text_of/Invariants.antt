@@ -1,0 +1,6 @@
+use Rattle.std.proofs.Common.{◌≡◌, take}
+use Rattle.journal_text.specs.Entries.{journal_text}
+use Rattle.epg_report.proofs.journal.text_of.Given as goal
+
+abbrev pub invariant-loop-entry : goal.invariant-loop-entry
+invariant-loop-entry l = l.text.items ≡ journal_text (take l.entry-index l.entries)

@@ -1,0 +1,64 @@
+-- What a report says of how a run ended.
+use Rattle.std.specs.Prelude.{ℕ, ◌++◌, Bool, true, false, List, [], codes, decimal, if◌then◌else◌}
+use Rattle.mux_config.specs.declared.fault.Word.{Word}
+use Rattle.mux_config.specs.declared.fault.Word.TheVariants.{Network, Stream, Service, End}
+use Rattle.mux_config.specs.declared.fault.MuxFault.{MuxFault}
+use Rattle.mux_config.specs.declared.fault.MuxFault.TheVariants.{Line, Range, Twice, Missing}
+use Rattle.journal_text.specs.Outcomes.{IsInWindow, outcome_text}
+use Rattle.epg_report.specs.declared.status.Status.{Status}
+use Rattle.epg_report.specs.declared.status.Status.TheVariants.{Done, Usage, BadScript, Disagrees, BadMux, BadFeed, BadStream, TooLong, OpenFault, ReadFault, WriteFault, Memory}
+use Rattle.epg_report.specs.declared.status.Origin.{Origin}
+use Rattle.epg_report.specs.declared.status.Origin.TheVariants.{Input, Feed}
+use Rattle.epg_report.specs.declared.status.Outlet.TheVariants.{Air, Report}
+
+-- the line of a fault
+abbrev pub fault_line : List ℕ → List ℕ
+fault_line text = codes "fault: " ++ text ++ codes "\n"
+
+abbrev pub word_text : Word → List ℕ
+word_text Network = codes "network"
+word_text Stream = codes "stream"
+word_text Service = codes "service"
+word_text End = codes "end"
+
+-- what the line of a fault of the description of the multiplex says
+abbrev pub mux_fault_text : MuxFault → List ℕ
+mux_fault_text (Line n) = codes "mux line " ++ decimal n ++ codes " unreadable"
+mux_fault_text (Range n) = codes "mux line " ++ decimal n ++ codes " out of range"
+mux_fault_text (Twice n earlier) = codes "mux line " ++ decimal n ++ codes " repeats line " ++ decimal earlier
+mux_fault_text (Missing word) = codes "mux lacks " ++ word_text word
+
+abbrev pub origin_text : Origin → List ℕ
+origin_text Input = codes "input"
+origin_text (Feed f) = codes "feed " ++ decimal f
+
+-- what the line of a status says
+abbrev pub fault_text : Status → List ℕ
+fault_text Done = []
+fault_text Usage = codes "usage"
+fault_text (BadScript n) = codes "input" ++ codes " line " ++ decimal n ++ codes " is no command"
+fault_text (Disagrees n kept found) = codes "input line " ++ decimal n ++ codes " kept " ++ outcome_text kept ++ codes " found " ++ outcome_text found
+fault_text (BadMux fault) = mux_fault_text fault
+fault_text (BadFeed f n) = origin_text (Feed f) ++ codes " line " ++ decimal n ++ codes " is no command"
+fault_text (BadStream n) = codes "packet " ++ decimal n
+fault_text (TooLong origin) = origin_text origin ++ codes " too long"
+fault_text (OpenFault f) = origin_text (Feed f) ++ codes " not opened"
+fault_text (ReadFault origin) = origin_text origin ++ codes " not read"
+fault_text (WriteFault Air) = codes "air not written"
+fault_text (WriteFault Report) = []
+fault_text Memory = codes "memory"
+
+-- Done has no line, nor has a report that could not be written
+abbrev pub has_line : Status → Bool
+has_line Done = false
+has_line (WriteFault Report) = false
+has_line status = true
+
+-- the line that names the fault of a status, or nothing
+abbrev pub fault_lines : Status → List ℕ
+fault_lines status = if has_line status then fault_line (fault_text status) else []
+
+-- the outcomes that the line of a status tells can be written
+abbrev pub CanBeSaid : Status → Type 0
+CanBeSaid (Disagrees n kept found) = IsInWindow kept × IsInWindow found
+CanBeSaid status = Unit {0}

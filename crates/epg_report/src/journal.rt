@@ -1,0 +1,27 @@
+// The text of a desk's journal.
+ghost use Rattle.std.specs.Prelude.{◌≡◌, IfOk};
+ghost use Rattle.journal_text.specs.Entries.{journal_text, AreInWindow};
+
+use desk_core::{Desk, Entry};
+use journal_text::write_entry;
+use std::alloc::{AllocError, Global};
+
+// The text of these entries.
+fn text_of(alloc: Global, entries: &[Entry]) -> Result<Vec<u8>, AllocError>
+    requires { AreInWindow entries.now }
+    ensures { IfOk result (λ text. text.items ≡ journal_text entries.now) }
+{
+    let mut text = Vec::new(alloc);
+    for entry in entries {
+        write_entry(alloc, entry, &mut text)?;
+    }
+    Ok(text)
+}
+
+/// The text of a desk's journal.
+pub fn journal_of(alloc: Global, desk: &Desk) -> Result<Vec<u8>, AllocError>
+    ensures { IfOk result (λ text. text.items ≡ journal_text desk.now.entries) }
+{
+    let _ = desk.mux();
+    text_of(alloc, desk.entries())
+}
