@@ -5,9 +5,9 @@ ghost use Rattle.desc_event.specs.Content.{HasNibbles};
 ghost use Rattle.eit_codec.specs.Eit.{IsCodable};
 
 use guide_model::{Event, Genre, Genres, Rating, ScreenEvent};
-use row_lines::{MOST, Row, code, code_in, put_code, put_letters, put_shown, text};
+use row_lines::{MOST, Row, code, code_in, put_code, put_letters, put_shown, repeated, text};
 use si_base::Items;
-use si_text::{Shown, Txt, coded_len};
+use si_text::{Txt, coded_len};
 use si_time::{Moment, read_duration, read_moment, write_duration, write_moment};
 
 /// An event: its id, start, duration and language, its name and its short and extended text, its rating or `-`, and its genres or
