@@ -6,3 +6,4 @@ pub mod HearingFacts
 pub mod AgainFacts
 pub mod ReportFacts
 pub mod OutcomeFacts
+mod StopLines

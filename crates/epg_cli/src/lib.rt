@@ -13,10 +13,9 @@ mod ending;
 mod laws;
 mod listen;
 mod play;
-mod status;
 mod stop;
 mod top;
 
 pub use laws::{journals_play_again, outcomes_are_compared, play_is_heard, reports_tell_journals};
-pub use status::{Origin, Outlet, Status};
+pub use epg_report::{Origin, Outlet, Status};
 pub use top::{run, run_listen, run_play};
