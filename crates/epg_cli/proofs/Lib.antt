@@ -7,3 +7,4 @@ pub mod AgainFacts
 pub mod ReportFacts
 pub mod OutcomeFacts
 mod StopLines
+mod CommandFacts

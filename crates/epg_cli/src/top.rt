@@ -18,7 +18,6 @@ ghost use Rattle.epg_report.specs.Told.{Reported, told};
 use crate::ending::{Played, finish};
 use crate::listen::{end_report, hear_all};
 use crate::play::play_rest;
-
 use crate::stop::PlayStop;
 use carousel_player::Player;
 use command_words::{Command, WordsStop, parse_words};
@@ -199,7 +198,7 @@ pub fn run<W: Threads + Wait + Sync, O: Opener, S: Source + Send, A: Sink + Send
     ensures live_leaves { (paths : List (List ℕ)) (cycles join : ℕ) → command_of (texts words.now) ≡ Some (Live paths cycles join)
         → (text : List ℕ) → S.left input.old ≡ Some text → (files : Files) → O.files opener.old ≡ Some files → (sent : List ℕ) → A.written air.old ≡ Some sent
         → LeavesLive paths cycles join text files (S.left input.new) (O.read_faults opener.old) (O.read_faults opener.new)
-            (told A.written A.faults air.old air.new) (told R.written R.faults report.old report.new) result }
+        (told A.written A.faults air.old air.new) (told R.written R.faults report.old report.new) result }
     ensures live_status { (paths : List (List ℕ)) (cycles join : ℕ) → command_of (texts words.now) ≡ Some (Live paths cycles join) → IsOfLive result }
     ensures asked { (paths : List (List ℕ)) (cycles join : ℕ) → command_of (texts words.now) ≡ Some (Live paths cycles join)
         → HasAsked paths (O.tried opener.old) (O.tried opener.new) result }
