@@ -6,3 +6,5 @@ pub mod HearingFacts
 pub mod AgainFacts
 pub mod ReportFacts
 pub mod OutcomeFacts
+mod StopLines
+mod CommandFacts

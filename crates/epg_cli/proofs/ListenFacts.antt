@@ -18,13 +18,13 @@ use Rattle.guide_receiver.specs.Heard.{DoneAt, at_packet, dones_by, dones_behind
 use Rattle.guide_receiver.specs.Texts.{done_line, done_lines}
 use Rattle.epg_cli.specs.declared.listen.ListenStop.{ListenStop}
 use Rattle.epg_cli.specs.declared.listen.ListenStop.TheVariants as stop
-use Rattle.epg_cli.specs.declared.status.Status.{Status}
-use Rattle.epg_cli.specs.declared.status.Status.TheVariants.{Done, Usage, BadScript, Disagrees, BadMux, BadFeed, BadStream, TooLong, OpenFault, ReadFault, WriteFault, Memory}
-use Rattle.epg_cli.specs.declared.status.Origin.TheVariants.{Input, Feed}
-use Rattle.epg_cli.specs.declared.status.Outlet.TheVariants.{Air, Report}
-use Rattle.epg_cli.specs.Texts.{fault_line}
-use Rattle.epg_cli.specs.Run.{Told, Reported, are_play}
-use Rattle.epg_cli.specs.Listen.{Recording, are_listen, heard_text, end_line, packet_stop_text, packet_stop_status, HasHeard, ReportsLines, LeavesHeard, IsOfListen, HearsThrough, EndsHeard, HasReadCause, IsNoReadStop}
+use Rattle.epg_report.specs.declared.status.Status.{Status}
+use Rattle.epg_report.specs.declared.status.Status.TheVariants.{Done, Usage, BadScript, Disagrees, BadMux, BadFeed, BadStream, TooLong, OpenFault, ReadFault, WriteFault, Memory}
+use Rattle.epg_report.specs.declared.status.Origin.TheVariants.{Input, Feed}
+use Rattle.epg_report.specs.declared.status.Outlet.TheVariants.{Air, Report}
+use Rattle.epg_report.specs.Texts.{fault_line}
+use Rattle.epg_report.specs.Told.{Told, Reported}
+use Rattle.epg_cli.specs.Listen.{Recording, heard_text, end_line, packet_stop_text, packet_stop_status, HasHeard, ReportsLines, LeavesHeard, IsOfListen, HearsThrough, EndsHeard, HasReadCause, IsNoReadStop}
 use Rattle.epg_cli.proofs.RunFacts.{appends_nil}
 
 -- ---- lines
@@ -302,12 +302,3 @@ of_listen (Err stop.Report) t status ends = subst IsOfListen (sym ends.0) tt
 of_listen (Err stop.Memory) t status ends = subst IsOfListen (sym ends) tt
 of_listen (Err (stop.Read s)) t status (inl memory) = subst IsOfListen (sym memory) tt
 of_listen (Err (stop.Read s)) t status (inr (is, reported)) = subst IsOfListen (sym is) (stop_of_listen s)
-
--- no word is both `play` and `listen`
-pub not_both : (words : List (List ℕ)) → are_play words ≡ true → are_listen words ≡ true → ⊥
-not_both [] play listen = cc
-not_both (word ∷ []) play listen =
-    let is : word ≡ codes "play" = (bytes_eq-Decides word (codes "play")).0 play in
-    let other : are_listen (codes "play" ∷ []) ≡ true = subst (λ (w : List ℕ). are_listen (w ∷ []) ≡ true) is listen in
-    cc
-not_both (word ∷ second ∷ words) play listen = cc

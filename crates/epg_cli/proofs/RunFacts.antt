@@ -31,14 +31,15 @@ use Rattle.headend_live.specs.Air.{airings}
 use Rattle.headend_live.specs.OnAir.{HasSentAll, HasAired, HasAiredFront, IsOnAir}
 use Rattle.epg_cli.specs.declared.stop.PlayStop.{PlayStop}
 use Rattle.epg_cli.specs.declared.stop.PlayStop.TheVariants.{NoMux as Undescribed, NoCommand as Refused, Disagrees as Differs, Read, Air as OnAir, Memory as NoMemory}
-use Rattle.epg_cli.specs.declared.status.Status.{Status}
-use Rattle.epg_cli.specs.declared.status.Status.TheVariants.{Done, Usage, BadScript, Disagrees, BadMux, BadFeed, BadStream, TooLong as PastLimit, OpenFault, ReadFault, WriteFault, Memory}
-use Rattle.epg_cli.specs.declared.status.Origin.TheVariants.{Input, Feed}
-use Rattle.epg_cli.specs.declared.status.Outlet.TheVariants.{Air, Report}
+use Rattle.epg_report.specs.declared.status.Status.{Status}
+use Rattle.epg_report.specs.declared.status.Status.TheVariants.{Done, Usage, BadScript, Disagrees, BadMux, BadFeed, BadStream, TooLong as PastLimit, OpenFault, ReadFault, WriteFault, Memory}
+use Rattle.epg_report.specs.declared.status.Origin.TheVariants.{Input, Feed}
+use Rattle.epg_report.specs.declared.status.Outlet.TheVariants.{Air, Report}
 use Rattle.epg_cli.specs.Script.{Script, Stop, Ended, NoMux, NoCommand, Disagreed, TooLong, Unread, no_mux, script_in, script_taken, script_with, with_commands}
 use Rattle.epg_cli.specs.Played.{AiredTo, PlayedWhole, RestDid, RestTaken, course, desk_after}
-use Rattle.epg_cli.specs.Texts.{fault_line}
-use Rattle.epg_cli.specs.Run.{Told, IsAired, IsAiredFront, HasPlayed, HasPlayedAll, HasPlayedTaken, Finished, FinishedBy, Leaves, LeavesAll, Completes, journal_for, first_journal, entries_of, status_for, stop_text, mux_stop, Reported, airings_for}
+use Rattle.epg_report.specs.Texts.{fault_line}
+use Rattle.epg_cli.specs.Run.{IsAired, IsAiredFront, HasPlayed, HasPlayedAll, HasPlayedTaken, Finished, FinishedBy, Leaves, LeavesAll, Completes, journal_for, first_journal, entries_of, status_for, stop_text, mux_stop, airings_for}
+use Rattle.epg_report.specs.Told.{Told, Reported}
 use Rattle.epg_cli.proofs.CourseFacts.{Rest}
 
 pub appends_nil : (w : Option (List ℕ)) → Appends w w []
@@ -319,10 +320,6 @@ whole stop Usage e h = absurd h
 whole stop (BadFeed f n) e h = absurd h
 whole stop (BadStream n) e h = absurd h
 whole stop (OpenFault f) e h = absurd h
-
-pub reported : {E : Type 0} (r : Result (Unit {0}) E) (t : Told) (text : List ℕ) → OnOk r (Appends t.old t.new text) → OnErr r (AppendsFront t.old t.new text) → OnErr r (Rose t.faults_old t.faults_new) → Reported t text
-reported (Ok u) t text done failed cause = inl done
-reported (Err e) t text done failed cause = inr (cause, failed)
 
 pub true-false : true ≡ false → ⊥
 true-false e = cc

@@ -1,7 +1,5 @@
 pub mod Outcomes
-pub mod Codes
 pub mod Script
-pub mod Texts
 pub mod Played
 pub mod Run
 pub mod Listen

@@ -1,5 +1,5 @@
 -- What a run of `listen` leaves, for each status.
-use Rattle.std.specs.Prelude.{◌≡◌, ℕ, ◌/◌, ◌⊎◌, ◌++◌, List, length, take, Bool, false, [], ◌∷◌, Option, Some, Ok, Err, Result, codes, decimal}
+use Rattle.std.specs.Prelude.{◌≡◌, ℕ, ◌/◌, ◌⊎◌, ◌++◌, List, length, take, [], ◌∷◌, Option, Some, Ok, Err, Result, codes, decimal}
 use Rattle.std.specs.Io.KnownBytes.{Appends}
 use Rattle.si_causes.specs.Causes.{Rose, AppendsFront}
 use Rattle.packet_reader.specs.Recordings.{RecordingEnd, RecordingEnd.AtEnd, RecordingEnd.Broken, RecordingEnd.PastLimit, recording}
@@ -9,13 +9,12 @@ use Rattle.guide_receiver.specs.Heard.{dones_of}
 use Rattle.guide_receiver.specs.Texts.{done_lines}
 use Rattle.epg_cli.specs.declared.listen.ListenStop.{ListenStop}
 use Rattle.epg_cli.specs.declared.listen.ListenStop.TheVariants as stop
-use Rattle.epg_cli.specs.declared.status.Status.{Status}
-use Rattle.epg_cli.specs.declared.status.Status.TheVariants.{Done, BadStream, TooLong, ReadFault, WriteFault, Memory}
-use Rattle.epg_cli.specs.declared.status.Origin.TheVariants.{Input}
-use Rattle.epg_cli.specs.declared.status.Outlet.TheVariants.{Report}
-use Rattle.input_lines.specs.Numbers.{is_word}
-use Rattle.epg_cli.specs.Texts.{fault_line}
-use Rattle.epg_cli.specs.Run.{Told, Reported}
+use Rattle.epg_report.specs.declared.status.Status.{Status}
+use Rattle.epg_report.specs.declared.status.Status.TheVariants.{Done, BadStream, TooLong, ReadFault, WriteFault, Memory}
+use Rattle.epg_report.specs.declared.status.Origin.TheVariants.{Input}
+use Rattle.epg_report.specs.declared.status.Outlet.TheVariants.{Report}
+use Rattle.epg_report.specs.Texts.{fault_line, fault_text}
+use Rattle.epg_report.specs.Told.{Told, Reported}
 
 -- the packets of a recording, and how it stops
 abbrev pub Recording : Type 0
@@ -29,17 +28,15 @@ heard_text packets = done_lines (dones_of packets)
 abbrev pub end_line : List ℕ
 end_line = codes "end\n"
 
--- what the line of a stop says
-abbrev pub packet_stop_text : PacketStop → List ℕ
-packet_stop_text (packet.Broken n) = codes "packet " ++ decimal n
-packet_stop_text packet.TooLong = codes "input too long"
-packet_stop_text packet.Failed = codes "input not read"
-
 -- the status of a stop
 abbrev pub packet_stop_status : PacketStop → Status
 packet_stop_status (packet.Broken n) = BadStream n
 packet_stop_status packet.TooLong = TooLong Input
 packet_stop_status packet.Failed = ReadFault Input
+
+-- what the line of a stop says
+abbrev pub packet_stop_text : PacketStop → List ℕ
+packet_stop_text stop = fault_text (packet_stop_status stop)
 
 -- with Done: each piece of the recording is a packet, and the report is the completions of all of them and the end
 pub record HeardWhole (recording : Recording) (report : Told) : Type 0 where
@@ -97,11 +94,6 @@ HearsThrough recording (BadStream n) = (recording.1 ≡ Broken) × (n ≡ length
 HearsThrough recording (TooLong Input) = recording.1 ≡ PastLimit
 HearsThrough recording Memory = Unit {0}
 HearsThrough recording status = ⊥
-
--- whether the words are the one word `listen`
-abbrev pub are_listen : List (List ℕ) → Bool
-are_listen (word ∷ []) = is_word (codes "listen") word
-are_listen words = false
 
 -- ---- inside a run
 

@@ -1,9 +1,8 @@
 -- What a run of `play` leaves, for each status.
-use Rattle.std.specs.Prelude.{◌≡◌, ◌⊎◌, ℕ, ◌<◌, Bool, false, List, [], ◌∷◌, ◌++◌, length, take, Option, Some, None, codes, decimal}
+use Rattle.std.specs.Prelude.{◌≡◌, ◌⊎◌, ℕ, ◌<◌, List, [], ◌∷◌, ◌++◌, length, take, Option, Some, None, codes, decimal}
 use Rattle.std.specs.Io.KnownBytes.{Appends}
 use Rattle.si_causes.specs.Causes.{Rose, AppendsFront}
 use Rattle.si_causes.specs.declared.stop.ReadStop.TheVariants.{Failed, TooLong as Overlong}
-use Rattle.input_lines.specs.Numbers.{is_word}
 use Rattle.mux_config.specs.declared.mux.Mux.{Mux}
 use Rattle.mux_config.specs.declared.stop.MuxStop.{MuxStop}
 use Rattle.mux_config.specs.declared.stop.MuxStop.TheVariants as mux
@@ -20,23 +19,14 @@ use Rattle.headend_live.specs.Air.{airings}
 use Rattle.headend_live.specs.OnAir.{cycle_bytes}
 use Rattle.epg_cli.specs.declared.stop.PlayStop.{PlayStop}
 use Rattle.epg_cli.specs.declared.stop.PlayStop.TheVariants.{NoMux as Undescribed, NoCommand as Refused, Disagrees as Differs, Read, Air as OnAir, Memory as NoMemory}
-use Rattle.epg_cli.specs.declared.status.Status.{Status}
-use Rattle.epg_cli.specs.declared.status.Status.TheVariants.{Done, BadScript, Disagrees, BadMux, TooLong as PastLimit, ReadFault, WriteFault, Memory}
-use Rattle.epg_cli.specs.declared.status.Origin.TheVariants.{Input}
-use Rattle.epg_cli.specs.declared.status.Outlet.TheVariants.{Air, Report}
+use Rattle.epg_report.specs.declared.status.Status.{Status}
+use Rattle.epg_report.specs.declared.status.Status.TheVariants.{Done, BadScript, Disagrees, BadMux, TooLong as PastLimit, ReadFault, WriteFault, Memory}
+use Rattle.epg_report.specs.declared.status.Origin.TheVariants.{Input}
+use Rattle.epg_report.specs.declared.status.Outlet.TheVariants.{Air, Report}
 use Rattle.epg_cli.specs.Played.{IsStopInWindow}
 use Rattle.epg_cli.specs.Script.{Script, Stop, Ended, NoMux, NoCommand, Disagreed, TooLong, Unread, script_in, script_taken}
-use Rattle.epg_cli.specs.Texts.{fault_line, mux_fault_text}
-
--- What a sink told before and after a call: the bytes that it took, and the count of its faults.
-pub record Told : Type 0 where
-  pub old : Option (List ℕ)
-  pub new : Option (List ℕ)
-  pub faults_old : ℕ
-  pub faults_new : ℕ
-
-abbrev pub told : {A : Type 0} → (A → Option (List ℕ)) → (A → ℕ) → A → A → Told
-told written faults old new = record { old = written old; new = written new; faults_old = faults old; faults_new = faults new }
+use Rattle.epg_report.specs.Texts.{fault_line, fault_text}
+use Rattle.epg_report.specs.Told.{Told, Reported}
 
 -- ---- journals of a script
 
@@ -76,26 +66,7 @@ pub record IsAiredFront (script : Script) (journal : List Entry) (air : Told) : 
   pub proper : taken < length (cycle_bytes cut)
   pub bytes : Appends air.old air.new (air_bytes whole ++ take taken (cycle_bytes cut))
 
--- the text was appended, or a proper front of it where the sink failed in this call
-abbrev pub Reported : Told → List ℕ → Type 0
-Reported report text = Appends report.old report.new text ⊎ (Rose report.faults_old report.faults_new × AppendsFront report.old report.new text)
-
 -- ---- faults
-
--- what the line of a stop says
-abbrev pub stop_text : PlayStop → List ℕ
-stop_text (Undescribed fault) = mux_fault_text fault
-stop_text (Refused n) = codes "input line " ++ decimal n ++ codes " is no command"
-stop_text (Differs n kept found) = codes "input line " ++ decimal n ++ codes " kept " ++ outcome_text kept ++ codes " found " ++ outcome_text found
-stop_text (Read Overlong) = codes "input too long"
-stop_text (Read Failed) = codes "input not read"
-stop_text OnAir = codes "air not written"
-stop_text NoMemory = codes "memory"
-
--- the fault line of a run, where there is one
-abbrev pub ending_text : Option PlayStop → List ℕ
-ending_text None = []
-ending_text (Some stop) = fault_line (stop_text stop)
 
 -- the status of a stop
 abbrev pub status_for : PlayStop → Status
@@ -106,6 +77,15 @@ status_for (Read Overlong) = PastLimit Input
 status_for (Read Failed) = ReadFault Input
 status_for OnAir = WriteFault Air
 status_for NoMemory = Memory
+
+-- what the line of a stop says
+abbrev pub stop_text : PlayStop → List ℕ
+stop_text stop = fault_text (status_for stop)
+
+-- the fault line of a run, where there is one
+abbrev pub ending_text : Option PlayStop → List ℕ
+ending_text None = []
+ending_text (Some stop) = fault_line (stop_text stop)
 
 -- ---- what is left
 
@@ -176,11 +156,6 @@ Completes stop (Disagrees n kept found) = stop ≡ Disagreed n kept found
 Completes stop (PastLimit Input) = stop ≡ TooLong
 Completes stop Memory = Unit {0}
 Completes stop status = ⊥
-
--- whether the words are the one word `play`
-abbrev pub are_play : List (List ℕ) → Bool
-are_play (word ∷ []) = is_word (codes "play") word
-are_play words = false
 
 -- ---- inside a run
 

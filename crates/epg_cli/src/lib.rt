@@ -1,5 +1,6 @@
 //! The top call. With `play` it reads a script, keeps one desk, sends one cycle to the air at each swap, and reports the journal of
-//! all steps done. With `listen` it hears the packets of a recording, and reports each sub-table that is complete.
+//! all steps done. With `listen` it hears the packets of a recording, and reports each sub-table that is complete. With `live` it
+//! hands on to `epg_live`, which runs feeds, control and player side by side.
 //!
 //! The promise is on `run`, in four texts: what was left in the input, what the air and the report took, and the status. Where a run
 //! ends with status Done, the input holds a description of the multiplex and a script of which each line is passed over, or is part of
@@ -13,10 +14,9 @@ mod ending;
 mod laws;
 mod listen;
 mod play;
-mod status;
 mod stop;
 mod top;
 
+pub use epg_report::{Origin, Outlet, Status};
 pub use laws::{journals_play_again, outcomes_are_compared, play_is_heard, reports_tell_journals};
-pub use status::{Origin, Outlet, Status};
 pub use top::{run, run_listen, run_play};

@@ -4,12 +4,11 @@ ghost use Rattle.std.specs.Io.KnownBytes.{IsAtEnd};
 ghost use Rattle.packet_reader.specs.Reading.{bytes_left};
 ghost use Rattle.guide_receiver.specs.Heard.{Stands, at_packet, dones_by};
 ghost use Rattle.guide_receiver.specs.Texts.{done_lines};
-ghost use Rattle.epg_cli.specs.Texts.{fault_line};
-ghost use Rattle.epg_cli.specs.Run.{told};
+ghost use Rattle.epg_report.specs.Texts.{fault_line};
+ghost use Rattle.epg_report.specs.Told.{told};
 ghost use Rattle.epg_cli.specs.Listen.{ReportsLines, HasHeard, HasReadCause, HasReportCause, IsNoReadStop, EndsHeard, packet_stop_text, packet_stop_status};
 
-use crate::ending::{out_of_memory, put_number};
-use crate::status::{Origin, Outlet, Status};
+use epg_report::{Origin, Outlet, Status, out_of_memory, put_fault_line};
 use guide_receiver::{DoneKey, HearStop, Receiver, write_done};
 use packet_reader::{PacketReader, PacketStop};
 use si_causes::{Sink, Source, write_all};
@@ -97,23 +96,6 @@ pub(crate) fn hear_all<S: Source, R: Sink>(
     }
 }
 
-// The line of a stop.
-fn fault_of(alloc: Global, stop: PacketStop) -> Result<Vec<u8>, AllocError>
-    ensures { IfOk result (λ text. text.items ≡ fault_line (packet_stop_text stop)) }
-{
-    let mut text = Vec::from_slice(alloc, b"fault: ")?;
-    match stop {
-        PacketStop::Broken(number) => {
-            text.extend_from_slice(b"packet ")?;
-            put_number(alloc, &mut text, number)?;
-        }
-        PacketStop::TooLong => text.extend_from_slice(b"input too long")?,
-        PacketStop::Failed => text.extend_from_slice(b"input not read")?,
-    }
-    text.extend_from_slice(b"\n")?;
-    Ok(text)
-}
-
 fn status_of(stop: PacketStop) -> Status
     ensures { result ≡ packet_stop_status stop }
 {
@@ -122,6 +104,15 @@ fn status_of(stop: PacketStop) -> Status
         PacketStop::TooLong => Status::TooLong(Origin::Input),
         PacketStop::Failed => Status::ReadFault(Origin::Input),
     }
+}
+
+// The line of a stop.
+fn fault_of(alloc: Global, stop: PacketStop) -> Result<Vec<u8>, AllocError>
+    ensures { IfOk result (λ text. text.items ≡ fault_line (packet_stop_text stop)) }
+{
+    let mut text = Vec::new(alloc);
+    put_fault_line(alloc, &mut text, status_of(stop))?;
+    Ok(text)
 }
 
 // Reports why no further packet comes.

@@ -1,24 +1,30 @@
 // The top call.
-ghost use Rattle.std.specs.Prelude.{◌≡◌, ◌≤◌, ◌↔◌, ◌⊎◌, List, ℕ, Option, None, Some, true, false, map, string_bytes, codes};
+ghost use Rattle.std.specs.Prelude.{◌≡◌, ◌≤◌, ◌↔◌, ◌⊎◌, List, ℕ, None, Some, codes};
 ghost use Rattle.std.specs.Io.KnownBytes.{IsAtEnd};
 ghost use Rattle.si_causes.specs.Causes.{Rose};
+ghost use Rattle.si_causes.specs.Opening.{Files};
 ghost use Rattle.si_causes.specs.Reading.{fresh};
-ghost use Rattle.epg_cli.specs.declared.status.Origin.{Origin as AnOrigin};
-ghost use Rattle.epg_cli.specs.Texts.{fault_line};
+ghost use Rattle.epg_report.specs.Texts.{fault_line};
 ghost use Rattle.epg_cli.specs.Script.{Ended, script_in};
+ghost use Rattle.command_words.specs.Commands.{texts};
+ghost use Rattle.command_words.specs.Grammar.{command_of, Play, Listen, Live};
+ghost use Rattle.epg_live.specs.Ends.{HasAsked, LeavesLive};
+ghost use Rattle.epg_live.specs.Stops.{HasStatusCause, IsOfLive};
 ghost use Rattle.packet_reader.specs.Recordings.{recording};
-ghost use Rattle.epg_cli.specs.Listen.{LeavesHeard, IsOfListen, HearsThrough, are_listen};
-ghost use Rattle.epg_cli.specs.Run.{Leaves, IsOfPlay, Completes, Reported, HasPlayed, CanBeTold, mux_stop, are_play, told, HasStopCause, HasAirStopCause};
+ghost use Rattle.epg_cli.specs.Listen.{LeavesHeard, IsOfListen, HearsThrough};
+ghost use Rattle.epg_cli.specs.Run.{Leaves, IsOfPlay, Completes, HasPlayed, CanBeTold, mux_stop, HasStopCause, HasAirStopCause};
+ghost use Rattle.epg_report.specs.Told.{Reported, told};
 
-use crate::ending::{Played, finish, out_of_memory};
+use crate::ending::{Played, finish};
 use crate::listen::{end_report, hear_all};
 use crate::play::play_rest;
-use crate::status::{Origin, Outlet, Status};
 use crate::stop::PlayStop;
 use carousel_player::Player;
+use command_words::{Command, WordsStop, parse_words};
 use desk_core::Desk;
+use epg_live::run_live_files;
+use epg_report::{Origin, Outlet, Status, out_of_memory};
 use guide_receiver::Receiver;
-use input_lines::is_word;
 use mux_config::{MuxStop, read_mux};
 use packet_reader::PacketReader;
 use si_causes::{Gate, LineReader, Opener, Sink, Source, write_all};
@@ -156,71 +162,63 @@ fn listen_through<S: Source, R: Sink>(alloc: Global, input: &mut S, report: &mut
     end_report(alloc, heard, report)
 }
 
-// Whether the words are the one word `listen`.
-fn is_listen(words: &[String]) -> bool
-    ensures { result ≡ are_listen (map string_bytes words.now) }
-{
-    match words {
-        [word] => is_word(word.as_str(), "listen"),
-        _ => false,
-    }
-}
-
-// Whether the words are the one word `play`.
-fn is_play(words: &[String]) -> bool
-    ensures { result ≡ are_play (map string_bytes words.now) }
-{
-    match words {
-        [word] => is_word(word.as_str(), "play"),
-        _ => false,
-    }
-}
-
 /// Does all that the program does: it takes the words of the command line without the program's name, what opens files, the input,
-/// the air, the report, and the gate that threads pass. The words are the one word `play` or the one word `listen`. No file is opened.
+/// the air, the report, and the gate that the jobs of `live` pass. What the words spell is `command_of` of `command_words`.
 pub fn run<W: Threads + Wait + Sync, O: Opener, S: Source + Send, A: Sink + Send, R: Sink, G: Gate>(
-    _rt: &W,
+    rt: &W,
     alloc: Global,
     words: &[String],
-    _opener: &mut O,
+    opener: &mut O,
     input: &mut S,
     air: &mut A,
     report: &mut R,
-    _gate: &G,
+    gate: &G,
 ) -> Status
-    // Usage comes exactly where the words are not one of the words `play` and `listen`; then nothing is read or sent.
-    ensures usage { result ≡ Status.Usage ↔ ((are_play (map string_bytes words.now) ≡ false) × (are_listen (map string_bytes words.now) ≡ false)) }
-    ensures usage_leaves { result ≡ Status.Usage → (air.new ≡ air.old) × (input.new ≡ input.old)
+    // Usage comes exactly where the words spell no command; then nothing is read, opened or sent.
+    ensures usage { result ≡ Status.Usage ↔ (command_of (texts words.now) ≡ None) }
+    ensures usage_leaves { result ≡ Status.Usage → (air.new ≡ air.old) × (input.new ≡ input.old) × (opener.new ≡ opener.old)
         × Reported (told R.written R.faults report.old report.new) (fault_line (codes "usage")) }
     // What is left with each status of `play`: the journal that the report has, and the air.
-    ensures leaves { are_play (map string_bytes words.now) ≡ true → (text : List ℕ) → S.left input.old ≡ Some text
+    ensures leaves { command_of (texts words.now) ≡ Some Play → (text : List ℕ) → S.left input.old ≡ Some text
         → Leaves text (S.left input.new) (told A.written A.faults air.old air.new) (told R.written R.faults report.old report.new) result }
-    ensures completes { are_play (map string_bytes words.now) ≡ true → (text : List ℕ) → S.left input.old ≡ Some text → ¬ (Rose (S.faults input.old) (S.faults input.new))
+    ensures completes { command_of (texts words.now) ≡ Some Play → (text : List ℕ) → S.left input.old ≡ Some text → ¬ (Rose (S.faults input.old) (S.faults input.new))
         → ¬ (Rose (A.faults air.old) (A.faults air.new)) → ¬ (Rose (R.faults report.old) (R.faults report.new)) → Completes (script_in text).stop result }
     // And so a script that is whole is played to its end.
-    ensures whole { are_play (map string_bytes words.now) ≡ true → (text : List ℕ) → S.left input.old ≡ Some text → (script_in text).stop ≡ Ended → ¬ (Rose (S.faults input.old) (S.faults input.new))
+    ensures whole { command_of (texts words.now) ≡ Some Play → (text : List ℕ) → S.left input.old ≡ Some text → (script_in text).stop ≡ Ended → ¬ (Rose (S.faults input.old) (S.faults input.new))
         → ¬ (Rose (A.faults air.old) (A.faults air.new)) → ¬ (Rose (R.faults report.old) (R.faults report.new)) → (result ≡ Status.Done) ⊎ (result ≡ Status.Memory) }
-    ensures status { are_play (map string_bytes words.now) ≡ true → IsOfPlay result }
+    ensures status { command_of (texts words.now) ≡ Some Play → IsOfPlay result }
     // What is left with each status of `listen`: the completions that the report has. Nothing is sent.
-    ensures listen_leaves { are_listen (map string_bytes words.now) ≡ true → (bytes : List ℕ) → S.left input.old ≡ Some bytes
+    ensures listen_leaves { command_of (texts words.now) ≡ Some Listen → (bytes : List ℕ) → S.left input.old ≡ Some bytes
         → LeavesHeard bytes (S.left input.new) (told R.written R.faults report.old report.new) result }
-    ensures listen_completes { are_listen (map string_bytes words.now) ≡ true → (bytes : List ℕ) → S.left input.old ≡ Some bytes → ¬ (Rose (S.faults input.old) (S.faults input.new))
+    ensures listen_completes { command_of (texts words.now) ≡ Some Listen → (bytes : List ℕ) → S.left input.old ≡ Some bytes → ¬ (Rose (S.faults input.old) (S.faults input.new))
         → ¬ (Rose (R.faults report.old) (R.faults report.new)) → HearsThrough (recording bytes) result }
-    ensures listen_status { are_listen (map string_bytes words.now) ≡ true → IsOfListen result }
-    ensures air_kept { are_listen (map string_bytes words.now) ≡ true → air.new ≡ air.old }
+    ensures listen_status { command_of (texts words.now) ≡ Some Listen → IsOfListen result }
+    ensures air_kept { command_of (texts words.now) ≡ Some Listen → air.new ≡ air.old }
+    // What is left with each status of `live`: one journal of all callers, however their threads interleave, its air, and the completions.
+    ensures live_leaves { (paths : List (List ℕ)) (cycles join : ℕ) → command_of (texts words.now) ≡ Some (Live paths cycles join)
+        → (text : List ℕ) → S.left input.old ≡ Some text → (files : Files) → O.files opener.old ≡ Some files → (sent : List ℕ) → A.written air.old ≡ Some sent
+        → LeavesLive paths cycles join text files (S.left input.new) (O.read_faults opener.old) (O.read_faults opener.new)
+        (told A.written A.faults air.old air.new) (told R.written R.faults report.old report.new) result }
+    ensures live_status { (paths : List (List ℕ)) (cycles join : ℕ) → command_of (texts words.now) ≡ Some (Live paths cycles join) → IsOfLive result }
+    ensures asked { (paths : List (List ℕ)) (cycles join : ℕ) → command_of (texts words.now) ≡ Some (Live paths cycles join)
+        → HasAsked paths (O.tried opener.old) (O.tried opener.new) result }
     // With Done the input was read to its end; each fault has its cause.
     ensures end { result ≡ Status.Done → IsAtEnd (S.left input.new) }
-    ensures input { (origin : AnOrigin) → result ≡ Status.ReadFault origin → (origin ≡ Origin.Input) × Rose (S.faults input.old) (S.faults input.new) }
-    ensures air { result ≡ Status.WriteFault Outlet.Air → Rose (A.faults air.old) (A.faults air.new) }
+    ensures cause { HasStatusCause (S.faults input.old) (S.faults input.new) (O.read_faults opener.old) (O.read_faults opener.new) (A.faults air.old) (A.faults air.new) result }
+    ensures open_cause { (feed : ℕ) → result ≡ Status.OpenFault feed → Rose (O.faults opener.old) (O.faults opener.new) }
     ensures report { result ≡ Status.WriteFault Outlet.Report → Rose (R.faults report.old) (R.faults report.new) }
-    ensures opener_kept { _opener.new ≡ _opener.old }
+    ensures opener_kept { (command_of (texts words.now) ≡ Some Play) ⊎ (command_of (texts words.now) ≡ Some Listen) → opener.new ≡ opener.old }
 {
-    if is_play(words) {
-        return run_play(alloc, input, air, report);
+    match parse_words(alloc, words) {
+        Ok(Command::Play) => run_play(alloc, input, air, report),
+        Ok(Command::Listen) => run_listen(alloc, input, report),
+        Ok(Command::Live(live)) => {
+            run_live_files(rt, alloc, &live, opener, input, air, report, gate)
+        }
+        Err(WordsStop::Memory) => out_of_memory(report),
+        Err(WordsStop::Usage) => {
+            let _ = write_all(report, b"fault: usage\n");
+            Status::Usage
+        }
     }
-    if is_listen(words) {
-        return run_listen(alloc, input, report);
-    }
-    let _ = write_all(report, b"fault: usage\n");
-    Status::Usage
 }

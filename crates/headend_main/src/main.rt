@@ -1,15 +1,15 @@
 //! The program: standard input is the input, standard output the air, standard error the report.
 //!
-//! The adapters over the standard streams are proved against the traits that the top call asks for; that the real streams
-//! behave so is not proved. All else is the top call's.
+//! The adapters over the standard streams and the files are proved against the traits that the top call asks for; that the real
+//! streams and files behave so is not proved. All else is the top call's.
 #![tactic(auto)]
 
 use epg_cli::{Status, run};
-use si_causes::{MemOpener, OpenGate, write_all};
+use si_causes::{OpenGate, write_all};
 use std::env::{self, Env};
 use std::io;
 use std::process::ExitCode;
-use std_streams::{Reading, Writing};
+use std_streams::{Opening, Reading, Writing};
 
 // The words behind the program's name.
 fn words(rt: &(impl Env + AllocGlobal)) -> io::Result<Vec<String>> {
@@ -31,8 +31,7 @@ fn main(rt: HostRuntime) -> ExitCode {
         // Words that are no text are no command line, as no words are none.
         Err(_) => Vec::new(rt.alloc()),
     };
-    let alloc = rt.alloc();
-    let mut files = MemOpener::open_with(alloc, Vec::new(alloc), Vec::new(alloc), None);
+    let mut files = Opening::open(&rt);
     let status = run(
         &rt,
         rt.alloc(),

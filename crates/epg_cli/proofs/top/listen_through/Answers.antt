@@ -1,5 +1,5 @@
 use Rattle.std.proofs.Common.{rules}
-use Rattle.epg_cli.specs.Run.{told}
+use Rattle.epg_report.specs.Told.{told}
 use Rattle.epg_cli.proofs.ListenFacts.{started, leaves_heard, heard_input, of_listen}
 use Rattle.epg_cli.proofs.top.listen_through.Goals as goal
 

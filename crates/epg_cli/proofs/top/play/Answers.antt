@@ -5,7 +5,8 @@ use Rattle.epg_cli.specs.declared.stop.PlayStop.{PlayStop}
 use Rattle.epg_cli.specs.Played.{RestDid, RestTaken, course}
 use Rattle.feed_edits.specs.Ahead.{ahead}
 use Rattle.si_causes.specs.Reading.{text_left}
-use Rattle.epg_cli.specs.Run.{HasPlayed, told}
+use Rattle.epg_cli.specs.Run.{HasPlayed}
+use Rattle.epg_report.specs.Told.{told}
 use Rattle.epg_cli.proofs.RunFacts.{is_unread, unread_going, unread_told, no_block, played_behind, start_aired, start_on_air}
 use Rattle.epg_cli.proofs.top.play.Goals as goal
 

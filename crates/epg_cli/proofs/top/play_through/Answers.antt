@@ -1,6 +1,6 @@
 use Rattle.std.proofs.Common.{ap, ◌∙◌, rules, arith}
 use Rattle.std.proofs.lemmas.Grind.{common_steps}
-use Rattle.epg_cli.specs.Run.{told}
+use Rattle.epg_report.specs.Told.{told}
 use Rattle.epg_cli.proofs.RunFacts.{leaves_input}
 use Rattle.epg_cli.proofs.top.play_through.Goals as goal
 

@@ -1,4 +1,4 @@
-use Rattle.epg_cli.specs.Run.{told}
+use Rattle.epg_report.specs.Told.{told}
 use Rattle.epg_cli.proofs.ListenFacts.{hears_through}
 use Rattle.epg_cli.proofs.top.run_listen.Goals as goal
 

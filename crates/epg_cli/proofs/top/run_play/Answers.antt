@@ -1,5 +1,5 @@
 use Rattle.epg_cli.specs.Script.{script_in}
-use Rattle.epg_cli.specs.Run.{told}
+use Rattle.epg_report.specs.Told.{told}
 use Rattle.epg_cli.proofs.RunFacts.{completes, whole}
 use Rattle.epg_cli.proofs.top.run_play.Goals as goal
 

@@ -1,0 +1,115 @@
+-- The command that the words of a run spell, and the statuses of each command.
+use Rattle.std.proofs.Common.{◌≡◌, ℕ, List, refl, sym, subst, append-nil, inl, inr, ◌⊎◌}
+use Rattle.std.specs.Prelude.{Option, Some, None, Result, Err}
+use Rattle.si_causes.specs.Causes.{Rose}
+use Rattle.command_words.specs.declared.command.WordsStop.{WordsStop}
+use Rattle.command_words.specs.declared.command.WordsStop.TheVariants as words
+use Rattle.command_words.specs.Grammar.{CommandLine, Play, Listen, Live}
+use Rattle.epg_report.specs.declared.status.Status.{Status}
+use Rattle.epg_report.specs.declared.status.Status.TheVariants.{Done, Usage, BadScript, Disagrees, BadMux, BadFeed, BadStream, TooLong, OpenFault, ReadFault, WriteFault, Memory}
+use Rattle.epg_report.specs.declared.status.Origin.TheVariants.{Input, Feed}
+use Rattle.epg_report.specs.declared.status.Outlet.TheVariants.{Air, Report}
+use Rattle.epg_live.specs.Ends.{HasAsked}
+use Rattle.epg_live.specs.Stops.{HasStatusCause, IsOfLive}
+use Rattle.epg_cli.specs.Listen.{IsOfListen}
+use Rattle.epg_cli.specs.Run.{IsOfPlay}
+
+-- ---- words spell one command
+
+pub play_listen : (c : Option CommandLine) → c ≡ Some Play → c ≡ Some Listen → ⊥
+play_listen c e f = cc
+
+pub play_live : (c : Option CommandLine) (paths : List (List ℕ)) (cycles join : ℕ) → c ≡ Some Play → c ≡ Some (Live paths cycles join) → ⊥
+play_live c paths cycles join e f = cc
+
+pub listen_live : (c : Option CommandLine) (paths : List (List ℕ)) (cycles join : ℕ) → c ≡ Some Listen → c ≡ Some (Live paths cycles join) → ⊥
+listen_live c paths cycles join e f = cc
+
+pub some_none : (c : Option CommandLine) (k : CommandLine) → c ≡ Some k → c ≡ None → ⊥
+some_none c k e f = cc
+
+pub live_neither : (c : Option CommandLine) (paths : List (List ℕ)) (cycles join : ℕ) → c ≡ Some (Live paths cycles join) → (c ≡ Some Play) ⊎ (c ≡ Some Listen) → ⊥
+live_neither c paths cycles join e (inl play) = play_live c paths cycles join play e
+live_neither c paths cycles join e (inr listen) = listen_live c paths cycles join listen e
+
+-- what holds of the words that were read holds of those that were spelled
+pub live_is : (P : List (List ℕ) → ℕ → ℕ → Type 0) (c : Option CommandLine) (read paths : List (List ℕ)) (n cycles j join : ℕ) → c ≡ Some (Live read n j) → c ≡ Some (Live paths cycles join) → P read n j → P paths cycles join
+live_is P c read paths n cycles j join e f p =
+    let first : read ≡ paths = cc in
+    let second : n ≡ cycles = cc in
+    let third : j ≡ join = cc in
+    subst (λ (ps : List (List ℕ)). P ps cycles join) first (subst (λ (k : ℕ). P read k join) second (subst (λ (i : ℕ). P read n i) third p))
+
+-- ---- statuses that a command has not
+
+pub play_usage : (s : Status) → IsOfPlay s → s ≡ Usage → ⊥
+play_usage s is e = subst IsOfPlay e is
+
+pub listen_usage : (s : Status) → IsOfListen s → s ≡ Usage → ⊥
+listen_usage s is e = subst IsOfListen e is
+
+pub live_usage : (s : Status) → IsOfLive s → s ≡ Usage → ⊥
+live_usage s is e = subst IsOfLive e is
+
+pub play_open : (s : Status) (f : ℕ) → IsOfPlay s → s ≡ OpenFault f → ⊥
+play_open s f is e = subst IsOfPlay e is
+
+pub listen_open : (s : Status) (f : ℕ) → IsOfListen s → s ≡ OpenFault f → ⊥
+listen_open s f is e = subst IsOfListen e is
+
+-- ---- each fault has its cause
+
+pub play_cause : (i j f g a b : ℕ) (s : Status) → IsOfPlay s → (s ≡ ReadFault Input → Rose i j) → (s ≡ WriteFault Air → Rose a b) → HasStatusCause i j f g a b s
+play_cause i j f g a b Done is read air = tt
+play_cause i j f g a b Usage is read air = tt
+play_cause i j f g a b (BadScript n) is read air = tt
+play_cause i j f g a b (Disagrees n kept found) is read air = tt
+play_cause i j f g a b (BadMux fault) is read air = tt
+play_cause i j f g a b (BadFeed k n) is read air = tt
+play_cause i j f g a b (BadStream n) is read air = tt
+play_cause i j f g a b (TooLong origin) is read air = tt
+play_cause i j f g a b (OpenFault k) is read air = tt
+play_cause i j f g a b (ReadFault Input) is read air = read refl
+play_cause i j f g a b (ReadFault (Feed k)) is read air = absurd is
+play_cause i j f g a b (WriteFault Air) is read air = air refl
+play_cause i j f g a b (WriteFault Report) is read air = tt
+play_cause i j f g a b Memory is read air = tt
+
+pub listen_cause : (i j f g a b : ℕ) (s : Status) → IsOfListen s → (s ≡ ReadFault Input → Rose i j) → HasStatusCause i j f g a b s
+listen_cause i j f g a b Done is read = tt
+listen_cause i j f g a b Usage is read = tt
+listen_cause i j f g a b (BadScript n) is read = tt
+listen_cause i j f g a b (Disagrees n kept found) is read = tt
+listen_cause i j f g a b (BadMux fault) is read = tt
+listen_cause i j f g a b (BadFeed k n) is read = tt
+listen_cause i j f g a b (BadStream n) is read = tt
+listen_cause i j f g a b (TooLong origin) is read = tt
+listen_cause i j f g a b (OpenFault k) is read = tt
+listen_cause i j f g a b (ReadFault Input) is read = read refl
+listen_cause i j f g a b (ReadFault (Feed k)) is read = absurd is
+listen_cause i j f g a b (WriteFault Air) is read = absurd is
+listen_cause i j f g a b (WriteFault Report) is read = tt
+listen_cause i j f g a b Memory is read = tt
+
+-- what holds of want of memory
+pub of_memory : (P : Status → Type 0) (s : Status) → s ≡ Memory → P Memory → P s
+of_memory P s e p = subst P (sym e) p
+
+pub memory_usage : (s : Status) → s ≡ Memory → s ≡ Usage → ⊥
+memory_usage s e f = cc
+
+pub memory_done : (s : Status) → s ≡ Memory → s ≡ Done → ⊥
+memory_done s e f = cc
+
+pub memory_open : (s : Status) (k : ℕ) → s ≡ Memory → s ≡ OpenFault k → ⊥
+memory_open s k e f = cc
+
+pub memory_write : (s : Status) → s ≡ Memory → s ≡ WriteFault Report → ⊥
+memory_write s e f = cc
+
+pub none_asked : (paths : List (List ℕ)) (tried : Option (List (List ℕ))) → HasAsked paths tried tried Memory
+none_asked paths None = (0, refl, tt)
+none_asked paths (Some before) = (0, sym (append-nil before), tt)
+
+pub memory_read : {T : Type 0} → (let r : Result T WordsStop = Err words.Memory in r) ≡ Err words.Usage → ⊥
+memory_read e = cc

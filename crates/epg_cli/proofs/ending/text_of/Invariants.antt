@@ -1,6 +1,0 @@
-use Rattle.std.proofs.Common.{◌≡◌, take}
-use Rattle.journal_text.specs.Entries.{journal_text}
-use Rattle.epg_cli.proofs.ending.text_of.Given as goal
-
-abbrev pub invariant-loop-entry : goal.invariant-loop-entry
-invariant-loop-entry l = l.text.items ≡ journal_text (take l.entry-index l.entries)
