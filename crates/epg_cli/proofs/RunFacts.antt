@@ -1,9 +1,9 @@
 -- From what was played, and how its report ended, to what a run leaves.
 use Rattle.std.proofs.Common.{◌≡◌, ℕ, ◌+◌, List, [], ◌∷◌, ◌++◌, length, take, refl, sym, ap, ◌∙◌, subst, append-nil, inl, inr, ◌⊎◌}
-use Rattle.std.specs.Prelude.{Option, Some, None, Ok, Err, Result, OnOk, OnErr, true, false}
+use Rattle.std.specs.Prelude.{Option, Some, None, Ok, Err, Result, true, false}
 use Rattle.std.specs.Result.{result_err}
 use Rattle.std.specs.Io.KnownBytes.{Appends, Consumes}
-use Rattle.si_causes.specs.Causes.{Rose, AppendsFront}
+use Rattle.si_causes.specs.Causes.{AppendsFront}
 use Rattle.si_causes.specs.Text.{TextEnd, AtEnd, PastLimit, text_lines}
 use Rattle.si_causes.specs.Reading.{Reading, fresh as unread, text_left}
 use Rattle.si_causes.proofs.TextFacts.{fresh_text}

@@ -1,5 +1,5 @@
 -- What a run of `play` leaves, for each status.
-use Rattle.std.specs.Prelude.{◌≡◌, ◌⊎◌, ℕ, ◌<◌, List, [], ◌∷◌, ◌++◌, length, take, Option, Some, None, codes, decimal}
+use Rattle.std.specs.Prelude.{◌≡◌, ◌⊎◌, ℕ, ◌<◌, List, [], ◌∷◌, ◌++◌, length, take, Option, Some, None}
 use Rattle.std.specs.Io.KnownBytes.{Appends}
 use Rattle.si_causes.specs.Causes.{Rose, AppendsFront}
 use Rattle.si_causes.specs.declared.stop.ReadStop.TheVariants.{Failed, TooLong as Overlong}
@@ -13,7 +13,6 @@ use Rattle.desk_core.specs.declared.step.Step.TheVariants.{Swap}
 use Rattle.desk_core.specs.declared.step.Entry.{Entry}
 use Rattle.desk_core.specs.Journal.{Command, journal_of}
 use Rattle.desk_core.specs.Desks.{DeskState}
-use Rattle.journal_text.specs.Outcomes.{outcome_text}
 use Rattle.journal_text.specs.Entries.{journal_text}
 use Rattle.headend_live.specs.Air.{airings}
 use Rattle.headend_live.specs.OnAir.{cycle_bytes}

@@ -1,8 +1,7 @@
-use Rattle.std.proofs.Common.{◌≡◌, ◌++◌, ◌∙◌, List, ℕ, ap, sym, subst, arith}
-use Rattle.std.proofs.lemmas.Grind.{common_steps}
-use Rattle.epg_report.specs.Texts.{CanBeSaid, fault_lines}
+use Rattle.std.proofs.Common.{sym, subst}
+use Rattle.epg_report.specs.Texts.{CanBeSaid}
 use Rattle.epg_report.specs.declared.status.Status.{Status}
-use Rattle.epg_cli.proofs.StopLines.{packet_said, packet_line}
+use Rattle.epg_cli.proofs.StopLines.{packet_said}
 use Rattle.epg_cli.proofs.listen.fault_of.Goals as goal
 
 pub put_fault_line-requires : goal.put_fault_line-requires
