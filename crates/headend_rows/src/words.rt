@@ -47,7 +47,9 @@ fn words_that_are_no_command(rt: HostRuntime) -> Result<(), Fail> {
     for (count, words) in [
         (0, ""),
         (1, "live"),
+        (2, "live|--feed=x"),
         (2, "play|play"),
+        (2, "listen|--join=0"),
         (1, "Play"),
         (1, "pla"),
         (1, "play "),
@@ -85,5 +87,18 @@ fn the_word_listen(rt: HostRuntime) -> Result<(), Fail> {
         report: b"end\n",
     };
     assert!(rt; leaves(&rt, rt.alloc(), &run_of(LISTEN, ""), &left)?);
+    Ok(())
+}
+
+// The opener has no file.
+#[test]
+fn the_word_live(rt: HostRuntime) -> Result<(), Fail> {
+    let words = ["live", "--feed", "x", "--cycles=1", "--join", "0"];
+    let left = Left {
+        status: Status::OpenFault(1),
+        air: &[],
+        report: b"fault: feed 1 not opened\n",
+    };
+    assert!(rt; leaves(&rt, rt.alloc(), &run_of(&words, MUX), &left)?);
     Ok(())
 }
