@@ -10,6 +10,7 @@ use std::rt::Files;
 
 /// An opener of the files of a runtime, by their paths: each that cannot be opened is a fault, which is counted and answered. It tells
 /// neither its files nor the paths that it was asked for.
+#[derive(Drop)]
 pub struct Opening<'a, R: Files> {
     rt: &'a R,
     faults: u64,
