@@ -55,9 +55,18 @@ pub fn run_row<W: Threads + Wait + Sync>(
     for word in words.split('/') {
         spelled.push(String::from_str(alloc, word)?)?;
     }
-    let mut source = MemSource::open(bytes_of(alloc, input)?, 65_536, failing(alloc, faults.input)?);
+    let mut source = MemSource::open(
+        bytes_of(alloc, input)?,
+        65_536,
+        failing(alloc, faults.input)?,
+    );
     let files = files_of(alloc, feeds)?;
-    let mut opener = MemOpener::open_with(alloc, files, failing(alloc, faults.opening)?, faults.read);
+    let mut opener = MemOpener::open_with(
+        alloc,
+        files,
+        failing(alloc, faults.opening)?,
+        faults.read,
+    );
     let mut air = MemSink::open(alloc, 65_536, failing(alloc, faults.air)?);
     let mut report = MemSink::open(alloc, 65_536, failing(alloc, faults.report)?);
     let status = run(
