@@ -1,8 +1,8 @@
 -- Entries of content and parental_rating, read one after the other.
-use Rattle.std.proofs.Common.{◌≡◌, ℕ, ◌+◌, ◌*◌, ◌/◌, ◌%◌, List, [], ◌∷◌, ◌++◌, length, Option, Some, None, refl, sym, ap, subst, ◌∙◌, append_assoc, arith, length-append}
+use Rattle.std.proofs.Common.{◌≡◌, ℕ, ◌+◌, ◌*◌, ◌/◌, ◌%◌, List, [], ◌∷◌, ◌++◌, length, Some, refl, sym, ap, subst, ◌∙◌, arith, length-append}
 use Rattle.std.specs.Option.{option_map}
 use Rattle.std.specs.List.{AllByRecursion}
-use Rattle.si_lists.proofs.Lists.{behind, three_of}
+use Rattle.si_lists.proofs.Lists.{three_of}
 use Rattle.guide_model.specs.declared.event.Genre.{Genre}
 use Rattle.guide_model.specs.declared.event.Rating.{Rating}
 use Rattle.desc_event.specs.Content.{content_body, genre_of, ContentReadsBack}

@@ -1,8 +1,9 @@
 -- extended_event_descriptor: a piece of the extended text of an event (EN 300 468, 6.2.15).
-use Rattle.std.specs.Prelude.{◌≡◌, ℕ, ◌+◌, ◌*◌, ◌/◌, ◌%◌, ◌<◌, ◌==◌, Bool, List, ◌∷◌, ◌++◌, length, take, drop, slice_index, Option, Some, None, if◌then◌else◌}
+use Rattle.std.specs.Prelude.{◌≡◌, ℕ, ◌+◌, ◌*◌, ◌/◌, ◌%◌, ◌<◌, List, [], ◌∷◌, ◌++◌, length, Option, Some, None}
+use Rattle.std.specs.Option.{option_map, option_and_then}
 use Rattle.desc_event.specs.declared.extended_event.ExtendedPiece.{ExtendedPiece}
 use Rattle.desc_parts.specs.Descriptors.{descriptor}
-use Rattle.desc_parts.specs.Lengths.{with_length}
+use Rattle.desc_parts.specs.Lengths.{with_length, split_length, behind_length}
 
 -- ---- written
 
@@ -16,30 +17,19 @@ extended_event_body p = extended_event_fields p.number p.last p.language p.text
 abbrev pub extended_event : ExtendedPiece → List ℕ
 extended_event p = descriptor 0x4E (extended_event_body p)
 
--- ---- read: fields by their places; the items may be any bytes, and are in no value
+-- ---- read
 
--- length_of_items and text_length
-abbrev pub items_length : List ℕ → ℕ
-items_length body = slice_index body 4
+abbrev pub extended_event_of : ℕ → List ℕ → List ℕ → ExtendedPiece
+extended_event_of numbers language text = record { number = numbers / 16; last = numbers % 16; language = language; text = text }
 
-abbrev pub text_length : List ℕ → ℕ
-text_length body = slice_index body (5 + items_length body)
-
--- the body has just the bytes that its lengths tell
-abbrev pub has_its_lengths : List ℕ → Bool
-has_its_lengths body = length body == 6 + items_length body + text_length body
-
-abbrev pub extended_event_of : List ℕ → ExtendedPiece
-extended_event_of body = record {
-  number = slice_index body 0 / 16;
-  last = slice_index body 0 % 16;
-  language = take 3 (drop 1 body);
-  text = drop (6 + items_length body) body;
-}
-
--- the piece that a body is; there is none where a length runs past the end or bytes are left over
+-- the piece that a body is, without its items, which may be any bytes; there is none where a length runs past the end or bytes are left over
 abbrev pub extended_event_in : List ℕ → Option ExtendedPiece
-extended_event_in body = if has_its_lengths body then Some (extended_event_of body) else None
+extended_event_in [] = None
+extended_event_in (numbers ∷ []) = None
+extended_event_in (numbers ∷ a ∷ []) = None
+extended_event_in (numbers ∷ a ∷ b ∷ []) = None
+extended_event_in (numbers ∷ a ∷ b ∷ c ∷ behind) =
+    option_and_then (λ parts. option_map (λ text. extended_event_of numbers (a ∷ b ∷ c ∷ []) text) (behind_length parts.1)) (split_length behind)
 
 -- ---- laws
 

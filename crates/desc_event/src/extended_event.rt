@@ -1,9 +1,9 @@
 // extended_event_descriptor.
-ghost use Rattle.std.specs.Prelude.{◌≡◌, ◌+◌, ◌<◌, ◌≤◌, ◌++◌, true, false, length, drop, IfOk, OnOk, OnErr, IfSome, IfNone, OnSome, vec_len, vec_capacity};
+ghost use Rattle.std.specs.Prelude.{◌≡◌, ◌+◌, ◌<◌, ◌≤◌, ◌++◌, length, IfOk, OnOk, OnErr, vec_len, vec_capacity};
 ghost use Rattle.desc_parts.specs.Descriptors.{descriptor};
-ghost use Rattle.desc_event.specs.ExtendedEvent.{extended_event, extended_event_fields, extended_event_in, has_its_lengths, items_length};
+ghost use Rattle.desc_event.specs.ExtendedEvent.{extended_event, extended_event_fields, extended_event_in};
 
-use desc_parts::{Coded, put};
+use desc_parts::{Coded, behind_length, put, split_length};
 use si_base::{Bytes, Items};
 use std::alloc::{AllocError, Global};
 
@@ -62,40 +62,19 @@ pub(crate) fn put_extended_event(
 pub fn read_extended_event(alloc: Global, body: &[u8]) -> Result<Option<ExtendedPiece>, AllocError>
     ensures { IfOk result (λ read. read ≡ extended_event_in body.now) }
 {
-    let Some(text) = text_of(body) else {
+    let [numbers, a, b, c, behind @ ..] = body else {
         return Ok(None);
     };
-    let numbers = body[0];
-    let mut language = [0; 3];
-    language.copy_from_slice(&body[1..4]);
-    let text = Items::of(Vec::from_slice(alloc, text)?);
+    let Some((_items, behind)) = split_length(behind) else {
+        return Ok(None);
+    };
+    let Some(text) = behind_length(behind) else {
+        return Ok(None);
+    };
     Ok(Some(ExtendedPiece {
-        number: numbers / 16,
-        last: numbers % 16,
-        language,
-        text,
+        number: *numbers / 16,
+        last: *numbers % 16,
+        language: [*a, *b, *c],
+        text: Items::of(Vec::from_slice(alloc, text)?),
     }))
-}
-
-// The bytes of the text, where the body has just those that its lengths tell.
-fn text_of(body: &[u8]) -> Option<&[u8]>
-    ensures none { IfNone result (has_its_lengths body.now ≡ false) }
-    ensures some { OnSome result (has_its_lengths body.now ≡ true) }
-    ensures long { OnSome result (6 ≤ length body.now) }
-    ensures text { IfSome result (λ text. text.now ≡ drop (6 + items_length body.now) body.now) }
-{
-    if body.len() < 6 {
-        return None;
-    }
-    let (head, behind) = body.split_at(5);
-    let items_length = head[4] as usize;
-    if behind.len() <= items_length {
-        return None;
-    }
-    let (_, behind) = behind.split_at(items_length);
-    let (text_length, text) = behind.split_at(1);
-    if text.len() != text_length[0] as usize {
-        return None;
-    }
-    Some(text)
 }

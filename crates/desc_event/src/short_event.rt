@@ -1,10 +1,10 @@
 // short_event_descriptor.
-ghost use Rattle.std.specs.Prelude.{◌≡◌, ◌+◌, ◌≤◌, ◌++◌, true, false, length, IfOk, OnOk, OnErr, IfSome, IfNone, OnSome, vec_len, vec_capacity};
+ghost use Rattle.std.specs.Prelude.{◌≡◌, ◌+◌, ◌≤◌, ◌++◌, length, IfOk, OnOk, OnErr, vec_len, vec_capacity};
 ghost use Rattle.si_text.specs.Decoding.{shown_bytes};
 ghost use Rattle.desc_parts.specs.Descriptors.{descriptor};
-ghost use Rattle.desc_event.specs.ShortEvent.{short_event, short_event_fields, short_event_in, has_its_lengths, name_in, text_in};
+ghost use Rattle.desc_event.specs.ShortEvent.{short_event, short_event_fields, short_event_in};
 
-use desc_parts::{Coded, put};
+use desc_parts::{Coded, behind_length, put, split_length};
 use si_text::{Shown, decode_text};
 use std::alloc::{AllocError, Global};
 
@@ -62,40 +62,18 @@ pub(crate) fn put_short_event(language: &[u8; 3], name: &Coded, text: &Coded, ou
 pub fn read_short_event(alloc: Global, body: &[u8]) -> Result<Option<ShortEvent>, AllocError>
     ensures { IfOk result (λ read. read ≡ short_event_in body.now) }
 {
-    let Some((name, text)) = texts_of(body) else {
+    let [a, b, c, texts @ ..] = body else {
         return Ok(None);
     };
-    let mut language = [0; 3];
-    language.copy_from_slice(&body[..3]);
-    let name = decode_text(alloc, name)?;
-    let short = decode_text(alloc, text)?;
+    let Some((name, behind)) = split_length(texts) else {
+        return Ok(None);
+    };
+    let Some(short) = behind_length(behind) else {
+        return Ok(None);
+    };
     Ok(Some(ShortEvent {
-        language,
-        name,
-        short,
+        language: [*a, *b, *c],
+        name: decode_text(alloc, name)?,
+        short: decode_text(alloc, short)?,
     }))
-}
-
-// The bytes of the name and those of the text, where the body has just those that its lengths tell.
-fn texts_of(body: &[u8]) -> Option<(&[u8], &[u8])>
-    ensures none { IfNone result (has_its_lengths body.now ≡ false) }
-    ensures some { OnSome result (has_its_lengths body.now ≡ true) }
-    ensures long { OnSome result (5 ≤ length body.now) }
-    ensures name { IfSome result (λ texts. texts.0.now ≡ name_in body.now) }
-    ensures text { IfSome result (λ texts. texts.1.now ≡ text_in body.now) }
-{
-    if body.len() < 5 {
-        return None;
-    }
-    let (head, behind) = body.split_at(4);
-    let name_length = head[3] as usize;
-    if behind.len() <= name_length {
-        return None;
-    }
-    let (name, behind) = behind.split_at(name_length);
-    let (text_length, text) = behind.split_at(1);
-    if text.len() != text_length[0] as usize {
-        return None;
-    }
-    Some((name, text))
 }
