@@ -3,13 +3,13 @@ ghost use Rattle.journal_text.specs.Script.{IsItemWithin};
 ghost use Rattle.mux_config.specs.Sound.{IsSound};
 
 use crate::events::put_guide;
-use crate::lines::{Lines, WHOLE, reader};
 use crate::words::{put_last, put_reply};
 use desk_core::Step;
 use feed_book::{Book, Reply};
 use journal_text::{ScriptItem, next_item};
 use mux_config::{Mux, read_mux};
 use page_share::PageGuide;
+use row_lines::{Lines, WHOLE, reader};
 use si_time::Moment;
 use std::alloc::{AllocError, Global};
 

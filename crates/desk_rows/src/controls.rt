@@ -1,7 +1,7 @@
 // What control lines give.
-use crate::lines::Lines;
-use crate::words::{moment_text, put_end, put_last, text_of};
+use crate::words::{put_end, put_last};
 use desk_core::{Control, next_control};
+use row_lines::{Lines, moment_text, text_of};
 use si_time::Moment;
 use std::alloc::{AllocError, Global};
 

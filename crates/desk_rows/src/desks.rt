@@ -3,12 +3,12 @@ ghost use Rattle.desk_core.specs.Steps.{IsStepWithin};
 ghost use Rattle.mux_config.specs.Sound.{IsSound};
 
 use crate::events::put_service;
-use crate::lines::{Lines, WHOLE, reader};
-use crate::words::{moment_text, put_last, put_outcome, text_of};
+use crate::words::{put_last, put_outcome};
 use desk_core::{Airing, Desk, Outcome, Step};
 use journal_text::{ScriptItem, next_item};
 use mux_config::{Mux, read_mux};
 use page_share::PageGuide;
+use row_lines::{Lines, WHOLE, moment_text, reader, text_of};
 use si_time::Moment;
 use std::alloc::{AllocError, Global};
 

@@ -4,10 +4,9 @@ ghost use Rattle.desk_core.specs.Steps.{IsStepWithin};
 ghost use Rattle.journal_text.specs.Entries.{IsEntryInWindow};
 ghost use Rattle.journal_text.specs.Outcomes.{IsInWindow};
 
-use crate::lines::Lines;
-use crate::words::text_of;
 use desk_core::{Entry, Outcome};
 use journal_text::{ScriptItem, next_item, write_entry};
+use row_lines::{Lines, text_of};
 use std::alloc::{AllocError, Global};
 
 // Appends a text with a slash for LF.

@@ -1,7 +1,7 @@
 // Guides in words.
 use crate::edits::put_genre;
-use crate::words::{moment_text, text_of};
 use guide_model::{Event, Guide, Rating, ServiceGuide};
+use row_lines::{moment_text, text_of};
 use std::alloc::AllocError;
 
 fn put_rating(out: &mut String, rating: &Rating) -> Result<(), AllocError> {

@@ -10,15 +10,11 @@ mod desks;
 mod edits;
 mod entries;
 mod events;
-mod hex;
-mod lines;
 mod muxes;
-mod notation;
 mod outcomes;
 mod publications;
 mod rows;
 mod scripts;
-mod sections;
 mod words;
 
 use std::io;

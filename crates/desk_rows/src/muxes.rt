@@ -1,8 +1,8 @@
 // What descriptions of a multiplex give.
-use crate::lines::Lines;
-use crate::words::{moment_text, put_read_stop, text_of};
+use crate::words::put_read_stop;
 use guide_model::{Cable, Component};
 use mux_config::{Mux, MuxFault, MuxService, MuxStop, Word, read_mux};
+use row_lines::{Lines, moment_text, text_of};
 use si_causes::ReadStop;
 use std::alloc::{AllocError, Global};
 

@@ -1,11 +1,11 @@
 // Outcomes as they are read and written.
 ghost use Rattle.journal_text.specs.Outcomes.{IsInWindow};
 
-use crate::lines::Lines;
-use crate::words::{put_outcome, text_of};
+use crate::words::put_outcome;
 use desk_core::Outcome;
 use input_lines::fields;
 use journal_text::{read_outcome, write_outcome};
+use row_lines::{Lines, text_of};
 use std::alloc::{AllocError, Global};
 
 fn put_written(out: &mut String, text: &[u8]) -> Result<(), AllocError> {

@@ -1,8 +1,8 @@
 // What a publication shows before and behind edits of the book that shared its pages.
 use crate::books::{opened, put_pages_of, tell_replies};
-use crate::lines::Lines;
 use feed_book::Book;
 use page_share::PageGuide;
+use row_lines::Lines;
 use si_time::Moment;
 use std::alloc::{AllocError, Global};
 

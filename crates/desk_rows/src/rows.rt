@@ -1,10 +1,9 @@
 // A row and its answer.
-use crate::lines::{Cut, Lines, NEVER, reader};
-use crate::notation::{parts_counted, runs_counted, written_out};
 use crate::{
-    books, controls, desks, edits, entries, muxes, outcomes, publications, scripts, sections,
+    books, controls, desks, edits, entries, muxes, outcomes, publications, scripts,
 };
 use input_lines::numeral;
+use row_lines::{Cut, Lines, NEVER, parts_counted, reader, runs_counted, written_out};
 use std::alloc::{AllocError, Global};
 
 // A description of two services, without its end.
@@ -20,7 +19,6 @@ fn tell_lines(
 ) -> Result<(), AllocError> {
     match call {
         "mux" => muxes::tell(alloc, lines, out),
-        "sdt" => sections::tell(alloc, lines, out),
         "edits" => edits::tell(alloc, lines, out),
         "control" => controls::tell(alloc, lines, out),
         "outcome" => outcomes::tell(alloc, lines, out),

@@ -1,10 +1,10 @@
 // What the lines of a script give.
 use crate::edits::put_edit;
-use crate::lines::Lines;
-use crate::words::{moment_text, put_edit_stop, put_outcome, text_of};
+use crate::words::{put_edit_stop, put_outcome};
 use desk_core::{Outcome, Step};
 use feed_edits::{Edit, EditStop};
 use journal_text::{ScriptItem, next_item};
+use row_lines::{Lines, moment_text, text_of};
 use si_time::Moment;
 use std::alloc::{AllocError, Global};
 

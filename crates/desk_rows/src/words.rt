@@ -2,23 +2,10 @@
 use desk_core::Outcome;
 use feed_book::{DayFault, Field, Reply};
 use feed_edits::EditStop;
+use row_lines::{moment_text, text_of};
 use si_causes::ReadStop;
-use si_time::{Moment, write_moment};
+use si_time::Moment;
 use std::alloc::AllocError;
-
-/// Bytes as a text.
-pub fn text_of(bytes: &[u8]) -> &str {
-    str::from_utf8(bytes).unwrap_or("no UTF-8")
-}
-
-/// The text of a moment.
-pub fn moment_text(at: Moment) -> [u8; 20] {
-    if at.0 < 65_536 * 86_400 {
-        write_moment(at)
-    } else {
-        *b"behind the last day."
-    }
-}
 
 /// Appends why a reader stopped.
 pub fn put_read_stop(out: &mut String, stop: ReadStop) -> Result<(), AllocError> {

@@ -2,3 +2,4 @@ pub mod ListFacts
 pub mod EventFacts
 pub mod EntryFacts
 pub mod EitFacts
+pub mod TypedFacts

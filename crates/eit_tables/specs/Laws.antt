@@ -6,7 +6,11 @@ use Rattle.guide_model.specs.declared.event.Event.{Event}
 use Rattle.guide_model.specs.declared.guide.Guide.{Guide}
 use Rattle.guide_model.specs.declared.guide.ServiceGuide.{ServiceGuide}
 use Rattle.desc_event.specs.EventDescriptors.{entry_size}
+use Rattle.si_time.specs.declared.moment.Moment.{Moment}
 use Rattle.mux_config.specs.declared.mux.Mux.{Mux}
+use Rattle.feed_edits.specs.declared.edit.Edit.{Edit}
+use Rattle.feed_edits.specs.Typed.{IsTypedEdit}
+use Rattle.guide_limits.specs.Guides.{book_after, guide_of}
 use Rattle.guide_limits.specs.Limits.{IsServiceWithin, IsGuideWithin}
 use Rattle.section_codec.specs.declared.table.NumberedBody.{NumberedBody}
 use Rattle.section_codec.specs.Contents.{last_number}
@@ -30,6 +34,12 @@ HasTypedEvents guide = AllByRecursion (λ (s : ServiceGuide). AllByRecursion IsT
 -- The entries of a guide within its limits are small.
 abbrev pub TypedEntriesAreSmall : Type 0
 TypedEntriesAreSmall = (guide : Guide) → IsGuideWithin guide → HasTypedEvents guide → HasSmallEntries guide
+
+-- The events that stand after edits as they are read are such, where the guide is within its limits.
+abbrev pub ReadEditsLeaveTypedEvents : Type 0
+ReadEditsLeaveTypedEvents =
+    (mux : Mux) (past : List Edit) (moment : Moment) → AllByRecursion IsTypedEdit past
+    → IsGuideWithin (guide_of (book_after mux.services past) moment) → HasTypedEvents (guide_of (book_after mux.services past) moment)
 
 -- Sections of event information that can be sent, and that describe themselves: what they tell a receiver to need is just their numbers.
 pub record AreEit (sections : List NumberedBody) : Type 0 where

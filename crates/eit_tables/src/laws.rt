@@ -1,9 +1,15 @@
 // What the definitions say, in other words.
-ghost use Rattle.eit_tables.specs.Laws.{EventsAreRead, EventsNameTheMux, PresentIsFit, ScheduleIsFit, TypedEntriesAreSmall};
+ghost use Rattle.eit_tables.specs.Laws.{EventsAreRead, EventsNameTheMux, PresentIsFit, ReadEditsLeaveTypedEvents, ScheduleIsFit, TypedEntriesAreSmall};
 
 /// In a guide within its limits each event has an entry of at most 1,338 bytes.
 pub fn entries_are_small()
     ensures { TypedEntriesAreSmall }
+{}
+
+/// The events of a guide that edits leave, as they are read from lines, have what each value of the type `Event` has: ids of 16 bits,
+/// codes of three letters, and texts that may be kept.
+pub fn read_edits_leave_typed_events()
+    ensures { ReadEditsLeaveTypedEvents }
 {}
 
 /// The sections of event information of a service can be sent, and describe themselves: their numbers are below 256, their

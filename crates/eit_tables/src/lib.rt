@@ -12,5 +12,5 @@ mod present;
 mod schedule;
 mod tables;
 
-pub use laws::{entries_are_small, events_are_fit};
+pub use laws::{entries_are_small, events_are_fit, read_edits_leave_typed_events};
 pub use tables::put_service;

@@ -5,3 +5,4 @@ pub mod Turns
 pub mod Edits
 pub mod Fewer
 pub mod Back
+pub mod Typed

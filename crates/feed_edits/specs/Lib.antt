@@ -4,4 +4,5 @@ pub mod Ahead
 pub mod Edits
 pub mod Reads
 pub mod Back
+pub mod Typed
 mod Rows

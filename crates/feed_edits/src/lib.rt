@@ -14,6 +14,6 @@ mod reading;
 mod stop;
 
 pub use edit::{DayItems, DayText, Edit, Item, Length, RawRating, Stamp};
-pub use laws::{edits_go_on, edits_read_back};
+pub use laws::{edits_go_on, edits_read_back, read_edits_are_typed};
 pub use reading::{next_edit, read_edit};
 pub use stop::EditStop;

@@ -1,11 +1,24 @@
 // The notation of texts in rows, and of long answers.
-use crate::words::{moment_text, text_of};
 use input_lines::numeral;
-use si_time::Moment;
+use si_time::{Moment, write_moment};
 use std::alloc::{AllocError, Global};
 
 /// 1993-10-13T00:00:00Z.
 const DAY: u64 = 4_257_187_200;
+
+/// Bytes as a text.
+pub fn text_of(bytes: &[u8]) -> &str {
+    str::from_utf8(bytes).unwrap_or("no UTF-8")
+}
+
+/// The text of a moment.
+pub fn moment_text(at: Moment) -> [u8; 20] {
+    if at.0 < 65_536 * 86_400 {
+        write_moment(at)
+    } else {
+        *b"behind the last day."
+    }
+}
 
 // Appends the moment so many seconds behind the day's begin.
 fn put_moment(out: &mut String, seconds: u64) -> Result<(), AllocError> {

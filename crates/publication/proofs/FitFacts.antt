@@ -1,0 +1,274 @@
+-- The sub-tables of a publication can be sent in one cycle.
+use Rattle.std.proofs.Common.{◌≡◌, ℕ, zero, suc, ◌+◌, ◌-◌, ◌<◌, ◌≤◌, Bool, true, false, ◌||◌, List, [], ◌∷◌, ◌++◌, length, map, min, sum_by, refl, sym, ap, ◌∙◌, subst, arith, lit<}
+use Rattle.std.specs.Prelude.{flat_map, ◌==◌, ◌&&◌, nat_le, if◌then◌else◌}
+use Rattle.std.specs.List.{AllByRecursion, range_with_len}
+use Rattle.std.proofs.lemmas.Bool.Decides.{nat_tests}
+use Rattle.std.proofs.lemmas.List.{length-map}
+use Rattle.std.proofs.lemmas.List.Elements.{All-from_recursion}
+use Rattle.si_lists.proofs.Lists.{all_append, all_map}
+use Rattle.guide_model.specs.declared.guide.Guide.{Guide}
+use Rattle.guide_model.specs.declared.guide.ServiceGuide.{ServiceGuide}
+use Rattle.mux_config.specs.declared.mux.Mux.{Mux}
+use Rattle.guide_limits.specs.Events.{midnight}
+use Rattle.guide_limits.specs.Sound.{AreAscending}
+use Rattle.guide_limits.specs.Limits.{IsServiceWithin, IsGuideWithin}
+use Rattle.guide_limits.specs.Runs.{longest_runs}
+use Rattle.guide_limits.proofs.RunFacts.{runs_some, runs_fit}
+use Rattle.section_codec.specs.declared.table.Key.{Key}
+use Rattle.section_codec.specs.declared.table.NumberedBody.{NumberedBody}
+use Rattle.section_codec.specs.declared.table.SubTable.{SubTable}
+use Rattle.section_codec.specs.declared.table.Tier3.TheVariants.{Fast, Near, Far}
+use Rattle.section_codec.specs.Tables.{is_eit, tier_of, tier_rank}
+use Rattle.section_codec.specs.Section.{longest_body}
+use Rattle.section_codec.specs.SubTables.{Lacks, KeysDiffer, IsFit, AreTiered}
+use Rattle.eit_segments.specs.Schedule.{last_used}
+use Rattle.eit_segments.proofs.Order.{used_less}
+use Rattle.guide_limits.specs.Events.{block_of}
+use Rattle.eit_segments.specs.Laws.{at_of}
+use Rattle.eit_tables.specs.Eit.{eit_key}
+use Rattle.eit_tables.specs.Present.{present_table}
+use Rattle.eit_tables.specs.Schedule.{last_table_of, schedule_table, near_tables, far_tables}
+use Rattle.eit_tables.specs.Laws.{AreSmallEntries, AreEit}
+use Rattle.eit_tables.proofs.EitFacts.{present_fit, schedule_fit}
+use Rattle.publication.specs.Sdt.{sdt_entries, sdt_body, numbered}
+use Rattle.publication.specs.Tables.{sdt_table, present_tables, all_near_tables, all_far_tables, tables_of}
+use Rattle.publication.specs.Laws.{PublicationsAreFit}
+use Rattle.publication.proofs.SdtFacts.{length-body, length-numbered, ascend-numbered, entries_fit}
+
+-- ---- which tables a service has
+
+-- a table_id that a schedule has, and one of the first eight days, or of the later ones
+abbrev pub IsIn : ℕ → ℕ → SubTable → Type 0
+IsIn low high t = (low ≤ t.key.table) × (t.key.table ≤ high)
+
+pub last_is : (day : ℕ) (service : ServiceGuide) → last_table_of day service.events ≤ 0x5F
+last_is day service =
+    let less : last_used (block_of day) 512 (map at_of service.events) < 512 = used_less (block_of day) 512 (map at_of service.events) (omega arith) in
+    omega (arith, less)
+
+-- what holds of each table of a range
+pub each_table : (P : SubTable → Type 0) (mux : Mux) (day : ℕ) (service : ServiceGuide) (from n high : ℕ) → from + n ≤ high → ((table : ℕ) → from ≤ table → table < high → P (schedule_table mux day service table))
+    → AllByRecursion P (map (schedule_table mux day service) (range_with_len from n))
+each_table P mux day service from zero high le each = tt
+each_table P mux day service from (suc n) high le each =
+    (each from (omega arith) (omega (arith, le)), each_table P mux day service (from + 1) n high (omega (arith, le)) (λ table above below. each table (omega (arith, above)) below))
+
+pub each_near : (P : SubTable → Type 0) (mux : Mux) (day : ℕ) (service : ServiceGuide) → ((table : ℕ) → 0x50 ≤ table → table < 0x52 → P (schedule_table mux day service table)) → AllByRecursion P (near_tables mux day service)
+each_near P mux day service each = each_table P mux day service 0x50 (1 + min 0x51 (last_table_of day service.events) - 0x50) 0x52 (omega arith) each
+
+pub each_far : (P : SubTable → Type 0) (mux : Mux) (day : ℕ) (service : ServiceGuide) → ((table : ℕ) → 0x52 ≤ table → table < 0x60 → P (schedule_table mux day service table)) → AllByRecursion P (far_tables mux day service)
+each_far P mux day service each = each_table P mux day service 0x52 (1 + last_table_of day service.events - 0x52) 0x60 (omega (arith, last_is day service)) each
+
+-- what holds of the tables of each service
+pub each_service : (P : SubTable → Type 0) (Q : ServiceGuide → Type 0) (f : ServiceGuide → List SubTable) → ((s : ServiceGuide) → Q s → AllByRecursion P (f s)) → (ss : List ServiceGuide) → AllByRecursion Q ss
+    → AllByRecursion P (flat_map f ss)
+each_service P Q f each [] all = tt
+each_service P Q f each (s ∷ ss) all = all_append P (f s) (flat_map f ss) (each s all.0) (each_service P Q f each ss all.1)
+
+abbrev pub present_of : Mux → ℕ → ServiceGuide → List SubTable
+present_of mux moment service = present_table mux moment service ∷ []
+
+pub presents : (mux : Mux) (moment : ℕ) (ss : List ServiceGuide) → flat_map (present_of mux moment) ss ≡ map (present_table mux moment) ss
+presents mux moment [] = refl
+presents mux moment (s ∷ ss) = ap (λ (l : List SubTable). present_table mux moment s ∷ l) (presents mux moment ss)
+
+-- what holds of each sub-table of a publication
+pub each_sub_table : (P : SubTable → Type 0) (Q : ServiceGuide → Type 0) (mux : Mux) (guide : Guide) → AllByRecursion Q guide.services → P (sdt_table mux guide)
+    → ((s : ServiceGuide) → Q s → P (present_table mux guide.moment.0 s))
+    → ((s : ServiceGuide) (table : ℕ) → Q s → 0x50 ≤ table → table < 0x60 → P (schedule_table mux (midnight guide.moment.0) s table))
+    → AllByRecursion P (tables_of mux guide)
+each_sub_table P Q mux guide all sdt present schedule =
+    let ss = guide.services in
+    let day = midnight guide.moment.0 in (
+      sdt,
+      all_append P (present_tables mux guide) (all_near_tables mux guide ++ all_far_tables mux guide)
+          (subst (AllByRecursion P) (presents mux guide.moment.0 ss) (each_service P Q (present_of mux guide.moment.0) (λ s q. (present s q, tt)) ss all))
+          (all_append P (all_near_tables mux guide) (all_far_tables mux guide)
+          (each_service P Q (near_tables mux day) (λ s q. each_near P mux day s (λ table above below. schedule s table q above (omega (arith, below)))) ss all)
+          (each_service P Q (far_tables mux day) (λ s q. each_far P mux day s (λ table above below. schedule s table q (omega (arith, above)) below)) ss all)),
+    )
+
+-- ---- keys
+
+lacks_append : (k : Key) (xs ys : List SubTable) → Lacks k xs → Lacks k ys → Lacks k (xs ++ ys)
+lacks_append k [] ys a b = b
+lacks_append k (x ∷ xs) ys a b = (a.0, lacks_append k xs ys a.1 b)
+
+differ_append : (xs ys : List SubTable) → KeysDiffer xs → KeysDiffer ys → AllByRecursion (λ (x : SubTable). Lacks x.key ys) xs → KeysDiffer (xs ++ ys)
+differ_append [] ys a b apart = b
+differ_append (x ∷ xs) ys a b apart = (lacks_append x.key xs ys a.0 apart.0, differ_append xs ys a.1 b apart.1)
+
+-- by their tables
+lacks_table : (k : Key) (n : ℕ) (ys : List SubTable) → k.table < n → AllByRecursion (λ (y : SubTable). n ≤ y.key.table) ys → Lacks k ys
+lacks_table k n [] less above = tt
+lacks_table k n (y ∷ ys) less above = ((λ e. (let same : k.table ≡ y.key.table = ap (λ (q : Key). q.table) e in absurd (omega (arith, same, less, above.0)))), lacks_table k n ys less above.1)
+
+differ_tables : (n : ℕ) (xs ys : List SubTable) → KeysDiffer xs → KeysDiffer ys → AllByRecursion (λ (x : SubTable). x.key.table < n) xs → AllByRecursion (λ (y : SubTable). n ≤ y.key.table) ys
+    → KeysDiffer (xs ++ ys)
+differ_tables n xs ys a b below above = differ_append xs ys a b (all_map (λ (x : SubTable). x.key.table < n) (λ (x : SubTable). Lacks x.key ys) (λ x less. lacks_table x.key n ys less above) xs below)
+
+-- by their services
+lacks_service : (k : Key) (ys : List SubTable) → AllByRecursion (λ (y : SubTable). k.ext < y.key.ext) ys → Lacks k ys
+lacks_service k [] above = tt
+lacks_service k (y ∷ ys) above = ((λ e. (let same : k.ext ≡ y.key.ext = ap (λ (q : Key). q.ext) e in absurd (omega (arith, same, above.0)))), lacks_service k ys above.1)
+
+abbrev IsOf : ServiceGuide → SubTable → Type 0
+IsOf s t = t.key.ext ≡ s.service
+
+later_services : (f : ServiceGuide → List SubTable) → ((s : ServiceGuide) → AllByRecursion (IsOf s) (f s)) → (n : ℕ) (ss : List ServiceGuide) → AllByRecursion (λ (m : ℕ). n < m) (map (λ (s : ServiceGuide). s.service) ss)
+    → AllByRecursion (λ (t : SubTable). n < t.key.ext) (flat_map f ss)
+later_services f of n [] above = tt
+later_services f of n (s ∷ ss) above =
+    all_append (λ (t : SubTable). n < t.key.ext) (f s) (flat_map f ss)
+    (all_map (IsOf s) (λ (t : SubTable). n < t.key.ext) (λ t e. (let less : n < s.service = above.0 in omega (arith, e, less))) (f s) (of s)) (later_services f of n ss above.1)
+
+differ_services : (f : ServiceGuide → List SubTable) → ((s : ServiceGuide) → AllByRecursion (IsOf s) (f s)) → ((s : ServiceGuide) → KeysDiffer (f s)) → (ss : List ServiceGuide) → AreAscending (map (λ (s : ServiceGuide). s.service) ss)
+    → KeysDiffer (flat_map f ss)
+differ_services f of own [] ascend = tt
+differ_services f of own (s ∷ ss) ascend =
+    differ_append (f s) (flat_map f ss) (own s) (differ_services f of own ss ascend.1)
+    (all_map (IsOf s) (λ (t : SubTable). Lacks t.key (flat_map f ss))
+    (λ t e. lacks_service t.key (flat_map f ss) (subst (λ (n : ℕ). AllByRecursion (λ (u : SubTable). n < u.key.ext) (flat_map f ss)) (sym e) (later_services f of s.service ss ascend.0))) (f s) (of s))
+
+differ_range : (mux : Mux) (day : ℕ) (service : ServiceGuide) (from n : ℕ) → KeysDiffer (map (schedule_table mux day service) (range_with_len from n))
+differ_range mux day service from zero = tt
+differ_range mux day service from (suc n) = (
+  lacks_table (eit_key mux from service.service) (from + 1) (map (schedule_table mux day service) (range_with_len (from + 1) n)) (omega arith)
+      (each_table (λ (t : SubTable). from + 1 ≤ t.key.table) mux day service (from + 1) n (from + 1 + n) (omega arith) (λ table above below. above)),
+  differ_range mux day service (from + 1) n,
+)
+
+-- ---- tiers
+
+tiered_append : (n : ℕ) (xs ys : List SubTable) → AllByRecursion (λ (x : SubTable). tier_rank x.tier ≤ n) xs → AllByRecursion (λ (y : SubTable). n ≤ tier_rank y.tier) ys → AreTiered xs → AreTiered ys → AreTiered (xs ++ ys)
+tiered_append n [] ys below above a b = b
+tiered_append n (x ∷ []) [] below above a b = tt
+tiered_append n (x ∷ []) (y ∷ ys) below above a b = (let le : tier_rank x.tier ≤ n = below.0 in let ge : n ≤ tier_rank y.tier = above.0 in omega (arith, le, ge), b)
+tiered_append n (x ∷ z ∷ xs) ys below above a b = (a.0, tiered_append n (z ∷ xs) ys below.1 above a.1 b)
+
+tiered_same : (n : ℕ) (ts : List SubTable) → AllByRecursion (λ (t : SubTable). tier_rank t.tier ≡ n) ts → AreTiered ts
+tiered_same n [] same = tt
+tiered_same n (t ∷ []) same = tt
+tiered_same n (t ∷ u ∷ ts) same = (let a : tier_rank t.tier ≡ n = same.0 in let b : tier_rank u.tier ≡ n = (same.1).0 in omega (arith, a, b), tiered_same n (u ∷ ts) same.1)
+
+near_tier : (table : ℕ) → 0x50 ≤ table → table < 0x52 → tier_rank (tier_of table) ≡ 1
+near_tier table above below =
+    let one : (table == 0x50 || table == 0x51) ≡ true = grind (arith, nat_tests) in
+    ap (λ (b : Bool). tier_rank (if b then Near else if nat_le 0x52 table && nat_le table 0x5F then Far else Fast)) one
+
+far_tier : (table : ℕ) → 0x52 ≤ table → table < 0x60 → tier_rank (tier_of table) ≡ 2
+far_tier table above below =
+    let none : (table == 0x50 || table == 0x51) ≡ false = grind (arith, nat_tests) in
+    let far : (nat_le 0x52 table && nat_le table 0x5F) ≡ true = grind (arith, nat_tests) in
+    ap (λ (b : Bool). tier_rank (if b then Near else if nat_le 0x52 table && nat_le table 0x5F then Far else Fast)) none
+    ∙ ap (λ (b : Bool). tier_rank (if b then Far else Fast)) far
+
+-- ---- each sub-table
+
+short : (original n : ℕ) (runs : List (List (List ℕ))) → AllByRecursion (λ (r : List (List ℕ)). sum_by length r ≤ 1009) runs
+    → AllByRecursion (λ (s : NumberedBody). length s.body ≤ longest_body 0x42) (numbered n (map (sdt_body original) runs))
+short original n [] h = tt
+short original n (r ∷ runs) h = (omega (arith, length-body original r, h.0), short original (1 + n) runs h.1)
+
+sdt_table-fit : (mux : Mux) (guide : Guide) → IsGuideWithin guide → IsFit (sdt_table mux guide)
+sdt_table-fit mux guide within =
+    let entries = sdt_entries mux.services guide.services in
+    let runs = longest_runs length 1009 entries in
+    let bodies = map (sdt_body mux.original) runs in
+    record {
+      pid = lit< tt;
+      long = λ e. absurd (omega arith);
+      no_fill = λ e. absurd (omega arith);
+      some = omega (arith, length-numbered 0 bodies, length-map runs (sdt_body mux.original), runs_some length 1009 entries);
+      ascending = ascend-numbered 0 bodies;
+      bodies = All-from_recursion (λ (s : NumberedBody). length s.body ≤ longest_body 0x42) (numbered 0 bodies)
+          (short mux.original 0 runs (runs_fit length 1009 entries (entries_fit mux.services guide.services within.services)));
+    }
+
+eit_fit : (t : SubTable) → t.key.pid ≡ 0x0012 → 0x4E ≤ t.key.table → t.key.table < 0x60 → AreEit t.sections → IsFit t
+eit_fit t pid above below are =
+    let long : is_eit t.key.table ≡ true = grind (arith, nat_tests) in
+    let most : longest_body t.key.table ≡ 4084 = ap (λ (b : Bool). if b then 4084 else 1012) long in
+    record {
+      pid = omega (arith, pid);
+      long = λ e. absurd (omega (arith, e, below));
+      no_fill = λ e. absurd (omega (arith, e, below));
+      some = are.by_segments.some;
+      ascending = are.by_segments.ascending;
+      bodies = All-from_recursion (λ (s : NumberedBody). length s.body ≤ longest_body t.key.table) t.sections
+          (all_map (λ (s : NumberedBody). (6 ≤ length s.body) × (length s.body ≤ 4084)) (λ (s : NumberedBody). length s.body ≤ longest_body t.key.table)
+          (λ s fits. omega (arith, most, fits.1)) t.sections are.bodies);
+    }
+
+-- a service within its limits, with small entries
+abbrev IsSmall : ServiceGuide → Type 0
+IsSmall s = IsServiceWithin s × AreSmallEntries s.events
+
+pub all_two : {X : Type 0} (P Q R : X → Type 0) → ((x : X) → P x → Q x → R x) → (xs : List X) → AllByRecursion P xs → AllByRecursion Q xs → AllByRecursion R xs
+all_two P Q R f [] p q = tt
+all_two P Q R f (x ∷ xs) p q = (f x p.0 q.0, all_two P Q R f xs p.1 q.1)
+
+each_unit : {X : Type 0} (xs : List X) → AllByRecursion (λ (x : X). Unit {0}) xs
+each_unit [] = tt
+each_unit (x ∷ xs) = (tt, each_unit xs)
+
+pub publication_fit : PublicationsAreFit
+publication_fit mux guide within small =
+    let ss = guide.services in
+    let moment = guide.moment.0 in
+    let day = midnight moment in
+    let any = each_unit ss in
+    let services = all_two IsServiceWithin (λ (s : ServiceGuide). AreSmallEntries s.events) IsSmall (λ s w t. (w, t)) ss within.services small in
+    let ps = present_tables mux guide in
+    let ns = all_near_tables mux guide in
+    let fs = all_far_tables mux guide in
+    let of_services = λ (P : SubTable → Type 0) (f : ServiceGuide → List SubTable) (each : (s : ServiceGuide) → AllByRecursion P (f s)). each_service P (λ (s : ServiceGuide). Unit {0}) f (λ s q. each s) ss any in
+    let of_present = λ (P : SubTable → Type 0) (each : (s : ServiceGuide) → P (present_table mux moment s)).
+    subst (AllByRecursion P) (presents mux moment ss) (of_services P (present_of mux moment) (λ s. (each s, tt))) in
+    let of_near = λ (P : SubTable → Type 0) (each : (s : ServiceGuide) (table : ℕ) → 0x50 ≤ table → table < 0x52 → P (schedule_table mux day s table)).
+    of_services P (near_tables mux day) (λ s. each_near P mux day s (each s)) in
+    let of_far = λ (P : SubTable → Type 0) (each : (s : ServiceGuide) (table : ℕ) → 0x52 ≤ table → table < 0x60 → P (schedule_table mux day s table)).
+    of_services P (far_tables mux day) (λ s. each_far P mux day s (each s)) in
+    let differ_ps : KeysDiffer ps =
+    subst KeysDiffer (presents mux moment ss) (differ_services (present_of mux moment) (λ s. (refl, tt)) (λ s. (tt, tt)) ss within.ascend) in
+    let differ_ns : KeysDiffer ns =
+    differ_services (near_tables mux day) (λ s. each_near (IsOf s) mux day s (λ table above below. refl))
+    (λ s. differ_range mux day s 0x50 (1 + min 0x51 (last_table_of day s.events) - 0x50)) ss within.ascend in
+    let differ_fs : KeysDiffer fs =
+    differ_services (far_tables mux day) (λ s. each_far (IsOf s) mux day s (λ table above below. refl))
+    (λ s. differ_range mux day s 0x52 (1 + last_table_of day s.events - 0x52)) ss within.ascend in
+    let schedules : KeysDiffer (ns ++ fs) =
+    differ_tables 0x52 ns fs differ_ns differ_fs
+    (of_near (λ (t : SubTable). t.key.table < 0x52) (λ s table above below. below))
+    (of_far (λ (t : SubTable). 0x52 ≤ t.key.table) (λ s table above below. above)) in
+    let behind : AllByRecursion (λ (t : SubTable). 0x50 ≤ t.key.table) (ns ++ fs) =
+    all_append (λ (t : SubTable). 0x50 ≤ t.key.table) ns fs
+    (of_near (λ (t : SubTable). 0x50 ≤ t.key.table) (λ s table above below. above))
+    (of_far (λ (t : SubTable). 0x50 ≤ t.key.table) (λ s table above below. omega (arith, above))) in
+    let events : KeysDiffer (ps ++ (ns ++ fs)) =
+    differ_tables 0x50 ps (ns ++ fs) differ_ps schedules (of_present (λ (t : SubTable). t.key.table < 0x50) (λ s. omega arith)) behind in
+    let rank_ps : AllByRecursion (λ (t : SubTable). tier_rank t.tier ≡ 0) ps = of_present (λ (t : SubTable). tier_rank t.tier ≡ 0) (λ s. refl) in
+    let rank_ns : AllByRecursion (λ (t : SubTable). tier_rank t.tier ≡ 1) ns = of_near (λ (t : SubTable). tier_rank t.tier ≡ 1) (λ s table above below. near_tier table above below) in
+    let rank_fs : AllByRecursion (λ (t : SubTable). tier_rank t.tier ≡ 2) fs = of_far (λ (t : SubTable). tier_rank t.tier ≡ 2) (λ s table above below. far_tier table above below) in
+    let least : (n m : ℕ) → m ≤ n → (ts : List SubTable) → AllByRecursion (λ (t : SubTable). tier_rank t.tier ≡ n) ts → AllByRecursion (λ (t : SubTable). m ≤ tier_rank t.tier) ts =
+    λ n m le ts same. all_map (λ (t : SubTable). tier_rank t.tier ≡ n) (λ (t : SubTable). m ≤ tier_rank t.tier) (λ t e. omega (arith, e, le)) ts same in
+    let most : (n : ℕ) (ts : List SubTable) → AllByRecursion (λ (t : SubTable). tier_rank t.tier ≡ n) ts → AllByRecursion (λ (t : SubTable). tier_rank t.tier ≤ n) ts =
+    λ n ts same. all_map (λ (t : SubTable). tier_rank t.tier ≡ n) (λ (t : SubTable). tier_rank t.tier ≤ n) (λ t e. omega (arith, e)) ts same in
+    record {
+      differ = (
+        lacks_table (sdt_table mux guide).key 0x4E (ps ++ (ns ++ fs)) (omega arith)
+            (all_append (λ (t : SubTable). 0x4E ≤ t.key.table) ps (ns ++ fs) (of_present (λ (t : SubTable). 0x4E ≤ t.key.table) (λ s. omega arith))
+            (all_map (λ (t : SubTable). 0x50 ≤ t.key.table) (λ (t : SubTable). 0x4E ≤ t.key.table) (λ t le. omega (arith, le)) (ns ++ fs) behind)),
+        events,
+      );
+      each = All-from_recursion IsFit (tables_of mux guide)
+          (each_sub_table IsFit IsSmall mux guide services (sdt_table-fit mux guide within)
+          (λ s q. eit_fit (present_table mux moment s) refl (omega arith) (omega arith) (present_fit mux moment s q.1))
+          (λ s table q above below. eit_fit (schedule_table mux day s table) refl (omega (arith, above)) below (schedule_fit mux day s table q.0 q.1)));
+      tiers = All-from_recursion (λ (t : SubTable). t.tier ≡ tier_of t.key.table) (tables_of mux guide)
+          (each_sub_table (λ (t : SubTable). t.tier ≡ tier_of t.key.table) (λ (s : ServiceGuide). Unit {0}) mux guide any refl (λ s q. refl) (λ s table q above below. refl));
+      ordered = tiered_append 0 (sdt_table mux guide ∷ ps) (ns ++ fs) (omega arith, most 0 ps rank_ps)
+          (all_append (λ (t : SubTable). 0 ≤ tier_rank t.tier) ns fs (least 1 0 (omega arith) ns rank_ns) (least 2 0 (omega arith) fs rank_fs))
+          (tiered_same 0 (sdt_table mux guide ∷ ps) (refl, rank_ps))
+          (tiered_append 1 ns fs (most 1 ns rank_ns) (least 2 1 (omega arith) fs rank_fs) (tiered_same 1 ns rank_ns) (tiered_same 2 fs rank_fs));
+    }

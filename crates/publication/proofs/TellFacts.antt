@@ -1,0 +1,138 @@
+-- Receivers take the sub-tables of a publication as they are meant.
+use Rattle.std.proofs.Common.{◌≡◌, ℕ, ◌<◌, ◌≤◌, Bool, true, List, [], ◌∷◌, length, map, Some, None, refl, ap, ◌∙◌, arith, le-leb}
+use Rattle.std.specs.Prelude.{◌&&◌, nat_le, if◌then◌else◌}
+use Rattle.std.specs.List.{AllByRecursion}
+use Rattle.std.proofs.lemmas.Bool.Decides.{nat_tests}
+use Rattle.si_lists.proofs.Lists.{all_map}
+use Rattle.si_base.specs.Fields.{two_at}
+use Rattle.guide_model.specs.declared.guide.Guide.{Guide}
+use Rattle.guide_model.specs.declared.guide.ServiceGuide.{ServiceGuide}
+use Rattle.mux_config.specs.declared.mux.MuxService.{MuxService}
+use Rattle.mux_config.specs.declared.mux.Mux.{Mux}
+use Rattle.mux_config.specs.Sound.{IsSoundService}
+use Rattle.guide_limits.specs.Events.{midnight}
+use Rattle.guide_limits.specs.Limits.{IsServiceWithin}
+use Rattle.section_codec.specs.declared.table.Key.{Key}
+use Rattle.section_codec.specs.declared.table.NumberedBody.{NumberedBody}
+use Rattle.section_codec.specs.declared.table.SubTable.{SubTable}
+use Rattle.section_codec.specs.declared.table.Tier3.{Tier3}
+use Rattle.section_codec.specs.Tables.{is_eit, is_events}
+use Rattle.section_codec.specs.Contents.{last_number}
+use Rattle.section_codec.specs.Keys.{key_with, key_in}
+use Rattle.section_codec.specs.Segments.{segment_last_in}
+use Rattle.section_codec.proofs.ContentFacts.{last_number-from}
+use Rattle.sub_collect.proofs.Whole.{from_zero}
+use Rattle.sub_collect.proofs.Segmented.{by_segments}
+use Rattle.air_model.specs.Air.{header_of}
+use Rattle.eit_codec.specs.declared.eit.Eit.{Eit}
+use Rattle.eit_codec.specs.Eit.{IsTyped, IsEit}
+use Rattle.eit_codec.proofs.ReadBodies.{read_bodies}
+use Rattle.eit_tables.specs.Eit.{eit_key}
+use Rattle.eit_tables.specs.Present.{present_table}
+use Rattle.eit_tables.specs.Schedule.{schedule_table}
+use Rattle.eit_tables.specs.Laws.{AreSmallEntries, AreEit, Names}
+use Rattle.eit_tables.proofs.EntryFacts.{typed_small}
+use Rattle.eit_tables.proofs.EitFacts.{present_fit, schedule_fit, events_name, events_read}
+use Rattle.publication.specs.Sdt.{sdt_sections}
+use Rattle.publication.specs.Tables.{sdt_key, sdt_table}
+use Rattle.publication.specs.Laws.{IsReadEit, IsSdtBody, AreSdt, TellsItself, PublicationsTellThemselves}
+use Rattle.publication.proofs.SdtFacts.{sdt_fit}
+use Rattle.publication.proofs.FitFacts.{all_two, each_sub_table}
+
+-- ---- the SDT
+
+sdt_keyed : (mux : Mux) (guide : Guide) (s : NumberedBody) → IsSdtBody mux.original s → key_in 0x0011 (header_of 0 (sdt_table mux guide) s) s.body ≡ Some (sdt_key mux)
+sdt_keyed mux guide s is =
+    let h = header_of 0 (sdt_table mux guide) s in
+    ap (λ (b : Bool). if b then Some (key_with 0x0011 h 0 (two_at 0 s.body)) else None) (le-leb 2 (length s.body) is.least)
+    ∙ ap (λ (n : ℕ). let k : Key = record { pid = 0x0011; table = 0x42; ext = mux.stream; stream = 0; network = n } in Some k) is.network
+
+sdt_tells : (mux : Mux) (guide : Guide) → mux.stream < 65536 → AreSdt mux.original (sdt_sections mux guide) → TellsItself (sdt_table mux guide)
+sdt_tells mux guide stream are =
+    let ss = sdt_sections mux guide in
+    record {
+      table = omega arith;
+      ext = stream;
+      last = omega (arith, last_number-from 0 ss are.numbers are.some, are.few);
+      numbered = from_zero (sdt_key mux) ss refl are.some are.numbers;
+      keyed = all_map (IsSdtBody mux.original) (λ (s : NumberedBody). key_in 0x0011 (header_of 0 (sdt_table mux guide) s) s.body ≡ Some (sdt_key mux)) (sdt_keyed mux guide) ss are.bodies;
+      read = λ e. absurd (let z : Prim.⊥ = cc in z);
+    }
+
+-- ---- event information
+
+abbrev eit_table : Mux → ℕ → ℕ → Tier3 → List NumberedBody → SubTable
+eit_table mux table service tier sections = record { key = eit_key mux table service; tier = tier; sections = sections }
+
+eit_keyed : (mux : Mux) (table service : ℕ) (tier : Tier3) (sections : List NumberedBody) → is_events 0x0012 table ≡ true → (s : NumberedBody) → 6 ≤ length s.body → Names mux s.body
+    → key_in 0x0012 (header_of 0 (eit_table mux table service tier sections) s) s.body ≡ Some (eit_key mux table service)
+eit_keyed mux table service tier sections events s least names =
+    let h = header_of 0 (eit_table mux table service tier sections) s in
+    let key : ℕ → ℕ → Key = λ stream network. record { pid = 0x0012; table = table; ext = service; stream = stream; network = network } in
+    ap (λ (b : Bool). if b && nat_le 4 (length s.body) then Some (key_with 0x0012 h (two_at 0 s.body) (two_at 2 s.body)) else None) events
+    ∙ ap (λ (b : Bool). if b then Some (key_with 0x0012 h (two_at 0 s.body) (two_at 2 s.body)) else None) (le-leb 4 (length s.body) (omega (arith, least)))
+    ∙ ap (λ (n : ℕ). Some (key n (two_at 2 s.body))) names.0 ∙ ap (λ (n : ℕ). Some (key mux.stream n)) names.1
+
+eit_tells : (mux : Mux) (table service : ℕ) (tier : Tier3) (sections : List NumberedBody) → is_events 0x0012 table ≡ true → is_eit table ≡ true → table < 256 → service < 65536
+    → AreEit sections → AllByRecursion (λ (s : NumberedBody). Names mux s.body) sections → AllByRecursion (λ (s : NumberedBody). (eit : Eit) × IsEit s.body eit) sections
+    → TellsItself (eit_table mux table service tier sections)
+eit_tells mux table service tier sections events eit few id are names read =
+    let sized = λ (s : NumberedBody). (6 ≤ length s.body) × (length s.body ≤ 4084) in
+    let named = λ (s : NumberedBody). Names mux s.body in
+    let told = λ (s : NumberedBody). (n : ℕ) × (segment_last_in s.number s.body ≡ Some n) × (n ≤ last_number sections) in
+    let is_read = λ (s : NumberedBody). (e : Eit) × IsEit s.body e in
+    record {
+      table = few;
+      ext = id;
+      last = are.below;
+      numbered = by_segments (eit_key mux table service) sections eit are.by_segments;
+      keyed = all_two sized named (λ (s : NumberedBody). key_in 0x0012 (header_of 0 (eit_table mux table service tier sections) s) s.body ≡ Some (eit_key mux table service))
+          (λ s size name. eit_keyed mux table service tier sections events s size.0 name) sections are.bodies names;
+      read = λ e. all_two is_read told (IsReadEit (last_number sections)) (λ s r t. record { body = read_bodies s.body r.0 r.1; told = t }) sections read are.told;
+    }
+
+-- ---- the sub-tables of a publication
+
+ids_fit : (gs : List ServiceGuide) (ss : List MuxService) → map (λ (g : ServiceGuide). g.service) gs ≡ map (λ (s : MuxService). s.service) ss → AllByRecursion IsSoundService ss
+    → AllByRecursion (λ (g : ServiceGuide). g.service < 65536) gs
+ids_fit [] ss same sound = tt
+ids_fit (g ∷ gs) [] same sound = absurd (let z : Prim.⊥ = cc in z)
+ids_fit (g ∷ gs) (s ∷ ss) same sound =
+    let here : g.service ≡ s.service = cc in
+    let rest : map (λ (g : ServiceGuide). g.service) gs ≡ map (λ (s : MuxService). s.service) ss = cc in
+    (omega (arith, here, (sound.0).service.1), ids_fit gs ss rest sound.1)
+
+-- what is asked of a service
+record IsTold (s : ServiceGuide) : Type 0 where
+  within : IsServiceWithin s
+  small : AreSmallEntries s.events
+  typed : AllByRecursion IsTyped s.events
+  id : s.service < 65536
+
+services_told : (ss : List ServiceGuide) → AllByRecursion IsServiceWithin ss → AllByRecursion (λ (s : ServiceGuide). AreSmallEntries s.events) ss → AllByRecursion (λ (s : ServiceGuide). AllByRecursion IsTyped s.events) ss
+    → AllByRecursion (λ (s : ServiceGuide). s.service < 65536) ss → AllByRecursion IsTold ss
+services_told [] within small typed ids = tt
+services_told (s ∷ ss) within small typed ids =
+    (record { within = within.0; small = small.0; typed = typed.0; id = ids.0 }, services_told ss within.1 small.1 typed.1 ids.1)
+
+pub publication_tells : PublicationsTellThemselves
+publication_tells mux guide sound services within typed =
+    let moment = guide.moment.0 in
+    let day = midnight moment in
+    let ids = ids_fit guide.services mux.services services sound.sound.services in
+    let told = services_told guide.services within.services (typed_small guide within typed) typed ids in
+    each_sub_table TellsItself IsTold mux guide told (sdt_tells mux guide sound.stream (sdt_fit mux guide sound.sound sound.original within))
+    (λ s q.
+    let are = present_fit mux moment s q.small in
+    let names = events_name mux moment s 0x50 sound.stream sound.original in
+    let read = events_read mux moment s 0x50 sound.stream sound.original q.within q.typed in
+    let t = present_table mux moment s in
+    eit_tells mux 0x4E s.service t.tier t.sections refl refl (omega arith) q.id are names.0 read.0)
+    (λ s table q above below.
+    let are = schedule_fit mux day s table q.within q.small in
+    let names = events_name mux day s table sound.stream sound.original in
+    let read = events_read mux day s table sound.stream sound.original q.within q.typed in
+    let t = schedule_table mux day s table in
+    let events : is_events 0x0012 table ≡ true = grind (arith, nat_tests) in
+    let eit : is_eit table ≡ true = grind (arith, nat_tests) in
+    eit_tells mux table s.service t.tier t.sections events eit (omega (arith, below)) q.id are names.1 read.1)

@@ -1,0 +1,96 @@
+// The sub-tables of what stands behind the edits of a row.
+ghost use Rattle.std.specs.Prelude.{IfOk};
+ghost use Rattle.feed_edits.specs.Heads.{IsShaped};
+ghost use Rattle.mux_config.specs.Sound.{IsSound};
+ghost use Rattle.publication_rows.specs.Books.{KeepsBook};
+
+use feed_book::{Book, Reply};
+use feed_edits::{Edit, EditStop, next_edit};
+use mux_config::{Mux, read_mux};
+use publication::build;
+use row_lines::{Lines, Row, WHOLE, reader, written_out};
+use section_codec::Tables;
+use si_time::{Moment, read_moment};
+use std::alloc::{AllocError, Global};
+
+/// The feed of all services and edits.
+const FEED: u8 = 1;
+
+// Does an edit; whether it is done.
+fn do_edit(book: &mut Book, edit: &Edit) -> Result<bool, AllocError>
+    requires { IsShaped edit.now }
+    ensures { IfOk result (λ done. KeepsBook book.old book.new) }
+{
+    match book.edit(FEED, edit)? {
+        Reply::Done => Ok(true),
+        _ => Ok(false),
+    }
+}
+
+// Does the edits of these lines up to their end; whether each is done.
+fn do_edits(alloc: Global, lines: &mut Lines, book: &mut Book) -> Result<bool, AllocError>
+    ensures { IfOk result (λ done. KeepsBook book.old book.new) }
+{
+    'edits: for _ in 0..10_000 {
+        match next_edit(alloc, lines) {
+            Ok(Some(edit)) => {
+                if !do_edit(book, &edit)? {
+                    return Ok(false);
+                }
+            }
+            Ok(None) => return Ok(true),
+            Err(EditStop::Memory) => return Err(AllocError),
+            Err(_) => return Ok(false),
+        }
+    }
+    Ok(false)
+}
+
+// The sub-tables at a moment, where each edit is done.
+fn tables_behind(
+    alloc: Global,
+    moment: Moment,
+    mux: &Mux,
+    lines: &mut Lines,
+) -> Result<Option<Tables>, AllocError>
+    requires { IsSound mux.now }
+{
+    let mut book = Book::open(alloc, mux)?;
+    if !do_edits(alloc, lines, &mut book)? {
+        return Ok(None);
+    }
+    let guide = book.shared(moment)?;
+    let tables = build(alloc, mux, &guide)?;
+    Ok(Some(tables))
+}
+
+fn tables_of(alloc: Global, moment: &str, text: &str) -> Result<Option<Tables>, AllocError> {
+    let Some(moment) = read_moment(moment.as_bytes()) else {
+        return Ok(None);
+    };
+    let Some(text) = written_out(alloc, text)? else {
+        return Ok(None);
+    };
+    let mut lines = reader(alloc, text.as_str(), WHOLE)?;
+    match read_mux(alloc, &mut lines) {
+        Ok(mux) => tables_behind(alloc, moment, &mux, &mut lines),
+        Err(_) => Ok(None),
+    }
+}
+
+/// `MOMENT LINES`: the sub-tables of a publication at that moment.
+pub fn built(row: &mut Row) -> Option<Tables> {
+    let moment = row.word();
+    let text = row.word();
+    match tables_of(row.alloc(), moment, text) {
+        Ok(Some(tables)) => Some(tables),
+        Ok(None) => {
+            row.refuse();
+            None
+        }
+        Err(_) => {
+            row.lack_memory();
+            None
+        }
+    }
+}

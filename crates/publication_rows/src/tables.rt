@@ -1,0 +1,110 @@
+// Sub-tables in answers.
+ghost use Rattle.std.specs.Prelude.{◌≡◌};
+ghost use Rattle.section_codec.specs.Section.{longest_body};
+
+use crate::guides::built;
+use row_lines::Row;
+use section_codec::{Key, LongHeader, NumberedBody, SubTable, Tier3, is_eit, write_long};
+
+// The longest body of a section of a table.
+fn longest_body(table: u8) -> usize
+    ensures { result ≡ longest_body table }
+{
+    if is_eit(table) { 4084 } else { 1012 }
+}
+
+// The number of the last section.
+fn last_number(table: &SubTable) -> u8 {
+    match table.sections.as_slice() {
+        [.., last] => last.number,
+        [] => 0,
+    }
+}
+
+// Appends a whole section of version 0.
+fn put_section(row: &mut Row, key: &Key, section: &NumberedBody, last: u8) {
+    let header = LongHeader {
+        table: key.table,
+        ext: key.ext,
+        version: 0,
+        current: true,
+        number: section.number,
+        last,
+    };
+    if header.table == 0x70
+        || header.number > header.last
+        || section.body.len() > longest_body(header.table)
+    {
+        return row.refuse();
+    }
+    match write_long(row.alloc(), &header, section.body.as_slice()) {
+        Ok(bytes) => row.put_bytes(bytes.as_slice()),
+        Err(_) => row.lack_memory(),
+    }
+}
+
+// Appends the sections of a table, a part each.
+fn put_sections(row: &mut Row, table: &SubTable) {
+    let last = last_number(table);
+    for section in table.sections.as_slice() {
+        row.begin_part();
+        put_section(row, &table.key, section, last);
+    }
+}
+
+/// `tables MOMENT LINES`: the sections of all sub-tables, in order.
+pub fn all(row: &mut Row) {
+    let Some(tables) = built(row) else {
+        return;
+    };
+    for table in tables.list.as_slice() {
+        put_sections(row, table);
+    }
+}
+
+/// `table TABLE MOMENT LINES`: those of the sub-tables with this table_id.
+pub fn one(row: &mut Row) {
+    let wanted = row.byte();
+    let Some(tables) = built(row) else {
+        return;
+    };
+    for table in tables.list.as_slice() {
+        if table.key.table == wanted {
+            put_sections(row, table);
+        }
+    }
+    row.end_parts();
+}
+
+fn tier_word(tier: Tier3) -> &'static str {
+    match tier {
+        Tier3::Fast => " fast",
+        Tier3::Near => " near",
+        Tier3::Far => " far",
+    }
+}
+
+// Appends what names a table, its tier, and the numbers of its sections.
+fn put_place(row: &mut Row, table: &SubTable) {
+    row.begin_part();
+    row.put_hex(" ", table.key.pid);
+    row.put_byte(" ", table.key.table);
+    row.put_number(" ", u64::from(table.key.ext));
+    row.put_number(" ", u64::from(table.key.stream));
+    row.put_number(" ", u64::from(table.key.network));
+    row.put(tier_word(table.tier));
+    for section in table.sections.as_slice() {
+        row.put_number(" ", u64::from(section.number));
+    }
+}
+
+/// `places MOMENT LINES`: of each sub-table its PID, table_id, table_id_extension, transport_stream_id and original_network_id in the
+/// body, its tier, and the numbers of its sections.
+pub fn places(row: &mut Row) {
+    let Some(tables) = built(row) else {
+        return;
+    };
+    for table in tables.list.as_slice() {
+        put_place(row, table);
+    }
+}
