@@ -18,10 +18,6 @@ pub record Sent : Type 0 where
   pub pid : ℕ
   pub bytes : List ℕ
 
--- the header of a section of a sub-table that has this version
-abbrev pub header_of : ℕ → SubTable → NumberedBody → LongHeader
-header_of version t s = record { table = t.key.table; ext = t.key.ext; version = version; current = true; number = s.number; last = last_number t.sections }
-
 abbrev pub sent_section : ℕ → SubTable → NumberedBody → Sent
 sent_section version t s = record { pid = t.key.pid; bytes = section_bytes (header_of version t s) s.body }
 

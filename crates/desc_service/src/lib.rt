@@ -20,5 +20,5 @@ pub use desc_parts::{RawDesc, RawDescs, descriptors_are_unique, read_descriptors
 pub use languages::{Languages, read_iso_639_language, write_iso_639_language};
 pub use laws::written_descriptors_read_back;
 pub use network_name::{read_network_name, write_network_name};
-pub use service::{ServiceText, read_service, write_service};
+pub use service::{ServiceText, read_service, write_service, write_service_fields};
 pub use service_list::{ServiceKind, ServiceKinds, read_service_list, write_service_list};

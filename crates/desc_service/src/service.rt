@@ -26,11 +26,25 @@ pub fn write_service(service: &ServiceText, out: &mut Vec<u8>) -> Result<(), All
     ensures written { OnOk result (out.new.items ≡ out.old.items ++ service_descriptor service.now) }
     ensures memory { OnErr result (out.new.items ≡ out.old.items) }
 {
-    let provider = Coded::of_shown(&service.provider);
-    let name = Coded::of_shown(&service.name);
+    write_service_fields(service.kind, &service.provider, &service.name, out)
+}
+
+/// Appends the service_descriptor of a service_type, a provider and a name, with the needs and the memory of [`write_service`].
+pub fn write_service_fields(
+    kind: u8,
+    provider: &Shown,
+    name: &Shown,
+    out: &mut Vec<u8>,
+) -> Result<(), AllocError>
+    requires { length (shown_bytes provider.now) + length (shown_bytes name.now) ≤ 252 }
+    ensures written { OnOk result (out.new.items ≡ out.old.items ++ service_descriptor (record { kind = kind; provider = provider.now; name = name.now })) }
+    ensures memory { OnErr result (out.new.items ≡ out.old.items) }
+{
+    let provider = Coded::of_shown(provider);
+    let name = Coded::of_shown(name);
     let len = 3 + provider.len() + name.len();
     out.reserve(2 + len)?;
-    put(out, &[TAG, len as u8, service.kind]);
+    put(out, &[TAG, len as u8, kind]);
     provider.put_with_length(out);
     name.put_with_length(out);
     Ok(())

@@ -1,10 +1,11 @@
 -- Sub-tables by their keys, and those that can be sent, and then be heard.
-use Rattle.std.specs.Prelude.{◌≡◌, ◌≢◌, ◌<◌, ◌≤◌, List, [], ◌∷◌, length}
+use Rattle.std.specs.Prelude.{◌≡◌, ◌≢◌, ℕ, true, ◌<◌, ◌≤◌, List, [], ◌∷◌, length}
 use Rattle.std.specs.List.{All}
+use Rattle.section_codec.specs.declared.section.LongHeader.{LongHeader}
 use Rattle.section_codec.specs.declared.table.Key.{Key}
 use Rattle.section_codec.specs.declared.table.NumberedBody.{NumberedBody}
 use Rattle.section_codec.specs.declared.table.SubTable.{SubTable}
-use Rattle.section_codec.specs.Contents.{Ascend}
+use Rattle.section_codec.specs.Contents.{Ascend, last_number}
 use Rattle.section_codec.specs.Tables.{tier_of, tier_rank}
 use Rattle.section_codec.specs.Section.{longest_body}
 
@@ -17,6 +18,10 @@ Lacks k (t ∷ ts) = (k ≢ t.key) × Lacks k ts
 abbrev pub KeysDiffer : List SubTable → Type 0
 KeysDiffer [] = Unit {0}
 KeysDiffer (t ∷ ts) = Lacks t.key ts × KeysDiffer ts
+
+-- the header of a section of a sub-table that has this version
+abbrev pub header_of : ℕ → SubTable → NumberedBody → LongHeader
+header_of version t s = record { table = t.key.table; ext = t.key.ext; version = version; current = true; number = s.number; last = last_number t.sections }
 
 -- A sub-table whose sections can be sent: not on the PID of the null packets, in the long form, not beginning as fill does, with 0xFF.
 pub record IsFit (t : SubTable) : Type 0 where

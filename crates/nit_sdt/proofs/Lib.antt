@@ -1,0 +1,3 @@
+pub mod Words
+pub mod Networks
+pub mod Services

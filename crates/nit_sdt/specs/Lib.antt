@@ -1,0 +1,3 @@
+pub mod Nit
+pub mod Sdt
+pub mod Rows

@@ -1,0 +1,108 @@
+-- The body of a section of the network information table, both ways (EN 300 468, 5.2.1).
+use Rattle.std.specs.Prelude.{◌≡◌, ℕ, ◌+◌, ◌*◌, ◌<◌, ◌≤◌, List, [], ◌++◌, length, Option, Some, None, IfSome}
+use Rattle.std.specs.Option.{unwrap_or}
+use Rattle.std.specs.List.{flat_map, AllByRecursion}
+use Rattle.si_base.specs.Fields.{two, two_at}
+use Rattle.si_text.specs.Decoding.{shown_bytes, IsAsDecoded}
+use Rattle.si_text.specs.declared.shown.Shown.{Shown}
+use Rattle.si_text.specs.declared.shown.Shown.TheVariants.{Text}
+use Rattle.guide_model.specs.declared.stream.Cable.{Cable}
+use Rattle.desc_parts.specs.declared.descriptors.RawDesc.{RawDesc}
+use Rattle.desc_parts.specs.Descriptors.{AreDescriptors}
+use Rattle.desc_service.specs.declared.service_list.ServiceKind.{ServiceKind}
+use Rattle.desc_service.specs.CableDelivery.{cable_delivery_system, cable_in, FitsCable}
+use Rattle.desc_service.specs.NetworkName.{network_name, network_name_in}
+use Rattle.desc_service.specs.ServiceList.{service_list, service_list_in}
+use Rattle.table_entries.specs.Entries.{Entry, entry_bytes, FitsEntry, AreEntries}
+use Rattle.table_entries.specs.First.{first_in}
+use Rattle.nit_sdt.specs.declared.nit.NitStream.{NitStream}
+use Rattle.nit_sdt.specs.declared.nit.Nit.{Nit}
+
+-- ---- written
+
+-- how a stream is sent by cable, where it is told
+abbrev pub cable_descriptors : Option Cable → List ℕ
+cable_descriptors None = []
+cable_descriptors (Some cable) = cable_delivery_system cable
+
+-- transport_stream_id 16, original_network_id 16, reserved 4, all 1; its cable where it has one, and its services
+abbrev pub stream_entry : NitStream → Entry
+stream_entry s = record { fields = two s.stream ++ two s.original; bits = 15; descriptors = cable_descriptors s.cable ++ service_list s.services }
+
+abbrev pub stream_bytes : NitStream → List ℕ
+stream_bytes s = entry_bytes (stream_entry s)
+
+-- reserved 4, all 1, and bytes behind their length of 12 bits
+abbrev pub bare_entry : List ℕ → Entry
+bare_entry bytes = record { fields = []; bits = 15; descriptors = bytes }
+
+-- the name behind network_descriptors_length, and the streams behind transport_stream_loop_length
+abbrev pub nit_body : Nit → List ℕ
+nit_body n = entry_bytes (bare_entry (network_name n.name)) ++ entry_bytes (bare_entry (flat_map stream_bytes n.streams))
+
+-- the digits of the cable fit, and the services the length of their descriptor
+pub record FitsStream (s : NitStream) : Type 0 where
+  pub cable : IfSome s.cable FitsCable
+  pub services : 3 * length s.services ≤ 255
+
+-- ---- read
+
+-- the first network_name; without one the name is empty
+abbrev pub name_of : List RawDesc → Shown
+name_of descs = unwrap_or (first_in 0x40 (λ body. Some (network_name_in body)) descs) (Text [])
+
+-- the first cable_delivery_system that fits
+abbrev pub cable_of : List RawDesc → Option Cable
+cable_of descs = first_in 0x44 cable_in descs
+
+-- the services of the first service_list that fits; without one there are none
+abbrev pub services_of : List RawDesc → List ServiceKind
+services_of descs = unwrap_or (first_in 0x41 service_list_in descs) []
+
+-- what an entry says of a stream, whatever its reserved bits
+abbrev pub stream_of : List ℕ → ℕ → List RawDesc → NitStream
+stream_of fields bits descs = record { stream = two_at 0 fields; original = two_at 2 fields; cable = cable_of descs; services = services_of descs }
+
+-- The bytes are just these behind their length of 12 bits, whatever the four bits before it.
+pub record IsLoop (bytes loop : List ℕ) : Type 0 where
+  pub bits : ℕ
+  pub whole : bytes ≡ two (4096 * bits + length loop) ++ loop
+  pub width : bits < 16
+  pub within : length loop < 4096
+
+-- The body is just an entry of the network and a loop of entries of these streams.
+pub record IsNit (body : List ℕ) (nit : Nit) : Type 0 where
+  pub network : Entry
+  pub behind : List ℕ
+  pub whole : body ≡ entry_bytes network ++ behind
+  pub fits : FitsEntry 0 network
+  pub descs : List RawDesc
+  pub network_descriptors : AreDescriptors network.descriptors descs
+  pub name : nit.name ≡ name_of descs
+  pub loop : List ℕ
+  pub stream_loop : IsLoop behind loop
+  pub streams : AreEntries 4 stream_of loop nit.streams
+
+-- ---- laws
+
+-- A body is of one value at most.
+abbrev pub NitIsUnique : Type 0
+NitIsUnique = (body : List ℕ) (a b : Nit) → IsNit body a → IsNit body b → a ≡ b
+
+-- each field has its width
+pub record HasStreamWidths (s : NitStream) : Type 0 where
+  pub stream : s.stream < 65536
+  pub original : s.original < 65536
+  pub services : AllByRecursion (λ k. k.service < 65536) s.services
+  pub fits : FitsStream s
+
+-- fields that fit, and a name that is shown as its bytes are
+pub record FitsNit (n : Nit) : Type 0 where
+  pub name : length (shown_bytes n.name) ≤ 255
+  pub shown : IsAsDecoded n.name
+  pub streams : AllByRecursion HasStreamWidths n.streams
+  pub loop : length (flat_map stream_bytes n.streams) < 4096
+
+-- Reading a written body gives its value back.
+abbrev pub NitReadsBack : Type 0
+NitReadsBack = (n : Nit) → FitsNit n → IsNit (nit_body n) n

@@ -1,0 +1,16 @@
+//! The bodies of the tables of networks and services, both ways: the network information table and the service description table
+//! (EN 300 468, 5.2.1 and 5.2.3).
+//!
+//! The layers above use: `write_nit` and `write_sdt` give the body of a section; `read_nit` and `read_sdt` give the value of a body,
+//! and `None` exactly where it has none; reading a written body gives its value back (`written_networks_read_back`). `service_len`
+//! tells what a service adds to the body of a section, for those who part services among sections.
+#![tactic(auto)]
+
+mod laws;
+mod nit;
+mod sdt;
+mod texts;
+
+pub use laws::written_networks_read_back;
+pub use nit::{Nit, NitStream, NitStreams, read_nit, write_nit};
+pub use sdt::{Sdt, SdtService, SdtServices, read_sdt, service_len, write_sdt};

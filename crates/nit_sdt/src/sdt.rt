@@ -1,0 +1,166 @@
+// The service description table.
+ghost use Rattle.std.specs.Prelude.{◌≡◌, ◌++◌, List, length, IfOk, IfSome, IfNone, OnOk};
+ghost use Rattle.std.specs.List.{All, flat_map};
+ghost use Rattle.table_entries.specs.Entries.{AreEntries};
+ghost use Rattle.nit_sdt.specs.declared.sdt.SdtService.{SdtService};
+ghost use Rattle.nit_sdt.specs.declared.sdt.Sdt.{Sdt};
+ghost use Rattle.nit_sdt.specs.Sdt.{FitsService, IsSdt, flag_bit, sdt_body, service_bytes, service_of, text_in};
+
+use crate::texts::no_text;
+use desc_service::{RawDesc, ServiceText, read_service, write_service_fields};
+use si_base::{Bytes, Items};
+use si_text::Shown;
+use std::alloc::{AllocError, Global};
+use table_entries::{RawEntry, split_entry};
+
+/// A service as it is described: service_id, whether event information of its schedule and of its present and following events is
+/// sent, service_type (`kind`), the provider of the service and its name (EN 300 468, 5.2.3 and 6.2.33).
+#[derive(Drop)]
+pub struct SdtService {
+    pub service: u16,
+    pub schedule: bool,
+    pub present: bool,
+    pub kind: u8,
+    pub provider: Shown,
+    pub name: Shown,
+}
+
+/// Services in the order in which they stand.
+pub type SdtServices = Items<SdtService>;
+
+/// What a section of the service description table holds: original_network_id and services.
+#[derive(Drop)]
+pub struct Sdt {
+    pub original: u16,
+    pub services: SdtServices,
+}
+
+/// The body of a section of the service description table (EN 300 468, 5.2.3). Each service is running (running_status 4), is not
+/// scrambled (free_CA_mode 0), and has one service_descriptor.
+///
+/// It needs services whose texts have at most 252 bytes together, so that the length of the descriptor fits its field.
+pub fn write_sdt(alloc: Global, sdt: &Sdt) -> Result<Bytes, AllocError>
+    requires { All FitsService sdt.now.services }
+    ensures { IfOk result (λ body. body ≡ sdt_body sdt.now) }
+{
+    let mut out = Vec::new(alloc);
+    out.extend_from_slice(&sdt.original.to_be_bytes())?;
+    out.push(0xFF)?;
+    put_services(sdt.services.as_slice(), &mut out)?;
+    Ok(Items::of(out))
+}
+
+/// How many bytes a service adds to the body of a section: 10 and those of its texts, which are at most 252. It takes no memory.
+pub fn service_len(service: &SdtService) -> usize
+    requires { FitsService service.now }
+    ensures { result ≡ length (service_bytes service.now) }
+{
+    10 + service.provider.coded_len() + service.name.coded_len()
+}
+
+// Appends the entries of services; want of memory may leave a part of them.
+fn put_services(services: &[SdtService], out: &mut Vec<u8>) -> Result<(), AllocError>
+    requires { All FitsService services.now }
+    ensures { OnOk result (out.new.items ≡ out.old.items ++ flat_map service_bytes services.now) }
+{
+    for service in services {
+        put_service(service, out)?;
+    }
+    Ok(())
+}
+
+// Appends the entry of a service; want of memory may leave a part of it.
+fn put_service(service: &SdtService, out: &mut Vec<u8>) -> Result<(), AllocError>
+    requires { FitsService service.now }
+    ensures { OnOk result (out.new.items ≡ out.old.items ++ service_bytes service.now) }
+{
+    let flags = 0xFC + 2 * flag_bit(service.schedule) + flag_bit(service.present);
+    let len = (service_len(service) - 5) as u16;
+    out.extend_from_slice(&service.service.to_be_bytes())?;
+    out.push(flags)?;
+    out.extend_from_slice(&(0x8000 + len).to_be_bytes())?;
+    write_service_fields(service.kind, &service.provider, &service.name, out)
+}
+
+// The bit of a flag.
+fn flag_bit(flag: bool) -> u8
+    ensures { result ≡ flag_bit flag }
+{
+    if flag { 1 } else { 0 }
+}
+
+/// What the body of a section of the service description table says, or `None` exactly where it has fewer than 3 bytes, ends within an
+/// entry, a descriptor runs past the end of its loop, or bytes are left over. Reserved bits, running_status and free_CA_mode may have
+/// any value (EN 300 468, 5.2.3).
+///
+/// Type, provider and name of a service are those of its first service_descriptor whose body fits; without one they are 0 and empty.
+pub fn read_sdt(alloc: Global, body: &[u8]) -> Result<Option<Sdt>, AllocError>
+    ensures some { IfOk result (λ read. IfSome read (λ sdt. IsSdt body.now sdt)) }
+    ensures none { IfOk result (λ read. IfNone read ((sdt : Sdt) → ¬ IsSdt body.now sdt)) }
+{
+    let [high, low, _reserved, entries @ ..] = body else {
+        return Ok(None);
+    };
+    let Some(services) = read_services(alloc, entries)? else {
+        return Ok(None);
+    };
+    Ok(Some(Sdt {
+        original: 256 * u16::from(*high) + u16::from(*low),
+        services,
+    }))
+}
+
+// The services of the entries that these bytes are.
+fn read_services(alloc: Global, bytes: &[u8]) -> Result<Option<SdtServices>, AllocError>
+    ensures some { IfOk result (λ read. IfSome read (λ services. AreEntries 3 service_of bytes.now services)) }
+    ensures none { IfOk result (λ read. IfNone read ((services : List SdtService) → ¬ AreEntries 3 service_of bytes.now services)) }
+{
+    let mut services = Vec::new(alloc);
+    let mut rest = bytes;
+    while !rest.is_empty() {
+        let Some((entry, behind)) = split_entry(3, rest) else {
+            return Ok(None);
+        };
+        let Some(descs) = entry.descriptors(alloc)? else {
+            return Ok(None);
+        };
+        services.push(service_of(alloc, &entry, descs.as_slice())?)?;
+        rest = behind;
+    }
+    Ok(Some(Items::of(services)))
+}
+
+// What an entry with these descriptors says of a service.
+fn service_of(alloc: Global, entry: &RawEntry, descs: &[RawDesc]) -> Result<SdtService, AllocError>
+    requires { length entry.now.fields ≡ 3 }
+    ensures { IfOk result (λ service. service ≡ service_of entry.now.fields entry.now.bits descs.now) }
+{
+    let flags = entry.byte(2);
+    let text = text_in(alloc, descs)?;
+    Ok(SdtService {
+        service: entry.two(0),
+        schedule: flags / 2 % 2 == 1,
+        present: flags % 2 == 1,
+        kind: text.kind,
+        provider: text.provider,
+        name: text.name,
+    })
+}
+
+// The type and the texts of the first service_descriptor that fits.
+fn text_in(alloc: Global, descs: &[RawDesc]) -> Result<ServiceText, AllocError>
+    ensures { IfOk result (λ text. text ≡ text_in descs.now) }
+{
+    for desc in descs {
+        if desc.tag == 0x48 {
+            if let Some(text) = read_service(alloc, desc.body.as_slice())? {
+                return Ok(text);
+            }
+        }
+    }
+    Ok(ServiceText {
+        kind: 0,
+        provider: no_text(alloc)?,
+        name: no_text(alloc)?,
+    })
+}

@@ -1,0 +1,2 @@
+pub mod Tdt
+pub mod Rows
