@@ -21,9 +21,9 @@ use Rattle.sub_collect.specs.Runs.{Counted, counted, latest_section, has_number,
 use Rattle.sub_collect.specs.Completions.{is_of, of_key}
 use Rattle.sub_collect.specs.Laws.{section_with, sections_with, HoldAll, IsWith, IsNumbered}
 use Rattle.guide_receiver.specs.Counting.{is_counted, is_body_of_table, counted_by, counted_in, counted_among}
-use Rattle.section_codec.specs.SubTables.{IsFit}
+use Rattle.section_codec.specs.SubTables.{IsFit, header_of}
 use Rattle.guide_receiver.proofs.Shown.{among-append}
-use Rattle.air_model.specs.Air.{Sent, sent_section, header_of}
+use Rattle.air_model.specs.Air.{Sent, sent_section}
 use Rattle.air_model.specs.Repeating.{IsSentOf, AreSentOf}
 use Rattle.air_model.proofs.Repeating.{elements, of_element, around}
 use Rattle.air_hearing.specs.Counting.{raw_of, IsReadable, CanBeHeard}

@@ -1,11 +1,10 @@
 -- Cycles of airings, and the air of an airing list.
 use Rattle.std.specs.Prelude.{◌≡◌, ℕ, List, [], ◌∷◌, ◌++◌, true, Option, Some, None, ◌==◌, if◌then◌else◌, map, flat_map, filter_map}
 use Rattle.std.specs.List.{AllByRecursion}
-use Rattle.section_codec.specs.declared.section.LongHeader.{LongHeader}
+use Rattle.section_codec.specs.SubTables.{header_of}
 use Rattle.section_codec.specs.declared.table.NumberedBody.{NumberedBody}
 use Rattle.section_codec.specs.declared.table.SubTable.{SubTable}
 use Rattle.section_codec.specs.Section.{section_bytes}
-use Rattle.section_codec.specs.Contents.{last_number}
 use Rattle.version_book.specs.Airings.{Airing, version_at}
 use Rattle.ts_packets.specs.Packets.{Carries}
 use Rattle.ts_packets.specs.Bytes.{Packet, HasFields, bytes_of_packet}

@@ -3,9 +3,9 @@ ghost use Rattle.std.specs.Prelude.{◌≡◌, ◌≢◌, ◌+◌, ◌<◌, ◌�
 ghost use Rattle.std.specs.List.{All};
 ghost use Rattle.section_codec.specs.Section.{section_bytes, longest_body};
 ghost use Rattle.section_codec.specs.Contents.{last_number};
-ghost use Rattle.air_model.specs.Air.{Sent, header_of, sent_section, sections_of};
+ghost use Rattle.air_model.specs.Air.{Sent, sent_section, sections_of};
 ghost use Rattle.carousel_player.specs.Laying.{AreLaid, sections_under, room_of, room_for, places_for};
-ghost use Rattle.section_codec.specs.SubTables.{IsFit};
+ghost use Rattle.section_codec.specs.SubTables.{IsFit, header_of};
 
 use crate::cycle::Placed;
 use section_codec::{LongHeader, NumberedBody, SubTable, put_section};

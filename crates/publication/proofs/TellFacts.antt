@@ -23,7 +23,7 @@ use Rattle.section_codec.specs.Segments.{segment_last_in}
 use Rattle.section_codec.proofs.ContentFacts.{last_number-from}
 use Rattle.sub_collect.proofs.Whole.{from_zero}
 use Rattle.sub_collect.proofs.Segmented.{by_segments}
-use Rattle.air_model.specs.Air.{header_of}
+use Rattle.section_codec.specs.SubTables.{header_of}
 use Rattle.eit_codec.specs.declared.eit.Eit.{Eit}
 use Rattle.eit_codec.specs.Eit.{IsTyped, IsEit}
 use Rattle.eit_codec.proofs.ReadBodies.{read_bodies}
