@@ -4,6 +4,7 @@ use Rattle.std.specs.Prelude.{Option, Some, None, IfSome, option_map, option_and
 use Rattle.std.specs.List.{AllByRecursion, slice_split}
 use Rattle.std.proofs.lemmas.Bool.{leb-true}
 use Rattle.si_lists.proofs.Truths.{second_true}
+use Rattle.si_lists.proofs.Outcomes.{then_some, map_some, if_some, any_some}
 use Rattle.si_text.specs.Decoding.{IsKept}
 use Rattle.guide_model.specs.declared.event.Genre.{Genre}
 use Rattle.input_lines.specs.Fields.{line_fields, is_line, record_of}
@@ -24,24 +25,6 @@ use Rattle.feed_edits.specs.Heads.{put_of, withdraw_of, clear_of, name_of, day_h
 use Rattle.feed_edits.specs.Edits.{on_line, first_item, items_of, with_items, edit_from, read_edit, first_edit, and_edits, edits_upto, edits_ahead}
 use Rattle.feed_edits.specs.Back.{HasGenreNumbers, HasItemNumbers}
 use Rattle.feed_edits.specs.Typed.{IsTypedItem, IsTypedEdit, IfCame, ReadEditsAreTyped, EditsAheadAreTyped}
-
--- ---- what holds of what may be made of what may be there
-
-then_some : {A B : Type 0} (P : A → Type 0) (Q : B → Type 0) (f : A → Option B) (o : Option A) → IfSome o P → ((x : A) → P x → IfSome (f x) Q) → IfSome (option_and_then f o) Q
-then_some P Q f None h g = tt
-then_some P Q f (Some x) h g = g x h
-
-map_some : {A B : Type 0} (P : A → Type 0) (Q : B → Type 0) (f : A → B) (o : Option A) → IfSome o P → ((x : A) → P x → Q (f x)) → IfSome (option_map f o) Q
-map_some P Q f None h g = tt
-map_some P Q f (Some x) h g = g x h
-
-if_some : {A : Type 0} (P : A → Type 0) (test : Bool) (a b : Option A) → IfSome a P → IfSome b P → IfSome (if test then a else b) P
-if_some P true a b h g = h
-if_some P false a b h g = g
-
-any_some : {A : Type 0} (o : Option A) → IfSome o (λ (x : A). Unit {0})
-any_some None = tt
-any_some (Some x) = tt
 
 -- ---- numbers
 
@@ -204,15 +187,15 @@ record_kept line = go (is_line line) refl
     go false e = tt
     go true e = line_kept line (is_line_back line e).kept
 
-then_came : {T U : Type 0} (P : T → Type 0) (Q : U → Type 0) (found : Found T) (f : T → Ahead → Found U) → IfCame P found → ((value : T) (behind : Ahead) → P value → IfCame Q (f value behind)) → IfCame Q (and_then found f)
+pub then_came : {T U : Type 0} (P : T → Type 0) (Q : U → Type 0) (found : Found T) (f : T → Ahead → Found U) → IfCame P found → ((value : T) (behind : Ahead) → P value → IfCame Q (f value behind)) → IfCame Q (and_then found f)
 then_came P Q (Came value behind) f h g = g value behind h
 then_came P Q (Stopped stop) f h g = tt
 
-any_came : {T : Type 0} (found : Found T) → IfCame (λ (value : T). Unit {0}) found
+pub any_came : {T : Type 0} (found : Found T) → IfCame (λ (value : T). Unit {0}) found
 any_came (Came value behind) = tt
 any_came (Stopped stop) = tt
 
-line_came : {T : Type 0} (P : T → Type 0) (n : ℕ) (found : Option T) (behind : Ahead) → IfSome found P → IfCame P (on_line n found behind)
+pub line_came : {T : Type 0} (P : T → Type 0) (n : ℕ) (found : Option T) (behind : Ahead) → IfSome found P → IfCame P (on_line n found behind)
 line_came P n None behind h = tt
 line_came P n (Some value) behind h = h
 

@@ -1,6 +1,6 @@
 // What is written reads back, and a script is read item by item.
 ghost use Rattle.journal_text.specs.Back.{EntriesReadBack, JournalsDiffer, JournalsEnd, OutcomesAreFields, OutcomesReadBack, RowsReadBack};
-ghost use Rattle.journal_text.specs.ScriptLaws.{ItemsGoOn};
+ghost use Rattle.journal_text.specs.ScriptLaws.{ItemsAreTyped, ItemsGoOn};
 
 /// The law that a line of fields reads back as the fields, whatever text stands behind it: the fields are texts, at least two,
 /// the first may begin a line, and the line has at most 16,384 bytes.
@@ -28,8 +28,10 @@ pub fn journals_differ_in_their_texts()
     ensures end { JournalsEnd }
 {}
 
-/// The law that the items ahead of a reader are the first, as [`crate::next_item`] reads it, and then those of what is ahead
-/// behind it, whatever stands behind the lines.
+/// The laws that the items ahead of a reader are the first, as [`crate::next_item`] reads it, and then those of what is ahead
+/// behind it, whatever stands behind the lines; and that each edit among them has numbers as wide as their fields, and texts that may
+/// be kept.
 pub fn items_go_on()
-    ensures { ItemsGoOn }
+    ensures on { ItemsGoOn }
+    ensures typed { ItemsAreTyped }
 {}

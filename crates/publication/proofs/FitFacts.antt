@@ -208,7 +208,7 @@ pub all_two : {X : Type 0} (P Q R : X → Type 0) → ((x : X) → P x → Q x �
 all_two P Q R f [] p q = tt
 all_two P Q R f (x ∷ xs) p q = (f x p.0 q.0, all_two P Q R f xs p.1 q.1)
 
-each_unit : {X : Type 0} (xs : List X) → AllByRecursion (λ (x : X). Unit {0}) xs
+pub each_unit : {X : Type 0} (xs : List X) → AllByRecursion (λ (x : X). Unit {0}) xs
 each_unit [] = tt
 each_unit (x ∷ xs) = (tt, each_unit xs)
 
