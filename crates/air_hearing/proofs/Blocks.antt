@@ -8,21 +8,22 @@ use Rattle.si_lists.proofs.Lists.{all_map}
 use Rattle.section_codec.specs.declared.table.Key.{Key}
 use Rattle.section_codec.specs.declared.table.NumberedBody.{NumberedBody}
 use Rattle.section_codec.specs.declared.table.SubTable.{SubTable}
-use Rattle.section_codec.specs.Contents.{last_number, part_in}
+use Rattle.section_codec.specs.Contents.{last_number, part_in, Content}
 use Rattle.section_codec.specs.Keys.{key_in}
 use Rattle.section_codec.specs.Section.{longest_body, FitsLong}
 use Rattle.section_codec.proofs.ReadBack.{section_in-section_bytes}
 use Rattle.section_codec.proofs.ContentFacts.{own_parts, below_last}
-use Rattle.version_book.specs.Airings.{Content, Airing, is_key, content_in, content_at, version_at}
-use Rattle.version_book.proofs.Versions.{is_key-same, is_key-itself}
+use Rattle.section_codec.specs.KeyOrder.{is_key}
+use Rattle.section_codec.proofs.KeyOrderFacts.{is_key-same, is_key-itself}
+use Rattle.version_book.specs.Airings.{Airing, content_in, content_at, version_at}
 use Rattle.version_book.proofs.Airs.{AreOwn-all}
 use Rattle.sub_collect.specs.Runs.{Counted, counted, latest_section, has_number, latest_with}
 use Rattle.sub_collect.specs.Completions.{is_of, of_key}
 use Rattle.sub_collect.specs.Laws.{section_with, sections_with, HoldAll, IsWith, IsNumbered}
 use Rattle.guide_receiver.specs.Counting.{is_counted, is_body_of_table, counted_by, counted_in, counted_among}
+use Rattle.section_codec.specs.SubTables.{IsFit}
 use Rattle.guide_receiver.proofs.Shown.{among-append}
 use Rattle.air_model.specs.Air.{Sent, sent_section, header_of}
-use Rattle.air_model.specs.Fit.{IsFit}
 use Rattle.air_model.specs.Repeating.{IsSentOf, AreSentOf}
 use Rattle.air_model.proofs.Repeating.{elements, of_element, around}
 use Rattle.air_hearing.specs.Counting.{raw_of, IsReadable, CanBeHeard}

@@ -9,8 +9,8 @@ use Rattle.section_codec.specs.declared.table.Key.{Key}
 use Rattle.section_codec.specs.Keys.{key_in}
 use Rattle.section_codec.specs.Section.{section_in}
 use Rattle.section_codec.proofs.KeyFacts.{IsKeyOf-key_in}
-use Rattle.version_book.specs.Airings.{is_key}
-use Rattle.version_book.proofs.Versions.{is_key-same}
+use Rattle.section_codec.specs.KeyOrder.{is_key}
+use Rattle.section_codec.proofs.KeyOrderFacts.{is_key-same}
 use Rattle.ts_demux.specs.declared.section.RawSection.{RawSection}
 use Rattle.ts_demux.specs.Sections.{sections_on, on_pid, heard_all, bytes_on}
 use Rattle.ts_demux.proofs.Adding.{order_kept}

@@ -5,10 +5,13 @@ use Rattle.std.specs.List.{All, AllByRecursion}
 use Rattle.std.proofs.lemmas.List.{map-append}
 use Rattle.si_lists.proofs.Lists.{all_map}
 use Rattle.section_codec.specs.declared.table.Key.{Key}
-use Rattle.version_book.specs.Airings.{Content, Airing, is_key, is_content, content_at, carried, changes_after, changes, version_at}
+use Rattle.section_codec.specs.KeyOrder.{is_key}
+use Rattle.section_codec.specs.Contents.{Content, is_content}
+use Rattle.version_book.specs.Airings.{Airing, content_at, carried, changes_after, changes, version_at}
+use Rattle.section_codec.proofs.SameContent.{is_content-same}
 use Rattle.version_book.specs.Book.{Kept, last_of, kept_after}
 use Rattle.version_book.specs.Slots.{next_version}
-use Rattle.version_book.proofs.Versions.{is_content-same, carried-push}
+use Rattle.version_book.proofs.Versions.{carried-push}
 use Rattle.version_book.proofs.Airs.{next_version-is, kept_after-push}
 use Rattle.ts_packets.specs.Bytes.{bytes_of_packet}
 use Rattle.ts_demux.specs.Sections.{ended_by, heard_all}
@@ -20,10 +23,10 @@ use Rattle.sub_collect.proofs.Done.{dones-go_on, keys-apart}
 use Rattle.sub_collect.proofs.Shown.{quiet, shown-once}
 use Rattle.guide_receiver.specs.declared.done.DoneKey.{DoneKey}
 use Rattle.guide_receiver.specs.Counting.{is_counted, counted_among}
+use Rattle.section_codec.specs.SubTables.{IsFit}
 use Rattle.guide_receiver.specs.Heard.{DoneAt, at_packet, counted_heard, done_key, dones_by, dones_of, dones_behind}
 use Rattle.guide_receiver.proofs.Shown.{more_shown, among-append, counted-push}
 use Rattle.air_model.specs.Air.{Aired, air, airings_of}
-use Rattle.air_model.specs.Fit.{IsFit}
 use Rattle.air_model.specs.Repeating.{RepeatingCycles}
 use Rattle.air_hearing.specs.Sending.{sections_sent, CanBeSent}
 use Rattle.air_hearing.specs.Counting.{CanBeHeard}

@@ -1,7 +1,9 @@
 -- The version changes of an airing list.
 use Rattle.std.specs.Prelude.{List, [], ◌∷◌, ◌++◌, Bool, true, false, not, if◌then◌else◌, Option, Some, None}
 use Rattle.section_codec.specs.declared.table.Key.{Key}
-use Rattle.version_book.specs.Airings.{Content, Airing, is_key, is_content, carried, content_at, version_at}
+use Rattle.section_codec.specs.KeyOrder.{is_key}
+use Rattle.section_codec.specs.Contents.{Content, is_content}
+use Rattle.version_book.specs.Airings.{Airing, carried, content_at, version_at}
 use Rattle.version_book.specs.Book.{last_of}
 use Rattle.guide_receiver.specs.declared.done.DoneKey.{DoneKey}
 

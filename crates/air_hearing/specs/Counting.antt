@@ -6,12 +6,11 @@ use Rattle.section_codec.specs.declared.table.SubTable.{SubTable}
 use Rattle.section_codec.specs.Contents.{last_number}
 use Rattle.section_codec.specs.Keys.{key_in}
 use Rattle.version_book.specs.Airings.{Airing}
-use Rattle.version_book.specs.Book.{KeysDiffer}
+use Rattle.section_codec.specs.SubTables.{KeysDiffer, IsFit}
 use Rattle.ts_demux.specs.declared.section.RawSection.{RawSection}
 use Rattle.sub_collect.specs.Laws.{IsNumbered}
 use Rattle.guide_receiver.specs.Counting.{is_body_of_table}
 use Rattle.air_model.specs.Air.{Sent, header_of}
-use Rattle.air_model.specs.Fit.{IsFit}
 
 -- a section that is sent, as it is heard whole
 abbrev pub raw_of : Sent → RawSection

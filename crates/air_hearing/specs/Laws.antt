@@ -11,7 +11,7 @@ use Rattle.sub_collect.specs.Laws.{sections_with}
 use Rattle.guide_receiver.specs.Counting.{is_counted, counted_among}
 use Rattle.guide_receiver.specs.Heard.{DoneAt, counted_heard, dones_of}
 use Rattle.air_model.specs.Air.{Aired, IsAirOf, air, sent_on, sections_of}
-use Rattle.air_model.specs.Fit.{IsFit}
+use Rattle.section_codec.specs.SubTables.{IsFit}
 use Rattle.air_model.specs.Repeating.{IsRepeatingAirOf}
 use Rattle.air_hearing.specs.Sending.{sections_sent, CanBeSent}
 use Rattle.air_hearing.specs.Counting.{IsReadable, CanBeHeard, raw_of}

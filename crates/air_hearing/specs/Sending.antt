@@ -3,7 +3,7 @@ use Rattle.std.specs.Prelude.{List, [], ◌∷◌, ◌++◌}
 use Rattle.std.specs.List.{All, AllByRecursion}
 use Rattle.version_book.specs.Airings.{Airing}
 use Rattle.air_model.specs.Air.{Sent, cycle_sections}
-use Rattle.air_model.specs.Fit.{IsFit}
+use Rattle.section_codec.specs.SubTables.{IsFit}
 
 -- the sections of the cycles of these airings behind others, in the order in which they are sent
 abbrev pub sections_sent : List Airing → List Airing → List Sent

@@ -5,19 +5,10 @@ use Rattle.std.proofs.lemmas.List.{map-append, drop-append-le}
 use Rattle.std.proofs.Math.ListN.{drop_of_length-le}
 use Rattle.std.proofs.lemmas.Bool.{cases_lt}
 use Rattle.guide_receiver.specs.declared.done.DoneKey.{DoneKey}
+use Rattle.guide_receiver.proofs.Dones.{dones_push}
 use Rattle.guide_receiver.specs.Heard.{DoneAt, Hearing, Stands, at_packet, dones_by, dones_behind, dones_of}
 use Rattle.air_monitor.specs.declared.done_line.DoneLine.{DoneLine}
 use Rattle.air_monitor.specs.Heard.{AppendsFrontOf, AreInSync, HearsBy, IsFrontOf, line_at, lines_at, lines_from}
-
-dones_push : (past xs : List (List ℕ)) (p : List ℕ) → dones_behind past (xs ++ p ∷ []) ≡ dones_behind past xs ++ map (at_packet (length (past ++ xs))) (dones_by (past ++ xs) p)
-dones_push past [] p =
-    append-nil (map (at_packet (length past)) (dones_by past p)) ∙ ap (λ (q : List (List ℕ)). map (at_packet (length q)) (dones_by q p)) (sym (append-nil past))
-dones_push past (x ∷ xs) p =
-    let here = map (at_packet (length past)) (dones_by past x) in
-    let rest = dones_behind (past ++ x ∷ []) xs in
-    ap (λ t. here ++ t) (dones_push (past ++ x ∷ []) xs p)
-    ∙ ap (λ (q : List (List ℕ)). here ++ (rest ++ map (at_packet (length q)) (dones_by q p))) (append_assoc past (x ∷ []) xs)
-    ∙ sym (append_assoc here rest (map (at_packet (length (past ++ x ∷ xs))) (dones_by (past ++ x ∷ xs) p)))
 
 numbered : (join n : ℕ) (dones : List DoneKey) → map (λ (d : DoneAt). line_at (join + d.packet) d.done) (map (at_packet n) dones) ≡ lines_at (join + n) dones
 numbered join n [] = refl

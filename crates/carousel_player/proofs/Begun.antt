@@ -8,13 +8,14 @@ use Rattle.section_codec.specs.declared.table.SubTable.{SubTable}
 use Rattle.section_codec.specs.Section.{longest_body}
 use Rattle.section_codec.proofs.ReadBack.{length-section_bytes}
 use Rattle.section_codec.specs.Tables.{is_eit}
-use Rattle.version_book.specs.Airings.{Content, CycleForm, Airing, version_at}
+use Rattle.section_codec.specs.Contents.{Content}
+use Rattle.version_book.specs.Airings.{CycleForm, Airing, version_at}
 use Rattle.version_book.specs.Book.{aired, versions_of}
 use Rattle.air_model.specs.Air.{Sent, sent_section, header_of, sections_of, cycle_sections}
 use Rattle.air_model.specs.Making.{each_alone}
 use Rattle.carousel_player.specs.declared.cycle.Placed.{Placed}
+use Rattle.section_codec.specs.SubTables.{IsFit}
 use Rattle.carousel_player.specs.Laying.{IsPlaced, IsBegun, IsUnderWay, sent_at, places_from, AreLaid, sections_under}
-use Rattle.air_model.specs.Fit.{IsFit}
 use Rattle.carousel_player.proofs.Laid.{laid_sent}
 
 -- a section that can be sent

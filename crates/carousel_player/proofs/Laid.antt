@@ -6,8 +6,7 @@ use Rattle.std.proofs.lemmas.List.Concat.{flat_map-append}
 use Rattle.std.proofs.Math.Seq.{drop-append_seam, take-append_seam}
 use Rattle.section_codec.specs.declared.table.NumberedBody.{NumberedBody}
 use Rattle.section_codec.specs.declared.table.SubTable.{SubTable}
-use Rattle.version_book.specs.Airings.{Content}
-use Rattle.section_codec.specs.Contents.{last_number}
+use Rattle.section_codec.specs.Contents.{last_number, Content}
 use Rattle.air_model.specs.Air.{Sent, sent_section, sections_of}
 use Rattle.carousel_player.specs.declared.cycle.Placed.{Placed}
 use Rattle.carousel_player.specs.Laying.{sent_at, places_from, AreLaid, sections_under, room_of, room_for, places_for}

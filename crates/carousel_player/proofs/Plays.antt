@@ -1,16 +1,17 @@
 -- What a player stands for, from call to call.
-use Rattle.std.proofs.Common.{◌≡◌, ℕ, suc, ◌+◌, ◌<◌, List, [], ◌∷◌, ◌++◌, Result, Ok, Err, Option, length, refl, sym, ap, ap₂, ◌∙◌, subst, arith, map, take, append_assoc, append-nil, length-append}
+use Rattle.std.proofs.Common.{◌≡◌, ℕ, suc, ◌<◌, List, [], ◌∷◌, ◌++◌, Result, Ok, Err, Option, length, refl, sym, ap, ap₂, ◌∙◌, subst, arith, map, take, append_assoc, append-nil, length-append}
 use Rattle.std.specs.Prelude.{flat_map, OnOk}
 use Rattle.std.specs.List.{AllByRecursion, All}
 use Rattle.std.specs.Io.KnownBytes.{Appends}
 use Rattle.std.proofs.KnownBytes.{Appends-trans}
-use Rattle.std.proofs.Math.Seq.{take-append-add}
 use Rattle.std.proofs.lemmas.List.{take-append-le}
 use Rattle.std.proofs.lemmas.List.Concat.{flat_map-append}
 use Rattle.si_causes.specs.Causes.{AppendsFront}
+use Rattle.si_causes.proofs.CauseFacts.{front_behind}
 use Rattle.std.proofs.lemmas.List.Elements.{recursion_from_All}
 use Rattle.section_codec.specs.declared.table.SubTable.{SubTable}
-use Rattle.version_book.specs.Airings.{Content, CycleForm, Airing, version_at}
+use Rattle.section_codec.specs.Contents.{Content}
+use Rattle.version_book.specs.Airings.{CycleForm, Airing, version_at}
 use Rattle.version_book.specs.Book.{Stands, aired}
 use Rattle.ts_packets.specs.Packets.{Piece, pieces, alone}
 use Rattle.ts_packets.specs.Bytes.{Packet, HasFields, bytes_of_packet, packet_on, packets_alone}
@@ -19,8 +20,8 @@ use Rattle.air_model.specs.Air.{Sent, Aired, air, airings_of, air_bytes, IsAirOf
 use Rattle.air_model.specs.Making.{each_alone, counted}
 use Rattle.air_model.proofs.Counted.{PidsFit, counted-append, length-counted}
 use Rattle.air_model.proofs.Airs.{air-push, air_bytes-push, airings_of-push, air_more-alone}
+use Rattle.section_codec.specs.SubTables.{IsFit}
 use Rattle.carousel_player.specs.Sending.{Sends}
-use Rattle.air_model.specs.Fit.{IsFit}
 use Rattle.carousel_player.specs.Playing.{Playing, AtEnd, Within, Begins, GaveUp}
 use Rattle.carousel_player.proofs.Sendings.{all-append, all-front}
 
@@ -159,14 +160,6 @@ all_out xs x rest old new bytes w s same none =
     let ended : counted (past ++ front) new.left ≡ [] = ap (counted (past ++ front)) none in
     let whole : rest ≡ front = h.parts ∙ ap (λ (l : List Packet). front ++ l) ended ∙ append-nil front in
     (Within-end xs x new (subst (λ (l : List Packet). Within xs x l new) ended h.within), h.bytes_are ∙ ap (flat_map bytes_of_packet) (sym whole))
-
--- a front behind what was appended is a front of all
-pub front_behind : (a b c : Option (List ℕ)) (sent due : List ℕ) → Appends a b sent → AppendsFront b c due → AppendsFront a c (sent ++ due)
-front_behind a b c sent due p q = (
-  length sent + q.0,
-  omega (arith, q.1, length-append sent due),
-  subst (Appends a c) (sym (take-append-add sent due q.0)) (Appends-trans a b c sent (take q.0 due) p q.2),
-)
 
 -- the sink failed behind a front of the rest
 pub gave_up : (xs : List Aired) (x : Aired) (rest : List Packet) (old new : Playing) (bytes : List ℕ) (a c : Option (List ℕ)) → Within xs x rest old → Sends old.left new.left old.counters new.counters bytes → new.book ≡ old.book

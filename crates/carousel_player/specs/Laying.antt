@@ -4,7 +4,7 @@ use Rattle.std.specs.List.{AllByRecursion}
 use Rattle.ts_packets.specs.Packets.{packets_of}
 use Rattle.ts_packets.specs.Bytes.{Packet}
 use Rattle.section_codec.specs.declared.table.SubTable.{SubTable}
-use Rattle.version_book.specs.Airings.{Content}
+use Rattle.section_codec.specs.Contents.{Content}
 use Rattle.air_model.specs.Air.{Sent, sections_of}
 use Rattle.air_model.specs.Making.{each_alone}
 use Rattle.carousel_player.specs.declared.cycle.Placed.{Placed}

@@ -9,7 +9,7 @@ ghost use Rattle.air_model.specs.Air.{cycle_sections};
 ghost use Rattle.air_model.specs.Making.{each_alone};
 ghost use Rattle.carousel_player.specs.Laying.{IsPlaced, room_for, places_for};
 ghost use Rattle.carousel_player.specs.Sending.{PutsFirst};
-ghost use Rattle.air_model.specs.Fit.{AreFit};
+ghost use Rattle.section_codec.specs.SubTables.{AreFit};
 
 use crate::laying::{lay_tables, room_for};
 use section_codec::{SubTable, Tables};

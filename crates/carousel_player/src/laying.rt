@@ -1,15 +1,14 @@
 // Sections laid end to end in one buffer.
-ghost use Rattle.std.specs.Prelude.{◌≡◌, ◌≢◌, ◌+◌, ◌<◌, ◌≤◌, ◌++◌, [], ◌∷◌, List, ℕ, length, vec_len, vec_capacity, IfSome, if◌then◌else◌};
+ghost use Rattle.std.specs.Prelude.{◌≡◌, ◌≢◌, ◌+◌, ◌<◌, ◌≤◌, ◌++◌, [], ◌∷◌, List, ℕ, length, vec_len, vec_capacity, IfSome};
 ghost use Rattle.std.specs.List.{All};
-ghost use Rattle.section_codec.specs.Section.{section_bytes, long_flags, current_bit, longest_body};
+ghost use Rattle.section_codec.specs.Section.{section_bytes, longest_body};
 ghost use Rattle.section_codec.specs.Contents.{last_number};
 ghost use Rattle.air_model.specs.Air.{Sent, header_of, sent_section, sections_of};
 ghost use Rattle.carousel_player.specs.Laying.{AreLaid, sections_under, room_of, room_for, places_for};
-ghost use Rattle.air_model.specs.Fit.{IsFit};
+ghost use Rattle.section_codec.specs.SubTables.{IsFit};
 
 use crate::cycle::Placed;
-use section_codec::{LongHeader, NumberedBody, SubTable};
-use si_base::crc32;
+use section_codec::{LongHeader, NumberedBody, SubTable, put_section};
 
 /// How many bytes the sections of these sub-tables have and how many sections there are, where these numbers fit.
 pub(crate) fn room_for(tables: &[SubTable]) -> Option<(usize, usize)>
@@ -115,58 +114,4 @@ fn lay_section(
     put_section(bytes, header, body);
     let len = bytes.len() - start;
     placed.push(Placed { pid, start, len }).unwrap();
-}
-
-// Appends the bytes of a section in the long form to a buffer that has room for them, so that it takes no memory.
-fn put_section(out: &mut Vec<u8>, header: &LongHeader, body: &[u8])
-    requires version { header.now.version < 32 }
-    requires within { length body.now ≤ 4084 }
-    requires room { vec_len out.old + (12 + length body.now) ≤ vec_capacity out.old }
-    ensures items { out.new.items ≡ out.old.items ++ section_bytes header.now body.now }
-    ensures len { vec_len out.new ≡ vec_len out.old + (12 + length body.now) }
-    ensures capacity { vec_capacity out.old ≤ vec_capacity out.new }
-{
-    let start = out.len();
-    let length = long_flags(header.table) + 9 + body.len() as u16;
-    put(out, &[header.table]);
-    put(out, &length.to_be_bytes());
-    put(out, &header.ext.to_be_bytes());
-    put(
-        out,
-        &[
-            0xC0 + 2 * header.version + current_bit(header.current),
-            header.number,
-            header.last,
-        ],
-    );
-    put(out, body);
-    let (_, section) = out.as_slice().split_at(start);
-    let crc = crc32(section);
-    put(out, &crc.to_be_bytes());
-}
-
-fn put(out: &mut Vec<u8>, bytes: &[u8])
-    requires room { vec_len out.old + length bytes.now ≤ vec_capacity out.old }
-    ensures items { out.new.items ≡ out.old.items ++ bytes.now }
-    ensures len { vec_len out.new ≡ vec_len out.old + length bytes.now }
-    ensures capacity { vec_capacity out.old ≤ vec_capacity out.new }
-{
-    out.extend_from_slice(bytes).unwrap();
-}
-
-// The second and third byte of a section, less section_length.
-fn long_flags(table: u8) -> u16
-    ensures { result ≡ long_flags table }
-{
-    if table == 0x00 || table == 0x02 {
-        0xB000
-    } else {
-        0xF000
-    }
-}
-
-fn current_bit(current: bool) -> u8
-    ensures { result ≡ current_bit current }
-{
-    if current { 1 } else { 0 }
 }

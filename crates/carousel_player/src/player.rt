@@ -5,7 +5,7 @@ ghost use Rattle.si_causes.specs.Causes.{HasCause};
 ghost use Rattle.ts_packets.specs.Bytes.{Packet, bytes_of_packet};
 ghost use Rattle.version_book.specs.Book.{aired};
 ghost use Rattle.air_model.specs.Air.{Aired};
-ghost use Rattle.air_model.specs.Fit.{AreFit};
+ghost use Rattle.section_codec.specs.SubTables.{AreFit};
 ghost use Rattle.carousel_player.specs.Playing.{AtEnd, Within, Begins, GaveUp, form_of};
 
 use crate::cycle::Cycle;

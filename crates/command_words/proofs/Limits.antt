@@ -2,6 +2,7 @@
 use Rattle.std.proofs.Common.{◌≡◌, ◌≤◌, ℕ, true, false, List, [], ◌∷◌, length, Option, Some, None, refl, sym, ap, ◌∙◌, subst, arith}
 use Rattle.std.specs.Prelude.{Bool, ◌&&◌, nat_le, filter_map, option_map, option_and_then, bytes_eq, codes, string_bytes, String, if◌then◌else◌}
 use Rattle.std.specs.List.{AllByRecursion, list_any, before_first, after_first}
+use Rattle.std.proofs.lemmas.Bool.{and_parts}
 use Rattle.std.proofs.lemmas.Bool.Decides.{nat_tests}
 use Rattle.std.proofs.lemmas.List.{length-map}
 use Rattle.input_lines.specs.Numbers.{in_range, is_numeral, number_in, value_from}
@@ -19,12 +20,8 @@ abbrev IfSetting : Option Setting → Type 0
 IfSetting None = Unit {0}
 IfSetting (Some setting) = IsSettingWithin setting
 
-and_right : (a b : Bool) → (a && b) ≡ true → b ≡ true
-and_right true b e = e
-and_right false b e = cc e
-
 in_range_high : (low high n : ℕ) → in_range low high n ≡ true → n ≤ high
-in_range_high low high n e = let b = and_right (nat_le low n) (nat_le n high) e in grind (arith, nat_tests)
+in_range_high low high n e = let b = (and_parts (nat_le low n) (nat_le n high) e).1 in grind (arith, nat_tests)
 
 cycles_if : (n : ℕ) (is : Bool) → (is ≡ true → n ≤ 1000) → IfSetting (option_map Cycles (if is then Some n else None))
 cycles_if n true h = h refl

@@ -3,9 +3,8 @@ ghost use Rattle.std.specs.Prelude.{◌≡◌, ◌*◌, ◌≤◌, ◌++◌, len
 ghost use Rattle.std.specs.List.{All};
 ghost use Rattle.desc_event.specs.Content.{content, content_in, HasNibbles};
 
-use desc_parts::put;
 use guide_model::{Genre, Genres};
-use si_base::Items;
+use si_base::{Items, put};
 use std::alloc::{AllocError, Global};
 
 /// descriptor_tag of a content_descriptor.

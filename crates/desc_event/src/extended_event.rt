@@ -3,8 +3,8 @@ ghost use Rattle.std.specs.Prelude.{◌≡◌, ◌+◌, ◌<◌, ◌≤◌, ◌+
 ghost use Rattle.desc_parts.specs.Descriptors.{descriptor};
 ghost use Rattle.desc_event.specs.ExtendedEvent.{extended_event, extended_event_fields, extended_event_in};
 
-use desc_parts::{Coded, behind_length, put, split_length};
-use si_base::{Bytes, Items};
+use desc_parts::{Coded, behind_length, split_length};
+use si_base::{Bytes, Items, put};
 use std::alloc::{AllocError, Global};
 
 /// What an extended_event_descriptor holds: descriptor_number and last_descriptor_number (4 bits each), the language

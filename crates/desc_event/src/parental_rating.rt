@@ -2,9 +2,8 @@
 ghost use Rattle.std.specs.Prelude.{◌≡◌, ◌*◌, ◌≤◌, ◌++◌, length, IfOk, OnOk, OnErr, vec_len, vec_capacity, ◌+◌};
 ghost use Rattle.desc_event.specs.ParentalRating.{parental_rating, parental_rating_in};
 
-use desc_parts::put;
 use guide_model::Rating;
-use si_base::Items;
+use si_base::{Items, put};
 use std::alloc::{AllocError, Global};
 
 /// Ratings in the order in which they stand.

@@ -4,7 +4,8 @@ ghost use Rattle.si_text.specs.Decoding.{shown_bytes};
 ghost use Rattle.desc_parts.specs.Descriptors.{descriptor};
 ghost use Rattle.desc_event.specs.ShortEvent.{short_event, short_event_fields, short_event_in};
 
-use desc_parts::{Coded, behind_length, put, split_length};
+use desc_parts::{Coded, behind_length, split_length};
+use si_base::put;
 use si_text::{Shown, decode_text};
 use std::alloc::{AllocError, Global};
 

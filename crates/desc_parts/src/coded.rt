@@ -4,7 +4,7 @@ ghost use Rattle.si_text.specs.Coding.{coded_text};
 ghost use Rattle.si_text.specs.Decoding.{shown_bytes};
 ghost use Rattle.desc_parts.specs.Lengths.{with_length};
 
-use crate::room::put;
+use si_base::put;
 use si_text::{Shown, coded_len};
 use std::marker::Model;
 

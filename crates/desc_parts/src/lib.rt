@@ -3,18 +3,15 @@
 //!
 //! The layers above use: [`read_descriptors`] gives the descriptors of a loop, of which there is one list at most
 //! (`descriptors_are_unique`); [`Coded`] writes a text, alone or behind its length, into room that was taken before, and
-//! [`split_length`] and
-//! [`behind_length`] read what stands behind a length back (`lengths_read_back`).
+//! [`split_length`] and [`behind_length`] read what stands behind a length back (`lengths_read_back`).
 #![tactic(auto)]
 
 mod coded;
 mod descriptors;
 mod laws;
 mod lengths;
-mod room;
 
 pub use coded::Coded;
 pub use descriptors::{RawDesc, RawDescs, read_descriptors};
 pub use laws::{descriptors_are_unique, lengths_read_back};
 pub use lengths::{behind_length, split_length};
-pub use room::put;

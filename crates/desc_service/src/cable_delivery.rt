@@ -2,8 +2,8 @@
 ghost use Rattle.std.specs.Prelude.{◌≡◌, ◌+◌, ◌*◌, ◌/◌, ◌%◌, ◌≤◌, ◌++◌, Ok, length, slice_index, OnOk, OnErr};
 ghost use Rattle.desc_service.specs.CableDelivery.{FitsCable, cable_delivery_system, cable_in, has_digits, is_decimal, two_digits};
 
-use desc_parts::put;
 use guide_model::Cable;
+use si_base::put;
 use std::alloc::AllocError;
 
 /// descriptor_tag of a cable_delivery_system_descriptor.

@@ -2,8 +2,7 @@
 ghost use Rattle.std.specs.Prelude.{◌≡◌, ◌*◌, ◌≤◌, ◌++◌, length, IfOk, OnOk, OnErr, vec_len, vec_capacity, ◌+◌};
 ghost use Rattle.desc_service.specs.Languages.{iso_639_language, languages_in};
 
-use desc_parts::put;
-use si_base::Items;
+use si_base::{Items, put};
 use std::alloc::{AllocError, Global};
 
 /// Language codes of three letters (ISO 639-2), in the order in which they stand.

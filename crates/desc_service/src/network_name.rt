@@ -3,7 +3,8 @@ ghost use Rattle.std.specs.Prelude.{◌≡◌, ◌≤◌, ◌++◌, length, Some
 ghost use Rattle.si_text.specs.Decoding.{shown_bytes};
 ghost use Rattle.desc_service.specs.NetworkName.{network_name, network_name_in};
 
-use desc_parts::{Coded, put};
+use desc_parts::Coded;
+use si_base::put;
 use si_text::{Shown, decode_text};
 use std::alloc::{AllocError, Global};
 

@@ -3,7 +3,8 @@ ghost use Rattle.std.specs.Prelude.{◌≡◌, ◌+◌, ◌≤◌, ◌++◌, len
 ghost use Rattle.si_text.specs.Decoding.{shown_bytes};
 ghost use Rattle.desc_service.specs.Service.{service_descriptor, service_in};
 
-use desc_parts::{Coded, behind_length, put, split_length};
+use desc_parts::{Coded, behind_length, split_length};
+use si_base::put;
 use si_text::{Shown, decode_text};
 use std::alloc::{AllocError, Global};
 

@@ -2,8 +2,7 @@
 ghost use Rattle.std.specs.Prelude.{◌≡◌, ◌*◌, ◌≤◌, ◌++◌, length, IfOk, OnOk, OnErr, vec_len, vec_capacity, ◌+◌};
 ghost use Rattle.desc_service.specs.ServiceList.{service_list, service_list_in};
 
-use desc_parts::put;
-use si_base::{Copies, Items};
+use si_base::{Copies, Items, put};
 use std::alloc::{AllocError, Global};
 
 /// A service and its service_type (EN 300 468, 6.2.33).

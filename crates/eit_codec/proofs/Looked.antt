@@ -1,6 +1,7 @@
 -- Bodies, looked at from the front.
 use Rattle.std.proofs.Common.{◌≡◌, ℕ, zero, suc, ◌<◌, ◌≤◌, Bool, true, false, ◌&&◌, List, [], ◌∷◌, length, drop, refl, sym, ap, ◌∙◌, arith}
 use Rattle.std.proofs.lemmas.List.{length-drop}
+use Rattle.si_lists.proofs.Truths.{and_false}
 use Rattle.eit_codec.specs.Bodies.{entry_length, begins_with_entry, are_entries}
 
 -- what is left decides, and n bounds how many there are
@@ -14,9 +15,6 @@ all_left test bytes = record { n = length bytes; enough = omega arith; same = re
 
 and_true : (a b : Bool) → a ≡ true → (a && b) ≡ b
 and_true a b e = ap (λ (x : Bool). x && b) e
-
-and_false : (a b : Bool) → a ≡ false → (a && b) ≡ false
-and_false a b e = ap (λ (x : Bool). x && b) e
 
 -- ---- entries
 

@@ -4,6 +4,7 @@ use Rattle.std.specs.Prelude.{is_some}
 use Rattle.std.specs.List.{flat_map}
 use Rattle.std.proofs.lemmas.List.{take_at, drop_at}
 use Rattle.std.specs.Cmp.Derive.{both_true}
+use Rattle.si_lists.proofs.Lists.{three_of}
 use Rattle.si_base.specs.Fields.{two}
 use Rattle.si_time.specs.Readings.{moment_from_bcd, duration_from_bcd}
 use Rattle.desc_parts.specs.declared.descriptors.RawDesc.{RawDesc}
@@ -35,13 +36,6 @@ five (a ∷ b ∷ c ∷ d ∷ []) e = absurd (omega arith)
 five (a ∷ b ∷ c ∷ d ∷ f ∷ []) e = (a, b, c, d, f, refl)
 five (a ∷ b ∷ c ∷ d ∷ f ∷ g ∷ xs) e = absurd (omega arith)
 
-three : (xs : List ℕ) → length xs ≡ 3 → (a : ℕ) × (b : ℕ) × (c : ℕ) × (xs ≡ a ∷ b ∷ c ∷ [])
-three [] e = absurd (omega arith)
-three (a ∷ []) e = absurd (omega arith)
-three (a ∷ b ∷ []) e = absurd (omega arith)
-three (a ∷ b ∷ c ∷ []) e = (a, b, c, refl)
-three (a ∷ b ∷ c ∷ d ∷ xs) e = absurd (omega arith)
-
 -- these bytes begin with an entry, and this is what stands behind it
 abbrev Begins : List ℕ → List ℕ → Type 0
 Begins bytes rest = (begins_with_entry bytes ≡ true) × (drop (entry_length bytes) bytes ≡ rest)
@@ -63,7 +57,7 @@ by_bytes i j a b c d f x y z size start seconds ds rest small told is_start is_s
 one_entry : (e : Entry) (event : ScreenEvent) (rest : List ℕ) → IsEvent e event → Begins (entry_bytes e ++ rest) rest
 one_entry e event rest is =
     let t = five e.time is.fits.time in
-    let d = three e.duration is.fits.duration in
+    let d = three_of e.duration is.fits.duration in
     let size = 4096 * e.flags + length e.descriptors in
     let at = ap₂ (λ (time duration : List ℕ). two e.id ++ time ++ duration ++ two size ++ e.descriptors ++ rest) t.5 d.3 in
     let are : are_descriptors (length e.descriptors) e.descriptors ≡ true =

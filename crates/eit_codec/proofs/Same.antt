@@ -2,7 +2,7 @@
 use Rattle.std.proofs.Common.{◌≡◌, ℕ, ◌+◌, ◌*◌, ◌<◌, List, [], ◌∷◌, ◌++◌, length, refl, sym, ap, subst, ◌∙◌, append_assoc, arith}
 use Rattle.std.specs.List.{flat_map}
 use Rattle.std.proofs.lemmas.List.{append-nil}
-use Rattle.si_lists.proofs.Lists.{same_parts}
+use Rattle.si_lists.proofs.Lists.{flat_map-next, same_parts}
 use Rattle.si_base.specs.Fields.{two}
 use Rattle.table_entries.proofs.Same.{same_two}
 use Rattle.guide_model.specs.declared.screen.ScreenEvent.{ScreenEvent}
@@ -75,18 +75,11 @@ AreEvents-append [] (v ∷ events) entry event p q = absurd p
 AreEvents-append (f ∷ front) [] entry event p q = absurd p
 AreEvents-append (f ∷ front) (v ∷ events) entry event p q = (p.0, AreEvents-append front events entry event p.1 q)
 
-one_more : (front : List Entry) (entry : Entry) (rest : List ℕ) → flat_map entry_bytes (front ++ entry ∷ []) ++ rest ≡ flat_map entry_bytes front ++ (entry_bytes entry ++ rest)
-one_more [] entry rest = ap (λ (xs : List ℕ). xs ++ rest) (append-nil (entry_bytes entry))
-one_more (f ∷ front) entry rest =
-    append_assoc (entry_bytes f) (flat_map entry_bytes (front ++ entry ∷ [])) rest
-    ∙ ap (λ (xs : List ℕ). entry_bytes f ++ xs) (one_more front entry rest)
-    ∙ sym (append_assoc (entry_bytes f) (flat_map entry_bytes front) (entry_bytes entry ++ rest))
-
 pub next_so_far : (bytes rest behind : List ℕ) (events : List ScreenEvent) (entry : Entry) (event : ScreenEvent) → AreSoFar bytes rest events → rest ≡ entry_bytes entry ++ behind → IsEvent entry event
     → AreSoFar bytes behind (events ++ event ∷ [])
 next_so_far bytes rest behind events entry event so_far e is = record {
   front = so_far.front ++ entry ∷ [];
-  whole = so_far.whole ∙ ap (λ (xs : List ℕ). flat_map entry_bytes so_far.front ++ xs) e ∙ sym (one_more so_far.front entry behind);
+  whole = so_far.whole ∙ ap (λ (xs : List ℕ). flat_map entry_bytes so_far.front ++ xs) e ∙ sym (flat_map-next entry_bytes so_far.front entry behind);
   shown = AreEvents-append so_far.front events entry event so_far.shown is;
 }
 

@@ -23,8 +23,10 @@ use Rattle.guide_receiver.specs.Counting.{is_counted}
 use Rattle.guide_receiver.specs.Heard.{DoneAt, dones_of}
 use Rattle.section_codec.specs.declared.table.Key.{Key}
 use Rattle.section_codec.specs.declared.table.SubTable.{SubTable}
-use Rattle.version_book.specs.Airings.{Content, Airing, is_key, content_in, carried}
-use Rattle.version_book.proofs.Versions.{is_key-same}
+use Rattle.section_codec.specs.KeyOrder.{is_key}
+use Rattle.section_codec.proofs.KeyOrderFacts.{is_key-same}
+use Rattle.section_codec.specs.Contents.{Content}
+use Rattle.version_book.specs.Airings.{Airing, content_in, carried}
 use Rattle.air_hearing.specs.Counting.{CanBeHeard}
 use Rattle.air_hearing.specs.Changes.{is_new_at, version_with, changes_of, is_done_key}
 use Rattle.air_hearing.proofs.Told.{changes_heard}

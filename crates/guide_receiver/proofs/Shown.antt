@@ -5,7 +5,7 @@ use Rattle.std.specs.Prelude.{option_to_list}
 use Rattle.std.proofs.lemmas.List.{take_more}
 use Rattle.ts_demux.specs.declared.section.RawSection.{RawSection}
 use Rattle.ts_demux.specs.Sections.{ended_by, heard_each, heard_all}
-use Rattle.version_book.specs.Airings.{Content}
+use Rattle.section_codec.specs.Contents.{Content}
 use Rattle.sub_collect.specs.Runs.{Counted, completed}
 use Rattle.sub_collect.specs.Completions.{done_at, dones, latest_of, repeats, of_key, shown_after, shown_at}
 use Rattle.sub_collect.specs.declared.completed.Completed.{Completed}

@@ -7,6 +7,7 @@ use native.Mathlib.Decide.{ℕ_discrete, dec_le}
 use mathlib.Core.Logic.{dite}
 use Rattle.mux_config.specs.declared.mux.Mux.{Mux}
 use Rattle.si_causes.specs.Causes.{Rose}
+use Rattle.si_causes.proofs.CauseFacts.{Appends-nothing}
 use Rattle.headend_live.specs.OnAir.{HasAirCause}
 use Rattle.si_causes.specs.Reading.{Reading}
 use Rattle.carousel_player.specs.Playing.{Playing, AtEnd}
@@ -25,10 +26,6 @@ use Rattle.headend_live.specs.Whole.{NoSwaps, SwapsNot}
 use Rattle.headend_live.specs.Live.{callers_back, new_pass, new_control, new_player, jobs_back, FeedsRan, PlayedAs}
 use Rattle.headend_live.proofs.Cutting.{control_no_swaps, feeds_apart, feeds_have, feeds_swaps, ran, zip_of, Zip}
 
-appends_none : (k : Option (List ℕ)) → Appends k k []
-appends_none None = tt
-appends_none (Some xs) = sym (append-nil xs)
-
 pub swaps_did : (mux : Mux) (n : ℕ) (v w : View) (old new : Playing) (mid now : Option (List ℕ)) (end : Result (Unit {0}) SendStop) → SwapsPlayed mux n v w old new mid now end → (k : ℕ) × Did (swaps_by v.own.low k) v w
 swaps_did mux n v w old new mid now (Ok u) (d, on) = (n, d)
 swaps_did mux n v w old new mid now (Err Air) (k, less, (d, on)) = (suc k, d)
@@ -37,7 +34,7 @@ swaps_did mux n v w old new mid now (Err Memory) (k, le, (d, on)) = (k, d)
 -- what a player that had sent nothing has sent
 module _ (mux : Mux) (v w : View) (old new : Playing) (mid now : Option (List ℕ)) (empty : v.own.made ≡ []) (ready : AtEnd [] old) (quota : old.quota ≡ mux.quota) where
   none_played : HasPlayedTo mux v.seen [] old mid mid
-  none_played = ([], ready, (λ journal p. refl), tt, quota, appends_none mid)
+  none_played = ([], ready, (λ journal p. refl), tt, quota, Appends-nothing mid)
 
   made_is : (k : ℕ) → (d : Did (swaps_by v.own.low k) v w) → w.own.made ≡ d.added
   made_is k d = ap (λ (z : View). z.own.made) d.gained ∙ ap (λ (l : List Entry). l ++ d.added) empty

@@ -201,7 +201,7 @@ sound_from (line ∷ lines) before mux behind f e =
 pub block_sound : (n : ℕ) (lines : List (List ℕ)) (mux : Mux) (behind : List (ℕ × List ℕ)) → block_from [] (record_lines n lines) ≡ Whole mux behind → IsSoundWithIds mux
 block_sound n lines mux behind e = sound_from (record_lines n lines) [] mux behind fine_none e
 
-whole_before : (block : Block) (end : TextEnd) (mux : Mux) (behind : List (ℕ × List ℕ)) → at_text_end block end ≡ Whole mux behind → block ≡ Whole mux behind
+pub whole_before : (block : Block) (end : TextEnd) (mux : Mux) (behind : List (ℕ × List ℕ)) → at_text_end block end ≡ Whole mux behind → block ≡ Whole mux behind
 whole_before (Faulty f) end mux behind e = e
 whole_before (Whole made more) end mux behind e = e
 whole_before Unended AtEnd mux behind e = cc e

@@ -1,3 +1,5 @@
 pub mod ReadBack
 pub mod KeyFacts
 pub mod ContentFacts
+pub mod KeyOrderFacts
+pub mod SameContent

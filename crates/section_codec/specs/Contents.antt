@@ -1,6 +1,16 @@
--- The numbers and bodies of a sub-table's content (ISO/IEC 13818-1, 2.4.4.7 to 2.4.4.9; EN 300 468, 5.1.1).
-use Rattle.std.specs.Prelude.{ℕ, zero, suc, ◌+◌, ◌<◌, ◌==◌, if◌then◌else◌, List, [], ◌∷◌, map, Option, Some, None}
+-- The content of a sub-table: its numbers and bodies (ISO/IEC 13818-1, 2.4.4.7 to 2.4.4.9; EN 300 468, 5.1.1).
+use Rattle.std.specs.Prelude.{◌≡◌, ◌↔◌, ℕ, zero, suc, ◌+◌, ◌<◌, ◌==◌, ◌&&◌, Bool, true, false, if◌then◌else◌, List, [], ◌∷◌, map, Option, Some, None, bytes_eq}
 use Rattle.section_codec.specs.declared.table.NumberedBody.{NumberedBody}
+
+-- what a sub-table carries: the number and the body of each of its sections, in order
+abbrev pub Content : Type 0
+Content = List NumberedBody
+
+abbrev pub is_content : Content → Content → Bool
+is_content [] [] = true
+is_content (x ∷ xs) (y ∷ ys) = x.number == y.number && bytes_eq x.body y.body && is_content xs ys
+is_content [] (y ∷ ys) = false
+is_content (x ∷ xs) [] = false
 
 -- the numbers of these sections
 abbrev pub numbers : List NumberedBody → List ℕ
@@ -27,3 +37,7 @@ Ascend (s ∷ t ∷ ss) = (s.number < t.number) × Ascend (t ∷ ss)
 abbrev pub part_in : ℕ → List NumberedBody → Option (List ℕ)
 part_in n [] = None
 part_in n (s ∷ ss) = if n == s.number then Some s.body else part_in n ss
+
+-- Contents are compared as values: number by number and body by body.
+abbrev pub ContentsAreCompared : Type 0
+ContentsAreCompared = (a b : Content) → (is_content a b ≡ true) ↔ (a ≡ b)

@@ -1,10 +1,10 @@
 // Sections as they are written.
-ghost use Rattle.std.specs.Prelude.{◌≡◌, ◌≢◌, ◌<◌, ◌≤◌, length, false, IfOk};
+ghost use Rattle.std.specs.Prelude.{◌≡◌, ◌≢◌, ◌+◌, ◌<◌, ◌≤◌, ◌++◌, length, false, vec_len, vec_capacity, IfOk};
 ghost use Rattle.section_codec.specs.Tables.{has_long_form};
 ghost use Rattle.section_codec.specs.Section.{section_bytes, short_bytes, longest_body, long_flags, current_bit};
 
 use crate::section::LongHeader;
-use si_base::{Bytes, Items, crc32};
+use si_base::{Bytes, Items, crc32, put};
 use std::alloc::{AllocError, Global};
 
 /// The bytes of a section in the long form, with its CRC (ISO/IEC 13818-1, 2.4.4; EN 300 468, 5.1.1).
@@ -18,17 +18,37 @@ pub fn write_long(alloc: Global, header: &LongHeader, body: &[u8]) -> Result<Byt
     ensures { IfOk result (λ bytes. bytes ≡ section_bytes header.now body.now) }
 {
     let mut out = Vec::with_capacity(alloc, 12 + body.len())?;
-    let flags = long_flags(header.table) + 9 + body.len() as u16;
-    out.push(header.table)?;
-    out.extend_from_slice(&flags.to_be_bytes())?;
-    out.extend_from_slice(&header.ext.to_be_bytes())?;
-    out.push(0xC0 + 2 * header.version + current_bit(header.current))?;
-    out.push(header.number)?;
-    out.push(header.last)?;
-    out.extend_from_slice(body)?;
-    let crc = crc32(&out);
-    out.extend_from_slice(&crc.to_be_bytes())?;
+    put_section(&mut out, header, body);
     Ok(Items::of(out))
+}
+
+/// Appends the bytes of a section in the long form to a buffer that has room for them, so that it takes no memory (ISO/IEC 13818-1,
+/// 2.4.4; EN 300 468, 5.1.1). It needs a version below 32 and a body of at most 4,084 bytes.
+pub fn put_section(out: &mut Vec<u8>, header: &LongHeader, body: &[u8])
+    requires version { header.now.version < 32 }
+    requires within { length body.now ≤ 4084 }
+    requires room { vec_len out.old + (12 + length body.now) ≤ vec_capacity out.old }
+    ensures items { out.new.items ≡ out.old.items ++ section_bytes header.now body.now }
+    ensures len { vec_len out.new ≡ vec_len out.old + (12 + length body.now) }
+    ensures capacity { vec_capacity out.old ≤ vec_capacity out.new }
+{
+    let start = out.len();
+    let flags = long_flags(header.table) + 9 + body.len() as u16;
+    put(out, &[header.table]);
+    put(out, &flags.to_be_bytes());
+    put(out, &header.ext.to_be_bytes());
+    put(
+        out,
+        &[
+            0xC0 + 2 * header.version + current_bit(header.current),
+            header.number,
+            header.last,
+        ],
+    );
+    put(out, body);
+    let (_, section) = out.as_slice().split_at(start);
+    let crc = crc32(section);
+    put(out, &crc.to_be_bytes());
 }
 
 /// The bytes of a section in the short form, which has no CRC (EN 300 468, 5.2.5). It needs a table

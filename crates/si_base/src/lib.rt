@@ -2,16 +2,18 @@
 //!
 //! `crc32` is the remainder of `specs/Crc.antt`, which goes bit by bit (ISO/IEC 13818-1, annex A); it looks
 //! eight bytes up at a turn. A `Reader` is the bytes that are left. `Items` is the list of its elements.
-//! No call takes memory but `Items::push`.
+//! `put` appends bytes to a buffer that has room for them. No call takes memory but `Items::push` and copies.
 #![tactic(auto)]
 
 mod copies;
 mod crc;
 mod items;
 mod reader;
+mod room;
 mod tables;
 
 pub use copies::Copies;
 pub use crc::{crc_leaves_nothing, crc32};
 pub use items::{Bytes, Items};
 pub use reader::Reader;
+pub use room::put;

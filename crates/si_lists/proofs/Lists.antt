@@ -1,6 +1,6 @@
 -- Lists, and what holds of each of their elements.
-use Rattle.std.proofs.Common.{◌≡◌, ◌∙◌, ◌+◌, ◌-◌, ◌≤◌, ◌++◌, ℕ, List, [], ◌∷◌, Option, Some, None, refl, sym, ap, append_assoc, arith}
-use Rattle.std.specs.List.{AllByRecursion}
+use Rattle.std.proofs.Common.{◌≡◌, ◌∙◌, ◌+◌, ◌-◌, ◌≤◌, ◌++◌, ℕ, List, [], ◌∷◌, Option, Some, None, refl, sym, ap, append_assoc, append-nil, arith}
+use Rattle.std.specs.List.{AllByRecursion, flat_map}
 use Rattle.std.specs.Prelude.{length, take, drop, slice_range, option_map}
 use Rattle.std.proofs.lemmas.List.{drop-take, drop-drop, length-take, length-drop}
 
@@ -41,6 +41,12 @@ three_of (a ∷ []) e = absurd (omega arith)
 three_of (a ∷ b ∷ []) e = absurd (omega arith)
 three_of (a ∷ b ∷ c ∷ []) e = (a, b, c, refl)
 three_of (a ∷ b ∷ c ∷ d ∷ xs) e = absurd (omega arith)
+
+-- what one element more adds, before what is left
+pub flat_map-next : {X Y : Type 0} (f : X → List Y) (front : List X) (x : X) (rest : List Y) → flat_map f (front ++ x ∷ []) ++ rest ≡ flat_map f front ++ (f x ++ rest)
+flat_map-next f [] x rest = ap (λ ys. ys ++ rest) (append-nil (f x))
+flat_map-next f (y ∷ front) x rest =
+    append_assoc (f y) (flat_map f (front ++ x ∷ [])) rest ∙ ap (λ ys. f y ++ ys) (flat_map-next f front x rest) ∙ sym (append_assoc (f y) (flat_map f front) (f x ++ rest))
 
 -- what was read stands before what is still to be read
 abbrev pub behind : {A : Type 0} → List A → Option (List A) → Option (List A)

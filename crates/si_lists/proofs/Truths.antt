@@ -1,6 +1,7 @@
 -- Truth values.
 use Rattle.std.proofs.Common.{◌≡◌, ◌&&◌, ℕ, Bool, true, false, Some, None, refl}
 use Rattle.std.specs.Prelude.{cond}
+use Prim.{⊥}
 
 pub first_true : (a b : Bool) → (a && b) ≡ true → a ≡ true
 first_true true b e = refl
@@ -9,6 +10,13 @@ first_true false b e = cc
 pub second_true : (a b : Bool) → (a && b) ≡ true → b ≡ true
 second_true true b e = e
 second_true false b e = cc
+
+pub and_false : (a b : Bool) → a ≡ false → (a && b) ≡ false
+and_false true b e = cc
+and_false false b e = refl
+
+pub not_both : (b : Bool) → b ≡ true → b ≡ false → ⊥
+not_both b e f = cc
 
 pub none_not : (b : Bool) (x : ℕ) → cond b (Some x) None ≡ None → b ≡ false
 none_not true x e = cc

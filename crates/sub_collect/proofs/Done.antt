@@ -6,8 +6,10 @@ use Rattle.std.specs.List.{cons_option, AllByRecursion}
 use Rattle.std.proofs.lemmas.List.Elements.{filter-append}
 use Rattle.std.proofs.lemmas.Bool.{and_parts, and_from}
 use Rattle.section_codec.specs.declared.table.Key.{Key}
-use Rattle.version_book.specs.Airings.{Content, is_key, is_content}
-use Rattle.version_book.proofs.Versions.{is_key-same, is_key-itself, is_content-same, is_content-itself}
+use Rattle.section_codec.specs.KeyOrder.{is_key}
+use Rattle.section_codec.proofs.SameContent.{is_content-same, is_content-itself}
+use Rattle.section_codec.proofs.KeyOrderFacts.{is_key-same, is_key-itself}
+use Rattle.section_codec.specs.Contents.{Content, is_content}
 use Rattle.sub_collect.specs.Runs.{Counted, latest_section, completed}
 use Rattle.sub_collect.specs.Completions.{is_of, IsOfKey, of_key, done_at, completion_at, completion, completions, latest_done, latest_of, repeats, shown_after, shown_at, dones}
 use Rattle.sub_collect.specs.Laws.{is_done_of, KeysApart, LatestApart, LatestIsShown, DonesGoOn, DonesOneMore, LatestOneMore}

@@ -5,10 +5,8 @@ use Rattle.std.specs.Ordering.{is_eq}
 use Rattle.std.specs.BTreeMap.{is_at}
 use Rattle.std.specs.Map.{lookup, set_value}
 use Rattle.section_codec.specs.declared.table.Key.{Key}
-use Rattle.version_book.specs.Airings.{is_key}
-use Rattle.version_book.specs.Slots.{key_cmp}
-use Rattle.version_book.proofs.Versions.{is_key-same}
-use Rattle.version_book.proofs.SlotFacts.{key_ties}
+use Rattle.section_codec.specs.KeyOrder.{is_key, key_cmp}
+use Rattle.section_codec.proofs.KeyOrderFacts.{is_key-same, key_ties}
 use Rattle.sub_collect.specs.Runs.{Counted}
 use Rattle.sub_collect.specs.Completions.{of_key, completion, completions, latest_done, latest_of, shown_after, shown_at}
 use Rattle.sub_collect.specs.Collectors.{Kept, KeptKeys, kept_in, IsKeptOf, StandsFor, Stands}

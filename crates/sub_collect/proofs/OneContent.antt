@@ -4,13 +4,13 @@ use Rattle.std.specs.Prelude.{cond, filter, Option, Some, None, is_some}
 use Rattle.std.specs.List.{AllByRecursion}
 use Rattle.section_codec.specs.declared.table.Key.{Key}
 use Rattle.section_codec.specs.declared.table.NumberedBody.{NumberedBody}
-use Rattle.section_codec.specs.Contents.{numbers, part_in}
+use Rattle.section_codec.specs.Contents.{numbers, part_in, Content}
 use Rattle.section_codec.proofs.ContentFacts.{own_parts}
-use Rattle.version_book.specs.Airings.{Content}
 use Rattle.sub_collect.specs.Runs.{Counted, has_number, latest_with, run_of, needed, with_part, gathered, gathered_at, whole}
 use Rattle.sub_collect.specs.Collectors.{body_of}
 use Rattle.sub_collect.specs.Laws.{IsSectionOf, HoldAll, IsNumbered, RunCompletesNoOther, RunCompletes}
-use Rattle.sub_collect.proofs.Whole.{same_part, gathers, latest-of}
+use Rattle.section_codec.proofs.SameContent.{same_part}
+use Rattle.sub_collect.proofs.Whole.{gathers, latest-of}
 
 pub passes : (P : Counted → Type 0) (test : Counted → Bool) (ss : List Counted) → AllByRecursion P ss → AllByRecursion (λ (s : Counted). P s × (test s ≡ true)) (filter test ss)
 passes P test [] all = tt

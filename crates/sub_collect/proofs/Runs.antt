@@ -2,6 +2,7 @@
 use Rattle.std.proofs.Common.{◌≡◌, ◌≢◌, ℕ, List, [], ◌∷◌, ◌++◌, Bool, true, false, ◌==◌, refl, sym, ap, ◌∙◌, subst, eq-eqb, eqb-true}
 use Rattle.std.specs.Prelude.{if◌then◌else◌, Option, Some, None}
 use Rattle.std.proofs.lemmas.Bool.{and_parts, and_from}
+use Rattle.si_lists.proofs.Truths.{not_both}
 use Rattle.sub_collect.specs.Runs.{Counted, latest_section, all_of_version, is_one_version, run_of}
 
 pub all-push : (v : ℕ) (xs : List Counted) (s : Counted) → all_of_version v xs ≡ true → s.version ≡ v → all_of_version v (xs ++ s ∷ []) ≡ true
@@ -24,9 +25,6 @@ all-latest v (x ∷ []) t h e =
     let f : x ≡ t = cc in
     ap (λ (c : Counted). c.version) (sym f) ∙ eqb-true x.version v (and_parts (x.version == v) true h).0
 all-latest v (x ∷ y ∷ xs) t h e = all-latest v (y ∷ xs) t (and_parts (x.version == v) (all_of_version v (y ∷ xs)) h).1 e
-
-not_both : (b : Bool) → b ≡ true → b ≡ false → Prim.⊥
-not_both b e f = cc
 
 -- a section of the run's version joins it
 pub run_of-push : (xs : List Counted) (s : Counted) → all_of_version s.version (run_of xs) ≡ true → run_of (xs ++ s ∷ []) ≡ run_of xs ++ s ∷ []

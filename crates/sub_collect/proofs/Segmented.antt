@@ -6,10 +6,9 @@ use Rattle.std.proofs.lemmas.List.Elements.{filter-append}
 use Rattle.section_codec.specs.declared.table.Key.{Key}
 use Rattle.section_codec.specs.declared.table.NumberedBody.{NumberedBody}
 use Rattle.section_codec.specs.Tables.{is_eit}
-use Rattle.section_codec.specs.Contents.{numbers, numbers_from, last_number, part_in}
+use Rattle.section_codec.specs.Contents.{numbers, numbers_from, last_number, part_in, Content}
 use Rattle.section_codec.specs.Segments.{segment_of, segment_last_in, numbers_in_segment, and_numbers, segments_need, table_needs, told_by, segment_last_at, GoBySegments}
 use Rattle.section_codec.proofs.ContentFacts.{own_parts}
-use Rattle.version_book.specs.Airings.{Content}
 use Rattle.sub_collect.specs.Runs.{Counted, latest_section, has_number, latest_with, segment_last_of, last_told_by, is_in_segment, last_told, needed, needed_at}
 use Rattle.sub_collect.specs.Collectors.{body_of}
 use Rattle.sub_collect.specs.Laws.{section_with, sections_with, IsSectionOf, HoldAll, BySegmentsIsNumbered}

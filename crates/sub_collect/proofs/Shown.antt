@@ -5,8 +5,9 @@ use Rattle.std.specs.Option.{option_or}
 use Rattle.std.specs.List.{AllByRecursion, cons_option}
 use Rattle.std.proofs.lemmas.List.Elements.{filter-append}
 use Rattle.section_codec.specs.declared.table.Key.{Key}
-use Rattle.version_book.specs.Airings.{Content, is_key, is_content}
-use Rattle.version_book.proofs.Versions.{is_key-itself}
+use Rattle.section_codec.specs.KeyOrder.{is_key}
+use Rattle.section_codec.proofs.KeyOrderFacts.{is_key-itself}
+use Rattle.section_codec.specs.Contents.{Content, is_content}
 use Rattle.sub_collect.specs.Runs.{Counted, latest_section, run_of, completed}
 use Rattle.sub_collect.specs.Completions.{is_of, of_key, done_at, completion, latest_of, shown_after, shown_at, dones}
 use Rattle.sub_collect.specs.Laws.{IsSectionOf, HoldAll, IsNumbered, IsWith, done_with, IsFresh, IsHeld, NewIsShown, SameIsQuiet}

@@ -6,9 +6,8 @@ use Rattle.std.specs.Cmp.{unsigned_ties}
 use Rattle.std.specs.BTreeMap.{is_at}
 use Rattle.std.specs.Map.{lookup}
 use Rattle.std.proofs.lemmas.List.Elements.{filter-append}
-use Rattle.version_book.specs.Airings.{Content}
 use Rattle.section_codec.specs.Tables.{is_eit}
-use Rattle.section_codec.specs.Contents.{numbers_from}
+use Rattle.section_codec.specs.Contents.{numbers_from, Content}
 use Rattle.section_codec.specs.Segments.{segment_of, numbers_in_segment, and_numbers, segments_need}
 use Rattle.sub_collect.specs.Runs.{Counted, latest_section, has_number, latest_with, segment_last_of, last_told_by, is_in_segment, last_told, needed_at, with_part, gathered, gathered_at, whole}
 use Rattle.sub_collect.specs.Collectors.{body_in, body_of}

@@ -6,7 +6,7 @@ use Rattle.std.specs.List.{AllByRecursion}
 use Rattle.std.proofs.lemmas.Slice.Eq.{bytes_eq-Decides}
 use Rattle.std.proofs.lemmas.Bool.{and_parts}
 use Rattle.section_codec.specs.declared.table.Key.{Key}
-use Rattle.version_book.specs.Airings.{Content}
+use Rattle.section_codec.specs.Contents.{Content}
 use Rattle.section_codec.specs.Tables.{is_eit}
 use Rattle.section_codec.specs.Segments.{segment_of}
 use Rattle.sub_collect.specs.Runs.{Counted, all_of_version, latest_section, latest_with, segment_last_of, run_of, whole, completed}

@@ -6,11 +6,11 @@ use Rattle.std.proofs.lemmas.List.Elements.{filter-append}
 use Rattle.section_codec.specs.declared.table.Key.{Key}
 use Rattle.section_codec.specs.declared.table.NumberedBody.{NumberedBody}
 use Rattle.section_codec.specs.Tables.{is_eit}
-use Rattle.section_codec.specs.Contents.{numbers, numbers_from, last_number, Ascend}
+use Rattle.section_codec.specs.Contents.{numbers, numbers_from, last_number, Ascend, Content}
 use Rattle.section_codec.specs.Segments.{table_needs}
 use Rattle.section_codec.proofs.ContentFacts.{above_first, Ascend-rest, Ascend-from, last_number-from}
-use Rattle.version_book.specs.Airings.{Content}
-use Rattle.version_book.proofs.Versions.{is_key-itself}
+use Rattle.section_codec.proofs.KeyOrderFacts.{is_key-itself}
+use Rattle.section_codec.proofs.SameContent.{same_part}
 use Rattle.sub_collect.specs.Runs.{Counted, latest_section, has_number, latest_with, run_of, last_told, needed, needed_at, with_part, gathered, gathered_at, whole, completed}
 use Rattle.sub_collect.specs.Completions.{is_of, of_key}
 use Rattle.sub_collect.specs.Collectors.{body_of}
@@ -104,9 +104,6 @@ module _ (k : Key) (v last : ℕ) where
   own_key (p ∷ ps) =
       ap (λ (b : Bool). cond b (section_with k v last p ∷ of_key k (sent ps)) (of_key k (sent ps))) (is_key-itself k)
       ∙ ap (λ (l : List Counted). section_with k v last p ∷ l) (own_key ps)
-
-pub same_part : (p q : NumberedBody) → p.number ≡ q.number → p.body ≡ q.body → p ≡ q
-same_part p q a b = λ i. record { number = a i; body = b i }
 
 -- the content is gathered where the latest section of each number has its body
 pub gathers : (run : List Counted) (ps : Content) → AllByRecursion (λ (p : NumberedBody). body_of (latest_with p.number run) ≡ Some p.body) ps → gathered run (numbers ps) ≡ Some ps

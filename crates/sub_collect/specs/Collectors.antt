@@ -1,7 +1,7 @@
 -- What a collector keeps, and the counted sections that it stands for.
 use Rattle.std.specs.Prelude.{◌≡◌, ◌≢◌, ℕ, ◌<◌, List, [], ◌∷◌, true, ◌==◌, if◌then◌else◌, Option, Some, None, option_map, is_some, slice_index_or}
 use Rattle.section_codec.specs.declared.table.Key.{Key}
-use Rattle.version_book.specs.Airings.{is_key}
+use Rattle.section_codec.specs.KeyOrder.{is_key}
 use Rattle.sub_collect.specs.Runs.{Counted, all_of_version, run_of, latest_section, latest_with, last_told}
 use Rattle.sub_collect.specs.Completions.{of_key, completions, latest_done}
 use Rattle.sub_collect.specs.declared.completed.Completed.{Completed}

@@ -2,7 +2,8 @@
 use Rattle.std.specs.Prelude.{◌≡◌, List, [], ◌∷◌, ◌++◌, Bool, ◌&&◌, ◌==◌, if◌then◌else◌, filter, Option, Some, None, option_map}
 use Rattle.std.specs.List.{cons_option}
 use Rattle.section_codec.specs.declared.table.Key.{Key}
-use Rattle.version_book.specs.Airings.{Content, is_key, is_content}
+use Rattle.section_codec.specs.KeyOrder.{is_key}
+use Rattle.section_codec.specs.Contents.{Content, is_content}
 use Rattle.sub_collect.specs.Runs.{Counted, latest_section, completed}
 use Rattle.sub_collect.specs.declared.completed.Completed.{Completed}
 

@@ -1,13 +1,13 @@
 -- Laws of completions, for the layers above.
-use Rattle.std.specs.Prelude.{◌≡◌, ◌≢◌, ℕ, ◌<◌, List, [], ◌∷◌, ◌++◌, Bool, true, false, ◌==◌, if◌then◌else◌, filter, find, map, length, Option, Some, None, option_to_list, IsSome}
+use Rattle.std.specs.Prelude.{◌≡◌, ◌≢◌, ℕ, ◌<◌, List, [], ◌∷◌, ◌++◌, Bool, true, false, if◌then◌else◌, filter, map, length, Some, option_to_list, IsSome}
 use Rattle.std.specs.List.{AllByRecursion}
 use Rattle.std.specs.Option.{option_or}
 use Rattle.section_codec.specs.declared.table.Key.{Key}
 use Rattle.section_codec.specs.declared.table.NumberedBody.{NumberedBody}
 use Rattle.section_codec.specs.Tables.{is_eit}
-use Rattle.section_codec.specs.Contents.{numbers, numbers_from, last_number, Ascend, part_in}
+use Rattle.section_codec.specs.Contents.{numbers, numbers_from, last_number, Ascend, part_in, Content}
 use Rattle.section_codec.specs.Segments.{GoBySegments}
-use Rattle.version_book.specs.Airings.{Content, is_key}
+use Rattle.section_codec.specs.KeyOrder.{is_key}
 use Rattle.sub_collect.specs.Runs.{Counted, run_of, latest_section, latest_with, needed, completed}
 use Rattle.sub_collect.specs.Completions.{is_of, of_key, completion, latest_done, latest_of, shown_at, dones}
 use Rattle.sub_collect.specs.declared.completed.Completed.{Completed}

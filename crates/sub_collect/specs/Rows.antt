@@ -2,7 +2,7 @@
 use Rattle.std.specs.Prelude.{◌≡◌, ℕ, zero, suc, ◌%◌, List, [], ◌∷◌, ◌++◌, Some, None, map, length, refl}
 use Rattle.section_codec.specs.declared.table.Key.{Key}
 use Rattle.section_codec.specs.declared.table.NumberedBody.{NumberedBody}
-use Rattle.version_book.specs.Airings.{Content}
+use Rattle.section_codec.specs.Contents.{Content}
 use Rattle.sub_collect.specs.Runs.{Counted, run_of, needed}
 use Rattle.sub_collect.specs.Completions.{latest_of, dones}
 use Rattle.sub_collect.specs.declared.completed.Completed.{Completed}

@@ -2,10 +2,9 @@
 use Rattle.std.specs.Prelude.{ℕ, ◌+◌, List, [], ◌∷◌, Bool, true, ◌&&◌, ◌==◌, if◌then◌else◌, filter, Option, Some, None}
 use Rattle.section_codec.specs.declared.table.Key.{Key}
 use Rattle.section_codec.specs.Tables.{is_eit}
-use Rattle.section_codec.specs.Contents.{numbers_from}
+use Rattle.section_codec.specs.Contents.{numbers_from, Content}
 use Rattle.section_codec.specs.Segments.{segment_of, segment_last_in, table_needs}
 use Rattle.section_codec.specs.declared.section.LongHeader.{LongHeader}
-use Rattle.version_book.specs.Airings.{Content}
 
 -- a section that counts: its key, version_number, section_number, last_section_number and body
 pub record Counted : Type 0 where

@@ -1,9 +1,8 @@
 -- The map behind a collector, as what it keeps.
 use Rattle.std.specs.Prelude.{ℕ, ◌+◌, List, [], ◌∷◌, ◌==◌, bytes_eq, Bool, true, false, if◌then◌else◌, map, Option, Some, None}
 use Rattle.section_codec.specs.declared.table.Key.{Key}
-use Rattle.section_codec.specs.Contents.{numbers_from}
+use Rattle.section_codec.specs.Contents.{numbers_from, Content}
 use Rattle.section_codec.specs.Segments.{segment_of, table_needs}
-use Rattle.version_book.specs.Airings.{Content}
 use Rattle.sub_collect.specs.Completions.{repeats}
 use Rattle.sub_collect.specs.Collectors.{KeptRun, Kept, KeptKeys}
 use Rattle.sub_collect.specs.declared.completed.Completed.{Completed}

@@ -27,7 +27,7 @@ pub struct Collector {
 
 impl Model for Collector {
     ghost use Rattle.std.specs.BTreeMap.{IsOrdered};
-    ghost use Rattle.version_book.specs.Slots.{key_cmp};
+    ghost use Rattle.section_codec.specs.KeyOrder.{key_cmp};
     ghost use Rattle.sub_collect.specs.Collectors.{KeptKeys};
     ghost use Rattle.sub_collect.specs.Slots.{shown};
 

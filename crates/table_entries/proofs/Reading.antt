@@ -2,7 +2,7 @@
 use Rattle.std.proofs.Common.{◌≡◌, ℕ, ◌<◌, List, [], ◌∷◌, ◌++◌, length, refl, sym, ap, subst, ◌∙◌, append_assoc, arith}
 use Rattle.std.specs.List.{flat_map, AllByRecursion}
 use Rattle.std.proofs.lemmas.List.{append-nil}
-use Rattle.si_lists.proofs.Lists.{all_push}
+use Rattle.si_lists.proofs.Lists.{flat_map-next, all_push}
 use Rattle.desc_parts.specs.declared.descriptors.RawDesc.{RawDesc}
 use Rattle.desc_parts.specs.Descriptors.{AreDescriptors}
 use Rattle.desc_parts.proofs.Loops.{descriptors-unique}
@@ -49,19 +49,12 @@ AreReadAs-push value_of [] (v ∷ values) entry value p q = absurd p
 AreReadAs-push value_of (f ∷ front) [] entry value p q = absurd p
 AreReadAs-push value_of (f ∷ front) (v ∷ values) entry value p q = (p.0, AreReadAs-push value_of front values entry value p.1 q)
 
-one_more : (front : List Entry) (entry : Entry) (rest : List ℕ) → flat_map entry_bytes (front ++ entry ∷ []) ++ rest ≡ flat_map entry_bytes front ++ (entry_bytes entry ++ rest)
-one_more [] entry rest = ap (λ (xs : List ℕ). xs ++ rest) (append-nil (entry_bytes entry))
-one_more (f ∷ front) entry rest =
-    append_assoc (entry_bytes f) (flat_map entry_bytes (front ++ entry ∷ [])) rest
-    ∙ ap (λ (xs : List ℕ). entry_bytes f ++ xs) (one_more front entry rest)
-    ∙ sym (append_assoc (entry_bytes f) (flat_map entry_bytes front) (entry_bytes entry ++ rest))
-
 pub next_so_far : {X : Type 0} (size : ℕ) (value_of : Reads X) (bytes rest behind : List ℕ) (values : List X) (entry : Entry) (descs : List RawDesc)
     → AreSoFar size value_of bytes rest values → rest ≡ entry_bytes entry ++ behind → FitsEntry size entry → AreDescriptors entry.descriptors descs
     → AreSoFar size value_of bytes behind (values ++ value_of entry.fields entry.bits descs ∷ [])
 next_so_far size value_of bytes rest behind values entry descs so_far e fits loop = record {
   front = so_far.front ++ entry ∷ [];
-  whole = so_far.whole ∙ ap (λ (xs : List ℕ). flat_map entry_bytes so_far.front ++ xs) e ∙ sym (one_more so_far.front entry behind);
+  whole = so_far.whole ∙ ap (λ (xs : List ℕ). flat_map entry_bytes so_far.front ++ xs) e ∙ sym (flat_map-next entry_bytes so_far.front entry behind);
   fits = all_push (FitsEntry size) so_far.front entry so_far.fits fits;
   read = AreReadAs-push value_of so_far.front values entry (value_of entry.fields entry.bits descs) so_far.read (record { descs = descs; loop = loop; shows = refl });
 }

@@ -1,10 +1,7 @@
 -- Small facts about tests.
-use Rattle.std.proofs.Common.{◌≡◌, ℕ, ◌<◌, ◌≤◌, ◌≢◌, Bool, true, false, ◌&&◌, ◌==◌, ap, ◌∙◌, arith}
+use Rattle.std.proofs.Common.{◌≡◌, ℕ, ◌<◌, ◌≤◌, true, false, arith}
 use Rattle.std.specs.Prelude.{nat_le}
 use Rattle.std.proofs.lemmas.Bool.Decides.{nat_tests}
-
-pub and_no : (a b : Bool) → a ≡ false → (a && b) ≡ false
-and_no a b e = ap (λ (x : Bool). x && b) e
 
 pub le_told : (a b : ℕ) → nat_le a b ≡ true → a ≤ b
 le_told a b h = grind (arith, nat_tests)

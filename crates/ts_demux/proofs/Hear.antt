@@ -8,7 +8,8 @@ use Rattle.std.proofs.lemmas.Bool.{and_parts, and_from}
 use Rattle.ts_demux.specs.Hearing.{size_in, is_whole, begun, heard}
 use Rattle.ts_demux.specs.Arrivals.{Arrival, without_repeats, before_stretches, stretches, heard_of, Arrival.Came}
 use Rattle.ts_packets.specs.Counting.{Load, Count}
-use Rattle.ts_demux.proofs.Deciding.{and_no, le_told, le_yes}
+use Rattle.ts_demux.proofs.Deciding.{le_told, le_yes}
+use Rattle.si_lists.proofs.Truths.{and_false}
 use Rattle.ts_demux.proofs.Heard.{size_in-append}
 
 -- a section that stands whole does so where more follows
@@ -56,7 +57,7 @@ counted_after : (n : ℕ) (last : Load) (ls : List Load) → last.counter ≡ n 
 counted_after n last [] e h = refl
 counted_after n last (l ∷ ls) e h =
     ap (λ (b : Bool). if b then without_repeats (Some last) (came ls) else Came l ∷ without_repeats (Some l) (came ls))
-    (and_no (last.counter == l.counter) (bytes_eq last.piece.payload l.piece.payload) (no_repeat last.counter n l.counter e h.0))
+    (and_false (last.counter == l.counter) (bytes_eq last.piece.payload l.piece.payload) (no_repeat last.counter n l.counter e h.0))
     ∙ ap (λ (x : List Arrival). Came l ∷ x) (counted_after (1 + n) l ls h.0 h.1)
 
 one_stretch : (n : ℕ) (l : Load) (ls : List Load) → Count n (l ∷ ls) → stretches (came (l ∷ ls)) ≡ map (λ (x : Load). x.piece) (l ∷ ls) ∷ []

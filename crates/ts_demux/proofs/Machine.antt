@@ -3,6 +3,7 @@ use Rattle.std.proofs.Common.{◌≡◌, ℕ, zero, suc, ◌<◌, ◌≤◌, Lis
 use Rattle.std.specs.Prelude.{if◌then◌else◌, nat_le}
 use Rattle.std.proofs.lemmas.Bool.{and_parts, and_from}
 use Rattle.ts_packets.specs.Packets.{Piece}
+use Rattle.si_lists.proofs.Truths.{not_both}
 use Rattle.ts_demux.specs.Hearing.{size_in, is_whole, begun, passed_over, goes_on, behind_pointer, heard}
 use Rattle.ts_demux.proofs.Deciding.{le_told, le_false, le_yes}
 use Rattle.ts_demux.proofs.Heard.{size_in-append}
@@ -14,9 +15,6 @@ use Rattle.ts_demux.proofs.Hear.{whole_more, pick_no, pick_none, pick_yes, found
 abbrev pub machine : Option (List ℕ) → List Piece → List (List ℕ)
 machine o [] = []
 machine o (p ∷ ps) = given_by o p ++ machine (open_behind o p) ps
-
-no_from : (a : Bool) → a ≡ true → a ≡ false → Prim.⊥
-no_from a e f = cc
 
 -- its header stays too long where more follows
 pub long_more : (x y : List ℕ) → is_long x ≡ true → is_whole (x ++ y) ≡ false
@@ -53,7 +51,7 @@ ends_later x y part all =
         omega (arith, size_in-three (x ++ y) three)
     go three most true e true f =
         let n : size_in (x ++ y) ≡ size_in x = size_in-append x y (le_told 3 (length x) e) in
-        absurd (no_from (is_whole x) (and_from (nat_le 3 (length x)) (nat_le (size_in x) 4096 && nat_le (size_in x) (length x)) e (and_from (nat_le (size_in x) 4096) (nat_le (size_in x) (length x)) (le_yes (size_in x) 4096 (omega arith)) f)) part)
+        absurd (not_both (is_whole x) (and_from (nat_le 3 (length x)) (nat_le (size_in x) 4096 && nat_le (size_in x) (length x)) e (and_from (nat_le (size_in x) 4096) (nat_le (size_in x) (length x)) (le_yes (size_in x) 4096 (omega arith)) f)) part)
     go three most true e false f =
         let n : size_in (x ++ y) ≡ size_in x = size_in-append x y (le_told 3 (length x) e) in
         let l : length x < size_in x = le_false (size_in x) (length x) f in

@@ -1,6 +1,6 @@
 -- What is kept at the places of a demux.
 use Rattle.std.proofs.Common.{◌≡◌, ℕ, zero, suc, ◌<◌, ◌≤◌, List, [], ◌∷◌, ◌++◌, Bool, true, false, ◌==◌, Option, Some, None, length, refl, sym, ap, ◌∙◌, subst, arith, map}
-use Rattle.std.specs.Prelude.{if◌then◌else◌, slice_set, option_map, Result, Ok, Err, OnOk}
+use Rattle.std.specs.Prelude.{if◌then◌else◌, slice_set, option_map}
 use Rattle.std.proofs.lemmas.Bool.Decides.{nat_tests}
 use Rattle.std.proofs.lemmas.List.{map-set, map-append}
 use Rattle.std.proofs.lemmas.Bool.{eqb-true}
@@ -56,7 +56,3 @@ no_place q p slots h = go (p == q) refl
     go : (b : Bool) → (p == q) ≡ b → kept_on q slots ≡ (if p == q then nothing else kept_on q slots)
     go false e = sym (ap (λ (b : Bool). if b then nothing else kept_on q slots) e)
     go true e = kept_on-behind q slots (subst (λ (n : ℕ). length slots ≤ n) (eqb-true p q e) h) ∙ sym (ap (λ (b : Bool). if b then nothing else kept_on q slots) e)
-
-pub on_ok : {X Y : Type 0} (r : Result X Y) (P Q : Type 0) → (P → Q) → OnOk r P → OnOk r Q
-on_ok (Ok x) P Q f p = f p
-on_ok (Err y) P Q f p = tt

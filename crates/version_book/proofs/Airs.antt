@@ -4,10 +4,14 @@ use Rattle.std.specs.Prelude.{if◌then◌else◌, option_to_list, Option, Some,
 use Rattle.std.specs.List.{AllByRecursion}
 use Rattle.section_codec.specs.declared.table.Key.{Key}
 use Rattle.section_codec.specs.declared.table.SubTable.{SubTable}
-use Rattle.version_book.specs.Airings.{Content, CycleForm, Airing, is_key, is_content, content_in, carried, changes_after, changes, version_at}
-use Rattle.version_book.specs.Book.{Kept, last_of, kept_after, Lacks, KeysDiffer, aired, versions_of}
+use Rattle.section_codec.specs.KeyOrder.{is_key}
+use Rattle.section_codec.specs.SubTables.{Lacks, KeysDiffer}
+use Rattle.section_codec.specs.Contents.{Content, is_content}
+use Rattle.section_codec.proofs.KeyOrderFacts.{is_key-same, is_key-itself, is_key-apart}
+use Rattle.version_book.specs.Airings.{CycleForm, Airing, content_in, carried, changes_after, changes, version_at}
+use Rattle.version_book.specs.Book.{Kept, last_of, kept_after, aired, versions_of}
 use Rattle.version_book.specs.Slots.{next_version, given_after}
-use Rattle.version_book.proofs.Versions.{is_key-same, is_key-itself, is_key-apart, changes_after-push, last_of-push, carried-push}
+use Rattle.version_book.proofs.Versions.{changes_after-push, last_of-push, carried-push}
 
 -- ---- one content more
 

@@ -2,4 +2,3 @@ pub mod Versions
 pub mod Popped
 pub mod SlotFacts
 pub mod Airs
-pub mod Contents

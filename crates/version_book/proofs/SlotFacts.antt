@@ -1,10 +1,9 @@
 -- The slots of a version book, and what they keep.
-use Rattle.std.proofs.Common.{◌≡◌, ℕ, zero, suc, ◌+◌, ◌%◌, ◌<◌, List, [], ◌∷◌, length, drop, get_or, Bool, true, false, ◌&&◌, ◌==◌, refl, sym, ap, ◌∙◌, subst, arith, drop-cons}
+use Rattle.std.proofs.Common.{◌≡◌, ℕ, zero, suc, ◌+◌, ◌%◌, ◌<◌, List, [], ◌∷◌, length, drop, get_or, Bool, true, false, refl, sym, ap, ◌∙◌, subst, arith, drop-cons}
 use Rattle.std.specs.Prelude.{if◌then◌else◌, Option, Some, None, option_map, map, is_some, cond}
 use Rattle.std.specs.declared.cmp.Ordering.{Ordering}
 use Rattle.std.specs.declared.cmp.Ordering.TheVariants.{Less, Equal, Greater}
-use Rattle.std.specs.Ordering.{is_eq, match_ordering, nat_cmp, ordering_then}
-use Rattle.std.specs.Cmp.{unsigned_ties}
+use Rattle.std.specs.Ordering.{is_eq, match_ordering}
 use Rattle.std.specs.BTreeMap.{insert_entry, is_at}
 use Rattle.std.specs.Map.{lookup, keys_of}
 use Rattle.std.specs.List.{AllByRecursion}
@@ -13,11 +12,14 @@ use Rattle.std.proofs.lemmas.List.{get_or-map}
 use Rattle.std.proofs.lemmas.Map.Keys.{sorted_head, sorted_tail}
 use Rattle.section_codec.specs.declared.table.Key.{Key}
 use Rattle.section_codec.specs.declared.table.SubTable.{SubTable}
-use Rattle.version_book.specs.Airings.{Content, is_key, is_content}
-use Rattle.version_book.specs.Book.{Kept, kept_in, Lacks, KeysDiffer}
-use Rattle.version_book.specs.Slots.{key_cmp, kept_by, with_kept, shown, held_in, next_version, changed_content, given_after}
+use Rattle.section_codec.specs.KeyOrder.{is_key, key_cmp}
+use Rattle.section_codec.specs.SubTables.{Lacks, KeysDiffer}
+use Rattle.section_codec.specs.Contents.{Content, is_content}
+use Rattle.version_book.specs.Book.{Kept, kept_in}
+use Rattle.section_codec.proofs.SameContent.{is_content-same}
+use Rattle.section_codec.proofs.KeyOrderFacts.{is_key-same, is_key-itself, is_key-apart, key_ties}
+use Rattle.version_book.specs.Slots.{kept_by, with_kept, shown, held_in, next_version, changed_content, given_after}
 use Rattle.version_book.specs.declared.held.Held.{Held}
-use Rattle.version_book.proofs.Versions.{is_key-same, is_key-itself, is_key-apart, is_content-same}
 
 -- ---- an empty slot does not show
 
@@ -65,34 +67,6 @@ kept_in-shown_by cmp ties k (e ∷ es) sorted =
     go false other true f o rec = cc
     go false other false f None rec = rec
     go false other false f (Some held) rec = ap (λ (b : Bool). if b then Some (kept_by held) else kept_in k (shown es)) other ∙ rec
-
--- the order of keys answers Equal for equal keys alone
-then_is_eq : (o p : Ordering) → is_eq (ordering_then o p) ≡ (is_eq o && is_eq p)
-then_is_eq Less p = refl
-then_is_eq Equal p = refl
-then_is_eq Greater p = refl
-
-and_assoc : (a b c : Bool) → ((a && b) && c) ≡ (a && (b && c))
-and_assoc true b c = refl
-and_assoc false b c = refl
-
-five : (a b c d e : Bool) → (a && b && c && d && e) ≡ (a && (b && (c && (d && e))))
-five a b c d e =
-    and_assoc (a && b && c) d e ∙ and_assoc (a && b) c (d && e) ∙ and_assoc a b (c && (d && e))
-
-pub key_ties : (a b : Key) → is_key a b ≡ is_eq (key_cmp a b)
-key_ties a b =
-    let p = nat_cmp a.pid b.pid in let t = nat_cmp a.table b.table in let x = nat_cmp a.ext b.ext in let s = nat_cmp a.stream b.stream in let n = nat_cmp a.network b.network in
-    five (a.pid == b.pid) (a.table == b.table) (a.ext == b.ext) (a.stream == b.stream) (a.network == b.network)
-    ∙ ap (λ (v : Bool). v && (a.table == b.table && (a.ext == b.ext && (a.stream == b.stream && a.network == b.network)))) (unsigned_ties a.pid b.pid)
-    ∙ ap (λ (v : Bool). is_eq p && (v && (a.ext == b.ext && (a.stream == b.stream && a.network == b.network)))) (unsigned_ties a.table b.table)
-    ∙ ap (λ (v : Bool). is_eq p && (is_eq t && (v && (a.stream == b.stream && a.network == b.network)))) (unsigned_ties a.ext b.ext)
-    ∙ ap (λ (v : Bool). is_eq p && (is_eq t && (is_eq x && (v && a.network == b.network)))) (unsigned_ties a.stream b.stream)
-    ∙ ap (λ (v : Bool). is_eq p && (is_eq t && (is_eq x && (is_eq s && v)))) (unsigned_ties a.network b.network)
-    ∙ sym (then_is_eq p (ordering_then t (ordering_then x (ordering_then s n)))
-    ∙ ap (λ (v : Bool). is_eq p && v) (then_is_eq t (ordering_then x (ordering_then s n)))
-    ∙ ap (λ (v : Bool). is_eq p && (is_eq t && v)) (then_is_eq x (ordering_then s n))
-    ∙ ap (λ (v : Bool). is_eq p && (is_eq t && (is_eq x && v))) (then_is_eq s n))
 
 pub kept_in-shown : (k : Key) (es : List (Key × Option Held)) → IsStrictlySortedBy key_cmp (keys_of es) → kept_in k (shown es) ≡ option_map kept_by (held_in (lookup (is_at (key_cmp k)) es))
 kept_in-shown k es sorted = kept_in-shown_by key_cmp key_ties k es sorted

@@ -1,73 +1,14 @@
 -- Versions of a key along an airing list.
-use Rattle.std.proofs.Common.{◌≡◌, ◌≢◌, ℕ, ◌+◌, ◌%◌, List, [], ◌∷◌, ◌++◌, Bool, true, false, ◌&&◌, ◌==◌, refl, sym, ap, ◌∙◌, subst, arith, inl, inr, ◌⊎◌, append_assoc, append-nil, eq-eqb, eqb-true}
+use Rattle.std.proofs.Common.{◌≡◌, ◌≢◌, ℕ, ◌+◌, ◌%◌, List, [], ◌∷◌, ◌++◌, Bool, true, false, refl, sym, ap, ◌∙◌, subst, arith, inl, inr, ◌⊎◌, append_assoc, append-nil}
 use Rattle.std.specs.List.{cons_option}
-use Rattle.std.specs.Prelude.{if◌then◌else◌, option_to_list, Option, Some, None, bytes_eq}
+use Rattle.std.specs.Prelude.{if◌then◌else◌, option_to_list, Option, Some, None}
 use Rattle.std.proofs.lemmas.List.Elements.{filter_map-append}
-use Rattle.std.proofs.lemmas.Slice.Eq.{bytes_eq-Decides}
-use Rattle.std.proofs.lemmas.Bool.{and_parts, and_from}
 use Rattle.section_codec.specs.declared.table.Key.{Key}
-use Rattle.section_codec.specs.declared.table.NumberedBody.{NumberedBody}
-use Rattle.version_book.specs.Airings.{Content, Airing, is_key, is_content, content_at, carried, changes_after}
+use Rattle.section_codec.specs.Contents.{Content, is_content}
+use Rattle.section_codec.proofs.SameContent.{is_content-same}
+use Rattle.version_book.specs.Airings.{Airing, content_at, carried, changes_after}
 use Rattle.version_book.specs.Book.{last_of}
 use Rattle.version_book.specs.Laws.{NeighboursAgree, AnotherBetween}
-
--- ---- tests
-
-same_key : (a b : Key) → a.pid ≡ b.pid → a.table ≡ b.table → a.ext ≡ b.ext → a.stream ≡ b.stream → a.network ≡ b.network → a ≡ b
-same_key a b p t e s n = λ i. record { pid = p i; table = t i; ext = e i; stream = s i; network = n i }
-
--- the test of equal keys tells equal keys
-pub is_key-same : (a b : Key) → is_key a b ≡ true → a ≡ b
-is_key-same a b h =
-    let one = and_parts (a.pid == b.pid && a.table == b.table && a.ext == b.ext && a.stream == b.stream) (a.network == b.network) h in
-    let two = and_parts (a.pid == b.pid && a.table == b.table && a.ext == b.ext) (a.stream == b.stream) one.0 in
-    let three = and_parts (a.pid == b.pid && a.table == b.table) (a.ext == b.ext) two.0 in
-    let four = and_parts (a.pid == b.pid) (a.table == b.table) three.0 in
-    same_key a b (eqb-true a.pid b.pid four.0) (eqb-true a.table b.table four.1) (eqb-true a.ext b.ext three.1) (eqb-true a.stream b.stream two.1) (eqb-true a.network b.network one.1)
-
-pub is_key-itself : (k : Key) → is_key k k ≡ true
-is_key-itself k =
-    and_from (k.pid == k.pid && k.table == k.table && k.ext == k.ext && k.stream == k.stream) (k.network == k.network)
-    (and_from (k.pid == k.pid && k.table == k.table && k.ext == k.ext) (k.stream == k.stream)
-    (and_from (k.pid == k.pid && k.table == k.table) (k.ext == k.ext)
-    (and_from (k.pid == k.pid) (k.table == k.table) (eq-eqb k.pid k.pid refl) (eq-eqb k.table k.table refl))
-    (eq-eqb k.ext k.ext refl))
-    (eq-eqb k.stream k.stream refl))
-    (eq-eqb k.network k.network refl)
-
-pub is_key-apart : (a b : Key) → a ≢ b → is_key a b ≡ false
-is_key-apart a b other = go (is_key a b) refl
-  where
-    go : (x : Bool) → is_key a b ≡ x → is_key a b ≡ false
-    go true e = absurd (other (is_key-same a b e))
-    go false e = e
-
-same_part : (p q : NumberedBody) → p.number ≡ q.number → p.body ≡ q.body → p ≡ q
-same_part p q a b = λ i. record { number = a i; body = b i }
-
--- the test of equal contents tells equal contents
-pub is_content-same : (xs ys : Content) → is_content xs ys ≡ true → xs ≡ ys
-is_content-same [] [] e = refl
-is_content-same [] (y ∷ ys) e = cc
-is_content-same (x ∷ xs) [] e = cc
-is_content-same (x ∷ xs) (y ∷ ys) e =
-    let p = and_parts (x.number == y.number && bytes_eq x.body y.body) (is_content xs ys) e in
-    let q = and_parts (x.number == y.number) (bytes_eq x.body y.body) p.0 in
-    let h : x ≡ y = same_part x y (eqb-true x.number y.number q.0) ((bytes_eq-Decides x.body y.body).0 q.1) in
-    let t : xs ≡ ys = is_content-same xs ys p.1 in
-    cc
-
-pub is_content-itself : (xs : Content) → is_content xs xs ≡ true
-is_content-itself [] = refl
-is_content-itself (x ∷ xs) = and_from (x.number == x.number && bytes_eq x.body x.body) (is_content xs xs)
-    (and_from (x.number == x.number) (bytes_eq x.body x.body) (eq-eqb x.number x.number refl) ((bytes_eq-Decides x.body x.body).1 refl)) (is_content-itself xs)
-
-pub is_content-apart : (xs ys : Content) → xs ≢ ys → is_content xs ys ≡ false
-is_content-apart xs ys other = go (is_content xs ys) refl
-  where
-    go : (x : Bool) → is_content xs ys ≡ x → is_content xs ys ≡ false
-    go true e = absurd (other (is_content-same xs ys e))
-    go false e = e
 
 -- ---- one content more
 

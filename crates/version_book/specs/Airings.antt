@@ -1,12 +1,9 @@
 -- Airing lists, and the version of a key at an airing.
-use Rattle.std.specs.Prelude.{ℕ, ◌+◌, ◌%◌, List, [], ◌∷◌, Bool, true, false, ◌&&◌, ◌==◌, if◌then◌else◌, Option, Some, None, filter_map, bytes_eq}
+use Rattle.std.specs.Prelude.{ℕ, ◌+◌, ◌%◌, List, [], ◌∷◌, if◌then◌else◌, Option, Some, None, filter_map}
 use Rattle.section_codec.specs.declared.table.Key.{Key}
-use Rattle.section_codec.specs.declared.table.NumberedBody.{NumberedBody}
+use Rattle.section_codec.specs.Contents.{Content, is_content}
+use Rattle.section_codec.specs.KeyOrder.{is_key}
 use Rattle.section_codec.specs.declared.table.SubTable.{SubTable}
-
--- what a sub-table carries: the number and the body of each of its sections, in order
-abbrev pub Content : Type 0
-Content = List NumberedBody
 
 -- What a cycle depends on besides its sub-tables and its moment: the quota, which is how many packets may come between two repeats
 -- of the most frequent sections.
@@ -18,15 +15,6 @@ pub record Airing : Type 0 where
   pub tables : List SubTable
   pub moment : ℕ
   pub form : CycleForm
-
-abbrev pub is_key : Key → Key → Bool
-is_key a b = a.pid == b.pid && a.table == b.table && a.ext == b.ext && a.stream == b.stream && a.network == b.network
-
-abbrev pub is_content : Content → Content → Bool
-is_content [] [] = true
-is_content (x ∷ xs) (y ∷ ys) = x.number == y.number && bytes_eq x.body y.body && is_content xs ys
-is_content [] (y ∷ ys) = false
-is_content (x ∷ xs) [] = false
 
 -- the content of a key in a list of sub-tables
 abbrev pub content_in : Key → List SubTable → Option Content

@@ -1,8 +1,10 @@
 -- What a version book keeps, and the airings that it stands for.
-use Rattle.std.specs.Prelude.{◌≡◌, ◌≢◌, ℕ, ◌%◌, List, [], ◌∷◌, ◌++◌, if◌then◌else◌, Option, Some, None, map}
+use Rattle.std.specs.Prelude.{◌≡◌, ℕ, ◌%◌, List, [], ◌∷◌, ◌++◌, if◌then◌else◌, Option, Some, None, map}
 use Rattle.section_codec.specs.declared.table.Key.{Key}
 use Rattle.section_codec.specs.declared.table.SubTable.{SubTable}
-use Rattle.version_book.specs.Airings.{Content, CycleForm, Airing, is_key, carried, changes_after, version_at}
+use Rattle.section_codec.specs.KeyOrder.{is_key}
+use Rattle.section_codec.specs.Contents.{Content}
+use Rattle.version_book.specs.Airings.{CycleForm, Airing, carried, changes_after, version_at}
 
 -- the version and the content that a key was last given
 pub record Kept : Type 0 where
@@ -31,16 +33,6 @@ kept_after (c ∷ cs) = Some (record { version = changes_after c cs % 32; conten
 -- The book stands for these airings: it keeps of each key what they carried last.
 abbrev pub Stands : List Airing → KeptKeys → Type 0
 Stands past book = (k : Key) → kept_in k book ≡ kept_after (carried k past)
-
--- none of these sub-tables has this key
-abbrev pub Lacks : Key → List SubTable → Type 0
-Lacks k [] = Unit {0}
-Lacks k (t ∷ ts) = (k ≢ t.key) × Lacks k ts
-
--- no two of these sub-tables have one key
-abbrev pub KeysDiffer : List SubTable → Type 0
-KeysDiffer [] = Unit {0}
-KeysDiffer (t ∷ ts) = Lacks t.key ts × KeysDiffer ts
 
 -- these sub-tables, aired at a moment in a cycle of this form
 abbrev pub aired : List SubTable → ℕ → CycleForm → Airing

@@ -1,6 +1,7 @@
 -- What versions tell of contents.
-use Rattle.std.specs.Prelude.{◌≡◌, ◌≢◌, ◌↔◌, ◌%◌, true, List, [], ◌∷◌, ◌++◌}
-use Rattle.version_book.specs.Airings.{Content, changes_after, is_content}
+use Rattle.std.specs.Prelude.{◌≡◌, ◌≢◌, ◌%◌, List, [], ◌∷◌, ◌++◌}
+use Rattle.section_codec.specs.Contents.{Content}
+use Rattle.version_book.specs.Airings.{changes_after}
 use Rattle.version_book.specs.Book.{last_of}
 
 -- Next to each other, equal versions have equal contents.
@@ -12,7 +13,3 @@ abbrev pub AnotherBetween : Type 0
 AnotherBetween =
     (b : Content) (bs cs : List Content) (d : Content) → changes_after b bs % 32 ≡ changes_after b ((bs ++ cs) ++ d ∷ []) % 32 → last_of b bs ≢ d
     → (one two : List Content) × (e : Content) × (cs ≡ one ++ e ∷ two) × (changes_after b ((bs ++ one) ++ e ∷ []) % 32 ≢ changes_after b bs % 32)
-
--- Contents are compared as values: number by number and body by body.
-abbrev pub ContentsAreCompared : Type 0
-ContentsAreCompared = (a b : Content) → (is_content a b ≡ true) ↔ (a ≡ b)

@@ -1,17 +1,12 @@
 -- The map behind a version book: a slot for each key, which is empty until the key is first given a version.
 use Rattle.std.specs.Prelude.{ℕ, ◌+◌, ◌%◌, List, [], ◌∷◌, if◌then◌else◌, Option, Some, None, option_map, IsSome}
-use Rattle.std.specs.declared.cmp.Ordering.{Ordering}
 use Rattle.std.specs.BTreeMap.{BTreeMap, get}
 use Rattle.section_codec.specs.declared.table.Key.{Key}
 use Rattle.section_codec.specs.declared.table.SubTable.{SubTable}
-use Rattle.section_codec.specs.contracts.table.KeyOrd.TheImpl as key_ord
-use Rattle.version_book.specs.Airings.{Content, is_key, is_content}
+use Rattle.section_codec.specs.KeyOrder.{key_cmp, is_key}
+use Rattle.section_codec.specs.Contents.{Content, is_content}
 use Rattle.version_book.specs.Book.{Kept, KeptKeys}
 use Rattle.version_book.specs.declared.held.Held.{Held}
-
--- the order of keys
-abbrev pub key_cmp : Key → Key → Ordering
-key_cmp = (key_ord.ghosts).cmp
 
 -- what is held of a key, as it is kept
 abbrev pub kept_by : Held → Kept

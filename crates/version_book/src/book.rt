@@ -1,15 +1,17 @@
 // Versions, kept by key.
 ghost use Rattle.std.specs.Prelude.{◌≡◌, ◌≢◌, ◌<◌, ◌+◌, ◌%◌, ◌++◌, ◌∷◌, ℕ, [], List, map, length, Option, Some, None, option_map, option_copied, IsSome, IfOk, OnOk, OnErr, All, if◌then◌else◌};
 ghost use Rattle.std.specs.BTreeMap.{get, IsOrdered};
-ghost use Rattle.version_book.specs.Airings.{Airing, CycleForm, is_key};
+ghost use Rattle.section_codec.specs.KeyOrder.{is_key, key_cmp};
+ghost use Rattle.version_book.specs.Airings.{Airing, CycleForm};
+ghost use Rattle.section_codec.specs.SubTables.{KeysDiffer};
 ghost use Rattle.section_codec.specs.declared.table.Key.{Key};
-ghost use Rattle.version_book.specs.Book.{Stands, KeysDiffer, aired, versions_of};
-ghost use Rattle.version_book.specs.Laws.{NeighboursAgree, AnotherBetween, ContentsAreCompared};
-ghost use Rattle.version_book.specs.Slots.{key_cmp, kept_by, held_at, kept_at, shown, next_version, changed_content, version_given, content_given, HasSlot, given_after};
+ghost use Rattle.version_book.specs.Book.{Stands, aired, versions_of};
+ghost use Rattle.version_book.specs.Laws.{NeighboursAgree, AnotherBetween};
+ghost use Rattle.version_book.specs.Slots.{kept_by, held_at, kept_at, shown, next_version, changed_content, version_given, content_given, HasSlot, given_after};
 
-use crate::content::{copy, is_same};
+use crate::content::copy;
 use crate::held::{Held, Slots};
-use section_codec::{Key, NumberedBodies, NumberedBody, SubTable, Tables};
+use section_codec::{Key, NumberedBodies, NumberedBody, SubTable, Tables, same_content};
 use si_base::{Bytes, Items};
 use std::alloc::{AllocError, Global};
 use std::collections::BTreeMap;
@@ -25,9 +27,10 @@ pub struct VersionBook {
 }
 
 impl Model for VersionBook {
+    ghost use Rattle.section_codec.specs.KeyOrder.{key_cmp};
     ghost use Rattle.std.specs.BTreeMap.{IsOrdered};
     ghost use Rattle.version_book.specs.Book.{KeptKeys};
-    ghost use Rattle.version_book.specs.Slots.{key_cmp, shown};
+    ghost use Rattle.version_book.specs.Slots.{shown};
 
     ghost Value = { KeptKeys };
 
@@ -90,7 +93,7 @@ fn next(
     ensures small { IfOk result (λ next. next.0 < 32) }
 {
     match held {
-        Some(held) if is_same(held.content.as_slice(), content) => Ok((held.version, None)),
+        Some(held) if same_content(held.content.as_slice(), content) => Ok((held.version, None)),
         Some(held) => Ok(((held.version + 1) % 32, Some(copy(alloc, content)?))),
         None => Ok((0, Some(copy(alloc, content)?))),
     }
@@ -182,9 +185,4 @@ fn settle(
 pub fn versions_tell_contents()
     ensures neighbours { NeighboursAgree }
     ensures between { AnotherBetween }
-{}
-
-/// Contents are compared as values: the comparison is true exactly where they are equal.
-pub fn contents_are_compared()
-    ensures { ContentsAreCompared }
 {}

@@ -10,4 +10,4 @@ mod book;
 mod content;
 mod held;
 
-pub use book::{VersionBook, contents_are_compared, versions_tell_contents};
+pub use book::{VersionBook, versions_tell_contents};

@@ -1,6 +1,6 @@
 // Cycles that are played.
 ghost use Rattle.std.specs.Prelude.{◌≤◌, length, IfOk};
-ghost use Rattle.air_model.specs.Fit.{AreFit};
+ghost use Rattle.section_codec.specs.SubTables.{AreFit};
 
 use carousel_player::Player;
 use row_lines::{MOST, Row};

@@ -1,6 +1,6 @@
 // Versions of lists of contents.
 ghost use Rattle.std.specs.Prelude.{◌≡◌, IfOk};
-ghost use Rattle.version_book.specs.Book.{KeysDiffer};
+ghost use Rattle.section_codec.specs.SubTables.{KeysDiffer};
 
 use row_lines::{MOST, Row};
 use section_codec::{Key, NumberedBody, SubTable, Tables, Tier3};

@@ -6,7 +6,7 @@ use Rattle.si_time.specs.declared.moment.Moment.{Moment}
 use Rattle.guide_model.specs.declared.guide.ServiceGuide.{ServiceGuide}
 use Rattle.guide_limits.specs.Events.{midnight}
 use Rattle.section_codec.specs.declared.table.SubTable.{SubTable}
-use Rattle.air_model.specs.Fit.{AreFit}
+use Rattle.section_codec.specs.SubTables.{AreFit}
 use Rattle.eit_tables.specs.Present.{present_table}
 use Rattle.eit_tables.specs.Schedule.{near_tables, far_tables}
 use Rattle.eit_tables.specs.Laws.{AreSmallEntries}

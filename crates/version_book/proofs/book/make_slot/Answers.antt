@@ -1,5 +1,5 @@
 use Rattle.std.proofs.Common.{◌∙◌, sym}
-use Rattle.version_book.specs.Slots.{key_cmp}
+use Rattle.section_codec.specs.KeyOrder.{key_cmp}
 use Rattle.version_book.proofs.SlotFacts.{shown-insert}
 use Rattle.version_book.proofs.book.make_slot.Goals as goal
 

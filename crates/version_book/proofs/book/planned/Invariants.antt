@@ -3,7 +3,8 @@ use Rattle.std.specs.List.{All}
 use Rattle.std.specs.BTreeMap.{IsOrdered}
 use Rattle.section_codec.specs.declared.table.Key.{Key}
 use Rattle.section_codec.specs.declared.table.SubTable.{SubTable}
-use Rattle.version_book.specs.Slots.{key_cmp, held_at, shown, version_given, content_given, HasSlot}
+use Rattle.section_codec.specs.KeyOrder.{key_cmp}
+use Rattle.version_book.specs.Slots.{held_at, shown, version_given, content_given, HasSlot}
 use Rattle.version_book.proofs.book.planned.Given as goal
 
 abbrev pub invariant-loop-table : goal.invariant-loop-table

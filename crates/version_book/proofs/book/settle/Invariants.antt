@@ -2,7 +2,8 @@ use Rattle.std.proofs.Common.{◌≡◌, ◌≤◌, map, take, drop, length, vec
 use Rattle.std.specs.List.{All}
 use Rattle.std.specs.BTreeMap.{IsOrdered}
 use Rattle.section_codec.specs.declared.table.Key.{Key}
-use Rattle.version_book.specs.Slots.{key_cmp, kept_at, content_given, HasSlot, given_after}
+use Rattle.section_codec.specs.KeyOrder.{key_cmp}
+use Rattle.version_book.specs.Slots.{kept_at, content_given, HasSlot, given_after}
 use Rattle.version_book.proofs.book.settle.Given as goal
 
 abbrev pub invariant-loop-change : goal.invariant-loop-change

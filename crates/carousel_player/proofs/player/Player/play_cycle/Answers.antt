@@ -6,7 +6,8 @@ use Rattle.si_lists.proofs.Outcomes.{on_err}
 use Rattle.carousel_player.specs.Sending.{Sends}
 use Rattle.carousel_player.specs.Playing.{Playing, GaveUp}
 use Rattle.carousel_player.proofs.Sendings.{Sends-trans}
-use Rattle.carousel_player.proofs.Plays.{all_out, front_behind, gave_up, none_left}
+use Rattle.si_causes.proofs.CauseFacts.{front_behind}
+use Rattle.carousel_player.proofs.Plays.{all_out, gave_up, none_left}
 use Rattle.carousel_player.proofs.player.Player.play_cycle.Goals as goal
 
 pub batches-preserved : goal.batches-preserved

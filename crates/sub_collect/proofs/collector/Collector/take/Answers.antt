@@ -3,8 +3,7 @@ use Rattle.std.specs.Prelude.{IsSome, cond, if◌then◌else◌}
 use Rattle.std.specs.BTreeMap.{BTreeMap, get, is_at}
 use Rattle.std.proofs.lemmas.Result.{IfOk-weaker, on_ok_weaker, on_err_weaker}
 use Rattle.section_codec.specs.declared.table.Key.{Key}
-use Rattle.version_book.specs.Airings.{is_key}
-use Rattle.version_book.specs.Slots.{key_cmp}
+use Rattle.section_codec.specs.KeyOrder.{is_key, key_cmp}
 use Rattle.sub_collect.specs.Runs.{Counted, counted}
 use Rattle.sub_collect.specs.Completions.{of_key}
 use Rattle.sub_collect.specs.Collectors.{KeptKeys, kept_in, IsKeptOf}

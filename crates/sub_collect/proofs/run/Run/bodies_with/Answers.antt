@@ -1,5 +1,5 @@
 use Rattle.std.proofs.Common.{◌≡◌, ◌+◌, drop, Some, sym, ap, ◌∙◌, arith}
-use Rattle.version_book.specs.Airings.{Content}
+use Rattle.section_codec.specs.Contents.{Content}
 use Rattle.sub_collect.specs.Collectors.{body_in}
 use Rattle.sub_collect.specs.Slots.{held_with, content_by}
 use Rattle.sub_collect.proofs.Gathering.{with_front, gather-start, gather-none, gather-more, gather-end}

@@ -6,7 +6,7 @@ use Rattle.ts_demux.specs.declared.section.RawSection.{RawSection}
 use Rattle.ts_demux.specs.Arrivals.{Arrival.Gap, Arrival.Came, load_in}
 use Rattle.ts_demux.specs.Keeping.{Stands}
 use Rattle.ts_demux.proofs.Standing.{nothing_came, one_came, one_ended, passes, gap_came, gap_told, load_came, load_told, small_pid}
-use Rattle.ts_demux.proofs.Placing.{on_ok}
+use Rattle.si_lists.proofs.Outcomes.{ok_more}
 use Rattle.ts_demux.proofs.demux.Demux.hear.Goals as goal
 
 pub returns-in-Pass-clause-heard : goal.returns-in-Pass-clause-heard
@@ -60,4 +60,4 @@ returns-in-Load-clause-stands c past stands =
     let small : pid < 8192 = subst (λ (n : ℕ). n < 8192) (sym its) (small_pid packet (c.fits-packet 2)) in
     let came = load_came packet pid c.in-Load.counter c.in-Load.at c.in-Load.start is in
     let x = Came (load_in c.in-Load.start c.in-Load.counter c.in-Load.at packet) in
-    on_ok c.hear.result _ _ (λ after. one_came past packet c.self.inside.places c.hear.new.self pid x its small came after (subst (Stands past) (sym c.self.view_is) stands)) c.hear.ensures.kept
+    ok_more c.hear.result _ _ (λ after. one_came past packet c.self.inside.places c.hear.new.self pid x its small came after (subst (Stands past) (sym c.self.view_is) stands)) c.hear.ensures.kept

@@ -1,12 +1,22 @@
--- Sub-tables that can be sent, and then be heard.
+-- Sub-tables by their keys, and those that can be sent, and then be heard.
 use Rattle.std.specs.Prelude.{◌≡◌, ◌≢◌, ◌<◌, ◌≤◌, List, [], ◌∷◌, length}
 use Rattle.std.specs.List.{All}
+use Rattle.section_codec.specs.declared.table.Key.{Key}
 use Rattle.section_codec.specs.declared.table.NumberedBody.{NumberedBody}
 use Rattle.section_codec.specs.declared.table.SubTable.{SubTable}
 use Rattle.section_codec.specs.Contents.{Ascend}
 use Rattle.section_codec.specs.Tables.{tier_of, tier_rank}
 use Rattle.section_codec.specs.Section.{longest_body}
-use Rattle.version_book.specs.Book.{KeysDiffer}
+
+-- none of these sub-tables has this key
+abbrev pub Lacks : Key → List SubTable → Type 0
+Lacks k [] = Unit {0}
+Lacks k (t ∷ ts) = (k ≢ t.key) × Lacks k ts
+
+-- no two of these sub-tables have one key
+abbrev pub KeysDiffer : List SubTable → Type 0
+KeysDiffer [] = Unit {0}
+KeysDiffer (t ∷ ts) = Lacks t.key ts × KeysDiffer ts
 
 -- A sub-table whose sections can be sent: not on the PID of the null packets, in the long form, not beginning as fill does, with 0xFF.
 pub record IsFit (t : SubTable) : Type 0 where

@@ -1,6 +1,6 @@
 use Rattle.std.proofs.Common.{◌≡◌, drop, length}
-use Rattle.version_book.specs.Airings.{is_content}
-use Rattle.version_book.proofs.content.is_same.Given as goal
+use Rattle.section_codec.specs.Contents.{is_content}
+use Rattle.section_codec.proofs.content.same_content.Given as goal
 
 -- the parts that were not looked at decide
 abbrev pub invariant-loop-i : goal.invariant-loop-i
