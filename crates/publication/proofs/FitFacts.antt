@@ -20,7 +20,7 @@ use Rattle.section_codec.specs.declared.table.SubTable.{SubTable}
 use Rattle.section_codec.specs.declared.table.Tier3.TheVariants.{Fast, Near, Far}
 use Rattle.section_codec.specs.Tables.{is_eit, tier_of, tier_rank}
 use Rattle.section_codec.specs.Section.{longest_body}
-use Rattle.section_codec.specs.SubTables.{IsFit, AreTiered}
+use Rattle.section_codec.specs.SubTables.{Lacks, KeysDiffer, IsFit, AreTiered}
 use Rattle.eit_segments.specs.Schedule.{last_used}
 use Rattle.eit_segments.proofs.Order.{used_less}
 use Rattle.guide_limits.specs.Events.{block_of}
