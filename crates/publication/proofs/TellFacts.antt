@@ -1,5 +1,5 @@
 -- Receivers take the sub-tables of a publication as they are meant.
-use Rattle.std.proofs.Common.{◌≡◌, ℕ, ◌<◌, ◌≤◌, Bool, true, List, [], ◌∷◌, length, map, Some, None, refl, ap, ◌∙◌, arith, le-leb}
+use Rattle.std.proofs.Common.{◌≡◌, ℕ, ◌<◌, ◌≤◌, Bool, true, ◌||◌, List, [], ◌∷◌, length, map, Option, Some, None, refl, ap, ap₂, ◌∙◌, arith, le-leb}
 use Rattle.std.specs.Prelude.{◌&&◌, nat_le, if◌then◌else◌}
 use Rattle.std.specs.List.{AllByRecursion}
 use Rattle.std.proofs.lemmas.Bool.Decides.{nat_tests}
@@ -12,18 +12,18 @@ use Rattle.mux_config.specs.declared.mux.Mux.{Mux}
 use Rattle.mux_config.specs.Sound.{IsSoundService}
 use Rattle.guide_limits.specs.Events.{midnight}
 use Rattle.guide_limits.specs.Limits.{IsServiceWithin}
+use Rattle.section_codec.specs.declared.section.LongHeader.{LongHeader}
 use Rattle.section_codec.specs.declared.table.Key.{Key}
 use Rattle.section_codec.specs.declared.table.NumberedBody.{NumberedBody}
 use Rattle.section_codec.specs.declared.table.SubTable.{SubTable}
 use Rattle.section_codec.specs.declared.table.Tier3.{Tier3}
-use Rattle.section_codec.specs.Tables.{is_eit, is_events}
+use Rattle.section_codec.specs.Tables.{is_eit, is_pat, is_pmt, is_nit, is_sdt, is_events}
 use Rattle.section_codec.specs.Contents.{last_number}
-use Rattle.section_codec.specs.Keys.{key_with, key_in}
+use Rattle.section_codec.specs.Keys.{key_in}
 use Rattle.section_codec.specs.Segments.{segment_last_in}
 use Rattle.section_codec.proofs.ContentFacts.{last_number-from}
 use Rattle.sub_collect.proofs.Whole.{from_zero}
 use Rattle.sub_collect.proofs.Segmented.{by_segments}
-use Rattle.section_codec.specs.SubTables.{header_of}
 use Rattle.eit_codec.specs.declared.eit.Eit.{Eit}
 use Rattle.eit_codec.specs.Eit.{IsTyped, IsEit}
 use Rattle.eit_codec.proofs.ReadBodies.{read_bodies}
@@ -35,17 +35,33 @@ use Rattle.eit_tables.proofs.EntryFacts.{typed_small}
 use Rattle.eit_tables.proofs.EitFacts.{present_fit, schedule_fit, events_name, events_read}
 use Rattle.publication.specs.Sdt.{sdt_sections}
 use Rattle.publication.specs.Tables.{sdt_key, sdt_table}
-use Rattle.publication.specs.Laws.{IsReadEit, IsSdtBody, AreSdt, TellsItself, PublicationsTellThemselves}
+use Rattle.publication.specs.Laws.{IsReadEit, IsSdtBody, AreSdt, TellsKey, TellsItself, PublicationsTellThemselves}
 use Rattle.publication.proofs.SdtFacts.{sdt_fit}
 use Rattle.publication.proofs.FitFacts.{all_two, each_sub_table}
 
+-- ---- keys
+
+abbrev key_of_fields : ℕ → ℕ → ℕ → ℕ → ℕ → Key
+key_of_fields pid table ext stream network = record { pid = pid; table = table; ext = ext; stream = stream; network = network }
+
+-- the key by the fields of a header that it goes by
+abbrev key_by : ℕ → ℕ → ℕ → List ℕ → Option Key
+key_by pid table ext body =
+    if is_pat pid table || is_pmt pid table || is_nit pid table then Some (key_of_fields pid table ext 0 0)
+    else if is_sdt pid table && nat_le 2 (length body) then Some (key_of_fields pid table ext 0 (two_at 0 body))
+    else if is_events pid table && nat_le 4 (length body) then Some (key_of_fields pid table ext (two_at 0 body) (two_at 2 body))
+    else None
+
+key_by_fields : (pid : ℕ) (header : LongHeader) (table ext : ℕ) (body : List ℕ) → header.table ≡ table → header.ext ≡ ext → key_in pid header body ≡ key_by pid table ext body
+key_by_fields pid header table ext body is_table is_ext = ap₂ (λ (t e : ℕ). key_by pid t e body) is_table is_ext
+
 -- ---- the SDT
 
-sdt_keyed : (mux : Mux) (guide : Guide) (s : NumberedBody) → IsSdtBody mux.original s → key_in 0x0011 (header_of 0 (sdt_table mux guide) s) s.body ≡ Some (sdt_key mux)
-sdt_keyed mux guide s is =
-    let h = header_of 0 (sdt_table mux guide) s in
-    ap (λ (b : Bool). if b then Some (key_with 0x0011 h 0 (two_at 0 s.body)) else None) (le-leb 2 (length s.body) is.least)
-    ∙ ap (λ (n : ℕ). let k : Key = record { pid = 0x0011; table = 0x42; ext = mux.stream; stream = 0; network = n } in Some k) is.network
+sdt_keyed : (mux : Mux) (s : NumberedBody) → IsSdtBody mux.original s → TellsKey (sdt_key mux) s
+sdt_keyed mux s is header table ext =
+    key_by_fields 0x0011 header 0x42 mux.stream s.body table ext
+    ∙ ap (λ (b : Bool). if b then Some (key_of_fields 0x0011 0x42 mux.stream 0 (two_at 0 s.body)) else None) (le-leb 2 (length s.body) is.least)
+    ∙ ap (λ (n : ℕ). Some (key_of_fields 0x0011 0x42 mux.stream 0 n)) is.network
 
 sdt_tells : (mux : Mux) (guide : Guide) → mux.stream < 65536 → AreSdt mux.original (sdt_sections mux guide) → TellsItself (sdt_table mux guide)
 sdt_tells mux guide stream are =
@@ -55,7 +71,7 @@ sdt_tells mux guide stream are =
       ext = stream;
       last = omega (arith, last_number-from 0 ss are.numbers are.some, are.few);
       numbered = from_zero (sdt_key mux) ss refl are.some are.numbers;
-      keyed = all_map (IsSdtBody mux.original) (λ (s : NumberedBody). key_in 0x0011 (header_of 0 (sdt_table mux guide) s) s.body ≡ Some (sdt_key mux)) (sdt_keyed mux guide) ss are.bodies;
+      keyed = all_map (IsSdtBody mux.original) (TellsKey (sdt_key mux)) (sdt_keyed mux) ss are.bodies;
       read = λ e. absurd (let z : Prim.⊥ = cc in z);
     }
 
@@ -64,13 +80,12 @@ sdt_tells mux guide stream are =
 abbrev eit_table : Mux → ℕ → ℕ → Tier3 → List NumberedBody → SubTable
 eit_table mux table service tier sections = record { key = eit_key mux table service; tier = tier; sections = sections }
 
-eit_keyed : (mux : Mux) (table service : ℕ) (tier : Tier3) (sections : List NumberedBody) → is_events 0x0012 table ≡ true → (s : NumberedBody) → 6 ≤ length s.body → Names mux s.body
-    → key_in 0x0012 (header_of 0 (eit_table mux table service tier sections) s) s.body ≡ Some (eit_key mux table service)
-eit_keyed mux table service tier sections events s least names =
-    let h = header_of 0 (eit_table mux table service tier sections) s in
-    let key : ℕ → ℕ → Key = λ stream network. record { pid = 0x0012; table = table; ext = service; stream = stream; network = network } in
-    ap (λ (b : Bool). if b && nat_le 4 (length s.body) then Some (key_with 0x0012 h (two_at 0 s.body) (two_at 2 s.body)) else None) events
-    ∙ ap (λ (b : Bool). if b then Some (key_with 0x0012 h (two_at 0 s.body) (two_at 2 s.body)) else None) (le-leb 4 (length s.body) (omega (arith, least)))
+eit_keyed : (mux : Mux) (table service : ℕ) → is_events 0x0012 table ≡ true → (s : NumberedBody) → 6 ≤ length s.body → Names mux s.body → TellsKey (eit_key mux table service) s
+eit_keyed mux table service events s least names header is_table is_ext =
+    let key = key_of_fields 0x0012 table service in
+    key_by_fields 0x0012 header table service s.body is_table is_ext
+    ∙ ap (λ (b : Bool). if b && nat_le 4 (length s.body) then Some (key (two_at 0 s.body) (two_at 2 s.body)) else None) events
+    ∙ ap (λ (b : Bool). if b then Some (key (two_at 0 s.body) (two_at 2 s.body)) else None) (le-leb 4 (length s.body) (omega (arith, least)))
     ∙ ap (λ (n : ℕ). Some (key n (two_at 2 s.body))) names.0 ∙ ap (λ (n : ℕ). Some (key mux.stream n)) names.1
 
 eit_tells : (mux : Mux) (table service : ℕ) (tier : Tier3) (sections : List NumberedBody) → is_events 0x0012 table ≡ true → is_eit table ≡ true → table < 256 → service < 65536
@@ -86,8 +101,7 @@ eit_tells mux table service tier sections events eit few id are names read =
       ext = id;
       last = are.below;
       numbered = by_segments (eit_key mux table service) sections eit are.by_segments;
-      keyed = all_two sized named (λ (s : NumberedBody). key_in 0x0012 (header_of 0 (eit_table mux table service tier sections) s) s.body ≡ Some (eit_key mux table service))
-          (λ s size name. eit_keyed mux table service tier sections events s size.0 name) sections are.bodies names;
+      keyed = all_two sized named (TellsKey (eit_key mux table service)) (λ s size name. eit_keyed mux table service events s size.0 name) sections are.bodies names;
       read = λ e. all_two is_read told (IsReadEit (last_number sections)) (λ s r t. record { body = read_bodies s.body r.0 r.1; told = t }) sections read are.told;
     }
 
