@@ -1,6 +1,7 @@
 -- service_descriptor: the type of a service, its provider and its name (EN 300 468, 6.2.33).
 use Rattle.std.specs.Prelude.{◌≡◌, ℕ, List, [], ◌∷◌, ◌++◌, Option, Some, None}
 use Rattle.std.specs.Option.{option_map, option_and_then}
+use Rattle.si_text.specs.declared.shown.Shown.{Shown}
 use Rattle.si_text.specs.Decoding.{decoded, shown_bytes, IsAsDecoded}
 use Rattle.desc_parts.specs.Descriptors.{descriptor}
 use Rattle.desc_parts.specs.Lengths.{with_length, split_length, behind_length}
@@ -17,6 +18,10 @@ service_body s = service_fields s.kind (shown_bytes s.provider) (shown_bytes s.n
 
 abbrev pub service_descriptor : ServiceText → List ℕ
 service_descriptor s = descriptor 0x48 (service_body s)
+
+-- the same of a type and two texts
+abbrev pub service_written : ℕ → Shown → Shown → List ℕ
+service_written kind provider name = service_descriptor (record { kind = kind; provider = provider; name = name })
 
 -- ---- read
 

@@ -1,7 +1,7 @@
 // service_descriptor.
 ghost use Rattle.std.specs.Prelude.{◌≡◌, ◌+◌, ◌≤◌, ◌++◌, length, IfOk, OnOk, OnErr};
 ghost use Rattle.si_text.specs.Decoding.{shown_bytes};
-ghost use Rattle.desc_service.specs.Service.{service_descriptor, service_in};
+ghost use Rattle.desc_service.specs.Service.{service_descriptor, service_in, service_written};
 
 use desc_parts::{Coded, behind_length, split_length};
 use si_base::put;
@@ -37,7 +37,7 @@ pub fn write_service_fields(
     out: &mut Vec<u8>,
 ) -> Result<(), AllocError>
     requires { length (shown_bytes provider.now) + length (shown_bytes name.now) ≤ 252 }
-    ensures written { OnOk result (out.new.items ≡ out.old.items ++ service_descriptor (record { kind = kind; provider = provider.now; name = name.now })) }
+    ensures written { OnOk result (out.new.items ≡ out.old.items ++ service_written kind provider.now name.now) }
     ensures memory { OnErr result (out.new.items ≡ out.old.items) }
 {
     let provider = Coded::of_shown(provider);

@@ -1,8 +1,9 @@
 -- Written networks read back, and a body is of one value at most.
-use Rattle.std.proofs.Common.{◌≡◌, ◌∙◌, ℕ, ◌+◌, ◌*◌, ◌/◌, ◌%◌, ◌<◌, ◌≤◌, List, [], ◌∷◌, ◌++◌, length, get_or, drop, map, Option, Some, None, IfSome, refl, sym, ap, ap₂, subst, arith, length-append}
+use Rattle.std.proofs.Common.{◌≡◌, ◌∙◌, ℕ, ◌+◌, ◌*◌, ◌/◌, ◌%◌, ◌<◌, ◌≤◌, List, [], ◌∷◌, ◌++◌, length, get_or, drop, map, sum_by, Option, Some, None, IfSome, refl, sym, ap, ap₂, subst, arith, length-append}
 use Rattle.std.specs.Option.{option_or, unwrap_or}
 use Rattle.std.specs.List.{flat_map, AllByRecursion}
 use Rattle.std.proofs.lemmas.List.{append-nil}
+use Rattle.std.proofs.lemmas.List.Concat.{length-flat_map}
 use Rattle.si_base.specs.Fields.{two}
 use Rattle.si_text.specs.declared.shown.Shown.{Shown}
 use Rattle.si_text.specs.Decoding.{shown_bytes}
@@ -21,7 +22,7 @@ use Rattle.table_entries.proofs.Reading.{entries-unique}
 use Rattle.nit_sdt.proofs.Words.{word_back}
 use Rattle.nit_sdt.specs.declared.nit.NitStream.{NitStream}
 use Rattle.nit_sdt.specs.declared.nit.Nit.{Nit}
-use Rattle.nit_sdt.specs.Nit.{cable_descriptors, stream_entry, stream_bytes, bare_entry, name_of, stream_of, IsLoop, IsNit, HasStreamWidths, NitIsUnique, NitReadsBack}
+use Rattle.nit_sdt.specs.Nit.{cable_descriptors, stream_entry, stream_bytes, bare_entry, name_of, stream_of, IsLoop, IsNit, cable_size, stream_size, HasStreamWidths, NitHasItsSize, NitIsUnique, NitReadsBack}
 
 -- ---- loops behind their length
 
@@ -85,6 +86,26 @@ nit-unique body a b p q =
     entries-unique 4 stream_of q.loop a.streams b.streams (subst (λ (bytes : List ℕ). AreEntries 4 stream_of bytes a.streams) loops p.streams) q.streams in
     same_nit a b names streams
 
+-- ---- sizes
+
+length-cable : (c : Option Cable) → length (cable_descriptors c) ≡ cable_size c
+length-cable None = refl
+length-cable (Some c) = refl
+
+pub length-descriptors : (c : Option Cable) (ks : List ServiceKind) → length (cable_descriptors c ++ service_list ks) ≡ cable_size c + (2 + 3 * length ks)
+length-descriptors c ks = omega (arith, length-append (cable_descriptors c) (service_list ks), length-service_list_body ks, length-cable c)
+
+length-stream : (s : NitStream) → length (stream_bytes s) ≡ stream_size s
+length-stream s = omega (arith, length-descriptors s.cable s.services)
+
+pub length-streams : (ss : List NitStream) → length (flat_map stream_bytes ss) ≡ sum_by stream_size ss
+length-streams ss = length-flat_map stream_bytes ss ∙ (λ i. sum_by (λ (s : NitStream). length-stream s i) ss)
+
+pub nit-has_its_size : NitHasItsSize
+nit-has_its_size n =
+    let streams = flat_map stream_bytes n.streams in
+    omega (arith, length-append (entry_bytes (bare_entry (network_name n.name))) (entry_bytes (bare_entry streams)), length-streams n.streams)
+
 -- ---- written, and read back
 
 same_stream : (s t o p : ℕ) (c d : Option Cable) (ks ls : List ServiceKind) → s ≡ t → o ≡ p → c ≡ d → ks ≡ ls
@@ -116,9 +137,6 @@ stream_read back s o (Some c) ks ls lo digits few words = record {
   shows = sym (same_stream _ s _ o _ (Some c) _ ks (word_back s ls) (word_back o lo) (ap (λ read. option_or read None) (back c digits)) (ap (λ read. unwrap_or (option_or read None) []) (service_list-reads_back ks words)));
 }
 
-pub length-descriptors : (c : Option Cable) (ks : List ServiceKind) → length (cable_descriptors c ++ service_list ks) ≡ length (cable_descriptors c) + (2 + 3 * length ks)
-length-descriptors c ks = omega (arith, length-append (cable_descriptors c) (service_list ks), length-service_list_body ks)
-
 descriptors_few : (c : Option Cable) (ks : List ServiceKind) → 3 * length ks ≤ 255 → length (cable_descriptors c ++ service_list ks) < 4096
 descriptors_few None ks few = omega (arith, few, length-service_list_body ks)
 descriptors_few (Some c) ks few = omega (arith, few, length-service_list_body ks)
@@ -146,7 +164,7 @@ nit-reads_back back n fits = record {
   network_descriptors = record { whole = sym (append-nil (network_name n.name)); lengths = (omega (arith, fits.name), tt) };
   name = sym fits.shown;
   loop = flat_map stream_bytes n.streams;
-  stream_loop = record { bits = 15; whole = refl; width = omega arith; within = fits.loop };
+  stream_loop = record { bits = 15; whole = refl; width = omega arith; within = omega (arith, fits.within, length-streams n.streams) };
   streams = record {
     entries = map stream_entry n.streams;
     whole = streams_whole n.streams;

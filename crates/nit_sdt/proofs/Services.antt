@@ -4,6 +4,7 @@ use Rattle.std.specs.Prelude.{◌==◌}
 use Rattle.std.specs.Option.{option_or, unwrap_or}
 use Rattle.std.specs.List.{flat_map, AllByRecursion}
 use Rattle.std.proofs.lemmas.List.{append-nil}
+use Rattle.std.proofs.lemmas.List.Concat.{length-flat_map}
 use Rattle.si_text.specs.declared.shown.Shown.TheVariants.{Text}
 use Rattle.si_text.specs.Decoding.{shown_bytes}
 use Rattle.desc_service.specs.declared.service.ServiceText.{ServiceText}
@@ -13,7 +14,7 @@ use Rattle.table_entries.proofs.Reading.{entries-unique}
 use Rattle.nit_sdt.proofs.Words.{word_back}
 use Rattle.nit_sdt.specs.declared.sdt.SdtService.{SdtService}
 use Rattle.nit_sdt.specs.declared.sdt.Sdt.{Sdt}
-use Rattle.nit_sdt.specs.Sdt.{flag_bit, text_of, service_entry, service_bytes, service_with, service_of, HasServiceWidths, SdtIsUnique, SdtReadsBack}
+use Rattle.nit_sdt.specs.Sdt.{flag_bit, text_of, service_entry, service_bytes, service_with, service_of, HasServiceWidths, ServiceHasItsSize, SdtHasItsSize, SdtIsUnique, SdtReadsBack}
 
 -- ---- one value at most
 
@@ -27,6 +28,12 @@ sdt-unique body a b p q = same_sdt a b (p.original ∙ sym q.original) (entries-
 
 pub length-service_descriptor : (s : SdtService) → length (service_descriptor (text_of s)) ≡ 5 + length (shown_bytes s.provider) + length (shown_bytes s.name)
 length-service_descriptor s = omega (arith, length-append (shown_bytes s.provider) (length (shown_bytes s.name) ∷ shown_bytes s.name))
+
+pub service-has_its_size : ServiceHasItsSize
+service-has_its_size s = omega (arith, length-service_descriptor s)
+
+pub sdt-has_its_size : SdtHasItsSize
+sdt-has_its_size sdt = omega (arith, length-flat_map service_bytes sdt.services)
 
 -- ---- written, and read back
 

@@ -1,5 +1,5 @@
 -- The body of a section of the network information table, both ways (EN 300 468, 5.2.1).
-use Rattle.std.specs.Prelude.{◌≡◌, ℕ, ◌+◌, ◌*◌, ◌<◌, ◌≤◌, List, [], ◌++◌, length, Option, Some, None, IfSome}
+use Rattle.std.specs.Prelude.{◌≡◌, ℕ, ◌+◌, ◌*◌, ◌<◌, ◌≤◌, List, [], ◌++◌, length, sum_by, Option, Some, None, IfSome}
 use Rattle.std.specs.Option.{unwrap_or}
 use Rattle.std.specs.List.{flat_map, AllByRecursion}
 use Rattle.si_base.specs.Fields.{two, two_at}
@@ -39,6 +39,14 @@ bare_entry bytes = record { fields = []; bits = 15; descriptors = bytes }
 -- the name behind network_descriptors_length, and the streams behind transport_stream_loop_length
 abbrev pub nit_body : Nit → List ℕ
 nit_body n = entry_bytes (bare_entry (network_name n.name)) ++ entry_bytes (bare_entry (flat_map stream_bytes n.streams))
+
+-- how many bytes an entry has
+abbrev pub cable_size : Option Cable → ℕ
+cable_size None = 0
+cable_size (Some cable) = 13
+
+abbrev pub stream_size : NitStream → ℕ
+stream_size s = 8 + cable_size s.cable + 3 * length s.services
 
 -- the digits of the cable fit, and the services the length of their descriptor
 pub record FitsStream (s : NitStream) : Type 0 where
@@ -101,8 +109,12 @@ pub record FitsNit (n : Nit) : Type 0 where
   pub name : length (shown_bytes n.name) ≤ 255
   pub shown : IsAsDecoded n.name
   pub streams : AllByRecursion HasStreamWidths n.streams
-  pub loop : length (flat_map stream_bytes n.streams) < 4096
+  pub within : sum_by stream_size n.streams < 4096
 
 -- Reading a written body gives its value back.
 abbrev pub NitReadsBack : Type 0
 NitReadsBack = (n : Nit) → FitsNit n → IsNit (nit_body n) n
+
+-- A body has the bytes of its name, of its streams, and 6 more.
+abbrev pub NitHasItsSize : Type 0
+NitHasItsSize = (n : Nit) → length (nit_body n) ≡ 6 + length (shown_bytes n.name) + sum_by stream_size n.streams

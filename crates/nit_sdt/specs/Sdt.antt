@@ -1,5 +1,5 @@
 -- The body of a section of the service description table, both ways (EN 300 468, 5.2.3).
-use Rattle.std.specs.Prelude.{◌≡◌, ℕ, ◌+◌, ◌*◌, ◌/◌, ◌%◌, ◌<◌, ◌≤◌, Bool, ◌==◌, if◌then◌else◌, List, [], ◌∷◌, ◌++◌, length, drop, slice_index}
+use Rattle.std.specs.Prelude.{◌≡◌, ℕ, ◌+◌, ◌*◌, ◌/◌, ◌%◌, ◌<◌, ◌≤◌, Bool, ◌==◌, if◌then◌else◌, List, [], ◌∷◌, ◌++◌, length, drop, sum_by, slice_index}
 use Rattle.std.specs.Option.{unwrap_or}
 use Rattle.std.specs.List.{flat_map, AllByRecursion}
 use Rattle.si_base.specs.Fields.{two, two_at}
@@ -88,3 +88,10 @@ pub record FitsSdt (sdt : Sdt) : Type 0 where
 -- Reading a written body gives its value back.
 abbrev pub SdtReadsBack : Type 0
 SdtReadsBack = (sdt : Sdt) → FitsSdt sdt → IsSdt (sdt_body sdt) sdt
+
+-- An entry has the bytes of its texts, and 10 more; a body has its entries, and 3 more.
+abbrev pub ServiceHasItsSize : Type 0
+ServiceHasItsSize = (s : SdtService) → length (service_bytes s) ≡ 10 + length (shown_bytes s.provider) + length (shown_bytes s.name)
+
+abbrev pub SdtHasItsSize : Type 0
+SdtHasItsSize = (sdt : Sdt) → length (sdt_body sdt) ≡ 3 + sum_by (λ s. length (service_bytes s)) sdt.services

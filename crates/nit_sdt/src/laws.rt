@@ -1,6 +1,6 @@
 // Laws of the written and the read forms.
-ghost use Rattle.nit_sdt.specs.Nit.{NitIsUnique, NitReadsBack};
-ghost use Rattle.nit_sdt.specs.Sdt.{SdtIsUnique, SdtReadsBack};
+ghost use Rattle.nit_sdt.specs.Nit.{NitHasItsSize, NitIsUnique, NitReadsBack};
+ghost use Rattle.nit_sdt.specs.Sdt.{SdtHasItsSize, SdtIsUnique, SdtReadsBack, ServiceHasItsSize};
 
 use desc_service::written_descriptors_read_back;
 
@@ -13,3 +13,10 @@ pub fn written_networks_read_back()
 {
     written_descriptors_read_back();
 }
+
+/// How many bytes bodies have, and the entries of services.
+pub fn bodies_have_their_sizes()
+    ensures nit { NitHasItsSize }
+    ensures service { ServiceHasItsSize }
+    ensures sdt { SdtHasItsSize }
+{}

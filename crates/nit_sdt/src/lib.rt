@@ -3,7 +3,8 @@
 //!
 //! The layers above use: `write_nit` and `write_sdt` give the body of a section; `read_nit` and `read_sdt` give the value of a body,
 //! and `None` exactly where it has none; reading a written body gives its value back (`written_networks_read_back`). `service_len`
-//! tells what a service adds to the body of a section, for those who part services among sections.
+//! tells what a service adds to the body of a section, for those who part services among sections, and `bodies_have_their_sizes` how
+//! long bodies are.
 #![tactic(auto)]
 
 mod laws;
@@ -11,6 +12,6 @@ mod nit;
 mod sdt;
 mod texts;
 
-pub use laws::written_networks_read_back;
+pub use laws::{bodies_have_their_sizes, written_networks_read_back};
 pub use nit::{Nit, NitStream, NitStreams, read_nit, write_nit};
 pub use sdt::{Sdt, SdtService, SdtServices, read_sdt, service_len, write_sdt};

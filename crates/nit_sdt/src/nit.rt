@@ -1,5 +1,5 @@
 // The network information table.
-ghost use Rattle.std.specs.Prelude.{◌≡◌, ◌<◌, ◌≤◌, ◌++◌, List, ℕ, length, IfOk, IfSome, IfNone, OnOk};
+ghost use Rattle.std.specs.Prelude.{◌≡◌, ◌<◌, ◌≤◌, ◌++◌, List, ℕ, length, sum_by, IfOk, IfSome, IfNone, OnOk};
 ghost use Rattle.std.specs.List.{All, flat_map};
 ghost use Rattle.si_text.specs.Decoding.{shown_bytes};
 ghost use Rattle.desc_service.specs.CableDelivery.{FitsCable};
@@ -7,7 +7,7 @@ ghost use Rattle.desc_service.specs.NetworkName.{network_name};
 ghost use Rattle.table_entries.specs.Entries.{AreEntries, entry_bytes};
 ghost use Rattle.nit_sdt.specs.declared.nit.NitStream.{NitStream};
 ghost use Rattle.nit_sdt.specs.declared.nit.Nit.{Nit};
-ghost use Rattle.nit_sdt.specs.Nit.{FitsStream, IsLoop, IsNit, bare_entry, cable_descriptors, cable_of, name_of, nit_body, services_of, stream_bytes, stream_of};
+ghost use Rattle.nit_sdt.specs.Nit.{FitsStream, IsLoop, IsNit, bare_entry, cable_descriptors, cable_of, cable_size, name_of, nit_body, services_of, stream_bytes, stream_of, stream_size};
 
 use crate::texts::no_text;
 use desc_service::{
@@ -48,7 +48,7 @@ pub struct Nit {
 pub fn write_nit(alloc: Global, nit: &Nit) -> Result<Bytes, AllocError>
     requires name { length (shown_bytes nit.now.name) ≤ 255 }
     requires streams { All FitsStream nit.now.streams }
-    requires within { length (flat_map stream_bytes nit.now.streams) < 4096 }
+    requires within { sum_by stream_size nit.now.streams < 4096 }
     ensures { IfOk result (λ body. body ≡ nit_body nit.now) }
 {
     let mut streams = Vec::new(alloc);
@@ -96,8 +96,7 @@ fn put_stream(stream: &NitStream, out: &mut Vec<u8>) -> Result<(), AllocError>
 
 // The bytes of the descriptor of a cable.
 fn cable_len(cable: &Option<Cable>) -> u16
-    ensures value { result ≡ length (cable_descriptors cable.now) }
-    ensures small { result ≤ 13 }
+    ensures { result ≡ cable_size cable.now }
 {
     match cable {
         None => 0,

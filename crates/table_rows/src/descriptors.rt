@@ -3,12 +3,13 @@ ghost use Rattle.std.specs.Prelude.{IsTrue};
 ghost use Rattle.desc_service.specs.CableDelivery.{FitsCable};
 
 use desc_service::{
-    ServiceKind, ServiceText, read_cable_delivery_system, read_iso_639_language, read_network_name,
-    read_service, read_service_list, write_cable_delivery_system, write_iso_639_language,
-    write_network_name, write_service, write_service_list,
+    ServiceKind, ServiceKinds, ServiceText, read_cable_delivery_system, read_iso_639_language,
+    read_network_name, read_service, read_service_list, write_cable_delivery_system,
+    write_iso_639_language, write_network_name, write_service, write_service_list,
 };
 use guide_model::Cable;
 use row_lines::{MOST, Row, code_in, put_code, put_shown, text};
+use si_base::Items;
 use si_text::Shown;
 use std::alloc::AllocError;
 
@@ -94,23 +95,31 @@ fn kind_in(row: &mut Row, word: &str) -> ServiceKind {
     }
 }
 
-/// `write_service_list SERVICE:TYPE ..`.
-pub fn write_list(row: &mut Row) {
+/// Services and their types up to the end of a part.
+pub fn kinds_in(row: &mut Row) -> ServiceKinds {
     let mut services = Vec::new(row.alloc());
     for _ in 0..MOST {
         let word = row.word();
         if row.is_end(word) {
             break;
         }
-        if services.push(kind_in(row, word)).is_err() {
-            return row.lack_memory();
+        let kind = kind_in(row, word);
+        if services.push(kind).is_err() {
+            row.lack_memory();
+            break;
         }
     }
+    Items::of(services)
+}
+
+/// `write_service_list SERVICE:TYPE ..`.
+pub fn write_list(row: &mut Row) {
+    let services = kinds_in(row);
     if services.len() > 85 {
         return row.refuse();
     }
     let mut out = Vec::new(row.alloc());
-    let done = write_service_list(&services, &mut out);
+    let done = write_service_list(services.as_slice(), &mut out);
     put_written(row, done, &out);
 }
 
@@ -119,10 +128,7 @@ pub fn read_list(row: &mut Row) {
     let body = row.bytes();
     match read_service_list(row.alloc(), &body) {
         Ok(Some(services)) => {
-            for service in services.as_slice() {
-                row.put_number(" ", u64::from(service.service));
-                row.put_number(":", u64::from(service.kind));
-            }
+            put_kinds(row, services.as_slice());
             row.put(";");
         }
         Ok(None) => row.put(" none"),
@@ -130,8 +136,16 @@ pub fn read_list(row: &mut Row) {
     }
 }
 
-// Whether the digits and the halves of bytes fit.
-fn fits(cable: &Cable) -> bool
+/// Appends services and their types.
+pub fn put_kinds(row: &mut Row, services: &[ServiceKind]) {
+    for service in services {
+        row.put_number(" ", u64::from(service.service));
+        row.put_number(":", u64::from(service.kind));
+    }
+}
+
+/// Whether the digits and the halves of bytes fit.
+pub fn fits(cable: &Cable) -> bool
     ensures { IsTrue result → FitsCable cable.now }
 {
     cable.frequency < 100_000_000
@@ -140,15 +154,28 @@ fn fits(cable: &Cable) -> bool
         && cable.fec_inner < 16
 }
 
-/// `write_cable_delivery_system FREQUENCY MODULATION SYMBOL_RATE OUTER INNER`.
-pub fn write_cable(row: &mut Row) {
-    let cable = Cable {
-        frequency: (row.number() % 4_294_967_296) as u32,
+/// The cable whose frequency is this word, and whose other numbers follow.
+pub fn cable_in(row: &mut Row, word: &str) -> Cable {
+    let frequency = match word.parse::<u32>() {
+        Ok(frequency) => frequency,
+        Err(_) => {
+            row.refuse();
+            0
+        }
+    };
+    Cable {
+        frequency,
         modulation: (row.number() % 256) as u8,
         symbol_rate: (row.number() % 4_294_967_296) as u32,
         fec_outer: (row.number() % 256) as u8,
         fec_inner: (row.number() % 256) as u8,
-    };
+    }
+}
+
+/// `write_cable_delivery_system FREQUENCY MODULATION SYMBOL_RATE OUTER INNER`.
+pub fn write_cable(row: &mut Row) {
+    let word = row.word();
+    let cable = cable_in(row, word);
     if !fits(&cable) {
         return row.refuse();
     }
@@ -161,16 +188,19 @@ pub fn write_cable(row: &mut Row) {
 pub fn read_cable(row: &mut Row) {
     let body = row.bytes();
     match read_cable_delivery_system(&body) {
-        Ok(Some(cable)) => {
-            row.put_number(" ", u64::from(cable.frequency));
-            row.put_number(" ", u64::from(cable.modulation));
-            row.put_number(" ", u64::from(cable.symbol_rate));
-            row.put_number(" ", u64::from(cable.fec_outer));
-            row.put_number(" ", u64::from(cable.fec_inner));
-        }
+        Ok(Some(cable)) => put_cable(row, &cable),
         Ok(None) => row.put(" none"),
         Err(_) => row.lack_memory(),
     }
+}
+
+/// Appends a cable.
+pub fn put_cable(row: &mut Row, cable: &Cable) {
+    row.put_number(" ", u64::from(cable.frequency));
+    row.put_number(" ", u64::from(cable.modulation));
+    row.put_number(" ", u64::from(cable.symbol_rate));
+    row.put_number(" ", u64::from(cable.fec_outer));
+    row.put_number(" ", u64::from(cable.fec_inner));
 }
 
 /// `write_service TYPE | PROVIDER | NAME`.

@@ -6,7 +6,10 @@
 #![tactic(auto)]
 
 mod descriptors;
+mod networks;
 mod programs;
+mod services;
+mod times;
 
 use row_lines::Row;
 use std::alloc::{AllocError, Global};
@@ -29,6 +32,13 @@ fn answer(row: &mut Row) {
         "read_pat" => programs::read_programs(row),
         "write_pmt" => programs::write_program(row),
         "read_pmt" => programs::read_program(row),
+        "write_nit" => networks::write_network(row),
+        "read_nit" => networks::read_network(row),
+        "write_sdt" => services::write_services(row),
+        "read_sdt" => services::read_services(row),
+        "service_len" => services::put_len(row),
+        "write_tdt" => times::write_time(row),
+        "read_tdt" => times::read_time(row),
         _ => row.refuse(),
     }
 }

@@ -10,8 +10,8 @@ use row_lines::{MOST, Row, code_in, put_code};
 use si_base::{Bytes, Items};
 use std::alloc::AllocError;
 
-// What was written, or want of memory.
-fn put_body(row: &mut Row, body: Result<Bytes, AllocError>) {
+/// What was written, or want of memory.
+pub fn put_body(row: &mut Row, body: Result<Bytes, AllocError>) {
     match body {
         Ok(body) => row.put_bytes(body.as_slice()),
         Err(_) => row.lack_memory(),

@@ -1,0 +1,116 @@
+// The network information table, both ways.
+ghost use Rattle.std.specs.Prelude.{◌<◌, sum_by, IsTrue};
+ghost use Rattle.std.specs.List.{All};
+ghost use Rattle.nit_sdt.specs.Nit.{FitsStream, stream_size};
+
+use crate::descriptors::{cable_in, fits, kinds_in, put_cable, put_kinds};
+use crate::programs::put_body;
+use nit_sdt::{Nit, NitStream, NitStreams, read_nit, write_nit};
+use row_lines::{MOST, Row, put_shown, text};
+use si_base::Items;
+use si_text::Shown;
+
+// A stream: its two ids, its cable or `-`, and its services, as `2 1 - 201:1`.
+fn stream_in(row: &mut Row) -> NitStream {
+    let stream = (row.number() % 65_536) as u16;
+    let original = (row.number() % 65_536) as u16;
+    let word = row.word();
+    NitStream {
+        stream,
+        original,
+        cable: if word == "-" {
+            None
+        } else {
+            Some(cable_in(row, word))
+        },
+        services: kinds_in(row),
+    }
+}
+
+fn streams_in(row: &mut Row) -> NitStreams {
+    let mut streams = Vec::new(row.alloc());
+    let word = row.word();
+    row.is_end(word);
+    for _ in 0..MOST {
+        if !row.goes_on() {
+            break;
+        }
+        let stream = stream_in(row);
+        if streams.push(stream).is_err() {
+            row.lack_memory();
+            break;
+        }
+    }
+    Items::of(streams)
+}
+
+// Whether its cable and its services fit their descriptors.
+fn fits_stream(stream: &NitStream) -> bool
+    ensures { IsTrue result → FitsStream stream.now }
+{
+    match &stream.cable {
+        None => stream.services.len() <= 85,
+        Some(cable) => fits(cable) && stream.services.len() <= 85,
+    }
+}
+
+// Whether each fits, and all the loop, which takes 14 in any case.
+fn fit(streams: &[NitStream]) -> bool
+    ensures each { IsTrue result → All FitsStream streams.now }
+    ensures within { IsTrue result → sum_by stream_size streams.now < 4096 }
+{
+    if streams.len() > 14 {
+        return false;
+    }
+    for stream in streams {
+        if !fits_stream(stream) {
+            return false;
+        }
+    }
+    true
+}
+
+/// `write_nit NAME / STREAM ORIGINAL CABLE SERVICE:TYPE .. / ..`, where a cable is its five numbers or `-`.
+pub fn write_network(row: &mut Row) {
+    let Some(name) = text(row) else {
+        return;
+    };
+    let nit = Nit {
+        name: Shown::Text(name),
+        streams: streams_in(row),
+    };
+    if nit.name.coded_len() > 255 || !fit(nit.streams.as_slice()) {
+        return row.refuse();
+    }
+    let body = write_nit(row.alloc(), &nit);
+    put_body(row, body);
+}
+
+/// `read_nit BYTES`.
+pub fn read_network(row: &mut Row) {
+    let body = row.bytes();
+    match read_nit(row.alloc(), &body) {
+        Ok(Some(nit)) => put_nit(row, &nit),
+        Ok(None) => row.put(" none"),
+        Err(_) => row.lack_memory(),
+    }
+}
+
+fn put_nit(row: &mut Row, nit: &Nit) {
+    put_shown(row, &nit.name);
+    for stream in nit.streams.as_slice() {
+        put_stream(row, stream);
+    }
+    row.put(";");
+}
+
+fn put_stream(row: &mut Row, stream: &NitStream) {
+    row.put(" /");
+    row.put_number(" ", u64::from(stream.stream));
+    row.put_number(" ", u64::from(stream.original));
+    match &stream.cable {
+        None => row.put(" -"),
+        Some(cable) => put_cable(row, cable),
+    }
+    put_kinds(row, stream.services.as_slice());
+}

@@ -1,0 +1,128 @@
+// The service description table, both ways.
+ghost use Rattle.std.specs.Prelude.{IsTrue};
+ghost use Rattle.std.specs.List.{All};
+ghost use Rattle.nit_sdt.specs.Sdt.{FitsService};
+
+use crate::programs::put_body;
+use nit_sdt::{Sdt, SdtService, SdtServices, read_sdt, service_len, write_sdt};
+use row_lines::{MOST, Row, put_shown, text};
+use si_base::Items;
+use si_text::Shown;
+
+// A service: its id, the flags of its schedule and of its present and following events, each its letter or `-`, its type, its provider
+// and its name, as `101 sp 1 "Acme" "News"`.
+fn service_in(row: &mut Row) -> Option<SdtService> {
+    let service = (row.number() % 65_536) as u16;
+    let flags = row.word();
+    let (schedule, present) = match flags {
+        "sp" => (true, true),
+        "s-" => (true, false),
+        "-p" => (false, true),
+        "--" => (false, false),
+        _ => {
+            row.refuse();
+            (false, false)
+        }
+    };
+    let kind = (row.number() % 256) as u8;
+    let provider = text(row)?;
+    let name = text(row)?;
+    Some(SdtService {
+        service,
+        schedule,
+        present,
+        kind,
+        provider: Shown::Text(provider),
+        name: Shown::Text(name),
+    })
+}
+
+fn services_in(row: &mut Row) -> SdtServices {
+    let mut services = Vec::new(row.alloc());
+    for _ in 0..MOST {
+        let word = row.word();
+        row.is_end(word);
+        if !row.goes_on() {
+            break;
+        }
+        let Some(service) = service_in(row) else {
+            break;
+        };
+        if services.push(service).is_err() {
+            row.lack_memory();
+            break;
+        }
+    }
+    Items::of(services)
+}
+
+// Whether its texts fit their descriptor.
+fn fits_service(service: &SdtService) -> bool
+    ensures { IsTrue result → FitsService service.now }
+{
+    let provider = service.provider.coded_len();
+    provider <= 252 && service.name.coded_len() <= 252 - provider
+}
+
+fn fit(services: &[SdtService]) -> bool
+    ensures { IsTrue result → All FitsService services.now }
+{
+    for service in services {
+        if !fits_service(service) {
+            return false;
+        }
+    }
+    true
+}
+
+/// `write_sdt ORIGINAL / SERVICE FLAGS TYPE PROVIDER NAME / ..`.
+pub fn write_services(row: &mut Row) {
+    let sdt = Sdt {
+        original: (row.number() % 65_536) as u16,
+        services: services_in(row),
+    };
+    if !fit(sdt.services.as_slice()) {
+        return row.refuse();
+    }
+    let body = write_sdt(row.alloc(), &sdt);
+    put_body(row, body);
+}
+
+/// `read_sdt BYTES`.
+pub fn read_services(row: &mut Row) {
+    let body = row.bytes();
+    match read_sdt(row.alloc(), &body) {
+        Ok(Some(sdt)) => put_sdt(row, &sdt),
+        Ok(None) => row.put(" none"),
+        Err(_) => row.lack_memory(),
+    }
+}
+
+fn put_sdt(row: &mut Row, sdt: &Sdt) {
+    row.put_number(" ", u64::from(sdt.original));
+    for service in sdt.services.as_slice() {
+        put_service(row, service);
+    }
+    row.put(";");
+}
+
+fn put_service(row: &mut Row, service: &SdtService) {
+    row.put(" /");
+    row.put_number(" ", u64::from(service.service));
+    row.put(if service.schedule { " s" } else { " -" });
+    row.put(if service.present { "p" } else { "-" });
+    row.put_number(" ", u64::from(service.kind));
+    put_shown(row, &service.provider);
+    put_shown(row, &service.name);
+}
+
+/// `service_len SERVICE FLAGS TYPE PROVIDER NAME`.
+pub fn put_len(row: &mut Row) {
+    let Some(service) = service_in(row) else {
+        return;
+    };
+    if !fits_service(&service) {
+        return row.refuse();
+    }
+    row.put_number(" ", service_len(&service) as u64);
+}
