@@ -1,7 +1,5 @@
 // A row and its answer.
-use crate::{
-    books, controls, desks, edits, entries, muxes, outcomes, publications, scripts,
-};
+use crate::{books, controls, desks, edits, entries, muxes, outcomes, publications, scripts};
 use input_lines::numeral;
 use row_lines::{Cut, Lines, NEVER, parts_counted, reader, runs_counted, written_out};
 use std::alloc::{AllocError, Global};

@@ -1,22 +1,20 @@
 -- Sections of event information can be sent, and go by segments.
-use Rattle.std.proofs.Common.{◌≡◌, ℕ, zero, suc, ◌+◌, ◌-◌, ◌*◌, ◌/◌, ◌<◌, ◌≤◌, Bool, true, false, List, [], ◌∷◌, ◌++◌, length, map, take, drop, flat_map, refl, sym, ap, ap₂, ◌∙◌, subst, arith, length-append, eq-eqb, le-leb}
+use Rattle.std.proofs.Common.{◌≡◌, ℕ, zero, suc, ◌+◌, ◌-◌, ◌*◌, ◌<◌, ◌≤◌, Bool, true, false, List, [], ◌∷◌, ◌++◌, length, map, take, drop, flat_map, refl, sym, ap, ap₂, ◌∙◌, subst, arith, length-append, eq-eqb, le-leb}
 use Rattle.std.specs.Prelude.{Option, Some, None, option_map, find, sum_by, if◌then◌else◌, slice_index, ◌==◌}
 use Rattle.std.specs.List.{AllByRecursion, All, range_with_len, take-map, drop-map}
 use Rattle.std.proofs.lemmas.List.Elements.{All-from_recursion, All-take, All-drop}
 use Rattle.std.proofs.lemmas.List.{length-map}
 use Rattle.std.proofs.lemmas.List.Sums.{sum_by-cons}
-use Rattle.si_lists.proofs.Lists.{all_append, all_map}
+use Rattle.si_lists.proofs.Lists.{all_append, all_map, all_two}
 use Rattle.si_base.specs.Fields.{two, two_at}
 use Rattle.guide_model.specs.declared.event.Event.{Event}
-use Rattle.guide_model.specs.declared.guide.ServiceGuide.{ServiceGuide}
 use Rattle.desc_event.specs.EventDescriptors.{entry_size}
 use Rattle.mux_config.specs.declared.mux.Mux.{Mux}
-use Rattle.guide_limits.specs.Limits.{AreWithin, IsServiceWithin}
 use Rattle.guide_limits.specs.Events.{block_of}
 use Rattle.guide_limits.proofs.RunFacts.{runs_fit}
 use Rattle.section_codec.specs.declared.table.NumberedBody.{NumberedBody}
 use Rattle.section_codec.specs.Contents.{numbers, last_number, Ascend}
-use Rattle.section_codec.specs.Segments.{segment_of, last_beside, segment_last_in, numbers_in_segment, and_numbers, segments_need, table_needs, told_by, segment_last_at, GoBySegments}
+use Rattle.section_codec.specs.Segments.{segment_of, last_beside, segment_last_in, numbers_in_segment, and_numbers, segments_need, table_needs, told_by, segment_last_at}
 use Rattle.eit_codec.specs.declared.eit.EitHead.{EitHead}
 use Rattle.eit_codec.specs.declared.eit.Eit.{Eit}
 use Rattle.eit_codec.specs.Eit.{head_bytes, written_bytes, eit_body, IsCodable, IsTyped, IsEit, shown_event}
@@ -33,8 +31,8 @@ use Rattle.eit_segments.proofs.Order.{runs_few, used_less}
 use Rattle.eit_segments.proofs.Numbers.{Rise, IsInSegment, table_rises, table_below, table_in_segments, tables_are_whole}
 use Rattle.eit_segments.proofs.EventsOf.{segments_have_runs}
 use Rattle.eit_tables.specs.Eit.{eit_head}
-use Rattle.eit_tables.specs.Present.{event_at, present_event, following_event, present_sections, present_table}
-use Rattle.eit_tables.specs.Schedule.{last_table_of, schedule_section, schedule_table}
+use Rattle.eit_tables.specs.Present.{event_at, present_event, following_event}
+use Rattle.eit_tables.specs.Schedule.{last_table_of, schedule_section}
 use Rattle.eit_tables.specs.Laws.{AreSmallEntries, AreEit, Names, PresentIsFit, ScheduleIsFit, EventsAreRead, EventsNameTheMux}
 use Rattle.eit_tables.proofs.EventFacts.{all_codable}
 
@@ -51,10 +49,6 @@ all_to_map P f (x ∷ xs) h = (h.0, all_to_map P f xs h.1)
 all_flat : {X Y : Type 0} (P : Y → Type 0) (f : X → List Y) → ((x : X) → AllByRecursion P (f x)) → (xs : List X) → AllByRecursion P (flat_map f xs)
 all_flat P f each [] = tt
 all_flat P f each (x ∷ xs) = all_append P (f x) (flat_map f xs) (each x) (all_flat P f each xs)
-
-all_two : {X : Type 0} (P Q R : X → Type 0) → ((x : X) → P x → Q x → R x) → (xs : List X) → AllByRecursion P xs → AllByRecursion Q xs → AllByRecursion R xs
-all_two P Q R f [] p q = tt
-all_two P Q R f (x ∷ xs) p q = (f x p.0 q.0, all_two P Q R f xs p.1 q.1)
 
 -- ---- bodies
 

@@ -1,16 +1,15 @@
 -- An event within its limits, as a value of its type, has an entry of at most 1,338 bytes.
-use Rattle.std.proofs.Common.{◌≡◌, ℕ, ◌+◌, ◌≤◌, List, [], ◌∷◌, ◌++◌, length, arith, length-append}
+use Rattle.std.proofs.Common.{◌≡◌, ℕ, ◌≤◌, List, [], ◌∷◌, ◌++◌, length, arith, length-append}
 use Rattle.std.specs.Prelude.{Option, Some, None, IsUtf8}
 use Rattle.std.specs.List.{AllByRecursion}
 use Rattle.si_text.specs.Coding.{coded_text, coded_size}
-use Rattle.si_text.specs.Cutting.{pieces}
 use Rattle.si_text.specs.declared.shown.Shown.TheVariants.{Text}
 use Rattle.guide_model.specs.declared.event.Event.{Event}
 use Rattle.guide_model.specs.declared.event.Genre.{Genre}
 use Rattle.guide_model.specs.declared.event.Rating.{Rating}
 use Rattle.guide_model.specs.declared.guide.ServiceGuide.{ServiceGuide}
-use Rattle.desc_event.specs.ShortEvent.{short_event, short_event_body}
-use Rattle.desc_event.specs.EventDescriptors.{extended_events, content_of, rating_of, event_descriptors, entry_size}
+use Rattle.desc_event.specs.ShortEvent.{short_event}
+use Rattle.desc_event.specs.EventDescriptors.{extended_events, content_of, rating_of, entry_size}
 use Rattle.desc_event.proofs.Entries.{length-parental_rating_body}
 use Rattle.desc_event.proofs.Pieces.{length-coded_text, length-extended_events, length-content_of, extended_size-small}
 use Rattle.guide_limits.specs.Limits.{IsRatingWithin, IsEventWithin, IsServiceWithin}

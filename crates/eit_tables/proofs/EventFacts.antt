@@ -1,11 +1,11 @@
 -- Events within their limits can be placed and coded.
-use Rattle.std.proofs.Common.{◌≡◌, ℕ, ◌*◌, ◌≤◌, List, [], ◌∷◌, ◌++◌, map, flat_map, refl, sym, ap, ◌∙◌, subst, arith, append_assoc}
+use Rattle.std.proofs.Common.{◌≡◌, ℕ, ◌*◌, ◌≤◌, List, [], ◌∷◌, map, sym, ap, ◌∙◌, subst, arith}
 use Rattle.std.specs.List.{AllByRecursion, All}
 use Rattle.std.specs.Prelude.{Option, Some, None, drop}
 use Rattle.std.proofs.lemmas.List.Elements.{All-from_recursion, recursion_from_All, All-take, All-drop}
 use Rattle.si_lists.proofs.Lists.{all_map}
 use Rattle.guide_model.specs.declared.event.Event.{Event}
-use Rattle.desc_event.specs.EventDescriptors.{IsWithinLimits, entry_size}
+use Rattle.desc_event.specs.EventDescriptors.{IsWithinLimits}
 use Rattle.guide_limits.specs.Events.{end_of}
 use Rattle.guide_limits.specs.Limits.{IsEventWithin, AreWithin}
 use Rattle.eit_codec.specs.Eit.{IsCodable}

@@ -1,6 +1,6 @@
 -- Each edit that is read has numbers as wide as their fields, and texts that may be kept.
 use Rattle.std.proofs.Common.{◌≡◌, ◌≤◌, ℕ, zero, suc, Bool, true, false, List, [], ◌∷◌, length, map, refl}
-use Rattle.std.specs.Prelude.{Option, Some, None, IfSome, option_map, option_and_then, if◌then◌else◌, ◌==◌, nat_le, codes}
+use Rattle.std.specs.Prelude.{Option, Some, None, IfSome, if◌then◌else◌, ◌==◌, nat_le, codes}
 use Rattle.std.specs.List.{AllByRecursion, slice_split}
 use Rattle.std.proofs.lemmas.Bool.{leb-true}
 use Rattle.si_lists.proofs.Truths.{second_true}
@@ -14,16 +14,14 @@ use Rattle.feed_edits.specs.declared.edit.Stamp.{Stamp}
 use Rattle.feed_edits.specs.declared.edit.Length.{Length}
 use Rattle.feed_edits.specs.declared.edit.DayText.{DayText}
 use Rattle.feed_edits.specs.declared.edit.RawRating.{RawRating}
-use Rattle.feed_edits.specs.declared.edit.Item.{Item}
 use Rattle.feed_edits.specs.declared.edit.Edit.{Edit}
-use Rattle.feed_edits.specs.declared.edit.Edit.TheVariants.{Put, Withdraw, Clear, Name, Day}
 use Rattle.feed_edits.specs.declared.heads.Head.{Head}
 use Rattle.feed_edits.specs.declared.heads.Head.TheVariants.{Whole, OfDay}
-use Rattle.feed_edits.specs.Ahead.{Ahead, Row, Tail, Found, Came, Stopped, and_then, row_of, first_row, stop_at, missing_at}
-use Rattle.feed_edits.specs.Items.{stamp_of, length_of, day_of, genre_from, genre_of, genres_of, all_some, rating_with, rating_of, item_with, item_of, item_line}
+use Rattle.feed_edits.specs.Ahead.{Ahead, Row, Found, Came, Stopped, and_then, first_row, stop_at, missing_at}
+use Rattle.feed_edits.specs.Items.{stamp_of, length_of, day_of, genre_from, genre_of, genres_of, all_some, rating_of, item_with, item_of, item_line}
 use Rattle.feed_edits.specs.Heads.{put_of, withdraw_of, clear_of, name_of, day_head_of, edit_head}
-use Rattle.feed_edits.specs.Edits.{on_line, first_item, items_of, with_items, edit_from, read_edit, first_edit, and_edits, edits_upto, edits_ahead}
-use Rattle.feed_edits.specs.Back.{HasGenreNumbers, HasItemNumbers}
+use Rattle.feed_edits.specs.Edits.{on_line, first_item, items_of, with_items, edit_from, first_edit, and_edits, edits_upto, edits_ahead}
+use Rattle.feed_edits.specs.Back.{HasGenreNumbers}
 use Rattle.feed_edits.specs.Typed.{IsTypedItem, IsTypedEdit, IfCame, ReadEditsAreTyped, EditsAheadAreTyped}
 
 -- ---- numbers

@@ -1,6 +1,6 @@
 -- What a swap puts on air, in each journal that begins with what its pass has then seen.
-use Rattle.std.proofs.Common.{◌≡◌, ℕ, suc, ◌≤◌, ◌<◌, List, [], ◌∷◌, ◌++◌, take, replicate, refl, sym, ap, ◌∙◌, subst, arith, append-nil, append_assoc}
-use Rattle.std.specs.Prelude.{Option, Some, None, Result, Ok, Err}
+use Rattle.std.proofs.Common.{◌≡◌, ℕ, ◌≤◌, List, [], ◌∷◌, ◌++◌, take, refl, sym, ap, ◌∙◌, subst, arith, append-nil, append_assoc}
+use Rattle.std.specs.Prelude.{Option, Some, Ok, Err}
 use Rattle.std.specs.Io.KnownBytes.{Appends}
 use Rattle.std.proofs.KnownBytes.{Appends-trans}
 use Rattle.std.proofs.lemmas.List.Elements.{filter_map-append}
@@ -8,10 +8,10 @@ use mathlib.Core.List.{IsPrefix}
 use Rattle.guide_model.specs.declared.guide.Guide.{Guide}
 use Rattle.mux_config.specs.declared.mux.Mux.{Mux}
 use Rattle.version_book.specs.Airings.{CycleForm, Airing}
-use Rattle.air_model.specs.Air.{Aired, IsAirOf, air, airings_of, air_bytes}
-use Rattle.air_model.specs.Making.{AreMade, cycle_alone}
+use Rattle.air_model.specs.Air.{Aired, air, airings_of, air_bytes}
+use Rattle.air_model.specs.Making.{cycle_alone}
 use Rattle.air_model.proofs.Airs.{AreMade-push}
-use Rattle.carousel_player.specs.Playing.{Playing, AtEnd, form_of}
+use Rattle.carousel_player.specs.Playing.{Playing, form_of}
 use Rattle.publication.specs.Tables.{tables_of, HasServicesOf}
 use Rattle.desk_core.specs.declared.step.Step.{Step}
 use Rattle.desk_core.specs.declared.step.Step.TheVariants.{Swap}
@@ -19,21 +19,20 @@ use Rattle.desk_core.specs.declared.step.Outcome.{Outcome}
 use Rattle.desk_core.specs.declared.step.Outcome.TheVariants.{Swapped}
 use Rattle.desk_core.specs.declared.step.Airing.{Airing as OnAir}
 use Rattle.desk_core.specs.declared.step.Entry.{Entry}
-use Rattle.desk_core.specs.Journal.{Command, publishes}
-use Rattle.desk_core.specs.Publications.{aired_by, publication, last_aired}
+use Rattle.desk_core.specs.Journal.{publishes}
+use Rattle.desk_core.specs.Publications.{aired_by, publication}
 use Rattle.desk_core.specs.Desks.{on_air_of}
 use Rattle.desk_core.proofs.JournalFacts.{publication-kept}
-use Rattle.headend_live.specs.declared.send.SendStop.{SendStop}
-use Rattle.headend_live.specs.declared.send.SendStop.TheVariants.{Air, Memory}
-use Rattle.headend_live.specs.OnAir.{SentCycle, airing_by, cycle_bytes}
+use Rattle.headend_live.specs.declared.send.SendStop.TheVariants.{Air}
+use Rattle.headend_live.specs.OnAir.{airing_by, cycle_bytes}
 use Rattle.headend_live.specs.Air.{airing_with, mux_form}
 use Rattle.headend_live.proofs.SwapFacts.{airings_of-push, air_bytes-push, publishes-front}
 use Rattle.headend_live.proofs.AirFacts.{on_air_services}
-use Rattle.turn_lock.proofs.Lists.{prefix_self, prefix_trans}
-use Rattle.desk_hall.specs.Turn.{View, entry_of, desk_with, Made, Idle, IsAiring, Did}
-use Rattle.headend_live.specs.Playing.{airing_with_tables, airings_by, ArePutOnAir, HasPlayedTo, HasPlayedFront, HasPlayedSome, SwapSent, NoSwap, SwapPlayed, SwapsPlayed, swaps_by, GoesOn}
+use Rattle.turn_lock.proofs.Lists.{prefix_trans}
+use Rattle.desk_hall.specs.Turn.{View, entry_of, desk_with, Made}
+use Rattle.headend_live.specs.Playing.{airing_with_tables, airings_by, ArePutOnAir, HasPlayedTo, HasPlayedFront, HasPlayedSome, SwapSent, GoesOn}
 use Rattle.desk_hall.proofs.Turns.{some_same}
-use Rattle.desk_hall.proofs.Passes.{did_none, did_more, did_idle, made_began}
+use Rattle.desk_hall.proofs.Passes.{made_began}
 
 abbrev Known : Type 0
 Known = Option (List ℕ)

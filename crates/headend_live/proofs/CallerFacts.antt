@@ -3,7 +3,7 @@ use Rattle.std.proofs.Common.{◌≡◌, ℕ, suc, ◌+◌, ◌≤◌, arith, le
 use Rattle.std.specs.Prelude.{Option, Some, None, Ok, Err, Result}
 use Rattle.std.specs.List.{AllByRecursion}
 use Rattle.std.proofs.lemmas.List.{map-append}
-use Rattle.si_causes.specs.Reading.{Reading, text_left}
+use Rattle.si_causes.specs.Reading.{Reading}
 use Rattle.si_causes.specs.declared.stop.ReadStop.TheVariants.{Failed, TooLong as Overlong}
 use Rattle.mux_config.specs.declared.mux.Mux.{Mux}
 use Rattle.feed_edits.specs.declared.stop.EditStop.{EditStop}
@@ -22,7 +22,7 @@ use Rattle.turn_lock.specs.declared.known.Caller.{Caller}
 use Rattle.turn_lock.specs.Knowledge.{NotLowest, TableId}
 use Rattle.headend_live.specs.declared.jobs.FeedJob.{FeedJob}
 use Rattle.desk_hall.specs.Turn.{View, Did}
-use Rattle.desk_hall.specs.Reads.{DidEach, ToldDid, TakenDid, WholeDid, commands_by, edit_step, control_step, controls_ahead}
+use Rattle.desk_hall.specs.Reads.{DidEach, ToldDid, TakenDid, commands_by, edit_step, control_step, controls_ahead}
 use Rattle.headend_live.specs.Jobs.{ReaderDid}
 use Rattle.headend_live.specs.Live.{callers_back, new_pass, FeedsRan, LiveDid}
 use Rattle.headend_live.specs.Callers.{CommandsAre, CallerRead, FeedsRead, PlayerSwapped, HaveTheirCommands}

@@ -1,26 +1,22 @@
 -- The journal of a run, from what the last pass knows of it.
-use Rattle.std.proofs.Common.{◌≡◌, ◌≢◌, ◌⊎◌, inl, inr, ℕ, zero, suc, List, [], ◌∷◌, ◌++◌, map, replicate, refl, sym, ap, ◌∙◌, subst, append-nil, append_assoc}
-use Rattle.std.specs.Prelude.{Option, Some, None, filter_map}
+use Rattle.std.proofs.Common.{◌≡◌, ◌≢◌, ◌⊎◌, inl, inr, ℕ, zero, suc, List, [], ◌∷◌, ◌++◌, map, refl, sym, ap, ◌∙◌, subst, append-nil, append_assoc}
 use Rattle.std.specs.List.{AllByRecursion}
 use Rattle.std.proofs.lemmas.List.Elements.{filter_map-append}
-use mathlib.Core.List.{IsPrefix}
 use Rattle.mux_config.specs.declared.mux.Mux.{Mux}
 use Rattle.version_book.specs.Airings.{Airing}
-use Rattle.desk_core.specs.declared.step.Step.{Step}
 use Rattle.desk_core.specs.declared.step.Step.TheVariants.{Publish, Swap}
-use Rattle.desk_core.specs.declared.step.Outcome.{Outcome}
 use Rattle.desk_core.specs.declared.step.Outcome.TheVariants.{Published}
 use Rattle.desk_core.specs.declared.step.Entry.{Entry}
 use Rattle.desk_core.specs.Journal.{Command, Legal, LegalAfter, command_of}
 use Rattle.desk_core.specs.Publications.{aired_by}
-use Rattle.headend_live.specs.Air.{airing_with, airings}
+use Rattle.headend_live.specs.Air.{airing_with}
 use Rattle.turn_lock.specs.declared.known.Caller.{Caller}
-use Rattle.turn_lock.specs.Knowledge.{Closes, NotLowest, numbers}
-use Rattle.desk_hall.specs.Turn.{View, caller_of, entry_of, with_entries, Made, Idle, Knows, Did}
+use Rattle.turn_lock.specs.Knowledge.{Closes, numbers}
+use Rattle.desk_hall.specs.Turn.{View, caller_of, entry_of, Made, Knows, Did}
 use Rattle.headend_live.specs.Playing.{airings_by, swaps_by}
-use Rattle.headend_live.specs.Whole.{IsWhole, JournalDid, NoSwaps, SwapsNot}
+use Rattle.headend_live.specs.Whole.{IsWhole, JournalDid, SwapsNot}
 use Rattle.desk_hall.proofs.Passes.{made_knows}
-use Rattle.headend_live.proofs.WholeJournal.{of, rest_is, front_whole, airs_part, airs_none, of_mine, of_other}
+use Rattle.headend_live.proofs.WholeJournal.{of, rest_is, front_whole, airs_part, of_mine, of_other}
 
 -- ---- entries of one caller
 

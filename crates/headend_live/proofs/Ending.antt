@@ -1,13 +1,13 @@
 -- How a run ends: the control's last turns, its journal, and its air.
-use Rattle.std.proofs.Common.{◌≡◌, ◌≢◌, ◌⊎◌, inl, inr, ℕ, zero, suc, ◌≤◌, ◌<◌, Bool, true, false, List, [], ◌∷◌, ◌++◌, map, take, replicate, refl, sym, ap, ◌∙◌, subst, arith, append-nil, append_assoc}
-use Rattle.std.specs.Prelude.{Option, Some, None, Result, Ok, Err, ◌||◌, is_some}
+use Rattle.std.proofs.Common.{◌≡◌, ◌≢◌, inl, inr, ℕ, zero, suc, ◌≤◌, Bool, true, false, List, [], ◌∷◌, ◌++◌, map, take, refl, sym, ap, ◌∙◌, subst, arith, append-nil}
+use Rattle.std.specs.Prelude.{Option, Result, Ok, Err, ◌||◌, is_some}
 use Rattle.std.specs.List.{AllByRecursion}
 use mathlib.Core.List.{IsPrefix}
 use Rattle.mux_config.specs.declared.mux.Mux.{Mux}
 use Rattle.version_book.specs.Airings.{Airing}
-use Rattle.air_model.specs.Air.{Aired, IsAirOf, airings_of}
-use Rattle.carousel_player.specs.Playing.{Playing, AtEnd}
-use Rattle.desk_core.specs.declared.step.Step.TheVariants.{Publish, Swap}
+use Rattle.air_model.specs.Air.{IsAirOf, airings_of}
+use Rattle.carousel_player.specs.Playing.{Playing}
+use Rattle.desk_core.specs.declared.step.Step.TheVariants.{Publish}
 use Rattle.desk_core.specs.declared.step.Outcome.TheVariants.{Published}
 use Rattle.desk_core.specs.declared.step.Entry.{Entry}
 use Rattle.desk_core.specs.Journal.{Command, Legal, command_of}
@@ -15,12 +15,12 @@ use Rattle.headend_live.specs.declared.send.SendStop.{SendStop}
 use Rattle.headend_live.specs.declared.send.SendStop.TheVariants.{Air, Memory}
 use Rattle.headend_live.specs.Air.{airings}
 use Rattle.turn_lock.specs.declared.known.Caller.{Caller}
-use Rattle.turn_lock.specs.Knowledge.{Closes, numbers}
+use Rattle.turn_lock.specs.Knowledge.{Closes}
 use Rattle.turn_lock.proofs.Lists.{prefix_self, prefix_trans}
 use Rattle.desk_hall.specs.Turn.{View, caller_of, entry_of, with_entries, Made, Idle, Did}
-use Rattle.headend_live.specs.Playing.{airings_by, ArePutOnAir, HasPlayedTo, HasPlayedFront, HasPlayedSome, SwapsPlayed, swaps_by, GoesOn}
+use Rattle.headend_live.specs.Playing.{airings_by, HasPlayedTo, HasPlayedFront, HasPlayedSome, swaps_by}
 use Rattle.headend_live.specs.Whole.{JournalDid, SwapsNot, final_commands}
-use Rattle.headend_live.specs.Live.{halts, Went, Halted, FinalDid, LastDid, SentDid, PlayedAs, AirOf, CutAirOf, SomeAirOf, AirDid, LastMade, EndDid}
+use Rattle.headend_live.specs.Live.{halts, Went, FinalDid, LastDid, SentDid, PlayedAs, AirOf, CutAirOf, SomeAirOf, AirDid, EndDid}
 use Rattle.desk_hall.proofs.Passes.{made_began, more_none, more_more}
 use Rattle.headend_live.proofs.Airs.{put_longer}
 use Rattle.headend_live.proofs.Closing.{closed_plain, closed_final, airs_final, airs_append}

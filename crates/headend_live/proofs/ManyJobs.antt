@@ -1,6 +1,6 @@
 -- Many jobs, each with a pass of its own.
-use Rattle.std.proofs.Common.{◌≡◌, ◌⊎◌, ⊎_elim, inl, inr, ℕ, ◌≤◌, ◌<◌, List, [], ◌∷◌, ◌++◌, length, take, drop, zero, suc, sym, subst, ap, ◌∙◌, arith, refl, append-nil, append_assoc}
-use Rattle.std.specs.Prelude.{slice_index_or, Option, Some, None}
+use Rattle.std.proofs.Common.{◌≡◌, inl, inr, ℕ, ◌<◌, List, [], ◌∷◌, ◌++◌, length, zero, suc, sym, subst, ap, ◌∙◌, arith, refl, append-nil, append_assoc}
+use Rattle.std.specs.Prelude.{slice_index_or, Option, None}
 use Rattle.turn_lock.specs.Knowledge.{TableId, Knowledge, HasAny, joined}
 use Rattle.headend_live.specs.declared.jobs.FeedJob.{FeedJob}
 use Rattle.mux_config.specs.declared.mux.Mux.{Mux}

@@ -1,8 +1,7 @@
 -- What the jobs of a run leave, of what a run gave them.
-use Rattle.std.proofs.Common.{◌≡◌, ◌≢◌, ◌⊎◌, inl, inr, ℕ, suc, ◌+◌, ◌≤◌, ◌<◌, List, [], ◌∷◌, ◌++◌, length, refl, sym, ap, ◌∙◌, subst, arith, append-nil, lt_of_not-le}
-use Rattle.std.specs.Prelude.{Option, Some, None, Result, Ok, Err, OnOk, slice_index_or}
+use Rattle.std.proofs.Common.{◌≡◌, ◌≢◌, inl, inr, ℕ, suc, ◌+◌, ◌≤◌, ◌<◌, List, [], ◌∷◌, ◌++◌, length, refl, sym, ap, ◌∙◌, subst, arith, lt_of_not-le}
+use Rattle.std.specs.Prelude.{Option, Some, Result, Ok, Err, OnOk, slice_index_or}
 use Rattle.std.specs.List.{AllByRecursion}
-use Rattle.std.specs.Io.KnownBytes.{Appends}
 use native.Mathlib.Decide.{ℕ_discrete, dec_le}
 use mathlib.Core.Logic.{dite}
 use Rattle.mux_config.specs.declared.mux.Mux.{Mux}
@@ -21,7 +20,7 @@ use Rattle.headend_live.specs.declared.jobs.ControlJob.{ControlJob}
 use Rattle.headend_live.specs.declared.jobs.PlayerJob.{PlayerJob}
 use Rattle.desk_hall.specs.Turn.{View, Did}
 use Rattle.headend_live.specs.Playing.{HasPlayedTo, HasPlayedFront, HasPlayedSome, SwapsPlayed, swaps_by}
-use Rattle.headend_live.specs.Jobs.{AllOf, FeedDid, ControlDid, PlayerDid}
+use Rattle.headend_live.specs.Jobs.{FeedDid, ControlDid, PlayerDid}
 use Rattle.headend_live.specs.Whole.{NoSwaps, SwapsNot}
 use Rattle.headend_live.specs.Live.{callers_back, new_pass, new_control, new_player, jobs_back, FeedsRan, PlayedAs}
 use Rattle.headend_live.proofs.Cutting.{control_no_swaps, feeds_apart, feeds_have, feeds_swaps, ran, zip_of, Zip}

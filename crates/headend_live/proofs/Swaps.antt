@@ -1,6 +1,6 @@
 -- Several swaps of one pass, each with its cycle, while other callers go on.
-use Rattle.std.proofs.Common.{◌≡◌, ◌⊎◌, inl, inr, ℕ, zero, suc, ◌≤◌, ◌<◌, List, [], ◌∷◌, ◌++◌, replicate, refl, sym, ap, ◌∙◌, subst, arith, append-nil, append_assoc}
-use Rattle.std.specs.Prelude.{Option, Some, None, Result, Ok, Err}
+use Rattle.std.proofs.Common.{◌≡◌, inl, inr, ℕ, zero, suc, ◌<◌, List, [], ◌∷◌, ◌++◌, refl, sym, ap, ◌∙◌, subst, arith, append-nil, append_assoc}
+use Rattle.std.specs.Prelude.{Option, Some, Ok, Err}
 use Rattle.mux_config.specs.declared.mux.Mux.{Mux}
 use Rattle.air_model.specs.Air.{Aired}
 use Rattle.carousel_player.specs.Playing.{Playing, AtEnd}
@@ -11,8 +11,8 @@ use Rattle.desk_core.specs.declared.step.Entry.{Entry}
 use Rattle.desk_core.specs.Journal.{Command}
 use Rattle.headend_live.specs.declared.send.SendStop.{SendStop}
 use Rattle.headend_live.specs.declared.send.SendStop.TheVariants.{Air, Memory}
-use Rattle.desk_hall.specs.Turn.{View, entry_of, Made, Idle, Did}
-use Rattle.headend_live.specs.Playing.{HasPlayedTo, HasPlayedFront, HasPlayedSome, SwapSent, NoSwap, SwapPlayed, SwapsPlayed, swaps_by, GoesOn}
+use Rattle.desk_hall.specs.Turn.{View, entry_of, Made, Did}
+use Rattle.headend_live.specs.Playing.{HasPlayedTo, HasPlayedFront, HasPlayedSome, SwapSent, SwapPlayed, SwapsPlayed, swaps_by, GoesOn}
 use Rattle.desk_hall.proofs.Passes.{did_none, did_more, did_idle, did_as, made_began}
 use Rattle.headend_live.proofs.Airs.{sent_whole, sent_front, sent_none, stands_still}
 

@@ -23,7 +23,7 @@ use Rattle.std.specs.Io.KnownBytes.{Appends}
 use Rattle.version_book.specs.Airings.{Airing}
 use Rattle.air_model.specs.Air.{Aired, IsAirOf, airings_of, air_bytes}
 use Rattle.air_model.specs.Making.{AreMade}
-use Rattle.desk_core.specs.Journal.{Command, command_of}
+use Rattle.desk_core.specs.Journal.{command_of}
 use Rattle.headend_live.specs.Air.{airings}
 use Rattle.headend_live.specs.OnAir.{cycle_bytes}
 use Rattle.headend_live.specs.Playing.{SwapsPlayed, HasPlayedTo, HasPlayedFront, HasPlayedSome}

@@ -5,21 +5,19 @@ use Rattle.std.specs.List.{AllByRecursion}
 use Rattle.si_lists.proofs.Outcomes.{map_some, if_some, any_some}
 use Rattle.si_text.specs.Decoding.{IsKept}
 use Rattle.input_lines.specs.Fields.{record_of}
-use Rattle.feed_edits.specs.declared.edit.Edit.{Edit}
-use Rattle.feed_edits.specs.Ahead.{Ahead, Row, Found, Came, Stopped, and_then, first_row, stop_at}
+use Rattle.feed_edits.specs.Ahead.{Ahead, Row, Found, Came, Stopped, first_row, stop_at}
 use Rattle.feed_edits.specs.Edits.{on_line, read_edit}
 use Rattle.feed_edits.specs.Typed.{IsTypedEdit, IfCame}
 use Rattle.feed_edits.proofs.Typed.{record_kept, read_typed, then_came, any_came, line_came}
 use Rattle.desk_core.specs.declared.control.Control.{Control}
 use Rattle.desk_core.specs.declared.control.Control.TheVariants.{Tick as tick, Publish as publish}
 use Rattle.desk_core.specs.declared.step.Step.{Step}
-use Rattle.desk_core.specs.declared.step.Step.TheVariants.{Edit as edit, Tick, Publish, Swap}
+use Rattle.desk_core.specs.declared.step.Step.TheVariants.{Swap}
 use Rattle.desk_core.specs.declared.step.Outcome.{Outcome}
 use Rattle.desk_core.specs.Journal.{Command}
 use Rattle.desk_core.specs.Controls.{control_of}
 use Rattle.journal_text.specs.declared.script.ScriptItem.{ScriptItem}
-use Rattle.journal_text.specs.declared.script.ScriptItem.TheVariants.{Step as step, Kept, End}
-use Rattle.journal_text.specs.Script.{is_swap, control_step, short_step, feed_of, feed_command, command_with, caller_of, command_by, read_command, is_outcome_line, kept_in, kept_item, step_item, read_item, item_on, first_script_item, is_command, and_items, items_upto, items_ahead}
+use Rattle.journal_text.specs.Script.{is_swap, control_step, short_step, feed_of, command_with, caller_of, command_by, read_command, is_outcome_line, kept_in, kept_item, step_item, read_item, first_script_item, is_command, and_items, items_upto, items_ahead}
 use Rattle.journal_text.specs.ScriptLaws.{IsTypedStep, IsTypedScriptItem, ItemsAreTyped}
 
 abbrev IsTypedCommand : Command → Type 0

@@ -1,11 +1,10 @@
 -- How the items of a script go on, and what their edits have.
-use Rattle.std.specs.Prelude.{◌≡◌, ℕ, Bool}
+use Rattle.std.specs.Prelude.{◌≡◌, Bool}
 use Rattle.std.specs.List.{AllByRecursion}
 use Rattle.feed_edits.specs.Typed.{IsTypedEdit}
 use Rattle.feed_edits.specs.Ahead.{Ahead}
 use Rattle.desk_core.specs.declared.step.Step.{Step}
 use Rattle.desk_core.specs.declared.step.Step.TheVariants.{Edit as edit, Tick, Publish, Swap}
-use Rattle.desk_core.specs.declared.step.Outcome.{Outcome}
 use Rattle.journal_text.specs.declared.script.ScriptItem.{ScriptItem}
 use Rattle.journal_text.specs.declared.script.ScriptItem.TheVariants.{Step as step, Kept, End}
 use Rattle.journal_text.specs.Script.{first_script_item, and_items, items_ahead}

@@ -1,5 +1,5 @@
 -- What reading the next item of a script tells, of a text that the source tells and of the bytes that it gave.
-use Rattle.std.specs.Prelude.{◌≡◌, ◌<◌, ℕ, Bool, List, [], Option, Some, None, Ok, Err, Result}
+use Rattle.std.specs.Prelude.{◌≡◌, ◌<◌, ℕ, Bool, List, [], Option, Some, Ok, Err, Result}
 use Rattle.si_causes.specs.Reading.{Reading, room, text_left}
 use Rattle.feed_edits.specs.declared.stop.EditStop.{EditStop}
 use Rattle.feed_edits.specs.Ahead.{Came, Stopped, End as end, ahead}

@@ -5,7 +5,7 @@ use Rattle.std.specs.List.{AllByRecursion, range_with_len}
 use Rattle.std.proofs.lemmas.Bool.Decides.{nat_tests}
 use Rattle.std.proofs.lemmas.List.{length-map}
 use Rattle.std.proofs.lemmas.List.Elements.{All-from_recursion}
-use Rattle.si_lists.proofs.Lists.{all_append, all_map}
+use Rattle.si_lists.proofs.Lists.{all_append, all_map, all_two, each_unit}
 use Rattle.guide_model.specs.declared.guide.Guide.{Guide}
 use Rattle.guide_model.specs.declared.guide.ServiceGuide.{ServiceGuide}
 use Rattle.mux_config.specs.declared.mux.Mux.{Mux}
@@ -203,14 +203,6 @@ eit_fit t pid above below are =
 -- a service within its limits, with small entries
 abbrev IsSmall : ServiceGuide → Type 0
 IsSmall s = IsServiceWithin s × AreSmallEntries s.events
-
-pub all_two : {X : Type 0} (P Q R : X → Type 0) → ((x : X) → P x → Q x → R x) → (xs : List X) → AllByRecursion P xs → AllByRecursion Q xs → AllByRecursion R xs
-all_two P Q R f [] p q = tt
-all_two P Q R f (x ∷ xs) p q = (f x p.0 q.0, all_two P Q R f xs p.1 q.1)
-
-pub each_unit : {X : Type 0} (xs : List X) → AllByRecursion (λ (x : X). Unit {0}) xs
-each_unit [] = tt
-each_unit (x ∷ xs) = (tt, each_unit xs)
 
 pub publication_fit : PublicationsAreFit
 publication_fit mux guide within small =

@@ -3,7 +3,7 @@ use Rattle.std.proofs.Common.{◌≡◌, ℕ, ◌<◌, ◌≤◌, Bool, true, �
 use Rattle.std.specs.Prelude.{◌&&◌, nat_le, if◌then◌else◌}
 use Rattle.std.specs.List.{AllByRecursion}
 use Rattle.std.proofs.lemmas.Bool.Decides.{nat_tests}
-use Rattle.si_lists.proofs.Lists.{all_map}
+use Rattle.si_lists.proofs.Lists.{all_map, all_two}
 use Rattle.si_base.specs.Fields.{two_at}
 use Rattle.guide_model.specs.declared.guide.Guide.{Guide}
 use Rattle.guide_model.specs.declared.guide.ServiceGuide.{ServiceGuide}
@@ -37,7 +37,7 @@ use Rattle.publication.specs.Sdt.{sdt_sections}
 use Rattle.publication.specs.Tables.{sdt_key, sdt_table}
 use Rattle.publication.specs.Laws.{IsReadEit, IsSdtBody, AreSdt, TellsKey, TellsItself, PublicationsTellThemselves}
 use Rattle.publication.proofs.SdtFacts.{sdt_fit}
-use Rattle.publication.proofs.FitFacts.{all_two, each_sub_table}
+use Rattle.publication.proofs.FitFacts.{each_sub_table}
 
 -- ---- keys
 

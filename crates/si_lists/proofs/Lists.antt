@@ -16,6 +16,14 @@ pub all_map : {X : Type 0} (P Q : X → Type 0) → ((x : X) → P x → Q x) �
 all_map P Q f [] h = tt
 all_map P Q f (x ∷ xs) h = (f x h.0, all_map P Q f xs h.1)
 
+pub all_two : {X : Type 0} (P Q R : X → Type 0) → ((x : X) → P x → Q x → R x) → (xs : List X) → AllByRecursion P xs → AllByRecursion Q xs → AllByRecursion R xs
+all_two P Q R f [] p q = tt
+all_two P Q R f (x ∷ xs) p q = (f x p.0 q.0, all_two P Q R f xs p.1 q.1)
+
+pub each_unit : {X : Type 0} (xs : List X) → AllByRecursion (λ (x : X). Unit {0}) xs
+each_unit [] = tt
+each_unit (x ∷ xs) = (tt, each_unit xs)
+
 pub same_parts : {X : Type 0} (xs us ys vs : List X) → length xs ≡ length us → xs ++ ys ≡ us ++ vs → (xs ≡ us) × (ys ≡ vs)
 same_parts [] [] ys vs l e = (refl, e)
 same_parts [] (u ∷ us) ys vs l e = cc

@@ -1,10 +1,9 @@
-use Rattle.std.proofs.Common.{◌≡◌, ℕ, ◌+◌, ◌∷◌, ◌++◌, [], List, map, min, ap, ◌∙◌, subst, arith}
-use Rattle.si_lists.proofs.Outcomes.{on_ok}
+use Rattle.std.proofs.Common.{◌≡◌, ℕ, ◌+◌, ◌∷◌, ◌++◌, [], map, min, ap, ◌∙◌, arith}
+use Rattle.si_lists.proofs.Outcomes.{on_ok, ok_more}
 use Rattle.section_codec.specs.declared.table.SubTable.{SubTable}
-use Rattle.eit_segments.specs.Schedule.{CanBePlaced, last_table}
+use Rattle.eit_segments.specs.Schedule.{last_table}
 use Rattle.eit_segments.specs.Laws.{at_of}
 use Rattle.eit_tables.specs.Schedule.{last_table_of, schedule_tables}
-use Rattle.eit_tables.proofs.ListFacts.{ok_more}
 use Rattle.eit_tables.proofs.EventFacts.{places_in, placed_in, small_entries}
 use Rattle.eit_tables.proofs.tables.put_service.Goals as goal
 

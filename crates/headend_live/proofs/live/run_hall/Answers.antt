@@ -1,4 +1,4 @@
-use Rattle.std.proofs.Common.{◌≡◌, ◌∙◌, ◌+◌, ◌<◌, ap, sym, subst, List, [], length, arith, lit<}
+use Rattle.std.proofs.Common.{◌≡◌, ◌∙◌, ◌+◌, ap, sym, subst, length, arith}
 use Rattle.std.specs.Prelude.{None, Ok}
 use Rattle.mux_config.specs.declared.mux.Mux.{Mux}
 use Rattle.turn_lock.specs.Knowledge.{Lock}

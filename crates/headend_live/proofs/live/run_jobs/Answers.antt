@@ -1,4 +1,4 @@
-use Rattle.std.proofs.Common.{◌≡◌, ◌≢◌, ◌∙◌, ap, sym, subst, arith, length, List, ◌∷◌}
+use Rattle.std.proofs.Common.{◌≢◌, ◌∙◌, ap, sym, subst, arith, length, List, ◌∷◌}
 use Rattle.std.specs.List.{AllByRecursion}
 use Rattle.desk_core.specs.declared.step.Entry.{Entry}
 use Rattle.turn_lock.specs.Knowledge.{HasAny}
@@ -9,7 +9,7 @@ use Rattle.headend_live.specs.declared.jobs.ControlJob.{ControlJob}
 use Rattle.desk_hall.specs.Turn.{View}
 use Rattle.headend_live.specs.Jobs.{AllOf, ControlDid}
 use Rattle.headend_live.specs.Playing.{SwapsPlayed}
-use Rattle.headend_live.specs.Whole.{SwapsNot, JournalDid}
+use Rattle.headend_live.specs.Whole.{SwapsNot}
 use Rattle.headend_live.specs.Back.{lines_back}
 use Rattle.headend_live.specs.Live.{callers_back, first_stop, halts, EndDid}
 use Rattle.headend_live.proofs.Cutting.{new_turns, written_back, feeds_turns}

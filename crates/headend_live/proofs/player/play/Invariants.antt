@@ -1,4 +1,4 @@
-use Rattle.std.proofs.Common.{◌≡◌, ◌≤◌}
+use Rattle.std.proofs.Common.{◌≤◌}
 use Rattle.headend_live.proofs.Swaps.{PlayedSo}
 use Rattle.headend_live.proofs.player.play.Given as goal
 

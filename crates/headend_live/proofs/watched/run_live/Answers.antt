@@ -1,5 +1,5 @@
 use Rattle.std.proofs.Common.{◌∙◌, ap}
-use Rattle.headend_live.specs.Live.{first_stop, run_stop}
+use Rattle.headend_live.specs.Live.{run_stop}
 use Rattle.headend_live.specs.Watched.{watched_stop}
 use Rattle.headend_live.proofs.Watching.{heard_of_air, heard_whole}
 use Rattle.headend_live.proofs.watched.run_live.Goals as goal
