@@ -37,6 +37,7 @@ fn answer(row: &mut Row) {
         "write_sdt" => services::write_services(row),
         "read_sdt" => services::read_services(row),
         "service_len" => services::put_len(row),
+        "part_sdt" => services::part_services(row),
         "write_tdt" => times::write_time(row),
         "read_tdt" => times::read_time(row),
         _ => row.refuse(),

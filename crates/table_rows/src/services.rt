@@ -7,7 +7,11 @@ use crate::programs::put_body;
 use nit_sdt::{Sdt, SdtService, SdtServices, read_sdt, service_len, write_sdt};
 use row_lines::{MOST, Row, put_shown, text};
 use si_base::Items;
-use si_text::Shown;
+use si_text::{Shown, Txt};
+use std::alloc::AllocError;
+
+/// The bytes for entries in the body of a section: 1,024 without the header, the CRC, original_network_id and a reserved byte.
+const ROOM: usize = 1_009;
 
 // A service: its id, the flags of its schedule and of its present and following events, each its letter or `-`, its type, its provider
 // and its name, as `101 sp 1 "Acme" "News"`.
@@ -125,4 +129,68 @@ pub fn put_len(row: &mut Row) {
         return row.refuse();
     }
     row.put_number(" ", service_len(&service) as u64);
+}
+
+/// `part_sdt COUNT PROVIDER NAME`: the services 1 to COUNT, parted among sections of which each takes as many next ones as fit; how many
+/// are read of each body, and its size.
+pub fn part_services(row: &mut Row) {
+    let count = (row.number() % 65_536) as u16;
+    let Some(provider) = text(row) else {
+        return;
+    };
+    let Some(name) = text(row) else {
+        return;
+    };
+    if part(row, count, &provider, &name).is_err() {
+        row.lack_memory();
+    }
+}
+
+fn part(row: &mut Row, count: u16, provider: &Txt, name: &Txt) -> Result<(), AllocError> {
+    let mut run = SdtServices::new(row.alloc());
+    let mut room = ROOM;
+    for id in 0..count {
+        let service = service_with(id + 1, provider, name)?;
+        if !fits_service(&service) {
+            row.refuse();
+            return Ok(());
+        }
+        let len = service_len(&service);
+        if room < len {
+            put_section(row, run)?;
+            run = SdtServices::new(row.alloc());
+            room = ROOM;
+        }
+        room = room.saturating_sub(len);
+        run.push(service)?;
+    }
+    put_section(row, run)
+}
+
+fn service_with(id: u16, provider: &Txt, name: &Txt) -> Result<SdtService, AllocError> {
+    Ok(SdtService {
+        service: id,
+        schedule: true,
+        present: true,
+        kind: 1,
+        provider: Shown::Text(provider.copy()?),
+        name: Shown::Text(name.copy()?),
+    })
+}
+
+fn put_section(row: &mut Row, run: SdtServices) -> Result<(), AllocError> {
+    let sdt = Sdt {
+        original: 1,
+        services: run,
+    };
+    if !fit(sdt.services.as_slice()) {
+        row.refuse();
+        return Ok(());
+    }
+    let body = write_sdt(row.alloc(), &sdt)?;
+    if let Some(read) = read_sdt(row.alloc(), body.as_slice())? {
+        row.put_number(" ", read.services.len() as u64);
+        row.put_number(":", body.len() as u64);
+    }
+    Ok(())
 }
