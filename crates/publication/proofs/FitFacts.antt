@@ -30,10 +30,11 @@ use Rattle.eit_tables.specs.Present.{present_table}
 use Rattle.eit_tables.specs.Schedule.{last_table_of, schedule_table, near_tables, far_tables}
 use Rattle.eit_tables.specs.Laws.{AreSmallEntries, AreEit}
 use Rattle.eit_tables.proofs.EitFacts.{present_fit, schedule_fit}
-use Rattle.publication.specs.Sdt.{sdt_entries, sdt_body, numbered}
+use Rattle.nit_sdt.specs.declared.sdt.SdtService.{SdtService}
+use Rattle.publication.specs.Sdt.{sdt_services, service_size, section_body, numbered}
 use Rattle.publication.specs.Tables.{sdt_table, present_tables, all_near_tables, all_far_tables, tables_of}
 use Rattle.publication.specs.Laws.{PublicationsAreFit}
-use Rattle.publication.proofs.SdtFacts.{length-body, length-numbered, ascend-numbered, entries_fit}
+use Rattle.publication.proofs.SdtFacts.{length-body, length-numbered, ascend-numbered, services_fit}
 
 -- ---- which tables a service has
 
@@ -165,24 +166,24 @@ far_tier table above below =
 
 -- ---- each sub-table
 
-short : (original n : ℕ) (runs : List (List (List ℕ))) → AllByRecursion (λ (r : List (List ℕ)). sum_by length r ≤ 1009) runs
-    → AllByRecursion (λ (s : NumberedBody). length s.body ≤ longest_body 0x42) (numbered n (map (sdt_body original) runs))
+short : (original n : ℕ) (runs : List (List SdtService)) → AllByRecursion (λ (r : List SdtService). sum_by service_size r ≤ 1009) runs
+    → AllByRecursion (λ (s : NumberedBody). length s.body ≤ longest_body 0x42) (numbered n (map (section_body original) runs))
 short original n [] h = tt
 short original n (r ∷ runs) h = (omega (arith, length-body original r, h.0), short original (1 + n) runs h.1)
 
 sdt_table-fit : (mux : Mux) (guide : Guide) → IsGuideWithin guide → IsFit (sdt_table mux guide)
 sdt_table-fit mux guide within =
-    let entries = sdt_entries mux.services guide.services in
-    let runs = longest_runs length 1009 entries in
-    let bodies = map (sdt_body mux.original) runs in
+    let services = sdt_services mux.services guide.services in
+    let runs = longest_runs service_size 1009 services in
+    let bodies = map (section_body mux.original) runs in
     record {
       pid = lit< tt;
       long = λ e. absurd (omega arith);
       no_fill = λ e. absurd (omega arith);
-      some = omega (arith, length-numbered 0 bodies, length-map runs (sdt_body mux.original), runs_some length 1009 entries);
+      some = omega (arith, length-numbered 0 bodies, length-map runs (section_body mux.original), runs_some service_size 1009 services);
       ascending = ascend-numbered 0 bodies;
       bodies = All-from_recursion (λ (s : NumberedBody). length s.body ≤ longest_body 0x42) (numbered 0 bodies)
-          (short mux.original 0 runs (runs_fit length 1009 entries (entries_fit mux.services guide.services within.services)));
+          (short mux.original 0 runs (runs_fit service_size 1009 services (services_fit mux.services guide.services within.services)));
     }
 
 eit_fit : (t : SubTable) → t.key.pid ≡ 0x0012 → 0x4E ≤ t.key.table → t.key.table < 0x60 → AreEit t.sections → IsFit t
