@@ -5,6 +5,7 @@ use Rattle.std.specs.List.{AllByRecursion}
 use Rattle.std.proofs.lemmas.Bool.{cases_Bool, le-leb}
 use Rattle.std.proofs.lemmas.List.{map-append}
 use Rattle.si_causes.specs.Lines.{onto, raw_lines, shown}
+use Rattle.si_causes.specs.Opening.{Files}
 use Rattle.si_causes.specs.Text.{AtEnd, lines_left, text_lines, text_limit}
 use Rattle.input_lines.specs.Lines.{is_passed, record_lines}
 use Rattle.mux_config.specs.declared.fault.MuxFault.{MuxFault}
@@ -12,7 +13,7 @@ use Rattle.mux_config.specs.declared.mux.Mux.{Mux}
 use Rattle.mux_config.specs.declared.record.Numbered.{Numbered}
 use Rattle.mux_config.specs.Block.{Block, Whole, and_found, block_from, ended, fault_of, is_end, unless, with_network, with_services, with_stream, said, first, network_in, stream_in, is_network, is_stream, mux_with}
 use Rattle.mux_config.specs.Fields.{found_line}
-use Rattle.feed_edits.specs.Ahead.{Ends, tail_of}
+use Rattle.feed_edits.specs.Ahead.{Ends, Row, tail_of}
 use Rattle.feed_edits.specs.Ahead as reading
 use Rattle.feed_book.specs.declared.reply.Field.{Field}
 use Rattle.feed_book.specs.declared.reply.Field.TheVariants.{Start, Duration, Window, Language, Name, Short, Extended, Country, Rating, Genre, Provider, ServiceName, Count, Segment}
@@ -23,17 +24,23 @@ use Rattle.feed_book.specs.declared.reply.Reply.TheVariants.{Done, Foreign, Rang
 use Rattle.desk_core.specs.declared.step.Outcome.{Outcome}
 use Rattle.desk_core.specs.declared.step.Outcome.TheVariants.{Edited, Ticked, Late, Published, Swapped}
 use Rattle.desk_core.specs.declared.step.Entry.{Entry}
-use Rattle.desk_core.specs.Journal.{LegalAfter, command_of, outcome_of}
+use Rattle.desk_core.specs.Journal.{Legal, LegalAfter, command_of, outcome_of}
 use Rattle.desk_core.specs.Desks.{DeskState, fresh}
 use Rattle.desk_core.proofs.JournalFacts.{journal_only}
 use Rattle.journal_text.specs.Back.{EntryReadsBack, IsReadable, ahead_of, command_lines, shown_lines}
 use Rattle.journal_text.specs.Entries.{entry_text, journal_text}
 use Rattle.journal_text.proofs.EntryBack.{entries_read_back}
 use Rattle.headend_live.specs.OnAir.{and_step}
+use Rattle.air_monitor.specs.declared.done_line.DoneLine.{DoneLine}
+use Rattle.epg_report.specs.declared.status.Status.{Status}
+use Rattle.epg_report.specs.declared.status.Status.TheVariants.{Memory}
+use Rattle.epg_report.specs.Told.{Told}
+use Rattle.epg_live.specs.Ends.{HasMet, LeavesLive, ReportEnds, or_report, run_text}
+use Rattle.epg_live.specs.Runs.{described}
 use Rattle.epg_cli.specs.Outcomes.{is_day_fault, is_field, is_outcome, is_reply}
 use Rattle.epg_cli.specs.Script.{Script, Stop, Ended, Disagreed, difference, script_in, script_of_lines, script_with}
 use Rattle.epg_cli.specs.Run.{whole_journal}
-use Rattle.epg_cli.specs.Again.{Describes, JournalsPlayAgain}
+use Rattle.epg_cli.specs.Again.{Describes, IsScript, JournalsPlayAgain, PrintsScript}
 use Rattle.epg_cli.proofs.CourseFacts.{Rest, and_command, course_at, step_ahead, agreed_ahead, stop_ahead}
 
 -- ---- an outcome is itself
@@ -206,3 +213,34 @@ pub journals-again : JournalsPlayAgain
 journals-again mux block journal d legal readable le =
     let script = script_again mux block journal d legal readable le in
     record { script_is = script; journal_is = ap whole_journal script ∙ sym (journal_only mux [] journal legal) }
+
+-- ---- a run of `live`
+
+-- a text describes one multiplex
+one_mux : (text : List ℕ) (mux other : Mux) (rows behind : RecordLines) → described text ≡ Whole mux rows → described text ≡ Whole other behind → mux ≡ other
+one_mux text mux other rows behind e f = cc
+
+is_script : (text : List ℕ) (mux : Mux) (rows : RecordLines) (journal : List Entry) → described text ≡ Whole mux rows → Legal mux journal → IsScript text journal
+is_script text mux rows journal whole legal other behind block is d readable le =
+    journals-again other block journal d (subst (λ (m : Mux). Legal m journal) (one_mux text mux other rows behind whole is) legal) readable le
+
+-- the journal of a run whose jobs did not start has no entry
+none_is_script : (text : List ℕ) (journal : List Entry) → journal ≡ [] → IsScript text journal
+none_is_script text journal none mux rows block is d readable le = journals-again mux block journal d (subst (λ (es : List Entry). Legal mux es) (sym none) tt) readable le
+
+ends_by_memory : (text : List ℕ) (report : Told) (met status : Status) → met ≡ Memory → ReportEnds met text report status → status ≡ Memory
+ends_by_memory text report met status is (inl (took, same)) = same ∙ is
+ends_by_memory text report met status is (inr (rose, took, same)) = same ∙ ap or_report is
+
+prints_met : (paths : List (List ℕ)) (cycles join : ℕ) (text : List ℕ) (files : Files) (left : Option (List ℕ)) (feeds_before feeds_now : ℕ) (before now : Option (List ℕ)) (report : Told) (journal : List Entry) (dones : List DoneLine) (met status : Status)
+    → HasMet paths cycles join text files left feeds_before feeds_now before now journal dones met → ReportEnds met (run_text journal dones) report status → PrintsScript text report status
+prints_met paths cycles join text files left feeds_before feeds_now before now report journal dones met status (inl memory) ends = inl (ends_by_memory (run_text journal dones) report met status memory ends)
+prints_met paths cycles join text files left feeds_before feeds_now before now report journal dones met status (inr (inl none)) ends = inr (journal, dones, met, ends, none_is_script text journal none.journal_is)
+prints_met paths cycles join text files left feeds_before feeds_now before now report journal dones met status (inr (inr (mux, rows, whole, ran))) ends =
+    inr (journal, dones, met, ends, is_script text mux rows journal whole ran.journal_is.legal)
+
+pub prints : (paths : List (List ℕ)) (cycles join : ℕ) (text : List ℕ) (files : Files) (left : Option (List ℕ)) (feeds_before feeds_now : ℕ) (air report : Told) (status : Status)
+    → LeavesLive paths cycles join text files left feeds_before feeds_now air report status → PrintsScript text report status
+prints paths cycles join text files left feeds_before feeds_now air report status (inl memory) = inl memory
+prints paths cycles join text files left feeds_before feeds_now air report status (inr (journal, dones, met, has, ends)) =
+    prints_met paths cycles join text files left feeds_before feeds_now air.old air.new report journal dones met status has ends

@@ -1,14 +1,21 @@
 -- A printed journal is a script that prints it again.
-use Rattle.std.specs.Prelude.{◌≡◌, ◌≤◌, ℕ, List, [], ◌∷◌, ◌++◌, length, map, Some}
+use Rattle.std.specs.Prelude.{◌≡◌, ◌⊎◌, ◌≤◌, ℕ, List, [], ◌∷◌, ◌++◌, length, map, Some}
 use Rattle.std.specs.List.{AllByRecursion}
 use Rattle.si_causes.specs.Text.{text_limit}
 use Rattle.input_lines.specs.Lines.{record_lines}
 use Rattle.mux_config.specs.declared.mux.Mux.{Mux}
 use Rattle.mux_config.specs.Block.{Whole, block_from}
+use Rattle.feed_edits.specs.Ahead.{Row}
 use Rattle.desk_core.specs.declared.step.Entry.{Entry}
 use Rattle.desk_core.specs.Journal.{Legal, command_of}
 use Rattle.journal_text.specs.Back.{IsReadable, shown_lines}
 use Rattle.journal_text.specs.Entries.{journal_text}
+use Rattle.air_monitor.specs.declared.done_line.DoneLine.{DoneLine}
+use Rattle.epg_report.specs.declared.status.Status.{Status}
+use Rattle.epg_report.specs.declared.status.Status.TheVariants.{Memory}
+use Rattle.epg_report.specs.Told.{Told}
+use Rattle.epg_live.specs.Runs.{described}
+use Rattle.epg_live.specs.Ends.{ReportEnds, run_text}
 use Rattle.epg_cli.specs.Script.{Script, Ended, script_in}
 use Rattle.epg_cli.specs.Run.{whole_journal}
 
@@ -28,3 +35,16 @@ abbrev pub JournalsPlayAgain : Type 0
 JournalsPlayAgain =
     (mux : Mux) (block : List ℕ) (journal : List Entry) → Describes block mux → Legal mux journal → AllByRecursion IsReadable journal
     → length (block ++ journal_text journal) ≤ text_limit → PlaysAgain mux journal (script_in (block ++ journal_text journal))
+
+-- Behind each description of the multiplex that this text describes, the text of this journal is such a script, where its entries can be
+-- read.
+abbrev pub IsScript : List ℕ → List Entry → Type 0
+IsScript text journal =
+    (mux : Mux) (rows : List Row) (block : List ℕ) → described text ≡ Whole mux rows → Describes block mux → AllByRecursion IsReadable journal
+    → length (block ++ journal_text journal) ≤ text_limit → PlaysAgain mux journal (script_in (block ++ journal_text journal))
+
+-- The report of a run of `live` over this text has a journal that is such a script, then completions, and the end that was met.
+abbrev pub PrintsScript : List ℕ → Told → Status → Type 0
+PrintsScript text report status =
+    (status ≡ Memory)
+    ⊎ ((journal : List Entry) × (dones : List DoneLine) × (met : Status) × ReportEnds met (run_text journal dones) report status × IsScript text journal)

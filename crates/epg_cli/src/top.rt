@@ -5,9 +5,11 @@ ghost use Rattle.si_causes.specs.Causes.{Rose};
 ghost use Rattle.si_causes.specs.Opening.{Files};
 ghost use Rattle.si_causes.specs.Reading.{fresh};
 ghost use Rattle.epg_report.specs.Texts.{fault_line};
+ghost use Rattle.epg_cli.specs.Again.{PrintsScript};
 ghost use Rattle.epg_cli.specs.Script.{Ended, script_in};
 ghost use Rattle.command_words.specs.Commands.{texts};
 ghost use Rattle.command_words.specs.Grammar.{command_of, Play, Listen, Live};
+ghost use Rattle.epg_live.specs.Decided.{AreWhole, text_status};
 ghost use Rattle.epg_live.specs.Ends.{HasAsked, LeavesLive};
 ghost use Rattle.epg_live.specs.Stops.{HasStatusCause, IsOfLive};
 ghost use Rattle.packet_reader.specs.Recordings.{recording};
@@ -196,9 +198,27 @@ pub fn run<W: Threads + Wait + Sync, O: Opener, S: Source + Send, A: Sink + Send
     ensures air_kept { command_of (texts words.now) ≡ Some Listen → air.new ≡ air.old }
     // What is left with each status of `live`: one journal of all callers, however their threads interleave, its air, and the completions.
     ensures live_leaves { (paths : List (List ℕ)) (cycles join : ℕ) → command_of (texts words.now) ≡ Some (Live paths cycles join)
-        → (text : List ℕ) → S.left input.old ≡ Some text → (files : Files) → O.files opener.old ≡ Some files → (sent : List ℕ) → A.written air.old ≡ Some sent
+        → (text : List ℕ) → S.left input.old ≡ Some text → (files : Files) → O.files opener.old ≡ Some files
         → LeavesLive paths cycles join text files (S.left input.new) (O.read_faults opener.old) (O.read_faults opener.new)
         (told A.written A.faults air.old air.new) (told R.written R.faults report.old report.new) result }
+    // The journal that the report has is a script: behind its description `play` plays it to this journal again.
+    ensures live_again { (paths : List (List ℕ)) (cycles join : ℕ) → command_of (texts words.now) ≡ Some (Live paths cycles join)
+        → (text : List ℕ) → S.left input.old ≡ Some text → (files : Files) → O.files opener.old ≡ Some files
+        → PrintsScript text (told R.written R.faults report.old report.new) result }
+    // Where nothing fails, the texts of the input and of the files decide the status of `live`, but for want of memory.
+    ensures live_completes { (paths : List (List ℕ)) (cycles join : ℕ) → command_of (texts words.now) ≡ Some (Live paths cycles join)
+        → (text : List ℕ) → S.left input.old ≡ Some text → (files : Files) → O.files opener.old ≡ Some files
+        → ¬ (Rose (S.faults input.old) (S.faults input.new))
+        → ¬ (Rose (O.faults opener.old) (O.faults opener.new)) → ¬ (Rose (O.read_faults opener.old) (O.read_faults opener.new))
+        → ¬ (Rose (A.faults air.old) (A.faults air.new)) → ¬ (Rose (R.faults report.old) (R.faults report.new))
+        → (result ≡ Status.Memory) ⊎ (result ≡ text_status text paths files) }
+    // And so texts that are whole are run to their ends.
+    ensures live_whole { (paths : List (List ℕ)) (cycles join : ℕ) → command_of (texts words.now) ≡ Some (Live paths cycles join)
+        → (text : List ℕ) → S.left input.old ≡ Some text → (files : Files) → O.files opener.old ≡ Some files → AreWhole text paths files
+        → ¬ (Rose (S.faults input.old) (S.faults input.new))
+        → ¬ (Rose (O.faults opener.old) (O.faults opener.new)) → ¬ (Rose (O.read_faults opener.old) (O.read_faults opener.new))
+        → ¬ (Rose (A.faults air.old) (A.faults air.new)) → ¬ (Rose (R.faults report.old) (R.faults report.new))
+        → (result ≡ Status.Done) ⊎ (result ≡ Status.Memory) }
     ensures live_status { (paths : List (List ℕ)) (cycles join : ℕ) → command_of (texts words.now) ≡ Some (Live paths cycles join) → IsOfLive result }
     ensures asked { (paths : List (List ℕ)) (cycles join : ℕ) → command_of (texts words.now) ≡ Some (Live paths cycles join)
         → HasAsked paths (O.tried opener.old) (O.tried opener.new) result }

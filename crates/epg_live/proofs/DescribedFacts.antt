@@ -1,5 +1,5 @@
 -- What reading the description told of the text of the input.
-use Rattle.std.proofs.Common.{◌≡◌, ◌⊎◌, inl, inr, ℕ, ◌+◌, List, [], ◌∷◌, ◌++◌, length, refl, sym, ap, ◌∙◌, subst}
+use Rattle.std.proofs.Common.{◌≡◌, ◌⊎◌, inl, inr, ℕ, ◌+◌, List, [], ◌∷◌, ◌++◌, length, refl, sym, ap, ◌∙◌, subst, append-nil}
 use Rattle.std.specs.Prelude.{Option, Some, None, Ok, Err, Result}
 use Rattle.std.specs.Io.KnownBytes.{Consumes}
 use Rattle.si_causes.specs.Reading.{Reading, fresh, text_left}
@@ -7,19 +7,26 @@ use Rattle.si_causes.specs.Text.{TextEnd, text_lines}
 use Rattle.si_causes.specs.declared.stop.ReadStop.TheVariants.{Failed, TooLong as Overlong}
 use Rattle.si_causes.proofs.TextFacts.{fresh_text}
 use Rattle.input_lines.specs.Lines.{lines_of, record_lines}
-use Rattle.input_lines.specs.Going.{shown_whole}
+use Rattle.input_lines.specs.Going.{WereWhole, shown_whole}
+use Rattle.input_lines.proofs.Steps.{whole_more}
 use Rattle.mux_config.specs.declared.mux.Mux.{Mux}
 use Rattle.mux_config.specs.declared.stop.MuxStop.{MuxStop}
 use Rattle.mux_config.specs.declared.stop.MuxStop.TheVariants as mux
 use Rattle.mux_config.specs.Block.{Whole, Unended, block_from}
 use Rattle.mux_config.specs.Reads.{MuxCame, ReadMux}
-use Rattle.feed_edits.specs.Ahead.{Ahead, Row, Tail, ahead, tail_of}
+use Rattle.feed_edits.specs.declared.stop.EditStop.{EditStop}
+use Rattle.feed_edits.specs.declared.stop.EditStop.TheVariants as edit
+use Rattle.feed_edits.specs.Ahead.{Ahead, Breaks, Row, Tail, ahead, tail_of}
+use Rattle.feed_edits.specs.Reads.{ahead_with}
 use Rattle.desk_core.specs.declared.step.Entry.{Entry}
+use Rattle.desk_core.specs.Journal.{Command}
+use Rattle.desk_hall.specs.Reads.{TakenDid, commands_by, control_step, controls_ahead}
+use Rattle.headend_live.specs.Callers.{CommandsAre}
 use Rattle.air_monitor.specs.declared.done_line.DoneLine.{DoneLine}
 use Rattle.epg_report.specs.declared.status.Status.{Status}
 use Rattle.epg_report.specs.declared.status.Status.TheVariants.{Memory}
 use Rattle.epg_live.specs.Stops.{mux_status}
-use Rattle.epg_live.specs.Runs.{NoJobs, behind, described}
+use Rattle.epg_live.specs.Runs.{ControlTook, HasRead, NoJobs, behind, described}
 
 -- of known bytes some were taken, and the others are left
 bytes_left : (left : Option (List ℕ)) (text taken : List ℕ) → Consumes (Some text) left taken → (rest : List ℕ) × (text ≡ taken ++ rest) × (left ≡ Some rest)
@@ -61,3 +68,33 @@ module _ {S : Type 0} (left : S → Option (List ℕ)) (faults : S → ℕ) wher
       let tail : tail_of (1 + length (text_lines text).0) (text_lines text).1 ≡ tail_of ((new.number + 1) + length (lines_of new d.rest).0) (lines_of new d.rest).1 =
       ap (λ n. tail_of n (text_lines text).1) (sym d.count) ∙ ap (tail_of ((new.number + 1) + length (lines_of new d.rest).0)) d.stop in
       (d.rest, d.told, (rows, d.whole, ap (λ (t : Tail). let a : Ahead = record { rows = rows; tail = t } in a) tail))
+
+  -- what reading it told of the text
+  pub has_read : (old new : Reading S) (source : S) (text : List ℕ) (mux : Mux) → old ≡ fresh source → left source ≡ Some text → ReadMux {S = S} left old new (lines_of old text) (Ok mux)
+      → MuxCame left faults old new (Ok mux) → HasRead left text mux new
+  has_read old new source text mux e tells read came = record {
+    source = source;
+    tells = tells;
+    read = subst (λ (r : Reading S). ReadMux {S = S} left r new (lines_of r text) (Ok mux)) e read;
+    came = subst (λ (r : Reading S). MuxCame left faults r new (Ok mux)) e came;
+  }
+
+  -- The commands of the control's lines that were whole in the bytes taken, where a read of them failed: these bytes are a front of the text.
+  pub control_took : (text : List ℕ) (mux : Mux) (old new : Reading S) (journal : List Entry) (then : List Command) (stop : Option EditStop) → HasRead left text mux old
+      → TakenDid (λ values. CommandsAre journal 0 (commands_by 0 control_step values ++ then)) left controls_ahead old new stop → (stop ≡ Some (edit.Read Failed) → then ≡ [])
+      → ControlTook text (left new.source) mux journal stop
+  control_took text mux old new journal then None h did none = tt
+  control_took text mux old new journal then (Some (edit.NoCommand n)) h did none = tt
+  control_took text mux old new journal then (Some (edit.Read Overlong)) h did none = tt
+  control_took text mux old new journal then (Some edit.Memory) h did none = tt
+  control_took text mux old new journal then (Some (edit.Read Failed)) h did none =
+      let both : WereWhole left (fresh h.source) new (h.came.looked.lines ++ did.lines) = whole_more left (fresh h.source) old new h.came.looked.lines did.lines h.came.looked.handed did.unended did.whole in
+      let block : block_from [] (record_lines 1 (shown_whole both.more)) ≡ Whole mux (record_lines (old.number + 1) did.lines) = ap (λ l. block_from [] (record_lines 1 l)) both.whole ∙ h.came.whole did.lines in
+      let b = bytes_left (left new.source) text both.more (subst (λ (o : Option (List ℕ)). Consumes o (left new.source) both.more) h.tells both.gave) in
+      let commands = commands_by 0 control_step (controls_ahead (ahead_with old did.lines Breaks)).0 in
+      record {
+        rows = record_lines (old.number + 1) did.lines;
+        taken = record { taken = both.more; rest = b.0; text_is = b.1; left_is = b.2; whole = block };
+        stop = did.stop;
+        commands = did.commands ∙ ap (λ l. commands ++ l) (none refl) ∙ append-nil commands;
+      }

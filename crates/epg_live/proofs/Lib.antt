@@ -3,3 +3,4 @@ mod OpenFacts
 mod RanFacts
 mod DescribedFacts
 mod MetFacts
+mod DecidedFacts

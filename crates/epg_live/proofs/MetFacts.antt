@@ -11,7 +11,7 @@ use Rattle.mux_config.specs.declared.stop.MuxStop.{MuxStop}
 use Rattle.mux_config.specs.declared.stop.MuxStop.TheVariants as mux
 use Rattle.mux_config.specs.Block.{Whole}
 use Rattle.mux_config.specs.Reads.{MuxCame}
-use Rattle.feed_edits.specs.Ahead.{Ahead, Row}
+use Rattle.feed_edits.specs.Ahead.{Row}
 use Rattle.desk_core.specs.declared.step.Entry.{Entry}
 use Rattle.air_monitor.specs.declared.done_line.DoneLine.{DoneLine}
 use Rattle.epg_report.specs.declared.status.Status.{Status}
@@ -22,7 +22,7 @@ use Rattle.epg_live.specs.declared.feeds.OpenStop.{OpenStop}
 use Rattle.epg_live.specs.declared.feeds.OpenStop.TheVariants as opening
 use Rattle.epg_live.specs.Opened.{HasOpenCause, HasTried, OpenedTo}
 use Rattle.epg_live.specs.Stops.{HasStatusCause, IsMet, IsOfLive, IsOfRun, mux_status, open_status}
-use Rattle.epg_live.specs.Runs.{JobsRan, NoJobs, behind, described}
+use Rattle.epg_live.specs.Runs.{NoJobs, Ran, described}
 use Rattle.epg_live.specs.Ends.{AskedFor, HasAsked, HasMet, LeavesLive, ReportEnds, or_report, run_text}
 use Rattle.epg_report.specs.Told.{Told}
 use Rattle.epg_live.proofs.OpenFacts.{tried_none}
@@ -131,19 +131,12 @@ all_asked r paths old mid new n feeds met is count same of (k, tried, to) =
     (k, subst (λ (o : Option (List (List ℕ))). HasTried old o (take k paths)) (sym same) tried, run_asked (length paths) k met of (all ∙ sym count))
 
 pub ran_met : {S E : Type 0} (left : S → Option (List ℕ)) (r : Result S E) (paths : List (List ℕ)) (cycles join : ℕ) (text : List ℕ) (files : Files) (feeds_old feeds_mid feeds_now : ℕ) (before now : Option (List ℕ)) (journal : List Entry) (dones : List DoneLine)
-    (met : Status) (mux : Mux) (rows : List Row) (control : Ahead) → described text ≡ Whole mux rows → behind text rows ≡ control → feeds_mid ≡ feeds_old
-    → IfOk r (λ s. (met ≡ Memory) ⊎ JobsRan mux cycles join control paths files feeds_mid feeds_now before now journal dones met)
+    (met : Status) → feeds_mid ≡ feeds_old → IfOk r (λ s. (met ≡ Memory) ⊎ Ran paths cycles join text files (left s) feeds_mid feeds_now before now journal dones met)
     → IfOk r (λ s. HasMet paths cycles join text files (left s) feeds_old feeds_now before now journal dones met)
-ran_met left (Err e) paths cycles join text files feeds_old feeds_mid feeds_now before now journal dones met mux rows control whole is same did = tt
-ran_met left (Ok s) paths cycles join text files feeds_old feeds_mid feeds_now before now journal dones met mux rows control whole is same (inl memory) = inl memory
-ran_met left (Ok s) paths cycles join text files feeds_old feeds_mid feeds_now before now journal dones met mux rows control whole is same (inr ran) =
-    inr (inr (
-      mux,
-      rows,
-      whole,
-      subst (λ (n : ℕ). JobsRan mux cycles join (behind text rows) paths files n feeds_now before now journal dones met) same
-          (subst (λ (a : Ahead). JobsRan mux cycles join a paths files feeds_mid feeds_now before now journal dones met) (sym is) ran),
-    ))
+ran_met left (Err e) paths cycles join text files feeds_old feeds_mid feeds_now before now journal dones met same did = tt
+ran_met left (Ok s) paths cycles join text files feeds_old feeds_mid feeds_now before now journal dones met same (inl memory) = inl memory
+ran_met left (Ok s) paths cycles join text files feeds_old feeds_mid feeds_now before now journal dones met same (inr ran) =
+    inr (inr (subst (λ (n : ℕ). Ran paths cycles join text files (left s) n feeds_now before now journal dones met) same ran))
 
 cause_from : (old mid now feeds_old feeds_mid feeds_now air_before air_now : ℕ) (met : Status) → old ≤ mid → feeds_mid ≡ feeds_old → HasStatusCause mid now feeds_mid feeds_now air_before air_now met → HasStatusCause old now feeds_old feeds_now air_before air_now met
 cause_from old mid now feeds_old feeds_mid feeds_now air_before air_now Done le same cause = tt

@@ -9,14 +9,15 @@ use Rattle.si_causes.proofs.TextFacts.{fresh_text}
 use Rattle.mux_config.specs.declared.mux.Mux.{Mux}
 use Rattle.feed_edits.specs.declared.stop.EditStop.{EditStop}
 use Rattle.feed_edits.specs.declared.stop.EditStop.TheVariants as edit
-use Rattle.feed_edits.specs.Ahead.{ahead}
+use Rattle.feed_edits.specs.Ahead.{Ahead, ahead}
 use Rattle.feed_edits.specs.Edits.{edits_ahead}
 use Rattle.desk_core.specs.declared.step.Entry.{Entry}
 use Rattle.desk_core.specs.Journal.{command_of}
-use Rattle.desk_hall.specs.Reads.{HasReadCause, commands_by, edit_step, ToldDid}
+use Rattle.desk_hall.specs.Reads.{HasReadCause, commands_by, control_step, controls_ahead, edit_step, ToldDid}
 use Rattle.turn_lock.specs.Knowledge.{TableId}
 use Rattle.headend_live.specs.declared.jobs.FeedJob.{FeedJob}
 use Rattle.headend_live.specs.declared.live.LiveStop.{LiveStop}
+use Rattle.headend_live.specs.declared.send.SendStop.{SendStop}
 use Rattle.headend_live.specs.declared.live.LiveStop.TheVariants as live
 use Rattle.headend_live.specs.declared.watched.LivePlan.{LivePlan}
 use Rattle.headend_live.specs.declared.watched.LiveEnd.{LiveEnd}
@@ -30,7 +31,8 @@ use Rattle.epg_report.specs.declared.status.Status.{Status}
 use Rattle.epg_report.specs.declared.status.Status.TheVariants.{Done, Memory}
 use Rattle.epg_live.specs.Opened.{AreOpened, IfFailed, IsOpened}
 use Rattle.epg_live.specs.Stops.{HasStatusCause, HaveReadCauses, feeds_stop, live_status}
-use Rattle.epg_live.specs.Runs.{CallerDid, FeedsDid, JobsRan, ahead_of}
+use Rattle.epg_live.specs.Runs.{CallerDid, ControlTook, FeedsDid, HasRead, Ran, ahead_of, behind}
+use Rattle.epg_live.proofs.DescribedFacts.{control_took, is_described}
 use Rattle.epg_live.proofs.OpenFacts.{opened_length}
 use Rattle.epg_live.proofs.StopFacts.{done_control, memory_or, run_caused, unless_wanting}
 
@@ -118,41 +120,57 @@ module _ {F : Type 0} (left : F → Option (List ℕ)) (faults : F → ℕ) (is_
 
 -- ---- the run
 
+-- where the control stopped it made no last turns
+halted_none : {E X Y : Type 0} (player : Result (Unit {0}) E) (stop : X) (feeds : Option Y) (who : ℕ) (final : List Entry) (sent : Result (Unit {0}) SendStop) → LastMade (halts player (Some stop) feeds) who final sent → final ≡ []
+halted_none (Ok u) stop feeds who final sent last = last
+halted_none (Err e) stop feeds who final sent last = last
+
 module _ {F S : Type 0} (left : F → Option (List ℕ)) (faults : F → ℕ) (is_same : F → F → Type 0) (leftS : S → Option (List ℕ)) (faultsS : S → ℕ) (is_sameS : S → S → Type 0) where
-  pub jobs_ran : (mux : Mux) (plan : LivePlan) (feeds : List (Reading F)) (control : Reading S) (rest sent : List ℕ) (paths : List (List ℕ)) (files : Files) (before now : Option (List ℕ)) (air_before air_now feeds_before feeds_now : ℕ)
-      (end : LiveEnd F S) (met : Status) → LiveRan left faults is_same leftS faultsS is_sameS mux plan feeds control before now air_before air_now end → AreOpened left faults (Some files) paths feeds → control.stop ≡ None
-      → text_left leftS control ≡ Some rest → before ≡ Some sent → IfFailed faults (Rose feeds_before feeds_now) end.feeds.items → met ≡ live_status end.stop
-      → (met ≡ Memory) ⊎ JobsRan mux plan.cycles plan.join (ahead control rest) paths files feeds_before feeds_now before now end.desk.entries end.dones met
-  jobs_ran mux plan feeds control rest sent paths files before now air_before air_now feeds_before feeds_now end met ran opened going told knows rose is =
+  pub jobs_ran : (mux : Mux) (plan : LivePlan) (feeds : List (Reading F)) (control : Reading S) (text : List ℕ) (paths : List (List ℕ)) (files : Files) (before now : Option (List ℕ)) (air_before air_now feeds_before feeds_now : ℕ)
+      (end : LiveEnd F S) (source : S) (met : Status) → LiveRan left faults is_same leftS faultsS is_sameS mux plan feeds control before now air_before air_now end → AreOpened left faults (Some files) paths feeds → control.stop ≡ None
+      → HasRead leftS text mux control → IfFailed faults (Rose feeds_before feeds_now) end.feeds.items → met ≡ live_status end.stop → source ≡ end.control.source
+      → (met ≡ Memory) ⊎ Ran paths plan.cycles plan.join text files (leftS source) feeds_before feeds_now before now end.desk.entries end.dones met
+  jobs_ran mux plan feeds control text paths files before now air_before air_now feeds_before feeds_now end source met ran opened going read rose is back =
       let jobs = ran.did.feeds in
+      let stop = ran.did.control.stop in
+      let then = map command_of ran.did.final in
+      let d = is_described leftS faultsS (fresh read.source) control read.source text mux refl read.read in
       let first : first_stop jobs ≡ feeds_stop None 1 (stops_back jobs) = first_is jobs ∙ feeds_first left faults is_same files end.desk.entries None 1 feeds jobs ran.commands.feeds_read in
       let low : ran.did.control.pass.own.low ≡ 0 = ap (λ z. z.own.low) ran.did.control_did.did.1.gained in
+      let source_is : source ≡ ran.did.control.lines.source = back ∙ ap (λ (r : Reading S). r.source) ran.control_is in
+      let none : stop ≡ Some (edit.Read Failed) → then ≡ [] = (λ e. ap (map command_of) (halted_none ran.did.player.end (edit.Read Failed) (first_stop jobs) ran.did.control.pass.own.low ran.did.final ran.sent
+      (subst (λ (o : Option EditStop). LastMade (halts ran.did.player.end o (first_stop jobs)) ran.did.control.pass.own.low ran.did.final ran.sent) e ran.did.last))) in
       elim (memory_or end.stop) [
         | inl memory ↦ inl (is ∙ ap live_status memory)
-        | inr other ↦
-            let heard = ran.whole sent knows other in
-            inr (record {
-              player = ran.did.player.end;
-              sent = ran.sent;
-              control_stop = ran.did.control.stop;
-              feed_stops = stops_back jobs;
-              final = ran.did.final;
-              journal_is = record {
-                legal = ran.did.journal_did.legal;
-                control_did = ran.commands.control_read.told going rest told;
-                player_did = ran.commands.player_swapped;
-                feeds_did = feeds_did left faults is_same files end.desk.entries 1 paths feeds jobs opened ran.commands.feeds_read;
-                others = λ k le. ran.commands.others k (omega (arith, le, opened_length left faults (Some files) paths feeds opened));
-                front = ran.did.journal_did.front;
-                ends = ran.did.journal_did.ends;
-              };
-              last = subst (λ (o : Option LiveStop). LastMade (halts ran.did.player.end ran.did.control.stop o) 0 ran.did.final ran.sent) first
-                  (subst (λ (k : ℕ). LastMade (halts ran.did.player.end ran.did.control.stop (first_stop jobs)) k ran.did.final ran.sent) low ran.did.last);
-              status_is = is ∙ ap live_status (unless_wanting ran.wanting end.stop (run_stop ran.sent ran.did.control.stop (first_stop jobs)) ran.stop_is other ∙ ap (run_stop ran.sent ran.did.control.stop) first);
-              causes = feeds_caused left faults is_same files end.desk.entries ran.turns mux feeds_before feeds_now 1 paths (Some files) feeds jobs opened ran.did.feeds_ran (subst (λ (l : List (Reading F)). IfFailed faults (Rose feeds_before feeds_now) l) ran.feeds_are rose);
-              air_is = ran.did.air;
-              heard = record { taken = heard.taken; gave = heard.gave; lines = heard.lines };
-            })
+        | inr other ↦ inr (
+          mux,
+          d.2.0,
+          d.2.1,
+          record {
+            player = ran.did.player.end;
+            sent = ran.sent;
+            control_stop = stop;
+            feed_stops = stops_back jobs;
+            final = ran.did.final;
+            journal_is = record {
+              legal = ran.did.journal_did.legal;
+              control_did = subst (λ (a : Ahead). CallerDid end.desk.entries 0 control_step (controls_ahead a) then stop) (sym d.2.2) (ran.commands.control_read.told going d.0 d.1);
+              control_took = subst (λ (s : S). ControlTook text (leftS s) mux end.desk.entries stop) (sym source_is)
+                  (control_took leftS faultsS text mux control ran.did.control.lines end.desk.entries then stop read (ran.commands.control_read.taken going) none);
+              player_did = ran.commands.player_swapped;
+              feeds_did = feeds_did left faults is_same files end.desk.entries 1 paths feeds jobs opened ran.commands.feeds_read;
+              others = λ k le. ran.commands.others k (omega (arith, le, opened_length left faults (Some files) paths feeds opened));
+              front = ran.did.journal_did.front;
+              ends = ran.did.journal_did.ends;
+            };
+            last = subst (λ (o : Option LiveStop). LastMade (halts ran.did.player.end stop o) 0 ran.did.final ran.sent) first
+                (subst (λ (k : ℕ). LastMade (halts ran.did.player.end stop (first_stop jobs)) k ran.did.final ran.sent) low ran.did.last);
+            status_is = is ∙ ap live_status (unless_wanting ran.wanting end.stop (run_stop ran.sent stop (first_stop jobs)) ran.stop_is other ∙ ap (run_stop ran.sent stop) first);
+            causes = feeds_caused left faults is_same files end.desk.entries ran.turns mux feeds_before feeds_now 1 paths (Some files) feeds jobs opened ran.did.feeds_ran (subst (λ (l : List (Reading F)). IfFailed faults (Rose feeds_before feeds_now) l) ran.feeds_are rose);
+            air_is = ran.did.air;
+            heard = λ sent knows. let heard = ran.whole sent knows other in record { taken = heard.taken; gave = heard.gave; lines = heard.lines };
+          },
+        )
       ]
 
   -- each fault has its cause

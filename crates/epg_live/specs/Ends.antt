@@ -3,9 +3,6 @@ use Rattle.std.specs.Prelude.{◌≡◌, ◌⊎◌, ℕ, ◌≤◌, List, [], �
 use Rattle.std.specs.Io.KnownBytes.{Appends}
 use Rattle.si_causes.specs.Causes.{Rose, AppendsFront}
 use Rattle.si_causes.specs.Opening.{Files}
-use Rattle.mux_config.specs.declared.mux.Mux.{Mux}
-use Rattle.mux_config.specs.Block.{Whole}
-use Rattle.feed_edits.specs.Ahead.{Row}
 use Rattle.desk_core.specs.declared.step.Entry.{Entry}
 use Rattle.desk_core.specs.Desks.{DeskState}
 use Rattle.journal_text.specs.Entries.{journal_text}
@@ -21,7 +18,7 @@ use Rattle.epg_report.specs.Texts.{fault_lines}
 use Rattle.epg_report.specs.Told.{Told}
 use Rattle.epg_live.specs.declared.reporting.LiveRun.{LiveRun}
 use Rattle.epg_live.specs.Opened.{HasTried}
-use Rattle.epg_live.specs.Runs.{JobsRan, NoJobs, behind, described}
+use Rattle.epg_live.specs.Runs.{NoJobs, Ran}
 
 -- ---- the report
 
@@ -60,16 +57,10 @@ ReportEnds met text report status =
 
 -- ---- the whole run
 
--- jobs ran over the multiplex of the text
-abbrev pub Ran : List (List ℕ) → ℕ → ℕ → List ℕ → Files → ℕ → ℕ → Option (List ℕ) → Option (List ℕ) → List Entry → List DoneLine → Status → Type 0
-Ran paths cycles join text files faults_before faults_now before now journal dones met =
-    (mux : Mux) × (rows : List Row) × (described text ≡ Whole mux rows)
-    × JobsRan mux cycles join (behind text rows) paths files faults_before faults_now before now journal dones met
-
 -- what was met, and done until then: want of memory; or no job started; or they ran
 abbrev pub HasMet : List (List ℕ) → ℕ → ℕ → List ℕ → Files → Option (List ℕ) → ℕ → ℕ → Option (List ℕ) → Option (List ℕ) → List Entry → List DoneLine → Status → Type 0
 HasMet paths cycles join text files left faults_before faults_now before now journal dones met =
-    (met ≡ Memory) ⊎ (NoJobs text left before now journal dones met ⊎ Ran paths cycles join text files faults_before faults_now before now journal dones met)
+    (met ≡ Memory) ⊎ (NoJobs text left before now journal dones met ⊎ Ran paths cycles join text files left faults_before faults_now before now journal dones met)
 
 -- What a run over the files of these paths leaves, of the text of its input and the files of its opener, and of what is left of that text: the report has the journal
 -- and the completions, and ends by the status that was met. Want of memory, whoever met it, goes before all.

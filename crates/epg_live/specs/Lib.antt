@@ -1,4 +1,5 @@
 pub mod Opened
 pub mod Stops
 pub mod Runs
+pub mod Decided
 pub mod Ends

@@ -3,12 +3,14 @@ use Rattle.std.specs.Prelude.{◌≡◌, ℕ, ◌+◌, ◌≤◌, List, [], ◌�
 use Rattle.std.specs.Io.KnownBytes.{Appends}
 use Rattle.si_causes.specs.Causes.{Rose}
 use Rattle.si_causes.specs.Opening.{Files, file_at}
+use Rattle.si_causes.specs.Reading.{Reading, fresh}
 use Rattle.si_causes.specs.Text.{text_lines}
 use Rattle.si_causes.specs.declared.stop.ReadStop.TheVariants.{Failed}
-use Rattle.input_lines.specs.Lines.{record_lines}
+use Rattle.input_lines.specs.Lines.{lines_of, record_lines}
 use Rattle.input_lines.specs.Going.{shown_whole}
 use Rattle.mux_config.specs.declared.mux.Mux.{Mux}
 use Rattle.mux_config.specs.Block.{Block, Faulty, Whole, Unended, block_from, block_of}
+use Rattle.mux_config.specs.Reads.{ReadMux, WholeCame}
 use Rattle.feed_edits.specs.declared.stop.EditStop.{EditStop}
 use Rattle.feed_edits.specs.declared.stop.EditStop.TheVariants.{Read}
 use Rattle.feed_edits.specs.Ahead.{Ahead, Row, Stop, Unread, Breaks, ahead_in, tail_of}
@@ -46,6 +48,27 @@ ahead_of text = ahead_in 1 (text_lines text)
 abbrev pub CallerDid : {T : Type 0} → List Entry → ℕ → (T → Step) → List T × Stop → List Command → Option EditStop → Type 0
 CallerDid journal who step all then stop = ToldDid (λ values. CommandsAre journal who (commands_by who step values ++ then)) all stop
 
+-- Of a text these bytes were taken, and the others are left; the lines that were whole in the bytes taken describe this multiplex, and have
+-- these lines behind its `end`.
+pub record IsTaken (text : List ℕ) (left : Option (List ℕ)) (mux : Mux) (rows : List Row) : Type 0 where
+  pub taken : List ℕ
+  pub rest : List ℕ
+  pub text_is : text ≡ taken ++ rest
+  pub left_is : left ≡ Some rest
+  pub whole : block_from [] (record_lines 1 (shown_whole taken)) ≡ Whole mux rows
+
+-- A read of the control's lines failed: it has exactly the commands of the lines that were whole in the bytes taken, and each of these
+-- is one.
+pub record HasTaken (text : List ℕ) (left : Option (List ℕ)) (mux : Mux) (journal : List Entry) : Type 0 where
+  pub rows : List Row
+  pub taken : IsTaken text left mux rows
+  pub stop : (controls_ahead (record { rows = rows; tail = Breaks })).1 ≡ Unread
+  pub commands : CommandsAre journal 0 (commands_by 0 control_step (controls_ahead (record { rows = rows; tail = Breaks })).0)
+
+abbrev pub ControlTook : List ℕ → Option (List ℕ) → Mux → List Entry → Option EditStop → Type 0
+ControlTook text left mux journal (Some (Read Failed)) = HasTaken text left mux journal
+ControlTook text left mux journal stop = Unit {0}
+
 -- Feed f is caller f + 1, and has the commands of the file of its path. The first of these feeds has number f.
 abbrev pub FeedsDid : Files → List Entry → ℕ → List (List ℕ) → List (Option EditStop) → Type 0
 FeedsDid files journal f [] [] = Unit {0}
@@ -59,10 +82,11 @@ FeedsDid files journal f (path ∷ paths) (stop ∷ stops) =
 
 -- The journal: each caller's commands stand in it once, in order, whatever other jobs met, each with the reply of a desk of one thread
 -- (`legal`), and no one else's. Caller 0 is the control, caller 1 the player. `final` is what the control made behind all jobs.
-pub record IsJournal (mux : Mux) (cycles : ℕ) (control : Ahead) (paths : List (List ℕ)) (files : Files) (journal : List Entry)
+pub record IsJournal (mux : Mux) (cycles : ℕ) (text : List ℕ) (left : Option (List ℕ)) (rows : List Row) (paths : List (List ℕ)) (files : Files) (journal : List Entry)
     (player : Result (Unit {0}) SendStop) (control_stop : Option EditStop) (feed_stops : List (Option EditStop)) (final : List Entry) : Type 0 where
   pub legal : Legal mux journal
-  pub control_did : CallerDid journal 0 control_step (controls_ahead control) (map command_of final) control_stop
+  pub control_did : CallerDid journal 0 control_step (controls_ahead (behind text rows)) (map command_of final) control_stop
+  pub control_took : ControlTook text left mux journal control_stop
   pub player_did : PlayerSwapped journal cycles player
   pub feeds_did : FeedsDid files journal 1 paths feed_stops
   pub others : (k : ℕ) → length paths + 2 ≤ k → entries_of caller_of k journal ≡ []
@@ -77,20 +101,33 @@ pub record AreHeard (join : ℕ) (before now : Option (List ℕ)) (dones : List 
 
 -- The jobs started, and all have ended. The status is that of the first stop in the order air, control, feeds by number; Done exactly
 -- where there is none, and then the control's publish, swap and swap end the journal (`last`). `sent` says how the last cycle ended. A feed was not read
--- to its own stop only where the opener's count of read faults rose (`causes`).
-pub record JobsRan (mux : Mux) (cycles join : ℕ) (control : Ahead) (paths : List (List ℕ)) (files : Files) (faults_before faults_now : ℕ) (before now : Option (List ℕ))
+-- to its own stop only where the opener's count of read faults rose (`causes`). The completions are told where the air tells its bytes.
+pub record JobsRan (mux : Mux) (cycles join : ℕ) (text : List ℕ) (left : Option (List ℕ)) (rows : List Row) (paths : List (List ℕ)) (files : Files) (faults_before faults_now : ℕ) (before now : Option (List ℕ))
     (journal : List Entry) (dones : List DoneLine) (status : Status) : Type 0 where
   pub player : Result (Unit {0}) SendStop
   pub sent : Result (Unit {0}) SendStop
   pub control_stop : Option EditStop
   pub feed_stops : List (Option EditStop)
   pub final : List Entry
-  pub journal_is : IsJournal mux cycles control paths files journal player control_stop feed_stops final
+  pub journal_is : IsJournal mux cycles text left rows paths files journal player control_stop feed_stops final
   pub last : LastMade (halts player control_stop (feeds_stop None 1 feed_stops)) 0 final sent
   pub status_is : status ≡ live_status (run_stop sent control_stop (feeds_stop None 1 feed_stops))
   pub causes : HaveReadCauses faults_before faults_now feed_stops
   pub air_is : AirDid mux journal before now sent
-  pub heard : AreHeard join before now dones
+  pub heard : (sent : List ℕ) → before ≡ Some sent → AreHeard join before now dones
+
+-- jobs ran over the multiplex of the text
+abbrev pub Ran : List (List ℕ) → ℕ → ℕ → List ℕ → Files → Option (List ℕ) → ℕ → ℕ → Option (List ℕ) → Option (List ℕ) → List Entry → List DoneLine → Status → Type 0
+Ran paths cycles join text files left faults_before faults_now before now journal dones met =
+    (mux : Mux) × (rows : List Row) × (described text ≡ Whole mux rows)
+    × JobsRan mux cycles join text left rows paths files faults_before faults_now before now journal dones met
+
+-- a reader behind the description that it read of the text of its source
+pub record HasRead {S : Type 0} (left : S → Option (List ℕ)) (text : List ℕ) (mux : Mux) (reader : Reading S) : Type 0 where
+  pub source : S
+  pub tells : left source ≡ Some text
+  pub read : ReadMux left (fresh source) reader (lines_of (fresh source) text) (Ok mux)
+  pub came : WholeCame left (fresh source) reader mux
 
 -- ---- a run that ended before
 

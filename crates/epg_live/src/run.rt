@@ -3,13 +3,12 @@ ghost use Rattle.std.specs.Prelude.{◌≡◌, ◌≤◌, ◌⊎◌, List, ℕ, 
 ghost use Rattle.std.specs.Io.KnownBytes.{IsAtEnd};
 ghost use Rattle.si_causes.specs.Causes.{Rose};
 ghost use Rattle.si_causes.specs.Opening.{Files};
-ghost use Rattle.si_causes.specs.Reading.{fresh, text_left};
+ghost use Rattle.si_causes.specs.Reading.{fresh};
 ghost use Rattle.command_words.specs.Commands.{texts};
 ghost use Rattle.mux_config.specs.Sound.{IsSound};
 ghost use Rattle.epg_report.specs.Texts.{CanBeSaid};
 ghost use Rattle.epg_live.specs.Ends.{HasAsked, HasMet, IsBlank, entries_of};
-ghost use Rattle.epg_live.specs.Runs.{JobsRan};
-ghost use Rattle.feed_edits.specs.Ahead.{ahead};
+ghost use Rattle.epg_live.specs.Runs.{HasRead, Ran};
 ghost use Rattle.epg_live.specs.Opened.{AreOpened};
 ghost use Rattle.epg_live.specs.Stops.{HasStatusCause, IsMet, IsOfRun, live_status, mux_status, open_status, read_status};
 
@@ -108,8 +107,8 @@ fn run_jobs<W: Threads + Wait + Sync, O: Opener, S: Source + Send, A: Sink + Sen
     requires going { lines.stop ≡ None }
     requires opened { (paths : List (List ℕ)) × AreOpened O.From.left O.From.faults (O.files opener.old) paths feeds.items }
     ensures ran { (paths : List (List ℕ)) → AreOpened O.From.left O.From.faults (O.files opener.old) paths feeds.items
-        → (rest : List ℕ) → text_left S.left lines ≡ Some rest → (files : Files) → O.files opener.old ≡ Some files → (sent : List ℕ) → A.written air.old ≡ Some sent
-        → IfOk result (λ _. (run.new.met ≡ Status.Memory) ⊎ JobsRan mux plan.cycles plan.join (ahead lines rest) paths files (O.read_faults opener.old) (O.read_faults opener.new)
+        → (text : List ℕ) → HasRead S.left text mux lines → (files : Files) → O.files opener.old ≡ Some files
+        → IfOk result (λ source. (run.new.met ≡ Status.Memory) ⊎ Ran paths plan.cycles plan.join text files (S.left source) (O.read_faults opener.old) (O.read_faults opener.new)
         (A.written air.old) (A.written air.new) (entries_of run.new.desk) run.new.dones run.new.met) }
     ensures cause { IfOk result (λ source. HasStatusCause (S.faults lines.source) (S.faults source) (O.read_faults opener.old) (O.read_faults opener.new) (A.faults air.old) (A.faults air.new) run.new.met) }
     ensures end { IfOk result (λ source. run.new.met ≡ Status.Done → IsAtEnd (S.left source)) }
@@ -149,7 +148,7 @@ pub(crate) fn run_described<
     requires cycles { words.now.cycles ≤ 1000 }
     requires unread { lines ≡ fresh lines.source }
     requires blank { IsBlank run.old }
-    ensures met { (text : List ℕ) → S.left lines.source ≡ Some text → (files : Files) → O.files opener.old ≡ Some files → (sent : List ℕ) → A.written air.old ≡ Some sent
+    ensures met { (text : List ℕ) → S.left lines.source ≡ Some text → (files : Files) → O.files opener.old ≡ Some files
         → IfOk result (λ source. HasMet (texts words.now.feeds.items) words.now.cycles words.now.join text files (S.left source) (O.read_faults opener.old) (O.read_faults opener.new)
         (A.written air.old) (A.written air.new) (entries_of run.new.desk) run.new.dones run.new.met) }
     ensures cause { IfOk result (λ source. HasStatusCause (S.faults lines.source) (S.faults source) (O.read_faults opener.old) (O.read_faults opener.new) (A.faults air.old) (A.faults air.new) run.new.met) }

@@ -3,13 +3,13 @@ ghost use Rattle.std.specs.Prelude.{◌≡◌};
 ghost use Rattle.mux_config.specs.Sound.{IsSound};
 ghost use Rattle.desk_hall.specs.Turn.{Keeps};
 
-use crate::gates::Holding;
 use crate::halls::two_services;
 use crate::journals::{put_edits, put_steps_of};
 use crate::lines::{Lines, WHOLE, reader};
 use desk_core::Desk;
 use headend_live::{Hall, HallPass};
 use mux_config::Mux;
+use row_gates::Holding;
 use std::alloc::{AllocError, Global};
 use std::marker::Sync;
 use std::sync::Wait;

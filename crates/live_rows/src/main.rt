@@ -6,7 +6,6 @@
 
 mod callers;
 mod calls;
-mod gates;
 mod halls;
 mod journals;
 mod lines;

@@ -2,13 +2,13 @@
 ghost use Rattle.std.specs.Prelude.{◌≤◌};
 ghost use Rattle.mux_config.specs.Sound.{IsSound};
 
-use crate::gates::Holding;
 use crate::halls::two_services;
 use crate::journals::{put_others, put_steps_of};
 use crate::lines::{Lines, WHOLE, reader};
 use crate::words::put_stop;
 use headend_live::{DoneLine, LiveEnd, LivePlan, LiveStop, run_live};
 use mux_config::Mux;
+use row_gates::Holding;
 use si_causes::{MemSink, MemSource};
 use std::alloc::{AllocError, Global};
 use std::marker::Sync;

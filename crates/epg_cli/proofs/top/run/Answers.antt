@@ -1,4 +1,4 @@
-use Rattle.std.proofs.Common.{◌≡◌, refl, codes, inl, inr}
+use Rattle.std.proofs.Common.{◌≡◌, ◌⊎◌, refl, codes, inl, inr}
 use Rattle.std.specs.Prelude.{Some, None}
 use Rattle.packet_reader.specs.Recordings.{recording}
 use Rattle.command_words.specs.Commands.{texts}
@@ -6,11 +6,14 @@ use Rattle.command_words.specs.Grammar.{command_of, Play, Listen, Live}
 use Rattle.epg_report.specs.Texts.{fault_line}
 use Rattle.epg_report.specs.Told.{told}
 use Rattle.epg_report.proofs.Reporting.{reported}
+use Rattle.epg_report.specs.declared.status.Status.TheVariants.{Done, Memory}
+use Rattle.epg_live.specs.Decided.{AreWhole, text_status}
 use Rattle.epg_live.specs.Ends.{HasAsked, LeavesLive}
 use Rattle.epg_live.specs.Stops.{HasStatusCause, IsOfLive}
 use Rattle.epg_cli.specs.Script.{script_in}
 use Rattle.epg_cli.specs.Run.{Leaves, IsOfPlay, Completes}
 use Rattle.epg_cli.specs.Listen.{LeavesHeard, HearsThrough, IsOfListen}
+use Rattle.epg_cli.proofs.AgainFacts.{prints}
 use Rattle.epg_cli.proofs.CommandFacts.{play_listen, play_live, listen_live, live_neither, some_none, live_is, play_usage, listen_usage, live_usage, play_open, listen_open, play_cause, listen_cause, of_memory, memory_usage, memory_done, memory_open, memory_write, memory_read, none_asked}
 use Rattle.epg_cli.proofs.top.run.Goals as goal
 
@@ -56,6 +59,21 @@ returns-in-Ok-Play-clause-air_kept g c =
 
 pub returns-in-Ok-Play-clause-live_leaves : goal.returns-in-Ok-Play-clause-live_leaves
 returns-in-Ok-Play-clause-live_leaves g c =
+    let spells : command_of (texts c.args.words.now) ≡ Some Play = rw c.in-Ok-Play.field-0-is at c.in-Ok-Play.ensures.command in
+    λ paths cycles join spelled. absurd (play_live (command_of (texts c.args.words.now)) paths cycles join spells spelled)
+
+pub returns-in-Ok-Play-clause-live_again : goal.returns-in-Ok-Play-clause-live_again
+returns-in-Ok-Play-clause-live_again g c =
+    let spells : command_of (texts c.args.words.now) ≡ Some Play = rw c.in-Ok-Play.field-0-is at c.in-Ok-Play.ensures.command in
+    λ paths cycles join spelled. absurd (play_live (command_of (texts c.args.words.now)) paths cycles join spells spelled)
+
+pub returns-in-Ok-Play-clause-live_completes : goal.returns-in-Ok-Play-clause-live_completes
+returns-in-Ok-Play-clause-live_completes g c =
+    let spells : command_of (texts c.args.words.now) ≡ Some Play = rw c.in-Ok-Play.field-0-is at c.in-Ok-Play.ensures.command in
+    λ paths cycles join spelled. absurd (play_live (command_of (texts c.args.words.now)) paths cycles join spells spelled)
+
+pub returns-in-Ok-Play-clause-live_whole : goal.returns-in-Ok-Play-clause-live_whole
+returns-in-Ok-Play-clause-live_whole g c =
     let spells : command_of (texts c.args.words.now) ≡ Some Play = rw c.in-Ok-Play.field-0-is at c.in-Ok-Play.ensures.command in
     λ paths cycles join spelled. absurd (play_live (command_of (texts c.args.words.now)) paths cycles join spells spelled)
 
@@ -126,6 +144,21 @@ returns-in-Ok-Listen-clause-air_kept g c = λ spelled. refl
 
 pub returns-in-Ok-Listen-clause-live_leaves : goal.returns-in-Ok-Listen-clause-live_leaves
 returns-in-Ok-Listen-clause-live_leaves g c =
+    let spells : command_of (texts c.args.words.now) ≡ Some Listen = rw c.in-Ok-Listen.field-0-is at c.in-Ok-Listen.ensures.command in
+    λ paths cycles join spelled. absurd (listen_live (command_of (texts c.args.words.now)) paths cycles join spells spelled)
+
+pub returns-in-Ok-Listen-clause-live_again : goal.returns-in-Ok-Listen-clause-live_again
+returns-in-Ok-Listen-clause-live_again g c =
+    let spells : command_of (texts c.args.words.now) ≡ Some Listen = rw c.in-Ok-Listen.field-0-is at c.in-Ok-Listen.ensures.command in
+    λ paths cycles join spelled. absurd (listen_live (command_of (texts c.args.words.now)) paths cycles join spells spelled)
+
+pub returns-in-Ok-Listen-clause-live_completes : goal.returns-in-Ok-Listen-clause-live_completes
+returns-in-Ok-Listen-clause-live_completes g c =
+    let spells : command_of (texts c.args.words.now) ≡ Some Listen = rw c.in-Ok-Listen.field-0-is at c.in-Ok-Listen.ensures.command in
+    λ paths cycles join spelled. absurd (listen_live (command_of (texts c.args.words.now)) paths cycles join spells spelled)
+
+pub returns-in-Ok-Listen-clause-live_whole : goal.returns-in-Ok-Listen-clause-live_whole
+returns-in-Ok-Listen-clause-live_whole g c =
     let spells : command_of (texts c.args.words.now) ≡ Some Listen = rw c.in-Ok-Listen.field-0-is at c.in-Ok-Listen.ensures.command in
     λ paths cycles join spelled. absurd (listen_live (command_of (texts c.args.words.now)) paths cycles join spells spelled)
 
@@ -205,9 +238,28 @@ returns-in-Ok-Live-clause-air_kept g c =
 pub returns-in-Ok-Live-clause-live_leaves : goal.returns-in-Ok-Live-clause-live_leaves
 returns-in-Ok-Live-clause-live_leaves g c =
     let spells : command_of (texts c.args.words.now) ≡ Some (Live (texts c.in-Ok-Live.live.feeds.items) c.in-Ok-Live.live.cycles c.in-Ok-Live.live.join) = rw c.in-Ok-Live.field-0-is at c.in-Ok-Live.ensures.command in
-    λ paths cycles join spelled text tells files known sent knows.
+    λ paths cycles join spelled text tells files known.
     live_is (λ ps n j. LeavesLive ps n j text files (g.S.Source.left c.run_live_files.new.input) (g.O.Opener.read_faults c.args.opener.now) (g.O.Opener.read_faults c.run_live_files.new.opener) (told g.A.Sink.written g.A.Sink.faults c.args.air.now c.run_live_files.new.air) (told g.R.Sink.written g.R.Sink.faults c.args.report.now c.run_live_files.new.report) c.run_live_files.result)
-    (command_of (texts c.args.words.now)) (texts c.in-Ok-Live.live.feeds.items) paths c.in-Ok-Live.live.cycles cycles c.in-Ok-Live.live.join join spells spelled (c.run_live_files.ensures.leaves text tells files known sent knows)
+    (command_of (texts c.args.words.now)) (texts c.in-Ok-Live.live.feeds.items) paths c.in-Ok-Live.live.cycles cycles c.in-Ok-Live.live.join join spells spelled (c.run_live_files.ensures.leaves text tells files known)
+
+pub returns-in-Ok-Live-clause-live_again : goal.returns-in-Ok-Live-clause-live_again
+returns-in-Ok-Live-clause-live_again g c = λ paths cycles join spelled text tells files known.
+    prints (texts c.in-Ok-Live.live.feeds.items) c.in-Ok-Live.live.cycles c.in-Ok-Live.live.join text files (g.S.Source.left c.run_live_files.new.input) (g.O.Opener.read_faults c.args.opener.now) (g.O.Opener.read_faults c.run_live_files.new.opener)
+    (told g.A.Sink.written g.A.Sink.faults c.args.air.now c.run_live_files.new.air) (told g.R.Sink.written g.R.Sink.faults c.args.report.now c.run_live_files.new.report) c.run_live_files.result (c.run_live_files.ensures.leaves text tells files known)
+
+pub returns-in-Ok-Live-clause-live_completes : goal.returns-in-Ok-Live-clause-live_completes
+returns-in-Ok-Live-clause-live_completes g c =
+    let spells : command_of (texts c.args.words.now) ≡ Some (Live (texts c.in-Ok-Live.live.feeds.items) c.in-Ok-Live.live.cycles c.in-Ok-Live.live.join) = rw c.in-Ok-Live.field-0-is at c.in-Ok-Live.ensures.command in
+    λ paths cycles join spelled text tells files known no_read no_open no_feed no_air no_report.
+    live_is (λ ps n j. (c.run_live_files.result ≡ Memory) ⊎ (c.run_live_files.result ≡ text_status text ps files))
+    (command_of (texts c.args.words.now)) (texts c.in-Ok-Live.live.feeds.items) paths c.in-Ok-Live.live.cycles cycles c.in-Ok-Live.live.join join spells spelled (c.run_live_files.ensures.completes text tells files known no_read no_open no_feed no_air no_report)
+
+pub returns-in-Ok-Live-clause-live_whole : goal.returns-in-Ok-Live-clause-live_whole
+returns-in-Ok-Live-clause-live_whole g c =
+    let spells : command_of (texts c.args.words.now) ≡ Some (Live (texts c.in-Ok-Live.live.feeds.items) c.in-Ok-Live.live.cycles c.in-Ok-Live.live.join) = rw c.in-Ok-Live.field-0-is at c.in-Ok-Live.ensures.command in
+    λ paths cycles join spelled text tells files known are no_read no_open no_feed no_air no_report.
+    live_is (λ ps n j. AreWhole text ps files → (c.run_live_files.result ≡ Done) ⊎ (c.run_live_files.result ≡ Memory))
+    (command_of (texts c.args.words.now)) (texts c.in-Ok-Live.live.feeds.items) paths c.in-Ok-Live.live.cycles cycles c.in-Ok-Live.live.join join spells spelled (λ whole. c.run_live_files.ensures.whole text tells files known whole no_read no_open no_feed no_air no_report) are
 
 pub returns-in-Ok-Live-clause-live_status : goal.returns-in-Ok-Live-clause-live_status
 returns-in-Ok-Live-clause-live_status g c = λ paths cycles join spelled. c.run_live_files.ensures.status
@@ -273,7 +325,16 @@ pub returns-in-Err-Memory-clause-air_kept : goal.returns-in-Err-Memory-clause-ai
 returns-in-Err-Memory-clause-air_kept g c = λ spelled. refl
 
 pub returns-in-Err-Memory-clause-live_leaves : goal.returns-in-Err-Memory-clause-live_leaves
-returns-in-Err-Memory-clause-live_leaves g c = λ paths cycles join spelled text tells files known sent knows. inl c.out_of_memory.ensures.status
+returns-in-Err-Memory-clause-live_leaves g c = λ paths cycles join spelled text tells files known. inl c.out_of_memory.ensures.status
+
+pub returns-in-Err-Memory-clause-live_again : goal.returns-in-Err-Memory-clause-live_again
+returns-in-Err-Memory-clause-live_again g c = λ paths cycles join spelled text tells files known. inl c.out_of_memory.ensures.status
+
+pub returns-in-Err-Memory-clause-live_completes : goal.returns-in-Err-Memory-clause-live_completes
+returns-in-Err-Memory-clause-live_completes g c = λ paths cycles join spelled text tells files known no_read no_open no_feed no_air no_report. inl c.out_of_memory.ensures.status
+
+pub returns-in-Err-Memory-clause-live_whole : goal.returns-in-Err-Memory-clause-live_whole
+returns-in-Err-Memory-clause-live_whole g c = λ paths cycles join spelled text tells files known are no_read no_open no_feed no_air no_report. inr c.out_of_memory.ensures.status
 
 pub returns-in-Err-Memory-clause-live_status : goal.returns-in-Err-Memory-clause-live_status
 returns-in-Err-Memory-clause-live_status g c = λ paths cycles join spelled. of_memory IsOfLive c.out_of_memory.result c.out_of_memory.ensures.status tt
@@ -351,6 +412,21 @@ returns-in-Err-Usage-clause-air_kept g c =
 
 pub returns-in-Err-Usage-clause-live_leaves : goal.returns-in-Err-Usage-clause-live_leaves
 returns-in-Err-Usage-clause-live_leaves g c =
+    let none : command_of (texts c.args.words.now) ≡ None = (rw c.in-Err-Usage.field-0-is at c.in-Err-Usage.ensures.usage).0 refl in
+    λ paths cycles join spelled. absurd (some_none (command_of (texts c.args.words.now)) (Live paths cycles join) spelled none)
+
+pub returns-in-Err-Usage-clause-live_again : goal.returns-in-Err-Usage-clause-live_again
+returns-in-Err-Usage-clause-live_again g c =
+    let none : command_of (texts c.args.words.now) ≡ None = (rw c.in-Err-Usage.field-0-is at c.in-Err-Usage.ensures.usage).0 refl in
+    λ paths cycles join spelled. absurd (some_none (command_of (texts c.args.words.now)) (Live paths cycles join) spelled none)
+
+pub returns-in-Err-Usage-clause-live_completes : goal.returns-in-Err-Usage-clause-live_completes
+returns-in-Err-Usage-clause-live_completes g c =
+    let none : command_of (texts c.args.words.now) ≡ None = (rw c.in-Err-Usage.field-0-is at c.in-Err-Usage.ensures.usage).0 refl in
+    λ paths cycles join spelled. absurd (some_none (command_of (texts c.args.words.now)) (Live paths cycles join) spelled none)
+
+pub returns-in-Err-Usage-clause-live_whole : goal.returns-in-Err-Usage-clause-live_whole
+returns-in-Err-Usage-clause-live_whole g c =
     let none : command_of (texts c.args.words.now) ≡ None = (rw c.in-Err-Usage.field-0-is at c.in-Err-Usage.ensures.usage).0 refl in
     λ paths cycles join spelled. absurd (some_none (command_of (texts c.args.words.now)) (Live paths cycles join) spelled none)
 

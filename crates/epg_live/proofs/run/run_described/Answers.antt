@@ -5,10 +5,9 @@ use Rattle.si_causes.specs.Opening.{Files}
 use Rattle.command_words.specs.Commands.{texts}
 use Rattle.epg_report.specs.declared.status.Status.{Status}
 use Rattle.epg_live.specs.Ends.{HasAsked, HasMet, entries_of}
-use Rattle.feed_edits.specs.Ahead.{ahead}
 use Rattle.epg_live.specs.Opened.{AreOpened, HasTried, OpenedTo}
 use Rattle.epg_live.specs.Stops.{HasStatusCause, IsMet, IsOfRun, mux_status, open_status}
-use Rattle.epg_live.proofs.DescribedFacts.{is_described, not_described, unread_going, unread_told}
+use Rattle.epg_live.proofs.DescribedFacts.{has_read, is_described, not_described, unread_going, unread_told}
 use Rattle.epg_live.proofs.OpenFacts.{opened_length}
 use Rattle.epg_live.proofs.MetFacts.{all_asked, as_met, if_ok, mux_asked, mux_caused, mux_not_done, mux_not_open, mux_of_live, not_opened, of_run, open_asked, open_caused, open_fault, open_not_done, open_of_live, ran_caused, ran_met, run_not_open, some_asked}
 use Rattle.epg_live.proofs.run.run_described.Goals as goal
@@ -16,7 +15,7 @@ use Rattle.epg_live.proofs.run.run_described.Goals as goal
 -- ---- the description was not read
 
 pub returns-in-Err-clause-met : goal.returns-in-Err-clause-met
-returns-in-Err-clause-met g c = λ text tells files known sent knows.
+returns-in-Err-clause-met g c = λ text tells files known.
     let old = c.args.lines in
     let mid = c.read_mux.new.lines in
     let unread = c.requires.unread in
@@ -59,7 +58,7 @@ returns-in-Err-clause-status g c = subst (λ (s : Status). IsMet s) (sym c.mux_s
 -- ---- the files were not opened
 
 pub returns-in-Err-open_feeds-clause-met : goal.returns-in-Err-open_feeds-clause-met
-returns-in-Err-open_feeds-clause-met g c = λ text tells files known sent knows.
+returns-in-Err-open_feeds-clause-met g c = λ text tells files known.
     let old = c.args.lines in
     let mid = c.read_mux.new.lines in
     let unread = c.requires.unread in
@@ -84,20 +83,21 @@ run_jobs-requires-clause-few g c =
     omega (arith, readers, count, same, c.requires.few)
 
 pub returns-clause-met : goal.returns-clause-met
-returns-clause-met g c = λ text tells files known sent knows.
+returns-clause-met g c = λ text tells files known.
     let old = c.args.lines in
     let mid = c.read_mux.new.lines in
     let unread = c.requires.unread in
     let going = unread_going g.S.Source.left g.S.Source.faults old old.source unread in
     let items = c.args.words.now.feeds.items in
     let feeds = c.in-Ok-open_feeds.feeds.items in
-    let d = is_described g.S.Source.left g.S.Source.faults old mid old.source text c.in-Ok.mux unread (c.in-Ok.ensures.block going text (unread_told g.S.Source.left g.S.Source.faults old old.source text unread tells)) in
+    let read = has_read g.S.Source.left g.S.Source.faults old mid old.source text c.in-Ok.mux unread tells
+    (c.in-Ok.ensures.block going text (unread_told g.S.Source.left g.S.Source.faults old old.source text unread tells)) (c.in-Ok.ensures.came going) in
     let opened : AreOpened g.O.From.Source.left g.O.From.Source.faults (g.O.Opener.files c.open_feeds.new.opener) (texts items) feeds =
     subst (λ (o : Option Files). AreOpened g.O.From.Source.left g.O.From.Source.faults o (texts items) feeds) (sym c.open_feeds.ensures.files)
     (subst (λ l. AreOpened g.O.From.Source.left g.O.From.Source.faults (g.O.Opener.files c.args.opener.now) (texts l) feeds) c.deref.ensures.value c.in-Ok-open_feeds.ensures.opened) in
     ran_met g.S.Source.left c.run_jobs.result (texts items) c.args.words.now.cycles c.args.words.now.join text files (g.O.Opener.read_faults c.args.opener.now) (g.O.Opener.read_faults c.open_feeds.new.opener) (g.O.Opener.read_faults c.run_jobs.new.opener)
-    (g.A.Sink.written c.args.air.now) (g.A.Sink.written c.run_jobs.new.air) (entries_of c.run_jobs.new.run.desk) c.run_jobs.new.run.dones c.run_jobs.new.run.met c.in-Ok.mux d.2.0 (ahead mid d.0) d.2.1 d.2.2 c.open_feeds.ensures.read_faults
-    (c.run_jobs.ensures.ran (texts items) opened d.0 d.1 files (c.open_feeds.ensures.files ∙ known) sent knows)
+    (g.A.Sink.written c.args.air.now) (g.A.Sink.written c.run_jobs.new.air) (entries_of c.run_jobs.new.run.desk) c.run_jobs.new.run.dones c.run_jobs.new.run.met c.open_feeds.ensures.read_faults
+    (c.run_jobs.ensures.ran (texts items) opened text read files (c.open_feeds.ensures.files ∙ known))
 
 pub returns-clause-asked : goal.returns-clause-asked
 returns-clause-asked g c =

@@ -6,12 +6,12 @@ use Rattle.epg_live.proofs.RanFacts.{jobs_caused, jobs_ended, jobs_ran, jobs_sam
 use Rattle.epg_live.proofs.run.run_jobs.Goals as goal
 
 pub returns-clause-ran : goal.returns-clause-ran
-returns-clause-ran g c = λ paths opened rest told files known sent knows.
+returns-clause-ran g c = λ paths opened text read files known.
     let end = c.in_ok-end in
-    jobs_ran g.O.From.Source.left g.O.From.Source.faults g.O.From.Source.same g.S.Source.left g.S.Source.faults g.S.Source.same c.args.mux c.args.plan c.args.feeds.items c.args.lines rest sent paths files
+    jobs_ran g.O.From.Source.left g.O.From.Source.faults g.O.From.Source.same g.S.Source.left g.S.Source.faults g.S.Source.same c.args.mux c.args.plan c.args.feeds.items c.args.lines text paths files
     (g.A.Sink.written c.args.air.now) (g.A.Sink.written c.run_live.new.air) (g.A.Sink.faults c.args.air.now) (g.A.Sink.faults c.run_live.new.air) (g.O.Opener.read_faults c.args.opener.now) (g.O.Opener.read_faults c.close_feeds.new.opener)
-    end.end c.live_status-run.result end.ensures.ran (subst (λ (o : Option Files). AreOpened g.O.From.Source.left g.O.From.Source.faults o paths c.args.feeds.items) known opened) c.requires.going told knows
-    c.close_feeds.ensures.closes.rose c.live_status-run.ensures.value
+    end.end c.close.result c.live_status-run.result end.ensures.ran (subst (λ (o : Option Files). AreOpened g.O.From.Source.left g.O.From.Source.faults o paths c.args.feeds.items) known opened) c.requires.going read
+    c.close_feeds.ensures.closes.rose c.live_status-run.ensures.value c.close.ensures
 
 pub returns-clause-cause : goal.returns-clause-cause
 returns-clause-cause g c =

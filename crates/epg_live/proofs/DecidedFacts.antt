@@ -1,0 +1,189 @@
+-- Where nothing failed, the texts decide.
+use Rattle.std.proofs.Common.{◌≡◌, ◌⊎◌, inl, inr, ℕ, ◌+◌, List, [], ◌∷◌, ◌++◌, map, refl, sym, ap, ◌∙◌, subst}
+use Rattle.std.specs.Prelude.{Option, Some, None, Ok, Err, Result}
+use Rattle.std.specs.List.{AllByRecursion}
+use Rattle.si_causes.specs.Causes.{Rose}
+use Rattle.si_causes.specs.Opening.{Files, file_at}
+use Rattle.si_causes.specs.declared.stop.ReadStop.TheVariants.{Failed, TooLong as Overlong}
+use Rattle.mux_config.specs.declared.mux.Mux.{Mux}
+use Rattle.mux_config.specs.Block.{Block}
+use Rattle.feed_edits.specs.declared.stop.EditStop.{EditStop}
+use Rattle.feed_edits.specs.declared.stop.EditStop.TheVariants as edit
+use Rattle.feed_edits.specs.Ahead.{Row, Stop}
+use Rattle.feed_edits.specs.Edits.{edits_ahead}
+use Rattle.desk_core.specs.declared.step.Entry.{Entry}
+use Rattle.desk_core.specs.Journal.{command_of}
+use Rattle.desk_hall.specs.Reads.{HasReadCause, ToldDid, commands_by, control_step, controls_ahead, edit_step}
+use Rattle.headend_live.specs.Callers.{CommandsAre}
+use Rattle.headend_live.specs.declared.live.LiveStop.{LiveStop}
+use Rattle.headend_live.specs.declared.live.LiveStop.TheVariants as live
+use Rattle.headend_live.specs.declared.send.SendStop.{SendStop}
+use Rattle.headend_live.specs.declared.send.SendStop.TheVariants as send
+use Rattle.headend_live.specs.Live.{after, and_stop, control_stop, feed_stop, or_feed, run_stop}
+use Rattle.air_monitor.specs.declared.done_line.DoneLine.{DoneLine}
+use Rattle.epg_report.specs.declared.status.Status.{Status}
+use Rattle.epg_report.specs.declared.status.Status.TheVariants.{Done, Usage, BadScript, Disagrees, BadMux, BadFeed, BadStream, TooLong, OpenFault, ReadFault, WriteFault, Memory}
+use Rattle.epg_report.specs.declared.status.Origin.TheVariants.{Input, Feed}
+use Rattle.epg_report.specs.declared.status.Outlet.TheVariants.{Air}
+use Rattle.epg_report.specs.Told.{Told}
+use Rattle.epg_live.specs.Stops.{HasStatusCause, HaveReadCauses, feeds_stop, live_status}
+use Rattle.epg_live.specs.Runs.{EndsBefore, FeedsDid, JobsRan, Ran, ahead_of, behind, described}
+use Rattle.epg_live.specs.Decided.{AreWhole, HasEdits, block_status, feed_text_stop, job_stop, jobs_status, text_status}
+use Rattle.epg_live.specs.Ends.{HasMet, LeavesLive}
+
+-- ---- want of memory is taken, whoever met it
+
+and_memory : (a : Option LiveStop) → and_stop a (Some live.Memory) ≡ Some live.Memory
+and_memory None = refl
+and_memory (Some live.Memory) = refl
+and_memory (Some live.Air) = refl
+and_memory (Some (live.Control s)) = refl
+and_memory (Some (live.Feed f s)) = refl
+
+memory_feeds : (n : ℕ) (stops : List (Option EditStop)) → feeds_stop (Some live.Memory) n stops ≡ Some live.Memory
+memory_feeds n [] = refl
+memory_feeds n (stop ∷ stops) = memory_feeds (n + 1) stops
+
+-- ---- else the first
+
+air_first : (b : Option LiveStop) → (and_stop (Some live.Air) b ≡ Some live.Memory) ⊎ (and_stop (Some live.Air) b ≡ Some live.Air)
+air_first None = inr refl
+air_first (Some live.Memory) = inl refl
+air_first (Some live.Air) = inr refl
+air_first (Some (live.Control s)) = inr refl
+air_first (Some (live.Feed f s)) = inr refl
+
+control_first : (t : EditStop) (b : Option LiveStop) → (and_stop (Some (live.Control t)) b ≡ Some live.Memory) ⊎ (and_stop (Some (live.Control t)) b ≡ Some (live.Control t))
+control_first t None = inr refl
+control_first t (Some live.Memory) = inl refl
+control_first t (Some live.Air) = inr refl
+control_first t (Some (live.Control s)) = inr refl
+control_first t (Some (live.Feed f s)) = inr refl
+
+-- ---- one job
+
+-- a job stopped as what was ahead of it says, but for a failed read or want of memory
+abbrev AsAhead : Option EditStop → Stop → Type 0
+AsAhead stop ahead = (stop ≡ Some (edit.Read Failed)) ⊎ ((stop ≡ Some edit.Memory) ⊎ (stop ≡ job_stop ahead))
+
+as_ahead : {T : Type 0} (did : List T → Type 0) (all : List T × Stop) (stop : Option EditStop) → ToldDid did all stop → AsAhead stop all.1
+as_ahead did all None told = inr (inr (sym (ap job_stop told.0)))
+as_ahead did all (Some (edit.NoCommand n)) told = inr (inr (sym (ap job_stop told.0)))
+as_ahead did all (Some (edit.Read Overlong)) told = inr (inr (sym (ap job_stop told.0)))
+as_ahead did all (Some (edit.Read Failed)) told = inl refl
+as_ahead did all (Some edit.Memory) told = inr (inl refl)
+
+-- ---- the feeds
+
+module _ (files : Files) (journal : List Entry) (before now : ℕ) (none : Rose before now → ⊥) where
+  abbrev path_stop : List ℕ → Option EditStop
+  path_stop path = feed_text_stop (file_at path files)
+
+  feeds_decided : (first : Option LiveStop) (f : ℕ) (paths : List (List ℕ)) (stops : List (Option EditStop)) → FeedsDid files journal f paths stops → HaveReadCauses before now stops
+      → (feeds_stop first f stops ≡ Some live.Memory) ⊎ (feeds_stop first f stops ≡ feeds_stop first f (map path_stop paths))
+  feeds_decided first f [] [] did causes = inr refl
+  feeds_decided first f [] (stop ∷ stops) did causes = absurd did
+  feeds_decided first f (path ∷ paths) [] did causes = absurd did
+  feeds_decided first f (path ∷ paths) (stop ∷ stops) ((text, is, did), more) (cause, causes) = elim (as_ahead (λ values. CommandsAre journal (f + 1) (commands_by (f + 1) (edit_step f) values ++ [])) (edits_ahead (ahead_of text)) stop did) [
+    | inl failed ↦ absurd (none (subst (HasReadCause before now) failed cause))
+    | inr (inl memory) ↦ inl (
+        ap (λ (o : Option EditStop). feeds_stop (or_feed first f o) (f + 1) stops) memory
+        ∙ ap (λ (o : Option LiveStop). feeds_stop o (f + 1) stops) (and_memory first)
+        ∙ memory_feeds (f + 1) stops
+        )
+    | inr (inr ahead) ↦
+        let same : stop ≡ path_stop path = ahead ∙ sym (ap feed_text_stop is) in
+        elim (feeds_decided (or_feed first f stop) (f + 1) paths stops more causes) [
+          | inl memory ↦ inl memory
+          | inr rest ↦ inr (rest ∙ ap (λ (o : Option EditStop). feeds_stop (or_feed first f o) (f + 1) (map path_stop paths)) same)
+        ]
+  ]
+
+-- ---- the jobs
+
+module _ (status : Status) (no_input : status ≡ ReadFault Input → ⊥) (no_air : status ≡ WriteFault Air → ⊥) where
+  run_decided : (sent : Result (Unit {0}) SendStop) (control : Option EditStop) (ahead : Stop) (feeds fed : Option LiveStop) → status ≡ live_status (run_stop sent control feeds) → AsAhead control ahead
+      → (feeds ≡ Some live.Memory) ⊎ (feeds ≡ fed) → (status ≡ Memory) ⊎ (status ≡ live_status (run_stop (Ok tt) (job_stop ahead) fed))
+  run_decided (Err send.Memory) control ahead feeds fed is did found = inl is
+  run_decided (Err send.Air) control ahead feeds fed is did found = elim (air_first (and_stop (control_stop control) feeds)) [
+    | inl memory ↦ inl (is ∙ ap live_status memory)
+    | inr air ↦ absurd (no_air (is ∙ ap live_status air))
+  ]
+  run_decided (Ok u) control ahead feeds fed is (inl failed) found =
+      let with_control : status ≡ live_status (and_stop (Some (live.Control (edit.Read Failed))) feeds) = is ∙ ap (λ (o : Option EditStop). live_status (and_stop (control_stop o) feeds)) failed in
+      elim (control_first (edit.Read Failed) feeds) [
+        | inl memory ↦ inl (with_control ∙ ap live_status memory)
+        | inr first ↦ absurd (no_input (with_control ∙ ap live_status first))
+      ]
+  run_decided (Ok u) control ahead feeds fed is (inr (inl memory)) found = inl (is ∙ ap (λ (o : Option EditStop). live_status (and_stop (control_stop o) feeds)) memory)
+  run_decided (Ok u) control ahead feeds fed is (inr (inr same)) (inl memory) =
+      inl (is ∙ ap (λ (o : Option LiveStop). live_status (and_stop (control_stop control) o)) memory ∙ ap live_status (and_memory (control_stop control)))
+  run_decided (Ok u) control ahead feeds fed is (inr (inr same)) (inr found) =
+      inr (is ∙ ap (λ (o : Option LiveStop). live_status (and_stop (control_stop control) o)) found ∙ ap (λ (o : Option EditStop). live_status (and_stop (control_stop o) fed)) same)
+
+  jobs_decided : (mux : Mux) (cycles join : ℕ) (text : List ℕ) (left : Option (List ℕ)) (rows : List Row) (paths : List (List ℕ)) (files : Files) (feeds_before feeds_now : ℕ) (before now : Option (List ℕ)) (journal : List Entry) (dones : List DoneLine)
+      → (Rose feeds_before feeds_now → ⊥) → JobsRan mux cycles join text left rows paths files feeds_before feeds_now before now journal dones status → (status ≡ Memory) ⊎ (status ≡ jobs_status (behind text rows) paths files)
+  jobs_decided mux cycles join text left rows paths files feeds_before feeds_now before now journal dones none ran =
+      run_decided ran.sent ran.control_stop (controls_ahead (behind text rows)).1 (feeds_stop None 1 ran.feed_stops) (feeds_stop None 1 (map (λ path. feed_text_stop (file_at path files)) paths)) ran.status_is
+      (as_ahead (λ values. CommandsAre journal 0 (commands_by 0 control_step values ++ map command_of ran.final)) (controls_ahead (behind text rows)) ran.control_stop ran.journal_is.control_did)
+      (feeds_decided files journal feeds_before feeds_now none None 1 paths ran.feed_stops ran.journal_is.feeds_did ran.causes)
+
+-- ---- the run
+
+before_decided : (text : List ℕ) (left : Option (List ℕ)) (paths : List (List ℕ)) (files : Files) (status : Status) → EndsBefore text left status → ((f : ℕ) → status ≡ OpenFault f → ⊥) → (status ≡ ReadFault Input → ⊥)
+    → status ≡ text_status text paths files
+before_decided text left paths files (BadMux fault) why no_open no_input = sym (ap (λ (b : Block). block_status b text paths files) why)
+before_decided text left paths files (TooLong Input) why no_open no_input = sym (ap (λ (b : Block). block_status b text paths files) why)
+before_decided text left paths files (ReadFault Input) why no_open no_input = absurd (no_input refl)
+before_decided text left paths files (OpenFault f) why no_open no_input = absurd (no_open f refl)
+before_decided text left paths files Done why no_open no_input = absurd why
+before_decided text left paths files Usage why no_open no_input = absurd why
+before_decided text left paths files (BadScript n) why no_open no_input = absurd why
+before_decided text left paths files (Disagrees n kept found) why no_open no_input = absurd why
+before_decided text left paths files (BadFeed f n) why no_open no_input = absurd why
+before_decided text left paths files (BadStream n) why no_open no_input = absurd why
+before_decided text left paths files (TooLong (Feed f)) why no_open no_input = absurd why
+before_decided text left paths files (ReadFault (Feed f)) why no_open no_input = absurd why
+before_decided text left paths files (WriteFault outlet) why no_open no_input = absurd why
+before_decided text left paths files Memory why no_open no_input = absurd why
+
+met_decided : (paths : List (List ℕ)) (cycles join : ℕ) (text : List ℕ) (files : Files) (left : Option (List ℕ)) (feeds_before feeds_now : ℕ) (before now : Option (List ℕ)) (journal : List Entry) (dones : List DoneLine) (met : Status)
+    → HasMet paths cycles join text files left feeds_before feeds_now before now journal dones met → ((f : ℕ) → met ≡ OpenFault f → ⊥) → (met ≡ ReadFault Input → ⊥) → (met ≡ WriteFault Air → ⊥) → (Rose feeds_before feeds_now → ⊥)
+    → (met ≡ Memory) ⊎ (met ≡ text_status text paths files)
+met_decided paths cycles join text files left feeds_before feeds_now before now journal dones met (inl memory) no_open no_input no_air no_feed = inl memory
+met_decided paths cycles join text files left feeds_before feeds_now before now journal dones met (inr (inl none)) no_open no_input no_air no_feed =
+    inr (before_decided text left paths files met none.why no_open no_input)
+met_decided paths cycles join text files left feeds_before feeds_now before now journal dones met (inr (inr (mux, rows, whole, ran))) no_open no_input no_air no_feed =
+    elim (jobs_decided met no_input no_air mux cycles join text left rows paths files feeds_before feeds_now before now journal dones no_feed ran) [
+      | inl memory ↦ inl memory
+      | inr ends ↦ inr (ends ∙ sym (ap (λ (b : Block). block_status b text paths files) whole))
+    ]
+
+pub decided : (paths : List (List ℕ)) (cycles join : ℕ) (text : List ℕ) (files : Files) (left : Option (List ℕ)) (input_before input_now feeds_before feeds_now : ℕ) (air report : Told) (status : Status)
+    → LeavesLive paths cycles join text files left feeds_before feeds_now air report status → HasStatusCause input_before input_now feeds_before feeds_now air.faults_old air.faults_new status → ((f : ℕ) → status ≡ OpenFault f → ⊥)
+    → (Rose input_before input_now → ⊥) → (Rose feeds_before feeds_now → ⊥) → (Rose air.faults_old air.faults_new → ⊥) → (Rose report.faults_old report.faults_new → ⊥) → (status ≡ Memory) ⊎ (status ≡ text_status text paths files)
+decided paths cycles join text files left input_before input_now feeds_before feeds_now air report status (inl memory) cause no_open no_read no_feed no_air no_report = inl memory
+decided paths cycles join text files left input_before input_now feeds_before feeds_now air report status (inr (journal, dones, met, has, inr (rose, took, same))) cause no_open no_read no_feed no_air no_report = absurd (no_report rose)
+decided paths cycles join text files left input_before input_now feeds_before feeds_now air report status (inr (journal, dones, met, has, inl (took, same))) cause no_open no_read no_feed no_air no_report =
+    let caused : (s : Status) → met ≡ s → HasStatusCause input_before input_now feeds_before feeds_now air.faults_old air.faults_new s = (λ s e. subst (λ (t : Status). HasStatusCause input_before input_now feeds_before feeds_now air.faults_old air.faults_new t) (same ∙ e) cause) in
+    elim (met_decided paths cycles join text files left feeds_before feeds_now air.old air.new journal dones met has (λ f e. no_open f (same ∙ e)) (λ e. no_read (caused (ReadFault Input) e)) (λ e. no_air (caused (WriteFault Air) e)) no_feed) [
+      | inl memory ↦ inl (same ∙ memory)
+      | inr ends ↦ inr (same ∙ ends)
+    ]
+
+-- ---- Done
+
+none_fed : (files : Files) (n : ℕ) (paths : List (List ℕ)) → AllByRecursion (HasEdits files) paths → feeds_stop None n (map (λ path. feed_text_stop (file_at path files)) paths) ≡ None
+none_fed files n [] whole = refl
+none_fed files n (path ∷ paths) (here, whole) =
+    ap (λ (o : Option EditStop). feeds_stop (or_feed None n o) (n + 1) (map (λ path. feed_text_stop (file_at path files)) paths)) (ap feed_text_stop here.file ∙ ap job_stop here.end)
+    ∙ none_fed files (n + 1) paths whole
+
+pub whole : (text : List ℕ) (paths : List (List ℕ)) (files : Files) (status : Status) → AreWhole text paths files → (status ≡ Memory) ⊎ (status ≡ text_status text paths files) → (status ≡ Done) ⊎ (status ≡ Memory)
+whole text paths files status are (inl memory) = inr memory
+whole text paths files status are (inr ends) = inl (
+    ends
+    ∙ ap (λ (b : Block). block_status b text paths files) are.whole
+    ∙ ap (λ (s : Stop). live_status (run_stop (Ok tt) (job_stop s) (feeds_stop None 1 (map (λ path. feed_text_stop (file_at path files)) paths)))) are.control
+    ∙ ap (λ (o : Option LiveStop). live_status (run_stop (Ok tt) None o)) (none_fed files 1 paths are.feeds)
+    )

@@ -1,0 +1,61 @@
+-- What the texts of a run decide, where nothing fails: its status, and whether it is Done.
+use Rattle.std.specs.Prelude.{◌≡◌, ℕ, List, map, Option, None, Some, Ok}
+use Rattle.std.specs.List.{AllByRecursion}
+use Rattle.si_causes.specs.Opening.{Files, file_at}
+use Rattle.si_causes.specs.declared.stop.ReadStop.TheVariants as read
+use Rattle.mux_config.specs.declared.mux.Mux.{Mux}
+use Rattle.mux_config.specs.Block.{Block, Faulty, Whole, Unended}
+use Rattle.feed_edits.specs.declared.stop.EditStop.{EditStop}
+use Rattle.feed_edits.specs.declared.stop.EditStop.TheVariants as edit
+use Rattle.feed_edits.specs.Ahead.{Ahead, Row, Stop, End, NoCommand, TooLong, Unread}
+use Rattle.feed_edits.specs.Edits.{edits_ahead}
+use Rattle.desk_hall.specs.Reads.{controls_ahead}
+use Rattle.headend_live.specs.Live.{run_stop}
+use Rattle.epg_report.specs.declared.status.Status.{Status}
+use Rattle.epg_report.specs.declared.status.Status.TheVariants.{BadMux, TooLong as PastLimit}
+use Rattle.epg_report.specs.declared.status.Origin.TheVariants.{Input}
+use Rattle.epg_live.specs.Runs.{ahead_of, behind, described}
+use Rattle.epg_live.specs.Stops.{feeds_stop, live_status}
+
+-- ---- the status
+
+-- why a job stops that reads all that is ahead of it
+abbrev pub job_stop : Stop → Option EditStop
+job_stop End = None
+job_stop (NoCommand n) = Some (edit.NoCommand n)
+job_stop TooLong = Some (edit.Read read.TooLong)
+job_stop Unread = Some (edit.Read read.Failed)
+
+abbrev pub feed_text_stop : Option (List ℕ) → Option EditStop
+feed_text_stop None = None
+feed_text_stop (Some text) = job_stop (edits_ahead (ahead_of text)).1
+
+-- the first stop in the order control, feeds by number; Done where there is none
+abbrev pub jobs_status : Ahead → List (List ℕ) → Files → Status
+jobs_status control paths files =
+    live_status (run_stop (Ok tt) (job_stop (controls_ahead control).1) (feeds_stop None 1 (map (λ path. feed_text_stop (file_at path files)) paths)))
+
+abbrev pub block_status : Block → List ℕ → List (List ℕ) → Files → Status
+block_status (Faulty fault) text paths files = BadMux fault
+block_status Unended text paths files = PastLimit Input
+block_status (Whole mux rows) text paths files = jobs_status (behind text rows) paths files
+
+-- The status that the texts decide: the fault of the description, or else the first stop of the jobs that read.
+abbrev pub text_status : List ℕ → List (List ℕ) → Files → Status
+text_status text paths files = block_status (described text) text paths files
+
+-- ---- Done
+
+-- this path has a file of edits alone, up to its end
+pub record HasEdits (files : Files) (path : List ℕ) : Type 0 where
+  pub text : List ℕ
+  pub file : file_at path files ≡ Some text
+  pub end : (edits_ahead (ahead_of text)).1 ≡ End
+
+-- The input describes a multiplex, and behind it has control lines alone, up to its end; each path has a file of edits alone.
+pub record AreWhole (text : List ℕ) (paths : List (List ℕ)) (files : Files) : Type 0 where
+  pub mux : Mux
+  pub rows : List Row
+  pub whole : described text ≡ Whole mux rows
+  pub control : (controls_ahead (behind text rows)).1 ≡ End
+  pub feeds : AllByRecursion (HasEdits files) paths
