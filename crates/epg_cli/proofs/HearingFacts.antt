@@ -3,13 +3,12 @@ use Rattle.std.proofs.Common.{◌≡◌, ℕ, zero, suc, ◌+◌, ◌≤◌, Lis
 use Rattle.std.specs.Prelude.{flat_map, filter, if◌then◌else◌, slice_index}
 use Rattle.std.specs.List.{AllByRecursion}
 use Rattle.std.proofs.lemmas.List.{take_at, drop_at}
-use Rattle.si_causes.specs.Text.{text_lines}
 use Rattle.input_lines.specs.Lines.{record_lines}
 use Rattle.mux_config.specs.declared.mux.Mux.{Mux}
 use Rattle.mux_config.specs.Block.{Block, Faulty, Whole, Unended, block_from}
 use Rattle.mux_config.specs.Laws.{IsSoundWithIds}
 use Rattle.mux_config.proofs.FineLines.{block_sound}
-use Rattle.feed_edits.specs.Ahead.{Tail, tail_of}
+use Rattle.feed_edits.specs.Ahead.{Tail}
 use Rattle.ts_packets.specs.Bytes.{Packet, bytes_of_packet}
 use Rattle.packet_reader.specs.Recordings.{RecordingEnd, RecordingEnd.AtEnd, is_packet, and_packet, packets_in, packet_limit, recording}
 use Rattle.packet_reader.proofs.RecordingFacts.{packet_step}
@@ -32,8 +31,9 @@ use Rattle.air_hearing.specs.Changes.{is_new_at, version_with, changes_of, is_do
 use Rattle.air_hearing.proofs.Told.{changes_heard}
 use Rattle.headend_live.specs.Air.{airings}
 use Rattle.headend_live.proofs.CarryFacts.{airings_heard, airings_counted}
-use Rattle.epg_cli.specs.Script.{script_with}
+use Rattle.epg_cli.specs.Script.{script_with, script_of_lines}
 use Rattle.epg_cli.specs.Hearing.{PlayIsHeard}
+use Rattle.epg_cli.proofs.TypedFacts.{first-typed, journal-typed, script-typed}
 
 -- ---- the multiplex of a script
 
@@ -90,14 +90,16 @@ counted_or_not airs k are true e = ap (λ (b : Bool). if b then changes_of k [] 
 counted_or_not airs k are false e = ap (λ (b : Bool). if b then changes_of k [] airs else []) e ∙ sym (unchanged k [] airs are e)
 
 pub play-heard : PlayIsHeard
-play-heard text mux commands xs script is_air few =
-    let is = (let lines = text_lines text in mux_of_script lines.0 (tail_of (1 + length lines.0) lines.1) mux script) in
+play-heard lines tail mux k xs script is_air few =
+    let is = mux_of_script lines tail mux script in
+    let commands = take k (script_of_lines lines tail).commands in
     let journal = journal_of mux commands in
-    let can : AllByRecursion CanBeHeard (airings mux journal) = airings_heard mux journal is.sound is.stream is.original (journal_legal mux [] commands) in
+    let typed = journal-typed mux commands (first-typed k (script_of_lines lines tail).commands (script-typed lines tail)) in
+    let can : AllByRecursion CanBeHeard (airings mux journal) = airings_heard mux journal is typed (journal_legal mux [] commands) in
     let record_is : recording (air_bytes xs) ≡ (map bytes_of_packet (air xs), AtEnd) = recorded packet_limit (air xs) (air-whole (airings mux journal) xs is_air) few in (
       ap (λ (r : List (List ℕ) × RecordingEnd). r.1) record_is,
-      λ k lt.
-          ap (λ (r : List (List ℕ) × RecordingEnd). filter (is_done_key k) (map (λ (d : DoneAt). d.done) (dones_of r.0))) record_is
-          ∙ changes_heard (airings mux journal) xs (airs_repeat (airings mux journal) xs is_air) can k lt
-          ∙ counted_or_not (airings mux journal) k (airings_counted mux journal) (is_counted k.pid k.table) refl,
+      λ key lt.
+          ap (λ (r : List (List ℕ) × RecordingEnd). filter (is_done_key key) (map (λ (d : DoneAt). d.done) (dones_of r.0))) record_is
+          ∙ changes_heard (airings mux journal) xs (airs_repeat (airings mux journal) xs is_air) can key lt
+          ∙ counted_or_not (airings mux journal) key (airings_counted mux journal) (is_counted key.pid key.table) refl,
     )

@@ -2,6 +2,7 @@ pub mod WindowFacts
 pub mod CourseFacts
 pub mod RunFacts
 pub mod ListenFacts
+mod TypedFacts
 pub mod HearingFacts
 pub mod AgainFacts
 pub mod ReportFacts

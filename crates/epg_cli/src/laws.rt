@@ -4,8 +4,8 @@ ghost use Rattle.epg_cli.specs.Hearing.{PlayIsHeard};
 ghost use Rattle.epg_cli.specs.Outcomes.{OutcomesAreCompared};
 ghost use Rattle.epg_cli.specs.Reports.{ReportsTellJournals};
 
-/// What `play` sends, `listen` hears: where an air of a journal of a script, as `play` leaves one, is the recording, each piece of
-/// it is a packet, and of each key just its version changes along the airing list are reported, in order.
+/// What `play` sends, `listen` hears: where an air of a journal of a script's first commands, or of all, as `play` leaves one, is the
+/// recording, each piece of it is a packet, and of each key just its version changes along the airing list are reported, in order.
 pub fn play_is_heard()
     ensures { PlayIsHeard }
 {}
