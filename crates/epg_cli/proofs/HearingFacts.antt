@@ -1,5 +1,5 @@
 -- What `play` sends, `listen` hears.
-use Rattle.std.proofs.Common.{◌≡◌, ℕ, zero, suc, ◌+◌, ◌≤◌, List, [], ◌∷◌, ◌++◌, Bool, true, false, ◌&&◌, ◌==◌, Option, Some, None, length, map, refl, sym, ap, ap₂, ◌∙◌, subst, arith, take, drop, eq-eqb}
+use Rattle.std.proofs.Common.{◌≡◌, ℕ, zero, suc, ◌≤◌, List, [], ◌∷◌, ◌++◌, Bool, true, false, ◌&&◌, ◌==◌, Option, Some, None, length, map, refl, sym, ap, ap₂, ◌∙◌, subst, arith, take, drop, eq-eqb}
 use Rattle.std.specs.Prelude.{flat_map, filter, if◌then◌else◌, slice_index}
 use Rattle.std.specs.List.{AllByRecursion}
 use Rattle.std.proofs.lemmas.List.{take_at, drop_at}

@@ -2,10 +2,11 @@
 use Rattle.std.proofs.Common.{◌≡◌, ℕ, zero, suc, ◌+◌, ◌*◌, ◌/◌, ◌-◌, ◌<◌, ◌≤◌, List, [], ◌∷◌, ◌++◌, length, take, drop, slice_index, map, get_or, refl, sym, ap, ◌∙◌, subst, arith, append-nil, append_assoc, length-append, inl, inr, true}
 use Rattle.std.specs.Prelude.{Option, Some, None, Ok, Err, Result}
 use Rattle.std.proofs.lemmas.List.{map_more, take_at}
-use Rattle.std.proofs.Math.Seq.{take-append_seam, take-append-add, drop-append_seam}
+use Rattle.std.proofs.Math.Seq.{take-append_seam, drop-append_seam}
 use Rattle.std.specs.Io.KnownBytes.{Appends, Consumes, prepend_known}
 use Rattle.std.proofs.KnownBytes.{Appends-trans, prepend_known-nil}
-use Rattle.si_causes.proofs.CauseFacts.{Rose-from}
+use Rattle.guide_receiver.proofs.Dones.{dones_push}
+use Rattle.si_causes.proofs.CauseFacts.{Rose-from, front_behind, Appends-nothing}
 use Rattle.si_causes.specs.Causes.{AppendsFront}
 use Rattle.packet_reader.specs.Recordings.{RecordingEnd, RecordingEnd.AtEnd, RecordingEnd.Broken, RecordingEnd.PastLimit, packet_limit, is_packet, and_packet, packets_in, recording}
 use Rattle.packet_reader.specs.Reading.{Reading, GivesPacket, TakesPacket, Counts, bytes_left, room, fresh}
@@ -24,7 +25,6 @@ use Rattle.epg_report.specs.declared.status.Outlet.TheVariants.{Air, Report}
 use Rattle.epg_report.specs.Texts.{fault_line}
 use Rattle.epg_report.specs.Told.{Told, Reported}
 use Rattle.epg_cli.specs.Listen.{Recording, heard_text, end_line, packet_stop_text, packet_stop_status, HasHeard, ReportsLines, LeavesHeard, IsOfListen, HearsThrough, EndsHeard, HasReadCause, IsNoReadStop}
-use Rattle.epg_cli.proofs.RunFacts.{appends_nil}
 
 -- ---- lines
 
@@ -41,23 +41,13 @@ lines_next n dones i d item text new lt is before more =
     ∙ ap (λ x. done_lines (map (at_packet n) (take i dones) ++ at_packet n x ∷ [])) is
     ∙ ap done_lines (sym (map_more (at_packet n) dones i d lt))
 
-dones_push : (past xs : List (List ℕ)) (p : List ℕ) → dones_behind past (xs ++ p ∷ []) ≡ dones_behind past xs ++ map (at_packet (length (past ++ xs))) (dones_by (past ++ xs) p)
-dones_push past [] p =
-    append-nil (map (at_packet (length past)) (dones_by past p)) ∙ ap (λ (q : List (List ℕ)). map (at_packet (length q)) (dones_by q p)) (sym (append-nil past))
-dones_push past (x ∷ xs) p =
-    let here = map (at_packet (length past)) (dones_by past x) in
-    let rest = dones_behind (past ++ x ∷ []) xs in
-    ap (λ t. here ++ t) (dones_push (past ++ x ∷ []) xs p)
-    ∙ ap (λ (q : List (List ℕ)). here ++ (rest ++ map (at_packet (length q)) (dones_by q p))) (append_assoc past (x ∷ []) xs)
-    ∙ sym (append_assoc here rest (map (at_packet (length (past ++ x ∷ xs))) (dones_by (past ++ x ∷ xs) p)))
-
 -- the report of one packet more
 pub text_push : (heard : List (List ℕ)) (p : List ℕ) → heard_text (heard ++ p ∷ []) ≡ heard_text heard ++ done_lines (map (at_packet (length heard)) (dones_by heard p))
 text_push heard p = ap done_lines (dones_push [] heard p) ∙ lines_append (dones_behind [] heard) (map (at_packet (length heard)) (dones_by heard p))
 
 -- a packet that shows nothing
 pub no_lines : (n : ℕ) (dones : List DoneKey) (w : Option (List ℕ)) → length dones ≡ 0 → Appends w w (done_lines (map (at_packet n) dones))
-no_lines n [] w e = appends_nil w
+no_lines n [] w e = Appends-nothing w
 no_lines n (d ∷ ds) w e = absurd (omega arith)
 
 -- ---- packets
@@ -193,11 +183,6 @@ heard_stop left before after packet.Failed bytes done rest heard old new tells p
       },
       text_is old new (recording (done ++ short)).0 heard none lines,
     )
-
--- a front that stands behind something is a front of both
-pub front_behind : (a b c : Option (List ℕ)) (xs ys : List ℕ) → Appends a b xs → AppendsFront b c ys → AppendsFront a c (xs ++ ys)
-front_behind a b c xs ys done (n, lt, front) =
-    (length xs + n, omega (arith, lt, length-append xs ys), subst (Appends a c) (sym (take-append-add xs ys n)) (Appends-trans a b c xs (take n ys) done front))
 
 -- the lines of a packet were not all written, or there was no memory for them
 pub heard_line : (s : ListenStop) (bytes : List ℕ) (left : Option (List ℕ)) (y x : Recording) (heard : List (List ℕ)) (p : List ℕ) (n : ℕ) (a b c : Option (List ℕ))

@@ -1,8 +1,10 @@
 -- From what was played, and how its report ended, to what a run leaves.
-use Rattle.std.proofs.Common.{◌≡◌, ℕ, ◌+◌, List, [], ◌∷◌, ◌++◌, length, take, refl, sym, ap, ◌∙◌, subst, append-nil, inl, inr, ◌⊎◌}
+use Rattle.std.proofs.Common.{◌≡◌, ℕ, ◌+◌, List, [], ◌∷◌, ◌++◌, length, take, refl, sym, ap, ◌∙◌, subst, inl, inr, ◌⊎◌}
 use Rattle.std.specs.Prelude.{Option, Some, None, Ok, Err, Result, true, false}
 use Rattle.std.specs.Result.{result_err}
 use Rattle.std.specs.Io.KnownBytes.{Appends, Consumes}
+use Rattle.mux_config.proofs.FineLines.{whole_before}
+use Rattle.si_causes.proofs.CauseFacts.{Appends-nothing}
 use Rattle.si_causes.specs.Causes.{AppendsFront}
 use Rattle.si_causes.specs.Text.{TextEnd, AtEnd, PastLimit, text_lines}
 use Rattle.si_causes.specs.Reading.{Reading, fresh as unread, text_left}
@@ -42,10 +44,6 @@ use Rattle.epg_cli.specs.Run.{IsAired, IsAiredFront, HasPlayed, HasPlayedAll, Ha
 use Rattle.epg_report.specs.Told.{Told, Reported}
 use Rattle.epg_cli.proofs.CourseFacts.{Rest}
 
-pub appends_nil : (w : Option (List ℕ)) → Appends w w []
-appends_nil None = tt
-appends_nil (Some bytes) = sym (append-nil bytes)
-
 nothing_for : (mux : Option Mux) → airings_for mux [] ≡ []
 nothing_for None = refl
 nothing_for (Some mux) = refl
@@ -59,7 +57,7 @@ none_aired script air same = record {
   made = tt;
   cycles = [];
   is_air = subst (λ (l : List Airing). IsAirOf l []) (sym (nothing_for script.mux)) IsAirOf-none;
-  bytes = subst (λ (w : Option (List ℕ)). Appends air.old w []) same (appends_nil air.old);
+  bytes = subst (λ (w : Option (List ℕ)). Appends air.old w []) same (Appends-nothing air.old);
 }
 
 -- ---- the script of a text, by what reading its description told
@@ -95,12 +93,6 @@ unended_script Unended PastLimit n e = refl
 unended_script (Faulty f) end n e = cc
 unended_script (Whole mux behind) end n e = cc
 
-whole_block : (block : Block) (end : TextEnd) (mux : Mux) (behind : List (ℕ × List ℕ)) → at_text_end block end ≡ Whole mux behind → block ≡ Whole mux behind
-whole_block Unended AtEnd mux behind e = cc
-whole_block Unended PastLimit mux behind e = cc
-whole_block (Faulty f) end mux behind e = cc
-whole_block (Whole m b) end mux behind e = e
-
 -- the block of the lines of a text
 first_block : {S : Type 0} (old : Reading S) (text : List ℕ) → IsUnread old → block_of (old.number + 1) (lines_of old text) ≡ block_of 1 (text_lines text)
 first_block old text is = ap (λ k. block_of (k + 1) (lines_of old text)) is.number ∙ ap (block_of 1) (is.lines text)
@@ -112,7 +104,7 @@ described : {S : Type 0} (left : S → Known) (old mid : Reading S) (text : List
 described left old mid text mux is d =
     let lines = text_lines text in
     let behind = record_lines (mid.number + 1) (lines_of mid d.rest).0 in
-    let whole : block_from [] (record_lines 1 lines.0) ≡ Whole mux behind = whole_block _ lines.1 mux behind (sym (first_block old text is) ∙ d.whole) in
+    let whole : block_from [] (record_lines 1 lines.0) ≡ Whole mux behind = whole_before _ lines.1 mux behind (sym (first_block old text is) ∙ d.whole) in
     let number : 1 + length lines.0 ≡ (mid.number + 1) + length (lines_of mid d.rest).0 =
     ap (λ k. k + 1 + length lines.0) (sym is.number) ∙ ap (λ l. (old.number + 1) + length l.0) (sym (is.lines text)) ∙ sym d.count in
     let stop : lines.1 ≡ (lines_of mid d.rest).1 = ap (λ l. l.1) (sym (is.lines text)) ∙ d.stop in
@@ -281,7 +273,7 @@ start_sent mux desk player d end quota =
     record { at_end = end; airings_are = sym (ap (λ (x : DeskState). airings x.mux x.entries) d); made = tt; quota = quota ∙ sym (ap (λ (x : DeskState). x.mux.quota) d) }
 
 pub start_aired : (mux : Mux) (desk : DeskState) (player : Playing) (w : Option (List ℕ)) → desk ≡ fresh mux → AllSent [] player → player.quota ≡ mux.quota → HasAired desk player w w
-start_aired mux desk player w d end quota = ([], start_sent mux desk player d end quota, appends_nil w)
+start_aired mux desk player w d end quota = ([], start_sent mux desk player d end quota, Appends-nothing w)
 
 pub start_on_air : (mux : Mux) (desk : DeskState) (player : Playing) → desk ≡ fresh mux → AllSent [] player → player.quota ≡ mux.quota → IsOnAir desk player
 start_on_air mux desk player d end quota = ([], start_sent mux desk player d end quota)

@@ -1,6 +1,6 @@
 -- The edits of a script's commands, and those of its journals, have numbers as wide as their fields, and texts that may be kept.
 use Rattle.std.proofs.Common.{ℕ, false, List, [], ◌∷◌, ◌++◌, Option, Some, None, Bool, true, take}
-use Rattle.std.specs.Prelude.{IfSome, filter_map, if◌then◌else◌}
+use Rattle.std.specs.Prelude.{IfSome, if◌then◌else◌}
 use Rattle.std.specs.List.{AllByRecursion, cons_option}
 use Rattle.std.proofs.lemmas.List.Elements.{All-from_recursion, All-take, recursion_from_All}
 use Rattle.input_lines.specs.Lines.{record_lines}
@@ -8,7 +8,7 @@ use Rattle.mux_config.specs.declared.mux.Mux.{Mux}
 use Rattle.mux_config.specs.Block.{Block, Faulty, Whole, Unended, block_from}
 use Rattle.feed_edits.specs.declared.edit.Edit.{Edit}
 use Rattle.feed_book.specs.Accepted.{is_done}
-use Rattle.feed_edits.specs.Ahead.{Ahead, Tail, Ends, Exceeds, Breaks}
+use Rattle.feed_edits.specs.Ahead.{Tail}
 use Rattle.feed_edits.specs.Typed.{IsTypedEdit}
 use Rattle.desk_core.specs.declared.step.Step.{Step}
 use Rattle.desk_core.specs.declared.step.Step.TheVariants.{Edit as edit, Tick, Publish, Swap}
@@ -18,11 +18,11 @@ use Rattle.desk_core.specs.declared.step.Entry.{Entry}
 use Rattle.desk_core.specs.Journal.{Command, accepted, accepted_by, entry_after, journal_after, journal_of}
 use Rattle.journal_text.specs.declared.script.ScriptItem.{ScriptItem}
 use Rattle.journal_text.specs.declared.script.ScriptItem.TheVariants.{Step as step, Kept, End}
-use Rattle.journal_text.specs.Script.{Asked, asked_by, items_ahead}
+use Rattle.journal_text.specs.Script.{asked_by, items_ahead}
 use Rattle.journal_text.specs.ScriptLaws.{IsTypedStep, IsTypedScriptItem}
 use Rattle.journal_text.proofs.TypedFacts.{items_typed}
 use Rattle.headend_live.specs.Laws.{HasTypedEdits}
-use Rattle.epg_cli.specs.Script.{Stop, commands_of, first_difference, played_after, played_items, script_of_lines, script_with, stop_of, up_to}
+use Rattle.epg_cli.specs.Script.{Stop, commands_of, first_difference, script_of_lines, script_with, stop_of, up_to}
 
 abbrev pub AreTypedCommands : List Command → Type 0
 AreTypedCommands commands = AllByRecursion (λ (c : Command). IsTypedStep c.1) commands

@@ -4,8 +4,8 @@ use Rattle.packet_reader.specs.Recordings.{packets_in}
 use Rattle.packet_reader.specs.Reading.{room}
 use Rattle.guide_receiver.specs.Heard.{Stands, at_packet, dones_by}
 use Rattle.guide_receiver.specs.Texts.{done_lines}
+use Rattle.si_causes.proofs.CauseFacts.{Appends-nothing}
 use Rattle.epg_cli.specs.Listen.{ReportsLines}
-use Rattle.epg_cli.proofs.RunFacts.{appends_nil}
 use Rattle.epg_cli.proofs.ListenFacts.{HasParted, start_parted, parted_recording, more_parted, given_packet, reported_more, heard_line, heard_end, heard_stop, no_read_cause}
 use Rattle.epg_cli.proofs.listen.hear_all.Goals as goal
 
@@ -15,7 +15,7 @@ loop-number-init g c = record {
   same = g.met.S.Source.same_at_once c.args.packets.now.source;
   read_later = omega arith;
   report_later = omega arith;
-  told = λ bytes tells. ([], [], bytes, tells, start_parted c.args.packets.now.number bytes c.requires.start, c.requires.unheard, c.requires.start, appends_nil (g.R.Sink.written c.args.report.now));
+  told = λ bytes tells. ([], [], bytes, tells, start_parted c.args.packets.now.number bytes c.requires.start, c.requires.unheard, c.requires.start, Appends-nothing (g.R.Sink.written c.args.report.now));
 }
 
 pub loop-number-preserved : goal.loop-number-preserved
