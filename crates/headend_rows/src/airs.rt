@@ -1,5 +1,5 @@
 // The packets of an air: versions, continuity counters, and sections of more than one packet.
-use crate::runs::{MUX, air_of, joined, spelled};
+use crate::runs::{CYCLE, MUX, NO_EVENTS, air_of, joined, spelled};
 use std::alloc::{AllocError, Global};
 use std::fmt::Write;
 use std::marker::Sync;
@@ -7,18 +7,47 @@ use std::sync::Wait;
 use std::test::Fail;
 use std::thread::Threads;
 
-// The version and the counter of packet `i` of an air, each section of which has one packet.
-fn numbers(air: &[u8], i: usize) -> Option<(usize, usize)> {
-    let packet = air.chunks(188).nth(i)?;
+// The PID of a packet.
+fn pid_of(packet: &[u8]) -> Option<u16> {
+    let high = packet.get(1)? & 0x1F;
+    Some(u16::from_be_bytes([high, *packet.get(2)?]))
+}
+
+// The packets of an air that have this PID.
+fn packets_on(alloc: Global, air: &[u8], pid: u16) -> Result<Vec<u8>, AllocError> {
+    let mut packets = Vec::new(alloc);
+    for packet in air.chunks(188) {
+        if pid_of(packet) == Some(pid) {
+            packets.extend_from_slice(packet)?;
+        }
+    }
+    Ok(packets)
+}
+
+// The version and the counter of packet `i` of the packets of a PID, each section of which has one packet.
+fn numbers(packets: &[u8], i: usize) -> Option<(usize, usize)> {
+    let packet = packets.chunks(188).nth(i)?;
     let version = (packet.get(10)? >> 1) & 31;
     let counter = packet.get(3)? & 15;
     Some((version as usize, counter as usize))
 }
 
-// Whether an air has so many packets, whose versions rise up to the last and then stay, and whose counters go on.
-fn has_versions(air: &[u8], packets: usize, last: usize) -> bool {
-    air.len() == packets.saturating_mul(188)
-        && (0..packets).all(|i| numbers(air, i) == Some((i.min(last) % 32, i % 16)))
+// Whether these are so many packets, whose versions rise up to the last and then stay, and whose counters go on.
+fn has_versions(packets: &[u8], count: usize, last: usize) -> bool {
+    packets.len() == count.saturating_mul(188)
+        && (0..count).all(|i| numbers(packets, i) == Some((i.min(last) % 32, i % 16)))
+}
+
+// Whether an air has so many cycles of four packets, in which the versions of the SDT rise up to the last and then stay, and those
+// of event information are 0.
+fn has_cycles(alloc: Global, air: &[u8], cycles: usize, last: usize) -> Result<bool, AllocError> {
+    let services = packets_on(alloc, air, 0x11)?;
+    let events = packets_on(alloc, air, 0x12)?;
+    Ok(
+        air.len() == cycles.saturating_mul(CYCLE)
+            && has_versions(&services, cycles, last)
+            && has_versions(&events, cycles.saturating_mul(3), 0),
+    )
 }
 
 // A script that for each count makes so many publications, each of a new name, and one swap.
@@ -35,7 +64,7 @@ pub(crate) fn renamed(alloc: Global, counts: &[u32]) -> Result<String, AllocErro
     Ok(text)
 }
 
-// Whether the air of this script has versions up to the last.
+// Whether the air of this script has versions of the SDT up to the last.
 fn counts_versions<W: Threads + Wait + Sync>(
     rt: &W,
     alloc: Global,
@@ -44,7 +73,7 @@ fn counts_versions<W: Threads + Wait + Sync>(
 ) -> Result<bool, AllocError> {
     let text = renamed(alloc, counts)?;
     let air = air_of(rt, alloc, &text)?;
-    Ok(has_versions(&air, counts.len(), last))
+    has_cycles(alloc, &air, counts.len(), last)
 }
 
 #[test]
@@ -66,26 +95,34 @@ fn versions_and_counters_start_again(rt: HostRuntime) -> Result<(), Fail> {
     Ok(())
 }
 
-// Whether the last packet has the section of the one before, with the next counter.
+// What packet `i` of an air has behind its counter.
+fn payload(air: &[u8], i: usize) -> Option<&[u8]> {
+    air.chunks(188).nth(i)?.get(4..)
+}
+
+// Whether the last cycle has the sections of the one before.
 fn repeats_the_last<W: Threads + Wait + Sync>(rt: &W, alloc: Global) -> Result<bool, AllocError> {
     let text = renamed(alloc, &many_swaps())?;
     let air = air_of(rt, alloc, &text)?;
-    let section = air.get(33 * 188 + 4..);
-    Ok(section.is_some() && air.get(32 * 188 + 4..33 * 188) == section)
+    Ok(
+        air.len() == 34 * CYCLE
+            && (128..132_usize).all(|i| payload(&air, i) == payload(&air, i.saturating_add(4))),
+    )
 }
 
 #[test]
-fn a_swap_without_a_publication_repeats_the_section(rt: HostRuntime) -> Result<(), Fail> {
+fn a_swap_without_a_publication_repeats_the_sections(rt: HostRuntime) -> Result<(), Fail> {
     assert!(rt; repeats_the_last(&rt, rt.alloc())?);
     Ok(())
 }
 
 // An SDT section of 225 bytes, in two packets: a provider's and a service's name of 100 bytes each.
-const TWO_PACKETS: &str =
-    "47 40 11 10  00  42 F0 DE 00 01 C1 00 00  00 01 FF  00 65 FF 80 CD  48 CB 01 64 70*100 64 6E*62 \
-     47 00 11 11  6E*38  23 50 63 1D  FF*142";
+const TWO_PACKETS: &str = "\
+     47 40 11 10  00  42 F0 DE 00 01 C1 00 00  00 01 FF  00 65 FF 80 CD  48 CB 01 64 70*100 64 6E*62
+     47 00 11 11  6E*38  23 50 63 1D  FF*142
+";
 
-// Whether the air of these names is those two packets.
+// Whether the air of these names is those two packets, and the three of a service without events.
 fn takes_two_packets<W: Threads + Wait + Sync>(rt: &W, alloc: Global) -> Result<bool, AllocError> {
     let mut text = joined(alloc, &[MUX])?;
     write!(
@@ -94,7 +131,8 @@ fn takes_two_packets<W: Threads + Wait + Sync>(rt: &W, alloc: Global) -> Result<
         "", ""
     )?;
     let air = air_of(rt, alloc, &text)?;
-    Ok(air.as_slice() == spelled(alloc, TWO_PACKETS)?.as_slice())
+    let packets = joined(alloc, &[TWO_PACKETS, NO_EVENTS])?;
+    Ok(air.as_slice() == spelled(alloc, &packets)?.as_slice())
 }
 
 #[test]
@@ -118,17 +156,27 @@ fn five_services(alloc: Global) -> Result<String, AllocError> {
     Ok(text)
 }
 
-// Whether an air has four entries of 210 bytes in five packets, and then one in two: the heads of its two sections.
-fn has_two_sections(air: &[u8]) -> bool {
-    air.len() == 7 * 188
-        && air.get(5..13) == Some([0x42, 0xF3, 0x54, 0x00, 0x01, 0xC1, 0x00, 0x01].as_slice())
-        && air.get(945..953) == Some([0x42, 0xF0, 0xDE, 0x00, 0x01, 0xC1, 0x01, 0x01].as_slice())
+// Whether an SDT has four entries of 210 bytes in five packets, and then one in two: the heads of its two sections.
+fn has_two_sections(packets: &[u8]) -> bool {
+    packets.len() == 7 * 188
+        && packets.get(5..13) == Some([0x42, 0xF3, 0x54, 0x00, 0x01, 0xC1, 0x00, 0x01].as_slice())
+        && packets.get(945..953)
+            == Some([0x42, 0xF0, 0xDE, 0x00, 0x01, 0xC1, 0x01, 0x01].as_slice())
 }
+
+// Whether it begins the air, and then come three packets of each service.
 
 fn takes_two_sections<W: Threads + Wait + Sync>(rt: &W, alloc: Global) -> Result<bool, AllocError> {
     let text = five_services(alloc)?;
     let air = air_of(rt, alloc, &text)?;
-    Ok(has_two_sections(&air))
+    let services = packets_on(alloc, &air, 0x11)?;
+    let events = packets_on(alloc, &air, 0x12)?;
+    Ok(
+        air.len() == 22 * 188
+            && air.get(..7 * 188) == Some(services.as_slice())
+            && has_two_sections(&services)
+            && has_versions(&events, 15, 0),
+    )
 }
 
 #[test]

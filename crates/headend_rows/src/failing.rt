@@ -8,7 +8,7 @@ use std::sync::Wait;
 use std::test::Fail;
 use std::thread::Threads;
 
-// A script of every kind of line, and two swaps.
+// A script of every kind of line, and two swaps of a guide with two events of the day.
 const EVERY: &str = "\
 network,40,Demo
 stream,1,1
@@ -47,6 +47,9 @@ const LAST_LINES: [usize; 6] = [8, 13, 15, 16, 18, 20];
 
 const CYCLES: [usize; 7] = [0, 0, 0, 0, 0, 1, 2];
 
+// How many bytes a cycle has: a packet of the SDT, two of present and following, and five of a schedule up to 15:00.
+const CYCLE: usize = 8 * 188;
+
 // Which end fails in a run.
 #[derive(Clone, Copy)]
 enum End {
@@ -64,9 +67,9 @@ fn commands_in(bytes: usize) -> usize {
 
 // How many bytes the air has before call `n`, where each call moves at most `piece` of a cycle.
 fn aired_before(n: usize, piece: usize) -> usize {
-    let calls = 188_usize.div_ceil(piece.max(1));
+    let calls = CYCLE.div_ceil(piece.max(1));
     (n / calls)
-        .saturating_mul(188)
+        .saturating_mul(CYCLE)
         .saturating_add((n % calls).saturating_mul(piece))
 }
 
@@ -86,13 +89,13 @@ fn expected_of(end: End, n: usize, piece: usize) -> Expected {
     match end {
         End::Read => Expected {
             entries: commands_in(moved),
-            sent: 188_usize.saturating_mul(CYCLES.get(commands_in(moved)).copied().unwrap_or(0)),
+            sent: CYCLE.saturating_mul(CYCLES.get(commands_in(moved)).copied().unwrap_or(0)),
             told: usize::MAX,
             status: Status::ReadFault(Origin::Input),
             fault: "fault: input not read\n",
         },
         End::Air => Expected {
-            entries: if aired_before(n, piece) < 188 { 5 } else { 6 },
+            entries: if aired_before(n, piece) < CYCLE { 5 } else { 6 },
             sent: aired_before(n, piece),
             told: usize::MAX,
             status: Status::WriteFault(Outlet::Air),
@@ -100,7 +103,7 @@ fn expected_of(end: End, n: usize, piece: usize) -> Expected {
         },
         End::Report => Expected {
             entries: 6,
-            sent: 2 * 188,
+            sent: 2 * CYCLE,
             told: moved,
             status: Status::WriteFault(Outlet::Report),
             fault: "",
@@ -185,7 +188,7 @@ fn all_fail<W: Threads + Wait + Sync>(
 ) -> Result<bool, AllocError> {
     let piece = piece.max(1);
     let reads = EVERY.len().div_ceil(piece) + 1;
-    let sent = 2 * 188_usize.div_ceil(piece);
+    let sent = 2 * CYCLE.div_ceil(piece);
     let told = report_of(alloc, 6, "")?.len().div_ceil(piece);
     Ok(
         each_fails(rt, alloc, whole, piece, End::Read, reads)?
@@ -197,7 +200,7 @@ fn all_fail<W: Threads + Wait + Sync>(
 #[test]
 fn each_call_fails_in_turn(rt: HostRuntime) -> Result<(), Fail> {
     let whole = air_of(&rt, rt.alloc(), EVERY)?;
-    assert!(rt; whole.len() == 2 * 188);
+    assert!(rt; whole.len() == 2 * CYCLE);
     for piece in [5, 188, 65_536] {
         assert!(rt; all_fail(&rt, rt.alloc(), &whole, piece)?, "{piece}");
     }

@@ -33,8 +33,8 @@ fn hearing(input: &[u8]) -> Run<'_> {
     }
 }
 
-// Whether a run over a recording has this status, and reports that the packet is done, if at all, and this end.
-fn tells<W: Threads + Wait + Sync>(
+// Whether a run over a recording has this status, and reports these completions and this end.
+pub(crate) fn tells<W: Threads + Wait + Sync>(
     rt: &W,
     alloc: Global,
     recording: &[u8],
@@ -156,16 +156,18 @@ fn packets_that_show_nothing(rt: HostRuntime) -> Result<(), Fail> {
     Ok(())
 }
 
-// The lines of so many versions, each in a packet of its own.
-fn lines_of(alloc: Global, count: u32) -> Result<String, AllocError> {
-    let mut lines = String::new(alloc);
-    for i in 0..count {
-        write!(lines, "done\t{i}\t17\t66\t1\t0\t1\t{}\n", i % 32)?;
+// The lines of so many cycles of four packets, in which the SDT alone has another version each time.
+fn lines_of(alloc: Global, cycles: u32) -> Result<String, AllocError> {
+    let mut lines = String::from_str(alloc, DONE)?;
+    lines.push_str("done\t2\t18\t78\t101\t1\t1\t0\ndone\t3\t18\t80\t101\t1\t1\t0\n")?;
+    for i in 1..cycles {
+        let packet = i.saturating_mul(4);
+        write!(lines, "done\t{packet}\t17\t66\t1\t0\t1\t{}\n", i % 32)?;
     }
     Ok(lines)
 }
 
-// Whether the air of 33 swaps, each of a new name, tells 33 versions.
+// Whether the air of 33 swaps, each of a new name, tells 33 versions of the SDT, and one of each table of event information.
 fn hears_versions<W: Threads + Wait + Sync>(rt: &W, alloc: Global) -> Result<bool, AllocError> {
     let script = renamed(alloc, &[1; 33])?;
     let air = air_of(rt, alloc, &script)?;

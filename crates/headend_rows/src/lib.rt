@@ -6,6 +6,8 @@
 #[cfg(test)]
 mod airs;
 #[cfg(test)]
+mod events;
+#[cfg(test)]
 mod failing;
 #[cfg(test)]
 mod faults;

@@ -2,7 +2,7 @@
 ghost use Rattle.std.specs.Prelude.{None};
 
 use crate::airs::renamed;
-use crate::runs::air_of;
+use crate::runs::{CYCLE, air_of};
 use epg_cli::{Status, run_listen, run_play};
 use si_causes::{Failed, Sink, Source};
 use std::alloc::{AllocError, Global};
@@ -79,7 +79,7 @@ const LINES: &[&[u8]] = &[
     b"swap\n",
 ];
 
-const SENT: &[usize] = &[0, 0, 0, 0, 0, 0, 188, 188, 376];
+const SENT: &[usize] = &[0, 0, 0, 0, 0, 0, CYCLE, CYCLE, 2 * CYCLE];
 
 // Whether `play` sends each cycle before it reads the next line.
 fn sends_before_it_reads(alloc: Global) -> bool {
@@ -105,8 +105,9 @@ fn a_cycle_is_sent_before_the_next_line_is_read(rt: HostRuntime) -> Result<(), F
     Ok(())
 }
 
-// How many bytes the lines of 0, 1, 2 and 3 completions have, each of which is 21 bytes long.
-const REPORTED: &[usize] = &[0, 21, 42, 63];
+// How many bytes are reported when each of twelve packets is read, and when the end is met: the lines of the SDT have 21 bytes, one
+// for the first packet of each cycle; those of event information have 23, one for the third and one for the fourth packet.
+const REPORTED: &[usize] = &[0, 21, 21, 44, 67, 88, 88, 88, 88, 109, 109, 109, 109];
 
 // Whether `listen` reports the completions of each of these packets before it reads the next one.
 fn reports_before_it_reads(alloc: Global, packets: &[&[u8]]) -> bool {
@@ -120,7 +121,10 @@ fn reports_before_it_reads(alloc: Global, packets: &[&[u8]]) -> bool {
     };
     let mut report = Counting { taken: &taken };
     let status = run_listen(alloc, &mut input, &mut report);
-    status == Status::Done && input.agrees && input.reads == REPORTED.len() && taken.get() == 63 + 4
+    status == Status::Done
+        && input.agrees
+        && input.reads == REPORTED.len()
+        && taken.get() == 109 + 4
 }
 
 // The same of the air of three swaps, each of a new name.

@@ -10,9 +10,20 @@ use std::thread::Threads;
 pub(crate) const MUX: &str = "network,40,Demo\nstream,1,1\nservice,101,1,1,256,257,Acme,One\nend\n";
 
 // The packet of the SDT that names this service `News`, as it is first sent (EN 300 468, 5.2.3).
-pub(crate) const PACKET: &str =
-    "47 40 11 10  00  42 F0 1E 00 01 C1 00 00  00 01 FF  00 65 FF 80 0D  48 0B 01 \
-     04 41 63 6D 65 04 4E 65 77 73  B5 82 AF DD  FF*150";
+pub(crate) const PACKET: &str = "\
+     47 40 11 10  00  42 F0 1E 00 01 C1 00 00  00 01 FF  00 65 FF 80 0D  48 0B 01 04 41 63 6D 65 04 4E 65 77 73
+     B5 82 AF DD  FF*150
+";
+
+// The packets behind it, where the service has no event: present, following, and a section of its schedule (EN 300 468, 5.2.4).
+pub(crate) const NO_EVENTS: &str = "\
+     47 40 12 10  00  4E F0 0F 00 65 C1 00 01  00 01 00 01 01 4E  6A A2 D6 07  FF*165
+     47 40 12 11  00  4E F0 0F 00 65 C1 01 01  00 01 00 01 01 4E  31 03 0A CD  FF*165
+     47 40 12 12  00  50 F0 0F 00 65 C1 00 00  00 01 00 01 00 50  49 C6 68 2B  FF*165
+";
+
+// How many bytes they have together.
+pub(crate) const CYCLE: usize = 4 * 188;
 
 // No call has this number.
 pub(crate) const NEVER: u64 = 1_000_000_000;

@@ -1,5 +1,7 @@
 // The words of a command line.
-use crate::runs::{LISTEN, Left, MUX, NEVER, PACKET, PLAY, Run, joined, leaves, spelled};
+use crate::runs::{
+    LISTEN, Left, MUX, NEVER, NO_EVENTS, PACKET, PLAY, Run, joined, leaves, spelled,
+};
 use epg_cli::Status;
 use std::alloc::{AllocError, Global};
 use std::marker::Sync;
@@ -60,14 +62,15 @@ fn words_that_are_no_command(rt: HostRuntime) -> Result<(), Fail> {
     Ok(())
 }
 
-// Whether `play` sends the one packet, and reports the journal.
+// Whether `play` sends the one cycle, and reports the journal.
 fn is_played<W: Threads + Wait + Sync>(rt: &W, alloc: Global) -> Result<bool, AllocError> {
     let input = joined(alloc, &[MUX, STEPS])?;
-    let packet = spelled(alloc, PACKET)?;
+    let packets = joined(alloc, &[PACKET, NO_EVENTS])?;
+    let cycle = spelled(alloc, &packets)?;
     let journal = joined(alloc, &JOURNAL)?;
     let left = Left {
         status: Status::Done,
-        air: &packet,
+        air: &cycle,
         report: journal.as_bytes(),
     };
     leaves(rt, alloc, &run_of(PLAY, &input), &left)
