@@ -15,6 +15,8 @@ mod lines;
 mod moments;
 mod notation;
 #[cfg(test)]
+mod pages;
+#[cfg(test)]
 mod recordings;
 #[cfg(test)]
 mod records;
@@ -23,6 +25,8 @@ mod row;
 mod sinks;
 #[cfg(test)]
 mod sources;
+#[cfg(test)]
+mod streams;
 mod texts;
 
 use row::{NoAnswer, answered, is_among};

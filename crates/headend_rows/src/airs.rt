@@ -43,11 +43,9 @@ fn has_versions(packets: &[u8], count: usize, last: usize) -> bool {
 fn has_cycles(alloc: Global, air: &[u8], cycles: usize, last: usize) -> Result<bool, AllocError> {
     let services = packets_on(alloc, air, 0x11)?;
     let events = packets_on(alloc, air, 0x12)?;
-    Ok(
-        air.len() == cycles.saturating_mul(CYCLE)
-            && has_versions(&services, cycles, last)
-            && has_versions(&events, cycles.saturating_mul(3), 0),
-    )
+    let are_all = air.len() == cycles.saturating_mul(CYCLE);
+    let stay = has_versions(&events, cycles.saturating_mul(3), 0);
+    Ok(are_all && stay && has_versions(&services, cycles, last))
 }
 
 // A script that for each count makes so many publications, each of a new name, and one swap.
@@ -100,19 +98,15 @@ fn payload(air: &[u8], i: usize) -> Option<&[u8]> {
     air.chunks(188).nth(i)?.get(4..)
 }
 
-// Whether the last cycle has the sections of the one before.
-fn repeats_the_last<W: Threads + Wait + Sync>(rt: &W, alloc: Global) -> Result<bool, AllocError> {
-    let text = renamed(alloc, &many_swaps())?;
-    let air = air_of(rt, alloc, &text)?;
-    Ok(
-        air.len() == 34 * CYCLE
-            && (128..132_usize).all(|i| payload(&air, i) == payload(&air, i.saturating_add(4))),
-    )
-}
-
+// The last cycle has the sections of the one before.
 #[test]
 fn a_swap_without_a_publication_repeats_the_sections(rt: HostRuntime) -> Result<(), Fail> {
-    assert!(rt; repeats_the_last(&rt, rt.alloc())?);
+    let text = renamed(rt.alloc(), &many_swaps())?;
+    let air = air_of(&rt, rt.alloc(), &text)?;
+    assert!(rt; air.len() == 34 * CYCLE);
+    for i in 128..132_usize {
+        assert!(rt; payload(&air, i) == payload(&air, i + 4), "{i}");
+    }
     Ok(())
 }
 
@@ -122,22 +116,19 @@ const TWO_PACKETS: &str = "\
      47 00 11 11  6E*38  23 50 63 1D  FF*142
 ";
 
-// Whether the air of these names is those two packets, and the three of a service without events.
-fn takes_two_packets<W: Threads + Wait + Sync>(rt: &W, alloc: Global) -> Result<bool, AllocError> {
-    let mut text = joined(alloc, &[MUX])?;
+// The air of these names is those two packets, and the three of a service without events.
+#[test]
+fn a_section_of_two_packets(rt: HostRuntime) -> Result<(), Fail> {
+    let mut text = joined(rt.alloc(), &[MUX])?;
     write!(
         text,
         "feed,1,name,101,{:p<100},{:n<100}\npublish\nswap\n",
         "", ""
     )?;
-    let air = air_of(rt, alloc, &text)?;
-    let packets = joined(alloc, &[TWO_PACKETS, NO_EVENTS])?;
-    Ok(air.as_slice() == spelled(alloc, &packets)?.as_slice())
-}
-
-#[test]
-fn a_section_of_two_packets(rt: HostRuntime) -> Result<(), Fail> {
-    assert!(rt; takes_two_packets(&rt, rt.alloc())?);
+    let air = air_of(&rt, rt.alloc(), &text)?;
+    let packets = joined(rt.alloc(), &[TWO_PACKETS, NO_EVENTS])?;
+    let packets = spelled(rt.alloc(), &packets)?;
+    assert!(rt; air.as_slice() == packets.as_slice());
     Ok(())
 }
 
@@ -164,23 +155,14 @@ fn has_two_sections(packets: &[u8]) -> bool {
             == Some([0x42, 0xF0, 0xDE, 0x00, 0x01, 0xC1, 0x01, 0x01].as_slice())
 }
 
-// Whether it begins the air, and then come three packets of each service.
-
-fn takes_two_sections<W: Threads + Wait + Sync>(rt: &W, alloc: Global) -> Result<bool, AllocError> {
-    let text = five_services(alloc)?;
-    let air = air_of(rt, alloc, &text)?;
-    let services = packets_on(alloc, &air, 0x11)?;
-    let events = packets_on(alloc, &air, 0x12)?;
-    Ok(
-        air.len() == 22 * 188
-            && air.get(..7 * 188) == Some(services.as_slice())
-            && has_two_sections(&services)
-            && has_versions(&events, 15, 0),
-    )
-}
-
+// It begins the air, and then come three packets of each service.
 #[test]
 fn a_table_of_two_sections(rt: HostRuntime) -> Result<(), Fail> {
-    assert!(rt; takes_two_sections(&rt, rt.alloc())?);
+    let text = five_services(rt.alloc())?;
+    let air = air_of(&rt, rt.alloc(), &text)?;
+    let services = packets_on(rt.alloc(), &air, 0x11)?;
+    let events = packets_on(rt.alloc(), &air, 0x12)?;
+    assert!(rt; air.len() == 22 * 188 && air.get(..7 * 188) == Some(services.as_slice()));
+    assert!(rt; has_two_sections(&services) && has_versions(&events, 15, 0));
     Ok(())
 }

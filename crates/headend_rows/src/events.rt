@@ -2,11 +2,7 @@
 use crate::hearing::tells;
 use crate::runs::{air_of, spelled};
 use epg_cli::Status;
-use std::alloc::{AllocError, Global};
-use std::marker::Sync;
-use std::sync::Wait;
 use std::test::Fail;
-use std::thread::Threads;
 
 // An event now, the next one, and one on the ninth day. Then the next one is now, and nothing else has changed.
 const SCRIPT: &str = "\
@@ -60,17 +56,12 @@ done\t9\t18\t82\t101\t1\t1\t0
 done\t12\t18\t78\t101\t1\t1\t1
 ";
 
-// Whether these packets are the whole air of this script, and these lines all that is heard of it.
-fn are_sent_and_heard<W: Threads + Wait + Sync>(rt: &W, alloc: Global) -> Result<bool, AllocError> {
-    let air = air_of(rt, alloc, SCRIPT)?;
-    Ok(
-        air.as_slice() == spelled(alloc, PACKETS)?.as_slice()
-            && tells(rt, alloc, &air, DONE, Status::Done, "end\n")?,
-    )
-}
-
+// These packets are the whole air of this script, and these lines all that is heard of it.
 #[test]
 fn events_are_sent_and_heard(rt: HostRuntime) -> Result<(), Fail> {
-    assert!(rt; are_sent_and_heard(&rt, rt.alloc())?);
+    let air = air_of(&rt, rt.alloc(), SCRIPT)?;
+    let packets = spelled(rt.alloc(), PACKETS)?;
+    assert!(rt; air.as_slice() == packets.as_slice());
+    assert!(rt; tells(&rt, rt.alloc(), &air, DONE, Status::Done, "end\n")?);
     Ok(())
 }

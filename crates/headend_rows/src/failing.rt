@@ -73,10 +73,11 @@ fn aired_before(n: usize, piece: usize) -> usize {
         .saturating_add((n % calls).saturating_mul(piece))
 }
 
-// What a run is to leave where a call of an end fails: how many entries, how many bytes of the air and of the report, and the
-// status with its line.
+// The number of the call that fails, end by end, and what the run is to leave: how many entries, how many bytes of the air and of
+// the report, and the status with its line.
 #[derive(Clone, Copy)]
 struct Expected {
+    fails: [u64; 3],
     entries: usize,
     sent: usize,
     told: usize,
@@ -88,6 +89,7 @@ fn expected_of(end: End, n: usize, piece: usize) -> Expected {
     let moved = n.saturating_mul(piece);
     match end {
         End::Read => Expected {
+            fails: [n as u64, NEVER, NEVER],
             entries: commands_in(moved),
             sent: CYCLE.saturating_mul(CYCLES.get(commands_in(moved)).copied().unwrap_or(0)),
             told: usize::MAX,
@@ -95,6 +97,7 @@ fn expected_of(end: End, n: usize, piece: usize) -> Expected {
             fault: "fault: input not read\n",
         },
         End::Air => Expected {
+            fails: [NEVER, n as u64, NEVER],
             entries: if aired_before(n, piece) < CYCLE { 5 } else { 6 },
             sent: aired_before(n, piece),
             told: usize::MAX,
@@ -102,6 +105,7 @@ fn expected_of(end: End, n: usize, piece: usize) -> Expected {
             fault: "fault: air not written\n",
         },
         End::Report => Expected {
+            fails: [NEVER, NEVER, n as u64],
             entries: 6,
             sent: 2 * CYCLE,
             told: moved,
@@ -121,18 +125,13 @@ fn report_of(alloc: Global, entries: usize, fault: &str) -> Result<String, Alloc
     Ok(report)
 }
 
-// The run of the script in which call `n` of an end fails.
-fn run_failing(piece: usize, end: End, n: usize) -> Run<'static> {
-    let call = n as u64;
+// The run of the script in which these calls fail.
+fn run_failing(piece: usize, fails: [u64; 3]) -> Run<'static> {
     Run {
         words: PLAY,
         input: EVERY.as_bytes(),
         piece,
-        fails: match end {
-            End::Read => [call, NEVER, NEVER],
-            End::Air => [NEVER, call, NEVER],
-            End::Report => [NEVER, NEVER, call],
-        },
+        fails,
     }
 }
 
@@ -153,7 +152,7 @@ fn fails_as_due<W: Threads + Wait + Sync>(
         air: whole.get(..due.sent).unwrap_or(&[]),
         report: report.get(..due.told).unwrap_or(report),
     };
-    leaves(rt, alloc, &run_failing(piece, end, n), &left)
+    leaves(rt, alloc, &run_failing(piece, due.fails), &left)
 }
 
 // Whether each of the first `calls` calls of an end, failing, leaves what is due, and the call behind them is not made.
@@ -176,10 +175,11 @@ fn each_fails<W: Threads + Wait + Sync>(
         air: whole,
         report: journal.as_bytes(),
     };
-    leaves(rt, alloc, &run_failing(piece, end, calls), &left)
+    let fails = expected_of(end, calls, piece).fails;
+    leaves(rt, alloc, &run_failing(piece, fails), &left)
 }
 
-// Whether each call of each end, failing, leaves what is due, where each call moves so many bytes.
+// Whether each call of each end, failing, leaves what is due, where each call moves so many bytes, of the air 36 at least.
 fn all_fail<W: Threads + Wait + Sync>(
     rt: &W,
     alloc: Global,
@@ -188,11 +188,12 @@ fn all_fail<W: Threads + Wait + Sync>(
 ) -> Result<bool, AllocError> {
     let piece = piece.max(1);
     let reads = EVERY.len().div_ceil(piece) + 1;
-    let sent = 2 * CYCLE.div_ceil(piece);
+    let wide = piece.max(36);
+    let sent = 2 * CYCLE.div_ceil(wide);
     let told = report_of(alloc, 6, "")?.len().div_ceil(piece);
     Ok(
         each_fails(rt, alloc, whole, piece, End::Read, reads)?
-            && each_fails(rt, alloc, whole, piece, End::Air, sent)?
+            && each_fails(rt, alloc, whole, wide, End::Air, sent)?
             && each_fails(rt, alloc, whole, piece, End::Report, told)?,
     )
 }

@@ -9,21 +9,11 @@ use std::sync::Wait;
 use std::test::Fail;
 use std::thread::Threads;
 
-// Inputs that stop: an exit status, the input, and the report behind `>`; an empty line parts them.
-const FAULTS: &str = "\
-3
-network,40,Demo
-stream,1,1
-service,101,1,1,256,257,Acme,One
-end
+// Scripts that stop behind the multiplex, whose lines are 1 to 4: the script, and the report behind `>`; an empty line parts them.
+const SCRIPTS: &str = "\
 swop
 >fault: input line 5 is no command
 
-3
-network,40,Demo
-stream,1,1
-service,101,1,1,256,257,Acme,One
-end
 feed,1,name,101,Acme,News
 publish
 swop
@@ -33,11 +23,6 @@ swop
 =,published,1
 fault: input line 7 is no command
 
-3
-network,40,Demo
-stream,1,1
-service,101,1,1,256,257,Acme,One
-end
 publish
 =,published,2
 swap
@@ -45,11 +30,6 @@ swap
 =,published,1
 fault: input line 6 kept published,2 found published,1
 
-3
-network,40,Demo
-stream,1,1
-service,101,1,1,256,257,Acme,One
-end
 publish
 =,published,001
 =,done
@@ -57,64 +37,45 @@ publish
 =,published,1
 fault: input line 7 is no command
 
-3
-network,40,Demo
-stream,1,1
-service,101,1,1,256,257,Acme,One
-end
 feed,1,clear,101
 =,member,0002,range,segment,000020001
 >0,feed,1,clear,101
 =,done
 fault: input line 6 kept member,2,range,segment,20001 found done
 
-3
-network,40,Demo
-stream,1,1
-service,101,1,1,256,257,Acme,One
-end
 feed,1,day,101,1993-10-13,2
 item,5,1993-10-13T13:00:00Z,00:30:00,eng,A,,,,,
 #
 >fault: input line 8 is no command
 
-3
-network,40,Demo
-stream,1,1
-service,101,1,1,256,257,Acme,One
-end
 feed,256,name,101,Acme,News
->fault: input line 5 is no command
+>fault: input line 5 is no command";
 
-4
+// Descriptions that stop, in the same way.
+const DESCRIPTIONS: &str = "\
 network,40,Demo
 service,101,1,1,256,257,Acme,One
 end
 >fault: mux lacks stream
 
-4
 stream,1,1
 service,101,1,1,256,257,Acme,One
 end
 >fault: mux lacks network
 
-4
 network,40,Demo
 stream,1,1
 end
 swop
 >fault: mux lacks service
 
-4
 network,40,Demo
 stream,1,1
 service,101,1,1,256,257,Acme,One
 >fault: mux lacks end
 
-4
 >fault: mux lacks end
 
-4
 network,40,Demo
 stream,1,1
 service,101,1,1,256,257,Acme,One
@@ -122,41 +83,14 @@ service,101,1,1,256,257,Acme,One
 end
 >fault: mux line 4 repeats line 3
 
-4
 network,40
 >fault: mux line 1 unreadable
 
-4
 network,40,Demo
 stream,1,1
 service,101,17,1,256,257,Acme,One
 end
 >fault: mux line 3 out of range";
-
-// Whether the input of a row stops as the row says, and nothing is sent.
-fn stops_so<W: Threads + Wait + Sync>(
-    rt: &W,
-    alloc: Global,
-    row: &str,
-) -> Result<bool, AllocError> {
-    let Some((code, rest)) = row.split_once("\n") else {
-        return Ok(false);
-    };
-    let Some((input, report)) = rest.split_once(">") else {
-        return Ok(false);
-    };
-    let report = joined(alloc, &[report, "\n"])?;
-    let status = status_of(rt, alloc, &playing(input), Some(&[]), report.as_bytes())?;
-    Ok(status.map(|status| status.code()) == code.parse::<u8>().ok())
-}
-
-#[test]
-fn inputs_that_stop(rt: HostRuntime) -> Result<(), Fail> {
-    for row in FAULTS.split("\n\n") {
-        assert!(rt; stops_so(&rt, rt.alloc(), row)?, "{row}");
-    }
-    Ok(())
-}
 
 // The status of `play` over this script, which leaves this report and sends nothing.
 fn stop_of<W: Threads + Wait + Sync>(
@@ -168,6 +102,38 @@ fn stop_of<W: Threads + Wait + Sync>(
 ) -> Result<Option<Status>, AllocError> {
     let input = joined(alloc, &[mux, script])?;
     status_of(rt, alloc, &playing(&input), Some(&[]), report.as_bytes())
+}
+
+// Whether a row behind this description stops with this exit status, and reports what the row says.
+fn stops_so<W: Threads + Wait + Sync>(
+    rt: &W,
+    alloc: Global,
+    mux: &str,
+    row: &str,
+    code: u8,
+) -> Result<bool, AllocError> {
+    let Some((script, report)) = row.split_once(">") else {
+        return Ok(false);
+    };
+    let report = joined(alloc, &[report, "\n"])?;
+    let status = stop_of(rt, alloc, mux, script, &report)?;
+    Ok(status.map(|status| status.code()) == Some(code))
+}
+
+#[test]
+fn scripts_that_stop(rt: HostRuntime) -> Result<(), Fail> {
+    for row in SCRIPTS.split("\n\n") {
+        assert!(rt; stops_so(&rt, rt.alloc(), MUX, row, 3)?, "{row}");
+    }
+    Ok(())
+}
+
+#[test]
+fn descriptions_that_stop(rt: HostRuntime) -> Result<(), Fail> {
+    for row in DESCRIPTIONS.split("\n\n") {
+        assert!(rt; stops_so(&rt, rt.alloc(), "", row, 4)?, "{row}");
+    }
+    Ok(())
 }
 
 #[test]

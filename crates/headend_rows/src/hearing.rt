@@ -1,6 +1,6 @@
 // Runs of `listen` over recordings in memory, whose report is looked at.
 use crate::airs::renamed;
-use crate::runs::{LISTEN, Left, NEVER, PACKET, Run, air_of, leaves, spelled};
+use crate::runs::{LISTEN, Left, NEVER, PACKET, Run, air_of, joined, leaves, spelled};
 use epg_cli::{Origin, Outlet, Status};
 use si_base::crc32;
 use std::alloc::{AllocError, Global};
@@ -42,8 +42,7 @@ pub(crate) fn tells<W: Threads + Wait + Sync>(
     status: Status,
     end: &str,
 ) -> Result<bool, AllocError> {
-    let mut report = String::from_str(alloc, done)?;
-    report.push_str(end)?;
+    let report = joined(alloc, &[done, end])?;
     let left = Left {
         status,
         air: &[],
@@ -89,22 +88,15 @@ fn pieces_that_are_too_short(rt: HostRuntime) -> Result<(), Fail> {
     Ok(())
 }
 
-// Whether a packet behind the first that begins with 0x48 is told.
-fn tells_second_packet<W: Threads + Wait + Sync>(
-    rt: &W,
-    alloc: Global,
-) -> Result<bool, AllocError> {
-    let mut bytes = recording(alloc, 376)?;
+// A packet behind the first that begins with 0x48 is told.
+#[test]
+fn a_second_packet_that_is_none(rt: HostRuntime) -> Result<(), Fail> {
+    let mut bytes = recording(rt.alloc(), 376)?;
     if let Some(first) = bytes.get_mut(188) {
         *first = 0x48;
     }
     let status = Status::BadStream(1);
-    tells(rt, alloc, &bytes, DONE, status, "fault: packet 1\n")
-}
-
-#[test]
-fn a_second_packet_that_is_none(rt: HostRuntime) -> Result<(), Fail> {
-    assert!(rt; tells_second_packet(&rt, rt.alloc())?);
+    assert!(rt; tells(&rt, rt.alloc(), &bytes, DONE, status, "fault: packet 1\n")?);
     Ok(())
 }
 
@@ -167,17 +159,13 @@ fn lines_of(alloc: Global, cycles: u32) -> Result<String, AllocError> {
     Ok(lines)
 }
 
-// Whether the air of 33 swaps, each of a new name, tells 33 versions of the SDT, and one of each table of event information.
-fn hears_versions<W: Threads + Wait + Sync>(rt: &W, alloc: Global) -> Result<bool, AllocError> {
-    let script = renamed(alloc, &[1; 33])?;
-    let air = air_of(rt, alloc, &script)?;
-    let lines = lines_of(alloc, 33)?;
-    tells(rt, alloc, &air, &lines, Status::Done, "end\n")
-}
-
+// The air of 33 swaps, each of a new name, tells 33 versions of the SDT, and one of each table of event information.
 #[test]
 fn versions_are_heard(rt: HostRuntime) -> Result<(), Fail> {
-    assert!(rt; hears_versions(&rt, rt.alloc())?);
+    let script = renamed(rt.alloc(), &[1; 33])?;
+    let air = air_of(&rt, rt.alloc(), &script)?;
+    let lines = lines_of(rt.alloc(), 33)?;
+    assert!(rt; tells(&rt, rt.alloc(), &air, &lines, Status::Done, "end\n")?);
     Ok(())
 }
 
@@ -190,33 +178,43 @@ fn three_packets(alloc: Global) -> Result<Vec<u8>, AllocError> {
     Ok(bytes)
 }
 
-// Whether a run over three packets in which read `n` fails reports what was read before, and the fault.
+// Whether a run over three packets with this call failing leaves this status and this report.
+fn fails_so<W: Threads + Wait + Sync>(
+    rt: &W,
+    alloc: Global,
+    piece: usize,
+    fails: [u64; 3],
+    status: Status,
+    report: &[u8],
+) -> Result<bool, AllocError> {
+    let input = three_packets(alloc)?;
+    let run = Run {
+        words: LISTEN,
+        input: &input,
+        piece,
+        fails,
+    };
+    let left = Left {
+        status,
+        air: &[],
+        report,
+    };
+    leaves(rt, alloc, &run, &left)
+}
+
+// Whether a run in which read `n` fails reports what was read before, and the fault.
 fn tells_read_fault<W: Threads + Wait + Sync>(
     rt: &W,
     alloc: Global,
     piece: usize,
     n: usize,
 ) -> Result<bool, AllocError> {
-    let bytes = three_packets(alloc)?;
-    let run = Run {
-        words: LISTEN,
-        input: &bytes,
-        piece,
-        fails: [n as u64, NEVER, NEVER],
-    };
-    let done = if n.saturating_mul(piece) >= 188 {
-        DONE
-    } else {
-        ""
-    };
-    let mut report = String::from_str(alloc, done)?;
-    report.push_str("fault: input not read\n")?;
-    let left = Left {
-        status: Status::ReadFault(Origin::Input),
-        air: &[],
-        report: report.as_bytes(),
-    };
-    leaves(rt, alloc, &run, &left)
+    let is_heard = n.saturating_mul(piece) >= 188;
+    let done = if is_heard { DONE } else { "" };
+    let report = joined(alloc, &[done, "fault: input not read\n"])?;
+    let fails = [n as u64, NEVER, NEVER];
+    let status = Status::ReadFault(Origin::Input);
+    fails_so(rt, alloc, piece, fails, status, report.as_bytes())
 }
 
 // How many bytes are written before write `n`, where the first line is a write of its own.
@@ -229,31 +227,18 @@ fn written_before(piece: usize, n: usize) -> usize {
     }
 }
 
-// Whether a run over three packets in which write `n` fails reports just what was written before.
+// Whether a run in which write `n` fails reports just what was written before.
 fn tells_write_fault<W: Threads + Wait + Sync>(
     rt: &W,
     alloc: Global,
     piece: usize,
     n: usize,
 ) -> Result<bool, AllocError> {
-    let bytes = three_packets(alloc)?;
-    let run = Run {
-        words: LISTEN,
-        input: &bytes,
-        piece,
-        fails: [NEVER, NEVER, n as u64],
-    };
-    let mut whole = String::from_str(alloc, DONE)?;
-    whole.push_str("end\n")?;
-    let left = Left {
-        status: Status::WriteFault(Outlet::Report),
-        air: &[],
-        report: whole
-            .as_bytes()
-            .get(..written_before(piece, n))
-            .unwrap_or(&[]),
-    };
-    leaves(rt, alloc, &run, &left)
+    let whole = joined(alloc, &[DONE, "end\n"])?;
+    let written = whole.as_bytes().get(..written_before(piece, n));
+    let fails = [NEVER, NEVER, n as u64];
+    let status = Status::WriteFault(Outlet::Report);
+    fails_so(rt, alloc, piece, fails, status, written.unwrap_or(&[]))
 }
 
 #[test]

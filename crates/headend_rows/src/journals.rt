@@ -12,26 +12,15 @@ use std::thread::Threads;
 const LATE_MUX: &str =
     "network,40,Demo\nstream,1,1\nservice,101,1,1,256,257,Acme,One\nstart,1993-10-13T12:45:00Z\nend\n";
 
-// Whether the script of a multiplex is played to its end, and the journal is this text.
-fn prints<W: Threads + Wait + Sync>(
-    rt: &W,
-    alloc: Global,
-    mux: &str,
-    script: &str,
-    journal: &str,
-) -> Result<bool, AllocError> {
-    let input = joined(alloc, &[mux, script])?;
-    let status = status_of(rt, alloc, &playing(&input), None, journal.as_bytes())?;
-    Ok(status == Some(Status::Done))
-}
-
 // Whether a journal, as a script, is played to its end and printed again: each outcome is the one that it keeps.
 pub(crate) fn prints_itself<W: Threads + Wait + Sync>(
     rt: &W,
     alloc: Global,
     journal: &str,
 ) -> Result<bool, AllocError> {
-    prints(rt, alloc, LATE_MUX, journal, journal)
+    let input = joined(alloc, &[LATE_MUX, journal])?;
+    let status = status_of(rt, alloc, &playing(&input), None, journal.as_bytes())?;
+    Ok(status == Some(Status::Done))
 }
 
 // Journals of the multiplex that starts at 12:45; an empty line parts them.
@@ -104,20 +93,11 @@ item,6,1993-10-13T13:10:00Z,00:30:00,eng,B,,,,,
 0,swap
 =,swapped,2,1993-10-13T12:45:00Z";
 
-// Whether a journal without the end of its last line prints itself.
-fn prints_block<W: Threads + Wait + Sync>(
-    rt: &W,
-    alloc: Global,
-    journal: &str,
-) -> Result<bool, AllocError> {
-    let journal = joined(alloc, &[journal, "\n"])?;
-    prints_itself(rt, alloc, &journal)
-}
-
 #[test]
 fn journals_that_print_themselves(rt: HostRuntime) -> Result<(), Fail> {
     for journal in JOURNALS.split("\n\n") {
-        assert!(rt; prints_block(&rt, rt.alloc(), journal)?, "{journal}");
+        let text = joined(rt.alloc(), &[journal, "\n"])?;
+        assert!(rt; prints_itself(&rt, rt.alloc(), &text)?, "{journal}");
     }
     Ok(())
 }
@@ -141,21 +121,12 @@ fn full_block(alloc: Global, name: usize, outcome: &str) -> Result<String, Alloc
     Ok(text)
 }
 
-// Whether the outcome of the last event of such a block is this.
-fn fills_a_block<W: Threads + Wait + Sync>(
-    rt: &W,
-    alloc: Global,
-    name: usize,
-    outcome: &str,
-) -> Result<bool, AllocError> {
-    let journal = full_block(alloc, name, outcome)?;
-    prints_itself(rt, alloc, &journal)
-}
-
 #[test]
 fn a_full_block(rt: HostRuntime) -> Result<(), Fail> {
-    assert!(rt; fills_a_block(&rt, rt.alloc(), 75, "done")?);
-    assert!(rt; fills_a_block(&rt, rt.alloc(), 76, "range,segment,20001")?);
+    for (name, outcome) in [(75, "done"), (76, "range,segment,20001")] {
+        let journal = full_block(rt.alloc(), name, outcome)?;
+        assert!(rt; prints_itself(&rt, rt.alloc(), &journal)?, "{name}");
+    }
     Ok(())
 }
 
@@ -168,18 +139,9 @@ fn ticks(alloc: Global, count: u32) -> Result<String, AllocError> {
     Ok(text)
 }
 
-// Whether so many of them are played and printed.
-fn prints_ticks<W: Threads + Wait + Sync>(
-    rt: &W,
-    alloc: Global,
-    count: u32,
-) -> Result<bool, AllocError> {
-    let journal = ticks(alloc, count)?;
-    prints_itself(rt, alloc, &journal)
-}
-
 #[test]
 fn a_script_of_5000_lines(rt: HostRuntime) -> Result<(), Fail> {
-    assert!(rt; prints_ticks(&rt, rt.alloc(), 2_500)?);
+    let journal = ticks(rt.alloc(), 2_500)?;
+    assert!(rt; prints_itself(&rt, rt.alloc(), &journal)?);
     Ok(())
 }

@@ -18,10 +18,6 @@ mod journals;
 #[cfg(test)]
 mod order;
 #[cfg(test)]
-mod pages;
-#[cfg(test)]
 mod runs;
-#[cfg(test)]
-mod streams;
 #[cfg(test)]
 mod words;

@@ -5,12 +5,9 @@ use crate::airs::renamed;
 use crate::runs::{CYCLE, air_of};
 use epg_cli::{Status, run_listen, run_play};
 use si_causes::{Failed, Sink, Source};
-use std::alloc::{AllocError, Global};
+use std::alloc::Global;
 use std::cell::Cell;
-use std::marker::Sync;
-use std::sync::Wait;
 use std::test::Fail;
-use std::thread::Threads;
 
 // A source that gives one piece a read, and looks at each read how many bytes a sink has taken.
 #[derive(Drop)]
@@ -128,15 +125,11 @@ fn reports_before_it_reads(alloc: Global, packets: &[&[u8]]) -> bool {
 }
 
 // The same of the air of three swaps, each of a new name.
-fn hears_three<W: Threads + Wait + Sync>(rt: &W, alloc: Global) -> Result<bool, AllocError> {
-    let script = renamed(alloc, &[1, 1, 1])?;
-    let air = air_of(rt, alloc, &script)?;
-    let packets: Vec<&[u8]> = air.chunks(188).collect(alloc)?;
-    Ok(reports_before_it_reads(alloc, &packets))
-}
-
 #[test]
 fn completions_are_reported_before_the_next_packet_is_read(rt: HostRuntime) -> Result<(), Fail> {
-    assert!(rt; hears_three(&rt, rt.alloc())?);
+    let script = renamed(rt.alloc(), &[1, 1, 1])?;
+    let air = air_of(&rt, rt.alloc(), &script)?;
+    let packets: Vec<&[u8]> = air.chunks(188).collect(rt.alloc())?;
+    assert!(rt; reports_before_it_reads(rt.alloc(), &packets));
     Ok(())
 }

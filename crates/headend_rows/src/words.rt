@@ -62,23 +62,19 @@ fn words_that_are_no_command(rt: HostRuntime) -> Result<(), Fail> {
     Ok(())
 }
 
-// Whether `play` sends the one cycle, and reports the journal.
-fn is_played<W: Threads + Wait + Sync>(rt: &W, alloc: Global) -> Result<bool, AllocError> {
-    let input = joined(alloc, &[MUX, STEPS])?;
-    let packets = joined(alloc, &[PACKET, NO_EVENTS])?;
-    let cycle = spelled(alloc, &packets)?;
-    let journal = joined(alloc, &JOURNAL)?;
+// `play` sends the one cycle, and reports the journal.
+#[test]
+fn the_word_play(rt: HostRuntime) -> Result<(), Fail> {
+    let input = joined(rt.alloc(), &[MUX, STEPS])?;
+    let packets = joined(rt.alloc(), &[PACKET, NO_EVENTS])?;
+    let cycle = spelled(rt.alloc(), &packets)?;
+    let journal = joined(rt.alloc(), &JOURNAL)?;
     let left = Left {
         status: Status::Done,
         air: &cycle,
         report: journal.as_bytes(),
     };
-    leaves(rt, alloc, &run_of(PLAY, &input), &left)
-}
-
-#[test]
-fn the_word_play(rt: HostRuntime) -> Result<(), Fail> {
-    assert!(rt; is_played(&rt, rt.alloc())?);
+    assert!(rt; leaves(&rt, rt.alloc(), &run_of(PLAY, &input), &left)?);
     Ok(())
 }
 
