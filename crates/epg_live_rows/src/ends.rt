@@ -14,7 +14,8 @@ fn put_lines(out: &mut String, lines: &str) -> Result<(), AllocError> {
     Ok(())
 }
 
-fn report_of(left: &Left) -> &str {
+/// The report as text.
+pub fn report_of(left: &Left) -> &str {
     str::from_utf8(left.report.taken()).unwrap_or("no UTF-8")
 }
 
@@ -27,10 +28,8 @@ fn last_line(report: &str) -> &str {
     }
 }
 
-// Appends code, packets and these lines.
-fn put_left(out: &mut String, left: &Left, lines: &str) -> Result<(), AllocError> {
-    let (code, packets) = (left.status.code(), left.air.taken().len() / 188);
-    write!(out, "{code}, {packets} packets")?;
+// Appends these lines, where there are some.
+fn put_behind(out: &mut String, lines: &str) -> Result<(), AllocError> {
     if lines.is_empty() {
         return Ok(());
     }
@@ -38,12 +37,45 @@ fn put_left(out: &mut String, left: &Left, lines: &str) -> Result<(), AllocError
     put_lines(out, lines)
 }
 
+// Appends code and packets.
+fn put_sent(out: &mut String, left: &Left) -> Result<(), AllocError> {
+    let (code, packets) = (left.status.code(), left.air.taken().len() / 188);
+    write!(out, "{code}, {packets} packets")
+}
+
 /// Appends code, packets and the last line of the report.
 pub fn put_end(out: &mut String, left: &Left) -> Result<(), AllocError> {
-    put_left(out, left, last_line(report_of(left)))
+    put_sent(out, left)?;
+    put_behind(out, last_line(report_of(left)))
 }
 
 /// Appends code, packets and the whole report.
 pub fn put_whole(out: &mut String, left: &Left) -> Result<(), AllocError> {
-    put_left(out, left, report_of(left))
+    put_sent(out, left)?;
+    put_behind(out, report_of(left))
+}
+
+/// The caller of an entry's line of a report.
+pub fn caller_of(line: &str) -> Option<u32> {
+    let (who, _) = line.split_once(',')?;
+    who.parse::<u32>().ok()
+}
+
+// How many entries of this caller a report has.
+fn entries_of(report: &str, who: u32) -> usize {
+    report
+        .lines()
+        .filter(|line| caller_of(line) == Some(who))
+        .count()
+}
+
+/// Appends code, packets, how many entries the journal has of the callers 0 to 3, and the last line of the report.
+pub fn put_counts(out: &mut String, left: &Left) -> Result<(), AllocError> {
+    put_sent(out, left)?;
+    out.push_str(", entries")?;
+    for who in 0..4 {
+        let entries = entries_of(report_of(left), who);
+        write!(out, " {entries}")?;
+    }
+    put_behind(out, last_line(report_of(left)))
 }

@@ -11,7 +11,8 @@ pub struct Faults {
     pub read: Option<(u64, u64)>,
 }
 
-const NONE: Faults = Faults {
+/// Nothing fails.
+pub const NONE: Faults = Faults {
     input: None,
     air: None,
     report: None,

@@ -6,8 +6,10 @@
 
 mod ends;
 mod faults;
+mod orders;
 mod rows;
 mod run;
+mod weeks;
 
 use std::io;
 

@@ -1,27 +1,94 @@
 // A row and its answer.
-use crate::ends::{put_end, put_whole};
+use crate::ends::{put_counts, put_end, put_whole};
 use crate::faults::faults_of;
-use crate::run::{Left, run_row};
+use crate::orders::tell_order;
+use crate::run::{Given, Left, run_row};
+use crate::weeks::{Week, tell_week};
+use si_causes::OpenGate;
 use std::alloc::{AllocError, Global};
 use std::marker::Sync;
 use std::sync::Wait;
 use std::thread::Threads;
 
-// A run: `WORDS FAULT INPUT ; FEED ; FEED ..`.
-fn left_of<W: Threads + Wait + Sync>(
+// The most runs of a row.
+const MOST: u64 = 64;
+
+// The first word of a row, and what is behind it.
+fn cut(row: &str) -> (&str, &str) {
+    row.split_once(' ').unwrap_or((row, ""))
+}
+
+fn number(word: &str) -> u64 {
+    word.parse::<u64>().unwrap_or(0)
+}
+
+// `INPUT ; FEED ; FEED ..`
+fn given_of<'a>(words: &'a str, piece: usize, texts: &'a str) -> Given<'a> {
+    let (input, feeds) = texts.split_once(" ; ").unwrap_or((texts, ""));
+    Given {
+        words,
+        piece,
+        input,
+        feeds,
+    }
+}
+
+// A run: `WORDS FAULT INPUT ; FEED ; FEED ..`
+fn left_of<W: Threads + Wait + Sync>(rt: &W, alloc: Global, row: &str) -> Result<Left, AllocError> {
+    let (words, row) = cut(row);
+    let (fault, texts) = cut(row);
+    let given = given_of(words, 65_536, texts);
+    run_row(rt, alloc, &given, &faults_of(fault), &OpenGate)
+}
+
+// Runs in which each call of a kind fails in turn, up to one that is done: `KIND PIECE WORDS INPUT ; FEED ; FEED ..`
+fn tell_each<W: Threads + Wait + Sync>(
     rt: &W,
     alloc: Global,
     row: &str,
-) -> Result<Option<Left>, AllocError> {
-    let Some((words, row)) = row.split_once(' ') else {
-        return Ok(None);
-    };
-    let Some((fault, row)) = row.split_once(' ') else {
-        return Ok(None);
-    };
-    let (input, feeds) = row.split_once(" ; ").unwrap_or((row, ""));
-    let left = run_row(rt, alloc, words, &faults_of(fault), input, feeds)?;
-    Ok(Some(left))
+    out: &mut String,
+) -> Result<(), AllocError> {
+    let (kind, row) = cut(row);
+    let (piece, row) = cut(row);
+    let (words, texts) = cut(row);
+    let given = given_of(words, number(piece) as usize, texts);
+    for call in 0..MOST {
+        let fault = format!(in alloc; "{kind}{call}")?;
+        let left = run_row(rt, alloc, &given, &faults_of(fault.as_str()), &OpenGate)?;
+        out.push_str(if call == 0 { "" } else { " | " })?;
+        put_counts(out, &left)?;
+        if left.status.code() == 0 {
+            break;
+        }
+    }
+    Ok(())
+}
+
+// `HOLDS CALLERS WORDS INPUT ; FEED ; FEED ..`
+fn tell_held<W: Threads + Wait + Sync>(
+    rt: &W,
+    alloc: Global,
+    row: &str,
+    out: &mut String,
+) -> Result<(), AllocError> {
+    let (holds, row) = cut(row);
+    let (callers, row) = cut(row);
+    let (words, texts) = cut(row);
+    let given = given_of(words, 65_536, texts);
+    tell_order(rt, alloc, holds, callers, &given, out)
+}
+
+// `SERVICES DAYS EVENTS CYCLES`
+fn week_of(row: &str) -> Week {
+    let (services, row) = cut(row);
+    let (days, row) = cut(row);
+    let (events, cycles) = cut(row);
+    Week {
+        services: number(services),
+        days: number(days),
+        events: number(events),
+        cycles: number(cycles),
+    }
 }
 
 // Appends what a row gives.
@@ -29,15 +96,16 @@ fn tell<W: Threads + Wait + Sync>(
     rt: &W,
     alloc: Global,
     call: &str,
-    text: &str,
+    row: &str,
     out: &mut String,
 ) -> Result<(), AllocError> {
-    let Some(left) = left_of(rt, alloc, text)? else {
-        return out.push_str("no row");
-    };
     match call {
-        "ends" => put_end(out, &left),
-        "reports" => put_whole(out, &left),
+        "ends" => put_end(out, &left_of(rt, alloc, row)?),
+        "reports" => put_whole(out, &left_of(rt, alloc, row)?),
+        "counts" => put_counts(out, &left_of(rt, alloc, row)?),
+        "each" => tell_each(rt, alloc, row, out),
+        "order" => tell_held(rt, alloc, row, out),
+        "week" => tell_week(rt, alloc, &week_of(row), out),
         _ => out.push_str("no row"),
     }
 }
@@ -52,8 +120,8 @@ pub fn told<W: Threads + Wait + Sync>(
     if line.is_empty() || line.starts_with('#') {
         return Ok(out);
     }
-    let (call, text) = line.split_once(' ').unwrap_or((line, ""));
+    let (call, row) = cut(line);
     out.push_str(" = ")?;
-    tell(rt, alloc, call, text, &mut out)?;
+    tell(rt, alloc, call, row, &mut out)?;
     Ok(out)
 }

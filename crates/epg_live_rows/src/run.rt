@@ -1,11 +1,21 @@
 // A run of the top call over sources, sinks and files in memory.
 use crate::faults::Faults;
 use epg_cli::{Status, run};
-use si_causes::{MemOpener, MemSink, MemSource, OpenGate};
+use si_causes::{Gate, MemOpener, MemSink, MemSource};
 use std::alloc::{AllocError, Global};
 use std::marker::Sync;
 use std::sync::Wait;
 use std::thread::Threads;
+
+/// What is run: the words with slashes between, how many bytes a read of the input and a write of the air or of the report move at
+/// most, and the texts of the input and of the feeds, with ` ; ` between these; a slash in a text stands for LF.
+#[derive(Clone, Copy)]
+pub struct Given<'a> {
+    pub words: &'a str,
+    pub piece: usize,
+    pub input: &'a str,
+    pub feeds: &'a str,
+}
 
 /// What a run left: its status, and what the air and the report took.
 #[derive(Drop)]
@@ -42,42 +52,44 @@ fn files_of(alloc: Global, feeds: &str) -> Result<Vec<(String, Vec<u8>)>, AllocE
     Ok(files)
 }
 
-/// Runs the top call with these words, where a slash stands between words; the files are those of the feeds, by the paths 1, 2, ..
-pub fn run_row<W: Threads + Wait + Sync>(
+fn words_of(alloc: Global, text: &str) -> Result<Vec<String>, AllocError> {
+    let mut words = Vec::new(alloc);
+    for word in text.split('/') {
+        words.push(String::from_str(alloc, word)?)?;
+    }
+    Ok(words)
+}
+
+fn opener_of(alloc: Global, given: &Given, faults: &Faults) -> Result<MemOpener, AllocError> {
+    let files = files_of(alloc, given.feeds)?;
+    let openings = failing(alloc, faults.opening)?;
+    Ok(MemOpener::open_with(alloc, files, openings, faults.read))
+}
+
+/// Runs the top call; the files are those of the feeds, by the paths 1, 2, ..
+pub fn run_row<W: Threads + Wait + Sync, G: Gate>(
     rt: &W,
     alloc: Global,
-    words: &str,
+    given: &Given,
     faults: &Faults,
-    input: &str,
-    feeds: &str,
+    gate: &G,
 ) -> Result<Left, AllocError> {
-    let mut spelled = Vec::new(alloc);
-    for word in words.split('/') {
-        spelled.push(String::from_str(alloc, word)?)?;
-    }
-    let mut source = MemSource::open(
-        bytes_of(alloc, input)?,
-        65_536,
-        failing(alloc, faults.input)?,
-    );
-    let files = files_of(alloc, feeds)?;
-    let mut opener = MemOpener::open_with(
-        alloc,
-        files,
-        failing(alloc, faults.opening)?,
-        faults.read,
-    );
-    let mut air = MemSink::open(alloc, 65_536, failing(alloc, faults.air)?);
-    let mut report = MemSink::open(alloc, 65_536, failing(alloc, faults.report)?);
+    let words = words_of(alloc, given.words)?;
+    let bytes = bytes_of(alloc, given.input)?;
+    let piece = given.piece.max(1);
+    let mut source = MemSource::open(bytes, piece, failing(alloc, faults.input)?);
+    let mut opener = opener_of(alloc, given, faults)?;
+    let mut air = MemSink::open(alloc, piece, failing(alloc, faults.air)?);
+    let mut report = MemSink::open(alloc, piece, failing(alloc, faults.report)?);
     let status = run(
         rt,
         alloc,
-        &spelled,
+        &words,
         &mut opener,
         &mut source,
         &mut air,
         &mut report,
-        &OpenGate,
+        gate,
     );
     Ok(Left {
         status,
