@@ -19,7 +19,8 @@ use Rattle.desk_core.specs.Journal.{Command, accepted, accepted_by, entry_after,
 use Rattle.journal_text.specs.declared.script.ScriptItem.{ScriptItem}
 use Rattle.journal_text.specs.declared.script.ScriptItem.TheVariants.{Step as step, Kept, End}
 use Rattle.journal_text.specs.Script.{asked_by, items_ahead}
-use Rattle.journal_text.specs.ScriptLaws.{IsTypedStep, IsTypedScriptItem}
+use Rattle.journal_text.specs.Typed.{IsTypedStep}
+use Rattle.journal_text.specs.ScriptLaws.{IsTypedScriptItem}
 use Rattle.journal_text.proofs.TypedFacts.{items_typed}
 use Rattle.headend_live.specs.Laws.{HasTypedEdits}
 use Rattle.epg_cli.specs.Script.{Stop, commands_of, first_difference, script_of_lines, script_with, stop_of, up_to}
@@ -62,7 +63,7 @@ accepted_one : (s : Step) (outcome : Outcome) → IsTypedStep s → IfSome (acce
 accepted_one (edit feed e) (Edited reply) typed = go (is_done reply)
   where
     go : (done : Bool) → IfSome (if done then Some e else None) IsTypedEdit
-    go true = typed
+    go true = typed.1
     go false = tt
 accepted_one (edit feed e) Ticked typed = tt
 accepted_one (edit feed e) (Late at) typed = tt

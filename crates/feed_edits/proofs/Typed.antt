@@ -4,6 +4,7 @@ use Rattle.std.specs.Prelude.{Option, Some, None, IfSome, if◌then◌else◌, �
 use Rattle.std.specs.List.{AllByRecursion, slice_split}
 use Rattle.std.proofs.lemmas.Bool.{leb-true}
 use Rattle.si_lists.proofs.Truths.{second_true}
+use Rattle.si_lists.proofs.Lists.{all_map}
 use Rattle.si_lists.proofs.Outcomes.{then_some, map_some, if_some, any_some}
 use Rattle.si_text.specs.Decoding.{IsKept}
 use Rattle.guide_model.specs.declared.event.Genre.{Genre}
@@ -15,19 +16,20 @@ use Rattle.feed_edits.specs.declared.edit.Length.{Length}
 use Rattle.feed_edits.specs.declared.edit.DayText.{DayText}
 use Rattle.feed_edits.specs.declared.edit.RawRating.{RawRating}
 use Rattle.feed_edits.specs.declared.edit.Edit.{Edit}
+use Rattle.feed_edits.specs.declared.edit.Edit.TheVariants.{Put, Withdraw, Clear, Name, Day}
 use Rattle.feed_edits.specs.declared.heads.Head.{Head}
 use Rattle.feed_edits.specs.declared.heads.Head.TheVariants.{Whole, OfDay}
 use Rattle.feed_edits.specs.Ahead.{Ahead, Row, Found, Came, Stopped, and_then, first_row, stop_at, missing_at}
 use Rattle.feed_edits.specs.Items.{stamp_of, length_of, day_of, genre_from, genre_of, genres_of, all_some, rating_of, item_with, item_of, item_line}
 use Rattle.feed_edits.specs.Heads.{put_of, withdraw_of, clear_of, name_of, day_head_of, edit_head}
 use Rattle.feed_edits.specs.Edits.{on_line, first_item, items_of, with_items, edit_from, first_edit, and_edits, edits_upto, edits_ahead}
-use Rattle.feed_edits.specs.Back.{HasGenreNumbers}
+use Rattle.feed_edits.specs.Back.{HasGenreNumbers, HasItemNumbers, HasNumbers}
 use Rattle.feed_edits.specs.Typed.{IsTypedItem, IsTypedEdit, IfCame, ReadEditsAreTyped, EditsAheadAreTyped}
 
 -- ---- numbers
 
 -- a number that is spelled is in its range
-number_within : (high : ℕ) (field : List ℕ) → IfSome (number_in 0 high field) (λ (n : ℕ). n ≤ high)
+pub number_within : (high : ℕ) (field : List ℕ) → IfSome (number_in 0 high field) (λ (n : ℕ). n ≤ high)
 number_within high field = go (is_numeral field) (value_from 0 field) (in_range 0 high (value_from 0 field)) refl
   where
     go : (b : Bool) (n : ℕ) (c : Bool) → in_range 0 high n ≡ c → IfSome (if b then (if c then Some n else None) else None) (λ (m : ℕ). m ≤ high)
@@ -118,6 +120,14 @@ item_line-typed : (fields : List (List ℕ)) → AllByRecursion IsKept fields �
 unfolding item_line
 item_line-typed [] kept = tt
 item_line-typed (word ∷ fields) kept = if_some IsTypedItem (is_word (codes "item") word) (item_of fields) None (item_typed fields kept.1) tt
+
+-- what of it is read back from its fields
+pub typed_numbers : (e : Edit) → IsTypedEdit e → HasNumbers e
+typed_numbers (Put service item) typed = (typed.0, typed.1.numbers)
+typed_numbers (Withdraw service event) typed = typed
+typed_numbers (Clear service) typed = typed
+typed_numbers (Name service provider name) typed = typed.0
+typed_numbers (Day service date items) typed = (typed.0, all_map IsTypedItem HasItemNumbers (λ item one. one.numbers) items typed.1)
 
 -- ---- heads
 

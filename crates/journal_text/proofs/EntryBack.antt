@@ -18,8 +18,10 @@ use Rattle.feed_edits.specs.Ahead.{Ahead, Row, Tail, Came, and_then}
 use Rattle.feed_edits.specs.Edits.{on_line, read_edit}
 use Rattle.feed_edits.specs.Items.{IsShapedItem}
 use Rattle.feed_edits.specs.Heads.{IsShaped}
-use Rattle.feed_edits.specs.Back.{HaveFields, HasItemNumbers, edit_fields, item_rows}
+use Rattle.feed_edits.specs.Back.{HaveFields, edit_fields, item_rows}
+use Rattle.feed_edits.specs.Typed.{IsTypedItem, IsTypedEdit}
 use Rattle.feed_edits.proofs.Back.{edits_read_back, number_back}
+use Rattle.feed_edits.proofs.Typed.{typed_numbers}
 use Rattle.desk_core.specs.declared.step.Step.{Step}
 use Rattle.desk_core.specs.declared.step.Step.TheVariants.{Edit as edit, Tick, Publish, Swap}
 use Rattle.desk_core.specs.declared.step.Outcome.{Outcome}
@@ -30,7 +32,8 @@ use Rattle.journal_text.specs.declared.script.ScriptItem.TheVariants.{Step as st
 use Rattle.journal_text.specs.Edits.{line_text, item_text, item_row, items_of}
 use Rattle.journal_text.specs.Entries.{step_fields, step_items, entry_text}
 use Rattle.journal_text.specs.Script.{feed_of, feed_command, short_step, command_with, command_of_caller, command_by, read_command, kept_in, kept_item, step_item, read_item, item_on, first_script_item, IsShapedStep}
-use Rattle.journal_text.specs.Back.{IsNumeralNumber, IsRow, IsShort, IsTypedStep, IsTypedEdit, item_texts, command_row, outcome_row, row_line, shown_lines, ahead_of, command_lines, IsReadableOutcome, IsWritableOutcome, EntriesReadBack}
+use Rattle.journal_text.specs.Typed.{IsTypedStep}
+use Rattle.journal_text.specs.Back.{IsNumeralNumber, IsRow, IsShort, command_row, outcome_row, row_line, shown_lines, ahead_of, command_lines, IsReadableOutcome, IsWritableOutcome, EntriesReadBack}
 use Rattle.journal_text.proofs.RowBack.{rows_read_back}
 use Rattle.journal_text.proofs.OutcomeBack.{outcome_back, numeral_back, moment_back, digits_of, low}
 use Rattle.journal_text.proofs.EntryRows.{outcome_front, outcome_row_kept, outcome_line, readable_written}
@@ -110,7 +113,7 @@ edit_reads who n feed e rows more tail h le k have =
     let number : feed_of fields ≡ Some feed = number_back feed 255 le (omega arith) in
     ap (λ o. command_with who n o fields a) (feed_short (decimal feed) (edit_fields e))
     ∙ ap (λ o. and_then (on_line n o a) (λ f more. feed_command who f (read_edit n (edit_fields e) more))) number
-    ∙ ap (feed_command who feed) (edits_read_back e h k.numbers n rows more tail have)
+    ∙ ap (feed_command who feed) (edits_read_back e h (typed_numbers e k) n rows more tail have)
 
 caller_reads : (who n : ℕ) (fields : List (List ℕ)) (a : Ahead) → IsNumeralNumber who → read_command n (decimal who ∷ fields) a ≡ command_of_caller who n fields a
 caller_reads who n fields a h = ap (λ o. command_by o n (decimal who ∷ fields) a) (numeral_back who h)
@@ -151,16 +154,16 @@ outcome_is_row o h short = record { front = outcome_front o; kept = outcome_row_
 command_is_row : (who : ℕ) (s : Step) → IsNumeralNumber who → IsShapedStep s → IsStepWithin s → IsTypedStep s → IsShort (command_row who s) → IsRow (command_row who s)
 command_is_row who s w h i k short = record { front = command_front who s (low who w); kept = command_kept who s (low who w) h i k; short = short }
 
-items_are_rows : (items : List Item) → AllByRecursion IsShapedItem items → AllByRecursion HasItemNumbers items → AllByRecursion (λ (item : Item). AllByRecursion IsKept (item_texts item)) items → AllByRecursion (λ (item : Item). IsShort (item_row item)) items → AreRows items
-items_are_rows [] h k t s = tt
-items_are_rows (item ∷ items) h k t s = (record { front = (refl, refl); kept = item_row_kept item h.0 k.0 t.0; short = s.0 }, items_are_rows items h.1 k.1 t.1 s.1)
+items_are_rows : (items : List Item) → AllByRecursion IsShapedItem items → AllByRecursion IsTypedItem items → AllByRecursion (λ (item : Item). IsShort (item_row item)) items → AreRows items
+items_are_rows [] h t s = tt
+items_are_rows (item ∷ items) h t s = (record { front = (refl, refl); kept = item_row_kept item h.0 t.0; short = s.0 }, items_are_rows items h.1 t.1 s.1)
 
 step_rows : (s : Step) → IsShapedStep s → IsTypedStep s → AllByRecursion (λ (item : Item). IsShort (item_row item)) (step_items s) → AreRows (step_items s)
 step_rows (edit feed (Put service item)) h k s = tt
 step_rows (edit feed (Withdraw service event)) h k s = tt
 step_rows (edit feed (Clear service)) h k s = tt
 step_rows (edit feed (Name service provider name)) h k s = tt
-step_rows (edit feed (Day service day items)) h k s = items_are_rows items (recursion_from_All IsShapedItem items h.items) k.1.numbers.1 k.1.items s
+step_rows (edit feed (Day service day items)) h k s = items_are_rows items (recursion_from_All IsShapedItem items h.items) k.1.1 s
 step_rows (Tick at) h k s = tt
 step_rows Publish h k s = tt
 step_rows Swap h k s = tt

@@ -14,14 +14,16 @@ use Rattle.feed_edits.specs.declared.edit.Edit.{Edit}
 use Rattle.feed_edits.specs.declared.edit.Edit.TheVariants.{Put, Withdraw, Clear, Name, Day}
 use Rattle.feed_edits.specs.Items.{IsShapedItem}
 use Rattle.feed_edits.specs.Heads.{IsShaped}
-use Rattle.feed_edits.specs.Back.{genre_field, genres_field, rating_field, item_fields, edit_fields, HasGenreNumbers, HasItemNumbers}
+use Rattle.feed_edits.specs.Back.{genre_field, genres_field, rating_field, item_fields, edit_fields, country_field, HasGenreNumbers}
+use Rattle.feed_edits.specs.Typed.{IsTypedItem, IsTypedEdit}
 use Rattle.desk_core.specs.declared.step.Step.{Step}
 use Rattle.desk_core.specs.declared.step.Step.TheVariants.{Edit as edit, Tick, Publish, Swap}
 use Rattle.desk_core.specs.Steps.{IsStepWithin}
 use Rattle.journal_text.specs.Edits.{item_row}
 use Rattle.journal_text.specs.Entries.{step_fields}
 use Rattle.journal_text.specs.Script.{IsShapedStep}
-use Rattle.journal_text.specs.Back.{IsFront, IsFronted, IsTypedEdit, IsTypedStep, item_texts, command_row}
+use Rattle.journal_text.specs.Back.{IsFront, IsFronted, command_row}
+use Rattle.journal_text.specs.Typed.{IsTypedStep}
 use Rattle.journal_text.proofs.OutcomeBack.{digits_of, decimal_some, small}
 use Rattle.journal_text.proofs.EntryRows.{is_printing, is_written, printing_kept, digits_printing, shape_written, written_kept, moment_written, number_kept}
 
@@ -51,23 +53,28 @@ value_kept : (r : Option RawRating) → IfSome r (λ x. x.value ≤ 255) → IsK
 value_kept None h = written_kept [] refl
 value_kept (Some r) h = small_kept r.value 255 h (omega arith)
 
-pub item_kept : (item : Item) → IsShapedItem item → HasItemNumbers item → AllByRecursion IsKept (item_texts item) → AllByRecursion IsKept (item_fields item)
-item_kept item h k t =
-    (small_kept item.id 65535 k.id (omega arith), (written_kept item.start.0 (shape_written (codes "dddd-dd-ddTdd:dd:ddZ") item.start.0 refl h.start), (written_kept item.length.0 (shape_written (codes "dd:dd:dd") item.length.0 refl h.length), (t.0, (t.1.0, (t.1.1.0, (t.1.1.1.0, (t.1.1.1.1.0, (value_kept item.rating k.rating, (genres_kept item.genres k.genres, tt))))))))))
+country_kept : (r : Option RawRating) → IfSome r (λ x. IsKept x.country) → IsKept (country_field r)
+country_kept None h = written_kept [] refl
+country_kept (Some r) h = h
+
+pub item_kept : (item : Item) → IsShapedItem item → IsTypedItem item → AllByRecursion IsKept (item_fields item)
+item_kept item h t =
+    let k = t.numbers in
+    (small_kept item.id 65535 k.id (omega arith), (written_kept item.start.0 (shape_written (codes "dddd-dd-ddTdd:dd:ddZ") item.start.0 refl h.start), (written_kept item.length.0 (shape_written (codes "dd:dd:dd") item.length.0 refl h.length), (t.language, (t.name, (t.short, (t.extended, (country_kept item.rating t.country, (value_kept item.rating k.rating, (genres_kept item.genres k.genres, tt))))))))))
 
 word_kept : (word : List ℕ) → list_all is_written word ≡ true → IsKept word
 word_kept = written_kept
 
-pub item_row_kept : (item : Item) → IsShapedItem item → HasItemNumbers item → AllByRecursion IsKept (item_texts item) → AllByRecursion IsKept (item_row item)
-item_row_kept item h k t = (word_kept (codes "item") refl, item_kept item h k t)
+pub item_row_kept : (item : Item) → IsShapedItem item → IsTypedItem item → AllByRecursion IsKept (item_row item)
+item_row_kept item h t = (word_kept (codes "item") refl, item_kept item h t)
 
 edit_kept : (e : Edit) → IsShaped e → IsTypedEdit e → AllByRecursion IsKept (edit_fields e)
-edit_kept (Put service item) h k = (word_kept (codes "put") refl, (small_kept service 65535 k.numbers.0 (omega arith), item_kept item h k.numbers.1 k.texts))
-edit_kept (Withdraw service event) h k = (word_kept (codes "withdraw") refl, (small_kept service 65535 k.numbers.0 (omega arith), (small_kept event 65535 k.numbers.1 (omega arith), tt)))
-edit_kept (Clear service) h k = (word_kept (codes "clear") refl, (small_kept service 65535 k.numbers (omega arith), tt))
-edit_kept (Name service provider name) h k = (word_kept (codes "name") refl, (small_kept service 65535 k.numbers (omega arith), k.texts))
+edit_kept (Put service item) h k = (word_kept (codes "put") refl, (small_kept service 65535 k.0 (omega arith), item_kept item h k.1))
+edit_kept (Withdraw service event) h k = (word_kept (codes "withdraw") refl, (small_kept service 65535 k.0 (omega arith), (small_kept event 65535 k.1 (omega arith), tt)))
+edit_kept (Clear service) h k = (word_kept (codes "clear") refl, (small_kept service 65535 k (omega arith), tt))
+edit_kept (Name service provider name) h k = (word_kept (codes "name") refl, (small_kept service 65535 k.0 (omega arith), (k.1, (k.2, tt))))
 edit_kept (Day service day items) h k =
-    (word_kept (codes "day") refl, (small_kept service 65535 k.numbers.0 (omega arith), (written_kept day.0 (shape_written (codes "dddd-dd-dd") day.0 refl h.day), (small_kept (length items) 2000 h.count (omega arith), tt))))
+    (word_kept (codes "day") refl, (small_kept service 65535 k.0 (omega arith), (written_kept day.0 (shape_written (codes "dddd-dd-dd") day.0 refl h.day), (small_kept (length items) 2000 h.count (omega arith), tt))))
 
 step_kept : (s : Step) → IsShapedStep s → IsStepWithin s → IsTypedStep s → AllByRecursion IsKept (step_fields s)
 step_kept (edit feed e) h w k = (word_kept (codes "feed") refl, (small_kept feed 255 k.0 (omega arith), edit_kept e h k.1))

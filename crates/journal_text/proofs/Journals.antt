@@ -24,8 +24,10 @@ use Rattle.feed_edits.specs.declared.edit.Edit.{Edit}
 use Rattle.feed_edits.specs.declared.edit.Edit.TheVariants.{Put, Withdraw, Clear, Name, Day}
 use Rattle.feed_edits.specs.Items.{all_some, item_of, item_line, IsShapedItem}
 use Rattle.feed_edits.specs.Heads.{IsShaped}
-use Rattle.feed_edits.specs.Back.{HasNumbers, HasItemNumbers, edit_fields}
+use Rattle.feed_edits.specs.Back.{HasNumbers, edit_fields}
+use Rattle.feed_edits.specs.Typed.{IsTypedItem}
 use Rattle.feed_edits.proofs.Back.{number_back, item_back, item_line_back}
+use Rattle.feed_edits.proofs.Typed.{typed_numbers}
 use Rattle.desk_core.specs.declared.step.Step.{Step}
 use Rattle.desk_core.specs.declared.step.Step.TheVariants.{Edit as edit, Tick, Publish, Swap}
 use Rattle.desk_core.specs.declared.step.Outcome.{Outcome}
@@ -38,7 +40,8 @@ use Rattle.journal_text.specs.Entries.{step_fields, step_items, entry_text, jour
 use Rattle.journal_text.specs.Outcomes.{field_fields, day_fault_fields, outcome_fields}
 use Rattle.journal_text.specs.Kept.{event_word, other_word, or_else}
 use Rattle.journal_text.specs.Script.{short_step, feed_of, IsShapedStep}
-use Rattle.journal_text.specs.Back.{IsFronted, IsTypedStep, IsWritableOutcome, IsOfLines, item_texts, command_row, outcome_row, row_line, field_numbers, day_fault_numbers, BeginsNoEntry, JournalsDiffer, JournalsEnd}
+use Rattle.journal_text.specs.Typed.{IsTypedStep}
+use Rattle.journal_text.specs.Back.{IsFronted, IsWritableOutcome, IsOfLines, command_row, outcome_row, row_line, field_numbers, day_fault_numbers, BeginsNoEntry, JournalsDiffer, JournalsEnd}
 use Rattle.journal_text.proofs.CleanRows.{row_clean, all_clean, clean_inner, line_first}
 use Rattle.journal_text.proofs.RowBack.{fields_back}
 use Rattle.journal_text.proofs.OutcomeBack.{value_back, small, moment_back, digits_of, decimal_some}
@@ -64,25 +67,25 @@ row_in fields rest front kept =
 
 -- items that can stand on lines
 abbrev pub AreItems : List Item → Type 0
-AreItems items = AllByRecursion (λ (item : Item). IsShapedItem item × HasItemNumbers item × AllByRecursion IsKept (item_texts item)) items
+AreItems items = AllByRecursion (λ (item : Item). IsShapedItem item × IsTypedItem item) items
 
 items_in : (items : List Item) (rest : List ℕ) → AreItems items → rows_in (flat_map item_text items ++ rest) ≡ map item_row items ++ rows_in rest
 items_in [] rest h = refl
 items_in (item ∷ items) rest h =
     ap rows_in (append_assoc (item_text item) (flat_map item_text items) rest)
-    ∙ row_in (item_row item) (flat_map item_text items ++ rest) (refl, refl) (item_row_kept item h.0.0 h.0.1 h.0.2)
+    ∙ row_in (item_row item) (flat_map item_text items ++ rest) (refl, refl) (item_row_kept item h.0.0 h.0.1)
     ∙ ap (λ (l : List Row). item_row item ∷ l) (items_in items rest h.1)
 
-items_fit : (items : List Item) → AllByRecursion IsShapedItem items → AllByRecursion HasItemNumbers items → AllByRecursion (λ (item : Item). AllByRecursion IsKept (item_texts item)) items → AreItems items
-items_fit [] h k t = tt
-items_fit (item ∷ items) h k t = ((h.0, k.0, t.0), items_fit items h.1 k.1 t.1)
+items_fit : (items : List Item) → AllByRecursion IsShapedItem items → AllByRecursion IsTypedItem items → AreItems items
+items_fit [] h t = tt
+items_fit (item ∷ items) h t = ((h.0, t.0), items_fit items h.1 t.1)
 
 step_fit : (s : Step) → IsShapedStep s → IsTypedStep s → AreItems (step_items s)
 step_fit (edit feed (Put service item)) h k = tt
 step_fit (edit feed (Withdraw service event)) h k = tt
 step_fit (edit feed (Clear service)) h k = tt
 step_fit (edit feed (Name service provider name)) h k = tt
-step_fit (edit feed (Day service day items)) h k = items_fit items (recursion_from_All IsShapedItem items h.items) k.1.numbers.1 k.1.items
+step_fit (edit feed (Day service day items)) h k = items_fit items (recursion_from_All IsShapedItem items h.items) k.1.1
 step_fit (Tick at) h k = tt
 step_fit Publish h k = tt
 step_fit Swap h k = tt
@@ -139,7 +142,7 @@ edit_from (word ∷ fields) rows =
 items_from : (items : List Item) → AreItems items → all_some (map item_line (map item_row items)) ≡ Some items
 items_from [] h = refl
 items_from (item ∷ items) h =
-    rw (item_line_back item h.0.0 h.0.1, items_from items h.1) refl
+    rw (item_line_back item h.0.0 h.0.1.numbers, items_from items h.1) refl
 
 id_back : (n : ℕ) → n ≤ 65535 → value_from 0 (decimal n) ≡ n
 id_back n le = value_back n (small n le)
@@ -186,7 +189,7 @@ step_back (edit feed e) h w k =
     let number : feed_of (step_fields (edit feed e)) ≡ Some feed = number_back feed 255 k.0 (omega arith) in
     ap (λ o. step_with o (feed_of (step_fields (edit feed e))) (edit_from (edit_fields e) rows)) (feed_short (decimal feed) (edit_fields e))
     ∙ ap (λ o. step_with None o (edit_from (edit_fields e) rows)) number
-    ∙ ap (step_with None (Some feed)) (edit_back e h k.1.numbers (step_fit (edit feed e) h k))
+    ∙ ap (step_with None (Some feed)) (edit_back e h (typed_numbers e k.1) (step_fit (edit feed e) h k))
 step_back (Tick at) h w k = ap (λ o. step_with o (feed_of (step_fields (Tick at))) (edit_from (drop 2 (step_fields (Tick at))) [])) (tick_short at w)
 step_back Publish h w k = ap (λ o. step_with o (feed_of (step_fields Publish)) (edit_from (drop 2 (step_fields Publish)) [])) publish_short
 step_back Swap h w k = ap (λ o. step_with o (feed_of (step_fields Swap)) (edit_from (drop 2 (step_fields Swap)) [])) swap_short

@@ -1,14 +1,15 @@
 -- The edits of a script's items have numbers as wide as their fields, and texts that may be kept.
 use Rattle.std.proofs.Common.{ℕ, zero, suc, Bool, true, false, List, [], ◌∷◌, length}
-use Rattle.std.specs.Prelude.{Option, Some, None, IfSome, option_map, drop, if◌then◌else◌}
+use Rattle.std.specs.Prelude.{◌≤◌, Option, Some, None, IfSome, option_map, drop, codes, if◌then◌else◌}
 use Rattle.std.specs.List.{AllByRecursion}
 use Rattle.si_lists.proofs.Outcomes.{map_some, if_some, any_some}
 use Rattle.si_text.specs.Decoding.{IsKept}
 use Rattle.input_lines.specs.Fields.{record_of}
+use Rattle.input_lines.specs.Numbers.{is_word, number_in}
 use Rattle.feed_edits.specs.Ahead.{Ahead, Row, Found, Came, Stopped, first_row, stop_at}
 use Rattle.feed_edits.specs.Edits.{on_line, read_edit}
 use Rattle.feed_edits.specs.Typed.{IsTypedEdit, IfCame}
-use Rattle.feed_edits.proofs.Typed.{record_kept, read_typed, then_came, any_came, line_came}
+use Rattle.feed_edits.proofs.Typed.{number_within, record_kept, read_typed, then_came, any_came, line_came}
 use Rattle.desk_core.specs.declared.control.Control.{Control}
 use Rattle.desk_core.specs.declared.control.Control.TheVariants.{Tick as tick, Publish as publish}
 use Rattle.desk_core.specs.declared.step.Step.{Step}
@@ -18,7 +19,8 @@ use Rattle.desk_core.specs.Journal.{Command}
 use Rattle.desk_core.specs.Controls.{control_of}
 use Rattle.journal_text.specs.declared.script.ScriptItem.{ScriptItem}
 use Rattle.journal_text.specs.Script.{is_swap, control_step, short_step, feed_of, command_with, caller_of, command_by, read_command, is_outcome_line, kept_in, kept_item, step_item, read_item, first_script_item, is_command, and_items, items_upto, items_ahead}
-use Rattle.journal_text.specs.ScriptLaws.{IsTypedStep, IsTypedScriptItem, ItemsAreTyped}
+use Rattle.journal_text.specs.Typed.{IsTypedStep}
+use Rattle.journal_text.specs.ScriptLaws.{IsTypedScriptItem, ItemsAreTyped}
 
 abbrev IsTypedCommand : Command → Type 0
 IsTypedCommand command = IsTypedStep command.1
@@ -32,6 +34,15 @@ short_typed fields =
     if_some IsTypedStep (is_swap fields) (Some Swap) (option_map control_step (control_of fields)) tt
     (map_some (λ (c : Control). Unit {0}) IsTypedStep control_step (control_of fields) (any_some (control_of fields)) (λ c any. control_typed c))
 
+abbrev IsFeed : ℕ → Type 0
+IsFeed feed = feed ≤ 255
+
+-- the number of a feed has 8 bits
+feed_typed : (fields : List (List ℕ)) → IfSome (feed_of fields) IsFeed
+feed_typed [] = tt
+feed_typed (word ∷ []) = tt
+feed_typed (word ∷ feed ∷ fields) = if_some IsFeed (is_word (codes "feed") word) (number_in 0 255 feed) None (number_within 255 feed) tt
+
 -- what holds of all fields holds of those behind the first ones
 all_drop : (n : ℕ) (fields : List (List ℕ)) → AllByRecursion IsKept fields → AllByRecursion IsKept (drop n fields)
 all_drop zero fields kept = kept
@@ -42,8 +53,8 @@ command_typed : (who n : ℕ) (short : Option Step) (fields : List (List ℕ)) (
     → IfCame IsTypedCommand (command_with who n short fields behind)
 command_typed who n (Some short) fields behind typed kept = typed
 command_typed who n None fields behind typed kept =
-    then_came (λ (feed : ℕ). Unit {0}) IsTypedCommand (on_line n (feed_of fields) behind) _ (line_came (λ (feed : ℕ). Unit {0}) n (feed_of fields) behind (any_some (feed_of fields)))
-    (λ feed more any. then_came IsTypedEdit IsTypedCommand (read_edit n (drop 2 fields) more) _ (read_typed n (drop 2 fields) more (all_drop 2 fields kept)) (λ e rest typed. typed))
+    then_came IsFeed IsTypedCommand (on_line n (feed_of fields) behind) _ (line_came IsFeed n (feed_of fields) behind (feed_typed fields))
+    (λ feed more le. then_came IsTypedEdit IsTypedCommand (read_edit n (drop 2 fields) more) _ (read_typed n (drop 2 fields) more (all_drop 2 fields kept)) (λ e rest typed. (le, typed)))
 
 caller_typed : (who : Option ℕ) (n : ℕ) (fields : List (List ℕ)) (behind : Ahead) → AllByRecursion IsKept fields → IfCame IsTypedCommand (command_by who n fields behind)
 caller_typed (Some who) n fields behind kept = command_typed who n (short_step (drop 1 fields)) (drop 1 fields) behind (short_typed (drop 1 fields)) (all_drop 1 fields kept)

@@ -16,18 +16,15 @@ use Rattle.feed_book.specs.declared.reply.Reply.TheVariants.{Done, Foreign, Rang
 use Rattle.desk_core.specs.declared.step.Outcome.{Outcome}
 use Rattle.desk_core.specs.declared.step.Outcome.TheVariants.{Edited, Ticked, Late, Published, Swapped}
 use Rattle.feed_edits.specs.declared.edit.Item.{Item}
-use Rattle.feed_edits.specs.declared.edit.Edit.{Edit}
-use Rattle.feed_edits.specs.declared.edit.Edit.TheVariants.{Put, Withdraw, Clear, Name as Named, Day}
 use Rattle.feed_edits.specs.Ahead.{Ahead, Tail, Came}
-use Rattle.feed_edits.specs.Back.{HasNumbers, country_field}
 use Rattle.desk_core.specs.declared.step.Step.{Step}
-use Rattle.desk_core.specs.declared.step.Step.TheVariants.{Edit as edit, Tick, Publish, Swap}
 use Rattle.desk_core.specs.declared.step.Entry.{Entry}
 use Rattle.desk_core.specs.Steps.{IsStepWithin}
 use Rattle.journal_text.specs.declared.script.ScriptItem.TheVariants.{Step as step, Kept}
-use Rattle.journal_text.specs.Edits.{line_text, items_of, item_row}
+use Rattle.journal_text.specs.Edits.{line_text, item_row}
 use Rattle.journal_text.specs.Entries.{step_fields, step_items, entry_text, journal_text}
 use Rattle.journal_text.specs.Script.{first_script_item, IsShapedStep}
+use Rattle.journal_text.specs.Typed.{IsTypedStep}
 use Rattle.journal_text.specs.Outcomes.{outcome_text, outcome_fields, with_commas, IsInWindow}
 use Rattle.journal_text.specs.Kept.{outcome_of_fields}
 
@@ -121,29 +118,6 @@ abbrev pub OutcomesAreFields : Type 0
 OutcomesAreFields = (outcome : Outcome) → outcome_text outcome ≡ with_commas (outcome_fields outcome)
 
 -- ---- entries
-
--- the texts of an item that may be any texts
-abbrev pub item_texts : Item → List (List ℕ)
-item_texts item = item.language ∷ item.name ∷ item.short ∷ item.extended ∷ country_field item.rating ∷ []
-
-abbrev pub edit_texts : Edit → List (List ℕ)
-edit_texts (Put service item) = item_texts item
-edit_texts (Withdraw service event) = []
-edit_texts (Clear service) = []
-edit_texts (Named service provider name) = provider ∷ name ∷ []
-edit_texts (Day service day items) = []
-
--- an edit as its type has it: numbers of 8 and 16 bits, and texts without a control character
-pub record IsTypedEdit (e : Edit) : Type 0 where
-  pub numbers : HasNumbers e
-  pub texts : AllByRecursion IsKept (edit_texts e)
-  pub items : AllByRecursion (λ (item : Item). AllByRecursion IsKept (item_texts item)) (items_of e)
-
-abbrev pub IsTypedStep : Step → Type 0
-IsTypedStep (edit feed e) = (feed ≤ 255) × IsTypedEdit e
-IsTypedStep (Tick at) = Unit {0}
-IsTypedStep Publish = Unit {0}
-IsTypedStep Swap = Unit {0}
 
 abbrev pub command_row : ℕ → Step → List (List ℕ)
 command_row who s = decimal who ∷ step_fields s

@@ -3,6 +3,7 @@ pub mod Outcomes
 pub mod Entries
 pub mod Kept
 pub mod Script
+pub mod Typed
 pub mod ScriptReads
 pub mod ScriptLaws
 pub mod Back

@@ -1,31 +1,23 @@
 -- How the items of a script go on, and what their edits have.
 use Rattle.std.specs.Prelude.{◌≡◌, Bool}
 use Rattle.std.specs.List.{AllByRecursion}
-use Rattle.feed_edits.specs.Typed.{IsTypedEdit}
 use Rattle.feed_edits.specs.Ahead.{Ahead}
-use Rattle.desk_core.specs.declared.step.Step.{Step}
-use Rattle.desk_core.specs.declared.step.Step.TheVariants.{Edit as edit, Tick, Publish, Swap}
 use Rattle.journal_text.specs.declared.script.ScriptItem.{ScriptItem}
 use Rattle.journal_text.specs.declared.script.ScriptItem.TheVariants.{Step as step, Kept, End}
 use Rattle.journal_text.specs.Script.{first_script_item, and_items, items_ahead}
+use Rattle.journal_text.specs.Typed.{IsTypedStep}
 
 -- The items ahead are the first of them and those of what is ahead behind it, whatever stands behind the lines: the end, more
 -- than a text may have, or a read that failed.
 abbrev pub ItemsGoOn : Type 0
 ItemsGoOn = (after : Bool) (lines : Ahead) → items_ahead after lines ≡ and_items (first_script_item after lines) items_ahead
 
--- The edit of a step has numbers as wide as their fields, and texts that may be kept.
-abbrev pub IsTypedStep : Step → Type 0
-IsTypedStep (edit feed e) = IsTypedEdit e
-IsTypedStep (Tick at) = Unit {0}
-IsTypedStep Publish = Unit {0}
-IsTypedStep Swap = Unit {0}
-
+-- an item whose step is typed
 abbrev pub IsTypedScriptItem : ScriptItem → Type 0
 IsTypedScriptItem (step who s) = IsTypedStep s
 IsTypedScriptItem (Kept n outcome) = Unit {0}
 IsTypedScriptItem End = Unit {0}
 
--- So has each edit of the items ahead.
+-- So is each of the items ahead.
 abbrev pub ItemsAreTyped : Type 0
 ItemsAreTyped = (after : Bool) (lines : Ahead) → AllByRecursion IsTypedScriptItem (items_ahead after lines).0
