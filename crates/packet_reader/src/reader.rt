@@ -74,7 +74,7 @@ fn gather<S: Source>(source: &mut S, held: &mut ReadBuffer<BUFFER>) -> Result<()
 fn begins_with_packet(bytes: &[u8]) -> bool
     ensures { result ≡ is_packet (take 188 bytes.now) }
 {
-    bytes.len() >= PACKET && bytes[0] == 0x47
+    bytes.len() >= 188 && bytes[0] == 0x47
 }
 
 impl<S: Source> PacketReader<S> {

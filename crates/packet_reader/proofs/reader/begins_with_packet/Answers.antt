@@ -9,8 +9,8 @@ below bytes lt =
     let short : nat_le 188 (length bytes) ≡ false = grind (arith, nat_tests) in
     short ∙ sym (short_piece bytes lt)
 
-pub returns-then-bytes-ge-PACKET : goal.returns-then-bytes-ge-PACKET
-returns-then-bytes-ge-PACKET c = sym (whole_piece c.args.bytes.now c.if-bytes-ge-PACKET.true)
+pub returns-then-bytes-ge188 : goal.returns-then-bytes-ge188
+returns-then-bytes-ge188 c = sym (whole_piece c.args.bytes.now c.if-bytes-ge188.true)
 
-pub returns-else-bytes-ge-PACKET : goal.returns-else-bytes-ge-PACKET
-returns-else-bytes-ge-PACKET c = below c.args.bytes.now c.if-bytes-ge-PACKET.false
+pub returns-else-bytes-ge188 : goal.returns-else-bytes-ge188
+returns-else-bytes-ge188 c = below c.args.bytes.now c.if-bytes-ge188.false
