@@ -1,6 +1,7 @@
 // content_descriptor.
-ghost use Rattle.std.specs.Prelude.{◌≡◌, ◌*◌, ◌≤◌, ◌++◌, length, IfOk, OnOk, OnErr, vec_len, vec_capacity, ◌+◌};
+ghost use Rattle.std.specs.Prelude.{◌≡◌, ◌*◌, ◌≤◌, ◌++◌, length, IfOk, OnOk, OnErr, ◌+◌};
 ghost use Rattle.std.specs.List.{All};
+ghost use Rattle.si_base.specs.Room.{Appended, HasRoom};
 ghost use Rattle.desc_event.specs.Content.{content, content_in, HasNibbles};
 
 use guide_model::{Genre, Genres};
@@ -27,10 +28,8 @@ pub fn write_content(genres: &[Genre], out: &mut Vec<u8>) -> Result<(), AllocErr
 pub(crate) fn put_content(genres: &[Genre], out: &mut Vec<u8>)
     requires levels { All HasNibbles genres.now }
     requires length { 2 * length genres.now ≤ 255 }
-    requires room { vec_len out.old + (2 + 2 * length genres.now) ≤ vec_capacity out.old }
-    ensures items { out.new.items ≡ out.old.items ++ content genres.now }
-    ensures len { vec_len out.new ≡ vec_len out.old + (2 + 2 * length genres.now) }
-    ensures capacity { vec_capacity out.old ≤ vec_capacity out.new }
+    requires room { HasRoom out.old (2 + 2 * length genres.now) }
+    ensures { Appended out.old out.new (content genres.now) }
 {
     put(out, &[TAG, 2 * genres.len() as u8]);
     for genre in genres {

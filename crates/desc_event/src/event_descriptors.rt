@@ -1,8 +1,9 @@
 // The descriptors of an event.
-ghost use Rattle.std.specs.Prelude.{◌≡◌, ◌+◌, ◌<◌, ◌≤◌, ◌∷◌, ◌++◌, length, OnOk, OnErr, vec_len, vec_capacity, IsUtf8};
+ghost use Rattle.std.specs.Prelude.{◌≡◌, ◌+◌, ◌<◌, ◌≤◌, ◌∷◌, ◌++◌, length, OnOk, OnErr, IsUtf8};
+ghost use Rattle.std.specs.List.{All};
+ghost use Rattle.si_base.specs.Room.{Appended, HasRoom};
 ghost use Rattle.si_text.specs.Coding.{coded_size};
 ghost use Rattle.si_text.specs.Cutting.{pieces};
-ghost use Rattle.std.specs.List.{All};
 ghost use Rattle.desc_event.specs.Content.{HasNibbles};
 ghost use Rattle.desc_event.specs.EventDescriptors.{event_descriptors, extended_events, content_of, rating_of, entry_size, IsWithinLimits};
 
@@ -77,10 +78,8 @@ fn genres_len(genres: &[Genre]) -> usize
 fn put_genres(genres: &[Genre], out: &mut Vec<u8>)
     requires length { length genres.now ≤ 8 }
     requires levels { All HasNibbles genres.now }
-    requires room { vec_len out.old + length (content_of genres.now) ≤ vec_capacity out.old }
-    ensures items { out.new.items ≡ out.old.items ++ content_of genres.now }
-    ensures len { vec_len out.new ≡ vec_len out.old + length (content_of genres.now) }
-    ensures capacity { vec_capacity out.old ≤ vec_capacity out.new }
+    requires room { HasRoom out.old (length (content_of genres.now)) }
+    ensures { Appended out.old out.new (content_of genres.now) }
 {
     if !genres.is_empty() {
         put_content(genres, out);
@@ -98,10 +97,8 @@ fn rating_len(rating: Option<Rating>) -> usize
 }
 
 fn put_rating(rating: Option<Rating>, out: &mut Vec<u8>)
-    requires room { vec_len out.old + length (rating_of rating) ≤ vec_capacity out.old }
-    ensures items { out.new.items ≡ out.old.items ++ rating_of rating }
-    ensures len { vec_len out.new ≡ vec_len out.old + length (rating_of rating) }
-    ensures capacity { vec_capacity out.old ≤ vec_capacity out.new }
+    requires room { HasRoom out.old (length (rating_of rating)) }
+    ensures { Appended out.old out.new (rating_of rating) }
 {
     if let Some(rating) = rating {
         put_parental_rating(&[rating], out);
@@ -156,10 +153,8 @@ fn piece_count(text: &str) -> u8
 // Appends the extended_event descriptors of a text to a buffer that has room for them.
 fn put_extended_events(language: &[u8; 3], text: &str, out: &mut Vec<u8>)
     requires length { length text.now ≤ 1000 }
-    requires room { vec_len out.old + length (extended_events language.now text.now) ≤ vec_capacity out.old }
-    ensures items { out.new.items ≡ out.old.items ++ extended_events language.now text.now }
-    ensures len { vec_len out.new ≡ vec_len out.old + length (extended_events language.now text.now) }
-    ensures capacity { vec_capacity out.old ≤ vec_capacity out.new }
+    requires room { HasRoom out.old (length (extended_events language.now text.now)) }
+    ensures { Appended out.old out.new (extended_events language.now text.now) }
 {
     let count = piece_count(text);
     let mut number = 0;

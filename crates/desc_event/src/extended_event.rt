@@ -1,5 +1,6 @@
 // extended_event_descriptor.
-ghost use Rattle.std.specs.Prelude.{◌≡◌, ◌+◌, ◌<◌, ◌≤◌, ◌++◌, length, IfOk, OnOk, OnErr, vec_len, vec_capacity};
+ghost use Rattle.std.specs.Prelude.{◌≡◌, ◌+◌, ◌<◌, ◌≤◌, ◌++◌, length, IfOk, OnOk, OnErr};
+ghost use Rattle.si_base.specs.Room.{Appended, HasRoom};
 ghost use Rattle.desc_parts.specs.Descriptors.{descriptor};
 ghost use Rattle.desc_event.specs.ExtendedEvent.{extended_event, extended_event_fields, extended_event_in};
 
@@ -46,10 +47,8 @@ pub(crate) fn put_extended_event(
     requires number { number < 16 }
     requires last { last < 16 }
     requires length { length text.now ≤ 249 }
-    requires room { vec_len out.old + (8 + length text.now) ≤ vec_capacity out.old }
-    ensures items { out.new.items ≡ out.old.items ++ descriptor 0x4E (extended_event_fields number last language.now text.now) }
-    ensures len { vec_len out.new ≡ vec_len out.old + (8 + length text.now) }
-    ensures capacity { vec_capacity out.old ≤ vec_capacity out.new }
+    requires room { HasRoom out.old (8 + length text.now) }
+    ensures { Appended out.old out.new (descriptor 0x4E (extended_event_fields number last language.now text.now)) }
 {
     put(out, &[TAG, (6 + text.len()) as u8, 16 * number + last]);
     put(out, language);

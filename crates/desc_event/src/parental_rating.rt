@@ -1,5 +1,6 @@
 // parental_rating_descriptor.
-ghost use Rattle.std.specs.Prelude.{◌≡◌, ◌*◌, ◌≤◌, ◌++◌, length, IfOk, OnOk, OnErr, vec_len, vec_capacity, ◌+◌};
+ghost use Rattle.std.specs.Prelude.{◌≡◌, ◌*◌, ◌≤◌, ◌++◌, length, IfOk, OnOk, OnErr, ◌+◌};
+ghost use Rattle.si_base.specs.Room.{Appended, HasRoom};
 ghost use Rattle.desc_event.specs.ParentalRating.{parental_rating, parental_rating_in};
 
 use guide_model::Rating;
@@ -27,10 +28,8 @@ pub fn write_parental_rating(ratings: &[Rating], out: &mut Vec<u8>) -> Result<()
 /// Appends it to a buffer that has room for it.
 pub(crate) fn put_parental_rating(ratings: &[Rating], out: &mut Vec<u8>)
     requires length { 4 * length ratings.now ≤ 255 }
-    requires room { vec_len out.old + (2 + 4 * length ratings.now) ≤ vec_capacity out.old }
-    ensures items { out.new.items ≡ out.old.items ++ parental_rating ratings.now }
-    ensures len { vec_len out.new ≡ vec_len out.old + (2 + 4 * length ratings.now) }
-    ensures capacity { vec_capacity out.old ≤ vec_capacity out.new }
+    requires room { HasRoom out.old (2 + 4 * length ratings.now) }
+    ensures { Appended out.old out.new (parental_rating ratings.now) }
 {
     put(out, &[TAG, 4 * ratings.len() as u8]);
     for rating in ratings {

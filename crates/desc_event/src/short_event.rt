@@ -1,5 +1,6 @@
 // short_event_descriptor.
-ghost use Rattle.std.specs.Prelude.{◌≡◌, ◌+◌, ◌≤◌, ◌++◌, length, IfOk, OnOk, OnErr, vec_len, vec_capacity};
+ghost use Rattle.std.specs.Prelude.{◌≡◌, ◌+◌, ◌≤◌, ◌++◌, length, IfOk, OnOk, OnErr};
+ghost use Rattle.si_base.specs.Room.{Appended, HasRoom};
 ghost use Rattle.si_text.specs.Decoding.{shown_bytes};
 ghost use Rattle.desc_parts.specs.Descriptors.{descriptor};
 ghost use Rattle.desc_event.specs.ShortEvent.{short_event, short_event_fields, short_event_in};
@@ -47,10 +48,8 @@ pub(crate) fn short_event_len(language: &[u8; 3], name: &Coded, text: &Coded) ->
 /// Appends a short_event_descriptor to a buffer that has room for it.
 pub(crate) fn put_short_event(language: &[u8; 3], name: &Coded, text: &Coded, out: &mut Vec<u8>)
     requires length { length name.now + length text.now ≤ 250 }
-    requires room { vec_len out.old + length (descriptor 0x4D (short_event_fields language.now name.now text.now)) ≤ vec_capacity out.old }
-    ensures items { out.new.items ≡ out.old.items ++ descriptor 0x4D (short_event_fields language.now name.now text.now) }
-    ensures len { vec_len out.new ≡ vec_len out.old + length (descriptor 0x4D (short_event_fields language.now name.now text.now)) }
-    ensures capacity { vec_capacity out.old ≤ vec_capacity out.new }
+    requires room { HasRoom out.old (length (descriptor 0x4D (short_event_fields language.now name.now text.now))) }
+    ensures { Appended out.old out.new (descriptor 0x4D (short_event_fields language.now name.now text.now)) }
 {
     put(out, &[TAG, (5 + name.len() + text.len()) as u8]);
     put(out, language);

@@ -1,5 +1,6 @@
 // The coded form of a text, without a copy of it.
-ghost use Rattle.std.specs.Prelude.{◌≡◌, ◌+◌, ◌<◌, ◌≤◌, ◌++◌, length, vec_len, vec_capacity};
+ghost use Rattle.std.specs.Prelude.{◌≡◌, ◌+◌, ◌<◌, length};
+ghost use Rattle.si_base.specs.Room.{Appended, HasRoom};
 ghost use Rattle.si_text.specs.Coding.{coded_text};
 ghost use Rattle.si_text.specs.Decoding.{shown_bytes};
 ghost use Rattle.desc_parts.specs.Lengths.{with_length};
@@ -70,10 +71,8 @@ impl<'a> Coded<'a> {
 
     /// Appends them to a buffer that has room.
     pub fn put(&self, out: &mut Vec<u8>)
-        requires room { vec_len out.old + length self.now ≤ vec_capacity out.old }
-        ensures items { out.new.items ≡ out.old.items ++ self.now }
-        ensures len { vec_len out.new ≡ vec_len out.old + length self.now }
-        ensures capacity { vec_capacity out.old ≤ vec_capacity out.new }
+        requires room { HasRoom out.old (length self.now) }
+        ensures { Appended out.old out.new self.now }
     {
         if self.is_utf8 {
             put(out, &[UTF8]);
@@ -84,10 +83,8 @@ impl<'a> Coded<'a> {
     /// Appends their length and them to a buffer that has room. They are at most 255.
     pub fn put_with_length(&self, out: &mut Vec<u8>)
         requires length { length self.now < 256 }
-        requires room { vec_len out.old + (1 + length self.now) ≤ vec_capacity out.old }
-        ensures items { out.new.items ≡ out.old.items ++ with_length self.now }
-        ensures len { vec_len out.new ≡ vec_len out.old + (1 + length self.now) }
-        ensures capacity { vec_capacity out.old ≤ vec_capacity out.new }
+        requires room { HasRoom out.old (1 + length self.now) }
+        ensures { Appended out.old out.new (with_length self.now) }
     {
         put(out, &[self.len() as u8]);
         self.put(out);

@@ -1,5 +1,6 @@
 // ISO_639_language_descriptor.
-ghost use Rattle.std.specs.Prelude.{◌≡◌, ◌*◌, ◌≤◌, ◌++◌, length, IfOk, OnOk, OnErr, vec_len, vec_capacity, ◌+◌};
+ghost use Rattle.std.specs.Prelude.{◌≡◌, ◌*◌, ◌≤◌, ◌++◌, length, IfOk, OnOk, OnErr, ◌+◌};
+ghost use Rattle.si_base.specs.Room.{Appended, HasRoom};
 ghost use Rattle.desc_service.specs.Languages.{iso_639_language, languages_in};
 
 use si_base::{Items, put};
@@ -26,8 +27,8 @@ pub fn write_iso_639_language(languages: &[[u8; 3]], out: &mut Vec<u8>) -> Resul
 // Appends it to a buffer that has room for it.
 fn put_languages(languages: &[[u8; 3]], out: &mut Vec<u8>)
     requires length { 4 * length languages.now ≤ 255 }
-    requires room { vec_len out.old + (2 + 4 * length languages.now) ≤ vec_capacity out.old }
-    ensures items { out.new.items ≡ out.old.items ++ iso_639_language languages.now }
+    requires room { HasRoom out.old (2 + 4 * length languages.now) }
+    ensures { Appended out.old out.new (iso_639_language languages.now) }
 {
     put(out, &[TAG, 4 * languages.len() as u8]);
     for language in languages {

@@ -1,5 +1,6 @@
 // service_list_descriptor.
-ghost use Rattle.std.specs.Prelude.{◌≡◌, ◌*◌, ◌≤◌, ◌++◌, length, IfOk, OnOk, OnErr, vec_len, vec_capacity, ◌+◌};
+ghost use Rattle.std.specs.Prelude.{◌≡◌, ◌*◌, ◌≤◌, ◌++◌, length, IfOk, OnOk, OnErr, ◌+◌};
+ghost use Rattle.si_base.specs.Room.{Appended, HasRoom};
 ghost use Rattle.desc_service.specs.ServiceList.{service_list, service_list_in};
 
 use si_base::{Copies, Items, put};
@@ -39,8 +40,8 @@ pub fn write_service_list(services: &[ServiceKind], out: &mut Vec<u8>) -> Result
 // Appends it to a buffer that has room for it.
 fn put_service_list(services: &[ServiceKind], out: &mut Vec<u8>)
     requires length { 3 * length services.now ≤ 255 }
-    requires room { vec_len out.old + (2 + 3 * length services.now) ≤ vec_capacity out.old }
-    ensures items { out.new.items ≡ out.old.items ++ service_list services.now }
+    requires room { HasRoom out.old (2 + 3 * length services.now) }
+    ensures { Appended out.old out.new (service_list services.now) }
 {
     put(out, &[TAG, 3 * services.len() as u8]);
     for service in services {

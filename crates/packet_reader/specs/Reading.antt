@@ -6,11 +6,6 @@ use Rattle.packet_reader.specs.Recordings.{RecordingEnd, RecordingEnd.AtEnd, Rec
 use Rattle.packet_reader.specs.declared.stop.PacketStop.{PacketStop}
 use Rattle.packet_reader.specs.declared.stop.PacketStop.TheVariants as stop
 
--- bytes of a source: the packet that was handed out last, and what stands behind it
-pub record Held : Type 0 where
-  pub packet : List ℕ
-  pub behind : List ℕ
-
 -- a reader of packets over a source
 pub record Reading (S : Type 0) : Type 0 where
   pub source : S
@@ -67,10 +62,6 @@ Counts old new (Err stop.Failed) = (new.number ≡ old.number) × (new.stop ≡ 
 abbrev pub HasCause : {T : Type 0} → ℕ → ℕ → Result T PacketStop → Type 0
 HasCause before now (Err stop.Failed) = Rose before now
 HasCause before now result = Unit {0}
-
--- the source gave so many bytes, and they stand behind those that were held
-abbrev pub ReadOn : Option (List ℕ) → Option (List ℕ) → List ℕ → List ℕ → ℕ → Type 0
-ReadOn left_old left_new held_old held_new n = (more : List ℕ) × (n ≡ length more) × (held_new ≡ held_old ++ more) × Consumes left_old left_new more
 
 -- the source gave some bytes, and they stand behind those that were held
 abbrev pub Gathers : Option (List ℕ) → Option (List ℕ) → List ℕ → List ℕ → Type 0

@@ -6,7 +6,6 @@
 //! 4,294,967,295th packet.
 #![tactic(auto)]
 
-mod held;
 mod reader;
 mod stop;
 

@@ -5,14 +5,17 @@ ghost use Rattle.si_causes.specs.Causes.{HasCause as Faulted};
 ghost use Rattle.packet_reader.specs.Recordings.{is_packet, packets_in};
 ghost use Rattle.packet_reader.specs.Reading.{GivesPacket, TakesPacket, Counts, HasCause, Gathers, fresh, room, bytes_left};
 
-use crate::held::Held;
 use crate::stop::PacketStop;
-use si_causes::{Failed, Source};
+use si_causes::{Failed, ReadBuffer, Source};
 use std::alloc::{AllocError, Global};
 use std::marker::Model;
 
 // how many packets a recording may have
 const PACKETS: u64 = 4_294_967_295;
+// how many bytes a packet has
+const PACKET: usize = 188;
+// how many bytes one read asks for at most: 348 packets
+const BUFFER: usize = 65_424;
 
 /// A reader of the packets of a recording (ISO/IEC 13818-1, 2.4.3): of pieces of 188 bytes from the source's first byte on, of which
 /// each begins with the sync byte 0x47. A recording may have 4,294,967,295 packets.
@@ -22,14 +25,16 @@ const PACKETS: u64 = 4_294_967_295;
 #[derive(Drop)]
 pub struct PacketReader<S: Source> {
     source: S,
-    held: Held,
+    held: ReadBuffer<BUFFER>,
+    // how many of the bytes that are held are the packet that was handed out last: 188, or none
+    handed: usize,
     number: u64,
     ended: bool,
     stop: Option<PacketStop>,
 }
 
 impl<S: Source> Model for PacketReader<S> {
-    ghost use Rattle.std.specs.Prelude.{◌≡◌, ◌≤◌, true, []};
+    ghost use Rattle.std.specs.Prelude.{◌≡◌, ◌≤◌, true, [], length, take, drop};
     ghost use Rattle.std.specs.Io.KnownBytes.{IsAtEnd};
     ghost use Rattle.packet_reader.specs.Reading.{Reading};
 
@@ -37,28 +42,28 @@ impl<S: Source> Model for PacketReader<S> {
 
     ghost view = { λ r. record {
       source = r.source;
-      held = r.held.behind;
+      held = drop r.handed r.held;
       number = r.number;
-      packet = r.held.packet;
+      packet = take r.handed r.held;
       ended = r.ended;
       stop = r.stop;
     } };
 
-    ghost invariant = { λ r. (r.number ≤ 4294967295)
-        × (r.ended ≡ true → (r.held.behind ≡ []) × IsAtEnd (S.left r.source)) };
+    ghost invariant = { λ r. (r.number ≤ 4294967295) × (r.handed ≤ length r.held)
+        × (r.ended ≡ true → (drop r.handed r.held ≡ []) × IsAtEnd (S.left r.source)) };
 }
 
 // Reads until a packet is held, or the source ends.
-fn gather<S: Source>(source: &mut S, held: &mut Held) -> Result<(), Failed>
-    ensures gathers { Gathers (S.left source.old) (S.left source.new) held.old.behind held.new.behind }
-    ensures end { OnOk result (length held.new.behind < 188 → IsAtEnd (S.left source.new)) }
-    ensures short { OnErr result (length held.new.behind < 188) }
-    ensures lazy { 188 ≤ length held.old.behind → source.new ≡ source.old }
+fn gather<S: Source>(source: &mut S, held: &mut ReadBuffer<BUFFER>) -> Result<(), Failed>
+    ensures gathers { Gathers (S.left source.old) (S.left source.new) held.old held.new }
+    ensures end { OnOk result (length held.new < 188 → IsAtEnd (S.left source.new)) }
+    ensures short { OnErr result (length held.new < 188) }
+    ensures lazy { 188 ≤ length held.old → source.new ≡ source.old }
     ensures cause { Faulted (S.faults source.old) (S.faults source.new) result }
     ensures same { S.same source.old source.new }
 {
-    while held.behind().len() < 188 {
-        if held.refill(source)? == 0 {
+    while held.bytes().len() < PACKET {
+        if held.refill(source, BUFFER as u64)? == 0 {
             return Ok(());
         }
     }
@@ -77,10 +82,11 @@ impl<S: Source> PacketReader<S> {
     pub fn open(alloc: Global, source: S) -> Result<PacketReader<S>, AllocError>
         ensures { IfOk result (λ reader. reader ≡ fresh source) }
     {
-        let held = Held::new(alloc)?;
+        let held = ReadBuffer::new(alloc)?;
         Ok(PacketReader {
             source,
             held,
+            handed: 0,
             number: 0,
             ended: false,
             stop: None,
@@ -113,10 +119,12 @@ impl<S: Source> PacketReader<S> {
         if self.ended {
             return Ok(None);
         }
+        self.held.consume(self.handed);
+        self.handed = 0;
         let Ok(()) = gather(&mut self.source, &mut self.held) else {
             return Err(self.stopped(PacketStop::Failed));
         };
-        let bytes = self.held.behind();
+        let bytes = self.held.bytes();
         if bytes.is_empty() {
             self.ended = true;
             return Ok(None);
@@ -128,7 +136,7 @@ impl<S: Source> PacketReader<S> {
             return Err(self.stopped(PacketStop::Broken(self.number)));
         }
         let number = self.number;
-        self.held.advance();
+        self.handed = PACKET;
         self.number += 1;
         Ok(Some(number))
     }
@@ -147,7 +155,11 @@ impl<S: Source> PacketReader<S> {
         requires { length self.now.packet ≡ 188 }
         ensures { result.now ≡ self.now.packet }
     {
-        self.held.packet()
+        let (packet, _) = self.held.bytes().split_at(self.handed);
+        match packet.first_chunk() {
+            Some(packet) => packet,
+            None => unreachable!(),
+        }
     }
 
     /// Gives the source back. It takes no memory.

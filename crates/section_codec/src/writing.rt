@@ -1,5 +1,6 @@
 // Sections as they are written.
-ghost use Rattle.std.specs.Prelude.{◌≡◌, ◌≢◌, ◌+◌, ◌<◌, ◌≤◌, ◌++◌, length, false, vec_len, vec_capacity, IfOk};
+ghost use Rattle.std.specs.Prelude.{◌≡◌, ◌≢◌, ◌+◌, ◌<◌, ◌≤◌, length, false, IfOk};
+ghost use Rattle.si_base.specs.Room.{Appended, HasRoom};
 ghost use Rattle.section_codec.specs.Tables.{has_long_form};
 ghost use Rattle.section_codec.specs.Section.{section_bytes, short_bytes, longest_body, long_flags, current_bit};
 
@@ -27,10 +28,8 @@ pub fn write_long(alloc: Global, header: &LongHeader, body: &[u8]) -> Result<Byt
 pub fn put_section(out: &mut Vec<u8>, header: &LongHeader, body: &[u8])
     requires version { header.now.version < 32 }
     requires within { length body.now ≤ 4084 }
-    requires room { vec_len out.old + (12 + length body.now) ≤ vec_capacity out.old }
-    ensures items { out.new.items ≡ out.old.items ++ section_bytes header.now body.now }
-    ensures len { vec_len out.new ≡ vec_len out.old + (12 + length body.now) }
-    ensures capacity { vec_capacity out.old ≤ vec_capacity out.new }
+    requires room { HasRoom out.old (12 + length body.now) }
+    ensures { Appended out.old out.new (section_bytes header.now body.now) }
 {
     let start = out.len();
     let flags = long_flags(header.table) + 9 + body.len() as u16;

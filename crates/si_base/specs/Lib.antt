@@ -1,3 +1,4 @@
 pub mod Fields
 pub mod Crc
+pub mod Room
 pub mod Rows

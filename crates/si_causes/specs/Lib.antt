@@ -1,4 +1,5 @@
 pub mod Causes
+pub mod Refilling
 pub mod Opening
 pub mod Lines
 pub mod Text

@@ -3,6 +3,7 @@ use Rattle.std.specs.Prelude.{◌≡◌, ℕ, List, [], ◌∷◌, ◌++◌, len
 use Rattle.si_causes.specs.Lines.{shown}
 use Rattle.si_causes.specs.Text.{AtEnd, PastLimit, lines_left, text_lines}
 use Rattle.si_causes.specs.Opening.{file_at}
+use Rattle.si_causes.specs.Refilling.{ReadOn}
 use Rattle.si_causes.specs.Memory.{Supply, read_answer, read_after}
 
 -- a, CR, LF; LF; b, CR, c, CR, CR, LF; CR: one CR goes off each line, and a lone CR is an empty line
@@ -74,3 +75,7 @@ after_second = refl
 
 third_read : read_answer (supply 2 (9 ∷ []) 2 1) 5 ≡ Ok 1
 third_read = refl
+
+-- two of the three bytes of a source come behind the byte that was held
+two_more : ReadOn (Some (2 ∷ 3 ∷ 4 ∷ [])) (Some (4 ∷ [])) (1 ∷ []) (1 ∷ 2 ∷ 3 ∷ []) 2
+two_more = (2 ∷ 3 ∷ [], refl, refl, refl)

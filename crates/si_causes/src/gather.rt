@@ -1,16 +1,24 @@
 // Collecting the next line of a source.
-ghost use Rattle.std.specs.Prelude.{◌≡◌, ◌≤◌, ◌<◌, ◌+◌, ◌++◌, [], ℕ, true, ◌==◌, length, position, take, IfSome};
+ghost use Rattle.std.specs.Prelude.{◌≡◌, ◌≤◌, ◌<◌, ◌+◌, ◌++◌, [], ℕ, true, ◌==◌, length, position, take};
+ghost use Rattle.std.specs.Prelude.{IfOk, IfSome, OnErr};
+ghost use Rattle.std.specs.Io.KnownBytes.{Consumes, IsAtEnd, Keeps};
+ghost use Rattle.si_causes.specs.Causes.{HasCause};
 ghost use Rattle.si_causes.specs.Gathering.{Gathers, hand};
 ghost use Rattle.si_causes.specs.Lines.{first_line, after_line, has_end};
 
-use crate::causes::Source;
-use crate::held::Held;
+use crate::causes::{Failed, Source};
 use crate::line::Line;
+use crate::read_buffer::ReadBuffer;
 use crate::stop::ReadStop;
 use memchr::memchr;
 
 // how many bytes a text may have
 const TEXT: u64 = 67108864;
+// how many bytes one read asks for at most
+const BUFFER: usize = 65536;
+
+// What was read of a text and stands in no line yet.
+pub(crate) type Held = ReadBuffer<BUFFER>;
 
 // What collecting a line met: a whole line, the last one, which has no LF, or the end.
 #[derive(Clone, Copy)]
@@ -51,6 +59,20 @@ fn take_line(held: &mut Held, line: &mut Line) -> bool
     }
 }
 
+// Reads the next piece of the text, of at most `room` bytes, where nothing is held.
+fn read_piece<S: Source>(source: &mut S, held: &mut Held, room: u64) -> Result<usize, Failed>
+    requires empty { held.old ≡ [] }
+    requires some { 1 ≤ room }
+    ensures ok { IfOk result (λ n. (n ≡ length held.new) × (n ≤ room)
+        × Consumes (S.left source.old) (S.left source.new) held.new) }
+    ensures end { IfOk result (λ n. n ≡ 0 → IsAtEnd (S.left source.new)) }
+    ensures err { OnErr result ((held.new ≡ []) × Keeps (S.left source.old) (S.left source.new)) }
+    ensures cause { HasCause (S.faults source.old) (S.faults source.new) result }
+    ensures same { S.same source.old source.new }
+{
+    held.refill(source, room)
+}
+
 // Collects the next line, reading only where what is held has no LF.
 pub(crate) fn gather<S: Source>(
     source: &mut S,
@@ -71,7 +93,7 @@ pub(crate) fn gather<S: Source>(
             return Ok(Found::Line);
         }
         let room = if *taken < TEXT { TEXT - *taken } else { 1 };
-        let count = match held.refill(source, room) {
+        let count = match read_piece(source, held, room) {
             Ok(count) => count,
             Err(_) => return Err(ReadStop::Failed),
         };
@@ -83,7 +105,7 @@ pub(crate) fn gather<S: Source>(
             });
         }
         if *taken >= TEXT {
-            held.clear();
+            held.consume(count);
             return Err(ReadStop::TooLong);
         }
         *taken += count as u64;

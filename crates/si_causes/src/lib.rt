@@ -11,19 +11,21 @@
 //! [`LineReader::next`]: where the source tells its bytes, the calls give the lines of that text one by one,
 //! however the source is cut into pieces, and then its stop: the end, or a byte past the 67,108,864th. Where it
 //! does not tell them, `came` says the same of the bytes that it gave.
+//! Readers keep what was read and not yet used in a [`ReadBuffer`].
 //!
 //! A list that is handed in brings its allocator: [`MemSource::open`] and [`NeverFails::open`] take none.
-//! [`MemSink::open`], [`MemOpener::open_with`] and [`LineReader::open`] make lists of their own, and take it first.
+//! [`MemSink::open`], [`MemOpener::open_with`], [`ReadBuffer::new`] and [`LineReader::open`] make lists of their own,
+//! and take it first.
 #![tactic(auto)]
 
 mod causes;
 mod files;
 mod gate;
 mod gather;
-mod held;
 mod line;
 mod memory;
 mod opener;
+mod read_buffer;
 mod reader;
 mod stop;
 
@@ -32,5 +34,6 @@ pub use files::MemOpener;
 pub use gate::{Gate, OpenGate, Place};
 pub use memory::{MemSink, MemSource, NeverFails};
 pub use opener::Opener;
+pub use read_buffer::ReadBuffer;
 pub use reader::LineReader;
 pub use stop::ReadStop;

@@ -6,9 +6,9 @@ ghost use Rattle.si_causes.specs.Reading.{NextCame, GivesLine, Falls, fresh, roo
 ghost use Rattle.si_causes.specs.Text.{lines_left};
 
 use crate::causes::Source;
-use crate::gather::{Found, gather};
-use crate::held::Held;
+use crate::gather::{Found, Held, gather};
 use crate::line::Line;
+use crate::read_buffer::ReadBuffer;
 use crate::stop::ReadStop;
 use std::alloc::{AllocError, Global};
 use std::marker::Model;
@@ -60,7 +60,7 @@ impl<S: Source> LineReader<S> {
     pub fn open(alloc: Global, source: S) -> Result<LineReader<S>, AllocError>
         ensures { IfOk result (λ reader. reader ≡ fresh source) }
     {
-        let held = Held::new(alloc)?;
+        let held = ReadBuffer::new(alloc)?;
         let line = Line::new(alloc)?;
         Ok(LineReader {
             source,

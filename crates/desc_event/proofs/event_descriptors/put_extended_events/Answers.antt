@@ -1,11 +1,11 @@
-use Rattle.std.proofs.Common.{◌++◌, ◌-◌, ap, sym, ◌∙◌, length, arith}
+use Rattle.std.proofs.Common.{◌++◌, ◌-◌, ap, sym, ◌∙◌, length, arith, length-append}
 use Rattle.std.proofs.lemmas.Bool.{eqb-true}
 use Rattle.std.proofs.lemmas.List.{append-nil}
 use Rattle.si_text.specs.Cutting.{pieces}
-use Rattle.desc_event.specs.EventDescriptors.{numbered}
+use Rattle.desc_event.specs.EventDescriptors.{numbered, extended_events}
 use Rattle.desc_parts.specs.Descriptors.{descriptor}
 use Rattle.desc_event.specs.ExtendedEvent.{extended_event_fields}
-use Rattle.desc_event.proofs.Pieces.{extended_size, length-extended_events, no_pieces, length-coded_text, numbered-next}
+use Rattle.desc_event.proofs.Pieces.{extended_size, length-numbered, no_pieces, length-coded_text, numbered-next}
 use Rattle.desc_event.proofs.event_descriptors.put_extended_events.Goals as goal
 
 pub overflow_sub-count : goal.overflow_sub-count
@@ -13,7 +13,21 @@ overflow_sub-count c = omega (arith, c.loop-rest.invariant.number, ap length c.c
 
 pub put_extended_event-requires-clause-room : goal.put_extended_event-requires-clause-room
 put_extended_event-requires-clause-room c =
-    omega (arith, length-extended_events c.args.language.now c.args.text.now c.told-language, c.requires.room, c.loop-rest.invariant.len, c.loop-rest.invariant.capacity, ap extended_size c.cut.ensures.pieces, ap length c.of_text-text.ensures, length-coded_text c.cut.result.0.now)
+    let last = c.piece_count-count.result - 1 in
+    let whole = extended_events c.args.language.now c.args.text.now in
+    let rest = numbered c.loop-rest.number last c.args.language.now (pieces c.loop-rest.rest.now) in
+    omega (
+      arith,
+      c.requires.room,
+      c.loop-rest.invariant.capacity,
+      ap length c.loop-rest.invariant.items,
+      length-append c.loop-rest.out.items rest,
+      length-append c.args.out.now.items whole,
+      length-numbered c.loop-rest.number last c.args.language.now (pieces c.loop-rest.rest.now) c.told-language,
+      ap extended_size c.cut.ensures.pieces,
+      ap length c.of_text-text.ensures,
+      length-coded_text c.cut.result.0.now,
+    )
 
 pub loop-rest-preserved : goal.loop-rest-preserved
 loop-rest-preserved c = record {
@@ -22,16 +36,14 @@ loop-rest-preserved c = record {
   items = numbered-next c.loop-rest.number (c.piece_count-count.result - 1) c.args.language.now c.loop-rest.out.items c.put_extended_event.new.out.items c.cut.result.0.now (pieces c.loop-rest.rest.now) (pieces c.cut.result.1.now) _
       c.cut.ensures.pieces c.loop-rest.invariant.items
       (c.put_extended_event.ensures.items ∙ ap (λ text. c.loop-rest.out.items ++ descriptor 0x4E (extended_event_fields c.loop-rest.number (c.piece_count-count.result - 1) c.args.language.now text)) c.of_text-text.ensures);
-  len = omega (arith, c.loop-rest.invariant.len, c.put_extended_event.ensures.len, ap extended_size c.cut.ensures.pieces, ap length c.of_text-text.ensures, length-coded_text c.cut.result.0.now);
   capacity = omega (arith, c.loop-rest.invariant.capacity, c.put_extended_event.ensures.capacity);
 }
 
-pub returns-clause-items : goal.returns-clause-items
-returns-clause-items c =
+pub returns : goal.returns
+returns c =
     let none = no_pieces c.loop-rest.rest.now (eqb-true _ _ (sym c.loop-rest-test.ensures)) in
-    sym (append-nil c.loop-rest.out.items) ∙ ap (λ ps. c.loop-rest.out.items ++ numbered c.loop-rest.number (c.piece_count-count.result - 1) c.args.language.now ps) (sym none)
-    ∙ c.loop-rest.invariant.items
-
-pub returns-clause-len : goal.returns-clause-len
-returns-clause-len c =
-    omega (arith, length-extended_events c.args.language.now c.args.text.now c.told-language, c.loop-rest.invariant.len, ap extended_size (no_pieces c.loop-rest.rest.now (eqb-true _ _ (sym c.loop-rest-test.ensures))))
+    record {
+      items = sym (append-nil c.loop-rest.out.items) ∙ ap (λ ps. c.loop-rest.out.items ++ numbered c.loop-rest.number (c.piece_count-count.result - 1) c.args.language.now ps) (sym none)
+          ∙ c.loop-rest.invariant.items;
+      capacity = c.loop-rest.invariant.capacity;
+    }

@@ -1,8 +1,7 @@
-use Rattle.std.proofs.Common.{◌≡◌, ◌+◌, ◌-◌, ◌≤◌, ◌++◌, length, vec_len, vec_capacity}
+use Rattle.std.proofs.Common.{◌≡◌, ◌+◌, ◌-◌, ◌≤◌, ◌++◌, length, vec_capacity}
 use Rattle.std.specs.Prelude.{IsUtf8}
 use Rattle.si_text.specs.Cutting.{pieces}
 use Rattle.desc_event.specs.EventDescriptors.{numbered, extended_events}
-use Rattle.desc_event.proofs.Pieces.{extended_size}
 use Rattle.desc_event.proofs.event_descriptors.put_extended_events.Given as goal
 
 abbrev pub invariant-loop-rest : goal.invariant-loop-rest
@@ -10,7 +9,6 @@ invariant-loop-rest l = record {
   utf8 : IsUtf8 l.rest;
   number : l.number + length (pieces l.rest) ≡ l.count;
   items : l.out.items ++ numbered l.number (l.count - 1) l.language (pieces l.rest) ≡ l.fn.out.items ++ extended_events l.language l.text;
-  len : vec_len l.out + extended_size (pieces l.rest) ≡ vec_len l.fn.out + extended_size (pieces l.text);
   capacity : vec_capacity l.fn.out ≤ vec_capacity l.out;
 }
 

@@ -4,10 +4,10 @@ use Rattle.packet_reader.proofs.reader.gather.Given as goal
 
 abbrev pub invariant-loop-held : goal.invariant-loop-held
 invariant-loop-held g l =
-    Gathers (g.S.Source.left l.fn.source) (g.S.Source.left l.source) l.fn.held.behind l.held.behind
+    Gathers (g.S.Source.left l.fn.source) (g.S.Source.left l.source) l.fn.held l.held
     × (g.S.Source.faults l.fn.source ≤ g.S.Source.faults l.source)
     × g.S.Source.same l.fn.source l.source
-    × (188 ≤ length l.fn.held.behind → (l.source ≡ l.fn.source) × (l.held ≡ l.fn.held))
+    × (188 ≤ length l.fn.held → (l.source ≡ l.fn.source) × (l.held ≡ l.fn.held))
 
 abbrev pub decreases-loop-held : goal.decreases-loop-held
-decreases-loop-held g l = 188 - length l.held.behind
+decreases-loop-held g l = 188 - length l.held
