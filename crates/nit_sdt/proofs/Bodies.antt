@@ -45,7 +45,8 @@ read_nits body nit is =
     let one = begins_with 0 is.network is.behind is.fits (descriptors_are is.network.descriptors is.descs is.network_descriptors.whole) in
     let loop = loop_of is.behind is.loop is.stream_loop in
     ap is_nit_body is.whole
-    ∙ both_true one.0 (ap is_stream_loop one.1 ∙ both_true loop.0 (ap (are_entries 4) loop.1 ∙ read_entries_are 4 stream_of is.loop nit.streams is.streams))
+    ∙ both_true one.0 (ap is_stream_loop one.1 ∙ both_true loop.0 (ap (are_entries 4) loop.1
+    ∙ read_entries_are 4 stream_of is.loop nit.streams is.streams))
 
 pub nit_bodies : NitBodiesCanBeRead
 nit_bodies body all e =
@@ -87,9 +88,11 @@ sdt_bodies body all e =
 -- ---- written
 
 cable_are : (c : Option Cable) (ks : List ServiceKind) → HasDescriptors (cable_descriptors c ++ service_list ks)
-cable_are None ks = descriptors_are (service_list ks) (record { tag = 0x41; body = service_list_body ks } ∷ []) (sym (append-nil (service_list ks)))
+cable_are None ks = descriptors_are (service_list ks) (record { tag = 0x41; body = service_list_body ks } ∷ []) (sym (append-nil
+    (service_list ks)))
 cable_are (Some c) ks =
-    descriptors_are (cable_delivery_system c ++ service_list ks) (record { tag = 0x44; body = cable_body c } ∷ record { tag = 0x41; body = service_list_body ks } ∷ [])
+    descriptors_are (cable_delivery_system c ++ service_list ks)
+    (record { tag = 0x44; body = cable_body c } ∷ record { tag = 0x41; body = service_list_body ks } ∷ [])
     (ap (λ (xs : List ℕ). cable_delivery_system c ++ xs) (sym (append-nil (service_list ks))))
 
 streams_are : (ss : List NitStream) → HaveDescriptors (map stream_entry ss)
@@ -105,23 +108,37 @@ written_nits nit fits =
     let name = network_name nit.name in
     let streams = flat_map stream_bytes nit.streams in
     let named = descriptors_are name (record { tag = 0x40; body = shown_bytes nit.name } ∷ []) (sym (append-nil name)) in
-    let one = begins_with 0 (bare_entry name) (entry_bytes (bare_entry streams)) (record { fields = refl; bits = omega arith; descriptors = omega (arith, fits.name) }) named in
+    let one = begins_with 0 (bare_entry name) (entry_bytes (bare_entry streams))
+    (record { fields = refl; bits = omega arith; descriptors = omega (arith, fits.name) }) named in
     let loop = loop_at 15 streams (omega arith) (omega (arith, fits.within, length-streams nit.streams)) in
     let entries : are_entries 4 streams ≡ true =
-    ap (are_entries 4) (streams_whole nit.streams) ∙ entries_are 4 (map stream_entry nit.streams) (streams_fit nit.streams (recursion_from_All FitsStream nit.streams fits.streams)) (streams_are nit.streams) in
+    ap (are_entries 4) (streams_whole nit.streams) ∙ entries_are 4 (map stream_entry nit.streams) (streams_fit nit.streams
+    (recursion_from_All FitsStream nit.streams fits.streams)) (streams_are nit.streams) in
     both_true one.0 (ap is_stream_loop one.1 ∙ both_true loop entries)
 
 services_are : (ss : List SdtService) → HaveDescriptors (map service_entry ss)
 services_are [] = tt
 services_are (s ∷ ss) =
-    let descriptor = service_descriptor (text_of s) in
-    (descriptors_are descriptor (record { tag = 0x48; body = service_body (text_of s) } ∷ []) (sym (append-nil descriptor)), services_are ss)
+    let descriptor = service_descriptor (text_of s) in (
+      descriptors_are descriptor (record { tag = 0x48; body = service_body (text_of s) } ∷ []) (sym
+          (append-nil descriptor)),
+      services_are ss,
+    )
 
 services_fit : (ss : List SdtService) → AllByRecursion FitsService ss → AllByRecursion (FitsEntry 3) (map service_entry ss)
 services_fit [] fit = tt
-services_fit (s ∷ ss) fit = (record { fields = refl; bits = omega arith; descriptors = omega (arith, fit.0, length-service_descriptor s) }, services_fit ss fit.1)
+services_fit (s ∷ ss) fit = (
+  record {
+    fields = refl;
+    bits = omega arith;
+    descriptors = omega
+        (arith, fit.0, length-service_descriptor s);
+  },
+  services_fit ss fit.1,
+)
 
 pub written_sdts : WrittenSdtsAreBodies
 written_sdts sdt fits =
     both_true (le-leb 3 (length (sdt_body sdt)) (omega arith))
-    (ap (are_entries 3) (services_whole sdt.services) ∙ entries_are 3 (map service_entry sdt.services) (services_fit sdt.services (recursion_from_All FitsService sdt.services fits)) (services_are sdt.services))
+    (ap (are_entries 3) (services_whole sdt.services) ∙ entries_are 3 (map service_entry sdt.services) (services_fit sdt.services
+    (recursion_from_All FitsService sdt.services fits)) (services_are sdt.services))

@@ -21,7 +21,8 @@ is_stream_loop bytes = is_loop bytes && are_entries 4 (drop 2 bytes)
 abbrev pub is_nit_body : List ℕ → Bool
 is_nit_body body = begins_with_entry 0 body && is_stream_loop (behind_entry 0 body)
 
--- original_network_id and a reserved byte; then entries of service_id and a byte of flags with the descriptors behind descriptors_loop_length
+-- original_network_id and a reserved byte; then entries of service_id and a byte of flags with the descriptors behind
+-- descriptors_loop_length
 abbrev pub is_sdt_body : List ℕ → Bool
 is_sdt_body body = nat_le 3 (length body) && are_entries 3 (drop 3 body)
 

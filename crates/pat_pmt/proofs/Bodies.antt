@@ -32,7 +32,8 @@ pat_bodies (a ∷ []) = refl
 pat_bodies (a ∷ b ∷ []) = refl
 pat_bodies (a ∷ b ∷ c ∷ []) = refl
 pat_bodies (a ∷ b ∷ c ∷ d ∷ rest) =
-    ap (λ (n : ℕ). n == 0) (four_more (length rest)) ∙ pat_bodies rest ∙ mapped (λ (entries : List PatEntry). program_of a b c d ∷ entries) (pat_in rest)
+    ap (λ (n : ℕ). n == 0) (four_more (length rest)) ∙ pat_bodies rest
+    ∙ mapped (λ (entries : List PatEntry). program_of a b c d ∷ entries) (pat_in rest)
 
 pub written_pats : WrittenPatsAreBodies
 written_pats [] = refl
@@ -43,13 +44,15 @@ written_pats (e ∷ entries) = ap (λ (n : ℕ). n == 0) (four_more (length (pat
 pub read_pmts : ReadPmtsAreBodies
 read_pmts body pmt is =
     let one = begins_with 2 is.program is.loop is.fits (descriptors_are is.program.descriptors is.descs is.program_info.whole) in
-    ap is_pmt_body is.whole ∙ both_true one.0 (ap (are_entries 3) one.1 ∙ read_entries_are 3 component_of is.loop pmt.components is.components)
+    ap is_pmt_body is.whole ∙ both_true one.0 (ap (are_entries 3) one.1
+    ∙ read_entries_are 3 component_of is.loop pmt.components is.components)
 
 pub pmt_bodies : PmtBodiesCanBeRead
 pmt_bodies body all e =
     let behind = behind_entry 2 body in
     let program = first_entry 2 body all (first_true _ (are_entries 3 behind) e) in
-    let components = entries_of 3 component_of behind (bytes_behind (entry_length 2 body) body all) (second_true (begins_with_entry 2 body) _ e) in (
+    let components = entries_of 3 component_of behind (bytes_behind (entry_length 2 body) body all) (second_true
+    (begins_with_entry 2 body) _ e) in (
       record { pcr_pid = two_at 0 program.entry.fields % 8192; components = components.0 },
       record {
         program = program.entry;
@@ -66,7 +69,8 @@ pmt_bodies body all e =
 language_are : (l : Option (List ℕ)) → HasDescriptors (language_descriptors l)
 language_are None = refl
 language_are (Some l) =
-    descriptors_are (iso_639_language (l ∷ [])) (record { tag = 0x0A; body = languages_body (l ∷ []) } ∷ []) (sym (append-nil (iso_639_language (l ∷ []))))
+    descriptors_are (iso_639_language (l ∷ [])) (record { tag = 0x0A; body = languages_body (l ∷ []) } ∷ []) (sym (append-nil
+    (iso_639_language (l ∷ []))))
 
 components_are : (cs : List Component) → HaveDescriptors (map component_entry cs)
 components_are [] = tt
@@ -77,4 +81,6 @@ written_pmts pmt fits =
     let loop = flat_map component_bytes pmt.components in
     let one = begins_with 2 (program_entry pmt.pcr_pid) loop (record { fields = refl; bits = omega arith; descriptors = omega arith }) refl in
     both_true one.0
-    (ap (are_entries 3) (one.1 ∙ components_whole pmt.components) ∙ entries_are 3 (map component_entry pmt.components) (components_fit pmt.components fits.components) (components_are pmt.components))
+    (ap (are_entries 3) (one.1 ∙ components_whole pmt.components)
+    ∙ entries_are 3 (map component_entry pmt.components) (components_fit pmt.components fits.components)
+    (components_are pmt.components))

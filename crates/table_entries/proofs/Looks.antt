@@ -17,7 +17,8 @@ use Rattle.table_entries.proofs.Looked.{first_of}
 
 -- ---- descriptors
 
-descriptors_within : (n : ℕ) (ds : List RawDesc) → length (flat_map descriptor_bytes ds) ≤ n → are_descriptors n (flat_map descriptor_bytes ds) ≡ true
+descriptors_within : (n : ℕ) (ds : List RawDesc) → length (flat_map descriptor_bytes ds) ≤ n
+    → are_descriptors n (flat_map descriptor_bytes ds) ≡ true
 descriptors_within n [] le = refl
 descriptors_within zero (d ∷ ds) le = absurd (omega arith)
 descriptors_within (suc n) (d ∷ ds) le =
@@ -45,25 +46,46 @@ begins : (size told : ℕ) (fields ds rest bytes : List ℕ) → length fields �
 begins size told fields ds rest bytes its small tells are whole =
     let high = told / 256 % 256 in
     let low = told % 256 in
-    let front : bytes ≡ fields ++ (high ∷ low ∷ (ds ++ rest)) = whole ∙ append_assoc (fields ++ two told) ds rest ∙ append_assoc fields (two told) (ds ++ rest) in
+    let front : bytes ≡ fields ++ (high ∷ low ∷ (ds ++ rest)) = whole ∙ append_assoc (fields ++ two told) ds rest
+    ∙ append_assoc fields (two told) (ds ++ rest) in
     let next : bytes ≡ (fields ++ high ∷ []) ++ (low ∷ (ds ++ rest)) = front ∙ sym (append_assoc fields (high ∷ []) (low ∷ (ds ++ rest))) in
-    let high_at : get_or bytes size 0 ≡ high = ap (λ (l : List ℕ). get_or l size 0) front ∙ get_or_at fields high (low ∷ (ds ++ rest)) 0 size its in
+    let high_at : get_or bytes size 0 ≡ high = ap (λ (l : List ℕ). get_or l size 0) front
+    ∙ get_or_at fields high (low ∷ (ds ++ rest)) 0 size its in
     let low_at : get_or bytes (size + 1) 0 ≡ low =
-    ap (λ (l : List ℕ). get_or l (size + 1) 0) next ∙ get_or_at (fields ++ high ∷ []) low (ds ++ rest) 0 (size + 1) (omega (arith, its, length-append fields (high ∷ []))) in
+    ap (λ (l : List ℕ). get_or l (size + 1) 0) next ∙ get_or_at (fields ++ high ∷ []) low (ds ++ rest) 0 (size + 1) (omega
+    (arith, its, length-append fields (high ∷ []))) in
     let loop : loop_length size bytes ≡ length ds = omega (arith, high_at, low_at, tells, small) in
-    let all : length bytes ≡ size + 2 + length ds + length rest = omega (arith, its, ap length front, length-append fields (high ∷ low ∷ (ds ++ rest)), length-append ds rest) in
+    let all : length bytes ≡ size + 2 + length ds + length rest = omega (
+      arith,
+      its,
+      ap length front,
+      length-append fields (high ∷ low ∷
+          (ds ++ rest)),
+      length-append ds rest,
+    ) in
     let inside : drop (size + 2) bytes ≡ ds ++ rest =
-    ap (λ (l : List ℕ). drop (size + 2) l) (whole ∙ append_assoc (fields ++ two told) ds rest) ∙ drop_at (fields ++ two told) (ds ++ rest) (size + 2) (omega (arith, its, length-append fields (two told))) in (
-      both_true (both_true (le-leb (size + 2) (length bytes) (omega (arith, all))) (le-leb (entry_length size bytes) (length bytes) (omega (arith, all, loop))))
-          (ap (λ (n : ℕ). are_descriptors n (take n (drop (size + 2) bytes))) loop ∙ ap (λ (l : List ℕ). are_descriptors (length ds) (take (length ds) l)) inside
+    ap (λ (l : List ℕ). drop (size + 2) l) (whole ∙ append_assoc (fields ++ two told) ds rest)
+    ∙ drop_at (fields ++ two told) (ds ++ rest) (size + 2) (omega (arith, its, length-append fields (two told))) in (
+      both_true (both_true (le-leb (size + 2) (length bytes) (omega (arith, all))) (le-leb (entry_length size bytes) (length bytes)
+          (omega (arith, all, loop))))
+          (ap (λ (n : ℕ). are_descriptors n (take n (drop (size + 2) bytes))) loop
+          ∙ ap (λ (l : List ℕ). are_descriptors (length ds) (take (length ds) l)) inside
           ∙ ap (are_descriptors (length ds)) (take_at ds rest (length ds) refl) ∙ are),
       ap (λ (n : ℕ). drop (size + 2 + n) bytes) loop ∙ ap (λ (l : List ℕ). drop (size + 2 + length ds) l) whole
-          ∙ drop_at (fields ++ two told ++ ds) rest (size + 2 + length ds) (omega (arith, its, length-append (fields ++ two told) ds, length-append fields (two told))),
+          ∙ drop_at (fields ++ two told ++ ds) rest (size + 2 + length ds) (omega (
+            arith,
+            its,
+            length-append
+                (fields ++ two told) ds,
+            length-append fields (two told),
+          )),
     )
 
-pub begins_with : (size : ℕ) (e : Entry) (rest : List ℕ) → FitsEntry size e → HasDescriptors e.descriptors → Begins size (entry_bytes e ++ rest) rest
+pub begins_with : (size : ℕ) (e : Entry) (rest : List ℕ) → FitsEntry size e → HasDescriptors e.descriptors
+    → Begins size (entry_bytes e ++ rest) rest
 begins_with size e rest fits are =
-    begins size (4096 * e.bits + length e.descriptors) e.fields e.descriptors rest (entry_bytes e ++ rest) fits.fields (omega (arith, fits.bits, fits.descriptors)) (omega (arith, fits.descriptors)) are refl
+    begins size (4096 * e.bits + length e.descriptors) e.fields e.descriptors rest (entry_bytes e ++ rest) fits.fields (omega
+    (arith, fits.bits, fits.descriptors)) (omega (arith, fits.descriptors)) are refl
 
 -- ---- entries
 
@@ -75,17 +97,20 @@ entry_size e rest =
     let told = two (4096 * e.bits + length e.descriptors) in
     omega (arith, length-append (entry_bytes e) rest, length-append (e.fields ++ told) e.descriptors, length-append e.fields told)
 
-within : (size n : ℕ) (es : List Entry) → AllByRecursion (FitsEntry size) es → HaveDescriptors es → length (flat_map entry_bytes es) ≤ n → are_entries_within size n (flat_map entry_bytes es) ≡ true
+within : (size n : ℕ) (es : List Entry) → AllByRecursion (FitsEntry size) es → HaveDescriptors es
+    → length (flat_map entry_bytes es) ≤ n → are_entries_within size n (flat_map entry_bytes es) ≡ true
 within size n [] fits are le = refl
 within size zero (e ∷ es) fits are le = absurd (omega (arith, le, entry_size e (flat_map entry_bytes es)))
 within size (suc n) (e ∷ es) fits are le =
     let rest = flat_map entry_bytes es in
     let some = entry_size e rest in
     let one = begins_with size e rest fits.0 are.0 in
-    first_of size n (entry_bytes e ++ rest) (omega (arith, some)) ∙ both_true one.0 (ap (are_entries_within size n) one.1 ∙ within size n es fits.1 are.1 (omega (arith, le, some)))
+    first_of size n (entry_bytes e ++ rest) (omega (arith, some)) ∙ both_true one.0 (ap (are_entries_within size n) one.1
+    ∙ within size n es fits.1 are.1 (omega (arith, le, some)))
 
 -- the bytes of entries are entries
-pub entries_are : (size : ℕ) (es : List Entry) → AllByRecursion (FitsEntry size) es → HaveDescriptors es → are_entries size (flat_map entry_bytes es) ≡ true
+pub entries_are : (size : ℕ) (es : List Entry) → AllByRecursion (FitsEntry size) es → HaveDescriptors es
+    → are_entries size (flat_map entry_bytes es) ≡ true
 entries_are size es fits are = within size (length (flat_map entry_bytes es)) es fits are (omega arith)
 
 have_descriptors : {X : Type 0} (value_of : Reads X) (es : List Entry) (values : List X) → AreReadAs value_of es values → HaveDescriptors es
@@ -94,7 +119,8 @@ have_descriptors value_of (e ∷ es) [] read = absurd read
 have_descriptors value_of (e ∷ es) (v ∷ values) read = (descriptors_are e.descriptors read.0.descs read.0.loop.whole, have_descriptors value_of es values read.1)
 
 -- and so are bytes that are read as entries
-pub read_entries_are : {X : Type 0} (size : ℕ) (value_of : Reads X) (bytes : List ℕ) (values : List X) → AreEntries size value_of bytes values → are_entries size bytes ≡ true
+pub read_entries_are : {X : Type 0} (size : ℕ) (value_of : Reads X) (bytes : List ℕ) (values : List X)
+    → AreEntries size value_of bytes values → are_entries size bytes ≡ true
 read_entries_are size value_of bytes values is =
     ap (are_entries size) is.whole ∙ entries_are size is.entries is.fits (have_descriptors value_of is.entries values is.read)
 
@@ -115,7 +141,8 @@ byte_at n [] all = omega arith
 byte_at zero (x ∷ xs) all = all.0
 byte_at (suc n) (x ∷ xs) all = byte_at n xs all.1
 
-descriptors_of : (n : ℕ) (bytes : List ℕ) → AreBytes bytes → are_descriptors n bytes ≡ true → (descs : List RawDesc) × AreDescriptors bytes descs
+descriptors_of : (n : ℕ) (bytes : List ℕ) → AreBytes bytes → are_descriptors n bytes ≡ true
+    → (descs : List RawDesc) × AreDescriptors bytes descs
 descriptors_of n [] all e = ([], record { whole = refl; lengths = tt })
 descriptors_of n (tag ∷ []) all e = cc
 descriptors_of zero (tag ∷ len ∷ behind) all e = cc
@@ -154,19 +181,23 @@ first_entry size bytes all e =
     let high_fits : high < 256 = byte_at size bytes all in
     let low_fits : low < 256 = byte_at (size + 1) bytes all in
     let inside = drop (size + 2) bytes in
-    let descs = descriptors_of len (loop_of size bytes) (bytes_before len inside (bytes_behind (size + 2) bytes all)) (second_true _ are e) in
+    let descs = descriptors_of len (loop_of size bytes) (bytes_before len inside (bytes_behind (size + 2) bytes all))
+    (second_true _ are e) in
     let its : length (take len inside) ≡ len = length-take-le len inside (omega (arith, enough, length-drop (size + 2) bytes)) in
     let told : 4096 * (field / 4096) + length (take len inside) ≡ field = omega (arith, its) in
     let high_is : high ≡ (4096 * (field / 4096) + length (take len inside)) / 256 % 256 = omega (arith, told, high_fits, low_fits) in
     let low_is : low ≡ (4096 * (field / 4096) + length (take len inside)) % 256 = omega (arith, told, high_fits, low_fits) in
     let fields = take size bytes in
     let two_more : size + 1 + 1 ≡ size + 2 = omega arith in
-    let second : drop (size + 1) bytes ≡ low ∷ inside = drop_more bytes (size + 1) 0 (omega (arith, enough)) ∙ ap (λ (n : ℕ). low ∷ drop n bytes) two_more in
-    let first : drop size bytes ≡ high ∷ low ∷ inside = drop_more bytes size 0 (omega (arith, enough)) ∙ ap (λ (l : List ℕ). high ∷ l) second in
+    let second : drop (size + 1) bytes ≡ low ∷ inside = drop_more bytes (size + 1) 0 (omega (arith, enough))
+    ∙ ap (λ (n : ℕ). low ∷ drop n bytes) two_more in
+    let first : drop size bytes ≡ high ∷ low ∷ inside = drop_more bytes size 0 (omega (arith, enough))
+    ∙ ap (λ (l : List ℕ). high ∷ l) second in
     let entry : Entry = record { fields = fields; bits = field / 4096; descriptors = take len inside } in
     let behind : drop len inside ≡ behind_entry size bytes = drop-drop len (size + 2) bytes in
     let apart : bytes ≡ fields ++ (high ∷ low ∷ (take len inside ++ drop len inside)) =
-    sym (take-append-drop size bytes) ∙ ap (λ (l : List ℕ). fields ++ l) (first ∙ ap (λ (l : List ℕ). high ∷ low ∷ l) (sym (take-append-drop len inside))) in
+    sym (take-append-drop size bytes) ∙ ap (λ (l : List ℕ). fields ++ l) (first
+    ∙ ap (λ (l : List ℕ). high ∷ low ∷ l) (sym (take-append-drop len inside))) in
     record {
       entry = entry;
       fits = record {
@@ -177,19 +208,22 @@ first_entry size bytes all e =
       descs = descs.0;
       loop = descs.1;
       whole =
-          apart ∙ ap₂ (λ (a b : ℕ). fields ++ (a ∷ b ∷ (take len inside ++ drop len inside))) high_is low_is ∙ sym (parts_apart entry (drop len inside))
+          apart ∙ ap₂ (λ (a b : ℕ). fields ++ (a ∷ b ∷ (take len inside ++ drop len inside))) high_is low_is
+          ∙ sym (parts_apart entry (drop len inside))
           ∙ ap (λ (l : List ℕ). entry_bytes entry ++ l) behind;
     }
 
 -- bytes that are entries are read as some values
-within_of : {X : Type 0} (size n : ℕ) (value_of : Reads X) (bytes : List ℕ) → AreBytes bytes → are_entries_within size n bytes ≡ true → (values : List X) × AreEntries size value_of bytes values
+within_of : {X : Type 0} (size n : ℕ) (value_of : Reads X) (bytes : List ℕ) → AreBytes bytes → are_entries_within size n bytes ≡ true
+    → (values : List X) × AreEntries size value_of bytes values
 within_of size n value_of [] all e = ([], record { entries = []; whole = refl; fits = tt; read = tt })
 within_of size zero value_of (b ∷ bytes) all e = cc
 within_of size (suc n) value_of (b ∷ bytes) all e =
     let behind = behind_entry size (b ∷ bytes) in
     let more = are_entries_within size n behind in
     let first = first_entry size (b ∷ bytes) all (first_true _ more e) in
-    let rest = within_of size n value_of behind (bytes_behind (entry_length size (b ∷ bytes)) (b ∷ bytes) all) (second_true (begins_with_entry size (b ∷ bytes)) more e) in (
+    let rest = within_of size n value_of behind (bytes_behind (entry_length size (b ∷ bytes)) (b ∷ bytes) all) (second_true
+    (begins_with_entry size (b ∷ bytes)) more e) in (
       value_of first.entry.fields first.entry.bits first.descs ∷ rest.0,
       record {
         entries = first.entry ∷ rest.1.entries;
@@ -199,5 +233,6 @@ within_of size (suc n) value_of (b ∷ bytes) all e =
       },
     )
 
-pub entries_of : {X : Type 0} (size : ℕ) (value_of : Reads X) (bytes : List ℕ) → AreBytes bytes → are_entries size bytes ≡ true → (values : List X) × AreEntries size value_of bytes values
+pub entries_of : {X : Type 0} (size : ℕ) (value_of : Reads X) (bytes : List ℕ) → AreBytes bytes → are_entries size bytes ≡ true
+    → (values : List X) × AreEntries size value_of bytes values
 entries_of size value_of bytes all e = within_of size (length bytes) value_of bytes all e
