@@ -101,7 +101,9 @@ streams_are (s ∷ ss) = (cable_are s.cable s.services, streams_are ss)
 
 streams_fit : (ss : List NitStream) → AllByRecursion FitsStream ss → AllByRecursion (FitsEntry 4) (map stream_entry ss)
 streams_fit [] fit = tt
-streams_fit (s ∷ ss) fit = (record { fields = refl; bits = omega arith; descriptors = descriptors_few s.cable s.services fit.0.services }, streams_fit ss fit.1)
+streams_fit (s ∷ ss) fit =
+    let few = descriptors_few s.cable s.services fit.0.services in
+    (record { fields = refl; bits = omega arith; descriptors = few }, streams_fit ss fit.1)
 
 pub written_nits : WrittenNitsAreBodies
 written_nits nit fits =

@@ -9,6 +9,7 @@ use Rattle.si_lists.proofs.Truths.{first_true, second_true}
 use Rattle.si_base.specs.Fields.{two_at}
 use Rattle.guide_model.specs.declared.stream.Component.{Component}
 use Rattle.desc_service.specs.Languages.{languages_body, iso_639_language}
+use Rattle.table_entries.specs.Entries.{FitsEntry}
 use Rattle.table_entries.specs.Loops.{are_entries, entry_length, behind_entry, begins_with_entry}
 use Rattle.table_entries.proofs.Looks.{HasDescriptors, HaveDescriptors, descriptors_are, begins_with, entries_are, read_entries_are, bytes_behind, first_entry, entries_of}
 use Rattle.pat_pmt.specs.declared.pat.PatEntry.{PatEntry}
@@ -79,7 +80,8 @@ components_are (c ∷ cs) = (language_are c.language, components_are cs)
 pub written_pmts : WrittenPmtsAreBodies
 written_pmts pmt fits =
     let loop = flat_map component_bytes pmt.components in
-    let one = begins_with 2 (program_entry pmt.pcr_pid) loop (record { fields = refl; bits = omega arith; descriptors = omega arith }) refl in
+    let fit : FitsEntry 2 (program_entry pmt.pcr_pid) = record { fields = refl; bits = omega arith; descriptors = omega arith } in
+    let one = begins_with 2 (program_entry pmt.pcr_pid) loop fit refl in
     both_true one.0
     (ap (are_entries 3) (one.1 ∙ components_whole pmt.components)
     ∙ entries_are 3 (map component_entry pmt.components) (components_fit pmt.components fits.components)

@@ -116,7 +116,8 @@ entries_are size es fits are = within size (length (flat_map entry_bytes es)) es
 have_descriptors : {X : Type 0} (value_of : Reads X) (es : List Entry) (values : List X) → AreReadAs value_of es values → HaveDescriptors es
 have_descriptors value_of [] values read = tt
 have_descriptors value_of (e ∷ es) [] read = absurd read
-have_descriptors value_of (e ∷ es) (v ∷ values) read = (descriptors_are e.descriptors read.0.descs read.0.loop.whole, have_descriptors value_of es values read.1)
+have_descriptors value_of (e ∷ es) (v ∷ values) read =
+    (descriptors_are e.descriptors read.0.descs read.0.loop.whole, have_descriptors value_of es values read.1)
 
 -- and so are bytes that are read as entries
 pub read_entries_are : {X : Type 0} (size : ℕ) (value_of : Reads X) (bytes : List ℕ) (values : List X)
