@@ -1,11 +1,13 @@
 // The sections that count.
 ghost use Rattle.std.specs.Prelude.{◌≡◌, ◌&&◌, IfOk, option_map};
-ghost use Rattle.section_codec.specs.Tables.{is_sdt, is_events};
+ghost use Rattle.section_codec.specs.Tables.{is_pat, is_pmt, is_nit, is_sdt, is_events};
 ghost use Rattle.section_codec.specs.Segments.{segment_last_in};
 ghost use Rattle.sub_collect.specs.Runs.{counted};
-ghost use Rattle.guide_receiver.specs.Counting.{is_counted, is_last_within, is_body_of_table, counted_in};
+ghost use Rattle.guide_receiver.specs.Counting.{is_counted, is_last_within, is_event_body, is_body_of_table, counted_in};
 
 use eit_codec::is_eit_body;
+use nit_sdt::{is_nit_body, is_sdt_body};
+use pat_pmt::{is_pat_body, is_pmt_body};
 use section_codec::{
     BadSection, Key, LongHeader, Section, is_eit, key_of, read_section, segment_last,
 };
@@ -45,12 +47,34 @@ pub(crate) fn counted_section(
     }
 }
 
-// Whether sections of this table on this PID count: the SDT of the actual stream, and event information of this
-// multiplex.
+// Whether sections of this table on this PID count: the PAT, a PMT, the NIT of the actual network, the SDT of the actual stream, and
+// event information of this multiplex.
 fn is_counted(pid: u16, table: u8) -> bool
     ensures { result ≡ is_counted pid table }
 {
-    is_sdt(pid, table) || is_events(pid, table)
+    is_pat(pid, table)
+        || is_pmt(pid, table)
+        || is_nit(pid, table)
+        || is_sdt(pid, table)
+        || is_events(pid, table)
+}
+
+fn is_pat(pid: u16, table: u8) -> bool
+    ensures { result ≡ is_pat pid table }
+{
+    pid == 0x0000 && table == 0x00
+}
+
+fn is_pmt(pid: u16, table: u8) -> bool
+    ensures { result ≡ is_pmt pid table }
+{
+    0x0020 <= pid && pid <= 0x1FFE && table == 0x02
+}
+
+fn is_nit(pid: u16, table: u8) -> bool
+    ensures { result ≡ is_nit pid table }
+{
+    pid == 0x0010 && table == 0x40
 }
 
 fn is_sdt(pid: u16, table: u8) -> bool
@@ -65,13 +89,26 @@ fn is_events(pid: u16, table: u8) -> bool
     pid == 0x0012 && (table == 0x4E || 0x50 <= table && table <= 0x5F)
 }
 
-// Whether the body is one of its table. Of event information it is looked at and not read, which takes no memory.
+// Whether the body is one of its table. It is looked at and not read, which takes no memory.
 fn is_body_of_table(header: &LongHeader, body: &[u8]) -> bool
     ensures { result ≡ is_body_of_table header.now body.now }
 {
-    if !is_eit(header.table) {
-        return true;
+    if is_eit(header.table) {
+        return is_event_body(header, body);
     }
+    match header.table {
+        0x00 => is_pat_body(body),
+        0x02 => is_pmt_body(body),
+        0x40 => is_nit_body(body),
+        0x42 => is_sdt_body(body),
+        _ => false,
+    }
+}
+
+// Whether the body is one of event information, and its numbers are of the section's segment and table.
+fn is_event_body(header: &LongHeader, body: &[u8]) -> bool
+    ensures { result ≡ is_event_body header.now body.now }
+{
     is_eit_body(body) && is_last_within(segment_last(header, body), header.last)
 }
 

@@ -137,7 +137,8 @@ stream_read back s o (Some c) ks ls lo digits few words = record {
   shows = sym (same_stream _ s _ o _ (Some c) _ ks (word_back s ls) (word_back o lo) (ap (λ read. option_or read None) (back c digits)) (ap (λ read. unwrap_or (option_or read None) []) (service_list-reads_back ks words)));
 }
 
-descriptors_few : (c : Option Cable) (ks : List ServiceKind) → 3 * length ks ≤ 255 → length (cable_descriptors c ++ service_list ks) < 4096
+pub descriptors_few : (c : Option Cable) (ks : List ServiceKind) → 3 * length ks ≤ 255
+    → length (cable_descriptors c ++ service_list ks) < 4096
 descriptors_few None ks few = omega (arith, few, length-service_list_body ks)
 descriptors_few (Some c) ks few = omega (arith, few, length-service_list_body ks)
 
@@ -150,7 +151,7 @@ streams_read back [] fit = tt
 streams_read back (s ∷ ss) fit =
     (stream_read back s.stream s.original s.cable s.services fit.0.stream fit.0.original fit.0.fits.cable fit.0.fits.services fit.0.services, streams_read back ss fit.1)
 
-streams_whole : (ss : List NitStream) → flat_map stream_bytes ss ≡ flat_map entry_bytes (map stream_entry ss)
+pub streams_whole : (ss : List NitStream) → flat_map stream_bytes ss ≡ flat_map entry_bytes (map stream_entry ss)
 streams_whole [] = refl
 streams_whole (s ∷ ss) = ap (λ (xs : List ℕ). stream_bytes s ++ xs) (streams_whole ss)
 

@@ -74,7 +74,7 @@ services_read : ServiceReadsBack → (ss : List SdtService) → AllByRecursion H
 services_read back [] fit = tt
 services_read back (s ∷ ss) fit = (service_read back s fit.0, services_read back ss fit.1)
 
-services_whole : (ss : List SdtService) → flat_map service_bytes ss ≡ flat_map entry_bytes (map service_entry ss)
+pub services_whole : (ss : List SdtService) → flat_map service_bytes ss ≡ flat_map entry_bytes (map service_entry ss)
 services_whole [] = refl
 services_whole (s ∷ ss) = ap (λ (xs : List ℕ). service_bytes s ++ xs) (services_whole ss)
 

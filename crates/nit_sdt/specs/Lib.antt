@@ -1,3 +1,4 @@
 pub mod Nit
 pub mod Sdt
+pub mod Bodies
 pub mod Rows

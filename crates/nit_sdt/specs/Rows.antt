@@ -8,6 +8,7 @@ use Rattle.nit_sdt.specs.declared.nit.NitStream.{NitStream}
 use Rattle.nit_sdt.specs.declared.sdt.SdtService.{SdtService}
 use Rattle.nit_sdt.specs.Nit.{nit_body, name_of, stream_of}
 use Rattle.nit_sdt.specs.Sdt.{sdt_body, service_of}
+use Rattle.nit_sdt.specs.Bodies.{is_nit_body, is_sdt_body}
 
 -- ---- the network Demo, with stream 1 of network 1, which has service 101 of type 1
 
@@ -76,3 +77,22 @@ service_read = refl
 
 service_bare : service_of (0x00 ∷ 0x65 ∷ 0xFD ∷ []) 8 (cut_text ∷ []) ≡ record { service = 101; schedule = false; present = true; kind = 0; provider = Text []; name = Text [] }
 service_bare = refl
+
+-- ---- bodies that are looked at
+
+looked_nit : is_nit_body (0xF0 ∷ 0x02 ∷ 0x40 ∷ 0x00 ∷ 0xF0 ∷ 0x08 ∷ 0x00 ∷ 0x01 ∷ 0x00 ∷ 0x01 ∷ 0xF0 ∷ 0x02 ∷ 0x41 ∷ 0x00 ∷ []) ≡ true
+looked_nit = refl
+
+-- transport_stream_loop_length leaves a byte over
+looked_left_over : is_nit_body (0xF0 ∷ 0x00 ∷ 0xF0 ∷ 0x00 ∷ 0x00 ∷ []) ≡ false
+looked_left_over = refl
+
+looked_sdt : is_sdt_body (0x00 ∷ 0x01 ∷ 0xFF ∷ 0x00 ∷ 0x02 ∷ 0xFE ∷ 0x80 ∷ 0x05 ∷ 0x48 ∷ 0x03 ∷ 0x01 ∷ 0x00 ∷ 0x00 ∷ []) ≡ true
+looked_sdt = refl
+
+looked_no_services : is_sdt_body (0x00 ∷ 0x01 ∷ 0xFF ∷ []) ≡ true
+looked_no_services = refl
+
+-- the descriptor runs past the end of its loop
+looked_past : is_sdt_body (0x00 ∷ 0x01 ∷ 0xFF ∷ 0x00 ∷ 0x02 ∷ 0xFE ∷ 0x80 ∷ 0x05 ∷ 0x48 ∷ 0x04 ∷ 0x01 ∷ 0x00 ∷ 0x00 ∷ []) ≡ false
+looked_past = refl

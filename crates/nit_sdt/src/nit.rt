@@ -1,5 +1,5 @@
 // The network information table.
-ghost use Rattle.std.specs.Prelude.{◌≡◌, ◌<◌, ◌≤◌, ◌++◌, List, ℕ, length, sum_by, IfOk, IfSome, IfNone, OnOk};
+ghost use Rattle.std.specs.Prelude.{◌≡◌, ◌<◌, ◌≤◌, ◌++◌, true, false, List, ℕ, drop, length, sum_by, IfOk, IfSome, IfNone, OnOk};
 ghost use Rattle.std.specs.List.{All, flat_map};
 ghost use Rattle.si_text.specs.Decoding.{shown_bytes};
 ghost use Rattle.desc_service.specs.CableDelivery.{FitsCable};
@@ -8,6 +8,7 @@ ghost use Rattle.table_entries.specs.Entries.{AreEntries, entry_bytes};
 ghost use Rattle.nit_sdt.specs.declared.nit.NitStream.{NitStream};
 ghost use Rattle.nit_sdt.specs.declared.nit.Nit.{Nit};
 ghost use Rattle.nit_sdt.specs.Nit.{FitsStream, IsLoop, IsNit, bare_entry, cable_descriptors, cable_of, cable_size, name_of, nit_body, services_of, stream_bytes, stream_of, stream_size};
+ghost use Rattle.nit_sdt.specs.Bodies.{is_loop, is_nit_body};
 
 use crate::texts::no_text;
 use desc_service::{
@@ -18,7 +19,7 @@ use guide_model::Cable;
 use si_base::{Bytes, Items};
 use si_text::Shown;
 use std::alloc::{AllocError, Global};
-use table_entries::{RawEntry, split_entry};
+use table_entries::{RawEntry, are_entries, behind_entry, split_entry};
 
 /// A transport stream of a network: transport_stream_id and original_network_id, how it is sent by cable where that is told, and its
 /// services.
@@ -141,10 +142,27 @@ pub fn read_nit(alloc: Global, body: &[u8]) -> Result<Option<Nit>, AllocError>
     Ok(Some(Nit { name, streams }))
 }
 
+/// Whether these bytes are the body of a section of the network information table, as `read_nit` reads it (EN 300 468, 5.2.1). It takes
+/// no memory.
+pub fn is_nit_body(body: &[u8]) -> bool
+    ensures { result ≡ is_nit_body body.now }
+{
+    let Some(behind) = behind_entry(0, body) else {
+        return false;
+    };
+    match split_loop(behind) {
+        Some(streams) => are_entries(4, streams),
+        None => false,
+    }
+}
+
 // The bytes that these are behind a length of 12 bits; none where they are not just as many as it tells.
 fn split_loop(bytes: &[u8]) -> Option<&[u8]>
     ensures some { IfSome result (λ entries. IsLoop bytes.now entries.now) }
     ensures none { IfNone result ((entries : List ℕ) → ¬ IsLoop bytes.now entries) }
+    ensures behind { IfSome result (λ entries. entries.now ≡ drop 2 bytes.now) }
+    ensures is_loop { IfSome result (λ entries. is_loop bytes.now ≡ true) }
+    ensures is_none { IfNone result (is_loop bytes.now ≡ false) }
 {
     let [high, low, entries @ ..] = bytes else {
         return None;

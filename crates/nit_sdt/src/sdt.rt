@@ -5,13 +5,14 @@ ghost use Rattle.table_entries.specs.Entries.{AreEntries};
 ghost use Rattle.nit_sdt.specs.declared.sdt.SdtService.{SdtService};
 ghost use Rattle.nit_sdt.specs.declared.sdt.Sdt.{Sdt};
 ghost use Rattle.nit_sdt.specs.Sdt.{FitsService, IsSdt, flag_bit, sdt_body, service_bytes, service_of, text_in};
+ghost use Rattle.nit_sdt.specs.Bodies.{is_sdt_body};
 
 use crate::texts::no_text;
 use desc_service::{RawDesc, ServiceText, read_service, write_service_fields};
 use si_base::{Bytes, Items};
 use si_text::Shown;
 use std::alloc::{AllocError, Global};
-use table_entries::{RawEntry, split_entry};
+use table_entries::{RawEntry, are_entries, split_entry};
 
 /// A service as it is described: service_id, whether event information of its schedule and of its present and following events is
 /// sent, service_type (`kind`), the provider of the service and its name (EN 300 468, 5.2.3 and 6.2.33).
@@ -108,6 +109,14 @@ pub fn read_sdt(alloc: Global, body: &[u8]) -> Result<Option<Sdt>, AllocError>
         original: 256 * u16::from(*high) + u16::from(*low),
         services,
     }))
+}
+
+/// Whether these bytes are the body of a section of the service description table, as `read_sdt` reads it (EN 300 468, 5.2.3). It takes
+/// no memory.
+pub fn is_sdt_body(body: &[u8]) -> bool
+    ensures { result ≡ is_sdt_body body.now }
+{
+    3 <= body.len() && are_entries(3, &body[3..])
 }
 
 // The services of the entries that these bytes are.

@@ -6,16 +6,15 @@ use Rattle.std.proofs.lemmas.List.{append-nil}
 use Rattle.si_base.specs.Fields.{two, two_at}
 use Rattle.guide_model.specs.declared.stream.Component.{Component}
 use Rattle.desc_parts.specs.declared.descriptors.RawDesc.{RawDesc}
-use Rattle.desc_parts.specs.Descriptors.{AreDescriptors, descriptor_bytes}
+use Rattle.desc_parts.specs.Descriptors.{AreDescriptors}
 use Rattle.desc_service.specs.Languages.{languages_body, iso_639_language}
 use Rattle.desc_service.proofs.Entries.{languages-read_back, length-languages_body}
 use Rattle.table_entries.specs.Entries.{Entry, entry_bytes, FitsEntry, IsReadAs, AreReadAs, AreEntries}
 use Rattle.table_entries.proofs.Same.{same_entry}
 use Rattle.table_entries.proofs.Reading.{entries-unique}
-use Rattle.pat_pmt.specs.declared.pat.PatEntry.{PatEntry}
 use Rattle.pat_pmt.specs.declared.pmt.Pmt.{Pmt}
-use Rattle.pat_pmt.specs.Pat.{program_of, pat_in, pat_body, FitsProgram, PatReadsBack}
-use Rattle.pat_pmt.specs.Pmt.{language_descriptors, component_entry, component_bytes, program_entry, first_language, component_of, IsPmt, FitsComponent, FitsPmt, PmtIsUnique, PmtReadsBack}
+use Rattle.pat_pmt.specs.Pat.{program_of, PatReadsBack}
+use Rattle.pat_pmt.specs.Pmt.{language_descriptors, component_entry, component_bytes, program_entry, first_language, component_of, IsPmt, FitsComponent, PmtIsUnique, PmtReadsBack}
 
 pub pat-reads_back : PatReadsBack
 pat-reads_back [] fit = refl
@@ -91,7 +90,7 @@ descriptors_few : (l : Option (List ℕ)) → IfSome l (λ language. length lang
 descriptors_few None three = omega arith
 descriptors_few (Some l) three = omega (arith, length-languages_body (l ∷ []) (three, tt))
 
-components_fit : (cs : List Component) → AllByRecursion FitsComponent cs → AllByRecursion (FitsEntry 3) (map component_entry cs)
+pub components_fit : (cs : List Component) → AllByRecursion FitsComponent cs → AllByRecursion (FitsEntry 3) (map component_entry cs)
 components_fit [] fit = tt
 components_fit (c ∷ cs) fit = (record { fields = refl; bits = omega arith; descriptors = descriptors_few c.language fit.0.language }, components_fit cs fit.1)
 
@@ -99,7 +98,7 @@ components_read : (cs : List Component) → AllByRecursion FitsComponent cs → 
 components_read [] fit = tt
 components_read (c ∷ cs) fit = (component_read c.stream_type c.pid c.language fit.0.pid fit.0.language, components_read cs fit.1)
 
-components_whole : (cs : List Component) → flat_map component_bytes cs ≡ flat_map entry_bytes (map component_entry cs)
+pub components_whole : (cs : List Component) → flat_map component_bytes cs ≡ flat_map entry_bytes (map component_entry cs)
 components_whole [] = refl
 components_whole (c ∷ cs) = ap (λ (xs : List ℕ). component_bytes c ++ xs) (components_whole cs)
 

@@ -1,3 +1,4 @@
 pub mod Pat
 pub mod Pmt
+pub mod Bodies
 pub mod Rows

@@ -1,9 +1,10 @@
 -- Worked bodies of program tables.
-use Rattle.std.specs.Prelude.{◌≡◌, [], ◌∷◌, Some, None, refl, codes}
+use Rattle.std.specs.Prelude.{◌≡◌, [], ◌∷◌, Some, None, true, false, refl, codes}
 use Rattle.std.specs.Str.{chars}
 use Rattle.desc_parts.specs.declared.descriptors.RawDesc.{RawDesc}
 use Rattle.pat_pmt.specs.Pat.{pat_body, pat_in}
 use Rattle.pat_pmt.specs.Pmt.{pmt_body, component_of}
+use Rattle.pat_pmt.specs.Bodies.{is_pat_body, is_pmt_body}
 
 -- ---- the network's program 0 on PID 0x0010, and program 101 on PID 256
 
@@ -45,3 +46,21 @@ component_read = refl
 
 component_hidden : component_of (0x03 ∷ 0xE2 ∷ 0x02 ∷ []) 15 (no_language ∷ english ∷ []) ≡ record { stream_type = 3; pid = 514; language = None }
 component_hidden = refl
+
+-- ---- bodies that are looked at
+
+looked_pat : is_pat_body (0x00 ∷ 0x65 ∷ 0x01 ∷ 0x00 ∷ []) ≡ true
+looked_pat = refl
+
+looked_cut_pat : is_pat_body (0x00 ∷ 0x65 ∷ 0xE1 ∷ []) ≡ false
+looked_cut_pat = refl
+
+looked_pmt : is_pmt_body (0xE1 ∷ 0x01 ∷ 0xF0 ∷ 0x00 ∷ 0x02 ∷ 0xE2 ∷ 0x01 ∷ 0xF0 ∷ 0x00 ∷ []) ≡ true
+looked_pmt = refl
+
+-- program_info_length runs past the end, and the last entry is cut
+looked_past_pmt : is_pmt_body (0xE1 ∷ 0x01 ∷ 0xF0 ∷ 0x01 ∷ []) ≡ false
+looked_past_pmt = refl
+
+looked_cut_pmt : is_pmt_body (0xE1 ∷ 0x01 ∷ 0xF0 ∷ 0x00 ∷ 0x02 ∷ 0xE2 ∷ 0x01 ∷ 0xF0 ∷ []) ≡ false
+looked_cut_pmt = refl

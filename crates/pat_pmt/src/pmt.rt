@@ -5,12 +5,13 @@ ghost use Rattle.guide_model.specs.declared.stream.Component.{Component};
 ghost use Rattle.table_entries.specs.Entries.{AreEntries};
 ghost use Rattle.pat_pmt.specs.declared.pmt.Pmt.{Pmt};
 ghost use Rattle.pat_pmt.specs.Pmt.{HasPid, IsPmt, component_bytes, component_of, language_descriptors, language_of, pmt_body};
+ghost use Rattle.pat_pmt.specs.Bodies.{is_pmt_body};
 
 use desc_service::{RawDesc, read_iso_639_language, write_iso_639_language};
 use guide_model::{Component, Components};
 use si_base::{Bytes, Items};
 use std::alloc::{AllocError, Global};
-use table_entries::{RawEntry, split_entry};
+use table_entries::{RawEntry, are_entries, behind_entry, split_entry};
 
 /// What a program map table holds: the PID of the program's clock reference (13 bits) and its components.
 #[derive(Drop)]
@@ -128,4 +129,15 @@ fn language_of(alloc: Global, descs: &[RawDesc]) -> Result<Option<[u8; 3]>, Allo
         }
     }
     Ok(None)
+}
+
+/// Whether these bytes are the body of a section of the program map table, as `read_pmt` reads it (ISO/IEC 13818-1, 2.4.4.8). It takes
+/// no memory.
+pub fn is_pmt_body(body: &[u8]) -> bool
+    ensures { result ≡ is_pmt_body body.now }
+{
+    match behind_entry(2, body) {
+        Some(components) => are_entries(3, components),
+        None => false,
+    }
 }

@@ -15,7 +15,8 @@ same_two a b x y s t e =
 same_fields : (a b : Entry) → a.fields ≡ b.fields → a.bits ≡ b.bits → a.descriptors ≡ b.descriptors → a ≡ b
 same_fields a b f t d = λ i. record { fields = f i; bits = t i; descriptors = d i }
 
-parts_apart : (a : Entry) (x : List ℕ) → entry_bytes a ++ x ≡ a.fields ++ (two (4096 * a.bits + length a.descriptors) ++ (a.descriptors ++ x))
+pub parts_apart : (a : Entry) (x : List ℕ)
+    → entry_bytes a ++ x ≡ a.fields ++ (two (4096 * a.bits + length a.descriptors) ++ (a.descriptors ++ x))
 parts_apart a x =
     append_assoc (a.fields ++ two (4096 * a.bits + length a.descriptors)) a.descriptors x
     ∙ append_assoc a.fields (two (4096 * a.bits + length a.descriptors)) (a.descriptors ++ x)

@@ -1,2 +1,4 @@
 pub mod Entries
 pub mod First
+pub mod Loops
+pub mod Rows

@@ -3,9 +3,12 @@
 //! bytes their fields have.
 //!
 //! The layers above use: [`split_entry`] cuts an entry off the front of bytes. Bytes are the entries of one list of values at most
-//! (`AreEntries`, in `specs/`; the lemmas of reading one by one are in `proofs/Reading.antt`).
+//! (`AreEntries`, in `specs/`; the lemmas of reading one by one are in `proofs/Reading.antt`). [`are_entries`] and [`behind_entry`] look
+//! at entries without reading them, by the words of `specs/Loops.antt`; the lemmas that tie both are in `proofs/Looks.antt`.
 #![tactic(auto)]
 
 mod entry;
+mod loops;
 
 pub use entry::{RawEntry, split_entry};
+pub use loops::{are_entries, behind_entry};

@@ -6,6 +6,7 @@
 #![tactic(auto)]
 
 mod descriptors;
+mod looks;
 mod networks;
 mod programs;
 mod services;
@@ -40,7 +41,8 @@ fn answer(row: &mut Row) {
         "part_sdt" => services::part_services(row),
         "write_tdt" => times::write_time(row),
         "read_tdt" => times::read_time(row),
-        _ => row.refuse(),
+        "fronts" => looks::fronts(row),
+        call => looks::look(row, call),
     }
 }
 

@@ -1,0 +1,10 @@
+use Rattle.std.proofs.Common.{length}
+use Rattle.table_entries.specs.Loops.{are_descriptors}
+use Rattle.table_entries.proofs.Looked.{Decides}
+use Rattle.table_entries.proofs.loops.are_descriptors.Given as goal
+
+abbrev pub invariant-loop-rest : goal.invariant-loop-rest
+invariant-loop-rest l = Decides are_descriptors l.bytes l.rest
+
+abbrev pub decreases-loop-rest : goal.decreases-loop-rest
+decreases-loop-rest l = length l.rest
