@@ -1,5 +1,6 @@
 -- The sub-tables of a publication can be sent in one cycle.
-use Rattle.std.proofs.Common.{◌≡◌, ℕ, zero, suc, ◌+◌, ◌-◌, ◌<◌, ◌≤◌, Bool, true, false, ◌||◌, List, [], ◌∷◌, ◌++◌, length, map, min, sum_by, refl, sym, ap, ◌∙◌, subst, arith, lit<}
+use Rattle.std.proofs.Common.{◌≡◌, ℕ, zero, suc, ◌+◌, ◌-◌, ◌<◌, ◌≤◌, Bool, true, false, ◌||◌}
+use Rattle.std.proofs.Common.{List, [], ◌∷◌, ◌++◌, length, map, min, sum_by, refl, sym, ap, ◌∙◌, subst, arith, lit<, append_assoc}
 use Rattle.std.specs.Prelude.{flat_map, ◌==◌, ◌&&◌, nat_le, if◌then◌else◌}
 use Rattle.std.specs.List.{AllByRecursion, range_with_len}
 use Rattle.std.proofs.lemmas.Bool.Decides.{nat_tests}
@@ -8,7 +9,9 @@ use Rattle.std.proofs.lemmas.List.Elements.{All-from_recursion}
 use Rattle.si_lists.proofs.Lists.{all_append, all_map, all_two, each_unit}
 use Rattle.guide_model.specs.declared.guide.Guide.{Guide}
 use Rattle.guide_model.specs.declared.guide.ServiceGuide.{ServiceGuide}
+use Rattle.mux_config.specs.declared.mux.MuxService.{MuxService}
 use Rattle.mux_config.specs.declared.mux.Mux.{Mux}
+use Rattle.mux_config.specs.Sound.{IsSoundService, DoAscend}
 use Rattle.guide_limits.specs.Events.{midnight}
 use Rattle.guide_limits.specs.Sound.{AreAscending}
 use Rattle.guide_limits.specs.Limits.{IsServiceWithin, IsGuideWithin}
@@ -31,9 +34,16 @@ use Rattle.eit_tables.specs.Schedule.{last_table_of, schedule_table, near_tables
 use Rattle.eit_tables.specs.Laws.{AreSmallEntries, AreEit}
 use Rattle.eit_tables.proofs.EitFacts.{present_fit, schedule_fit}
 use Rattle.nit_sdt.specs.declared.sdt.SdtService.{SdtService}
+use Rattle.publication.specs.Sections.{single_table}
+use Rattle.publication.specs.Programs.{pat_of, pat_key, pat_table, pmt_of, pmt_key, pmt_table, pmt_tables}
+use Rattle.publication.specs.Network.{nit_of, nit_key, nit_table}
 use Rattle.publication.specs.Sdt.{sdt_services, service_size, section_body, numbered}
-use Rattle.publication.specs.Tables.{sdt_table, present_tables, all_near_tables, all_far_tables, tables_of}
+use Rattle.publication.specs.Tables.{sdt_key, sdt_table, present_tables, all_near_tables, all_far_tables, tables_of}
 use Rattle.publication.specs.Laws.{PublicationsAreFit}
+use Rattle.pat_pmt.specs.Pat.{pat_body}
+use Rattle.pat_pmt.specs.Pmt.{pmt_body}
+use Rattle.nit_sdt.specs.Nit.{nit_body}
+use Rattle.publication.proofs.ProgramFacts.{pat_short, pmt_short, nit_short}
 use Rattle.publication.proofs.SdtFacts.{length-body, length-numbered, ascend-numbered, services_fit}
 
 -- ---- which tables a service has
@@ -73,21 +83,36 @@ pub presents : (mux : Mux) (moment : ℕ) (ss : List ServiceGuide) → flat_map 
 presents mux moment [] = refl
 presents mux moment (s ∷ ss) = ap (λ (l : List SubTable). present_table mux moment s ∷ l) (presents mux moment ss)
 
+-- what holds of the PMT of each service
+pub each_pmt : (P : SubTable → Type 0) (R : MuxService → Type 0) → ((s : MuxService) → R s → P (pmt_table s))
+    → (ss : List MuxService) → AllByRecursion R ss → AllByRecursion P (map pmt_table ss)
+each_pmt P R each [] all = tt
+each_pmt P R each (s ∷ ss) all = (each s all.0, each_pmt P R each ss all.1)
+
+-- what holds of the PMTs of all services, whatever they are
+pub any_pmt : (P : SubTable → Type 0) (mux : Mux) → ((s : MuxService) → P (pmt_table s)) → AllByRecursion P (pmt_tables mux)
+any_pmt P mux each = each_pmt P (λ s. Unit {0}) (λ s q. each s) mux.services (each_unit mux.services)
+
 -- what holds of each sub-table of a publication
-pub each_sub_table : (P : SubTable → Type 0) (Q : ServiceGuide → Type 0) (mux : Mux) (guide : Guide) → AllByRecursion Q guide.services → P (sdt_table mux guide)
+pub each_sub_table : (P : SubTable → Type 0) (Q : ServiceGuide → Type 0) (mux : Mux) (guide : Guide) → AllByRecursion Q guide.services
+    → P (pat_table mux) → AllByRecursion P (pmt_tables mux) → P (nit_table mux) → P (sdt_table mux guide)
     → ((s : ServiceGuide) → Q s → P (present_table mux guide.moment.0 s))
     → ((s : ServiceGuide) (table : ℕ) → Q s → 0x50 ≤ table → table < 0x60 → P (schedule_table mux (midnight guide.moment.0) s table))
     → AllByRecursion P (tables_of mux guide)
-each_sub_table P Q mux guide all sdt present schedule =
+each_sub_table P Q mux guide all pat pmts nit sdt present schedule =
     let ss = guide.services in
-    let day = midnight guide.moment.0 in (
-      sdt,
-      all_append P (present_tables mux guide) (all_near_tables mux guide ++ all_far_tables mux guide)
-          (subst (AllByRecursion P) (presents mux guide.moment.0 ss) (each_service P Q (present_of mux guide.moment.0) (λ s q. (present s q, tt)) ss all))
-          (all_append P (all_near_tables mux guide) (all_far_tables mux guide)
-          (each_service P Q (near_tables mux day) (λ s q. each_near P mux day s (λ table above below. schedule s table q above (omega (arith, below)))) ss all)
-          (each_service P Q (far_tables mux day) (λ s q. each_far P mux day s (λ table above below. schedule s table q (omega (arith, above)) below)) ss all)),
-    )
+    let day = midnight guide.moment.0 in
+    let events = present_tables mux guide ++ (all_near_tables mux guide ++ all_far_tables mux guide) in
+    let of_events : AllByRecursion P events =
+    all_append P (present_tables mux guide) (all_near_tables mux guide ++ all_far_tables mux guide)
+    (subst (AllByRecursion P) (presents mux guide.moment.0 ss)
+    (each_service P Q (present_of mux guide.moment.0) (λ s q. (present s q, tt)) ss all))
+    (all_append P (all_near_tables mux guide) (all_far_tables mux guide)
+    (each_service P Q (near_tables mux day)
+    (λ s q. each_near P mux day s (λ table above below. schedule s table q above (omega (arith, below)))) ss all)
+    (each_service P Q (far_tables mux day)
+    (λ s q. each_far P mux day s (λ table above below. schedule s table q (omega (arith, above)) below)) ss all)) in
+    (pat, all_append P (pmt_tables mux) (nit_table mux ∷ sdt_table mux guide ∷ events) pmts (nit, (sdt, of_events)))
 
 -- ---- keys
 
@@ -139,6 +164,38 @@ differ_range mux day service from (suc n) = (
   differ_range mux day service (from + 1) n,
 )
 
+-- ---- the keys of PAT, PMTs, NIT and SDT
+
+pmts_differ : (ss : List MuxService) → DoAscend ss → KeysDiffer (map pmt_table ss)
+pmts_differ [] ascend = tt
+pmts_differ (s ∷ ss) ascend = (
+  lacks_service (pmt_key s) (map pmt_table ss)
+      (each_pmt (λ (t : SubTable). s.service < t.key.ext) (λ (t : MuxService). s.service < t.service) (λ t less. less) ss ascend.0),
+  pmts_differ ss ascend.1,
+)
+
+-- before tables of event information
+all_differ : (mux : Mux) (guide : Guide) → DoAscend mux.services
+    → (events : List SubTable) → KeysDiffer events → AllByRecursion (λ (t : SubTable). 0x4E ≤ t.key.table) events
+    → KeysDiffer (pat_table mux ∷ (pmt_tables mux ++ (nit_table mux ∷ sdt_table mux guide ∷ events)))
+all_differ mux guide ascend events differ above =
+    let pmts = pmt_tables mux in
+    let behind = nit_table mux ∷ sdt_table mux guide ∷ events in
+    let from : (n : ℕ) → n ≤ 0x4E → AllByRecursion (λ (t : SubTable). n ≤ t.key.table) events =
+    λ n le.
+    all_map (λ (t : SubTable). 0x4E ≤ t.key.table) (λ (t : SubTable). n ≤ t.key.table) (λ t ge. omega (arith, ge, le)) events above in
+    let lacks_pat : Lacks (pat_key mux) (pmts ++ behind) =
+    lacks_table (pat_key mux) 1 (pmts ++ behind) (omega arith)
+    (all_append (λ (t : SubTable). 1 ≤ t.key.table) pmts behind
+    (any_pmt (λ (t : SubTable). 1 ≤ t.key.table) mux (λ s. omega arith)) (omega arith, (omega arith, from 1 (omega arith)))) in
+    let lacks_nit : Lacks (nit_key mux) (sdt_table mux guide ∷ events) =
+    lacks_table (nit_key mux) 0x41 (sdt_table mux guide ∷ events) (omega arith) (omega arith, from 0x41 (omega arith)) in
+    let lacks_sdt : Lacks (sdt_key mux) events = lacks_table (sdt_key mux) 0x4E events (omega arith) above in (
+      lacks_pat,
+      differ_tables 0x40 pmts behind (pmts_differ mux.services ascend) (lacks_nit, (lacks_sdt, differ))
+          (any_pmt (λ (t : SubTable). t.key.table < 0x40) mux (λ s. omega arith)) (omega arith, (omega arith, from 0x40 (omega arith))),
+    )
+
 -- ---- tiers
 
 tiered_append : (n : ℕ) (xs ys : List SubTable) → AllByRecursion (λ (x : SubTable). tier_rank x.tier ≤ n) xs → AllByRecursion (λ (y : SubTable). n ≤ tier_rank y.tier) ys → AreTiered xs → AreTiered ys → AreTiered (xs ++ ys)
@@ -165,6 +222,25 @@ far_tier table above below =
     ∙ ap (λ (b : Bool). tier_rank (if b then Far else Fast)) far
 
 -- ---- each sub-table
+
+single_fit : (key : Key) (body : List ℕ) → key.pid < 8191 → key.table < 0x43 → length body ≤ 1012 → IsFit (single_table key body)
+single_fit key body pid table fits =
+    let other : is_eit key.table ≡ false = grind (arith, nat_tests) in
+    let most : longest_body key.table ≡ 1012 = ap (λ (b : Bool). if b then 4084 else 1012) other in
+    record {
+      pid = pid;
+      long = λ e. absurd (omega (arith, e, table));
+      no_fill = λ e. absurd (omega (arith, e, table));
+      some = omega arith;
+      ascending = tt;
+      bodies = All-from_recursion (λ (s : NumberedBody). length s.body ≤ longest_body key.table) (single_table key body).sections
+          (omega (arith, most, fits), tt);
+    }
+
+pmts_fit : (ss : List MuxService) → AllByRecursion IsSoundService ss → AllByRecursion IsFit (map pmt_table ss)
+pmts_fit ss sound =
+    each_pmt IsFit IsSoundService
+    (λ s is. single_fit (pmt_key s) (pmt_body (pmt_of s)) (omega (arith, is.pmt_pid.1)) (omega arith) (pmt_short s is)) ss sound
 
 short : (original n : ℕ) (runs : List (List SdtService)) → AllByRecursion (λ (r : List SdtService). sum_by service_size r ≤ 1009) runs
     → AllByRecursion (λ (s : NumberedBody). length s.body ≤ longest_body 0x42) (numbered n (map (section_body original) runs))
@@ -201,12 +277,19 @@ eit_fit t pid above below are =
           (λ s fits. omega (arith, most, fits.1)) t.sections are.bodies);
     }
 
+-- the first tables before some of event information, and these before later ones
+joined_front : (mux : Mux) (guide : Guide) (ps later : List SubTable)
+    → (pat_table mux ∷ (pmt_tables mux ++ (nit_table mux ∷ sdt_table mux guide ∷ ps))) ++ later
+    ≡ pat_table mux ∷ (pmt_tables mux ++ (nit_table mux ∷ sdt_table mux guide ∷ (ps ++ later)))
+joined_front mux guide ps later =
+    ap (λ (l : List SubTable). pat_table mux ∷ l) (append_assoc (pmt_tables mux) (nit_table mux ∷ sdt_table mux guide ∷ ps) later)
+
 -- a service within its limits, with small entries
 abbrev IsSmall : ServiceGuide → Type 0
 IsSmall s = IsServiceWithin s × AreSmallEntries s.events
 
 pub publication_fit : PublicationsAreFit
-publication_fit mux guide within small =
+publication_fit mux guide sound within small =
     let ss = guide.services in
     let moment = guide.moment.0 in
     let day = midnight moment in
@@ -247,21 +330,33 @@ publication_fit mux guide within small =
     λ n m le ts same. all_map (λ (t : SubTable). tier_rank t.tier ≡ n) (λ (t : SubTable). m ≤ tier_rank t.tier) (λ t e. omega (arith, e, le)) ts same in
     let most : (n : ℕ) (ts : List SubTable) → AllByRecursion (λ (t : SubTable). tier_rank t.tier ≡ n) ts → AllByRecursion (λ (t : SubTable). tier_rank t.tier ≤ n) ts =
     λ n ts same. all_map (λ (t : SubTable). tier_rank t.tier ≡ n) (λ (t : SubTable). tier_rank t.tier ≤ n) (λ t e. omega (arith, e)) ts same in
+    let above : AllByRecursion (λ (t : SubTable). 0x4E ≤ t.key.table) (ps ++ (ns ++ fs)) =
+    all_append (λ (t : SubTable). 0x4E ≤ t.key.table) ps (ns ++ fs) (of_present (λ (t : SubTable). 0x4E ≤ t.key.table) (λ s. omega arith))
+    (all_map (λ (t : SubTable). 0x50 ≤ t.key.table) (λ (t : SubTable). 0x4E ≤ t.key.table) (λ t le. omega (arith, le)) (ns ++ fs) behind) in
+    let later : AllByRecursion (λ (t : SubTable). 0 ≤ tier_rank t.tier) (ns ++ fs) =
+    all_append (λ (t : SubTable). 0 ≤ tier_rank t.tier) ns fs (least 1 0 (omega arith) ns rank_ns) (least 2 0 (omega arith) fs rank_fs) in
+    let front = pat_table mux ∷ (pmt_tables mux ++ (nit_table mux ∷ sdt_table mux guide ∷ ps)) in
+    let rank_front : AllByRecursion (λ (t : SubTable). tier_rank t.tier ≡ 0) front = (
+      refl,
+      all_append (λ (t : SubTable). tier_rank t.tier ≡ 0) (pmt_tables mux) (nit_table mux ∷ sdt_table mux guide ∷ ps)
+          (any_pmt (λ (t : SubTable). tier_rank t.tier ≡ 0) mux (λ s. refl)) (refl, (refl, rank_ps)),
+    ) in
     record {
-      differ = (
-        lacks_table (sdt_table mux guide).key 0x4E (ps ++ (ns ++ fs)) (omega arith)
-            (all_append (λ (t : SubTable). 0x4E ≤ t.key.table) ps (ns ++ fs) (of_present (λ (t : SubTable). 0x4E ≤ t.key.table) (λ s. omega arith))
-            (all_map (λ (t : SubTable). 0x50 ≤ t.key.table) (λ (t : SubTable). 0x4E ≤ t.key.table) (λ t le. omega (arith, le)) (ns ++ fs) behind)),
-        events,
-      );
+      differ = all_differ mux guide sound.ascend (ps ++ (ns ++ fs)) events above;
       each = All-from_recursion IsFit (tables_of mux guide)
-          (each_sub_table IsFit IsSmall mux guide services (sdt_table-fit mux guide within)
+          (each_sub_table IsFit IsSmall mux guide services
+          (single_fit (pat_key mux) (pat_body (pat_of mux)) (lit< tt) (omega arith) (pat_short mux sound))
+          (pmts_fit mux.services sound.services)
+          (single_fit (nit_key mux) (nit_body (nit_of mux)) (lit< tt) (omega arith) (nit_short mux sound))
+          (sdt_table-fit mux guide within)
           (λ s q. eit_fit (present_table mux moment s) refl (omega arith) (omega arith) (present_fit mux moment s q.1))
           (λ s table q above below. eit_fit (schedule_table mux day s table) refl (omega (arith, above)) below (schedule_fit mux day s table q.0 q.1)));
       tiers = All-from_recursion (λ (t : SubTable). t.tier ≡ tier_of t.key.table) (tables_of mux guide)
-          (each_sub_table (λ (t : SubTable). t.tier ≡ tier_of t.key.table) (λ (s : ServiceGuide). Unit {0}) mux guide any refl (λ s q. refl) (λ s table q above below. refl));
-      ordered = tiered_append 0 (sdt_table mux guide ∷ ps) (ns ++ fs) (omega arith, most 0 ps rank_ps)
-          (all_append (λ (t : SubTable). 0 ≤ tier_rank t.tier) ns fs (least 1 0 (omega arith) ns rank_ns) (least 2 0 (omega arith) fs rank_fs))
-          (tiered_same 0 (sdt_table mux guide ∷ ps) (refl, rank_ps))
-          (tiered_append 1 ns fs (most 1 ns rank_ns) (least 2 1 (omega arith) fs rank_fs) (tiered_same 1 ns rank_ns) (tiered_same 2 fs rank_fs));
+          (each_sub_table (λ (t : SubTable). t.tier ≡ tier_of t.key.table) (λ (s : ServiceGuide). Unit {0}) mux guide any
+          refl (any_pmt (λ (t : SubTable). t.tier ≡ tier_of t.key.table) mux (λ s. refl)) refl refl
+          (λ s q. refl) (λ s table q above below. refl));
+      ordered = subst AreTiered (joined_front mux guide ps (ns ++ fs))
+          (tiered_append 0 front (ns ++ fs) (most 0 front rank_front) later (tiered_same 0 front rank_front)
+          (tiered_append 1 ns fs (most 1 ns rank_ns) (least 2 1 (omega arith) fs rank_fs)
+          (tiered_same 1 ns rank_ns) (tiered_same 2 fs rank_fs)));
     }

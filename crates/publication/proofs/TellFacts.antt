@@ -1,7 +1,9 @@
 -- Receivers take the sub-tables of a publication as they are meant.
-use Rattle.std.proofs.Common.{◌≡◌, ℕ, ◌<◌, ◌≤◌, Bool, true, ◌||◌, List, [], ◌∷◌, length, map, Option, Some, None, refl, ap, ap₂, ◌∙◌, arith, le-leb}
+use Rattle.std.proofs.Common.{◌≡◌, ℕ, ◌<◌, ◌≤◌, Bool, true, false, ◌||◌, List, [], ◌∷◌, length, map}
+use Rattle.std.proofs.Common.{Option, Some, None, refl, sym, ap, ap₂, ◌∙◌, arith, le-leb}
 use Rattle.std.specs.Prelude.{◌&&◌, nat_le, if◌then◌else◌}
 use Rattle.std.specs.List.{AllByRecursion}
+use Rattle.std.proofs.lemmas.Bool.{false≢true}
 use Rattle.std.proofs.lemmas.Bool.Decides.{nat_tests}
 use Rattle.si_lists.proofs.Lists.{all_map, all_two}
 use Rattle.si_base.specs.Fields.{two_at}
@@ -9,7 +11,7 @@ use Rattle.guide_model.specs.declared.guide.Guide.{Guide}
 use Rattle.guide_model.specs.declared.guide.ServiceGuide.{ServiceGuide}
 use Rattle.mux_config.specs.declared.mux.MuxService.{MuxService}
 use Rattle.mux_config.specs.declared.mux.Mux.{Mux}
-use Rattle.mux_config.specs.Sound.{IsSoundService}
+use Rattle.mux_config.specs.Sound.{IsSound, IsSoundService}
 use Rattle.guide_limits.specs.Events.{midnight}
 use Rattle.guide_limits.specs.Limits.{IsServiceWithin}
 use Rattle.section_codec.specs.declared.section.LongHeader.{LongHeader}
@@ -33,27 +35,95 @@ use Rattle.eit_tables.specs.Schedule.{schedule_table}
 use Rattle.eit_tables.specs.Laws.{AreSmallEntries, AreEit, Names}
 use Rattle.eit_tables.proofs.EntryFacts.{typed_small}
 use Rattle.eit_tables.proofs.EitFacts.{present_fit, schedule_fit, events_name, events_read}
+use Rattle.pat_pmt.specs.Pat.{pat_body}
+use Rattle.pat_pmt.specs.Pmt.{pmt_body}
+use Rattle.pat_pmt.specs.Bodies.{is_pat_body, is_pmt_body}
+use Rattle.pat_pmt.proofs.Bodies.{written_pats, written_pmts}
+use Rattle.nit_sdt.specs.Nit.{nit_body}
+use Rattle.nit_sdt.specs.Bodies.{is_nit_body, is_sdt_body}
+use Rattle.nit_sdt.proofs.Bodies.{written_nits}
+use Rattle.publication.specs.Sections.{single_table}
+use Rattle.publication.specs.Programs.{pat_of, pat_key, pat_table, pmt_of, pmt_key, pmt_table}
+use Rattle.publication.specs.Network.{nit_of, nit_key, nit_table}
 use Rattle.publication.specs.Sdt.{sdt_sections}
 use Rattle.publication.specs.Tables.{sdt_key, sdt_table}
 use Rattle.publication.specs.Laws.{IsReadEit, IsSdtBody, AreSdt, TellsKey, TellsItself, PublicationsTellThemselves}
 use Rattle.publication.proofs.SdtFacts.{sdt_fit}
-use Rattle.publication.proofs.FitFacts.{each_sub_table}
+use Rattle.publication.proofs.ProgramFacts.{pmt_fits, nit_fits}
+use Rattle.publication.proofs.FitFacts.{each_pmt, each_sub_table}
 
 -- ---- keys
 
 abbrev key_of_fields : ℕ → ℕ → ℕ → ℕ → ℕ → Key
 key_of_fields pid table ext stream network = record { pid = pid; table = table; ext = ext; stream = stream; network = network }
 
+-- that of tables with ids in their bodies
+abbrev key_behind : ℕ → ℕ → ℕ → List ℕ → Option Key
+key_behind pid table ext body =
+    if is_sdt pid table && nat_le 2 (length body) then Some (key_of_fields pid table ext 0 (two_at 0 body))
+    else if is_events pid table && nat_le 4 (length body) then Some (key_of_fields pid table ext (two_at 0 body) (two_at 2 body))
+    else None
+
 -- the key by the fields of a header that it goes by
 abbrev key_by : ℕ → ℕ → ℕ → List ℕ → Option Key
 key_by pid table ext body =
     if is_pat pid table || is_pmt pid table || is_nit pid table then Some (key_of_fields pid table ext 0 0)
-    else if is_sdt pid table && nat_le 2 (length body) then Some (key_of_fields pid table ext 0 (two_at 0 body))
-    else if is_events pid table && nat_le 4 (length body) then Some (key_of_fields pid table ext (two_at 0 body) (two_at 2 body))
-    else None
+    else key_behind pid table ext body
 
 key_by_fields : (pid : ℕ) (header : LongHeader) (table ext : ℕ) (body : List ℕ) → header.table ≡ table → header.ext ≡ ext → key_in pid header body ≡ key_by pid table ext body
 key_by_fields pid header table ext body is_table is_ext = ap₂ (λ (t e : ℕ). key_by pid t e body) is_table is_ext
+
+-- ---- tables of one section
+
+never : {A : Type 0} {b : Bool} → b ≡ false → b ≡ true → A
+never is e = absurd (false≢true (sym is ∙ e))
+
+single_tells : (key : Key) (body : List ℕ) → key.table < 256 → key.ext < 65536 → is_eit key.table ≡ false
+    → TellsKey key (record { number = 0; body = body })
+    → (is_pat key.pid key.table ≡ true → is_pat_body body ≡ true) → (is_pmt key.pid key.table ≡ true → is_pmt_body body ≡ true)
+    → (is_nit key.pid key.table ≡ true → is_nit_body body ≡ true) → is_sdt key.pid key.table ≡ false → TellsItself (single_table key body)
+single_tells key body table ext other keyed pat pmt nit sdt = record {
+  table = table;
+  ext = ext;
+  last = omega arith;
+  numbered = from_zero key (single_table key body).sections other (omega arith) refl;
+  keyed = (keyed, tt);
+  read = never other;
+  pat = λ e. (pat e, tt);
+  pmt = λ e. (pmt e, tt);
+  nit = λ e. (nit e, tt);
+  sdt = never sdt;
+}
+
+pat_tells : (mux : Mux) → mux.stream < 65536 → TellsItself (pat_table mux)
+pat_tells mux stream =
+    let body = pat_body (pat_of mux) in
+    single_tells (pat_key mux) body (omega arith) stream refl
+    (λ header table ext. key_by_fields 0x0000 header 0x00 mux.stream body table ext)
+    (λ e. written_pats (pat_of mux)) (never refl) (never refl) refl
+
+pmt_tells : (s : MuxService) → IsSoundService s → TellsItself (pmt_table s)
+pmt_tells s sound =
+    let body = pmt_body (pmt_of s) in
+    let pid = s.pmt_pid in
+    let above : 0x20 ≤ pid = sound.pmt_pid.0 in
+    let below : pid ≤ 8190 = sound.pmt_pid.1 in
+    let no_pat : is_pat pid 0x02 ≡ false = grind (arith, nat_tests) in
+    let no_nit : is_nit pid 0x02 ≡ false = grind (arith, nat_tests) in
+    let no_sdt : is_sdt pid 0x02 ≡ false = grind (arith, nat_tests) in
+    let short : (is_pat pid 0x02 || is_pmt pid 0x02 || is_nit pid 0x02) ≡ true = grind (arith, nat_tests) in
+    single_tells (pmt_key s) body (omega arith) (omega (arith, sound.service.1)) refl
+    (λ header table ext.
+    key_by_fields pid header 0x02 s.service body table ext
+    ∙ ap (λ (b : Bool). if b then Some (key_of_fields pid 0x02 s.service 0 0) else key_behind pid 0x02 s.service body) short)
+    (never no_pat) (λ e. written_pmts (pmt_of s) (pmt_fits s sound)) (never no_nit) no_sdt
+
+nit_tells : (mux : Mux) → IsSound mux → mux.network < 65536 → TellsItself (nit_table mux)
+nit_tells mux sound network =
+    let body = nit_body (nit_of mux) in
+    single_tells (nit_key mux) body (omega arith) network refl
+    (λ header table ext. key_by_fields 0x0010 header 0x40 mux.network body table ext)
+    (never refl) (never refl) (λ e. written_nits (nit_of mux) (nit_fits mux sound)) refl
 
 -- ---- the SDT
 
@@ -72,7 +142,11 @@ sdt_tells mux guide stream are =
       last = omega (arith, last_number-from 0 ss are.numbers are.some, are.few);
       numbered = from_zero (sdt_key mux) ss refl are.some are.numbers;
       keyed = all_map (IsSdtBody mux.original) (TellsKey (sdt_key mux)) (sdt_keyed mux) ss are.bodies;
-      read = λ e. absurd (let z : Prim.⊥ = cc in z);
+      read = never refl;
+      pat = never refl;
+      pmt = never refl;
+      nit = never refl;
+      sdt = λ e. all_map (IsSdtBody mux.original) (λ (s : NumberedBody). is_sdt_body s.body ≡ true) (λ s is. is.body) ss are.bodies;
     }
 
 -- ---- event information
@@ -103,6 +177,10 @@ eit_tells mux table service tier sections events eit few id are names read =
       numbered = by_segments (eit_key mux table service) sections eit are.by_segments;
       keyed = all_two sized named (TellsKey (eit_key mux table service)) (λ s size name. eit_keyed mux table service events s size.0 name) sections are.bodies names;
       read = λ e. all_two is_read told (IsReadEit (last_number sections)) (λ s r t. record { body = read_bodies s.body r.0 r.1; told = t }) sections read are.told;
+      pat = never refl;
+      pmt = never refl;
+      nit = never refl;
+      sdt = never refl;
     }
 
 -- ---- the sub-tables of a publication
@@ -135,7 +213,11 @@ publication_tells mux guide sound services within typed =
     let day = midnight moment in
     let ids = ids_fit guide.services mux.services services sound.sound.services in
     let told = services_told guide.services within.services (typed_small guide within typed) typed ids in
-    each_sub_table TellsItself IsTold mux guide told (sdt_tells mux guide sound.stream (sdt_fit mux guide sound.sound sound.original within))
+    each_sub_table TellsItself IsTold mux guide told
+    (pat_tells mux sound.stream)
+    (each_pmt TellsItself IsSoundService pmt_tells mux.services sound.sound.services)
+    (nit_tells mux sound.sound sound.network)
+    (sdt_tells mux guide sound.stream (sdt_fit mux guide sound.sound sound.original within))
     (λ s q.
     let are = present_fit mux moment s q.small in
     let names = events_name mux moment s 0x50 sound.stream sound.original in

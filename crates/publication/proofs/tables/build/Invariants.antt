@@ -1,4 +1,4 @@
-use Rattle.std.proofs.Common.{◌≡◌, ◌∷◌, map}
+use Rattle.std.proofs.Common.{◌≡◌, ◌++◌, map}
 use Rattle.std.specs.Prelude.{take, flat_map}
 use Rattle.std.specs.List.{AllByRecursion}
 use Rattle.guide_model.specs.declared.guide.ServiceGuide.{ServiceGuide}
@@ -6,13 +6,13 @@ use Rattle.guide_limits.specs.Events.{midnight}
 use Rattle.eit_tables.specs.Present.{present_table}
 use Rattle.eit_tables.specs.Schedule.{near_tables, far_tables}
 use Rattle.eit_tables.specs.Laws.{AreSmallEntries}
-use Rattle.publication.specs.Tables.{sdt_table}
+use Rattle.publication.specs.Tables.{mux_tables}
 use Rattle.publication.proofs.tables.build.Given as goal
 
 -- the tables of the services so far stand in their lists, and the entries of these services are small
 abbrev pub invariant-services : goal.invariant-services
 invariant-services l = record {
-  list : l.list ≡ sdt_table l.mux l.guide.guide ∷ map (present_table l.mux l.guide.guide.moment.0) (take l.i l.guide.guide.services);
+  list : l.list ≡ mux_tables l.mux l.guide.guide ++ map (present_table l.mux l.guide.guide.moment.0) (take l.i l.guide.guide.services);
   near : l.near ≡ flat_map (near_tables l.mux (midnight l.guide.guide.moment.0)) (take l.i l.guide.guide.services);
   far : l.far ≡ flat_map (far_tables l.mux (midnight l.guide.guide.moment.0)) (take l.i l.guide.guide.services);
   small : AllByRecursion (λ (s : ServiceGuide). AreSmallEntries s.events) (take l.i l.guide.guide.services);

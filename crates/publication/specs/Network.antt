@@ -1,0 +1,31 @@
+-- The network information table of a multiplex (EN 300 468, 5.2.1).
+use Rattle.std.specs.Prelude.{[], ◌∷◌, map}
+use Rattle.si_text.specs.declared.shown.Shown.TheVariants.{Text}
+use Rattle.mux_config.specs.declared.mux.MuxService.{MuxService}
+use Rattle.mux_config.specs.declared.mux.Mux.{Mux}
+use Rattle.section_codec.specs.declared.table.Key.{Key}
+use Rattle.section_codec.specs.declared.table.SubTable.{SubTable}
+use Rattle.desc_service.specs.declared.service_list.ServiceKind.{ServiceKind}
+use Rattle.nit_sdt.specs.declared.nit.NitStream.{NitStream}
+use Rattle.nit_sdt.specs.declared.nit.Nit.{Nit}
+use Rattle.nit_sdt.specs.Nit.{nit_body}
+use Rattle.publication.specs.Sections.{single_table}
+
+-- a service by its id and its type
+abbrev pub kind_of : MuxService → ServiceKind
+kind_of s = record { service = s.service; kind = s.kind }
+
+-- the transport stream of the multiplex: how it is sent by cable, where that is told, and its services
+abbrev pub stream_of : Mux → NitStream
+stream_of mux = record { stream = mux.stream; original = mux.original; cable = mux.cable; services = map kind_of mux.services }
+
+-- the name of the network, and this one stream
+abbrev pub nit_of : Mux → Nit
+nit_of mux = record { name = Text mux.network_name; streams = stream_of mux ∷ [] }
+
+-- what names the NIT of the actual network: PID 0x0010, table_id 0x40 and network_id
+abbrev pub nit_key : Mux → Key
+nit_key mux = record { pid = 0x0010; table = 0x40; ext = mux.network; stream = 0; network = 0 }
+
+abbrev pub nit_table : Mux → SubTable
+nit_table mux = single_table (nit_key mux) (nit_body (nit_of mux))

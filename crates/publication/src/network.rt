@@ -1,0 +1,71 @@
+// The network information table.
+ghost use Rattle.std.specs.Prelude.{◌≡◌, map, IfOk};
+ghost use Rattle.mux_config.specs.Sound.{IsSound};
+ghost use Rattle.publication.specs.Network.{kind_of, nit_of, nit_table, stream_of};
+
+use crate::programs::NIT_PID;
+use crate::sections::single_table;
+use desc_service::{ServiceKind, ServiceKinds};
+use mux_config::{Mux, MuxService};
+use nit_sdt::{Nit, NitStream, NitStreams, write_nit};
+use section_codec::{Key, SubTable};
+use si_text::Shown;
+use std::alloc::{AllocError, Global};
+
+/// The table_id of the network information table of the actual network (EN 300 468, 5.1.3).
+const NIT: u8 = 0x40;
+
+// The ids and the types of these services.
+fn kinds(alloc: Global, services: &[MuxService]) -> Result<ServiceKinds, AllocError>
+    ensures { IfOk result (λ kinds. kinds ≡ map kind_of services.now) }
+{
+    let mut kinds = ServiceKinds::new(alloc);
+    for service in services {
+        kinds.push(ServiceKind {
+            service: service.service,
+            kind: service.kind,
+        })?;
+    }
+    Ok(kinds)
+}
+
+// The transport stream of this multiplex.
+fn stream(alloc: Global, mux: &Mux) -> Result<NitStream, AllocError>
+    ensures { IfOk result (λ stream. stream ≡ stream_of mux.now) }
+{
+    Ok(NitStream {
+        stream: mux.stream,
+        original: mux.original,
+        cable: mux.cable,
+        services: kinds(alloc, mux.services.as_slice())?,
+    })
+}
+
+// The name of the network and its stream.
+fn network(alloc: Global, mux: &Mux) -> Result<Nit, AllocError>
+    ensures { IfOk result (λ nit. nit ≡ nit_of mux.now) }
+{
+    let mut streams = NitStreams::new(alloc);
+    streams.push(stream(alloc, mux)?)?;
+    Ok(Nit {
+        name: Shown::Text(mux.network_name.copy()?),
+        streams,
+    })
+}
+
+/// The network information table of this multiplex (EN 300 468, 5.2.1).
+pub(crate) fn nit_table(alloc: Global, mux: &Mux) -> Result<SubTable, AllocError>
+    requires { IsSound mux.now }
+    ensures { IfOk result (λ table. table ≡ nit_table mux.now) }
+{
+    let nit = network(alloc, mux)?;
+    let body = write_nit(alloc, &nit)?;
+    let key = Key {
+        pid: NIT_PID,
+        table: NIT,
+        ext: mux.network,
+        stream: 0,
+        network: 0,
+    };
+    single_table(alloc, key, body)
+}
