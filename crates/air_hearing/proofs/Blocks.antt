@@ -16,7 +16,6 @@ use Rattle.section_codec.proofs.ContentFacts.{own_parts, below_last}
 use Rattle.section_codec.specs.KeyOrder.{is_key}
 use Rattle.section_codec.proofs.KeyOrderFacts.{is_key-same, is_key-itself}
 use Rattle.si_time.specs.Moments.{moment_bcd}
-use Rattle.time_tables.specs.Tdt.{tdt_section}
 use Rattle.version_book.specs.Airings.{Airing, content_in, content_at, version_at}
 use Rattle.version_book.proofs.Airs.{AreOwn-all}
 use Rattle.sub_collect.specs.Runs.{Counted, counted, latest_section, has_number, latest_with}
