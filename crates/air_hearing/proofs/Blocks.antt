@@ -1,5 +1,5 @@
 -- What the sections of one airing count for.
-use Rattle.std.proofs.Common.{◌≡◌, ℕ, ◌<◌, ◌≤◌, List, [], ◌∷◌, ◌++◌, Bool, true, false, ◌&&◌, Option, Some, None, length, refl, sym, ap, ap₂, ◌∙◌, subst, arith, map, eq-eqb}
+use Rattle.std.proofs.Common.{◌≡◌, ℕ, ◌<◌, ◌≤◌, List, [], ◌∷◌, ◌++◌, Bool, true, false, ◌&&◌, inl, inr, Option, Some, None, length, refl, sym, ap, ap₂, ◌∙◌, subst, arith, lit<, map, eq-eqb}
 use Rattle.std.specs.Prelude.{if◌then◌else◌, cond, filter, option_map, is_some, IsSome}
 use Rattle.std.specs.List.{AllByRecursion, Contains, cons_option}
 use Rattle.std.proofs.lemmas.List.{map-append}
@@ -11,10 +11,11 @@ use Rattle.section_codec.specs.declared.table.SubTable.{SubTable}
 use Rattle.section_codec.specs.Contents.{last_number, part_in, Content}
 use Rattle.section_codec.specs.Keys.{key_in}
 use Rattle.section_codec.specs.Section.{longest_body, FitsLong}
-use Rattle.section_codec.proofs.ReadBack.{section_in-section_bytes}
+use Rattle.section_codec.proofs.ReadBack.{section_in-section_bytes, section_in-short_bytes}
 use Rattle.section_codec.proofs.ContentFacts.{own_parts, below_last}
 use Rattle.section_codec.specs.KeyOrder.{is_key}
 use Rattle.section_codec.proofs.KeyOrderFacts.{is_key-same, is_key-itself}
+use Rattle.si_time.specs.Moments.{moment_bcd}
 use Rattle.version_book.specs.Airings.{Airing, content_in, content_at, version_at}
 use Rattle.version_book.proofs.Airs.{AreOwn-all}
 use Rattle.sub_collect.specs.Runs.{Counted, counted, latest_section, has_number, latest_with}
@@ -23,7 +24,7 @@ use Rattle.sub_collect.specs.Laws.{section_with, sections_with, HoldAll, IsWith,
 use Rattle.guide_receiver.specs.Counting.{is_counted, is_body_of_table, counted_by, counted_in, counted_among}
 use Rattle.section_codec.specs.SubTables.{IsFit, header_of}
 use Rattle.guide_receiver.proofs.Shown.{among-append}
-use Rattle.air_model.specs.Air.{Sent, sent_section}
+use Rattle.air_model.specs.Air.{Sent, sent_section, tdt}
 use Rattle.air_model.specs.Repeating.{IsSentOf, AreSentOf}
 use Rattle.air_model.proofs.Repeating.{elements, of_element, around}
 use Rattle.air_hearing.specs.Counting.{raw_of, IsReadable, CanBeHeard}
@@ -103,6 +104,14 @@ table_counts t fit read version lt = go t.sections (can_count t fit read) ∙ al
     all true = some t.sections
     all false = none t.sections
 
+five : (moment : ℕ) → length (moment_bcd moment) ≡ 5
+unfolding moment_bcd
+five moment = refl
+
+-- a TDT counts for nothing
+tdt_uncounted : (moment : ℕ) → counted_in (raw_of (tdt moment)) ≡ None
+tdt_uncounted moment = ap (counted_by 0x0014) (section_in-short_bytes 0x70 (moment_bcd moment) (record { fits = lit< tt; form = refl; within = omega (arith, five moment) }))
+
 -- ---- the sections of an airing that count for a key
 
 abbrev pub block : Key → List Sent → List Counted
@@ -154,7 +163,8 @@ module _ (past : List Airing) (a : Airing) (can : CanBeHeard a) (k : Key) where
     where
       one : (s : Sent) → IsSentOf past a s → (o : Option Counted) → counted_in (raw_of s) ≡ o → AllByRecursion P (block k ss) → AllByRecursion P (of_key k (cons_option o (counted_among (map raw_of ss))))
       one s is None e rest = rest
-      one s (t, p, has_t, has_p, is) (Some c) e rest = go (is_counted t.key.pid t.key.table) refl (sym (counts t p has_t has_p) ∙ ap (λ (x : Sent). counted_in (raw_of x)) (sym is) ∙ e)
+      one s (inr is) (Some c) e rest = absurd (let z : Prim.⊥ = (let none : None ≡ Some c = sym (tdt_uncounted a.moment) ∙ ap (λ (x : Sent). counted_in (raw_of x)) (sym is) ∙ e in cc) in z)
+      one s (inl (t, p, has_t, has_p, is)) (Some c) e rest = go (is_counted t.key.pid t.key.table) refl (sym (counts t p has_t has_p) ∙ ap (λ (x : Sent). counted_in (raw_of x)) (sym is) ∙ e)
         where
           same : c ≡ as_counted (version t) t p → is_counted t.key.pid t.key.table ≡ true → (b : Bool) → is_key c.key k ≡ b → AllByRecursion P (cond (is_key c.key k) (c ∷ block k ss) (block k ss))
           same f g false h = subst (λ (b : Bool). AllByRecursion P (cond b (c ∷ block k ss) (block k ss))) (sym h) rest

@@ -1,5 +1,5 @@
 -- The sections of an air are heard.
-use Rattle.std.proofs.Common.{◌≡◌, ◌≢◌, ℕ, ◌+◌, ◌*◌, ◌/◌, ◌%◌, ◌<◌, ◌≤◌, List, [], ◌∷◌, ◌++◌, Bool, true, false, ◌==◌, Some, None, length, sym, ap, ◌∙◌, subst, subst₂, arith, map}
+use Rattle.std.proofs.Common.{◌≡◌, ◌≢◌, ℕ, ◌+◌, ◌*◌, ◌/◌, ◌%◌, ◌<◌, ◌≤◌, List, [], ◌∷◌, ◌++◌, Bool, true, false, ◌==◌, inl, inr, Some, None, length, refl, sym, ap, ◌∙◌, subst, subst₂, arith, map}
 use Rattle.std.specs.Prelude.{if◌then◌else◌, filter_map, ◌||◌}
 use Rattle.std.specs.List.{All, AllByRecursion, cons_option}
 use Rattle.std.proofs.lemmas.List.Elements.{filter_map-append, All-contains}
@@ -8,6 +8,8 @@ use Rattle.section_codec.specs.declared.section.LongHeader.{LongHeader}
 use Rattle.section_codec.specs.declared.table.NumberedBody.{NumberedBody}
 use Rattle.section_codec.specs.Section.{long_flags, section_bytes, longest_body}
 use Rattle.section_codec.proofs.ReadBack.{length-section_bytes, within}
+use Rattle.si_time.specs.Moments.{moment_bcd}
+use Rattle.time_tables.specs.Tdt.{tdt_section}
 use Rattle.version_book.specs.Airings.{Airing, version_at}
 use Rattle.ts_packets.specs.Packets.{Carries}
 use Rattle.ts_packets.specs.Bytes.{bytes_of_packet}
@@ -46,13 +48,24 @@ IsSection-section_bytes h body other le =
       no_fill = λ b more e is. other ((let first : h.table ≡ b = cc in first) ∙ is);
     }
 
+-- a written time is a section
+pub IsSection-tdt : (moment : ℕ) → IsSection (tdt_section moment)
+unfolding moment_bcd
+IsSection-tdt moment = record {
+  header = omega arith;
+  most = omega arith;
+  size = refl;
+  no_fill = λ b more e is. (let first : 0x70 ≡ b = cc in omega (arith, first, is));
+}
+
 -- ---- each section that is sent
 
 pub each_section : (past : List Airing) (a : Airing) (ss : List Sent) → All IsFit a.tables → AllByRecursion (IsSentOf past a) ss → AllByRecursion (λ (x : Sent). IsSection x.bytes) ss
 each_section past a ss fit each = all_map (IsSentOf past a) (λ (x : Sent). IsSection x.bytes) one ss each
   where
     one : (x : Sent) → IsSentOf past a x → IsSection x.bytes
-    one x (t, p, has_t, has_p, e) =
+    one x (inr e) = subst (λ (s : Sent). IsSection s.bytes) (sym e) (IsSection-tdt a.moment)
+    one x (inl (t, p, has_t, has_p, e)) =
         let f : IsFit t = All-contains IsFit a.tables t fit has_t in
         let le = All-contains (λ (s : NumberedBody). length s.body ≤ longest_body t.key.table) t.sections p f.bodies has_p in
         subst (λ (s : Sent). IsSection s.bytes) (sym e) (IsSection-section_bytes (header_of (version_at t.key (past ++ a ∷ [])) t p) p.body f.no_fill le)
@@ -61,7 +74,7 @@ each_sent : (past airings : List Airing) → CanBeSent airings → AllByRecursio
 each_sent past [] fit = tt
 each_sent past (a ∷ airings) fit =
     all_append (λ (x : Sent). IsSection x.bytes) (cycle_sections past a) (sections_sent (past ++ a ∷ []) airings)
-    (each_section past a (cycle_sections past a) fit.0 (cycle_is_sent past a).each) (each_sent (past ++ a ∷ []) airings fit.1)
+    (each_section past a (cycle_sections past a) fit.0.fit (cycle_is_sent past a).each) (each_sent (past ++ a ∷ []) airings fit.1)
 
 pub each_on : (pid : ℕ) (ss : List Sent) → AllByRecursion (λ (x : Sent). IsSection x.bytes) ss → AllByRecursion IsSection (filter_map (sent_on pid) ss)
 each_on pid [] all = tt
@@ -113,7 +126,7 @@ all_each : (past : List Airing) (xs : List Aired) (h : RepeatingCycles past xs) 
 all_each past [] h fit = tt
 all_each past (x ∷ xs) h fit =
     all_append (λ (s : Sent). IsSection s.bytes) h.0.sections (all_sent (past ++ x.airing ∷ []) xs h.1)
-    (each_section past x.airing h.0.sections fit.0 h.0.are.each) (all_each (past ++ x.airing ∷ []) xs h.1 fit.1)
+    (each_section past x.airing h.0.sections fit.0.fit h.0.are.each) (all_each (past ++ x.airing ∷ []) xs h.1 fit.1)
 
 -- they are heard
 pub all_heard : (airings : List Airing) (xs : List Aired) (is : IsRepeatingAirOf airings xs) → CanBeSent airings → (pid : ℕ) → pid < 8191

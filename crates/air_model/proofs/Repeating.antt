@@ -1,13 +1,14 @@
 -- A cycle that sends each section once is one that repeats as it likes.
-use Rattle.std.proofs.Common.{◌≡◌, ◌<◌, List, [], ◌∷◌, ◌++◌, length, map, refl, ap, arith}
+use Rattle.std.proofs.Common.{◌≡◌, ℕ, ◌<◌, ◌⊎◌, inl, inr, List, [], ◌∷◌, ◌++◌, length, take, drop, map, refl, sym, ap, subst, arith}
 use Rattle.std.specs.Prelude.{flat_map}
-use Rattle.std.specs.List.{AllByRecursion, Contains}
-use Rattle.std.proofs.lemmas.List.Elements.{All-contains, All-contains_itself, All-from_recursion, recursion_from_All, Contains-append_left, Contains-append_right}
+use Rattle.std.specs.List.{AllByRecursion, Contains, prefix_len}
+use Rattle.std.proofs.lemmas.List.{take-append-drop}
+use Rattle.std.proofs.lemmas.List.Elements.{All-contains, All-contains_itself, All-from_recursion, All-take, All-drop, recursion_from_All, Contains-append_left, Contains-append_right, Contains-append_cases}
 use Rattle.si_lists.proofs.Lists.{all_map, all_append}
 use Rattle.section_codec.specs.declared.table.NumberedBody.{NumberedBody}
 use Rattle.section_codec.specs.declared.table.SubTable.{SubTable}
 use Rattle.version_book.specs.Airings.{Airing, version_at}
-use Rattle.air_model.specs.Air.{Aired, sent_section, sections_of, cycle_sections, Cycles}
+use Rattle.air_model.specs.Air.{Aired, sent_section, sections_of, table_sections, tdt, leads, before_tdt, behind_tdt, cycle_sections, Cycles}
 use Rattle.air_model.specs.Repeating.{IsSentOf, AreSentOf, RepeatingCycles, AirsRepeat}
 
 -- ---- elements of lists
@@ -55,19 +56,40 @@ joined f xs x y has in_one = of_element (λ z. Contains (f z) y → Contains (fl
 
 pub cycle_is_sent : (past : List Airing) (a : Airing) → AreSentOf past a (cycle_sections past a)
 cycle_is_sent past a = record {
-  each = of_tables a.tables (elements a.tables);
-  all = λ t p has_t has_p. joined (λ (u : SubTable). sections_of (version_at u.key (past ++ a ∷ [])) u) a.tables t (sent_section (version_at t.key (past ++ a ∷ [])) t p) has_t (mapped (sent_section (version_at t.key (past ++ a ∷ [])) t) t.sections p has_p);
+  each =
+      all_append (IsSentOf past a) (table_sections (past ++ a ∷ []) (before_tdt a.tables)) (tdt a.moment ∷ table_sections (past ++ a ∷ []) (behind_tdt a.tables))
+      (of_tables (before_tdt a.tables) (recursion_from_All (Contains a.tables) (before_tdt a.tables) (All-take (Contains a.tables) n a.tables (All-contains_itself a.tables))))
+      (inr refl, of_tables (behind_tdt a.tables) (recursion_from_All (Contains a.tables) (behind_tdt a.tables) (All-drop (Contains a.tables) n a.tables (All-contains_itself a.tables))));
+  all = λ t p has_t has_p. one t p has_p (Contains-append_cases (take n a.tables) (drop n a.tables) t (subst (λ l. Contains l t) (sym (take-append-drop n a.tables)) has_t));
+  time =
+      Contains-append_right (table_sections (past ++ a ∷ []) (before_tdt a.tables)) (tdt a.moment ∷ table_sections (past ++ a ∷ []) (behind_tdt a.tables)) (tdt a.moment)
+      (first_of (tdt a.moment) (table_sections (past ++ a ∷ []) (behind_tdt a.tables)));
 }
   where
+    n : ℕ
+    n = prefix_len leads a.tables
+
     of_sections : (t : SubTable) → Contains a.tables t → (ps : List NumberedBody) → AllByRecursion (Contains t.sections) ps → AllByRecursion (IsSentOf past a) (map (sent_section (version_at t.key (past ++ a ∷ [])) t) ps)
     of_sections t has [] all = tt
-    of_sections t has (p ∷ ps) all = ((t, p, has, all.0, refl), of_sections t has ps all.1)
+    of_sections t has (p ∷ ps) all = (inl (t, p, has, all.0, refl), of_sections t has ps all.1)
 
-    of_tables : (ts : List SubTable) → AllByRecursion (Contains a.tables) ts → AllByRecursion (IsSentOf past a) (flat_map (λ (t : SubTable). sections_of (version_at t.key (past ++ a ∷ [])) t) ts)
+    of_tables : (ts : List SubTable) → AllByRecursion (Contains a.tables) ts → AllByRecursion (IsSentOf past a) (table_sections (past ++ a ∷ []) ts)
     of_tables [] all = tt
     of_tables (t ∷ ts) all =
-        all_append (IsSentOf past a) (sections_of (version_at t.key (past ++ a ∷ [])) t) (flat_map (λ (u : SubTable). sections_of (version_at u.key (past ++ a ∷ [])) u) ts)
+        all_append (IsSentOf past a) (sections_of (version_at t.key (past ++ a ∷ [])) t) (table_sections (past ++ a ∷ []) ts)
         (of_sections t all.0 t.sections (elements t.sections)) (of_tables ts all.1)
+
+    in_tables : (ts : List SubTable) (t : SubTable) (p : NumberedBody) → Contains ts t → Contains t.sections p → Contains (table_sections (past ++ a ∷ []) ts) (sent_section (version_at t.key (past ++ a ∷ [])) t p)
+    in_tables ts t p has_t has_p =
+        joined (λ (u : SubTable). sections_of (version_at u.key (past ++ a ∷ [])) u) ts t (sent_section (version_at t.key (past ++ a ∷ [])) t p) has_t (mapped (sent_section (version_at t.key (past ++ a ∷ [])) t) t.sections p has_p)
+
+    one : (t : SubTable) (p : NumberedBody) → Contains t.sections p → Contains (take n a.tables) t ⊎ Contains (drop n a.tables) t → Contains (cycle_sections past a) (sent_section (version_at t.key (past ++ a ∷ [])) t p)
+    one t p has_p (inl has) =
+        Contains-append_left (table_sections (past ++ a ∷ []) (before_tdt a.tables)) (tdt a.moment ∷ table_sections (past ++ a ∷ []) (behind_tdt a.tables)) (sent_section (version_at t.key (past ++ a ∷ [])) t p)
+        (in_tables (before_tdt a.tables) t p has has_p)
+    one t p has_p (inr has) =
+        Contains-append_right (table_sections (past ++ a ∷ []) (before_tdt a.tables)) (tdt a.moment ∷ table_sections (past ++ a ∷ []) (behind_tdt a.tables)) (sent_section (version_at t.key (past ++ a ∷ [])) t p)
+        (rest_of (tdt a.moment) (table_sections (past ++ a ∷ []) (behind_tdt a.tables)) (sent_section (version_at t.key (past ++ a ∷ [])) t p) (in_tables (behind_tdt a.tables) t p has has_p))
 
 cycles_repeat : (past : List Airing) (xs : List Aired) → Cycles past xs → RepeatingCycles past xs
 cycles_repeat past [] h = tt

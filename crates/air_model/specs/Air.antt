@@ -1,10 +1,14 @@
 -- Cycles of airings, and the air of an airing list.
-use Rattle.std.specs.Prelude.{◌≡◌, ℕ, List, [], ◌∷◌, ◌++◌, true, Option, Some, None, ◌==◌, if◌then◌else◌, map, flat_map, filter_map}
-use Rattle.std.specs.List.{AllByRecursion}
+use Rattle.std.specs.Prelude.{◌≡◌, ℕ, List, [], ◌∷◌, ◌++◌, Bool, true, false, not, ◌&&◌, Option, Some, None, ◌==◌, if◌then◌else◌, drop, map, flat_map, filter_map}
+use Rattle.std.specs.List.{AllByRecursion, prefix_len, take_while}
 use Rattle.section_codec.specs.SubTables.{header_of}
 use Rattle.section_codec.specs.declared.table.NumberedBody.{NumberedBody}
 use Rattle.section_codec.specs.declared.table.SubTable.{SubTable}
+use Rattle.section_codec.specs.declared.table.Tier3.{Tier3}
+use Rattle.section_codec.specs.declared.table.Tier3.TheVariants.{Fast, Near, Far}
 use Rattle.section_codec.specs.Section.{section_bytes}
+use Rattle.section_codec.specs.Tables.{is_eit}
+use Rattle.time_tables.specs.Tdt.{tdt_section}
 use Rattle.version_book.specs.Airings.{Airing, version_at}
 use Rattle.ts_packets.specs.Packets.{Carries}
 use Rattle.ts_packets.specs.Bytes.{Packet, HasFields, bytes_of_packet}
@@ -23,10 +27,36 @@ sent_section version t s = record { pid = t.key.pid; bytes = section_bytes (head
 abbrev pub sections_of : ℕ → SubTable → List Sent
 sections_of version t = map (sent_section version t) t.sections
 
+-- the sections of these sub-tables, each with its version in the last of these airings
+abbrev pub table_sections : List Airing → List SubTable → List Sent
+table_sections airings tables = flat_map (λ (t : SubTable). sections_of (version_at t.key airings) t) tables
+
+-- the time and date table of a moment: one section, on a PID of its own (EN 300 468, 5.1.3 and 5.2.5)
+abbrev pub tdt : ℕ → Sent
+tdt moment = record { pid = 0x0014; bytes = tdt_section moment }
+
+abbrev pub is_fast : Tier3 → Bool
+is_fast Fast = true
+is_fast Near = false
+is_fast Far = false
+
+-- a sub-table is sent most often, and is no event information
+abbrev pub leads : SubTable → Bool
+leads t = is_fast t.tier && not (is_eit t.key.table)
+
+-- of a cycle's sub-tables those that lead, which are sent before the TDT, and the others, behind it
+abbrev pub before_tdt : List SubTable → List SubTable
+before_tdt tables = take_while leads tables
+
+abbrev pub behind_tdt : List SubTable → List SubTable
+behind_tdt tables = drop (prefix_len leads tables) tables
+
 -- The sections of the cycle of an airing behind others, in the order in which they are sent: each section of each
--- sub-table once. How often a tier is repeated within a cycle, and the TDT of the airing's moment, belong here alone.
+-- sub-table once, and the TDT of the airing's moment once: behind PAT, PMT, NIT and SDT, before all event information.
+-- How often a tier is repeated within a cycle belongs here alone.
 abbrev pub cycle_sections : List Airing → Airing → List Sent
-cycle_sections past a = flat_map (λ (t : SubTable). sections_of (version_at t.key (past ++ a ∷ [])) t) a.tables
+cycle_sections past a =
+    table_sections (past ++ a ∷ []) (before_tdt a.tables) ++ tdt a.moment ∷ table_sections (past ++ a ∷ []) (behind_tdt a.tables)
 
 -- ---- a cycle and an air
 

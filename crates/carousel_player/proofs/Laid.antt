@@ -1,7 +1,8 @@
 -- Sections laid end to end are found where they stand.
-use Rattle.std.proofs.Common.{◌≡◌, ℕ, zero, suc, ◌+◌, ◌-◌, ◌<◌, min, List, [], ◌∷◌, ◌++◌, Some, length, get_or, refl, sym, ap, ap₂, ◌∙◌, arith, take, drop, map, append_assoc, append-nil, length-append}
+use Rattle.std.proofs.Common.{◌≡◌, ℕ, zero, suc, ◌+◌, ◌-◌, ◌<◌, min, inl, inr, List, [], ◌∷◌, ◌++◌, Some, length, get_or, refl, sym, ap, ap₂, ◌∙◌, arith, take, drop, map, append_assoc, append-nil, length-append}
 use Rattle.std.specs.Prelude.{slice_get, flat_map}
-use Rattle.std.proofs.lemmas.List.{map-append, take_more}
+use Rattle.std.proofs.lemmas.Bool.{cases_lt}
+use Rattle.std.proofs.lemmas.List.{map-append, take_more, take_all, drop_all}
 use Rattle.std.proofs.lemmas.List.Concat.{flat_map-append}
 use Rattle.std.proofs.Math.Seq.{drop-append_seam, take-append_seam}
 use Rattle.section_codec.specs.declared.table.NumberedBody.{NumberedBody}
@@ -84,3 +85,28 @@ sections_all (v ∷ vs) [] zero e = refl
 sections_all (v ∷ vs) [] (suc n) e = refl
 sections_all (v ∷ vs) (t ∷ ts) zero e = absurd (omega arith)
 sections_all (v ∷ vs) (t ∷ ts) (suc n) e = ap (λ (l : List Sent). sections_of v t ++ l) (sections_all vs ts n (omega arith))
+
+-- ---- a list cut at a place
+
+-- a place behind the end is the end
+pub take_within : {X : Type 0} (n : ℕ) (xs : List X) → take (min n (length xs)) xs ≡ take n xs
+take_within n xs = elim (cases_lt n (length xs)) [
+  | inl lt ↦ ap (λ (k : ℕ). take k xs) (let e : min n (length xs) ≡ n = omega arith in e)
+  | inr le ↦ ap (λ (k : ℕ). take k xs) (let e : min n (length xs) ≡ length xs = omega arith in e) ∙ take_all (length xs) xs (omega arith) ∙ sym (take_all n xs le)
+]
+
+pub drop_within : {X : Type 0} (n : ℕ) (xs : List X) → drop (min n (length xs)) xs ≡ drop n xs
+drop_within n xs = elim (cases_lt n (length xs)) [
+  | inl lt ↦ ap (λ (k : ℕ). drop k xs) (let e : min n (length xs) ≡ n = omega arith in e)
+  | inr le ↦ ap (λ (k : ℕ). drop k xs) (let e : min n (length xs) ≡ length xs = omega arith in e) ∙ drop_all (length xs) xs (omega arith) ∙ sym (drop_all n xs le)
+]
+
+room-cut : (n : ℕ) (ts : List SubTable) → (room_for (take n ts) + room_for (drop n ts) ≡ room_for ts) × (places_for (take n ts) + places_for (drop n ts) ≡ places_for ts)
+room-cut zero ts = (omega arith, omega arith)
+room-cut (suc n) [] = (omega arith, omega arith)
+room-cut (suc n) (t ∷ ts) = let rest = room-cut n ts in (omega (arith, rest.0), omega (arith, rest.1))
+
+-- the room for both parts is the room for all
+pub room-parts : (n : ℕ) (ts front behind : List SubTable) → front ≡ take n ts → behind ≡ drop n ts → (room_for front + room_for behind ≡ room_for ts) × (places_for front + places_for behind ≡ places_for ts)
+room-parts n ts front behind f b =
+    (ap₂ (λ (x y : List SubTable). room_for x + room_for y) f b ∙ (room-cut n ts).0, ap₂ (λ (x y : List SubTable). places_for x + places_for y) f b ∙ (room-cut n ts).1)

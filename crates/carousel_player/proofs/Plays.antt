@@ -1,14 +1,15 @@
 -- What a player stands for, from call to call.
 use Rattle.std.proofs.Common.{◌≡◌, ℕ, suc, ◌<◌, List, [], ◌∷◌, ◌++◌, Result, Ok, Err, Option, length, refl, sym, ap, ap₂, ◌∙◌, subst, arith, map, take, append_assoc, append-nil, length-append}
 use Rattle.std.specs.Prelude.{flat_map, OnOk}
-use Rattle.std.specs.List.{AllByRecursion, All}
+use Rattle.std.specs.List.{AllByRecursion, All, prefix_len}
 use Rattle.std.specs.Io.KnownBytes.{Appends}
 use Rattle.std.proofs.KnownBytes.{Appends-trans}
 use Rattle.std.proofs.lemmas.List.{take-append-le}
 use Rattle.std.proofs.lemmas.List.Concat.{flat_map-append}
 use Rattle.si_causes.specs.Causes.{AppendsFront}
 use Rattle.si_causes.proofs.CauseFacts.{front_behind}
-use Rattle.std.proofs.lemmas.List.Elements.{recursion_from_All}
+use Rattle.std.proofs.lemmas.List.Elements.{recursion_from_All, All-take, All-drop}
+use Rattle.si_lists.proofs.Lists.{all_append}
 use Rattle.section_codec.specs.declared.table.SubTable.{SubTable}
 use Rattle.section_codec.specs.Contents.{Content}
 use Rattle.version_book.specs.Airings.{CycleForm, Airing, version_at}
@@ -16,7 +17,7 @@ use Rattle.version_book.specs.Book.{Stands, aired}
 use Rattle.ts_packets.specs.Packets.{Piece, pieces, alone}
 use Rattle.ts_packets.specs.Bytes.{Packet, HasFields, bytes_of_packet, packet_on, packets_alone}
 use Rattle.ts_packets.specs.Counting.{StandFor}
-use Rattle.air_model.specs.Air.{Sent, Aired, air, airings_of, air_bytes, IsAirOf, sent_section, sections_of, cycle_sections}
+use Rattle.air_model.specs.Air.{Sent, Aired, air, airings_of, air_bytes, IsAirOf, sent_section, sections_of, table_sections, tdt, leads, before_tdt, behind_tdt, cycle_sections}
 use Rattle.air_model.specs.Making.{each_alone, counted}
 use Rattle.air_model.proofs.Counted.{PidsFit, counted-append, length-counted}
 use Rattle.air_model.proofs.Airs.{air-push, air_bytes-push, airings_of-push, air_more-alone}
@@ -46,13 +47,21 @@ pids_sent : (f : SubTable → ℕ) (ts : List SubTable) → AllByRecursion IsFit
 pids_sent f [] fit = tt
 pids_sent f (t ∷ ts) fit = pids_of (f t) t t.sections (flat_map (λ (u : SubTable). sections_of (f u) u) ts) (let lt : t.key.pid < 8191 = fit.0.pid in omega (arith, lt)) (pids_sent f ts fit.1)
 
+pids_cycle : (past : List Airing) (a : Airing) → All IsFit a.tables → AllByRecursion (λ (s : Sent). s.pid < 8192) (cycle_sections past a)
+pids_cycle past a fit =
+    let n = prefix_len leads a.tables in
+    let version : SubTable → ℕ = λ t. version_at t.key (past ++ a ∷ []) in
+    all_append (λ (s : Sent). s.pid < 8192) (table_sections (past ++ a ∷ []) (before_tdt a.tables)) (tdt a.moment ∷ table_sections (past ++ a ∷ []) (behind_tdt a.tables))
+    (pids_sent version (before_tdt a.tables) (recursion_from_All IsFit (before_tdt a.tables) (All-take IsFit n a.tables fit)))
+    (omega arith, pids_sent version (behind_tdt a.tables) (recursion_from_All IsFit (behind_tdt a.tables) (All-drop IsFit n a.tables fit)))
+
 pub begins : (xs : List Aired) (ts : List SubTable) (moment : ℕ) (form : CycleForm) (old new : Playing) → AtEnd xs old → All IsFit ts → new.counters ≡ old.counters
     → Stands (airings_of xs ++ aired ts moment form ∷ []) new.book → new.left ≡ each_alone (cycle_sections (airings_of xs) (aired ts moment form)) → Begins xs (aired ts moment form) new
 begins xs ts moment form old new end fit same stands left =
     let a = aired ts moment form in
     let units = each_alone (cycle_sections (airings_of xs) a) in
     let x : Aired = record { airing = a; packets = counted (air xs) units } in
-    let pids : PidsFit units = pids_alone (cycle_sections (airings_of xs) a) (pids_sent (λ (t : SubTable). version_at t.key (airings_of xs ++ a ∷ [])) ts (recursion_from_All IsFit ts fit)) in
+    let pids : PidsFit units = pids_alone (cycle_sections (airings_of xs) a) (pids_cycle (airings_of xs) a fit) in
     let longer = airings_of-push xs x in (
       x,
       refl,

@@ -1,11 +1,11 @@
 -- Sections laid end to end, and the packets of them that are still to come.
 use Rattle.std.specs.Prelude.{◌≡◌, ℕ, ◌+◌, ◌<◌, ◌≤◌, List, [], ◌∷◌, ◌++◌, length, take, drop, map, flat_map}
-use Rattle.std.specs.List.{AllByRecursion}
+use Rattle.std.specs.List.{AllByRecursion, prefix_len}
 use Rattle.ts_packets.specs.Packets.{packets_of}
 use Rattle.ts_packets.specs.Bytes.{Packet}
 use Rattle.section_codec.specs.declared.table.SubTable.{SubTable}
 use Rattle.section_codec.specs.Contents.{Content}
-use Rattle.air_model.specs.Air.{Sent, sections_of}
+use Rattle.air_model.specs.Air.{Sent, sections_of, tdt, leads, before_tdt, behind_tdt}
 use Rattle.air_model.specs.Making.{each_alone}
 use Rattle.carousel_player.specs.declared.cycle.Placed.{Placed}
 
@@ -51,6 +51,11 @@ abbrev pub sections_under : List ℕ → List SubTable → List Sent
 sections_under [] ts = []
 sections_under (v ∷ vs) [] = []
 sections_under (v ∷ vs) (t ∷ ts) = sections_of v t ++ sections_under vs ts
+
+-- the sections of a cycle of sub-tables with these versions, and of the TDT of a moment
+abbrev pub cycle_under : List ℕ → List SubTable → ℕ → List Sent
+cycle_under vs ts moment =
+    sections_under (take (prefix_len leads ts) vs) (before_tdt ts) ++ tdt moment ∷ sections_under (drop (prefix_len leads ts) vs) (behind_tdt ts)
 
 -- how many bytes the sections of a sub-table have, and those of all
 abbrev pub room_of : Content → ℕ

@@ -1,5 +1,5 @@
 // A cycle that is being sent: its sections, laid end to end, and how far it has come.
-ghost use Rattle.std.specs.Prelude.{◌≡◌, ◌+◌, ◌≤◌, ◌<◌, [], ◌∷◌, ◌++◌, ◌==◌, List, ℕ, length, map, take, drop, Some, slice_get, vec_len, vec_capacity, OnOk, OnErr};
+ghost use Rattle.std.specs.Prelude.{◌≡◌, ◌+◌, ◌*◌, ◌≤◌, ◌<◌, [], ◌∷◌, ◌++◌, ◌==◌, List, ℕ, length, map, take, drop, Some, slice_get, vec_len, vec_capacity, OnOk, OnErr};
 ghost use Rattle.ts_packets.specs.Packets.{packets_of};
 ghost use Rattle.ts_packets.specs.Bytes.{bytes_of_packet, packets_alone};
 ghost use Rattle.section_codec.specs.declared.table.SubTable.{SubTable};
@@ -11,8 +11,9 @@ ghost use Rattle.carousel_player.specs.Laying.{IsPlaced, room_for, places_for};
 ghost use Rattle.carousel_player.specs.Sending.{PutsFirst};
 ghost use Rattle.section_codec.specs.SubTables.{AreFit};
 
-use crate::laying::{lay_tables, room_for};
+use crate::laying::{lay_cycle, room_for};
 use section_codec::{SubTable, Tables};
+use si_time::Moment;
 use std::alloc::{AllocError, Global};
 use std::marker::Model;
 use ts_packets::{packets_of, put_packet};
@@ -68,16 +69,19 @@ impl Cycle {
         self.at == self.placed.len()
     }
 
-    /// Begins the cycle of these sub-tables, with the versions that the book gives them. All memory is taken first.
+    /// Begins the cycle of these sub-tables, with the versions that the book gives them, and the TDT of this moment. All memory
+    /// is taken first.
     pub(crate) fn begin(
         &mut self,
         book: &mut VersionBook,
         tables: &Tables,
+        moment: Moment,
     ) -> Result<(), AllocError>
         requires ended { self.old ≡ [] }
         requires fit { AreFit tables.now.list }
-        ensures versions { OnOk result ((past : List Airing) (moment : ℕ) (form : CycleForm) → Stands past book.old → Stands (past ++ aired tables.now.list moment form ∷ []) book.new) }
-        ensures begun { OnOk result ((past : List Airing) (moment : ℕ) (form : CycleForm) → Stands past book.old → self.new ≡ each_alone (cycle_sections past (aired tables.now.list moment form))) }
+        requires moment { moment.0 < 65536 * 86400 }
+        ensures versions { OnOk result ((past : List Airing) (form : CycleForm) → Stands past book.old → Stands (past ++ aired tables.now.list moment.0 form ∷ []) book.new) }
+        ensures begun { OnOk result ((past : List Airing) (form : CycleForm) → Stands past book.old → self.new ≡ each_alone (cycle_sections past (aired tables.now.list moment.0 form))) }
         ensures ended { OnErr result (self.new ≡ self.old) }
         ensures kept { OnErr result (book.new ≡ book.old) }
     {
@@ -86,7 +90,13 @@ impl Cycle {
         let list = tables.list.as_slice();
         take_room(&mut self.bytes, &mut self.placed, list)?;
         let versions = book.assign(tables)?;
-        lay_tables(&mut self.bytes, &mut self.placed, list, versions.as_slice());
+        lay_cycle(
+            &mut self.bytes,
+            &mut self.placed,
+            list,
+            versions.as_slice(),
+            moment,
+        );
         Ok(())
     }
 
@@ -119,7 +129,7 @@ fn put_placed(bytes: &[u8], placed: Placed, index: u32, into: &mut [u8])
     put_packet(into, placed.pid, section, index);
 }
 
-// Empties the buffers and takes the memory for the sections of these sub-tables.
+// Empties the buffers and takes the memory for the sections of these sub-tables, and for a TDT: 8 bytes, and one place.
 fn take_room(
     bytes: &mut Vec<u8>,
     placed: &mut Vec<Placed>,
@@ -127,12 +137,15 @@ fn take_room(
 ) -> Result<(), AllocError>
     ensures bytes { bytes.new.items ≡ [] }
     ensures placed { placed.new.items ≡ [] }
-    ensures room { OnOk result (vec_len bytes.new + room_for tables.now ≤ vec_capacity bytes.new) }
-    ensures places { OnOk result (vec_len placed.new + places_for tables.now ≤ vec_capacity placed.new) }
+    ensures room { OnOk result (vec_len bytes.new + (8 + room_for tables.now) ≤ vec_capacity bytes.new) }
+    ensures places { OnOk result (vec_len placed.new + (1 + places_for tables.now) ≤ vec_capacity placed.new) }
 {
     bytes.clear();
     placed.clear();
     let Some((size, places)) = room_for(tables) else {
+        return Err(AllocError);
+    };
+    let (Some(size), Some(places)) = (size.checked_add(8), places.checked_add(1)) else {
         return Err(AllocError);
     };
     bytes.reserve(size)?;

@@ -1,14 +1,16 @@
 // Sections laid end to end in one buffer.
-ghost use Rattle.std.specs.Prelude.{◌≡◌, ◌≢◌, ◌+◌, ◌<◌, ◌≤◌, ◌++◌, [], ◌∷◌, List, ℕ, length, vec_len, vec_capacity, IfSome};
-ghost use Rattle.std.specs.List.{All};
+ghost use Rattle.std.specs.Prelude.{◌≡◌, ◌≢◌, ◌+◌, ◌*◌, ◌<◌, ◌≤◌, ◌++◌, [], ◌∷◌, List, ℕ, length, vec_len, vec_capacity, IfSome};
+ghost use Rattle.std.specs.List.{All, prefix_len};
 ghost use Rattle.section_codec.specs.Section.{section_bytes, longest_body};
 ghost use Rattle.section_codec.specs.Contents.{last_number};
-ghost use Rattle.air_model.specs.Air.{Sent, sent_section, sections_of};
-ghost use Rattle.carousel_player.specs.Laying.{AreLaid, sections_under, room_of, room_for, places_for};
+ghost use Rattle.air_model.specs.Air.{Sent, sent_section, sections_of, tdt, leads};
+ghost use Rattle.carousel_player.specs.Laying.{AreLaid, sections_under, cycle_under, room_of, room_for, places_for};
 ghost use Rattle.section_codec.specs.SubTables.{IsFit, header_of};
 
 use crate::cycle::Placed;
-use section_codec::{LongHeader, NumberedBody, SubTable, put_section};
+use section_codec::{LongHeader, NumberedBody, SubTable, Tier3, is_eit, put_section};
+use si_time::Moment;
+use time_tables::write_tdt;
 
 /// How many bytes the sections of these sub-tables have and how many sections there are, where these numbers fit.
 pub(crate) fn room_for(tables: &[SubTable]) -> Option<(usize, usize)>
@@ -34,18 +36,83 @@ fn room_of(sections: &[NumberedBody]) -> Option<usize>
     Some(bytes)
 }
 
-/// Lays the sections of these sub-tables, each with its version, behind those that are laid. It takes no memory.
-pub(crate) fn lay_tables(
+/// Lays the sections of a cycle of these sub-tables, each with its version, and at its place among them the TDT of this moment
+/// (EN 300 468, 5.2.5), behind those that are laid. It takes no memory.
+pub(crate) fn lay_cycle(
     bytes: &mut Vec<u8>,
     placed: &mut Vec<Placed>,
     tables: &[SubTable],
     versions: &[u8],
+    moment: Moment,
 )
+    requires fit { All IsFit tables.now }
+    requires versions { All (λ v. v < 32) versions.now }
+    requires moment { moment.0 < 65536 * 86400 }
+    requires room { vec_len bytes.old + (8 + room_for tables.now) ≤ vec_capacity bytes.old }
+    requires places { vec_len placed.old + (1 + places_for tables.now) ≤ vec_capacity placed.old }
+    ensures { (ss : List Sent) → AreLaid ss bytes.old.items placed.old.items → AreLaid (ss ++ cycle_under versions.now tables.now moment.0) bytes.new.items placed.new.items }
+{
+    let count = lead_count(tables);
+    let (before, behind) = tables.split_at(count);
+    let (early, late) = versions.split_at(count.min(versions.len()));
+    lay_tables(bytes, placed, before, early);
+    lay_tdt(bytes, placed, moment);
+    lay_tables(bytes, placed, behind, late);
+}
+
+// How many of these sub-tables are sent before the TDT.
+fn lead_count(tables: &[SubTable]) -> usize
+    ensures { result ≡ prefix_len leads tables.now }
+{
+    let mut count = 0;
+    for table in tables {
+        if !leads(table) {
+            return count;
+        }
+        count += 1;
+    }
+    count
+}
+
+fn leads(table: &SubTable) -> bool
+    ensures { result ≡ leads table.now }
+{
+    matches!(table.tier, Tier3::Fast) && !is_eit(table.key.table)
+}
+
+fn lay_tdt(bytes: &mut Vec<u8>, placed: &mut Vec<Placed>, moment: Moment)
+    requires moment { moment.0 < 65536 * 86400 }
+    requires room { vec_len bytes.old + 8 ≤ vec_capacity bytes.old }
+    requires place { vec_len placed.old < vec_capacity placed.old }
+    ensures laid { (ss : List Sent) → AreLaid ss bytes.old.items placed.old.items → AreLaid (ss ++ tdt moment.0 ∷ []) bytes.new.items placed.new.items }
+    ensures bytes_len { vec_len bytes.new ≡ vec_len bytes.old + 8 }
+    ensures bytes_capacity { vec_capacity bytes.old ≤ vec_capacity bytes.new }
+    ensures placed_len { vec_len placed.new ≡ vec_len placed.old + 1 }
+    ensures placed_capacity { vec_capacity placed.old ≤ vec_capacity placed.new }
+{
+    let start = bytes.len();
+    let section = write_tdt(moment);
+    bytes.extend_from_slice(&section).unwrap();
+    placed
+        .push(Placed {
+            pid: 0x14,
+            start,
+            len: 8,
+        })
+        .unwrap();
+}
+
+// Lays the sections of these sub-tables, each with its version.
+fn lay_tables(bytes: &mut Vec<u8>, placed: &mut Vec<Placed>, tables: &[SubTable], versions: &[u8])
     requires fit { All IsFit tables.now }
     requires versions { All (λ v. v < 32) versions.now }
     requires room { vec_len bytes.old + room_for tables.now ≤ vec_capacity bytes.old }
     requires places { vec_len placed.old + places_for tables.now ≤ vec_capacity placed.old }
-    ensures { (ss : List Sent) → AreLaid ss bytes.old.items placed.old.items → AreLaid (ss ++ sections_under versions.now tables.now) bytes.new.items placed.new.items }
+    ensures laid { (ss : List Sent) → AreLaid ss bytes.old.items placed.old.items → AreLaid (ss ++ sections_under versions.now tables.now) bytes.new.items placed.new.items }
+    ensures bytes_len { vec_len bytes.new ≤ vec_len bytes.old + room_for tables.now }
+    ensures bytes_capacity { vec_capacity bytes.old ≤ vec_capacity bytes.new }
+    ensures placed_len { vec_len placed.new ≤ vec_len placed.old + places_for tables.now }
+    ensures placed_capacity { vec_capacity placed.old ≤ vec_capacity placed.new }
 {
     for (table, version) in tables.iter().zip(versions) {
         lay_table(bytes, placed, table, *version);

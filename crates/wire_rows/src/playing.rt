@@ -10,7 +10,11 @@ use si_causes::MemSink;
 use si_time::Moment;
 use std::alloc::{AllocError, Global};
 
-/// `play BODY / BODY ..`: the packets of the cycles of an SDT of one section, with one body after the other.
+// 1993-10-13T12:45:00Z.
+const MOMENT: Moment = Moment(4_257_233_100);
+
+/// `play BODY / BODY ..`: the packets of the cycles of an SDT of one section, with one body after the other, each aired at 12:45:00 on
+/// 13 October 1993.
 pub fn play(row: &mut Row) {
     let mut player = Player::open(row.alloc(), 200);
     play_all(row, &mut player);
@@ -34,7 +38,7 @@ fn swap(row: &mut Row, player: &mut Player, body: &[u8]) {
     let Ok(tables) = sdt(row.alloc(), body) else {
         return row.lack_memory();
     };
-    if player.swap(tables, 0, Moment(0)).is_err() {
+    if player.swap(tables, 0, MOMENT).is_err() {
         row.lack_memory();
     }
 }

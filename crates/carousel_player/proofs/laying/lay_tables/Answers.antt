@@ -1,4 +1,4 @@
-use Rattle.std.proofs.Common.{◌≡◌, ℕ, ◌+◌, ◌≤◌, List, [], ◌∷◌, ◌++◌, length, take, drop, sym, ap, ◌∙◌, subst, arith, append_assoc, vec_len, vec_capacity}
+use Rattle.std.proofs.Common.{◌≡◌, ℕ, ◌+◌, ◌≤◌, List, [], ◌∷◌, ◌++◌, length, take, drop, sym, ap, ◌∙◌, subst, arith, append_assoc, vec_len}
 use Rattle.std.proofs.lemmas.List.{length_push}
 use Rattle.std.proofs.lemmas.Slice.Zip.{zip_turn, zip_end}
 use Rattle.air_model.specs.Air.{Sent, sections_of}
@@ -23,12 +23,14 @@ loop-table-preserved c =
           (append_assoc ss (sections_under (take n versions) (take n tables)) (sections_of version table)
           ∙ ap (λ (l : List Sent). ss ++ l) (sym more ∙ ap (λ (k : ℕ). sections_under (take k versions) (take k tables)) (sym next)))
           (c.lay_table.ensures.laid (ss ++ sections_under (take n versions) (take n tables)) (c.loop-table.invariant.laid ss h));
-      room = subst (λ (k : ℕ). vec_len c.lay_table.new.bytes + room_for (drop k tables) ≤ vec_capacity c.lay_table.new.bytes) (sym next) (omega (arith, behind.0));
-      places = subst (λ (k : ℕ). vec_len c.lay_table.new.placed + places_for (drop k tables) ≤ vec_capacity c.lay_table.new.placed) (sym next) (omega (arith, behind.1));
+      bytes_len = subst (λ (k : ℕ). vec_len c.lay_table.new.bytes + room_for (drop k tables) ≤ vec_len c.args.bytes.now + room_for tables) (sym next) (omega (arith, behind.0));
+      bytes_capacity = omega arith;
+      placed_len = subst (λ (k : ℕ). vec_len c.lay_table.new.placed + places_for (drop k tables) ≤ vec_len c.args.placed.now + places_for tables) (sym next) (omega (arith, behind.1));
+      placed_capacity = omega arith;
     }
 
-pub returns : goal.returns
-returns c ss h =
+pub returns-clause-laid : goal.returns-clause-laid
+returns-clause-laid c ss h =
     let tables = c.args.tables.now in
     let versions = c.args.versions.now in
     let last = zip_end tables versions c.loop-table.yielded c.into_iter-table-iterator.result c.loop-table.table-iterator c.next.new.self c.next.result (cc) (cc) c.loop-table.yielded_by c.in-None.is c.next.ensures.steps in

@@ -7,6 +7,8 @@ use Rattle.carousel_player.proofs.laying.lay_tables.Given as goal
 abbrev pub invariant-loop-table : goal.invariant-loop-table
 invariant-loop-table l = record {
   laid : (ss : List Sent) → AreLaid ss l.fn.bytes.items l.fn.placed.items → AreLaid (ss ++ sections_under (take (length l.yielded) l.versions) (take (length l.yielded) l.tables)) l.bytes.items l.placed.items;
-  room : vec_len l.bytes + room_for (drop (length l.yielded) l.tables) ≤ vec_capacity l.bytes;
-  places : vec_len l.placed + places_for (drop (length l.yielded) l.tables) ≤ vec_capacity l.placed;
+  bytes_len : vec_len l.bytes + room_for (drop (length l.yielded) l.tables) ≤ vec_len l.fn.bytes + room_for l.tables;
+  bytes_capacity : vec_capacity l.fn.bytes ≤ vec_capacity l.bytes;
+  placed_len : vec_len l.placed + places_for (drop (length l.yielded) l.tables) ≤ vec_len l.fn.placed + places_for l.tables;
+  placed_capacity : vec_capacity l.fn.placed ≤ vec_capacity l.placed;
 }

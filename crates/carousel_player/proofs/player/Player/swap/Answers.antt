@@ -1,4 +1,4 @@
-use Rattle.std.proofs.Common.{◌≡◌, ◌++◌, [], ◌∷◌, ℕ, List, sym, ap, subst}
+use Rattle.std.proofs.Common.{◌≡◌, ◌++◌, [], ◌∷◌, List, sym, ap, subst}
 use Rattle.version_book.specs.Airings.{CycleForm, Airing}
 use Rattle.version_book.specs.Book.{Stands, aired}
 use Rattle.air_model.specs.Air.{airings_of, cycle_sections}
@@ -15,7 +15,7 @@ returns-clause-begun c xs end =
     let new : Playing = record { book = c.begin.new.book; counters = c.self.inside.counters; left = c.begin.new.self; quota = c.self.inside.quota } in
     let stands : Stands (airings_of xs) c.self.inside.book = subst (λ (p : Playing). Stands (airings_of xs) p.book) (sym c.self.view_is) end.sent.versions in
     on_ok_both c.begin.result
-    ((past : List Airing) (m : ℕ) (f : CycleForm) → Stands past c.self.inside.book → Stands (past ++ aired tables m f ∷ []) c.begin.new.book)
-    ((past : List Airing) (m : ℕ) (f : CycleForm) → Stands past c.self.inside.book → c.begin.new.self ≡ each_alone (cycle_sections past (aired tables m f)))
+    ((past : List Airing) (f : CycleForm) → Stands past c.self.inside.book → Stands (past ++ aired tables moment f ∷ []) c.begin.new.book)
+    ((past : List Airing) (f : CycleForm) → Stands past c.self.inside.book → c.begin.new.self ≡ each_alone (cycle_sections past (aired tables moment f)))
     (Begins xs (aired tables moment form) new) c.begin.ensures.versions c.begin.ensures.begun
-    (λ versions begun. begins xs tables moment form c.args.self.now new end c.requires.fit.each (ap (λ (p : Playing). p.counters) c.self.view_is) (versions (airings_of xs) moment form stands) (begun (airings_of xs) moment form stands))
+    (λ versions begun. begins xs tables moment form c.args.self.now new end c.requires.fit.each (ap (λ (p : Playing). p.counters) c.self.view_is) (versions (airings_of xs) form stands) (begun (airings_of xs) form stands))
