@@ -168,8 +168,7 @@ fn a_table_of_two_sections(rt: HostRuntime) -> Result<(), Fail> {
     let air = air_of(&rt, rt.alloc(), &text)?;
     let services = packets_on(rt.alloc(), &air, 0x11)?;
     let events = packets_on(rt.alloc(), &air, 0x12)?;
-    let place = 7 * 188..14 * 188;
-    assert!(rt; air.len() == 30 * 188 && air.get(place) == Some(services.as_slice()));
+    assert!(rt; air.len() == 30 * 188 && air.get(7 * 188..14 * 188) == Some(services.as_slice()));
     assert!(rt; has_two_sections(&services) && has_versions(&events, 15, 0));
     Ok(())
 }
