@@ -1,5 +1,5 @@
 // The packets of an air: versions, continuity counters, and sections of more than one packet.
-use crate::runs::{CYCLE, MUX, NO_EVENTS, air_of, joined, spelled};
+use crate::runs::{CYCLE, MUX, NO_EVENTS, TABLES, air_of, joined, spelled};
 use std::alloc::{AllocError, Global};
 use std::fmt::Write;
 use std::marker::Sync;
@@ -38,14 +38,20 @@ fn has_versions(packets: &[u8], count: usize, last: usize) -> bool {
         && (0..count).all(|i| numbers(packets, i) == Some((i.min(last) % 32, i % 16)))
 }
 
-// Whether an air has so many cycles of four packets, in which the versions of the SDT rise up to the last and then stay, and those
-// of event information are 0.
+// The PIDs of a cycle but for that of the SDT, and how many packets it has on each. Where versions stand, the TDT has its hour.
+const OTHERS: [(u16, usize); 5] = [(0x00, 1), (0x100, 1), (0x10, 1), (0x14, 1), (0x12, 3)];
+
+// Whether an air has so many cycles of eight packets, in which the versions of the SDT rise up to the last and then stay, and those
+// of the others are 0.
 fn has_cycles(alloc: Global, air: &[u8], cycles: usize, last: usize) -> Result<bool, AllocError> {
+    for (pid, count) in OTHERS {
+        let packets = packets_on(alloc, air, pid)?;
+        if !has_versions(&packets, cycles.saturating_mul(count), 0) {
+            return Ok(false);
+        }
+    }
     let services = packets_on(alloc, air, 0x11)?;
-    let events = packets_on(alloc, air, 0x12)?;
-    let are_all = air.len() == cycles.saturating_mul(CYCLE);
-    let stay = has_versions(&events, cycles.saturating_mul(3), 0);
-    Ok(are_all && stay && has_versions(&services, cycles, last))
+    Ok(air.len() == cycles.saturating_mul(CYCLE) && has_versions(&services, cycles, last))
 }
 
 // A script that for each count makes so many publications, each of a new name, and one swap.
@@ -104,8 +110,8 @@ fn a_swap_without_a_publication_repeats_the_sections(rt: HostRuntime) -> Result<
     let text = renamed(rt.alloc(), &many_swaps())?;
     let air = air_of(&rt, rt.alloc(), &text)?;
     assert!(rt; air.len() == 34 * CYCLE);
-    for i in 128..132_usize {
-        assert!(rt; payload(&air, i) == payload(&air, i + 4), "{i}");
+    for i in 256..264_usize {
+        assert!(rt; payload(&air, i) == payload(&air, i + 8), "{i}");
     }
     Ok(())
 }
@@ -116,7 +122,7 @@ const TWO_PACKETS: &str = "\
      47 00 11 11  6E*38  23 50 63 1D  FF*142
 ";
 
-// The air of these names is those two packets, and the three of a service without events.
+// The air of these names has those two packets in place of the one.
 #[test]
 fn a_section_of_two_packets(rt: HostRuntime) -> Result<(), Fail> {
     let mut text = joined(rt.alloc(), &[MUX])?;
@@ -126,7 +132,7 @@ fn a_section_of_two_packets(rt: HostRuntime) -> Result<(), Fail> {
         "", ""
     )?;
     let air = air_of(&rt, rt.alloc(), &text)?;
-    let packets = joined(rt.alloc(), &[TWO_PACKETS, NO_EVENTS])?;
+    let packets = joined(rt.alloc(), &[TABLES, TWO_PACKETS, NO_EVENTS])?;
     let packets = spelled(rt.alloc(), &packets)?;
     assert!(rt; air.as_slice() == packets.as_slice());
     Ok(())
@@ -155,14 +161,14 @@ fn has_two_sections(packets: &[u8]) -> bool {
             == Some([0x42, 0xF0, 0xDE, 0x00, 0x01, 0xC1, 0x01, 0x01].as_slice())
 }
 
-// It begins the air, and then come three packets of each service.
+// Before it stand the PAT, five PMTs and the NIT, behind it the TDT and three packets of each service.
 #[test]
 fn a_table_of_two_sections(rt: HostRuntime) -> Result<(), Fail> {
     let text = five_services(rt.alloc())?;
     let air = air_of(&rt, rt.alloc(), &text)?;
     let services = packets_on(rt.alloc(), &air, 0x11)?;
     let events = packets_on(rt.alloc(), &air, 0x12)?;
-    assert!(rt; air.len() == 22 * 188 && air.get(..7 * 188) == Some(services.as_slice()));
+    assert!(rt; air.len() == 30 * 188 && air.get(7 * 188..14 * 188) == Some(services.as_slice()));
     assert!(rt; has_two_sections(&services) && has_versions(&events, 15, 0));
     Ok(())
 }

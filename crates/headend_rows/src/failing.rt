@@ -47,8 +47,9 @@ const LAST_LINES: [usize; 6] = [8, 13, 15, 16, 18, 20];
 
 const CYCLES: [usize; 7] = [0, 0, 0, 0, 0, 1, 2];
 
-// How many bytes a cycle has: a packet of the SDT, two of present and following, and five of a schedule up to 15:00.
-const CYCLE: usize = 8 * 188;
+// How many bytes a cycle has: PAT, PMT, NIT, SDT and TDT in a packet each, two of present and following, and five of a schedule up to
+// 15:00.
+const CYCLE: usize = 12 * 188;
 
 // Which end fails in a run.
 #[derive(Clone, Copy)]
@@ -127,12 +128,7 @@ fn report_of(alloc: Global, entries: usize, fault: &str) -> Result<String, Alloc
 
 // The run of the script in which these calls fail.
 fn run_failing(piece: usize, fails: [u64; 3]) -> Run<'static> {
-    Run {
-        words: PLAY,
-        input: EVERY.as_bytes(),
-        piece,
-        fails,
-    }
+    Run::of(PLAY, EVERY.as_bytes(), piece, fails)
 }
 
 // Whether the run with call `n` of an end failing leaves what is due; `whole` is the whole air.
@@ -147,11 +143,9 @@ fn fails_as_due<W: Threads + Wait + Sync>(
     let due = expected_of(end, n, piece);
     let report = report_of(alloc, due.entries, due.fault)?;
     let report = report.as_bytes();
-    let left = Left {
-        status: due.status,
-        air: whole.get(..due.sent).unwrap_or(&[]),
-        report: report.get(..due.told).unwrap_or(report),
-    };
+    let air = whole.get(..due.sent).unwrap_or(&[]);
+    let told = report.get(..due.told).unwrap_or(report);
+    let left = Left::of(due.status, air, told);
     leaves(rt, alloc, &run_failing(piece, due.fails), &left)
 }
 
@@ -170,16 +164,12 @@ fn each_fails<W: Threads + Wait + Sync>(
         }
     }
     let journal = report_of(alloc, 6, "")?;
-    let left = Left {
-        status: Status::Done,
-        air: whole,
-        report: journal.as_bytes(),
-    };
+    let left = Left::of(Status::Done, whole, journal.as_bytes());
     let fails = expected_of(end, calls, piece).fails;
     leaves(rt, alloc, &run_failing(piece, fails), &left)
 }
 
-// Whether each call of each end, failing, leaves what is due, where each call moves so many bytes, of the air 36 at least.
+// Whether each call of each end, failing, leaves what is due, where each call moves so many bytes, of the air 47 at least.
 fn all_fail<W: Threads + Wait + Sync>(
     rt: &W,
     alloc: Global,
@@ -188,7 +178,7 @@ fn all_fail<W: Threads + Wait + Sync>(
 ) -> Result<bool, AllocError> {
     let piece = piece.max(1);
     let reads = EVERY.len().div_ceil(piece) + 1;
-    let wide = piece.max(36);
+    let wide = piece.max(47);
     let sent = 2 * CYCLE.div_ceil(wide);
     let told = report_of(alloc, 6, "")?.len().div_ceil(piece);
     Ok(
@@ -225,17 +215,8 @@ fn keeps_its_fault<W: Threads + Wait + Sync>(
     report: &[u8],
 ) -> Result<bool, AllocError> {
     for (n, told) in (0..report.len()).step_by(5).enumerate() {
-        let run = Run {
-            words,
-            input,
-            piece: 5,
-            fails: [NEVER, NEVER, n as u64],
-        };
-        let left = Left {
-            status,
-            air: &[],
-            report: report.get(..told).unwrap_or(report),
-        };
+        let run = Run::of(words, input, 5, [NEVER, NEVER, n as u64]);
+        let left = Left::of(status, &[], report.get(..told).unwrap_or(report));
         if !leaves(rt, alloc, &run, &left)? {
             return Ok(false);
         }

@@ -1,6 +1,6 @@
 // Runs of `listen` over recordings in memory, whose report is looked at.
 use crate::airs::renamed;
-use crate::runs::{LISTEN, Left, NEVER, PACKET, Run, air_of, joined, leaves, spelled};
+use crate::runs::{LISTEN, Left, NEVER, PACKET, Run, air_of, first_cycle, joined, leaves, spelled};
 use epg_cli::{Origin, Outlet, Status};
 use si_base::crc32;
 use std::alloc::{AllocError, Global};
@@ -11,6 +11,16 @@ use std::test::Fail;
 use std::thread::Threads;
 
 const DONE: &str = "done\t0\t17\t66\t1\t0\t1\t0\n";
+
+// What is heard of a first cycle: PAT, PMT, NIT and SDT, present and following, and the schedule.
+const FIRST_CYCLE: &str = "\
+done\t0\t0\t0\t1\t0\t0\t0
+done\t1\t256\t2\t101\t0\t0\t0
+done\t2\t16\t64\t40\t0\t0\t0
+done\t3\t17\t66\t1\t0\t1\t0
+done\t6\t18\t78\t101\t1\t1\t0
+done\t7\t18\t80\t101\t1\t1\t0
+";
 
 // So many bytes of that packet, again and again.
 fn recording(alloc: Global, len: usize) -> Result<Vec<u8>, AllocError> {
@@ -23,16 +33,6 @@ fn recording(alloc: Global, len: usize) -> Result<Vec<u8>, AllocError> {
     Ok(bytes)
 }
 
-// The run of `listen` over this recording.
-fn hearing(input: &[u8]) -> Run<'_> {
-    Run {
-        words: LISTEN,
-        input,
-        piece: 100,
-        fails: [NEVER; 3],
-    }
-}
-
 // Whether a run over a recording has this status, and reports these completions and this end.
 pub(crate) fn tells<W: Threads + Wait + Sync>(
     rt: &W,
@@ -43,48 +43,32 @@ pub(crate) fn tells<W: Threads + Wait + Sync>(
     end: &str,
 ) -> Result<bool, AllocError> {
     let report = joined(alloc, &[done, end])?;
-    let left = Left {
-        status,
-        air: &[],
-        report: report.as_bytes(),
-    };
-    leaves(rt, alloc, &hearing(recording), &left)
+    let run = Run::of(LISTEN, recording, 100, [NEVER; 3]);
+    leaves(rt, alloc, &run, &Left::of(status, &[], report.as_bytes()))
 }
 
-// The same of so many bytes of that packet, again and again.
-fn tells_of<W: Threads + Wait + Sync>(
-    rt: &W,
-    alloc: Global,
-    len: usize,
-    done: &str,
-    status: Status,
-    end: &str,
-) -> Result<bool, AllocError> {
-    let recording = recording(alloc, len)?;
-    tells(rt, alloc, &recording, done, status, end)
-}
-
+// Pieces that are too short are told; the longest recording has 10,000 packets.
 #[test]
-fn whole_recordings(rt: HostRuntime) -> Result<(), Fail> {
-    // the last has 10,000 packets
-    for (len, done) in [(0, ""), (188, DONE), (376, DONE), (1_880_000, DONE)] {
-        assert!(rt;
-            tells_of(&rt, rt.alloc(), len, done, Status::Done, "end\n")?,
-            "{len}"
-        );
+fn a_packet_again_and_again(rt: HostRuntime) -> Result<(), Fail> {
+    for (len, done, status, end) in [
+        (0, "", Status::Done, "end\n"),
+        (187, "", Status::BadStream(0), "fault: packet 0\n"),
+        (188, DONE, Status::Done, "end\n"),
+        (189, DONE, Status::BadStream(1), "fault: packet 1\n"),
+        (376, DONE, Status::Done, "end\n"),
+        (1_880_000, DONE, Status::Done, "end\n"),
+    ] {
+        let recording = recording(rt.alloc(), len)?;
+        let is_so = tells(&rt, rt.alloc(), &recording, done, status, end)?;
+        assert!(rt; is_so, "{len}");
     }
     Ok(())
 }
 
 #[test]
-fn pieces_that_are_too_short(rt: HostRuntime) -> Result<(), Fail> {
-    for (len, done, number, end) in [
-        (187, "", 0, "fault: packet 0\n"),
-        (189, DONE, 1, "fault: packet 1\n"),
-    ] {
-        let status = Status::BadStream(number);
-        assert!(rt; tells_of(&rt, rt.alloc(), len, done, status, end)?, "{len}");
-    }
+fn a_first_cycle(rt: HostRuntime) -> Result<(), Fail> {
+    let cycle = first_cycle(rt.alloc())?;
+    assert!(rt; tells(&rt, rt.alloc(), &cycle, FIRST_CYCLE, Status::Done, "end\n")?);
     Ok(())
 }
 
@@ -132,10 +116,11 @@ fn packets_that_show_nothing(rt: HostRuntime) -> Result<(), Fail> {
         (37, 0xDE, 37, 0xDE, false),
         (4, 184, 4, 184, false),
         (6, 0xFF, 7, 0xFE, false),
-        // current_next_indicator 0; section_number above last_section_number; another table
+        // current_next_indicator 0; section_number above last_section_number; another table; a byte behind the descriptors
         (10, 0xC0, 10, 0xC0, true),
         (11, 1, 11, 1, true),
         (5, 0x46, 5, 0x46, true),
+        (20, 12, 22, 10, true),
         // a transport error; no payload; an adaptation field of 183 bytes; another PID
         (1, 0xC0, 1, 0xC0, false),
         (3, 0x20, 3, 0x20, false),
@@ -148,18 +133,17 @@ fn packets_that_show_nothing(rt: HostRuntime) -> Result<(), Fail> {
     Ok(())
 }
 
-// The lines of so many cycles of four packets, in which the SDT alone has another version each time.
+// The lines of so many cycles of eight packets, in which the SDT alone has another version each time.
 fn lines_of(alloc: Global, cycles: u32) -> Result<String, AllocError> {
-    let mut lines = String::from_str(alloc, DONE)?;
-    lines.push_str("done\t2\t18\t78\t101\t1\t1\t0\ndone\t3\t18\t80\t101\t1\t1\t0\n")?;
+    let mut lines = String::from_str(alloc, FIRST_CYCLE)?;
     for i in 1..cycles {
-        let packet = i.saturating_mul(4);
+        let packet = i.saturating_mul(8).saturating_add(3);
         write!(lines, "done\t{packet}\t17\t66\t1\t0\t1\t{}\n", i % 32)?;
     }
     Ok(lines)
 }
 
-// The air of 33 swaps, each of a new name, tells 33 versions of the SDT, and one of each table of event information.
+// The air of 33 swaps, each of a new name, tells 33 versions of the SDT, and one of each other table.
 #[test]
 fn versions_are_heard(rt: HostRuntime) -> Result<(), Fail> {
     let script = renamed(rt.alloc(), &[1; 33])?;
@@ -188,18 +172,8 @@ fn fails_so<W: Threads + Wait + Sync>(
     report: &[u8],
 ) -> Result<bool, AllocError> {
     let input = three_packets(alloc)?;
-    let run = Run {
-        words: LISTEN,
-        input: &input,
-        piece,
-        fails,
-    };
-    let left = Left {
-        status,
-        air: &[],
-        report,
-    };
-    leaves(rt, alloc, &run, &left)
+    let run = Run::of(LISTEN, &input, piece, fails);
+    leaves(rt, alloc, &run, &Left::of(status, &[], report))
 }
 
 // Whether a run in which read `n` fails reports what was read before, and the fault.
@@ -255,10 +229,8 @@ fn each_read_fails_in_turn(rt: HostRuntime) -> Result<(), Fail> {
 fn each_write_fails_in_turn(rt: HostRuntime) -> Result<(), Fail> {
     for (piece, writes) in [(7, 4), (100, 2), (188, 2), (65_536, 2)] {
         for n in 0..writes {
-            assert!(rt;
-                tells_write_fault(&rt, rt.alloc(), piece, n)?,
-                "{piece} {n}"
-            );
+            let is_so = tells_write_fault(&rt, rt.alloc(), piece, n)?;
+            assert!(rt; is_so, "{piece} {n}");
         }
     }
     Ok(())

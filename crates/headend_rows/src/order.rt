@@ -102,9 +102,12 @@ fn a_cycle_is_sent_before_the_next_line_is_read(rt: HostRuntime) -> Result<(), F
     Ok(())
 }
 
-// How many bytes are reported when each of twelve packets is read, and when the end is met: the lines of the SDT have 21 bytes, one
-// for the first packet of each cycle; those of event information have 23, one for the third and one for the fourth packet.
-const REPORTED: &[usize] = &[0, 21, 21, 44, 67, 88, 88, 88, 88, 109, 109, 109, 109];
+// How many bytes are reported when each of 24 packets is read, and when the end is met: in the first cycle each of PAT, PMT, NIT and
+// SDT has its line, the second packet of present and following has one, and the schedule; in each further cycle the SDT alone.
+const REPORTED: &[usize] = &[
+    0, 19, 42, 64, 85, 85, 85, 108, 131, 131, 131, 131, 153, 153, 153, 153, 153, 153, 153, 153,
+    175, 175, 175, 175, 175,
+];
 
 // Whether `listen` reports the completions of each of these packets before it reads the next one.
 fn reports_before_it_reads(alloc: Global, packets: &[&[u8]]) -> bool {
@@ -121,7 +124,7 @@ fn reports_before_it_reads(alloc: Global, packets: &[&[u8]]) -> bool {
     status == Status::Done
         && input.agrees
         && input.reads == REPORTED.len()
-        && taken.get() == 109 + 4
+        && taken.get() == 175 + 4
 }
 
 // The same of the air of three swaps, each of a new name.

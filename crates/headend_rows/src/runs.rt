@@ -9,21 +9,32 @@ use std::thread::Threads;
 // A network, a stream and a service.
 pub(crate) const MUX: &str = "network,40,Demo\nstream,1,1\nservice,101,1,1,256,257,Acme,One\nend\n";
 
-// The packet of the SDT that names this service `News`, as it is first sent (EN 300 468, 5.2.3).
+// The first packets of a first cycle: the PAT, the PMT of its service (ISO/IEC 13818-1, 2.4.4.3 and 2.4.4.8), and the NIT
+// (EN 300 468, 5.2.1).
+pub(crate) const TABLES: &str = "\
+     47 40 00 10  00  00 B0 11 00 01 C1 00 00  00 00 E0 10  00 65 E1 00  D4 FA 67 AA  FF*163
+     47 41 00 10  00  02 B0 0D 00 65 C1 00 00  E1 01 F0 00  EF FB 2B 4C  FF*167
+     47 40 10 10  00  40 F0 1E 00 28 C1 00 00  F0 06  40 04 44 65 6D 6F  F0 0B  00 01 00 01 F0 05  41 03 00 65 01
+     10 2D 0D F8  FF*150
+";
+
+// The packet behind them: the SDT that names this service `News` (5.2.3).
 pub(crate) const PACKET: &str = "\
      47 40 11 10  00  42 F0 1E 00 01 C1 00 00  00 01 FF  00 65 FF 80 0D  48 0B 01 04 41 63 6D 65 04 4E 65 77 73
      B5 82 AF DD  FF*150
 ";
 
-// The packets behind it, where the service has no event: present, following, and a section of its schedule (EN 300 468, 5.2.4).
+// The packets behind it: the TDT of the start of 1970 (5.2.5), and of a service without an event present, following, and a section of
+// its schedule (5.2.4).
 pub(crate) const NO_EVENTS: &str = "\
+     47 40 14 10  00  70 70 05 9E 8B 00 00 00  FF*175
      47 40 12 10  00  4E F0 0F 00 65 C1 00 01  00 01 00 01 01 4E  6A A2 D6 07  FF*165
      47 40 12 11  00  4E F0 0F 00 65 C1 01 01  00 01 00 01 01 4E  31 03 0A CD  FF*165
      47 40 12 12  00  50 F0 0F 00 65 C1 00 00  00 01 00 01 00 50  49 C6 68 2B  FF*165
 ";
 
 // How many bytes they have together.
-pub(crate) const CYCLE: usize = 4 * 188;
+pub(crate) const CYCLE: usize = 8 * 188;
 
 // No call has this number.
 pub(crate) const NEVER: u64 = 1_000_000_000;
@@ -37,18 +48,44 @@ pub(crate) const LISTEN: &[&str] = &["listen"];
 // of the write to the air and of the write to the report that fail.
 #[derive(Clone, Copy)]
 pub(crate) struct Run<'a> {
-    pub(crate) words: &'a [&'a str],
-    pub(crate) input: &'a [u8],
-    pub(crate) piece: usize,
-    pub(crate) fails: [u64; 3],
+    words: &'a [&'a str],
+    input: &'a [u8],
+    piece: usize,
+    fails: [u64; 3],
+}
+
+impl<'a> Run<'a> {
+    pub(crate) fn of(
+        words: &'a [&'a str],
+        input: &'a [u8],
+        piece: usize,
+        fails: [u64; 3],
+    ) -> Run<'a> {
+        Run {
+            words,
+            input,
+            piece,
+            fails,
+        }
+    }
 }
 
 // What a run is to leave.
 #[derive(Clone, Copy)]
 pub(crate) struct Left<'a> {
-    pub(crate) status: Status,
-    pub(crate) air: &'a [u8],
-    pub(crate) report: &'a [u8],
+    status: Status,
+    air: &'a [u8],
+    report: &'a [u8],
+}
+
+impl<'a> Left<'a> {
+    pub(crate) fn of(status: Status, air: &'a [u8], report: &'a [u8]) -> Left<'a> {
+        Left {
+            status,
+            air,
+            report,
+        }
+    }
 }
 
 // The ends of a run.
@@ -70,37 +107,20 @@ fn ends_of(alloc: Global, run: &Run) -> Result<Ends, AllocError> {
     })
 }
 
-fn line_of(alloc: Global, words: &[&str]) -> Result<Vec<String>, AllocError> {
-    let mut line = Vec::new(alloc);
-    for word in words {
-        line.push(String::from_str(alloc, word)?)?;
-    }
-    Ok(line)
-}
-
-// An opener without files.
-fn no_files(alloc: Global) -> MemOpener {
-    MemOpener::open_with(alloc, Vec::new(alloc), Vec::new(alloc), None)
-}
-
-// Runs these words over these ends.
+// Runs these words over these ends, without files.
 fn run_over<W: Threads + Wait + Sync>(
     rt: &W,
     alloc: Global,
     words: &[&str],
     ends: &mut Ends,
 ) -> Result<Status, AllocError> {
-    let line = line_of(alloc, words)?;
-    Ok(run(
-        rt,
-        alloc,
-        &line,
-        &mut no_files(alloc),
-        &mut ends.input,
-        &mut ends.air,
-        &mut ends.report,
-        &OpenGate,
-    ))
+    let mut line = Vec::new(alloc);
+    for word in words {
+        line.push(String::from_str(alloc, word)?)?;
+    }
+    let mut none = MemOpener::open_with(alloc, Vec::new(alloc), Vec::new(alloc), None);
+    let (input, air, report) = (&mut ends.input, &mut ends.air, &mut ends.report);
+    Ok(run(rt, alloc, &line, &mut none, input, air, report, &OpenGate))
 }
 
 // The status of a run that leaves this report and, where one is given, this air; none where it leaves others.
@@ -132,12 +152,7 @@ pub(crate) fn leaves<W: Threads + Wait + Sync>(
 
 // The run of `play` over this input.
 pub(crate) fn playing(input: &str) -> Run<'_> {
-    Run {
-        words: PLAY,
-        input: input.as_bytes(),
-        piece: 65_536,
-        fails: [NEVER; 3],
-    }
+    Run::of(PLAY, input.as_bytes(), 65_536, [NEVER; 3])
 }
 
 // The air that `play` leaves where it plays this input to its end, else none.
@@ -160,6 +175,12 @@ pub(crate) fn joined(alloc: Global, parts: &[&str]) -> Result<String, AllocError
         text.push_str(part)?;
     }
     Ok(text)
+}
+
+// The first cycle of this multiplex, where its service has the name `News` and no event.
+pub(crate) fn first_cycle(alloc: Global) -> Result<Vec<u8>, AllocError> {
+    let packets = joined(alloc, &[TABLES, PACKET, NO_EVENTS])?;
+    spelled(alloc, &packets)
 }
 
 // The bytes that a text spells: each word is a byte in hex, and behind a star how often it stands.

@@ -1,8 +1,6 @@
-// The words of a command line.
-use crate::runs::{
-    LISTEN, Left, MUX, NEVER, NO_EVENTS, PACKET, PLAY, Run, joined, leaves, spelled,
-};
-use epg_cli::Status;
+// The words of a command line, and the smallest run of `play`.
+use crate::runs::{CYCLE, Left, MUX, NEVER, PLAY, Run, first_cycle, joined, leaves};
+use epg_cli::{Outlet, Status};
 use std::alloc::{AllocError, Global};
 use std::marker::Sync;
 use std::sync::Wait;
@@ -11,37 +9,29 @@ use std::thread::Threads;
 
 const STEPS: &str = "feed,1,name,101,Acme,News\npublish\nswap\n";
 
-// The journal of these steps, entry by entry.
-const JOURNAL: [&str; 3] = [
-    "0,feed,1,name,101,Acme,News\n=,done\n",
-    "0,publish\n=,published,1\n",
-    "0,swap\n=,swapped,1,1970-01-01T00:00:00Z\n",
-];
+// The journal of these steps.
+const JOURNAL: &str = "\
+0,feed,1,name,101,Acme,News
+=,done
+0,publish
+=,published,1
+0,swap
+=,swapped,1,1970-01-01T00:00:00Z
+";
 
-// The run of these words over this input, cut into pieces.
-fn run_of<'a>(words: &'a [&'a str], input: &'a str) -> Run<'a> {
-    Run {
-        words,
-        input: input.as_bytes(),
-        piece: 7,
-        fails: [NEVER; 3],
-    }
-}
-
-// Whether a run with so many words of a text, which bars part, ends with `Usage` alone.
-fn is_usage<W: Threads + Wait + Sync>(
+// Whether a run over a description with so many words of a text, which bars part, sends nothing, and leaves this status and report.
+fn ends_so<W: Threads + Wait + Sync>(
     rt: &W,
     alloc: Global,
     count: usize,
     words: &str,
+    status: Status,
+    report: &str,
 ) -> Result<bool, AllocError> {
     let words: Vec<&str> = words.split('|').take(count).collect(alloc)?;
-    let left = Left {
-        status: Status::Usage,
-        air: &[],
-        report: b"fault: usage\n",
-    };
-    leaves(rt, alloc, &run_of(&words, MUX), &left)
+    let run = Run::of(&words, MUX.as_bytes(), 7, [NEVER; 3]);
+    let left = Left::of(status, &[], report.as_bytes());
+    leaves(rt, alloc, &run, &left)
 }
 
 #[test]
@@ -57,47 +47,57 @@ fn words_that_are_no_command(rt: HostRuntime) -> Result<(), Fail> {
         (1, "play "),
         (1, ""),
     ] {
-        assert!(rt; is_usage(&rt, rt.alloc(), count, words)?, "{words}");
+        let report = "fault: usage\n";
+        let is_so = ends_so(&rt, rt.alloc(), count, words, Status::Usage, report)?;
+        assert!(rt; is_so, "{words}");
     }
     Ok(())
 }
 
-// `play` sends the one cycle, and reports the journal.
+// A description is no recording, and the opener has no file.
+#[test]
+fn the_words_listen_and_live(rt: HostRuntime) -> Result<(), Fail> {
+    let live = "live|--feed|x|--cycles=1|--join|0";
+    for (count, words, status, report) in [
+        (1, "listen", Status::BadStream(0), "fault: packet 0\n"),
+        (6, live, Status::OpenFault(1), "fault: feed 1 not opened\n"),
+    ] {
+        let is_so = ends_so(&rt, rt.alloc(), count, words, status, report)?;
+        assert!(rt; is_so, "{words}");
+    }
+    Ok(())
+}
+
+// Whether `play` of these steps, where each call moves so many bytes and this write of the air fails, leaves so many bytes of the
+// cycle, and reports the journal and this line.
+fn plays_so<W: Threads + Wait + Sync>(
+    rt: &W,
+    alloc: Global,
+    calls: (usize, u64),
+    sent: usize,
+    status: Status,
+    fault: &str,
+) -> Result<bool, AllocError> {
+    let (piece, write) = calls;
+    let input = joined(alloc, &[MUX, STEPS])?;
+    let run = Run::of(PLAY, input.as_bytes(), piece, [NEVER, write, NEVER]);
+    let cycle = first_cycle(alloc)?;
+    let report = joined(alloc, &[JOURNAL, fault])?;
+    let air = cycle.get(..sent).unwrap_or(&[]);
+    let left = Left::of(status, air, report.as_bytes());
+    leaves(rt, alloc, &run, &left)
+}
+
+// It sends the one cycle; where a write takes a packet and the seventh fails, six packets.
 #[test]
 fn the_word_play(rt: HostRuntime) -> Result<(), Fail> {
-    let input = joined(rt.alloc(), &[MUX, STEPS])?;
-    let packets = joined(rt.alloc(), &[PACKET, NO_EVENTS])?;
-    let cycle = spelled(rt.alloc(), &packets)?;
-    let journal = joined(rt.alloc(), &JOURNAL)?;
-    let left = Left {
-        status: Status::Done,
-        air: &cycle,
-        report: journal.as_bytes(),
-    };
-    assert!(rt; leaves(&rt, rt.alloc(), &run_of(PLAY, &input), &left)?);
-    Ok(())
-}
-
-#[test]
-fn the_word_listen(rt: HostRuntime) -> Result<(), Fail> {
-    let left = Left {
-        status: Status::Done,
-        air: &[],
-        report: b"end\n",
-    };
-    assert!(rt; leaves(&rt, rt.alloc(), &run_of(LISTEN, ""), &left)?);
-    Ok(())
-}
-
-// The opener has no file.
-#[test]
-fn the_word_live(rt: HostRuntime) -> Result<(), Fail> {
-    let words = ["live", "--feed", "x", "--cycles=1", "--join", "0"];
-    let left = Left {
-        status: Status::OpenFault(1),
-        air: &[],
-        report: b"fault: feed 1 not opened\n",
-    };
-    assert!(rt; leaves(&rt, rt.alloc(), &run_of(&words, MUX), &left)?);
+    let failed = Status::WriteFault(Outlet::Air);
+    for (calls, sent, status, fault) in [
+        ((1, NEVER), CYCLE, Status::Done, ""),
+        ((188, 6), 6 * 188, failed, "fault: air not written\n"),
+    ] {
+        let is_so = plays_so(&rt, rt.alloc(), calls, sent, status, fault)?;
+        assert!(rt; is_so, "{sent}");
+    }
     Ok(())
 }
