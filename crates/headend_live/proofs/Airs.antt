@@ -3,7 +3,6 @@ use Rattle.std.proofs.Common.{◌≡◌, ℕ, ◌≤◌, List, [], ◌∷◌, �
 use Rattle.std.specs.Prelude.{Option, Some, Ok, Err}
 use Rattle.std.specs.Io.KnownBytes.{Appends}
 use Rattle.std.proofs.KnownBytes.{Appends-trans}
-use Rattle.std.proofs.lemmas.List.Elements.{filter_map-append}
 use mathlib.Core.List.{IsPrefix}
 use Rattle.guide_model.specs.declared.guide.Guide.{Guide}
 use Rattle.mux_config.specs.declared.mux.Mux.{Mux}
@@ -25,12 +24,12 @@ use Rattle.desk_core.specs.Desks.{on_air_of}
 use Rattle.desk_core.proofs.JournalFacts.{publication-kept}
 use Rattle.headend_live.specs.declared.send.SendStop.TheVariants.{Air}
 use Rattle.headend_live.specs.OnAir.{airing_by, cycle_bytes}
-use Rattle.headend_live.specs.Air.{airing_with, mux_form}
-use Rattle.headend_live.proofs.SwapFacts.{airings_of-push, air_bytes-push, publishes-front}
+use Rattle.headend_live.specs.Air.{airings_by, mux_form}
+use Rattle.headend_live.proofs.SwapFacts.{airings-append, airings_of-push, air_bytes-push, publishes-front}
 use Rattle.headend_live.proofs.AirFacts.{on_air_services}
 use Rattle.turn_lock.proofs.Lists.{prefix_trans}
 use Rattle.desk_hall.specs.Turn.{View, entry_of, desk_with, Made}
-use Rattle.headend_live.specs.Playing.{airing_with_tables, airings_by, ArePutOnAir, HasPlayedTo, HasPlayedFront, HasPlayedSome, SwapSent, GoesOn}
+use Rattle.headend_live.specs.Playing.{airing_with_tables, ArePutOnAir, HasPlayedTo, HasPlayedFront, HasPlayedSome, SwapSent, GoesOn}
 use Rattle.desk_hall.proofs.Turns.{some_same}
 use Rattle.desk_hall.proofs.Passes.{made_began}
 
@@ -69,7 +68,7 @@ put_longer mux seen more entries airings p are journal q = are journal (prefix_t
 pub put_more : (mux : Mux) (seen front then : List Entry) (xs ys : List Airing) → ArePutOnAir mux seen front xs → ArePutOnAir mux seen then ys → ArePutOnAir mux seen (front ++ then) (xs ++ ys)
 put_more mux seen front then xs ys a b journal p =
     ap (λ (l : List Airing). l ++ ys) (a journal p) ∙ ap (λ (l : List Airing). airings_by mux journal front ++ l) (b journal p)
-    ∙ sym (filter_map-append (λ (entry : Entry). airing_with mux journal (aired_by entry.outcome)) front then)
+    ∙ sym (airings-append mux journal front then)
 
 -- the airings of the cycles with one more, whose entry was just made
 one_more : (mux : Mux) (airing : OnAir) (v w : View) (front : List Entry) (xs : List Aired) (x : Aired) → Made Swap (Swapped airing.number airing.moment) v w → airing ≡ on_air_of (desk_with mux w.seen)

@@ -1,7 +1,6 @@
 -- The journal of a run, from what the last pass knows of it.
 use Rattle.std.proofs.Common.{◌≡◌, ◌≢◌, ◌⊎◌, inl, inr, ℕ, zero, suc, List, [], ◌∷◌, ◌++◌, map, refl, sym, ap, ◌∙◌, subst, append-nil, append_assoc}
 use Rattle.std.specs.List.{AllByRecursion}
-use Rattle.std.proofs.lemmas.List.Elements.{filter_map-append}
 use Rattle.mux_config.specs.declared.mux.Mux.{Mux}
 use Rattle.version_book.specs.Airings.{Airing}
 use Rattle.desk_core.specs.declared.step.Step.TheVariants.{Publish, Swap}
@@ -9,13 +8,14 @@ use Rattle.desk_core.specs.declared.step.Outcome.TheVariants.{Published}
 use Rattle.desk_core.specs.declared.step.Entry.{Entry}
 use Rattle.desk_core.specs.Journal.{Command, Legal, LegalAfter, command_of}
 use Rattle.desk_core.specs.Publications.{aired_by}
-use Rattle.headend_live.specs.Air.{airing_with}
+use Rattle.headend_live.specs.Air.{airings_by}
 use Rattle.turn_lock.specs.declared.known.Caller.{Caller}
 use Rattle.turn_lock.specs.Knowledge.{Closes, numbers}
 use Rattle.desk_hall.specs.Turn.{View, caller_of, entry_of, Made, Knows, Did}
-use Rattle.headend_live.specs.Playing.{airings_by, swaps_by}
+use Rattle.headend_live.specs.Playing.{swaps_by}
 use Rattle.headend_live.specs.Whole.{IsWhole, JournalDid, SwapsNot}
 use Rattle.desk_hall.proofs.Passes.{made_knows}
+use Rattle.headend_live.proofs.SwapFacts.{airings-append}
 use Rattle.headend_live.proofs.WholeJournal.{of, rest_is, front_whole, airs_part, of_mine, of_other}
 
 -- ---- entries of one caller
@@ -39,9 +39,6 @@ swaps_made n (suc k) (x ∷ es) e = (let head : command_of x ≡ (n, Swap) = cc 
 legal_front : (mux : Mux) (before xs ys : List Entry) → LegalAfter mux before (xs ++ ys) → LegalAfter mux before xs
 legal_front mux before [] ys legal = tt
 legal_front mux before (x ∷ xs) ys legal = (legal.0, legal_front mux (before ++ x ∷ []) xs ys legal.1)
-
-pub airs_append : (mux : Mux) (journal xs ys : List Entry) → airings_by mux journal (xs ++ ys) ≡ airings_by mux journal xs ++ airings_by mux journal ys
-airs_append mux journal xs ys = filter_map-append (λ (e : Entry). airing_with mux journal (aired_by e.outcome)) xs ys
 
 closes_whole : (v : View) (journal : List Entry) → Closes caller_of v journal → IsWhole journal (numbers v)
 closes_whole v journal c = record { made = c.exact.made; others = c.others }
@@ -118,9 +115,9 @@ closed_final mux v m w n k player feeds journal c legal p d fin one none apart =
       legal = legal;
       front = p.before;
       ends = ends;
-      airings_are = ap (airings_by mux journal) ends ∙ airs_append mux journal p.before final ∙ ap (λ (l : List Airing). l ++ airings_by mux journal final) airs_front ∙ sym (airs_append mux journal player.made final);
+      airings_are = ap (airings_by mux journal) ends ∙ airings-append mux journal p.before final ∙ ap (λ (l : List Airing). l ++ airings_by mux journal final) airs_front ∙ sym (airings-append mux journal player.made final);
     }
 
 -- the publish itself puts nothing on air
 pub airs_final : (mux : Mux) (journal made added : List Entry) (who n : ℕ) → airings_by mux journal (made ++ added) ≡ airings_by mux journal (made ++ entry_of who Publish (Published n) ∷ added)
-airs_final mux journal made added who n = airs_append mux journal made added ∙ sym (airs_append mux journal made (entry_of who Publish (Published n) ∷ added))
+airs_final mux journal made added who n = airings-append mux journal made added ∙ sym (airings-append mux journal made (entry_of who Publish (Published n) ∷ added))

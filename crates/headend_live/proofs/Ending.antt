@@ -13,17 +13,18 @@ use Rattle.desk_core.specs.declared.step.Entry.{Entry}
 use Rattle.desk_core.specs.Journal.{Command, Legal, command_of}
 use Rattle.headend_live.specs.declared.send.SendStop.{SendStop}
 use Rattle.headend_live.specs.declared.send.SendStop.TheVariants.{Air, Memory}
-use Rattle.headend_live.specs.Air.{airings}
+use Rattle.headend_live.specs.Air.{airings, airings_by}
 use Rattle.turn_lock.specs.declared.known.Caller.{Caller}
 use Rattle.turn_lock.specs.Knowledge.{Closes}
 use Rattle.turn_lock.proofs.Lists.{prefix_self, prefix_trans}
 use Rattle.desk_hall.specs.Turn.{View, caller_of, entry_of, with_entries, Made, Idle, Did}
-use Rattle.headend_live.specs.Playing.{airings_by, HasPlayedTo, HasPlayedFront, HasPlayedSome, swaps_by}
+use Rattle.headend_live.specs.Playing.{HasPlayedTo, HasPlayedFront, HasPlayedSome, swaps_by}
 use Rattle.headend_live.specs.Whole.{JournalDid, SwapsNot, final_commands}
 use Rattle.headend_live.specs.Live.{halts, Went, FinalDid, LastDid, SentDid, PlayedAs, AirOf, CutAirOf, SomeAirOf, AirDid, EndDid}
 use Rattle.desk_hall.proofs.Passes.{made_began, more_none, more_more}
 use Rattle.headend_live.proofs.Airs.{put_longer}
-use Rattle.headend_live.proofs.Closing.{closed_plain, closed_final, airs_final, airs_append}
+use Rattle.headend_live.proofs.Closing.{closed_plain, closed_final, airs_final}
+use Rattle.headend_live.proofs.SwapFacts.{airings-append}
 
 abbrev Known : Type 0
 Known = Option (List ℕ)
@@ -91,7 +92,7 @@ air_some mux journal seen entries before now is p h = record {
   is_air = h.is_air;
   made = h.made;
   left = airings_by mux journal h.left;
-  airings_are = is ∙ ap (airings_by mux journal) h.entries_are ∙ airs_append mux journal h.done h.left ∙ ap (λ (l : List Airing). l ++ airings_by mux journal h.left) (sym (h.airings_are journal p));
+  airings_are = is ∙ ap (airings_by mux journal) h.entries_are ∙ airings-append mux journal h.done h.left ∙ ap (λ (l : List Airing). l ++ airings_by mux journal h.left) (sym (h.airings_are journal p));
   bytes = h.bytes;
 }
 

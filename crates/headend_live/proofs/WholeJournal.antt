@@ -3,7 +3,7 @@ use Rattle.std.proofs.Common.{◌≡◌, ◌≢◌, ◌⊎◌, ⊎_elim, inl, in
 use Rattle.std.specs.Prelude.{None, if◌then◌else◌}
 use Rattle.std.specs.List.{AllByRecursion}
 use Rattle.std.proofs.lemmas.List.{append_cancel_left, append_cancel_right}
-use Rattle.std.proofs.lemmas.List.Elements.{filter-append, filter_map-append}
+use Rattle.std.proofs.lemmas.List.Elements.{filter-append}
 use native.Mathlib.Decide.{ℕ_discrete}
 use mathlib.Core.Logic.{dite}
 use Rattle.mux_config.specs.declared.mux.Mux.{Mux}
@@ -14,14 +14,14 @@ use Rattle.desk_core.specs.declared.step.Entry.{Entry}
 use Rattle.desk_core.specs.Journal.{Legal, LegalAfter, moment_of, outcome_of}
 use Rattle.desk_core.specs.Publications.{aired_by}
 use Rattle.desk_core.proofs.HeldFacts.{not_aired}
-use Rattle.headend_live.specs.Air.{airing_with}
+use Rattle.headend_live.specs.Air.{airings_by}
 use Rattle.headend_live.specs.OnAir.{is_swap}
 use Rattle.turn_lock.specs.declared.known.Caller.{Caller}
 use Rattle.turn_lock.specs.Journal.{entries_of}
 use Rattle.turn_lock.specs.Knowledge.{NotLowest}
 use Rattle.desk_hall.specs.Turn.{caller_of}
-use Rattle.headend_live.specs.Playing.{airings_by}
 use Rattle.headend_live.specs.Whole.{IsWhole, NoSwaps, SwapsNot}
+use Rattle.headend_live.proofs.SwapFacts.{airings-append}
 
 abbrev pub of : ℕ → List Entry → List Entry
 of k journal = entries_of caller_of k journal
@@ -135,7 +135,7 @@ others_none n mux before (e ∷ es) legal none =
     ((λ ne. ap aired_by legal.0 ∙ no_swap_airs mux before e.step (none.0 ne)), others_none n mux (before ++ e ∷ []) es legal.1 none.1)
 
 airs_by : (mux : Mux) (journal : List Entry) (e : Entry) (es : List Entry) → airings_by mux journal (e ∷ es) ≡ airings_by mux journal (e ∷ []) ++ airings_by mux journal es
-airs_by mux journal e es = filter_map-append (λ (y : Entry). airing_with mux journal (aired_by y.outcome)) (e ∷ []) es
+airs_by mux journal e es = airings-append mux journal (e ∷ []) es
 
 pub airs_none : (mux : Mux) (journal : List Entry) (e : Entry) → aired_by e.outcome ≡ None → airings_by mux journal (e ∷ []) ≡ []
 airs_none mux journal e none = rw none refl

@@ -1,5 +1,5 @@
 -- What a player puts on air while other callers go on.
-use Rattle.std.specs.Prelude.{◌≡◌, ◌⊎◌, ℕ, suc, ◌<◌, ◌≤◌, List, [], ◌∷◌, ◌++◌, length, take, replicate, Option, Ok, Err, Result, filter_map}
+use Rattle.std.specs.Prelude.{◌≡◌, ◌⊎◌, ℕ, suc, ◌<◌, ◌≤◌, List, [], ◌∷◌, ◌++◌, length, take, replicate, Option, Ok, Err, Result}
 use Rattle.std.specs.Io.KnownBytes.{Appends}
 use mathlib.Core.List.{IsPrefix}
 use Rattle.mux_config.specs.declared.mux.Mux.{Mux}
@@ -11,22 +11,17 @@ use Rattle.desk_core.specs.declared.step.Step.TheVariants.{Swap}
 use Rattle.desk_core.specs.declared.step.Outcome.TheVariants.{Swapped}
 use Rattle.desk_core.specs.declared.step.Airing.{Airing as OnAir}
 use Rattle.desk_core.specs.declared.step.Entry.{Entry}
-use Rattle.desk_core.specs.Publications.{aired_by}
 use Rattle.desk_core.specs.Journal.{Command}
 use Rattle.desk_core.specs.Desks.{on_air_of}
 use Rattle.headend_live.specs.declared.send.SendStop.{SendStop}
 use Rattle.headend_live.specs.declared.send.SendStop.TheVariants.{Air, Memory}
-use Rattle.headend_live.specs.Air.{airing_with, mux_form}
+use Rattle.headend_live.specs.Air.{airings_by, mux_form}
 use Rattle.headend_live.specs.OnAir.{cycle_bytes, SentCycle, airing_by}
 use Rattle.desk_hall.specs.Turn.{View, desk_with, Made, Idle, Did}
 
 -- a publication that is on air, in a cycle of the multiplex's form
 abbrev pub airing_with_tables : Mux → OnAir → Airing
 airing_with_tables mux airing = airing_by mux (mux_form mux) airing
-
--- what these entries of a journal put on air, in order
-abbrev pub airings_by : Mux → List Entry → List Entry → List Airing
-airings_by mux journal entries = filter_map (λ (entry : Entry). airing_with mux journal (aired_by entry.outcome)) entries
 
 -- These airings are those that the entries put on air, in each journal that begins with what was seen.
 abbrev pub ArePutOnAir : Mux → List Entry → List Entry → List Airing → Type 0

@@ -5,13 +5,12 @@ use Rattle.mux_config.specs.declared.mux.Mux.{Mux}
 use Rattle.desk_core.specs.declared.step.Step.TheVariants.{Publish, Swap}
 use Rattle.desk_core.specs.declared.step.Entry.{Entry}
 use Rattle.desk_core.specs.Journal.{Command, Legal}
-use Rattle.headend_live.specs.Air.{airings}
+use Rattle.headend_live.specs.Air.{airings, airings_by}
 use Rattle.headend_live.specs.OnAir.{is_swap}
 use Rattle.turn_lock.specs.declared.known.Caller.{Caller}
 use Rattle.turn_lock.specs.Journal.{entries_of}
 use Rattle.turn_lock.specs.Knowledge.{NotLowest}
 use Rattle.desk_hall.specs.Turn.{caller_of}
-use Rattle.headend_live.specs.Playing.{airings_by}
 
 -- The journal has of each of these callers exactly what it made, and nothing of anyone else.
 pub record IsWhole (journal : List Entry) (cs : List (Caller Entry)) : Type 0 where

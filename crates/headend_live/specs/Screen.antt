@@ -1,0 +1,57 @@
+-- What a receiver shows of a publication.
+use Rattle.std.specs.Prelude.{ℕ, ◌+◌, ◌*◌, Bool, ◌&&◌, nat_le, nat_lt, List, [], ◌∷◌, map, filter, Option, Some, None}
+use Rattle.si_text.specs.declared.shown.Shown.TheVariants.{Text}
+use Rattle.guide_model.specs.declared.event.Event.{Event}
+use Rattle.guide_model.specs.declared.guide.Guide.{Guide}
+use Rattle.guide_model.specs.declared.guide.ServiceGuide.{ServiceGuide}
+use Rattle.guide_model.specs.declared.screen.Screen.{Screen}
+use Rattle.guide_model.specs.declared.screen.ScreenEvent.{ScreenEvent}
+use Rattle.guide_model.specs.declared.screen.ScreenService.{ScreenService}
+use Rattle.mux_config.specs.declared.mux.Mux.{Mux}
+use Rattle.mux_config.specs.declared.mux.MuxService.{MuxService}
+use Rattle.guide_limits.specs.Events.{start_of, midnight}
+use Rattle.eit_codec.specs.Eit.{shown_event}
+use Rattle.eit_tables.specs.Present.{present_event, following_event}
+
+-- the event, where there is one
+abbrev pub first_shown : List Event → Option ScreenEvent
+first_shown [] = None
+first_shown (event ∷ events) = Some (shown_event event)
+
+-- an event that the schedule of the 64 days from a midnight on has: one that starts in them
+abbrev pub is_scheduled : ℕ → Event → Bool
+is_scheduled day event = nat_le day (start_of event) && nat_lt (start_of event) (day + 64 * 86400)
+
+-- a service: its numbers and components are the multiplex's, its names and events the guide's, and what is present and following at a
+-- moment
+abbrev pub service_shown : ℕ → MuxService → ServiceGuide → ScreenService
+service_shown moment service guide = record {
+  service = service.service;
+  kind = service.kind;
+  provider = Text guide.provider;
+  name = Text guide.name;
+  pmt_pid = Some service.pmt_pid;
+  pcr_pid = Some service.pcr_pid;
+  components = service.components;
+  now = first_shown (present_event moment guide.events);
+  next = first_shown (following_event moment guide.events);
+  events = map shown_event (filter (is_scheduled (midnight moment)) guide.events);
+}
+
+-- the services of a multiplex, each with what a guide has of it
+abbrev pub services_shown : ℕ → List MuxService → List ServiceGuide → List ScreenService
+services_shown moment [] guides = []
+services_shown moment (service ∷ services) [] = []
+services_shown moment (service ∷ services) (guide ∷ guides) = service_shown moment service guide ∷ services_shown moment services guides
+
+-- The screen of a guide that a multiplex sends, with the moment that was heard last.
+abbrev pub screen_of : Mux → Guide → ℕ → Screen
+screen_of mux guide clock = record {
+  clock = record { 0 = clock };
+  network = mux.network;
+  network_name = Text mux.network_name;
+  stream = mux.stream;
+  original = mux.original;
+  cable = mux.cable;
+  services = services_shown guide.moment.0 mux.services guide.services;
+}
