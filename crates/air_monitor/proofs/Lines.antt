@@ -6,7 +6,7 @@ use Rattle.std.proofs.Math.ListN.{drop_of_length-le}
 use Rattle.std.proofs.lemmas.Bool.{cases_lt}
 use Rattle.guide_receiver.specs.declared.done.DoneKey.{DoneKey}
 use Rattle.guide_receiver.proofs.Dones.{dones_push}
-use Rattle.guide_receiver.specs.Heard.{DoneAt, Hearing, Stands, at_packet, dones_by, dones_of}
+use Rattle.guide_receiver.specs.Heard.{DoneAt, Hearing, ReceiverStandsFor, at_packet, dones_by, dones_of}
 use Rattle.air_monitor.specs.declared.done_line.DoneLine.{DoneLine}
 use Rattle.air_monitor.specs.Heard.{AppendsFrontOf, AreInSync, HearsBy, IsFrontOf, line_at, lines_at, lines_from}
 
@@ -77,7 +77,7 @@ before_join join past p receiver dones lt h = subst (λ (l : List (List ℕ)). H
 
 -- a packet is heard
 pub from_join : (join : ℕ) (past : List (List ℕ)) (p : List ℕ) (number : ℕ) (old new : List DoneLine) (receiver : Hearing) → number ≡ length past → join ≤ length past
-    → old ≡ lines_from join (drop join past) → Stands (drop join past ++ p ∷ []) receiver → new ≡ old ++ lines_at number (dones_by (drop join past) p)
+    → old ≡ lines_from join (drop join past) → ReceiverStandsFor (drop join past ++ p ∷ []) receiver → new ≡ old ++ lines_at number (dones_by (drop join past) p)
     → HearsBy false join (drop join (past ++ p ∷ [])) receiver new
 from_join join past p number old new receiver is le before stands more =
     let heard = drop join past in

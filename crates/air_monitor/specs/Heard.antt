@@ -3,7 +3,7 @@ use Rattle.std.specs.Prelude.{◌≡◌, ℕ, zero, suc, ◌+◌, ◌/◌, ◌<�
 use Rattle.std.specs.List.{AllByRecursion}
 use Rattle.std.specs.Io.KnownBytes.{Appends}
 use Rattle.guide_receiver.specs.declared.done.DoneKey.{DoneKey}
-use Rattle.guide_receiver.specs.Heard.{DoneAt, Hearing, Stands, dones_of}
+use Rattle.guide_receiver.specs.Heard.{DoneAt, Hearing, ReceiverStandsFor, dones_of}
 use Rattle.air_monitor.specs.declared.done_line.DoneLine.{DoneLine}
 
 -- ---- the packets of an air
@@ -48,7 +48,7 @@ AppendsFrontOf old new lines = (front : List DoneLine) × IsFrontOf front lines 
 -- What was heard of packets of which the first has number `join`: the receiver stands for them, and the completions are all that
 -- they show; or memory was wanting, and the completions are a front of these.
 abbrev pub HearsBy : Bool → ℕ → List (List ℕ) → Hearing → List DoneLine → Type 0
-HearsBy false join heard receiver dones = Stands heard receiver × (dones ≡ lines_from join heard)
+HearsBy false join heard receiver dones = ReceiverStandsFor heard receiver × (dones ≡ lines_from join heard)
 HearsBy true join heard receiver dones = IsFrontOf dones (lines_from join heard)
 
 -- What was heard of the bytes that an air took, where each whole packet from `join` on begins with the sync_byte.

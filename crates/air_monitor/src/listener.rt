@@ -1,6 +1,6 @@
 // What is heard of packets, from one on.
 ghost use Rattle.std.specs.Prelude.{◌≡◌, ◌++◌, ◌∷◌, [], List, ℕ, length, drop, false, true, slice_index, OnOk, OnErr};
-ghost use Rattle.guide_receiver.specs.Heard.{Stands, dones_by};
+ghost use Rattle.guide_receiver.specs.Heard.{ReceiverStandsFor, dones_by};
 ghost use Rattle.air_monitor.specs.Heard.{AppendsFrontOf, AreInSync, Hears, HearsBy, lines_at};
 
 use crate::done_line::{DoneLines, push_lines};
@@ -113,11 +113,11 @@ fn hear_at(
     number: u64,
     packet: &[u8; 188],
 ) -> Result<(), AllocError>
-    ensures stands { (past : List (List ℕ)) → Stands past receiver.old → slice_index packet.now 0 ≡ 0x47
-        → OnOk result (Stands (past ++ packet.now ∷ []) receiver.new) }
-    ensures shown { (past : List (List ℕ)) → Stands past receiver.old → slice_index packet.now 0 ≡ 0x47
+    ensures stands { (past : List (List ℕ)) → ReceiverStandsFor past receiver.old → slice_index packet.now 0 ≡ 0x47
+        → OnOk result (ReceiverStandsFor (past ++ packet.now ∷ []) receiver.new) }
+    ensures shown { (past : List (List ℕ)) → ReceiverStandsFor past receiver.old → slice_index packet.now 0 ≡ 0x47
         → OnOk result (dones.new ≡ dones.old ++ lines_at number (dones_by past packet.now)) }
-    ensures memory { (past : List (List ℕ)) → Stands past receiver.old
+    ensures memory { (past : List (List ℕ)) → ReceiverStandsFor past receiver.old
         → OnErr result (AppendsFrontOf dones.old dones.new (lines_at number (dones_by past packet.now))) }
 {
     match receiver.hear(packet) {

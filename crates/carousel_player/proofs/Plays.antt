@@ -13,7 +13,7 @@ use Rattle.si_lists.proofs.Lists.{all_append}
 use Rattle.section_codec.specs.declared.table.SubTable.{SubTable}
 use Rattle.section_codec.specs.Contents.{Content}
 use Rattle.version_book.specs.Airings.{CycleForm, Airing, version_at}
-use Rattle.version_book.specs.Book.{Stands, aired}
+use Rattle.version_book.specs.Book.{BookStandsFor, aired}
 use Rattle.ts_packets.specs.Packets.{Piece, pieces, alone}
 use Rattle.ts_packets.specs.Bytes.{Packet, HasFields, bytes_of_packet, packet_on, packets_alone}
 use Rattle.ts_packets.specs.Counting.{StandFor}
@@ -56,7 +56,7 @@ pids_cycle past a fit =
     (omega arith, pids_sent version (behind_tdt a.tables) (recursion_from_All IsFit (behind_tdt a.tables) (All-drop IsFit n a.tables fit)))
 
 pub begins : (xs : List Aired) (ts : List SubTable) (moment : ℕ) (form : CycleForm) (old new : Playing) → AtEnd xs old → All IsFit ts → new.counters ≡ old.counters
-    → Stands (airings_of xs ++ aired ts moment form ∷ []) new.book → new.left ≡ each_alone (cycle_sections (airings_of xs) (aired ts moment form)) → Begins xs (aired ts moment form) new
+    → BookStandsFor (airings_of xs ++ aired ts moment form ∷ []) new.book → new.left ≡ each_alone (cycle_sections (airings_of xs) (aired ts moment form)) → Begins xs (aired ts moment form) new
 begins xs ts moment form old new end fit same stands left =
     let a = aired ts moment form in
     let units = each_alone (cycle_sections (airings_of xs) a) in
@@ -71,7 +71,7 @@ begins xs ts moment form old new end fit same stands left =
         handed = [];
         parts = refl;
         sent = record {
-          versions = subst (λ (l : List Airing). Stands l new.book) (sym longer) stands;
+          versions = subst (λ (l : List Airing). BookStandsFor l new.book) (sym longer) stands;
           counters = subst (λ (l : List Packet). StandFor (map bytes_of_packet l) new.counters) (sym (append-nil (air xs))) (subst (λ (c : List (Option ℕ)). StandFor (map bytes_of_packet (air xs)) c) (sym same) end.sent.counters);
         };
         rest_is = ap₂ counted (sym (append-nil (air xs))) (sym left);
@@ -108,7 +108,7 @@ hands_out xs x rest old new bytes w s same =
         handed = w.handed ++ front;
         parts = w.parts ∙ ap (λ (l : List Packet). w.handed ++ l) cut ∙ sym (append_assoc w.handed front left);
         sent = record {
-          versions = subst (Stands (airings_of (xs ++ x ∷ []))) (sym same) w.sent.versions;
+          versions = subst (BookStandsFor (airings_of (xs ++ x ∷ []))) (sym same) w.sent.versions;
           counters = subst (λ (l : List Packet). StandFor (map bytes_of_packet l) new.counters) behind (s.count past fields w.sent.counters);
         };
         rest_is = ap (λ (l : List Packet). counted l new.left) behind;

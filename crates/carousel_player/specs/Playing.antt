@@ -1,7 +1,7 @@
 -- What a player stands for: the airings whose cycles it has sent, and how far it has come in the last.
 use Rattle.std.specs.Prelude.{◌≡◌, ℕ, List, [], ◌∷◌, ◌++◌, map, flat_map, Option}
 use Rattle.version_book.specs.Airings.{CycleForm, Airing}
-use Rattle.version_book.specs.Book.{KeptKeys, Stands}
+use Rattle.version_book.specs.Book.{GivenVersions, BookStandsFor}
 use Rattle.ts_packets.specs.Bytes.{Packet, bytes_of_packet}
 use Rattle.ts_packets.specs.Counting.{StandFor}
 use Rattle.air_model.specs.Air.{Aired, air, airings_of, IsAirOf}
@@ -11,7 +11,7 @@ use Rattle.si_causes.specs.Causes.{AppendsFront}
 -- what contracts see of a player: its version book, its counters, the packets of the cycle that are still to come, not yet counted,
 -- and the quota of its cycles
 pub record Playing : Type 0 where
-  pub book : KeptKeys
+  pub book : GivenVersions
   pub counters : List (Option ℕ)
   pub left : List Packet
   pub quota : ℕ
@@ -22,7 +22,7 @@ form_of player = record { quota = player.quota }
 
 -- its versions stand for the airings of xs, and its counters for these packets
 pub record HasSent (xs : List Aired) (sent : List Packet) (player : Playing) : Type 0 where
-  pub versions : Stands (airings_of xs) player.book
+  pub versions : BookStandsFor (airings_of xs) player.book
   pub counters : StandFor (map bytes_of_packet sent) player.counters
 
 -- It has handed out just this air, one whole cycle for each airing, and nothing is left.

@@ -4,7 +4,7 @@ ghost use Rattle.ts_packets.specs.Packets.{packets_of};
 ghost use Rattle.ts_packets.specs.Bytes.{bytes_of_packet, packets_alone};
 ghost use Rattle.section_codec.specs.declared.table.SubTable.{SubTable};
 ghost use Rattle.version_book.specs.Airings.{Airing, CycleForm};
-ghost use Rattle.version_book.specs.Book.{Stands, aired};
+ghost use Rattle.version_book.specs.Book.{BookStandsFor, aired};
 ghost use Rattle.air_model.specs.Air.{cycle_sections};
 ghost use Rattle.air_model.specs.Making.{each_alone};
 ghost use Rattle.carousel_player.specs.Laying.{IsPlaced, room_for, places_for};
@@ -80,8 +80,8 @@ impl Cycle {
         requires ended { self.old ≡ [] }
         requires fit { AreFit tables.now.list }
         requires moment { moment.0 < 65536 * 86400 }
-        ensures versions { OnOk result ((past : List Airing) (form : CycleForm) → Stands past book.old → Stands (past ++ aired tables.now.list moment.0 form ∷ []) book.new) }
-        ensures begun { OnOk result ((past : List Airing) (form : CycleForm) → Stands past book.old → self.new ≡ each_alone (cycle_sections past (aired tables.now.list moment.0 form))) }
+        ensures versions { OnOk result ((past : List Airing) (form : CycleForm) → BookStandsFor past book.old → BookStandsFor (past ++ aired tables.now.list moment.0 form ∷ []) book.new) }
+        ensures begun { OnOk result ((past : List Airing) (form : CycleForm) → BookStandsFor past book.old → self.new ≡ each_alone (cycle_sections past (aired tables.now.list moment.0 form))) }
         ensures ended { OnErr result (self.new ≡ self.old) }
         ensures kept { OnErr result (book.new ≡ book.old) }
     {

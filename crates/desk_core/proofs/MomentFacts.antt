@@ -17,8 +17,8 @@ use Rattle.desk_core.specs.Steps.{IsStepWithin}
 use Rattle.desk_core.specs.Journal.{LegalAfter, later_of, latest_of_all, ticked_by, moment_of, outcome_of}
 use Rattle.desk_core.specs.Publications.{aired_by}
 use Rattle.desk_core.specs.declared.step.Airing.{Airing}
-use Rattle.desk_core.specs.declared.held.Held.{Held}
-use Rattle.desk_core.specs.Holding.{IsHeld}
+use Rattle.desk_core.specs.declared.derived.Derived.{Derived}
+use Rattle.desk_core.specs.Holding.{IsDerived}
 use Rattle.desk_core.proofs.HeldFacts.{not_aired}
 
 abbrev pub InRange : Moment → Type 0
@@ -72,9 +72,9 @@ last_range first [] h k = h
 last_range first (x ∷ xs) h k = last_range x xs k.0 k.1
 
 -- the days of what a desk keeps have 16 bits
-pub held_moment : (mux : Mux) (entries : List Entry) (held : Held) → IsHeld mux entries held → held.moment.0 < 65536 * 86400
+pub held_moment : (mux : Mux) (entries : List Entry) (held : Derived) → IsDerived mux entries held → held.moment.0 < 65536 * 86400
 held_moment mux entries held h = subst InRange (sym h.moment) (moment_range mux entries h.sound h.steps)
 
-pub held_on_air : (mux : Mux) (entries : List Entry) (held : Held) → IsHeld mux entries held → held.on_air.moment.0 < 65536 * 86400
+pub held_on_air : (mux : Mux) (entries : List Entry) (held : Derived) → IsDerived mux entries held → held.on_air.moment.0 < 65536 * 86400
 held_on_air mux entries held h =
     subst (λ (on : Airing). on.moment.0 < 65536 * 86400) (sym h.on_air) (last_range (0, mux.start) _ h.sound.start (all_aired mux [] entries h.sound tt h.steps h.legal))

@@ -34,7 +34,7 @@ use Rattle.headend_live.specs.OnAir.{and_step}
 use Rattle.air_monitor.specs.declared.done_line.DoneLine.{DoneLine}
 use Rattle.epg_report.specs.declared.status.Status.{Status}
 use Rattle.epg_report.specs.declared.status.Status.TheVariants.{Memory}
-use Rattle.epg_report.specs.Told.{Told}
+use Rattle.epg_report.specs.Told.{ReportTaken}
 use Rattle.epg_live.specs.Ends.{HasMet, LeavesLive, ReportEnds, or_report, run_text}
 use Rattle.epg_live.specs.Runs.{described}
 use Rattle.epg_cli.specs.Outcomes.{is_day_fault, is_field, is_outcome, is_reply}
@@ -228,18 +228,18 @@ is_script text mux rows journal whole legal other behind block is d readable le 
 none_is_script : (text : List ℕ) (journal : List Entry) → journal ≡ [] → IsScript text journal
 none_is_script text journal none mux rows block is d readable le = journals-again mux block journal d (subst (λ (es : List Entry). Legal mux es) (sym none) tt) readable le
 
-ends_by_memory : (text : List ℕ) (report : Told) (met status : Status) → met ≡ Memory → ReportEnds met text report status → status ≡ Memory
+ends_by_memory : (text : List ℕ) (report : ReportTaken) (met status : Status) → met ≡ Memory → ReportEnds met text report status → status ≡ Memory
 ends_by_memory text report met status is (inl (took, same)) = same ∙ is
 ends_by_memory text report met status is (inr (rose, took, same)) = same ∙ ap or_report is
 
-prints_met : (paths : List (List ℕ)) (cycles join : ℕ) (text : List ℕ) (files : Files) (left : Option (List ℕ)) (feeds_before feeds_now : ℕ) (before now : Option (List ℕ)) (report : Told) (journal : List Entry) (dones : List DoneLine) (met status : Status)
+prints_met : (paths : List (List ℕ)) (cycles join : ℕ) (text : List ℕ) (files : Files) (left : Option (List ℕ)) (feeds_before feeds_now : ℕ) (before now : Option (List ℕ)) (report : ReportTaken) (journal : List Entry) (dones : List DoneLine) (met status : Status)
     → HasMet paths cycles join text files left feeds_before feeds_now before now journal dones met → ReportEnds met (run_text journal dones) report status → PrintsScript text report status
 prints_met paths cycles join text files left feeds_before feeds_now before now report journal dones met status (inl memory) ends = inl (ends_by_memory (run_text journal dones) report met status memory ends)
 prints_met paths cycles join text files left feeds_before feeds_now before now report journal dones met status (inr (inl none)) ends = inr (journal, dones, met, ends, none_is_script text journal none.journal_is)
 prints_met paths cycles join text files left feeds_before feeds_now before now report journal dones met status (inr (inr (mux, rows, whole, ran))) ends =
     inr (journal, dones, met, ends, is_script text mux rows journal whole ran.journal_is.legal)
 
-pub prints : (paths : List (List ℕ)) (cycles join : ℕ) (text : List ℕ) (files : Files) (left : Option (List ℕ)) (feeds_before feeds_now : ℕ) (air report : Told) (status : Status)
+pub prints : (paths : List (List ℕ)) (cycles join : ℕ) (text : List ℕ) (files : Files) (left : Option (List ℕ)) (feeds_before feeds_now : ℕ) (air report : ReportTaken) (status : Status)
     → LeavesLive paths cycles join text files left feeds_before feeds_now air report status → PrintsScript text report status
 prints paths cycles join text files left feeds_before feeds_now air report status (inl memory) = inl memory
 prints paths cycles join text files left feeds_before feeds_now air report status (inr (journal, dones, met, has, ends)) =

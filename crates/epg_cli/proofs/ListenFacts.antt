@@ -23,7 +23,7 @@ use Rattle.epg_report.specs.declared.status.Status.TheVariants.{Done, Usage, Bad
 use Rattle.epg_report.specs.declared.status.Origin.TheVariants.{Input, Feed}
 use Rattle.epg_report.specs.declared.status.Outlet.TheVariants.{Air, Report}
 use Rattle.epg_report.specs.Texts.{fault_line}
-use Rattle.epg_report.specs.Told.{Told, Reported}
+use Rattle.epg_report.specs.Told.{ReportTaken, Reported}
 use Rattle.epg_cli.specs.Listen.{Recording, heard_text, end_line, packet_stop_text, packet_stop_status, HasHeard, ReportsLines, LeavesHeard, IsOfListen, HearsThrough, EndsHeard, HasReadCause, IsNoReadStop}
 
 -- ---- lines
@@ -220,7 +220,7 @@ leaves_heard (Ok u) bytes left old mid new f g h (ReadFault origin) le has ends 
 leaves_heard (Ok u) bytes left old mid new f g h Memory le has ends = absurd ends
 leaves_heard (Err stop.Memory) bytes left old mid new f g h status le has ends = subst (LeavesHeard bytes left (record { old = old; new = new; faults_old = f; faults_new = h })) (sym ends) tt
 leaves_heard (Err stop.Report) bytes left old mid new f g h status le has ends =
-    let told : Told = record { old = old; new = new; faults_old = f; faults_new = h } in
+    let told : ReportTaken = record { old = old; new = new; faults_old = f; faults_new = h } in
     subst (LeavesHeard bytes left told) (sym ends.0) (inl (has.0, subst (λ (w : Option (List ℕ)). AppendsFront old w (heard_text (take has.0 (recording bytes).0))) ends.1 has.1))
 leaves_heard (Err (stop.Read s)) bytes left old mid new f g h status le has (inl memory) = subst (LeavesHeard bytes left (record { old = old; new = new; faults_old = f; faults_new = h })) (sym memory) tt
 leaves_heard (Err (stop.Read (packet.Broken n))) bytes left old mid new f g h status le has (inr (is, reported)) =
@@ -231,7 +231,7 @@ leaves_heard (Err (stop.Read packet.Failed)) bytes left old mid new f g h status
     subst (LeavesHeard bytes left (record { old = old; new = new; faults_old = f; faults_new = h })) (sym is) (record { taken = has.0; is_taken = has.1; report_is = behind old mid new f g h (heard_text (recording has.0).0) (fault_line (packet_stop_text packet.Failed)) le has.2 reported })
 
 -- the source of the reader is the input, which was lent
-pub heard_input : {S : Type 0} (left_of : S → Option (List ℕ)) (source input : S) (bytes : List ℕ) (report : Told) (status : Status) → input ≡ source
+pub heard_input : {S : Type 0} (left_of : S → Option (List ℕ)) (source input : S) (bytes : List ℕ) (report : ReportTaken) (status : Status) → input ≡ source
     → LeavesHeard bytes (left_of source) report status → LeavesHeard bytes (left_of input) report status
 heard_input {S = S} left_of source input bytes report status e leaves = subst (λ (s : S). LeavesHeard bytes (left_of s) report status) (sym e) leaves
 
@@ -240,7 +240,7 @@ pub started : {S : Type 0} (left : S → Option (List ℕ)) (reader : Reading S)
 started left reader source bytes e tells = ap (bytes_left left) e ∙ prepend_known-nil (left source) ∙ tells
 
 -- where nothing fails, the end of the recording decides
-pub hears_through : (bytes : List ℕ) (left : Option (List ℕ)) (report : Told) (status : Status) → LeavesHeard bytes left report status → (status ≡ ReadFault Input → ⊥) → (status ≡ WriteFault Report → ⊥) → HearsThrough (recording bytes) status
+pub hears_through : (bytes : List ℕ) (left : Option (List ℕ)) (report : ReportTaken) (status : Status) → LeavesHeard bytes left report status → (status ≡ ReadFault Input → ⊥) → (status ≡ WriteFault Report → ⊥) → HearsThrough (recording bytes) status
 hears_through bytes left report Done leave r w = leave.ended
 hears_through bytes left report (BadStream n) leave r w = (leave.0, leave.1)
 hears_through bytes left report (TooLong Input) leave r w = leave.0
@@ -268,7 +268,7 @@ stop_of_listen (packet.Broken n) = tt
 stop_of_listen packet.TooLong = tt
 stop_of_listen packet.Failed = tt
 
-pub of_listen : (heard : Result (Unit {0}) ListenStop) (t : Told) (status : Status) → EndsHeard heard t status → IsOfListen status
+pub of_listen : (heard : Result (Unit {0}) ListenStop) (t : ReportTaken) (status : Status) → EndsHeard heard t status → IsOfListen status
 of_listen (Ok u) t Done ends = tt
 of_listen (Ok u) t (WriteFault Report) ends = tt
 of_listen (Ok u) t (WriteFault Air) ends = absurd ends

@@ -41,7 +41,7 @@ use Rattle.epg_cli.specs.Script.{Script, Stop, Ended, NoMux, NoCommand, Disagree
 use Rattle.epg_cli.specs.Played.{AiredTo, PlayedWhole, RestDid, RestTaken, course, desk_after}
 use Rattle.epg_report.specs.Texts.{fault_line}
 use Rattle.epg_cli.specs.Run.{IsAired, IsAiredFront, HasPlayed, HasPlayedAll, HasPlayedTaken, Finished, FinishedBy, Leaves, LeavesAll, Completes, journal_for, first_journal, entries_of, status_for, stop_text, mux_stop, airings_for}
-use Rattle.epg_report.specs.Told.{Told, Reported}
+use Rattle.epg_report.specs.Told.{ReportTaken, Reported}
 use Rattle.epg_cli.proofs.CourseFacts.{Rest}
 
 nothing_for : (mux : Option Mux) → airings_for mux [] ≡ []
@@ -52,7 +52,7 @@ no_journal : (mux : Option Mux) → journal_for mux [] ≡ []
 no_journal None = refl
 no_journal (Some mux) = refl
 
-none_aired : (script : Script) (air : Told) → air.old ≡ air.new → IsAired script [] air
+none_aired : (script : Script) (air : ReportTaken) → air.old ≡ air.new → IsAired script [] air
 none_aired script air same = record {
   made = tt;
   cycles = [];
@@ -114,7 +114,7 @@ described left old mid text mux is d =
 
 -- ---- what was played
 
-nothing_played : (script : Script) (stop : Stop) (air : Told) → script ≡ no_mux stop → air.old ≡ air.new → HasPlayedAll script stop air None
+nothing_played : (script : Script) (stop : Stop) (air : ReportTaken) → script ≡ no_mux stop → air.old ≡ air.new → HasPlayedAll script stop air None
 nothing_played script stop air e same = subst (λ (s : Script). HasPlayedAll s stop air None) (sym e) (record { stopped = refl; air_is = none_aired (no_mux stop) air same; journal = refl })
 
 -- of known bytes some were taken, and the others are left
@@ -122,13 +122,13 @@ bytes_left : (left : Known) (text taken : List ℕ) → Consumes (Some text) lef
 bytes_left None text taken h = absurd h
 bytes_left (Some behind) text taken h = (behind, h, refl)
 
-taken_played : (text taken : List ℕ) (old left : Known) (air : Told) (desk : Option DeskState) → old ≡ Some text → Consumes old left taken → HasPlayedAll (script_taken taken) Unread air desk → HasPlayedTaken text left air desk
+taken_played : (text taken : List ℕ) (old left : Known) (air : ReportTaken) (desk : Option DeskState) → old ≡ Some text → Consumes old left taken → HasPlayedAll (script_taken taken) Unread air desk → HasPlayedTaken text left air desk
 taken_played text taken old left air desk told gave all =
     let b = bytes_left left text taken (subst (λ (o : Known). Consumes o left taken) told gave) in
     record { taken = taken; behind = b.0; text_is = b.1; left_is = b.2; all = all }
 
 -- the description was not read
-pub no_block : {S : Type 0} (left : S → Known) (faults : S → ℕ) (old new : Reading S) (text : List ℕ) (air : Told) (stop : MuxStop) → IsUnread old → left old.source ≡ Some text → air.old ≡ air.new
+pub no_block : {S : Type 0} (left : S → Known) (faults : S → ℕ) (old new : Reading S) (text : List ℕ) (air : ReportTaken) (stop : MuxStop) → IsUnread old → left old.source ≡ Some text → air.old ≡ air.new
     → ReadMux {S = S} left old new (lines_of old text) (Err stop) → MuxCame left faults old new (Err stop) → HasPlayed text (left new.source) air None (Some (mux_stop stop))
 no_block left faults old new text air (mux.Fault fault) is told same e came =
     nothing_played (script_in text) (NoMux fault) air (let lines = text_lines text in faulty_script (block_from [] (record_lines 1 lines.0)) lines.1 (1 + length lines.0) fault (sym (first_block old text is) ∙ e)) same
@@ -142,7 +142,7 @@ no_block left faults old new text air (mux.Read Failed) is told same e came =
     (nothing_played (script_taken came.whole.more) Unread air (ap (λ (b : Block). script_with b Breaks) short) same)
 no_block left faults old new text air mux.Memory is told same e came = tt
 
-aired_is : (mux : Mux) (desk : DeskState) (player : Playing) (rest : List Command × Stop) (commands : List Command) (air : Told) → desk ≡ desk_after (fresh mux) commands → HasAired desk player air.old air.new
+aired_is : (mux : Mux) (desk : DeskState) (player : Playing) (rest : List Command × Stop) (commands : List Command) (air : ReportTaken) → desk ≡ desk_after (fresh mux) commands → HasAired desk player air.old air.new
     → IsAired (with_commands mux rest) (journal_of mux commands) air
 aired_is mux desk player rest commands air d (xs, sent, bytes) = record {
   cycles = xs;
@@ -151,7 +151,7 @@ aired_is mux desk player rest commands air d (xs, sent, bytes) = record {
   bytes = bytes;
 }
 
-front_is : (mux : Mux) (desk : DeskState) (rest : List Command × Stop) (commands : List Command) (air : Told) → desk ≡ desk_after (fresh mux) commands → HasAiredFront desk air.old air.new
+front_is : (mux : Mux) (desk : DeskState) (rest : List Command × Stop) (commands : List Command) (air : ReportTaken) → desk ≡ desk_after (fresh mux) commands → HasAiredFront desk air.old air.new
     → IsAiredFront (with_commands mux rest) (journal_of mux commands) air
 front_is mux desk rest commands air d f = record {
   front = f.front;
@@ -168,14 +168,14 @@ front_is mux desk rest commands air d f = record {
 }
 
 -- all commands were played
-played_all : (script : Script) (stop : Stop) (mux : Mux) (rest : Rest) (desk : DeskState) (player : Playing) (air : Told) → script ≡ with_commands mux rest → (rest.1 ≡ stop) × (desk ≡ desk_after (fresh mux) rest.0)
+played_all : (script : Script) (stop : Stop) (mux : Mux) (rest : Rest) (desk : DeskState) (player : Playing) (air : ReportTaken) → script ≡ with_commands mux rest → (rest.1 ≡ stop) × (desk ≡ desk_after (fresh mux) rest.0)
     → HasAired desk player air.old air.new → HasPlayedAll script stop air (Some desk)
 played_all script stop mux rest desk player air e did aired =
     subst (λ (s : Script). HasPlayedAll s stop air (Some desk)) (sym e)
     (record { stopped = did.0; air_is = aired_is mux desk player rest rest.0 air did.1 aired; journal = ap (λ (x : DeskState). x.entries) did.1 })
 
 -- those of the lines that were whole, where a read failed
-played_taken : {S : Type 0} (left : S → Known) (old mid new : Reading S) (text : List ℕ) (mux : Mux) (desk : DeskState) (player : Playing) (air : Told) → IsUnread old → left old.source ≡ Some text
+played_taken : {S : Type 0} (left : S → Known) (old mid new : Reading S) (text : List ℕ) (mux : Mux) (desk : DeskState) (player : Playing) (air : ReportTaken) → IsUnread old → left old.source ≡ Some text
     → WholeCame left old mid mux → PlayedWhole left mid new (fresh mux) desk → HasAired desk player air.old air.new → HasPlayedTaken text (left new.source) air (Some desk)
 played_taken left old mid new text mux desk player air is told came p aired =
     let both : WereWhole left old new (came.looked.lines ++ p.lines) = whole_more left old mid new came.looked.lines p.lines came.looked.handed p.unended p.whole in
@@ -187,7 +187,7 @@ played_taken left old mid new text mux desk player air is told came p aired =
     (played_all (script_taken both.more) Unread mux (course mux [] None (ahead_with mid p.lines Breaks)) desk player air script (p.stop, p.did) aired)
 
 -- what was played behind the description of a multiplex
-pub played_behind : {S : Type 0} (left : S → Known) (old mid new : Reading S) (text : List ℕ) (mux : Mux) (desk : DeskState) (player : Playing) (air : Told) (r : Result (Unit {0}) PlayStop) → IsUnread old → left old.source ≡ Some text
+pub played_behind : {S : Type 0} (left : S → Known) (old mid new : Reading S) (text : List ℕ) (mux : Mux) (desk : DeskState) (player : Playing) (air : ReportTaken) (r : Result (Unit {0}) PlayStop) → IsUnread old → left old.source ≡ Some text
     → ReadMux {S = S} left old mid (lines_of old text) (Ok mux) → WholeCame left old mid mux
     → ((rest : List ℕ) → text_left left mid ≡ Some rest → RestDid (course mux [] None (ahead mid rest)) (fresh mux) desk r) → RestTaken left mid new (fresh mux) desk r → AiredTo desk player air.old air.new r
     → HasPlayed text (left new.source) air (Some desk) (result_err r)
@@ -214,7 +214,7 @@ played_behind left old mid new text mux desk player air (Err NoMemory) is told d
 
 -- ---- the run is over
 
-finished_whole : (text : List ℕ) (left : Known) (air report : Told) (desk : Option DeskState) (status : Status) → HasPlayed text left air desk None → FinishedBy None (entries_of desk) report status → Leaves text left air report status
+finished_whole : (text : List ℕ) (left : Known) (air report : ReportTaken) (desk : Option DeskState) (status : Status) → HasPlayed text left air desk None → FinishedBy None (entries_of desk) report status → Leaves text left air report status
 finished_whole text left air report desk Done played finished =
     record { ended = played.stopped; air_is = played.air_is; report_is = subst (λ (l : List Entry). Appends report.old report.new (journal_text l)) played.journal finished }
 finished_whole text left air report desk (WriteFault Report) played finished =
@@ -231,15 +231,15 @@ finished_whole text left air report desk (OpenFault f) played finished = absurd 
 finished_whole text left air report desk (ReadFault origin) played finished = absurd finished
 finished_whole text left air report desk Memory played finished = absurd finished
 
-reported_of : (report : Told) (old new : List Entry) (text : List ℕ) → old ≡ new → Reported report (journal_text old ++ text) → Reported report (journal_text new ++ text)
+reported_of : (report : ReportTaken) (old new : List Entry) (text : List ℕ) → old ≡ new → Reported report (journal_text old ++ text) → Reported report (journal_text new ++ text)
 reported_of report old new text e r = subst (λ (l : List Entry). Reported report (journal_text l ++ text)) e r
 
-finished_all : (script : Script) (stop : Stop) (fault : List ℕ) (air report : Told) (desk : Option DeskState) → HasPlayedAll script stop air desk → Reported report (journal_text (entries_of desk) ++ fault_line fault)
+finished_all : (script : Script) (stop : Stop) (fault : List ℕ) (air report : ReportTaken) (desk : Option DeskState) → HasPlayedAll script stop air desk → Reported report (journal_text (entries_of desk) ++ fault_line fault)
     → LeavesAll script stop fault air report
 finished_all script stop fault air report desk played reported =
     record { stopped = played.stopped; air_is = played.air_is; report_is = reported_of report _ _ (fault_line fault) played.journal reported }
 
-finished_stop : (stop : PlayStop) (text : List ℕ) (left : Known) (air report : Told) (desk : Option DeskState) → HasPlayed text left air desk (Some stop)
+finished_stop : (stop : PlayStop) (text : List ℕ) (left : Known) (air report : ReportTaken) (desk : Option DeskState) → HasPlayed text left air desk (Some stop)
     → Reported report (journal_text (entries_of desk) ++ fault_line (stop_text stop)) → Leaves text left air report (status_for stop)
 finished_stop (Undescribed fault) text left air report desk played reported = finished_all (script_in text) (NoMux fault) (stop_text (Undescribed fault)) air report desk played reported
 finished_stop (Refused n) text left air report desk played reported = finished_all (script_in text) (NoCommand n) (stop_text (Refused n)) air report desk played reported
@@ -256,14 +256,14 @@ finished_stop (Read Failed) text left air report desk played reported = record {
 finished_stop OnAir text left air report desk played reported = record { k = played.0; air_is = played.1; report_is = reported_of report _ _ (fault_line (stop_text OnAir)) played.2 reported }
 finished_stop NoMemory text left air report desk played reported = tt
 
-pub leaves : (stop : Option PlayStop) (text : List ℕ) (left : Known) (air report : Told) (desk : Option DeskState) (status : Status) → HasPlayed text left air desk stop → Finished stop (entries_of desk) report status
+pub leaves : (stop : Option PlayStop) (text : List ℕ) (left : Known) (air report : ReportTaken) (desk : Option DeskState) (status : Status) → HasPlayed text left air desk stop → Finished stop (entries_of desk) report status
     → Leaves text left air report status
 leaves stop text left air report desk status played (inl memory) = subst (λ (s : Status). Leaves text left air report s) (sym memory) tt
 leaves None text left air report desk status played (inr finished) = finished_whole text left air report desk status played finished
 leaves (Some stop) text left air report desk status played (inr finished) = subst (λ (s : Status). Leaves text left air report s) (sym finished.0) (finished_stop stop text left air report desk played finished.1)
 
 -- the same of an input that is the source which the reader gave back
-pub leaves_input : {S : Type 0} (left_of : S → Known) (source input : S) (stop : Option PlayStop) (text : List ℕ) (air report : Told) (desk : Option DeskState) (status : Status) → input ≡ source
+pub leaves_input : {S : Type 0} (left_of : S → Known) (source input : S) (stop : Option PlayStop) (text : List ℕ) (air report : ReportTaken) (desk : Option DeskState) (status : Status) → input ≡ source
     → HasPlayed text (left_of source) air desk stop → Finished stop (entries_of desk) report status → Leaves text (left_of input) air report status
 leaves_input {S = S} left_of source input stop text air report desk status e played finished =
     subst (λ (s : S). Leaves text (left_of s) air report status) (sym e) (leaves stop text (left_of source) air report desk status played finished)
@@ -279,7 +279,7 @@ pub start_on_air : (mux : Mux) (desk : DeskState) (player : Playing) → desk �
 start_on_air mux desk player d end quota = ([], start_sent mux desk player d end quota)
 
 -- where nothing fails, the script's stop decides
-pub completes : (text : List ℕ) (left : Known) (air report : Told) (status : Status) → Leaves text left air report status → (status ≡ ReadFault Input → ⊥) → (status ≡ WriteFault Air → ⊥) → (status ≡ WriteFault Report → ⊥)
+pub completes : (text : List ℕ) (left : Known) (air report : ReportTaken) (status : Status) → Leaves text left air report status → (status ≡ ReadFault Input → ⊥) → (status ≡ WriteFault Air → ⊥) → (status ≡ WriteFault Report → ⊥)
     → Completes (script_in text).stop status
 completes text left air report Done leave r a w = leave.ended
 completes text left air report (BadMux fault) leave r a w = leave.stopped

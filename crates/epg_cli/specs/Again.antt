@@ -13,7 +13,7 @@ use Rattle.journal_text.specs.Entries.{journal_text}
 use Rattle.air_monitor.specs.declared.done_line.DoneLine.{DoneLine}
 use Rattle.epg_report.specs.declared.status.Status.{Status}
 use Rattle.epg_report.specs.declared.status.Status.TheVariants.{Memory}
-use Rattle.epg_report.specs.Told.{Told}
+use Rattle.epg_report.specs.Told.{ReportTaken}
 use Rattle.epg_live.specs.Runs.{described}
 use Rattle.epg_live.specs.Ends.{ReportEnds, run_text}
 use Rattle.epg_cli.specs.Script.{Script, Ended, script_in}
@@ -44,7 +44,7 @@ IsScript text journal =
     → length (block ++ journal_text journal) ≤ text_limit → PlaysAgain mux journal (script_in (block ++ journal_text journal))
 
 -- The report of a run of `live` over this text has a journal that is such a script, then completions, and the end that was met.
-abbrev pub PrintsScript : List ℕ → Told → Status → Type 0
+abbrev pub PrintsScript : List ℕ → ReportTaken → Status → Type 0
 PrintsScript text report status =
     (status ≡ Memory)
     ⊎ ((journal : List Entry) × (dones : List DoneLine) × (met : Status) × ReportEnds met (run_text journal dones) report status × IsScript text journal)

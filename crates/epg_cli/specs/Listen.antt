@@ -14,7 +14,7 @@ use Rattle.epg_report.specs.declared.status.Status.TheVariants.{Done, BadStream,
 use Rattle.epg_report.specs.declared.status.Origin.TheVariants.{Input}
 use Rattle.epg_report.specs.declared.status.Outlet.TheVariants.{Report}
 use Rattle.epg_report.specs.Texts.{fault_line, fault_text}
-use Rattle.epg_report.specs.Told.{Told, Reported}
+use Rattle.epg_report.specs.Told.{ReportTaken, Reported}
 
 -- the packets of a recording, and how it stops
 abbrev pub Recording : Type 0
@@ -39,12 +39,12 @@ abbrev pub packet_stop_text : PacketStop → List ℕ
 packet_stop_text stop = fault_text (packet_stop_status stop)
 
 -- with Done: each piece of the recording is a packet, and the report is the completions of all of them and the end
-pub record HeardWhole (recording : Recording) (report : Told) : Type 0 where
+pub record HeardWhole (recording : Recording) (report : ReportTaken) : Type 0 where
   pub ended : recording.1 ≡ AtEnd
   pub report_is : Appends report.old report.new (heard_text recording.0 ++ end_line)
 
 -- with a fault behind all packets of the recording
-abbrev pub HeardAll : Recording → List ℕ → Told → Type 0
+abbrev pub HeardAll : Recording → List ℕ → ReportTaken → Type 0
 HeardAll recording fault report = Reported report (heard_text recording.0 ++ fault_line fault)
 
 -- These bytes were taken from the input, and the others are left; each whole piece that was taken is a packet.
@@ -55,20 +55,20 @@ pub record WasTaken (bytes : List ℕ) (left : Option (List ℕ)) (taken : List 
   pub whole : length (recording taken).0 ≡ length taken / 188
 
 -- with a failed read: the completions of the whole packets that were taken, and the fault
-pub record HeardTaken (bytes : List ℕ) (left : Option (List ℕ)) (report : Told) : Type 0 where
+pub record HeardTaken (bytes : List ℕ) (left : Option (List ℕ)) (report : ReportTaken) : Type 0 where
   pub taken : List ℕ
   pub is_taken : WasTaken bytes left taken
   pub report_is : Reported report (heard_text (recording taken).0 ++ fault_line (packet_stop_text packet.Failed))
 
 -- With a fault of the report no fault of the recording was met: the report has a proper front of the completions of the first k packets,
 -- or, where the recording was heard to its end, of all completions and the end.
-abbrev pub HeardUnreported : Recording → Told → Type 0
+abbrev pub HeardUnreported : Recording → ReportTaken → Type 0
 HeardUnreported recording report =
     ((k : ℕ) × AppendsFront report.old report.new (heard_text (take k recording.0)))
     ⊎ ((recording.1 ≡ AtEnd) × AppendsFront report.old report.new (heard_text recording.0 ++ end_line))
 
 -- What a run of `listen` leaves with each status, of the bytes of a recording, and of what is left of them. No other status comes.
-abbrev pub LeavesHeard : List ℕ → Option (List ℕ) → Told → Status → Type 0
+abbrev pub LeavesHeard : List ℕ → Option (List ℕ) → ReportTaken → Status → Type 0
 LeavesHeard bytes left report Done = HeardWhole (recording bytes) report
 LeavesHeard bytes left report (BadStream n) = ((recording bytes).1 ≡ Broken) × (n ≡ length (recording bytes).0) × HeardAll (recording bytes) (packet_stop_text (packet.Broken n)) report
 LeavesHeard bytes left report (TooLong Input) = ((recording bytes).1 ≡ PastLimit) × HeardAll (recording bytes) (packet_stop_text packet.TooLong) report
@@ -128,7 +128,7 @@ HasReportCause before now (Err stop.Report) = Rose before now
 HasReportCause before now result = Unit {0}
 
 -- how the report ends, by why the recording was not heard on, and the status
-abbrev pub EndsHeard : Result (Unit {0}) ListenStop → Told → Status → Type 0
+abbrev pub EndsHeard : Result (Unit {0}) ListenStop → ReportTaken → Status → Type 0
 EndsHeard (Ok u) report Done = Appends report.old report.new end_line
 EndsHeard (Ok u) report (WriteFault Report) = AppendsFront report.old report.new end_line × Rose report.faults_old report.faults_new
 EndsHeard (Ok u) report status = ⊥

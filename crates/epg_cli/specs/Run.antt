@@ -25,7 +25,7 @@ use Rattle.epg_report.specs.declared.status.Outlet.TheVariants.{Air, Report}
 use Rattle.epg_cli.specs.Played.{IsStopInWindow}
 use Rattle.epg_cli.specs.Script.{Script, Stop, Ended, NoMux, NoCommand, Disagreed, TooLong, Unread, script_in, script_taken}
 use Rattle.epg_report.specs.Texts.{fault_line, fault_text}
-use Rattle.epg_report.specs.Told.{Told, Reported}
+use Rattle.epg_report.specs.Told.{ReportTaken, Reported}
 
 -- ---- journals of a script
 
@@ -45,14 +45,14 @@ airings_for None journal = []
 airings_for (Some mux) journal = airings mux journal
 
 -- an air of this journal was appended, in which each section begins in a packet of its own
-pub record IsAired (script : Script) (journal : List Entry) (air : Told) : Type 0 where
+pub record IsAired (script : Script) (journal : List Entry) (air : ReportTaken) : Type 0 where
   pub cycles : List Aired
   pub is_air : IsAirOf (airings_for script.mux journal) cycles
   pub made : AreMade [] cycles
   pub bytes : Appends air.old air.new (air_bytes cycles)
 
 -- The journal ends with a swap, and of an air of it all cycles but the last were appended, and a proper front of that one.
-pub record IsAiredFront (script : Script) (journal : List Entry) (air : Told) : Type 0 where
+pub record IsAiredFront (script : Script) (journal : List Entry) (air : ReportTaken) : Type 0 where
   pub front : List Entry
   pub last : Entry
   pub entries : journal ≡ front ++ last ∷ []
@@ -89,20 +89,20 @@ ending_text (Some stop) = fault_line (stop_text stop)
 -- ---- what is left
 
 -- with Done: the script is whole, the air is that of its journal, and the report is the journal's text
-pub record LeavesDone (script : Script) (air report : Told) : Type 0 where
+pub record LeavesDone (script : Script) (air report : ReportTaken) : Type 0 where
   pub ended : script.stop ≡ Ended
   pub air_is : IsAired script (whole_journal script) air
   pub report_is : Appends report.old report.new (journal_text (whole_journal script))
 
 -- with a fault behind all commands of the script: the air is that of their journal, and the report is the journal and the fault line
-pub record LeavesAll (script : Script) (stop : Stop) (fault : List ℕ) (air report : Told) : Type 0 where
+pub record LeavesAll (script : Script) (stop : Stop) (fault : List ℕ) (air report : ReportTaken) : Type 0 where
   pub stopped : script.stop ≡ stop
   pub air_is : IsAired script (whole_journal script) air
   pub report_is : Reported report (journal_text (whole_journal script) ++ fault_line fault)
 
 -- With a failed read: these bytes were taken from the input, and the others are left. The commands are exactly those whose lines all
 -- ended in the bytes taken.
-pub record LeavesUnread (text : List ℕ) (left : Option (List ℕ)) (air report : Told) : Type 0 where
+pub record LeavesUnread (text : List ℕ) (left : Option (List ℕ)) (air report : ReportTaken) : Type 0 where
   pub taken : List ℕ
   pub behind : List ℕ
   pub text_is : text ≡ taken ++ behind
@@ -110,19 +110,19 @@ pub record LeavesUnread (text : List ℕ) (left : Option (List ℕ)) (air report
   pub leaves : LeavesAll (script_taken taken) Unread (stop_text (Read Failed)) air report
 
 -- with a fault in the cycle of the last of the first k commands
-pub record LeavesCut (script : Script) (fault : List ℕ) (air report : Told) : Type 0 where
+pub record LeavesCut (script : Script) (fault : List ℕ) (air report : ReportTaken) : Type 0 where
   pub k : ℕ
   pub air_is : IsAiredFront script (first_journal k script) air
   pub report_is : Reported report (journal_text (first_journal k script) ++ fault_line fault)
 
 -- with a fault in the report of a whole script: a proper front of the journal's text
-pub record LeavesUnreported (script : Script) (air report : Told) : Type 0 where
+pub record LeavesUnreported (script : Script) (air report : ReportTaken) : Type 0 where
   pub ended : script.stop ≡ Ended
   pub air_is : IsAired script (whole_journal script) air
   pub report_is : AppendsFront report.old report.new (journal_text (whole_journal script))
 
 -- What a run of `play` leaves with each status, of a text, and of what is left of it. No other status comes.
-abbrev pub Leaves : List ℕ → Option (List ℕ) → Told → Told → Status → Type 0
+abbrev pub Leaves : List ℕ → Option (List ℕ) → ReportTaken → ReportTaken → Status → Type 0
 Leaves text left air report Done = LeavesDone (script_in text) air report
 Leaves text left air report (BadMux fault) = LeavesAll (script_in text) (NoMux fault) (stop_text (Undescribed fault)) air report
 Leaves text left air report (BadScript n) = LeavesAll (script_in text) (NoCommand n) (stop_text (Refused n)) air report
@@ -183,13 +183,13 @@ CanBeTold None = Unit {0}
 CanBeTold (Some stop) = IsStopInWindow stop
 
 -- all commands of the script were played
-pub record HasPlayedAll (script : Script) (stop : Stop) (air : Told) (desk : Option DeskState) : Type 0 where
+pub record HasPlayedAll (script : Script) (stop : Stop) (air : ReportTaken) (desk : Option DeskState) : Type 0 where
   pub stopped : script.stop ≡ stop
   pub air_is : IsAired script (whole_journal script) air
   pub journal : entries_of desk ≡ whole_journal script
 
 -- and then a read failed
-pub record HasPlayedTaken (text : List ℕ) (left : Option (List ℕ)) (air : Told) (desk : Option DeskState) : Type 0 where
+pub record HasPlayedTaken (text : List ℕ) (left : Option (List ℕ)) (air : ReportTaken) (desk : Option DeskState) : Type 0 where
   pub taken : List ℕ
   pub behind : List ℕ
   pub text_is : text ≡ taken ++ behind
@@ -197,7 +197,7 @@ pub record HasPlayedTaken (text : List ℕ) (left : Option (List ℕ)) (air : To
   pub all : HasPlayedAll (script_taken taken) Unread air desk
 
 -- what was played of a text, and why it was not played on
-abbrev pub HasPlayed : List ℕ → Option (List ℕ) → Told → Option DeskState → Option PlayStop → Type 0
+abbrev pub HasPlayed : List ℕ → Option (List ℕ) → ReportTaken → Option DeskState → Option PlayStop → Type 0
 HasPlayed text left air desk None = HasPlayedAll (script_in text) Ended air desk
 HasPlayed text left air desk (Some (Undescribed fault)) = HasPlayedAll (script_in text) (NoMux fault) air desk
 HasPlayed text left air desk (Some (Refused n)) = HasPlayedAll (script_in text) (NoCommand n) air desk
@@ -208,11 +208,11 @@ HasPlayed text left air desk (Some OnAir) = (k : ℕ) × IsAiredFront (script_in
 HasPlayed text left air desk (Some NoMemory) = Unit {0}
 
 -- how the report of what was played ends
-abbrev pub FinishedBy : Option PlayStop → List Entry → Told → Status → Type 0
+abbrev pub FinishedBy : Option PlayStop → List Entry → ReportTaken → Status → Type 0
 FinishedBy None entries report Done = Appends report.old report.new (journal_text entries)
 FinishedBy None entries report (WriteFault Report) = AppendsFront report.old report.new (journal_text entries) × Rose report.faults_old report.faults_new
 FinishedBy None entries report status = ⊥
 FinishedBy (Some stop) entries report status = (status ≡ status_for stop) × Reported report (journal_text entries ++ fault_line (stop_text stop))
 
-abbrev pub Finished : Option PlayStop → List Entry → Told → Status → Type 0
+abbrev pub Finished : Option PlayStop → List Entry → ReportTaken → Status → Type 0
 Finished stop entries report status = (status ≡ Memory) ⊎ FinishedBy stop entries report status

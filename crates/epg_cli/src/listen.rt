@@ -2,7 +2,7 @@
 ghost use Rattle.std.specs.Prelude.{◌≡◌, ◌≤◌, ◌++◌, ◌∷◌, [], List, ℕ, None, Some, Err, IfOk, OnOk, map, slice_index};
 ghost use Rattle.std.specs.Io.KnownBytes.{IsAtEnd};
 ghost use Rattle.packet_reader.specs.Reading.{bytes_left};
-ghost use Rattle.guide_receiver.specs.Heard.{Stands, at_packet, dones_by};
+ghost use Rattle.guide_receiver.specs.Heard.{ReceiverStandsFor, at_packet, dones_by};
 ghost use Rattle.guide_receiver.specs.Texts.{done_lines};
 ghost use Rattle.epg_report.specs.Texts.{fault_line};
 ghost use Rattle.epg_report.specs.Told.{told};
@@ -42,9 +42,9 @@ fn hear_packet<R: Sink>(
     report: &mut R,
 ) -> Result<(), ListenStop>
     requires sync { slice_index packet.now 0 ≡ 0x47 }
-    ensures reports { (past : List (List ℕ)) → Stands past receiver.old
+    ensures reports { (past : List (List ℕ)) → ReceiverStandsFor past receiver.old
         → ReportsLines (R.written report.old) (R.written report.new) (done_lines (map (at_packet number) (dones_by past packet.now))) result }
-    ensures stands { (past : List (List ℕ)) → Stands past receiver.old → OnOk result (Stands (past ++ packet.now ∷ []) receiver.new) }
+    ensures stands { (past : List (List ℕ)) → ReceiverStandsFor past receiver.old → OnOk result (ReceiverStandsFor (past ++ packet.now ∷ []) receiver.new) }
     ensures cause { HasReportCause (R.faults report.old) (R.faults report.new) result }
     ensures no_read { IsNoReadStop result }
     ensures later { R.faults report.old ≤ R.faults report.new }
@@ -75,7 +75,7 @@ pub(crate) fn hear_all<S: Source, R: Sink>(
 ) -> Result<(), ListenStop>
     requires going { packets.old.stop ≡ None }
     requires start { packets.old.number ≡ 0 }
-    requires unheard { Stands [] receiver.old }
+    requires unheard { ReceiverStandsFor [] receiver.old }
     ensures heard { (bytes : List ℕ) → bytes_left S.left packets.old ≡ Some bytes → HasHeard bytes (S.left packets.new.source) (R.written report.old) (R.written report.new) result }
     ensures end { OnOk result (IsAtEnd (S.left packets.new.source)) }
     ensures read_cause { HasReadCause (S.faults packets.old.source) (S.faults packets.new.source) result }

@@ -25,7 +25,7 @@ use Rattle.epg_report.specs.declared.status.Status.{Status}
 use Rattle.epg_report.specs.declared.status.Status.TheVariants.{Done, Usage, BadScript, Disagrees, BadMux, BadFeed, BadStream, TooLong, OpenFault, ReadFault, WriteFault, Memory}
 use Rattle.epg_report.specs.declared.status.Origin.TheVariants.{Input, Feed}
 use Rattle.epg_report.specs.declared.status.Outlet.TheVariants.{Air}
-use Rattle.epg_report.specs.Told.{Told}
+use Rattle.epg_report.specs.Told.{ReportTaken}
 use Rattle.epg_live.specs.Stops.{HasStatusCause, HaveReadCauses, feeds_stop, live_status}
 use Rattle.epg_live.specs.Runs.{EndsBefore, FeedsDid, JobsRan, Ran, ahead_of, behind, described}
 use Rattle.epg_live.specs.Decided.{AreWhole, HasEdits, block_status, feed_text_stop, job_stop, jobs_status, text_status}
@@ -159,7 +159,7 @@ met_decided paths cycles join text files left feeds_before feeds_now before now 
       | inr ends ↦ inr (ends ∙ sym (ap (λ (b : Block). block_status b text paths files) whole))
     ]
 
-pub decided : (paths : List (List ℕ)) (cycles join : ℕ) (text : List ℕ) (files : Files) (left : Option (List ℕ)) (input_before input_now feeds_before feeds_now : ℕ) (air report : Told) (status : Status)
+pub decided : (paths : List (List ℕ)) (cycles join : ℕ) (text : List ℕ) (files : Files) (left : Option (List ℕ)) (input_before input_now feeds_before feeds_now : ℕ) (air report : ReportTaken) (status : Status)
     → LeavesLive paths cycles join text files left feeds_before feeds_now air report status → HasStatusCause input_before input_now feeds_before feeds_now air.faults_old air.faults_new status → ((f : ℕ) → status ≡ OpenFault f → ⊥)
     → (Rose input_before input_now → ⊥) → (Rose feeds_before feeds_now → ⊥) → (Rose air.faults_old air.faults_new → ⊥) → (Rose report.faults_old report.faults_new → ⊥) → (status ≡ Memory) ⊎ (status ≡ text_status text paths files)
 decided paths cycles join text files left input_before input_now feeds_before feeds_now air report status (inl memory) cause no_open no_read no_feed no_air no_report = inl memory

@@ -24,7 +24,7 @@ use Rattle.epg_live.specs.Opened.{HasOpenCause, HasTried, OpenedTo}
 use Rattle.epg_live.specs.Stops.{HasStatusCause, IsMet, IsOfLive, IsOfRun, mux_status, open_status}
 use Rattle.epg_live.specs.Runs.{NoJobs, Ran, described}
 use Rattle.epg_live.specs.Ends.{AskedFor, HasAsked, HasMet, LeavesLive, ReportEnds, or_report, run_text}
-use Rattle.epg_report.specs.Told.{Told}
+use Rattle.epg_report.specs.Told.{ReportTaken}
 use Rattle.epg_live.proofs.OpenFacts.{tried_none}
 
 -- ---- where the description was not read
@@ -177,7 +177,7 @@ some_asked (Err e) opened paths old mid new n same (k, tried, to) = (k, subst (�
 
 -- ---- the report
 
-abbrev Ends : Status → List ℕ → Told → Status → Type 0
+abbrev Ends : Status → List ℕ → ReportTaken → Status → Type 0
 Ends met text report status = (status ≡ Memory) ⊎ ReportEnds met text report status
 
 report_asked : (n k : ℕ) (met : Status) → IsMet met → AskedFor n k met → AskedFor n k (or_report met)
@@ -194,12 +194,12 @@ report_asked n k (ReadFault origin) is asked = asked
 report_asked n k (WriteFault outlet) is asked = asked
 report_asked n k Memory is asked = asked
 
-pub ends_asked : (paths : List (List ℕ)) (old new : Option (List (List ℕ))) (met : Status) (text : List ℕ) (report : Told) (status : Status) → IsMet met → HasAsked paths old new met → Ends met text report status → HasAsked paths old new status
+pub ends_asked : (paths : List (List ℕ)) (old new : Option (List (List ℕ))) (met : Status) (text : List ℕ) (report : ReportTaken) (status : Status) → IsMet met → HasAsked paths old new met → Ends met text report status → HasAsked paths old new status
 ends_asked paths old new met text report status is (k, tried, asked) (inl memory) = subst (HasAsked paths old new) (sym memory) (k, tried, tt)
 ends_asked paths old new met text report status is asked (inr (inl (took, same))) = subst (HasAsked paths old new) (sym same) asked
 ends_asked paths old new met text report status is (k, tried, asked) (inr (inr (rose, took, same))) = subst (HasAsked paths old new) (sym same) (k, tried, report_asked (length paths) k met is asked)
 
-pub ends_rose : (met : Status) (text : List ℕ) (report : Told) (status : Status) → IsMet met → Ends met text report status → status ≡ WriteFault Report → Rose report.faults_old report.faults_new
+pub ends_rose : (met : Status) (text : List ℕ) (report : ReportTaken) (status : Status) → IsMet met → Ends met text report status → status ≡ WriteFault Report → Rose report.faults_old report.faults_new
 ends_rose met text report status is (inl memory) e = cc
 ends_rose met text report status is (inr (inl (took, same))) e = absurd (subst IsMet (sym same ∙ e) is)
 ends_rose met text report status is (inr (inr (rose, took, same))) e = rose
@@ -232,18 +232,18 @@ met_of_live (ReadFault origin) is = tt
 met_of_live (WriteFault outlet) is = tt
 met_of_live Memory is = tt
 
-pub ends_of_live : (met : Status) (text : List ℕ) (report : Told) (status : Status) → IsMet met → Ends met text report status → IsOfLive status
+pub ends_of_live : (met : Status) (text : List ℕ) (report : ReportTaken) (status : Status) → IsMet met → Ends met text report status → IsOfLive status
 ends_of_live met text report status is (inl memory) = subst IsOfLive (sym memory) tt
 ends_of_live met text report status is (inr (inl (took, same))) = subst IsOfLive (sym same) (met_of_live met is)
 ends_of_live met text report status is (inr (inr (rose, took, same))) = subst IsOfLive (sym same) (report_of_live met is)
 
-leaves : (paths : List (List ℕ)) (cycles join : ℕ) (text : List ℕ) (files : Files) (left : Option (List ℕ)) (feeds_old feeds_now : ℕ) (air report : Told) (journal : List Entry) (dones : List DoneLine) (met status : Status)
+leaves : (paths : List (List ℕ)) (cycles join : ℕ) (text : List ℕ) (files : Files) (left : Option (List ℕ)) (feeds_old feeds_now : ℕ) (air report : ReportTaken) (journal : List Entry) (dones : List DoneLine) (met status : Status)
     → HasMet paths cycles join text files left feeds_old feeds_now air.old air.new journal dones met → Ends met (run_text journal dones) report status → LeavesLive paths cycles join text files left feeds_old feeds_now air report status
 leaves paths cycles join text files left feeds_old feeds_now air report journal dones met status has (inl memory) = inl memory
 leaves paths cycles join text files left feeds_old feeds_now air report journal dones met status has (inr ends) = inr (journal, dones, met, has, ends)
 
 -- the same of an input that is the source which the reader gave back
-pub leaves_live : {S : Type 0} (left_of : S → Option (List ℕ)) (source input : S) (paths : List (List ℕ)) (cycles join : ℕ) (text : List ℕ) (files : Files) (feeds_old feeds_now : ℕ) (air report : Told) (journal : List Entry) (dones : List DoneLine)
+pub leaves_live : {S : Type 0} (left_of : S → Option (List ℕ)) (source input : S) (paths : List (List ℕ)) (cycles join : ℕ) (text : List ℕ) (files : Files) (feeds_old feeds_now : ℕ) (air report : ReportTaken) (journal : List Entry) (dones : List DoneLine)
     (met status : Status) → input ≡ source → HasMet paths cycles join text files (left_of source) feeds_old feeds_now air.old air.new journal dones met → Ends met (run_text journal dones) report status
     → LeavesLive paths cycles join text files (left_of input) feeds_old feeds_now air report status
 leaves_live {S = S} left_of source input paths cycles join text files feeds_old feeds_now air report journal dones met status e has ends =

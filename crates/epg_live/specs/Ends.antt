@@ -15,7 +15,7 @@ use Rattle.epg_report.specs.declared.status.Status.TheVariants.{Done, BadMux, Op
 use Rattle.epg_report.specs.declared.status.Origin.TheVariants.{Input}
 use Rattle.epg_report.specs.declared.status.Outlet.TheVariants.{Report}
 use Rattle.epg_report.specs.Texts.{fault_lines}
-use Rattle.epg_report.specs.Told.{Told}
+use Rattle.epg_report.specs.Told.{ReportTaken}
 use Rattle.epg_live.specs.declared.reporting.LiveRun.{LiveRun}
 use Rattle.epg_live.specs.Opened.{HasTried}
 use Rattle.epg_live.specs.Runs.{NoJobs, Ran}
@@ -50,7 +50,7 @@ ended_by met (Ok u) = met
 ended_by met (Err failed) = or_report met
 
 -- How the report of a run ends that met this status, and the status of the run.
-abbrev pub ReportEnds : Status → List ℕ → Told → Status → Type 0
+abbrev pub ReportEnds : Status → List ℕ → ReportTaken → Status → Type 0
 ReportEnds met text report status =
     (Appends report.old report.new (text ++ met_lines met) × (status ≡ met))
     ⊎ (Rose report.faults_old report.faults_new × AppendsFront report.old report.new (text ++ met_lines met) × (status ≡ or_report met))
@@ -64,7 +64,7 @@ HasMet paths cycles join text files left faults_before faults_now before now jou
 
 -- What a run over the files of these paths leaves, of the text of its input and the files of its opener, and of what is left of that text: the report has the journal
 -- and the completions, and ends by the status that was met. Want of memory, whoever met it, goes before all.
-abbrev pub LeavesLive : List (List ℕ) → ℕ → ℕ → List ℕ → Files → Option (List ℕ) → ℕ → ℕ → Told → Told → Status → Type 0
+abbrev pub LeavesLive : List (List ℕ) → ℕ → ℕ → List ℕ → Files → Option (List ℕ) → ℕ → ℕ → ReportTaken → ReportTaken → Status → Type 0
 LeavesLive paths cycles join text files left faults_before faults_now air report status =
     (status ≡ Memory)
     ⊎ ((journal : List Entry) × (dones : List DoneLine) × (met : Status)

@@ -4,15 +4,15 @@ use Rattle.std.specs.Io.KnownBytes.{Appends}
 use Rattle.si_causes.specs.Causes.{Rose, AppendsFront}
 
 -- The bytes that the sink took, and the count of its faults.
-pub record Told : Type 0 where
+pub record ReportTaken : Type 0 where
   pub old : Option (List ℕ)
   pub new : Option (List ℕ)
   pub faults_old : ℕ
   pub faults_new : ℕ
 
-abbrev pub told : {A : Type 0} → (A → Option (List ℕ)) → (A → ℕ) → A → A → Told
+abbrev pub told : {A : Type 0} → (A → Option (List ℕ)) → (A → ℕ) → A → A → ReportTaken
 told written faults old new = record { old = written old; new = written new; faults_old = faults old; faults_new = faults new }
 
 -- the text was appended, or a proper front of it where the sink failed in this call
-abbrev pub Reported : Told → List ℕ → Type 0
+abbrev pub Reported : ReportTaken → List ℕ → Type 0
 Reported report text = Appends report.old report.new text ⊎ (Rose report.faults_old report.faults_new × AppendsFront report.old report.new text)

@@ -11,7 +11,7 @@ ghost use Rattle.std.specs.Prelude.{IfOk, OnOk, OnErr, Some, None, [], if◌then
 
 use crate::reading::{event_of, field_fault};
 use crate::reply::{DayFault, Reply};
-use crate::slots::{Slot, place_fault, place_of_id, place_of_start, slot_of};
+use crate::slots::{IndexedEvent, place_fault, place_of_id, place_of_start, slot_of};
 use feed_edits::Item;
 use guide_model::Event;
 use page_share::Page;
@@ -32,7 +32,7 @@ fn insert_at<T: Drop>(list: &mut Vec<T>, at: usize, item: T)
 }
 
 /// Takes the event of an id out, if there is one.
-pub(crate) fn take_out(events: &mut Vec<Event>, slots: &mut Vec<Slot>, id: u16)
+pub(crate) fn take_out(events: &mut Vec<Event>, slots: &mut Vec<IndexedEvent>, id: u16)
     requires apart { AreApart events.old.items }
     requires index { slots.old.items ≡ map slot_of_event events.old.items }
     ensures events { events.new.items ≡ without id events.old.items }
@@ -50,7 +50,12 @@ pub(crate) fn take_out(events: &mut Vec<Event>, slots: &mut Vec<Slot>, id: u16)
 }
 
 /// Places an event for which there is room.
-fn place_in(events: &mut Vec<Event>, slots: &mut Vec<Slot>, event: Event, slot: Slot)
+fn place_in(
+    events: &mut Vec<Event>,
+    slots: &mut Vec<IndexedEvent>,
+    event: Event,
+    slot: IndexedEvent,
+)
     requires apart { AreApart events.old.items }
     requires index { slots.old.items ≡ map slot_of_event events.old.items }
     requires slot { slot ≡ slot_of_event event }
@@ -69,7 +74,12 @@ fn place_in(events: &mut Vec<Event>, slots: &mut Vec<Slot>, event: Event, slot: 
 }
 
 /// Puts an event for which there is room in place of the one of its id.
-pub(crate) fn put_in(events: &mut Vec<Event>, slots: &mut Vec<Slot>, event: Event, slot: Slot)
+pub(crate) fn put_in(
+    events: &mut Vec<Event>,
+    slots: &mut Vec<IndexedEvent>,
+    event: Event,
+    slot: IndexedEvent,
+)
     requires apart { AreApart events.old.items }
     requires index { slots.old.items ≡ map slot_of_event events.old.items }
     requires slot { slot ≡ slot_of_event event }
@@ -106,9 +116,9 @@ fn reply_of(fault: DayFault) -> Reply
 // Puts an event in place of the one of its id.
 fn put_fresh(
     events: &mut Vec<Event>,
-    slots: &mut Vec<Slot>,
+    slots: &mut Vec<IndexedEvent>,
     event: Event,
-    slot: Slot,
+    slot: IndexedEvent,
 ) -> Result<(), AllocError>
     requires apart { AreApart events.old.items }
     requires index { slots.old.items ≡ map slot_of_event events.old.items }
@@ -126,7 +136,7 @@ fn put_fresh(
 /// Puts an item, or says by which rule not.
 pub(crate) fn put_item(
     page: &mut Page,
-    slots: &mut Vec<Slot>,
+    slots: &mut Vec<IndexedEvent>,
     item: &Item,
 ) -> Result<Reply, AllocError>
     requires { AreIndexed page.old.guide.events slots.old.items }
@@ -150,7 +160,11 @@ pub(crate) fn put_item(
 }
 
 /// Takes the event of an id out. The page stays shared where there is none.
-pub(crate) fn withdraw(page: &mut Page, slots: &mut Vec<Slot>, id: u16) -> Result<(), AllocError>
+pub(crate) fn withdraw(
+    page: &mut Page,
+    slots: &mut Vec<IndexedEvent>,
+    id: u16,
+) -> Result<(), AllocError>
     requires { AreIndexed page.old.guide.events slots.old.items }
     ensures guide { OnOk result (page.new.guide ≡ record page.old.guide { events = without id page.old.guide.events }) }
     ensures memory { OnErr result (page.new.guide ≡ page.old.guide) }
@@ -167,7 +181,7 @@ pub(crate) fn withdraw(page: &mut Page, slots: &mut Vec<Slot>, id: u16) -> Resul
 }
 
 /// Takes all events out.
-pub(crate) fn clear(page: &mut Page, slots: &mut Vec<Slot>) -> Result<(), AllocError>
+pub(crate) fn clear(page: &mut Page, slots: &mut Vec<IndexedEvent>) -> Result<(), AllocError>
     requires { AreIndexed page.old.guide.events slots.old.items }
     ensures guide { OnOk result (page.new.guide ≡ record page.old.guide { events = [] }) }
     ensures memory { OnErr result (page.new.guide ≡ page.old.guide) }

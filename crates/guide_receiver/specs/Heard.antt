@@ -1,10 +1,10 @@
 -- What a receiver hears of a packet list: the completions that are shown, each with the packet that ended its last section.
 use Rattle.std.specs.Prelude.{ℕ, List, [], ◌∷◌, ◌++◌, length, map, Option}
-use Rattle.ts_demux.specs.Keeping.{Kept, Stands as DemuxStands}
+use Rattle.ts_demux.specs.Keeping.{PidState, DemuxStandsFor}
 use Rattle.ts_demux.specs.Sections.{ended_by, heard_all}
 use Rattle.sub_collect.specs.Runs.{Counted}
 use Rattle.sub_collect.specs.Completions.{dones}
-use Rattle.sub_collect.specs.Collectors.{KeptKeys, Stands as CollectorStands}
+use Rattle.sub_collect.specs.Collectors.{KeysHeard, CollectorStandsFor}
 use Rattle.sub_collect.specs.declared.completed.Completed.{Completed}
 use Rattle.guide_receiver.specs.declared.done.DoneKey.{DoneKey}
 use Rattle.guide_receiver.specs.Counting.{counted_among}
@@ -45,10 +45,10 @@ dones_of packets = dones_behind [] packets
 
 -- what a receiver keeps: its demultiplexer and its collector
 pub record Hearing : Type 0 where
-  pub demux : List (Option Kept)
-  pub collector : KeptKeys
+  pub demux : List (Option PidState)
+  pub collector : KeysHeard
 
 -- A receiver stands for these packets, each by its bytes.
-pub record Stands (past : List (List ℕ)) (receiver : Hearing) : Type 0 where
-  pub sections : DemuxStands past receiver.demux
-  pub completions : CollectorStands (counted_heard past) receiver.collector
+pub record ReceiverStandsFor (past : List (List ℕ)) (receiver : Hearing) : Type 0 where
+  pub sections : DemuxStandsFor past receiver.demux
+  pub completions : CollectorStandsFor (counted_heard past) receiver.collector

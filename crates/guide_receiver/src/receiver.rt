@@ -2,9 +2,9 @@
 ghost use Rattle.std.specs.Prelude.{◌≡◌, ◌≢◌, ◌↔◌, ◌++◌, ◌∷◌, [], List, ℕ, Option, Err, IfOk, OnOk, map, option_map, option_to_list, slice_index};
 ghost use Rattle.sub_collect.specs.Runs.{Counted};
 ghost use Rattle.sub_collect.specs.Completions.{dones};
-ghost use Rattle.sub_collect.specs.Collectors.{Stands as CollectorStands};
+ghost use Rattle.sub_collect.specs.Collectors.{CollectorStandsFor};
 ghost use Rattle.guide_receiver.specs.Counting.{counted_in, counted_among};
-ghost use Rattle.guide_receiver.specs.Heard.{Stands, done_key, dones_by};
+ghost use Rattle.guide_receiver.specs.Heard.{ReceiverStandsFor, done_key, dones_by};
 
 use crate::counting::{CountedSection, counted_section};
 use crate::done::{DoneKey, Dones};
@@ -42,7 +42,7 @@ impl Model for Receiver {
 impl Receiver {
     /// A receiver that has heard nothing. It takes no memory.
     pub fn open(alloc: Global) -> Receiver
-        ensures { Stands [] result }
+        ensures { ReceiverStandsFor [] result }
     {
         Receiver {
             alloc,
@@ -57,8 +57,8 @@ impl Receiver {
     pub fn hear(&mut self, packet: &[u8; 188]) -> Result<Dones, HearStop>
         ensures sync { result ≡ Err HearStop.Sync ↔ (slice_index packet.now 0 ≢ 0x47) }
         ensures unchanged { result ≡ Err HearStop.Sync → self.new ≡ self.old }
-        ensures dones { (past : List (List ℕ)) → Stands past self.old → IfOk result (λ dones. dones ≡ dones_by past packet.now) }
-        ensures stands { (past : List (List ℕ)) → Stands past self.old → OnOk result (Stands (past ++ packet.now ∷ []) self.new) }
+        ensures dones { (past : List (List ℕ)) → ReceiverStandsFor past self.old → IfOk result (λ dones. dones ≡ dones_by past packet.now) }
+        ensures stands { (past : List (List ℕ)) → ReceiverStandsFor past self.old → OnOk result (ReceiverStandsFor (past ++ packet.now ∷ []) self.new) }
     {
         let Ok(shape) = read_packet(packet) else {
             return Err(HearStop::Sync);
@@ -86,8 +86,8 @@ fn count_all(
     sections: &[RawSection],
     shown: &mut Dones,
 ) -> Result<(), AllocError>
-    ensures dones { (past : List Counted) → CollectorStands past collector.old → OnOk result (shown.new ≡ shown.old ++ map done_key (dones past (counted_among sections.now))) }
-    ensures stands { (past : List Counted) → CollectorStands past collector.old → OnOk result (CollectorStands (past ++ counted_among sections.now) collector.new) }
+    ensures dones { (past : List Counted) → CollectorStandsFor past collector.old → OnOk result (shown.new ≡ shown.old ++ map done_key (dones past (counted_among sections.now))) }
+    ensures stands { (past : List Counted) → CollectorStandsFor past collector.old → OnOk result (CollectorStandsFor (past ++ counted_among sections.now) collector.new) }
 {
     for section in sections {
         let done = count(alloc, collector, section)?;
@@ -102,8 +102,8 @@ fn count(
     collector: &mut Collector,
     section: &RawSection,
 ) -> Result<Option<DoneKey>, AllocError>
-    ensures done { (past : List Counted) → CollectorStands past collector.old → IfOk result (λ done. option_to_list done ≡ map done_key (dones past (option_to_list (counted_in section.now)))) }
-    ensures stands { (past : List Counted) → CollectorStands past collector.old → OnOk result (CollectorStands (past ++ option_to_list (counted_in section.now)) collector.new) }
+    ensures done { (past : List Counted) → CollectorStandsFor past collector.old → IfOk result (λ done. option_to_list done ≡ map done_key (dones past (option_to_list (counted_in section.now)))) }
+    ensures stands { (past : List Counted) → CollectorStandsFor past collector.old → OnOk result (CollectorStandsFor (past ++ option_to_list (counted_in section.now)) collector.new) }
 {
     let Some(CountedSection { key, header, body }) = counted_section(alloc, section)? else {
         return Ok(None);

@@ -5,7 +5,7 @@ use Rattle.mux_config.specs.declared.mux.Mux.{Mux}
 use Rattle.si_causes.specs.Reading.{Reading}
 use Rattle.carousel_player.specs.Playing.{Playing}
 use Rattle.turn_lock.specs.Knowledge.{TableId}
-use Rattle.guide_receiver.specs.Heard.{Hearing, Stands}
+use Rattle.guide_receiver.specs.Heard.{Hearing, ReceiverStandsFor}
 use Rattle.air_monitor.specs.declared.done_line.DoneLine.{DoneLine}
 use Rattle.air_monitor.specs.Heard.{HearsBy, lines_of_air, whole_packets}
 use Rattle.headend_live.specs.declared.live.LiveStop.{LiveStop}
@@ -29,7 +29,7 @@ pub record HeardOfAir (join : ℕ) (before now : Option (List ℕ)) (wanting : B
 pub record HeardWhole (join : ℕ) (before now : Option (List ℕ)) (receiver : Hearing) (dones : List DoneLine) : Type 0 where
   pub taken : List ℕ
   pub gave : Appends before now taken
-  pub stands : Stands (drop join (whole_packets taken)) receiver
+  pub stands : ReceiverStandsFor (drop join (whole_packets taken)) receiver
   pub lines : dones ≡ lines_of_air join taken
 
 -- the stop of a run, where want of memory for what was heard is one too

@@ -3,7 +3,7 @@ use Rattle.std.proofs.Common.{◌≡◌, ◌∙◌, ap, Option, ℕ, ◌<◌, �
 use Rattle.std.specs.Prelude.{if◌then◌else◌, codes}
 use Rattle.input_lines.specs.Numbers.{is_word}
 use Rattle.mux_config.specs.declared.rows.Numbers.{Numbers}
-use Rattle.mux_config.specs.declared.record.Found.TheVariants.{NoRecord}
+use Rattle.mux_config.specs.declared.record.RecordFound.TheVariants.{NoRecord}
 use Rattle.mux_config.specs.Fields.{found_in, numbers_in, service_of}
 
 abbrev At : List (List ℕ) → ℕ → List ℕ → Type 0

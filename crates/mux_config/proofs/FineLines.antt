@@ -17,8 +17,8 @@ use Rattle.mux_config.specs.declared.mux.Mux.{Mux}
 use Rattle.mux_config.specs.declared.rows.Numbers.{Numbers}
 use Rattle.mux_config.specs.declared.record.Record.{Record}
 use Rattle.mux_config.specs.declared.record.Record.TheVariants.{Network, Stream, Delivery, Service, Part, Quota, End}
-use Rattle.mux_config.specs.declared.record.Found.{Found}
-use Rattle.mux_config.specs.declared.record.Found.TheVariants.{NoRecord, OutOfRange, Is}
+use Rattle.mux_config.specs.declared.record.RecordFound.{RecordFound}
+use Rattle.mux_config.specs.declared.record.RecordFound.TheVariants.{NoRecord, OutOfRange, Is}
 use Rattle.mux_config.specs.declared.record.Numbered.{Numbered}
 use Rattle.mux_config.specs.Block.{Block, Faulty, Whole, Unended, and_found, at_text_end, block_from, ended, fault_of, has_no_place, is_end, repeated_at, unless}
 use Rattle.mux_config.specs.Fields.{cable_with, found_fields, found_in, found_line, found_with, is_language, is_letter, is_service_in_range, language_of, network_in, stream_in, cable_in, delivery_with, numbers_in, service_of, service_in, bare_service, part_in, start_with, start_in, quota_in, spelled, within}
@@ -41,7 +41,7 @@ short_bound low n e = let b = bounds low 65535 n e in omega (arith, b.1)
 
 -- ---- what is found in a line
 
-fine_if : (b : Bool) (x y : Found) → IsFineFound x → IsFineFound y → IsFineFound (if b then x else y)
+fine_if : (b : Bool) (x y : RecordFound) → IsFineFound x → IsFineFound y → IsFineFound (if b then x else y)
 fine_if true x y h k = h
 fine_if false x y h k = k
 
@@ -49,11 +49,11 @@ fine_within : (fits : Bool) (says : Record) → (fits ≡ true → IsFine says) 
 fine_within true says h = h refl
 fine_within false says h = tt
 
-fine_with : (o : Option ℕ) (next : ℕ → Found) → ((n : ℕ) → IsFineFound (next n)) → IsFineFound (found_with o next)
+fine_with : (o : Option ℕ) (next : ℕ → RecordFound) → ((n : ℕ) → IsFineFound (next n)) → IsFineFound (found_with o next)
 fine_with None next h = tt
 fine_with (Some n) next h = h n
 
-fine_spelled : (field : List ℕ) (next : ℕ → Found) → ((n : ℕ) → IsFineFound (next n)) → IsFineFound (spelled field next)
+fine_spelled : (field : List ℕ) (next : ℕ → RecordFound) → ((n : ℕ) → IsFineFound (next n)) → IsFineFound (spelled field next)
 fine_spelled field next h = fine_with (numeral_of field) next h
 
 fine_network : (id name : List ℕ) → IsFineFound (network_in id name)
@@ -173,7 +173,7 @@ placed : (b : Bool) (o : Option ℕ) (range : MuxFault) (twice : ℕ → MuxFaul
 placed true o range twice e = cc e
 placed false o range twice e = (refl, none_of twice o e)
 
-fine_next : (before : List Numbered) (n : ℕ) (found : Found) → AreFine before → IsFineFound found → fault_of before n found ≡ None → AreFine (and_found before n found)
+fine_next : (before : List Numbered) (n : ℕ) (found : RecordFound) → AreFine before → IsFineFound found → fault_of before n found ≡ None → AreFine (and_found before n found)
 fine_next before n NoRecord f fine e = f
 fine_next before n OutOfRange f fine e = f
 fine_next before n (Is r) f fine e =

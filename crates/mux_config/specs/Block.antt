@@ -15,8 +15,8 @@ use Rattle.mux_config.specs.declared.mux.Mux.{Mux}
 use Rattle.mux_config.specs.declared.record.Record.{Record}
 use Rattle.mux_config.specs.declared.record.Record.TheVariants.{Network, Stream, Delivery, Service, Part, Start, Quota, End}
 use Rattle.mux_config.specs.declared.record.Numbered.{Numbered}
-use Rattle.mux_config.specs.declared.record.Found.{Found}
-use Rattle.mux_config.specs.declared.record.Found.TheVariants.{NoRecord, OutOfRange, Is}
+use Rattle.mux_config.specs.declared.record.RecordFound.{RecordFound}
+use Rattle.mux_config.specs.declared.record.RecordFound.TheVariants.{NoRecord, OutOfRange, Is}
 use Rattle.mux_config.specs.Fields.{found_line}
 
 -- ---- the records of a kind
@@ -129,7 +129,7 @@ repeated_at before (Quota n) = first_line is_quota before
 repeated_at before End = None
 
 -- the fault of line n behind these records
-abbrev pub fault_of : List Numbered → ℕ → Found → Option MuxFault
+abbrev pub fault_of : List Numbered → ℕ → RecordFound → Option MuxFault
 fault_of before n NoRecord = Some (fault.Line n)
 fault_of before n OutOfRange = Some (fault.Range n)
 fault_of before n (Is r) = if has_no_place before r then Some (fault.Range n) else option_map (fault.Twice n) (repeated_at before r)
@@ -198,7 +198,7 @@ with_network records (Some network) behind = with_stream records network (said s
 abbrev pub ended : List Numbered → List (ℕ × List ℕ) → Block
 ended records behind = with_network records (said network_in (first is_network records)) behind
 
-abbrev pub is_end : Found → Bool
+abbrev pub is_end : RecordFound → Bool
 is_end (Is End) = true
 is_end found = false
 
@@ -206,7 +206,7 @@ abbrev pub numbered : ℕ → Record → Numbered
 numbered n r = record { line = n; says = r }
 
 -- the records with one more
-abbrev pub and_found : List Numbered → ℕ → Found → List Numbered
+abbrev pub and_found : List Numbered → ℕ → RecordFound → List Numbered
 and_found before n (Is r) = before ++ numbered n r ∷ []
 and_found before n found = before
 

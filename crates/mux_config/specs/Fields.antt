@@ -7,41 +7,41 @@ use Rattle.mux_config.specs.declared.mux.MuxService.{MuxService}
 use Rattle.mux_config.specs.declared.rows.Numbers.{Numbers}
 use Rattle.mux_config.specs.declared.record.Record.{Record}
 use Rattle.mux_config.specs.declared.record.Record.TheVariants.{Network, Stream, Delivery, Service, Part, Start, Quota, End}
-use Rattle.mux_config.specs.declared.record.Found.{Found}
-use Rattle.mux_config.specs.declared.record.Found.TheVariants.{NoRecord, OutOfRange, Is}
+use Rattle.mux_config.specs.declared.record.RecordFound.{RecordFound}
+use Rattle.mux_config.specs.declared.record.RecordFound.TheVariants.{NoRecord, OutOfRange, Is}
 use Rattle.si_text.specs.Coding.{coded_size}
 use Rattle.si_time.specs.Readings.{moment_in}
 
 -- a field that is spelled as a number, and what is found with it
-abbrev pub found_with : Option ℕ → (ℕ → Found) → Found
+abbrev pub found_with : Option ℕ → (ℕ → RecordFound) → RecordFound
 found_with None next = NoRecord
 found_with (Some n) next = next n
 
-abbrev pub spelled : List ℕ → (ℕ → Found) → Found
+abbrev pub spelled : List ℕ → (ℕ → RecordFound) → RecordFound
 spelled field next = found_with (numeral_of field) next
 
 -- a record whose fields are in their ranges, or are not
-abbrev pub within : Bool → Record → Found
+abbrev pub within : Bool → Record → RecordFound
 within fits says = if fits then Is says else OutOfRange
 
 -- `network,ID,NAME`
-abbrev pub network_in : List ℕ → List ℕ → Found
+abbrev pub network_in : List ℕ → List ℕ → RecordFound
 network_in id name = spelled id (λ n. within (in_range 0 65535 n && in_range 1 100 (coded_size name)) (Network n name))
 
 -- `stream,ID,ORIGINAL`
-abbrev pub stream_in : List ℕ → List ℕ → Found
+abbrev pub stream_in : List ℕ → List ℕ → RecordFound
 stream_in id original = spelled id (λ n. spelled original (λ o. within (in_range 0 65535 n && in_range 0 65535 o) (Stream n o)))
 
 abbrev pub cable_with : ℕ → ℕ → ℕ → ℕ → ℕ → Cable
 cable_with f m s o i = record { frequency = f; modulation = m; symbol_rate = s; fec_outer = o; fec_inner = i }
 
-abbrev pub delivery_with : ℕ → ℕ → ℕ → ℕ → ℕ → Found
+abbrev pub delivery_with : ℕ → ℕ → ℕ → ℕ → ℕ → RecordFound
 delivery_with f m s o i =
     within (in_range 0 99999999 f && (in_range 0 255 m && (in_range 0 9999999 s && (in_range 0 15 o && in_range 0 15 i))))
     (Delivery (cable_with f m s o i))
 
 -- `cable,FREQUENCY,MODULATION,SYMBOLRATE,OUTER,INNER`
-abbrev pub cable_in : List ℕ → List ℕ → List ℕ → List ℕ → List ℕ → Found
+abbrev pub cable_in : List ℕ → List ℕ → List ℕ → List ℕ → List ℕ → RecordFound
 cable_in frequency modulation rate outer inner =
     spelled frequency (λ f. spelled modulation (λ m. spelled rate (λ s. spelled outer (λ o. spelled inner (λ i. delivery_with f m s o i)))))
 
@@ -54,7 +54,7 @@ is_service_in_range s =
     (in_range 1 65535 s.service && (in_range 1 16 s.feed && (in_range 0 255 s.kind && (in_range 32 8190 s.pmt_pid && in_range 32 8191 s.pcr_pid))))
     && (in_range 0 100 (coded_size s.provider) && in_range 1 100 (coded_size s.name))
 
-abbrev pub service_with : MuxService → Found
+abbrev pub service_with : MuxService → RecordFound
 service_with s = within (is_service_in_range s) (Service s)
 
 -- the numbers of a service, where each is spelled as one
@@ -64,12 +64,12 @@ numbers_in id feed kind pmt pcr =
     (λ c. let numbers : Numbers = record { service = i; feed = f; kind = k; pmt_pid = m; pcr_pid = c } in numbers)
     (numeral_of pcr)) (numeral_of pmt)) (numeral_of kind)) (numeral_of feed)) (numeral_of id)
 
-abbrev pub service_of : Option Numbers → List ℕ → List ℕ → Found
+abbrev pub service_of : Option Numbers → List ℕ → List ℕ → RecordFound
 service_of None provider name = NoRecord
 service_of (Some n) provider name = service_with (bare_service n.service n.feed n.kind n.pmt_pid n.pcr_pid provider name)
 
 -- `service,ID,FEED,TYPE,PMT,PCR,PROVIDER,NAME`
-abbrev pub service_in : List ℕ → List ℕ → List ℕ → List ℕ → List ℕ → List ℕ → List ℕ → Found
+abbrev pub service_in : List ℕ → List ℕ → List ℕ → List ℕ → List ℕ → List ℕ → List ℕ → RecordFound
 service_in id feed kind pmt pcr provider name = service_of (numbers_in id feed kind pmt pcr) provider name
 
 -- a language: none, or three letters a to z
@@ -86,26 +86,26 @@ language_of [] = None
 language_of letters = Some letters
 
 -- `component,SERVICE,TYPE,PID,LANGUAGE`
-abbrev pub part_in : List ℕ → List ℕ → List ℕ → List ℕ → Found
+abbrev pub part_in : List ℕ → List ℕ → List ℕ → List ℕ → RecordFound
 part_in service kind pid language =
     spelled service (λ s. spelled kind (λ k. spelled pid (λ p.
     within ((in_range 0 65535 s && (in_range 0 255 k && in_range 32 8190 p)) && is_language language)
     (Part s (record { stream_type = k; pid = p; language = language_of language })))))
 
 -- `start,MOMENT`
-abbrev pub start_with : Option ℕ → Found
+abbrev pub start_with : Option ℕ → RecordFound
 start_with None = OutOfRange
 start_with (Some seconds) = Is (Start (record { 0 = seconds }))
 
-abbrev pub start_in : List ℕ → Found
+abbrev pub start_in : List ℕ → RecordFound
 start_in moment = start_with (moment_in moment)
 
 -- `quota,N`
-abbrev pub quota_in : List ℕ → Found
+abbrev pub quota_in : List ℕ → RecordFound
 quota_in quota = spelled quota (λ n. within (in_range 1 10000 n) (Quota n))
 
 -- what the fields of a line say, by the word in front and how many they are
-abbrev pub found_in : List (List ℕ) → Found
+abbrev pub found_in : List (List ℕ) → RecordFound
 found_in (word ∷ []) = if is_word (codes "end") word then Is End else NoRecord
 found_in (word ∷ a ∷ []) = if is_word (codes "start") word then start_in a else (if is_word (codes "quota") word then quota_in a else NoRecord)
 found_in (word ∷ a ∷ b ∷ []) = if is_word (codes "network") word then network_in a b else (if is_word (codes "stream") word then stream_in a b else NoRecord)
@@ -115,9 +115,9 @@ found_in (word ∷ a ∷ b ∷ c ∷ d ∷ e ∷ f ∷ g ∷ []) = if is_word (c
 found_in fields = NoRecord
 
 -- what a line says; one that is no line has no fields
-abbrev pub found_fields : Option (List (List ℕ)) → Found
+abbrev pub found_fields : Option (List (List ℕ)) → RecordFound
 found_fields None = NoRecord
 found_fields (Some fields) = found_in fields
 
-abbrev pub found_line : List ℕ → Found
+abbrev pub found_line : List ℕ → RecordFound
 found_line line = found_fields (record_of line)

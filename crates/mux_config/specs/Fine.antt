@@ -6,8 +6,8 @@ use Rattle.si_text.specs.Coding.{coded_size}
 use Rattle.mux_config.specs.declared.mux.MuxService.{MuxService}
 use Rattle.mux_config.specs.declared.record.Record.{Record}
 use Rattle.mux_config.specs.declared.record.Record.TheVariants.{Network, Stream, Delivery, Service, Part, Start, Quota}
-use Rattle.mux_config.specs.declared.record.Found.{Found}
-use Rattle.mux_config.specs.declared.record.Found.TheVariants.{Is}
+use Rattle.mux_config.specs.declared.record.RecordFound.{RecordFound}
+use Rattle.mux_config.specs.declared.record.RecordFound.TheVariants.{Is}
 use Rattle.mux_config.specs.Sound.{AreDifferent, Between, DoAscend, IsSoundCable, IsSoundComponent, pmt_pids}
 use Rattle.mux_config.specs.declared.record.Numbered.{Numbered}
 use Rattle.mux_config.specs.Block.{all_of, first_line, has_id, has_pid, has_pmt, holds, part_in, service_in, sorted}
@@ -31,7 +31,7 @@ IsFine (Start moment) = moment.0 < 65536 * 86400
 IsFine (Quota n) = Between 1 10000 n
 IsFine r = Unit {0}
 
-abbrev pub IsFineFound : Found → Type 0
+abbrev pub IsFineFound : RecordFound → Type 0
 IsFineFound (Is r) = IsFine r
 IsFineFound found = Unit {0}
 

@@ -11,7 +11,7 @@ use Rattle.mux_config.specs.declared.mux.Mux.{Mux}
 use Rattle.mux_config.specs.declared.stop.MuxStop.{MuxStop}
 use Rattle.mux_config.specs.declared.stop.MuxStop.TheVariants.{Fault, Read, Memory}
 use Rattle.mux_config.specs.declared.record.Numbered.{Numbered}
-use Rattle.mux_config.specs.declared.record.Found.{Found}
+use Rattle.mux_config.specs.declared.record.RecordFound.{RecordFound}
 use Rattle.mux_config.specs.Block.{Block, Faulty, Whole, Unended, and_found, block_from, block_of, fault_of, is_end}
 
 -- a multiplex, or what is missing, of a description that ended
@@ -22,7 +22,7 @@ Makes block behind (Err (Read stop)) = ⊥
 Makes block behind (Err Memory) = Unit {0}
 
 -- what taking line n tells, of which this was found
-abbrev pub TookLine : List Numbered → ℕ → Found → List Numbered → Result Bool MuxStop → Type 0
+abbrev pub TookLine : List Numbered → ℕ → RecordFound → List Numbered → Result Bool MuxStop → Type 0
 TookLine before n found after (Ok true) = (fault_of before n found ≡ None) × (is_end found ≡ true) × (after ≡ before)
 TookLine before n found after (Ok false) = (fault_of before n found ≡ None) × (is_end found ≡ false) × (after ≡ and_found before n found)
 TookLine before n found after (Err (Fault f)) = fault_of before n found ≡ Some f

@@ -9,12 +9,12 @@ ghost use Rattle.mux_config.specs.Fine.{AreFine, IsFine, IsFineFound};
 ghost use Rattle.mux_config.specs.Sound.{IsSound};
 ghost use Rattle.mux_config.specs.Index.{IsIndexed};
 ghost use Rattle.mux_config.specs.Reads.{MuxCame, ReadMux, TookLine};
-ghost use Rattle.mux_config.specs.declared.record.Found.TheVariants.{Is};
+ghost use Rattle.mux_config.specs.declared.record.RecordFound.TheVariants.{Is};
 
 use crate::fault::{MuxFault, Word};
 use crate::index::Records;
 use crate::mux::Mux;
-use crate::record::{Found, Record};
+use crate::record::{Record, RecordFound};
 use crate::rows::found_in;
 use crate::stop::MuxStop;
 use crate::whole::multiplex;
@@ -23,13 +23,13 @@ use si_causes::{LineReader, Source};
 use std::alloc::{AllocError, Global};
 
 // What a line says.
-fn found_line(alloc: Global, line: &[u8]) -> Result<Found, AllocError>
+fn found_line(alloc: Global, line: &[u8]) -> Result<RecordFound, AllocError>
     ensures value { IfOk result (λ found. found ≡ found_there line.now) }
     ensures fine { IfOk result IsFineFound }
 {
     match fields(alloc, line)? {
         Some(fields) => found_in(alloc, fields.as_slice()),
-        None => Ok(Found::NoRecord),
+        None => Ok(RecordFound::NoRecord),
     }
 }
 
@@ -52,9 +52,9 @@ fn take_line(
     ensures fine { OnOk result (AreFine records.old.list.items → AreFine records.new.list.items) }
 {
     let says = match found_line(alloc, line)? {
-        Found::NoRecord => return Err(MuxStop::Fault(MuxFault::Line(number))),
-        Found::OutOfRange => return Err(MuxStop::Fault(MuxFault::Range(number))),
-        Found::Is(says) => says,
+        RecordFound::NoRecord => return Err(MuxStop::Fault(MuxFault::Line(number))),
+        RecordFound::OutOfRange => return Err(MuxStop::Fault(MuxFault::Range(number))),
+        RecordFound::Is(says) => says,
     };
     take_record(records, number, says)
 }

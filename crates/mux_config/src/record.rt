@@ -28,7 +28,7 @@ pub struct Numbered {
 
 // What was found in a line: no record, a record with a field outside its range, or this one.
 #[derive(Drop)]
-pub(crate) enum Found {
+pub(crate) enum RecordFound {
     NoRecord,
     OutOfRange,
     Is(Record),

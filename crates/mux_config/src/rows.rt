@@ -2,13 +2,13 @@
 ghost use Rattle.std.specs.Prelude.{◌≡◌, ◌<◌, ◌∷◌, [], true, false, IfOk, IfSome, IfNone, if◌then◌else◌, codes};
 ghost use Rattle.si_text.specs.Coding.{coded_size};
 ghost use Rattle.input_lines.specs.Numbers.{in_range, is_word as is_service_word};
-ghost use Rattle.mux_config.specs.declared.record.Found.TheVariants.{NoRecord};
+ghost use Rattle.mux_config.specs.declared.record.RecordFound.TheVariants.{NoRecord};
 ghost use Rattle.mux_config.specs.Fine.{IsFineFound};
 ghost use Rattle.mux_config.specs.Sound.{Between, HasSoundLanguage};
 ghost use Rattle.mux_config.specs.Fields.{network_in, stream_in, cable_in, delivery_with, numbers_in, service_with, service_of as numbers_service, bare_service, is_letter as is_small_letter, is_language as is_a_language, language_of, part_in, start_in, quota_in, found_in};
 
 use crate::mux::MuxService;
-use crate::record::{Found, Record};
+use crate::record::{Record, RecordFound};
 use guide_model::{Cable, Component, Components};
 use input_lines::{is_word, numeral};
 use si_text::{Txt, coded_len};
@@ -61,86 +61,92 @@ fn fits(low: usize, text: &Txt) -> bool
 }
 
 // `network,ID,NAME`
-fn network(id: &Txt, name: &Txt) -> Result<Found, AllocError>
+fn network(id: &Txt, name: &Txt) -> Result<RecordFound, AllocError>
     ensures value { IfOk result (λ found. found ≡ network_in id.now name.now) }
     ensures fine { IfOk result IsFineFound }
 {
     let Some(id) = numeral(id.as_str()) else {
-        return Ok(Found::NoRecord);
+        return Ok(RecordFound::NoRecord);
     };
     let Some(id) = short(0, 65_535, id) else {
-        return Ok(Found::OutOfRange);
+        return Ok(RecordFound::OutOfRange);
     };
     if !fits(1, name) {
-        return Ok(Found::OutOfRange);
+        return Ok(RecordFound::OutOfRange);
     }
-    Ok(Found::Is(Record::Network(id, name.copy()?)))
+    Ok(RecordFound::Is(Record::Network(id, name.copy()?)))
 }
 
 // `stream,ID,ORIGINAL`
-fn stream(id: &Txt, original: &Txt) -> Found
+fn stream(id: &Txt, original: &Txt) -> RecordFound
     ensures value { result ≡ stream_in id.now original.now }
     ensures fine { IsFineFound result }
 {
     let Some(id) = numeral(id.as_str()) else {
-        return Found::NoRecord;
+        return RecordFound::NoRecord;
     };
     let Some(original) = numeral(original.as_str()) else {
-        return Found::NoRecord;
+        return RecordFound::NoRecord;
     };
     let Some(id) = short(0, 65_535, id) else {
-        return Found::OutOfRange;
+        return RecordFound::OutOfRange;
     };
     let Some(original) = short(0, 65_535, original) else {
-        return Found::OutOfRange;
+        return RecordFound::OutOfRange;
     };
-    Found::Is(Record::Stream(id, original))
+    RecordFound::Is(Record::Stream(id, original))
 }
 
 // `cable,FREQUENCY,MODULATION,SYMBOLRATE,OUTER,INNER`
-fn cable(frequency: &Txt, modulation: &Txt, rate: &Txt, outer: &Txt, inner: &Txt) -> Found
+fn cable(frequency: &Txt, modulation: &Txt, rate: &Txt, outer: &Txt, inner: &Txt) -> RecordFound
     ensures value { result ≡ cable_in frequency.now modulation.now rate.now outer.now inner.now }
     ensures fine { IsFineFound result }
 {
     let Some(frequency) = numeral(frequency.as_str()) else {
-        return Found::NoRecord;
+        return RecordFound::NoRecord;
     };
     let Some(modulation) = numeral(modulation.as_str()) else {
-        return Found::NoRecord;
+        return RecordFound::NoRecord;
     };
     let Some(rate) = numeral(rate.as_str()) else {
-        return Found::NoRecord;
+        return RecordFound::NoRecord;
     };
     let Some(outer) = numeral(outer.as_str()) else {
-        return Found::NoRecord;
+        return RecordFound::NoRecord;
     };
     let Some(inner) = numeral(inner.as_str()) else {
-        return Found::NoRecord;
+        return RecordFound::NoRecord;
     };
     delivery(frequency, modulation, rate, outer, inner)
 }
 
 // The cable delivery of these numbers.
-fn delivery(frequency: u32, modulation: u32, symbol_rate: u32, outer: u32, inner: u32) -> Found
+fn delivery(
+    frequency: u32,
+    modulation: u32,
+    symbol_rate: u32,
+    outer: u32,
+    inner: u32,
+) -> RecordFound
     ensures value { result ≡ delivery_with frequency modulation symbol_rate outer inner }
     ensures fine { IsFineFound result }
 {
     if !is_in(0, 99_999_999, frequency) {
-        return Found::OutOfRange;
+        return RecordFound::OutOfRange;
     }
     let Some(modulation) = byte(0, 255, modulation) else {
-        return Found::OutOfRange;
+        return RecordFound::OutOfRange;
     };
     if !is_in(0, 9_999_999, symbol_rate) {
-        return Found::OutOfRange;
+        return RecordFound::OutOfRange;
     }
     let Some(fec_outer) = byte(0, 15, outer) else {
-        return Found::OutOfRange;
+        return RecordFound::OutOfRange;
     };
     let Some(fec_inner) = byte(0, 15, inner) else {
-        return Found::OutOfRange;
+        return RecordFound::OutOfRange;
     };
-    Found::Is(Record::Delivery(Cable {
+    RecordFound::Is(Record::Delivery(Cable {
         frequency,
         modulation,
         symbol_rate,
@@ -165,32 +171,32 @@ fn service_of(
     numbers: Numbers,
     provider: &Txt,
     name: &Txt,
-) -> Result<Found, AllocError>
+) -> Result<RecordFound, AllocError>
     ensures value { IfOk result (λ found. found ≡ service_with (bare_service numbers.service numbers.feed numbers.kind numbers.pmt_pid numbers.pcr_pid provider.now name.now)) }
     ensures fine { IfOk result IsFineFound }
 {
     let Some(service) = short(1, 65_535, numbers.service) else {
-        return Ok(Found::OutOfRange);
+        return Ok(RecordFound::OutOfRange);
     };
     let Some(feed) = byte(1, 16, numbers.feed) else {
-        return Ok(Found::OutOfRange);
+        return Ok(RecordFound::OutOfRange);
     };
     let Some(kind) = byte(0, 255, numbers.kind) else {
-        return Ok(Found::OutOfRange);
+        return Ok(RecordFound::OutOfRange);
     };
     let Some(pmt_pid) = short(32, 8_190, numbers.pmt_pid) else {
-        return Ok(Found::OutOfRange);
+        return Ok(RecordFound::OutOfRange);
     };
     let Some(pcr_pid) = short(32, 8_191, numbers.pcr_pid) else {
-        return Ok(Found::OutOfRange);
+        return Ok(RecordFound::OutOfRange);
     };
     if !fits(0, provider) {
-        return Ok(Found::OutOfRange);
+        return Ok(RecordFound::OutOfRange);
     }
     if !fits(1, name) {
-        return Ok(Found::OutOfRange);
+        return Ok(RecordFound::OutOfRange);
     }
-    Ok(Found::Is(Record::Service(MuxService {
+    Ok(RecordFound::Is(Record::Service(MuxService {
         service,
         feed,
         kind,
@@ -250,32 +256,32 @@ fn language(field: &Txt) -> Option<[u8; 3]>
 }
 
 // `component,SERVICE,TYPE,PID,LANGUAGE`
-fn part(service: &Txt, kind: &Txt, pid: &Txt, spoken: &Txt) -> Found
+fn part(service: &Txt, kind: &Txt, pid: &Txt, spoken: &Txt) -> RecordFound
     ensures value { result ≡ part_in service.now kind.now pid.now spoken.now }
     ensures fine { IsFineFound result }
 {
     let Some(service) = numeral(service.as_str()) else {
-        return Found::NoRecord;
+        return RecordFound::NoRecord;
     };
     let Some(kind) = numeral(kind.as_str()) else {
-        return Found::NoRecord;
+        return RecordFound::NoRecord;
     };
     let Some(pid) = numeral(pid.as_str()) else {
-        return Found::NoRecord;
+        return RecordFound::NoRecord;
     };
     let Some(service) = short(0, 65_535, service) else {
-        return Found::OutOfRange;
+        return RecordFound::OutOfRange;
     };
     let Some(stream_type) = byte(0, 255, kind) else {
-        return Found::OutOfRange;
+        return RecordFound::OutOfRange;
     };
     let Some(pid) = short(32, 8_190, pid) else {
-        return Found::OutOfRange;
+        return RecordFound::OutOfRange;
     };
     if !is_language(spoken) {
-        return Found::OutOfRange;
+        return RecordFound::OutOfRange;
     }
-    Found::Is(Record::Part(
+    RecordFound::Is(Record::Part(
         service,
         Component {
             stream_type,
@@ -286,33 +292,33 @@ fn part(service: &Txt, kind: &Txt, pid: &Txt, spoken: &Txt) -> Found
 }
 
 // `start,MOMENT`
-fn start(moment: &Txt) -> Found
+fn start(moment: &Txt) -> RecordFound
     ensures value { result ≡ start_in moment.now }
     ensures fine { IsFineFound result }
 {
     match read_moment(moment.as_str().as_bytes()) {
-        Some(moment) => Found::Is(Record::Start(moment)),
-        None => Found::OutOfRange,
+        Some(moment) => RecordFound::Is(Record::Start(moment)),
+        None => RecordFound::OutOfRange,
     }
 }
 
 // `quota,N`
-fn quota(quota: &Txt) -> Found
+fn quota(quota: &Txt) -> RecordFound
     ensures value { result ≡ quota_in quota.now }
     ensures fine { IsFineFound result }
 {
     let Some(n) = numeral(quota.as_str()) else {
-        return Found::NoRecord;
+        return RecordFound::NoRecord;
     };
     if is_in(1, 10_000, n) {
-        Found::Is(Record::Quota(n))
+        RecordFound::Is(Record::Quota(n))
     } else {
-        Found::OutOfRange
+        RecordFound::OutOfRange
     }
 }
 
 // The record of two fields behind its word.
-fn record_of_two(word: &Txt, a: &Txt, b: &Txt) -> Result<Found, AllocError>
+fn record_of_two(word: &Txt, a: &Txt, b: &Txt) -> Result<RecordFound, AllocError>
     ensures value { IfOk result (λ found. found ≡ found_in (word.now ∷ a.now ∷ b.now ∷ [])) }
     ensures fine { IfOk result IsFineFound }
 {
@@ -322,11 +328,11 @@ fn record_of_two(word: &Txt, a: &Txt, b: &Txt) -> Result<Found, AllocError>
     if is_word(word.as_str(), "stream") {
         return Ok(stream(a, b));
     }
-    Ok(Found::NoRecord)
+    Ok(RecordFound::NoRecord)
 }
 
 // The record of one field behind its word.
-fn record_of_one(word: &Txt, a: &Txt) -> Found
+fn record_of_one(word: &Txt, a: &Txt) -> RecordFound
     ensures value { result ≡ found_in (word.now ∷ a.now ∷ []) }
     ensures fine { IsFineFound result }
 {
@@ -336,7 +342,7 @@ fn record_of_one(word: &Txt, a: &Txt) -> Found
     if is_word(word.as_str(), "quota") {
         return quota(a);
     }
-    Found::NoRecord
+    RecordFound::NoRecord
 }
 
 // The record of eight fields, five of which are these numbers.
@@ -346,30 +352,30 @@ fn record_of_eight(
     numbers: Option<Numbers>,
     provider: &Txt,
     name: &Txt,
-) -> Result<Found, AllocError>
+) -> Result<RecordFound, AllocError>
     ensures value { IfOk result (λ found. found ≡ (if is_service_word (codes "service") word.now then numbers_service numbers provider.now name.now else NoRecord)) }
     ensures fine { IfOk result IsFineFound }
 {
     if !is_word(word.as_str(), "service") {
-        return Ok(Found::NoRecord);
+        return Ok(RecordFound::NoRecord);
     }
     match numbers {
         Some(numbers) => service_of(alloc, numbers, provider, name),
-        None => Ok(Found::NoRecord),
+        None => Ok(RecordFound::NoRecord),
     }
 }
 
 /// What the fields of a line say.
-pub(crate) fn found_in(alloc: Global, fields: &[Txt]) -> Result<Found, AllocError>
+pub(crate) fn found_in(alloc: Global, fields: &[Txt]) -> Result<RecordFound, AllocError>
     ensures value { IfOk result (λ found. found ≡ found_in fields.now) }
     ensures fine { IfOk result IsFineFound }
 {
     match fields {
         [word] => {
             if is_word(word.as_str(), "end") {
-                Ok(Found::Is(Record::End))
+                Ok(RecordFound::Is(Record::End))
             } else {
-                Ok(Found::NoRecord)
+                Ok(RecordFound::NoRecord)
             }
         }
         [word, a] => Ok(record_of_one(word, a)),
@@ -378,20 +384,20 @@ pub(crate) fn found_in(alloc: Global, fields: &[Txt]) -> Result<Found, AllocErro
             if is_word(word.as_str(), "component") {
                 Ok(part(a, b, c, d))
             } else {
-                Ok(Found::NoRecord)
+                Ok(RecordFound::NoRecord)
             }
         }
         [word, a, b, c, d, e] => {
             if is_word(word.as_str(), "cable") {
                 Ok(cable(a, b, c, d, e))
             } else {
-                Ok(Found::NoRecord)
+                Ok(RecordFound::NoRecord)
             }
         }
         [word, id, feed, kind, pmt, pcr, provider, name] => {
             let numbers = service_numbers(id, feed, kind, pmt, pcr);
             record_of_eight(alloc, word, numbers, provider, name)
         }
-        _ => Ok(Found::NoRecord),
+        _ => Ok(RecordFound::NoRecord),
     }
 }

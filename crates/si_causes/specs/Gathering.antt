@@ -6,8 +6,8 @@ use Rattle.si_causes.specs.Lines.{first_line, after_line, has_end}
 use Rattle.si_causes.specs.Text.{text_limit}
 use Rattle.si_causes.specs.declared.stop.ReadStop.{ReadStop}
 use Rattle.si_causes.specs.declared.stop.ReadStop.TheVariants.{Failed, TooLong}
-use Rattle.si_causes.specs.declared.gather.Found.{Found}
-use Rattle.si_causes.specs.declared.gather.Found.TheVariants.{Line, Last, End}
+use Rattle.si_causes.specs.declared.gather.LineFound.{LineFound}
+use Rattle.si_causes.specs.declared.gather.LineFound.TheVariants.{Line, Last, End}
 
 -- what the reader has at hand, and how many bytes the source gave
 pub record Hand (S : Type 0) : Type 0 where
@@ -38,7 +38,7 @@ pub record Gathered {S : Type 0} (left : S → Option (List ℕ)) (old new : Han
   pub rest : new.held ≡ after_line (old.held ++ more)
 
 -- what was found there
-abbrev pub FoundIs : {S : Type 0} → (S → Option (List ℕ)) → Hand S → Hand S → List ℕ → Found → Type 0
+abbrev pub FoundIs : {S : Type 0} → (S → Option (List ℕ)) → Hand S → Hand S → List ℕ → LineFound → Type 0
 FoundIs left old new more Line = has_end (old.held ++ more) ≡ true
 FoundIs left old new more Last = (has_end (old.held ++ more) ≡ false) × (old.held ++ more ≢ []) × IsAtEnd (left new.source)
 FoundIs left old new more End = (old.held ++ more ≡ []) × IsAtEnd (left new.source)
@@ -48,6 +48,6 @@ abbrev pub GatherStop : {S : Type 0} → (S → Option (List ℕ)) → (S → �
 GatherStop left faults old new Failed = (more : List ℕ) × Consumes (left old.source) (left new.source) more × (has_end (old.held ++ more) ≡ false) × Rose (faults old.source) (faults new.source)
 GatherStop left faults old new TooLong = (more : List ℕ) × (byte : ℕ) × Consumes (left old.source) (left new.source) (more ++ byte ∷ []) × (old.taken + length more ≡ text_limit) × (has_end (old.held ++ more) ≡ false)
 
-abbrev pub Gathers : {S : Type 0} → (S → Option (List ℕ)) → (S → ℕ) → Hand S → Hand S → Result Found ReadStop → Type 0
+abbrev pub Gathers : {S : Type 0} → (S → Option (List ℕ)) → (S → ℕ) → Hand S → Hand S → Result LineFound ReadStop → Type 0
 Gathers left faults old new (Ok found) = (more : List ℕ) × Gathered left old new more × FoundIs left old new more found
 Gathers left faults old new (Err stop) = (new.held ≡ []) × GatherStop left faults old new stop

@@ -22,7 +22,7 @@ pub(crate) type Held = ReadBuffer<BUFFER>;
 
 // What collecting a line met: a whole line, the last one, which has no LF, or the end.
 #[derive(Clone, Copy)]
-pub(crate) enum Found {
+pub(crate) enum LineFound {
     Line,
     Last,
     End,
@@ -79,7 +79,7 @@ pub(crate) fn gather<S: Source>(
     held: &mut Held,
     line: &mut Line,
     taken: &mut u64,
-) -> Result<Found, ReadStop>
+) -> Result<LineFound, ReadStop>
     requires empty { line.old ≡ [] }
     requires within { taken.old ≤ 67108864 }
     ensures gathers { Gathers S.left S.faults (hand source.old held.old line.old taken.old)
@@ -90,7 +90,7 @@ pub(crate) fn gather<S: Source>(
 {
     loop {
         if take_line(held, line) {
-            return Ok(Found::Line);
+            return Ok(LineFound::Line);
         }
         let room = if *taken < TEXT { TEXT - *taken } else { 1 };
         let count = match read_piece(source, held, room) {
@@ -99,9 +99,9 @@ pub(crate) fn gather<S: Source>(
         };
         if count == 0 {
             return Ok(if line.is_empty() {
-                Found::End
+                LineFound::End
             } else {
-                Found::Last
+                LineFound::Last
             });
         }
         if *taken >= TEXT {

@@ -6,7 +6,7 @@ ghost use Rattle.si_causes.specs.Reading.{NextCame, GivesLine, Falls, fresh, roo
 ghost use Rattle.si_causes.specs.Text.{lines_left};
 
 use crate::causes::Source;
-use crate::gather::{Found, Held, gather};
+use crate::gather::{Held, LineFound, gather};
 use crate::line::Line;
 use crate::read_buffer::ReadBuffer;
 use crate::stop::ReadStop;
@@ -100,18 +100,18 @@ impl<S: Source> LineReader<S> {
         self.line.clear();
         let mut taken = self.passed + self.held.bytes().len() as u64;
         match gather(&mut self.source, &mut self.held, &mut self.line, &mut taken) {
-            Ok(Found::End) => {
+            Ok(LineFound::End) => {
                 self.ended = true;
                 Ok(None)
             }
-            Ok(Found::Last) => {
+            Ok(LineFound::Last) => {
                 self.ended = true;
                 self.passed = taken;
                 self.line.finish();
                 self.number += 1;
                 Ok(Some(self.number))
             }
-            Ok(Found::Line) => {
+            Ok(LineFound::Line) => {
                 self.passed = taken - self.held.bytes().len() as u64;
                 self.line.finish();
                 self.number += 1;

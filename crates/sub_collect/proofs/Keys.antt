@@ -9,13 +9,13 @@ use Rattle.section_codec.specs.KeyOrder.{is_key, key_cmp}
 use Rattle.section_codec.proofs.KeyOrderFacts.{is_key-same, key_ties}
 use Rattle.sub_collect.specs.Runs.{Counted}
 use Rattle.sub_collect.specs.Completions.{of_key, completion, completions, latest_done, latest_of, shown_after, shown_at}
-use Rattle.sub_collect.specs.Collectors.{Kept, KeptKeys, kept_in, IsKeptOf, StandsFor, Stands}
+use Rattle.sub_collect.specs.Collectors.{KeyHeard, KeysHeard, kept_in, IsKeptOf, StandsFor, CollectorStandsFor}
 use Rattle.sub_collect.specs.Slots.{kept_by, shown}
-use Rattle.sub_collect.specs.declared.collector.Slot.{Slot}
+use Rattle.sub_collect.specs.declared.collector.KeySlot.{KeySlot}
 use Rattle.sub_collect.proofs.Done.{of_key-one, of_key-other, shown_at-is}
 
 -- what is kept of a key, as the map has it
-pub kept_in-shown : (k : Key) (es : List (Key × Slot)) → kept_in k (shown es) ≡ option_map kept_by (lookup (is_at (key_cmp k)) es)
+pub kept_in-shown : (k : Key) (es : List (Key × KeySlot)) → kept_in k (shown es) ≡ option_map kept_by (lookup (is_at (key_cmp k)) es)
 kept_in-shown k [] = refl
 kept_in-shown k (e ∷ es) =
     ap (λ (b : Bool). if b then Some (kept_by e.1) else kept_in k (shown es)) (key_ties k e.0)
@@ -27,22 +27,22 @@ kept_in-shown k (e ∷ es) =
     go false rest = rest
 
 -- a slot that keeps what it kept leaves what is shown
-pub shown-set : (test : Key → Bool) (es : List (Key × Slot)) (old new : Slot) → lookup test es ≡ Some old → kept_by new ≡ kept_by old → shown (set_value test es new) ≡ shown es
+pub shown-set : (test : Key → Bool) (es : List (Key × KeySlot)) (old new : KeySlot) → lookup test es ≡ Some old → kept_by new ≡ kept_by old → shown (set_value test es new) ≡ shown es
 shown-set test [] old new found same = refl
 shown-set test (e ∷ es) old new found same = go (test e.0) found (λ (f : lookup test es ≡ Some old). shown-set test es old new f same)
   where
     go : (b : Bool) → cond b (Some e.1) (lookup test es) ≡ Some old → (lookup test es ≡ Some old → shown (set_value test es new) ≡ shown es) → shown (cond b ((e.0, new) ∷ es) (e ∷ set_value test es new)) ≡ shown (e ∷ es)
     go true f rec =
         let one : e.1 ≡ old = cc in
-        ap (λ (x : Kept). (e.0, x) ∷ shown es) (same ∙ ap kept_by (sym one))
-    go false f rec = ap (λ (l : KeptKeys). (e.0, kept_by e.1) ∷ l) (rec f)
+        ap (λ (x : KeyHeard). (e.0, x) ∷ shown es) (same ∙ ap kept_by (sym one))
+    go false f rec = ap (λ (l : KeysHeard). (e.0, kept_by e.1) ∷ l) (rec f)
 
 -- what is kept of a key stands for its sections
-pub of-kept : (k : Key) (past : List Counted) (o : Option Kept) (kept : Kept) → StandsFor (of_key k past) o → o ≡ Some kept → IsKeptOf (of_key k past) kept
-of-kept k past o kept stands e = (subst (λ (x : Option Kept). StandsFor (of_key k past) x) e stands).1
+pub of-kept : (k : Key) (past : List Counted) (o : Option KeyHeard) (kept : KeyHeard) → StandsFor (of_key k past) o → o ≡ Some kept → IsKeptOf (of_key k past) kept
+of-kept k past o kept stands e = (subst (λ (x : Option KeyHeard). StandsFor (of_key k past) x) e stands).1
 
-pub of-none : (k : Key) (past : List Counted) (o : Option Kept) → StandsFor (of_key k past) o → o ≡ None → of_key k past ≡ []
-of-none k past o stands e = subst (λ (x : Option Kept). StandsFor (of_key k past) x) e stands
+pub of-none : (k : Key) (past : List Counted) (o : Option KeyHeard) → StandsFor (of_key k past) o → o ≡ None → of_key k past ≡ []
+of-none k past o stands e = subst (λ (x : Option KeyHeard). StandsFor (of_key k past) x) e stands
 
 pub latest-none : (k : Key) (past : List Counted) → of_key k past ≡ [] → latest_of k past ≡ None
 latest-none k past e = ap (λ (l : List Counted). latest_done (completions [] l)) e
@@ -53,8 +53,8 @@ some_more [] s e = cc
 some_more (x ∷ xs) s e = cc
 
 -- what is kept of each key, where one was put
-pub stands-put : (past : List Counted) (s : Counted) (old new : KeptKeys) (kept : Kept) → Stands past old
-    → ((q : Key) → kept_in q new ≡ (if is_key s.key q then Some kept else kept_in q old)) → IsKeptOf (of_key s.key past ++ s ∷ []) kept → Stands (past ++ s ∷ []) new
+pub stands-put : (past : List Counted) (s : Counted) (old new : KeysHeard) (kept : KeyHeard) → CollectorStandsFor past old
+    → ((q : Key) → kept_in q new ≡ (if is_key s.key q then Some kept else kept_in q old)) → IsKeptOf (of_key s.key past ++ s ∷ []) kept → CollectorStandsFor (past ++ s ∷ []) new
 stands-put past s old new kept stands put is q = go (is_key s.key q) refl
   where
     go : (b : Bool) → is_key s.key q ≡ b → StandsFor (of_key q (past ++ s ∷ [])) (kept_in q new)
@@ -63,13 +63,13 @@ stands-put past s old new kept stands put is q = go (is_key s.key q) refl
         let kept_is : kept_in q new ≡ Some kept = put q ∙ ap (λ (b : Bool). if b then Some kept else kept_in q old) e in
         let sections : of_key q (past ++ s ∷ []) ≡ of_key s.key past ++ s ∷ [] =
         of_key-one q past s same ∙ ap (λ (k : Key). of_key k past ++ s ∷ []) (sym same) in
-        subst (λ (o : Option Kept). StandsFor (of_key q (past ++ s ∷ [])) o) (sym kept_is) (subst (λ (l : List Counted). StandsFor l (Some kept)) (sym sections) (some_more (of_key s.key past) s, is))
+        subst (λ (o : Option KeyHeard). StandsFor (of_key q (past ++ s ∷ [])) o) (sym kept_is) (subst (λ (l : List Counted). StandsFor l (Some kept)) (sym sections) (some_more (of_key s.key past) s, is))
     go false e =
         let kept_is : kept_in q new ≡ kept_in q old = put q ∙ ap (λ (b : Bool). if b then Some kept else kept_in q old) e in
-        subst (λ (o : Option Kept). StandsFor (of_key q (past ++ s ∷ [])) o) (sym kept_is) (subst (λ (l : List Counted). StandsFor l (kept_in q old)) (sym (of_key-other q past s e)) (stands q))
+        subst (λ (o : Option KeyHeard). StandsFor (of_key q (past ++ s ∷ [])) o) (sym kept_is) (subst (λ (l : List Counted). StandsFor l (kept_in q old)) (sym (of_key-other q past s e)) (stands q))
 
 -- what the map has once a slot is put, as it is kept
-pub kept-put : (k : Key) (slot : Slot) (old new : List (Key × Slot)) → ((q : Key) → lookup (is_at (key_cmp q)) new ≡ cond (is_at (key_cmp k) q) (Some slot) (lookup (is_at (key_cmp q)) old))
+pub kept-put : (k : Key) (slot : KeySlot) (old new : List (Key × KeySlot)) → ((q : Key) → lookup (is_at (key_cmp q)) new ≡ cond (is_at (key_cmp k) q) (Some slot) (lookup (is_at (key_cmp q)) old))
     → (q : Key) → kept_in q (shown new) ≡ (if is_key k q then Some (kept_by slot) else kept_in q (shown old))
 kept-put k slot old new updates q =
     kept_in-shown q new ∙ ap (option_map kept_by) (updates q) ∙ go (is_eq (key_cmp k q)) (kept_in-shown q old)

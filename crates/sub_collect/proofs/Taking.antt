@@ -11,7 +11,7 @@ use Rattle.section_codec.specs.Tables.{is_eit}
 use Rattle.section_codec.specs.Segments.{segment_of}
 use Rattle.sub_collect.specs.Runs.{Counted, all_of_version, latest_section, latest_with, segment_last_of, run_of, whole, completed}
 use Rattle.sub_collect.specs.Completions.{IsOfKey, done_at, completion_at, completion, completions, latest_done, repeats, shown_after}
-use Rattle.sub_collect.specs.Collectors.{KeptRun, Kept, body_in, body_of, last_in, StandsForRun, IsKeptOf}
+use Rattle.sub_collect.specs.Collectors.{KeptRun, KeyHeard, body_in, body_of, last_in, StandsForRun, IsKeptOf}
 use Rattle.sub_collect.specs.Slots.{held_with, told_with, needed_by, is_body, same_last, whole_by, latest_with_done}
 use Rattle.sub_collect.specs.declared.completed.Completed.{Completed}
 use Rattle.sub_collect.proofs.Runs.{run_of-push, latest-run, latest-push, all-latest, no-latest}
@@ -82,7 +82,7 @@ told-stays lasts number told e n = go (segment_of number == n) refl
 done_at-same : (s t : Counted) (c : Content) → s.key ≡ t.key → s.version ≡ t.version → done_at s c ≡ done_at t c
 done_at-same s t c k v = λ i. record { key = k i; version = v i; sections = c }
 
-module _ (k : Key) (heard : List Counted) (all : AllByRecursion (IsOfKey k) heard) (s : Counted) (of_key : s.key ≡ k) (kept : Kept) (is : IsKeptOf heard kept)
+module _ (k : Key) (heard : List Counted) (all : AllByRecursion (IsOfKey k) heard) (s : Counted) (of_key : s.key ≡ k) (kept : KeyHeard) (is : IsKeptOf heard kept)
     (version : s.version ≡ kept.run.version) (last : kept.run.last ≡ s.last) (told : last_in kept.run.lasts (segment_of s.number) ≡ segment_last_of s)
     (held : body_in s.number kept.run.held ≡ Some s.body) where
   some : (t : Counted) × (latest_section (run_of heard) ≡ Some t)

@@ -16,16 +16,16 @@ pub record KeptRun : Type 0 where
   pub lasts : List (Option ℕ)
 
 -- what is kept of a key: its run and its latest completion
-pub record Kept : Type 0 where
+pub record KeyHeard : Type 0 where
   pub run : KeptRun
   pub latest : Option Completed
 
 -- each key that had a section, with what is kept of it
-abbrev pub KeptKeys : Type 0
-KeptKeys = List (Key × Kept)
+abbrev pub KeysHeard : Type 0
+KeysHeard = List (Key × KeyHeard)
 
 -- what is kept of a key
-abbrev pub kept_in : Key → KeptKeys → Option Kept
+abbrev pub kept_in : Key → KeysHeard → Option KeyHeard
 kept_in k [] = None
 kept_in k (entry ∷ entries) = if is_key k entry.0 then Some entry.1 else kept_in k entries
 
@@ -55,15 +55,15 @@ pub record StandsForRun (run : List Counted) (kept : KeptRun) : Type 0 where
   pub lasts : (segment : ℕ) → last_in kept.lasts segment ≡ last_told run segment
 
 -- What is kept of a key stands for these sections of it.
-pub record IsKeptOf (heard : List Counted) (kept : Kept) : Type 0 where
+pub record IsKeptOf (heard : List Counted) (kept : KeyHeard) : Type 0 where
   pub run : StandsForRun (run_of heard) kept.run
   pub latest : kept.latest ≡ latest_done (completions [] heard)
 
 -- Of a key without a section nothing is kept, and of each other key something is.
-abbrev pub StandsFor : List Counted → Option Kept → Type 0
+abbrev pub StandsFor : List Counted → Option KeyHeard → Type 0
 StandsFor heard None = heard ≡ []
 StandsFor heard (Some kept) = (heard ≢ []) × IsKeptOf heard kept
 
 -- The collector stands for these counted sections, in the order in which they ended.
-abbrev pub Stands : List Counted → KeptKeys → Type 0
-Stands past collector = (k : Key) → StandsFor (of_key k past) (kept_in k collector)
+abbrev pub CollectorStandsFor : List Counted → KeysHeard → Type 0
+CollectorStandsFor past collector = (k : Key) → StandsFor (of_key k past) (kept_in k collector)

@@ -4,19 +4,19 @@ use Rattle.section_codec.specs.declared.table.Key.{Key}
 use Rattle.section_codec.specs.Contents.{numbers_from, Content}
 use Rattle.section_codec.specs.Segments.{segment_of, table_needs}
 use Rattle.sub_collect.specs.Completions.{repeats}
-use Rattle.sub_collect.specs.Collectors.{KeptRun, Kept, KeptKeys}
+use Rattle.sub_collect.specs.Collectors.{KeptRun, KeyHeard, KeysHeard}
 use Rattle.sub_collect.specs.declared.completed.Completed.{Completed}
 use Rattle.sub_collect.specs.declared.run.Run.{Run}
-use Rattle.sub_collect.specs.declared.collector.Slot.{Slot}
+use Rattle.sub_collect.specs.declared.collector.KeySlot.{KeySlot}
 
 abbrev pub kept_run : Run → KeptRun
 kept_run run = record { version = run.version; last = run.last; held = run.held.entries; front = run.front; lasts = run.lasts }
 
-abbrev pub kept_by : Slot → Kept
+abbrev pub kept_by : KeySlot → KeyHeard
 kept_by slot = record { run = kept_run slot.run; latest = slot.latest }
 
-abbrev pub shown : List (Key × Slot) → KeptKeys
-shown entries = map (λ (entry : Key × Slot). (entry.0, kept_by entry.1)) entries
+abbrev pub shown : List (Key × KeySlot) → KeysHeard
+shown entries = map (λ (entry : Key × KeySlot). (entry.0, kept_by entry.1)) entries
 
 -- what is held of a number once this body is put under that one
 abbrev pub held_with : (ℕ → Option (List ℕ)) → ℕ → List ℕ → ℕ → Option (List ℕ)

@@ -4,7 +4,7 @@ ghost use Rattle.std.specs.List.{AllByRecursion};
 ghost use Rattle.section_codec.specs.declared.table.Key.{Key};
 ghost use Rattle.sub_collect.specs.Runs.{Counted, counted};
 ghost use Rattle.sub_collect.specs.Completions.{IsOfKey, completion, completions, latest_done, latest_of, shown_after, shown_at};
-ghost use Rattle.sub_collect.specs.Collectors.{Stands, IsKeptOf};
+ghost use Rattle.sub_collect.specs.Collectors.{CollectorStandsFor, IsKeptOf};
 ghost use Rattle.sub_collect.specs.Slots.{kept_by, shown, latest_with_done};
 ghost use Rattle.sub_collect.specs.declared.completed.Completed.{Completed};
 
@@ -22,16 +22,16 @@ use std::marker::Model;
 #[derive(Drop)]
 pub struct Collector {
     alloc: Global,
-    slots: BTreeMap<Key, Slot>,
+    slots: BTreeMap<Key, KeySlot>,
 }
 
 impl Model for Collector {
     ghost use Rattle.std.specs.BTreeMap.{IsOrdered};
     ghost use Rattle.section_codec.specs.KeyOrder.{key_cmp};
-    ghost use Rattle.sub_collect.specs.Collectors.{KeptKeys};
+    ghost use Rattle.sub_collect.specs.Collectors.{KeysHeard};
     ghost use Rattle.sub_collect.specs.Slots.{shown};
 
-    ghost Value = { KeptKeys };
+    ghost Value = { KeysHeard };
 
     ghost view = { λ c. shown c.slots.entries };
 
@@ -40,7 +40,7 @@ impl Model for Collector {
 
 // What is kept of a key: its present run, and its latest completion.
 #[derive(Drop)]
-pub struct Slot {
+pub struct KeySlot {
     pub run: Run,
     pub latest: Option<Completed>,
 }
@@ -49,7 +49,7 @@ impl Collector {
     /// A collector that has heard nothing. It takes no memory.
     pub fn open(alloc: Global) -> Collector
         ensures none { result ≡ [] }
-        ensures stands { Stands [] result }
+        ensures stands { CollectorStandsFor [] result }
     {
         Collector {
             alloc,
@@ -71,16 +71,16 @@ impl Collector {
         header: &LongHeader,
         body: Bytes,
     ) -> Result<Option<u8>, AllocError>
-        ensures shown { IfOk result (λ shown. (past : List Counted) → Stands past self.old
+        ensures shown { IfOk result (λ shown. (past : List Counted) → CollectorStandsFor past self.old
             → shown ≡ option_map (λ d. d.version) (shown_at past (counted key header.now body))) }
-        ensures stands { OnOk result ((past : List Counted) → Stands past self.old
-            → Stands (past ++ counted key header.now body ∷ []) self.new) }
+        ensures stands { OnOk result ((past : List Counted) → CollectorStandsFor past self.old
+            → CollectorStandsFor (past ++ counted key header.now body ∷ []) self.new) }
         ensures memory { OnErr result (self.new ≡ self.old) }
     {
         match self.slots.get_mut(&key) {
             Some(slot) => slot.take(self.alloc, key, header, body),
             None => {
-                let mut slot = Slot::open(self.alloc, header.version);
+                let mut slot = KeySlot::open(self.alloc, header.version);
                 let shown = slot.take(self.alloc, key, header, body)?;
                 self.slots.insert(key, slot)?;
                 Ok(shown)
@@ -90,7 +90,7 @@ impl Collector {
 
     /// The latest completion of a key, or None where it never had one.
     pub fn latest(&self, key: Key) -> Option<&Completed>
-        ensures latest { (past : List Counted) → Stands past self.now → option_copied result ≡ latest_of key past }
+        ensures latest { (past : List Counted) → CollectorStandsFor past self.now → option_copied result ≡ latest_of key past }
     {
         match self.slots.get(&key) {
             Some(slot) => slot.latest.as_ref(),
@@ -99,12 +99,12 @@ impl Collector {
     }
 }
 
-impl Slot {
+impl KeySlot {
     // A slot of a key without a section. It takes no memory.
-    fn open(alloc: Global, version: u8) -> Slot
+    fn open(alloc: Global, version: u8) -> KeySlot
         ensures stands { IsKeptOf [] (kept_by result) }
     {
-        Slot {
+        KeySlot {
             run: Run::open(alloc, version),
             latest: None,
         }

@@ -4,7 +4,7 @@ use Rattle.std.specs.Prelude.{if◌then◌else◌, nat_le}
 use Rattle.std.specs.List.{AllByRecursion}
 use Rattle.std.proofs.lemmas.List.{take_at, drop_at}
 use Rattle.std.proofs.lemmas.Bool.{and_from, ne_eqb}
-use Rattle.ts_packets.specs.Packets.{joined, filled, piece_of, left_by, Begin, pieces, left, HaveRoom, all_of}
+use Rattle.ts_packets.specs.Packets.{joined, filled, piece_of, left_by, Begin, pieces, left, HaveSectionBytes, all_of}
 use Rattle.ts_demux.specs.Hearing.{size_in, is_whole, begun, passed_over, goes_on, begun_in, heard, IsSection}
 use Rattle.ts_demux.proofs.Deciding.{le_yes, le_no}
 use Rattle.ts_demux.specs.Laws.{but_last, ended}
@@ -184,7 +184,7 @@ passed-rest rest bytes h =
 reaches : (n : ℕ) (rest x : List ℕ) (c : ℕ) (missing : List ℕ) → drop n rest ≡ x ++ c ∷ missing → n ≤ length rest
 reaches n rest x c missing e = omega (arith, length-drop n rest, ap length e, length-append x (c ∷ missing))
 
-pub goes : (rest : List ℕ) (groups : List (List (List ℕ))) → HaveRoom rest groups → GoesAll rest groups ⊎ GoesFront rest groups
+pub goes : (rest : List ℕ) (groups : List (List (List ℕ))) → HaveSectionBytes rest groups → GoesAll rest groups ⊎ GoesFront rest groups
 goes [] [] h = inl (record { more = []; is = refl; ended = λ e. refl })
 goes (b ∷ rest) [] h = inr (record { next = b; missing = rest; is = refl; none = refl; byte = b; bytes = rest; open_left = refl })
 goes rest ([] ∷ groups) h = go (goes (drop 184 rest) groups h.1)
@@ -261,7 +261,7 @@ start rest s ss groups small all w fits (inr a) behind b ih =
     ∙ subst₂ (λ (x : List ℕ) (y : List (List ℕ)). but_last (s ∷ ss) ≡ ended x ((s ∷ ss) ++ y)) (sym a.open_left) (sym a.none) (ap but_last (sym (append-nil (s ∷ ss))))
 
 -- Of packets that carry sections, from any packet to any packet, those sections are heard that begin and end there.
-pub heard-pieces : (rest : List ℕ) (groups : List (List (List ℕ))) → HaveRoom rest groups → AllSections groups → heard (pieces rest groups) ≡ ended (left rest groups) (all_of groups)
+pub heard-pieces : (rest : List ℕ) (groups : List (List (List ℕ))) → HaveSectionBytes rest groups → AllSections groups → heard (pieces rest groups) ≡ ended (left rest groups) (all_of groups)
 heard-pieces [] [] h all = refl
 heard-pieces (b ∷ rest) [] h all = refl
 heard-pieces rest ([] ∷ groups) h all = heard-pieces (drop 184 rest) groups h.1 all.1

@@ -6,7 +6,7 @@ use Rattle.std.proofs.lemmas.Bool.{and_parts, eqb-true}
 use Rattle.ts_packets.specs.Packets.{Piece}
 use Rattle.ts_packets.specs.Counting.{Load}
 use Rattle.ts_demux.specs.Arrivals.{Arrival, is_repeat, without_repeats, Arrival.Gap, Arrival.Came}
-use Rattle.ts_demux.specs.Keeping.{Seen, seen, Kept, nothing, seen_in, last_load, is_one_stretch, pieces_of, last_stretch, open_section, Keeps}
+use Rattle.ts_demux.specs.Keeping.{Seen, seen, PidState, nothing, seen_in, last_load, is_one_stretch, pieces_of, last_stretch, open_section, Keeps}
 use Rattle.ts_demux.specs.Steps.{is_again, is_next, still_open, open_behind, kept_after, kept_behind}
 use Rattle.ts_demux.proofs.Open.{open_section-push}
 
@@ -161,11 +161,11 @@ last_stretch-load (x ∷ y ∷ xs) l =
 
 -- ---- one arrival more
 
-abbrev kept_of : Option Seen → List Piece → Kept
+abbrev kept_of : Option Seen → List Piece → PidState
 kept_of o ps = record { last = o; section = open_section ps }
 
 -- what is kept behind arrivals, by the definition
-abbrev pub kept_by_all : List Arrival → Kept
+abbrev pub kept_by_all : List Arrival → PidState
 kept_by_all xs = kept_of (last_load xs) (last_stretch (without_repeats None xs))
 
 open_still : (b : Bool) (ps : List Piece) → open_section (where_next b ps) ≡ still_open b (open_section ps)
@@ -179,7 +179,7 @@ step xs (Came l) = go (is_again (last_load xs) l) refl
     W : List Arrival
     W = without_repeats None xs
 
-    new : Kept
+    new : PidState
     new = record { last = Some (seen l); section = open_behind (still_open (is_next (last_load xs) l) (open_section (last_stretch W))) l.piece }
 
     without : (b : Bool) → is_again (last_load xs) l ≡ b → without_repeats None (xs ++ Came l ∷ []) ≡ W ++ unless b l
@@ -189,20 +189,20 @@ step xs (Came l) = go (is_again (last_load xs) l) refl
     go true e =
         sym (ap₂ (λ (o : Option Seen) (ys : List Arrival). kept_of o (last_stretch ys)) (last_load-push xs (Came l) ∙ sym (again_told (last_load xs) l e)) (without true e ∙ append-nil W))
     go false e =
-        ap (λ (o : Option Seen). let k : Kept = record { last = Some (seen l); section = open_behind (still_open (is_next o l) (open_section (last_stretch W))) l.piece } in k) (sym (last_load-without xs))
-        ∙ ap (λ (o : Option (List ℕ)). let k : Kept = record { last = Some (seen l); section = open_behind o l.piece } in k) (sym (open_still (is_next (last_load W) l) (last_stretch W)))
-        ∙ ap (λ (o : Option (List ℕ)). let k : Kept = record { last = Some (seen l); section = o } in k) (sym (open_section-push (where_next (is_next (last_load W) l) (last_stretch W)) l.piece))
+        ap (λ (o : Option Seen). let k : PidState = record { last = Some (seen l); section = open_behind (still_open (is_next o l) (open_section (last_stretch W))) l.piece } in k) (sym (last_load-without xs))
+        ∙ ap (λ (o : Option (List ℕ)). let k : PidState = record { last = Some (seen l); section = open_behind o l.piece } in k) (sym (open_still (is_next (last_load W) l) (last_stretch W)))
+        ∙ ap (λ (o : Option (List ℕ)). let k : PidState = record { last = Some (seen l); section = o } in k) (sym (open_section-push (where_next (is_next (last_load W) l) (last_stretch W)) l.piece))
         ∙ sym (ap₂ kept_of (last_load-push xs (Came l)) (ap last_stretch (without false e) ∙ last_stretch-load W l))
 
 steps : (ys xs : List Arrival) → kept_behind (kept_by_all ys) xs ≡ kept_by_all (ys ++ xs)
 steps ys [] = ap kept_by_all (sym (append-nil ys))
-steps ys (x ∷ xs) = ap (λ (k : Kept). kept_behind k xs) (step ys x) ∙ steps (ys ++ x ∷ []) xs ∙ ap kept_by_all (append_assoc ys (x ∷ []) xs)
+steps ys (x ∷ xs) = ap (λ (k : PidState). kept_behind k xs) (step ys x) ∙ steps (ys ++ x ∷ []) xs ∙ ap kept_by_all (append_assoc ys (x ∷ []) xs)
 
 -- What is kept by the definition is what is kept step by step.
-pub keeps_told : (xs : List Arrival) (k : Kept) → Keeps xs k → k ≡ kept_behind nothing xs
-keeps_told xs k h = ap₂ (λ (o : Option Seen) (s : Option (List ℕ)). let j : Kept = record { last = o; section = s } in j) h.last h.section ∙ sym (steps [] xs)
+pub keeps_told : (xs : List Arrival) (k : PidState) → Keeps xs k → k ≡ kept_behind nothing xs
+keeps_told xs k h = ap₂ (λ (o : Option Seen) (s : Option (List ℕ)). let j : PidState = record { last = o; section = s } in j) h.last h.section ∙ sym (steps [] xs)
 
-pub keeps_is : (xs : List Arrival) (k : Kept) → k ≡ kept_behind nothing xs → Keeps xs k
+pub keeps_is : (xs : List Arrival) (k : PidState) → k ≡ kept_behind nothing xs → Keeps xs k
 keeps_is xs k e =
     let f : k ≡ kept_by_all xs = e ∙ steps [] xs in
-    record { last = ap (λ (j : Kept). j.last) f; section = ap (λ (j : Kept). j.section) f }
+    record { last = ap (λ (j : PidState). j.last) f; section = ap (λ (j : PidState). j.section) f }

@@ -9,7 +9,7 @@ use Rattle.ts_packets.specs.declared.shape.BadPacket.TheVariants.{Sync}
 use Rattle.ts_packets.specs.Bytes.{pid_in, shape_in, transport_error_indicator, transport_scrambling_control, adaptation_field_control, adaptation_field_length, payload_unit_start_indicator, continuity_counter}
 use Rattle.ts_demux.specs.Arrivals.{Arrival, load_in, arrival_by, arrival_on, arrivals_on, Arrival.Gap, Arrival.Came}
 use Rattle.ts_demux.specs.Sections.{on_pid, ended_by}
-use Rattle.ts_demux.specs.Keeping.{Kept, nothing, kept_on, Stands}
+use Rattle.ts_demux.specs.Keeping.{PidState, nothing, kept_on, DemuxStandsFor}
 use Rattle.ts_demux.specs.Steps.{given_after, kept_after, kept_behind}
 use Rattle.ts_demux.proofs.Stretches.{kept_behind-push}
 use Rattle.ts_demux.proofs.Keeping.{keeps_told, keeps_is}
@@ -25,16 +25,16 @@ changes past packet q x e =
     sym (ap (kept_behind nothing) (arrivals_on-push q past packet ∙ ap (λ (o : Option Arrival). arrivals_on q past ++ cons_option o []) e) ∙ kept_behind-push nothing (arrivals_on q past) x)
 
 -- a packet that is nothing on any PID
-pub nothing_came : (past : List (List ℕ)) (packet : List ℕ) (slots : List (Option Kept)) → ((q : ℕ) → arrival_on q packet ≡ None) → Stands past slots →
-    (ended_by past packet ≡ []) × Stands (past ++ packet ∷ []) slots
+pub nothing_came : (past : List (List ℕ)) (packet : List ℕ) (slots : List (Option PidState)) → ((q : ℕ) → arrival_on q packet ≡ None) → DemuxStandsFor past slots →
+    (ended_by past packet ≡ []) × DemuxStandsFor (past ++ packet ∷ []) slots
 nothing_came past packet slots none stands = (
   ended_by-is past packet ∙ ap (λ (o : Option Arrival). map (on_pid (pid_in packet)) (adds (pid_in packet) past o)) (none (pid_in packet)),
   λ q lt. keeps_is (arrivals_on q (past ++ packet ∷ [])) (kept_on q slots) (keeps_told (arrivals_on q past) (kept_on q slots) (stands q lt) ∙ stays past packet q (none q)),
 )
 
 -- a packet that arrives on its PID
-pub one_came : (past : List (List ℕ)) (packet : List ℕ) (old new : List (Option Kept)) (pid : ℕ) (x : Arrival) → pid ≡ pid_in packet → pid < 8192 → arrival_on pid packet ≡ Some x
-    → ((q : ℕ) → kept_on q new ≡ (if pid == q then kept_after (kept_on pid old) x else kept_on q old)) → Stands past old → Stands (past ++ packet ∷ []) new
+pub one_came : (past : List (List ℕ)) (packet : List ℕ) (old new : List (Option PidState)) (pid : ℕ) (x : Arrival) → pid ≡ pid_in packet → pid < 8192 → arrival_on pid packet ≡ Some x
+    → ((q : ℕ) → kept_on q new ≡ (if pid == q then kept_after (kept_on pid old) x else kept_on q old)) → DemuxStandsFor past old → DemuxStandsFor (past ++ packet ∷ []) new
 one_came past packet old new pid x its small came after stands q lt = keeps_is (arrivals_on q (past ++ packet ∷ [])) (kept_on q new) (after q ∙ go (pid == q) refl)
   where
     told : (n : ℕ) → n < 8192 → kept_on n old ≡ kept_behind nothing (arrivals_on n past)
@@ -43,13 +43,13 @@ one_came past packet old new pid x its small came after stands q lt = keeps_is (
     go : (b : Bool) → (pid == q) ≡ b → (if b then kept_after (kept_on pid old) x else kept_on q old) ≡ kept_behind nothing (arrivals_on q (past ++ packet ∷ []))
     go false e = told q lt ∙ stays past packet q (elsewhere q packet (ap (λ (n : ℕ). n == q) (sym its) ∙ e))
     go true e =
-        ap (λ (kept : Kept). kept_after kept x) (told pid small) ∙ changes past packet pid x came
+        ap (λ (kept : PidState). kept_after kept x) (told pid small) ∙ changes past packet pid x came
         ∙ ap (λ (n : ℕ). kept_behind nothing (arrivals_on n (past ++ packet ∷ []))) (eqb-true pid q e)
 
-pub one_ended : (past : List (List ℕ)) (packet : List ℕ) (old : List (Option Kept)) (pid : ℕ) (x : Arrival) → pid ≡ pid_in packet → pid < 8192 → arrival_on pid packet ≡ Some x
-    → Stands past old → map (on_pid pid) (given_after (kept_on pid old) x) ≡ ended_by past packet
+pub one_ended : (past : List (List ℕ)) (packet : List ℕ) (old : List (Option PidState)) (pid : ℕ) (x : Arrival) → pid ≡ pid_in packet → pid < 8192 → arrival_on pid packet ≡ Some x
+    → DemuxStandsFor past old → map (on_pid pid) (given_after (kept_on pid old) x) ≡ ended_by past packet
 one_ended past packet old pid x its small came stands =
-    ap (λ (kept : Kept). map (on_pid pid) (given_after kept x)) (keeps_told (arrivals_on pid past) (kept_on pid old) (stands pid small))
+    ap (λ (kept : PidState). map (on_pid pid) (given_after kept x)) (keeps_told (arrivals_on pid past) (kept_on pid old) (stands pid small))
     ∙ ap (λ (o : Option Arrival). map (on_pid pid) (adds pid past o)) (sym came)
     ∙ sym (ended_by-is past packet ∙ ap (λ (n : ℕ). map (on_pid n) (adds n past (arrival_on n packet))) (sym its))
 

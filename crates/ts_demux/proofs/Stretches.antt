@@ -5,16 +5,16 @@ use Rattle.ts_packets.specs.Packets.{Piece}
 use Rattle.ts_packets.specs.Counting.{Load}
 use Rattle.ts_demux.specs.Hearing.{heard}
 use Rattle.ts_demux.specs.Arrivals.{Arrival, Arrival.Gap, Arrival.Came, is_repeat, without_repeats, before_stretches, stretches, heard_of}
-use Rattle.ts_demux.specs.Keeping.{Kept, nothing, seen}
+use Rattle.ts_demux.specs.Keeping.{PidState, nothing, seen}
 use Rattle.ts_demux.specs.Steps.{is_next, still_open, given_by, open_behind, given_after, kept_after, kept_behind}
 use Rattle.ts_demux.proofs.Machine.{machine, machine-is}
 
 -- the sections that these arrivals end, one after the other
-abbrev pub given_all : Kept → List Arrival → List (List ℕ)
+abbrev pub given_all : PidState → List Arrival → List (List ℕ)
 given_all kept [] = []
 given_all kept (x ∷ xs) = given_after kept x ++ given_all (kept_after kept x) xs
 
-abbrev kept_from : Option Load → Option (List ℕ) → Kept
+abbrev kept_from : Option Load → Option (List ℕ) → PidState
 kept_from last o = record { last = option_map seen last; section = o }
 
 abbrev follows : Option Load → Load → Bool
@@ -35,7 +35,7 @@ repeats_out (Some last) o (Came l ∷ xs) = go (is_repeat last l) (repeats_out (
     given : List (List ℕ)
     given = given_by (still_open (follows (Some last) l) o) l.piece
 
-    behind : Kept
+    behind : PidState
     behind = kept_from (Some l) (open_behind (still_open (follows (Some last) l) o) l.piece)
 
     go : (b : Bool) → given_all (kept_from (Some last) o) xs ≡ no_repeats (Some last) o (without_repeats (Some last) xs)
@@ -128,13 +128,13 @@ given_all-is xs = repeats_out None None xs ∙ by_stretches None None (without_r
     none (Came l ∷ xs) = refl
 
 -- one arrival more
-given_all-push : (kept : Kept) (xs : List Arrival) (x : Arrival) → given_all kept (xs ++ x ∷ []) ≡ given_all kept xs ++ given_after (kept_behind kept xs) x
+given_all-push : (kept : PidState) (xs : List Arrival) (x : Arrival) → given_all kept (xs ++ x ∷ []) ≡ given_all kept xs ++ given_after (kept_behind kept xs) x
 given_all-push kept [] x = append-nil (given_after kept x)
 given_all-push kept (y ∷ xs) x =
     ap (λ (z : List (List ℕ)). given_after kept y ++ z) (given_all-push (kept_after kept y) xs x)
     ∙ sym (append_assoc (given_after kept y) (given_all (kept_after kept y) xs) (given_after (kept_behind (kept_after kept y) xs) x))
 
-pub kept_behind-push : (kept : Kept) (xs : List Arrival) (x : Arrival) → kept_behind kept (xs ++ x ∷ []) ≡ kept_after (kept_behind kept xs) x
+pub kept_behind-push : (kept : PidState) (xs : List Arrival) (x : Arrival) → kept_behind kept (xs ++ x ∷ []) ≡ kept_after (kept_behind kept xs) x
 kept_behind-push kept [] x = refl
 kept_behind-push kept (y ∷ xs) x = kept_behind-push (kept_after kept y) xs x
 

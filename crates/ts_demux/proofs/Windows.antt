@@ -3,7 +3,7 @@ use Rattle.std.proofs.Common.{◌≡◌, ℕ, suc, List, [], ◌∷◌, ◌++◌
 use Rattle.std.specs.List.{AllByRecursion}
 use Rattle.si_lists.proofs.Lists.{same_parts}
 use Rattle.ts_demux.specs.Laws.{ended}
-use Rattle.ts_packets.specs.Packets.{Piece, piece_of, left_by, pieces, left, HaveRoom, all_of}
+use Rattle.ts_packets.specs.Packets.{Piece, piece_of, left_by, pieces, left, HaveSectionBytes, all_of}
 use Rattle.ts_demux.specs.Hearing.{IsSection, heard}
 use Rattle.ts_demux.proofs.Heard.{AllSections, heard-pieces}
 
@@ -15,11 +15,11 @@ pub left-append : (rest : List ℕ) (gs hs : List (List (List ℕ))) → left re
 left-append rest [] hs = refl
 left-append rest (g ∷ gs) hs = left-append (left_by rest g) gs hs
 
-pub HaveRoom-front : (rest : List ℕ) (gs hs : List (List (List ℕ))) → HaveRoom rest (gs ++ hs) → HaveRoom rest gs
+pub HaveRoom-front : (rest : List ℕ) (gs hs : List (List (List ℕ))) → HaveSectionBytes rest (gs ++ hs) → HaveSectionBytes rest gs
 HaveRoom-front rest [] hs p = tt
 HaveRoom-front rest (g ∷ gs) hs p = (p.0, HaveRoom-front (left_by rest g) gs hs p.1)
 
-pub HaveRoom-behind : (rest : List ℕ) (gs hs : List (List (List ℕ))) → HaveRoom rest (gs ++ hs) → HaveRoom (left rest gs) hs
+pub HaveRoom-behind : (rest : List ℕ) (gs hs : List (List (List ℕ))) → HaveSectionBytes rest (gs ++ hs) → HaveSectionBytes (left rest gs) hs
 HaveRoom-behind rest [] hs p = p
 HaveRoom-behind rest (g ∷ gs) hs p = HaveRoom-behind (left_by rest g) gs hs p.1
 
@@ -37,7 +37,7 @@ all-behind P (x ∷ xs) ys p = all-behind P xs ys p.1
 
 -- What is heard of any part of the packets: the sections that begin in this part, without the last where it goes on behind it.
 pub heard_part : (before part after : List (List (List ℕ))) (ps qs rs : List Piece)
-    → HaveRoom [] (before ++ (part ++ after)) → AllSections (before ++ (part ++ after))
+    → HaveSectionBytes [] (before ++ (part ++ after)) → AllSections (before ++ (part ++ after))
     → ps ++ (qs ++ rs) ≡ pieces [] (before ++ (part ++ after)) → length ps ≡ length before → length qs ≡ length part
     → (open_left : List ℕ) × (heard qs ≡ ended open_left (all_of part)) × (open_left ≡ left (left [] before) part)
 heard_part before part after ps qs rs room all e l m =

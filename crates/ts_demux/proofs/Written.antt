@@ -4,7 +4,7 @@ use Rattle.std.specs.Prelude.{if◌then◌else◌, option_map}
 use Rattle.std.specs.List.{cons_option, AllByRecursion}
 use Rattle.std.proofs.lemmas.List.Elements.{filter_map-append}
 use Rattle.std.proofs.lemmas.Bool.{eqb-true}
-use Rattle.ts_packets.specs.Packets.{Piece, pieces, left, HaveRoom, all_of}
+use Rattle.ts_packets.specs.Packets.{Piece, pieces, left, HaveSectionBytes, all_of}
 use Rattle.ts_packets.specs.Bytes.{Packet, HasFields, bytes_of_packet}
 use Rattle.ts_packets.specs.Counting.{Load, load_on, loads_on, of_pid, Count}
 use Rattle.ts_packets.proofs.Headers.{reads-written, pid_in-bytes}
@@ -104,7 +104,7 @@ part_is_heard pid small groups room each before after part are on =
     let fronts : length front ≡ end = omega (arith, length-take end groups, ends, all) in
     let first : length A ≡ length one = omega (arith, length-take (length A) front, fronts, ends) in
     let second : length B ≡ length two = omega (arith, length-drop (length A) front, fronts, ends) in
-    let r = heard_part one two three A B C (subst (HaveRoom []) split room) (subst AllSections split (each_group groups each))
+    let r = heard_part one two three A B C (subst (HaveSectionBytes []) split room) (subst AllSections split (each_group groups each))
     (parts ∙ ap (pieces []) split) first second in
     let rest : r.0 ≡ left [] front = r.2 ∙ sym (left-append [] one two) ∙ ap (left []) (take-append-drop (length A) front) in
     heard_written pid small part on ∙ r.1 ∙ ap (λ (x : List ℕ). ended x (all_of two)) rest

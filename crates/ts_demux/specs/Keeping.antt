@@ -16,11 +16,11 @@ abbrev pub seen : Load → Seen
 seen l = record { counter = l.counter; payload = l.piece.payload }
 
 -- the last load, and the first bytes of the section that is open
-pub record Kept : Type 0 where
+pub record PidState : Type 0 where
   pub last : Option Seen
   pub section : Option (List ℕ)
 
-abbrev pub nothing : Kept
+abbrev pub nothing : PidState
 nothing = record { last = None; section = None }
 
 -- ---- the last load
@@ -87,21 +87,21 @@ open_section [] = None
 open_section (p ∷ ps) = if has_start ps then open_section ps else unended_in p (goes_on ps)
 
 -- This is kept of a PID behind these arrivals.
-pub record Keeps (xs : List Arrival) (kept : Kept) : Type 0 where
+pub record Keeps (xs : List Arrival) (kept : PidState) : Type 0 where
   pub last : kept.last ≡ last_load xs
   pub section : kept.section ≡ open_section (last_stretch (without_repeats None xs))
 
 -- ---- the demux
 
-abbrev pub kept_in : Option (Option Kept) → Kept
+abbrev pub kept_in : Option (Option PidState) → PidState
 kept_in (Some (Some kept)) = kept
 kept_in (Some None) = nothing
 kept_in None = nothing
 
 -- what a demux keeps of a PID: what stands at the place of the PID, or nothing
-abbrev pub kept_on : ℕ → List (Option Kept) → Kept
+abbrev pub kept_on : ℕ → List (Option PidState) → PidState
 kept_on pid slots = kept_in (slice_get slots pid)
 
 -- A demux stands for these packets, each by its bytes: of each PID it keeps what is kept behind them.
-abbrev pub Stands : List (List ℕ) → List (Option Kept) → Type 0
-Stands past slots = (pid : ℕ) → pid < 8192 → Keeps (arrivals_on pid past) (kept_on pid slots)
+abbrev pub DemuxStandsFor : List (List ℕ) → List (Option PidState) → Type 0
+DemuxStandsFor past slots = (pid : ℕ) → pid < 8192 → Keeps (arrivals_on pid past) (kept_on pid slots)

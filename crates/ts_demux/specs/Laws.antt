@@ -1,7 +1,7 @@
 -- Laws of hearing.
 use Rattle.std.specs.Prelude.{◌≡◌, ℕ, ◌+◌, ◌<◌, List, [], ◌∷◌, ◌++◌, length, take, drop, map, filter_map}
 use Rattle.std.specs.List.{AllByRecursion}
-use Rattle.ts_packets.specs.Packets.{Piece, pieces, left, HaveRoom, all_of, Carries}
+use Rattle.ts_packets.specs.Packets.{Piece, pieces, left, HaveSectionBytes, all_of, Carries}
 use Rattle.ts_packets.specs.Bytes.{Packet, HasFields, bytes_of_packet}
 use Rattle.ts_packets.specs.Counting.{of_pid, loads_on, Count}
 use Rattle.ts_demux.specs.Hearing.{IsSection}
@@ -39,7 +39,7 @@ PartGoesOn = (pid : ℕ) (before part after : List Packet) → GoOn pid (before 
 -- however densely the sections share packets.
 abbrev pub PartIsHeard : Type 0
 PartIsHeard =
-    (pid : ℕ) → pid < 8191 → (groups : List (List (List ℕ))) → HaveRoom [] groups → AllByRecursion IsSection (all_of groups)
+    (pid : ℕ) → pid < 8191 → (groups : List (List (List ℕ))) → HaveSectionBytes [] groups → AllByRecursion IsSection (all_of groups)
     → (before after : List Piece) (part : List Packet) → before ++ (of_pid pid part ++ after) ≡ pieces [] groups → GoOn pid part
     → sections_on pid (map bytes_of_packet part) ≡ within (length before) (length before + length (of_pid pid part)) groups
 

@@ -4,7 +4,7 @@ use Rattle.ts_packets.specs.Packets.{Piece}
 use Rattle.ts_packets.specs.Counting.{Load}
 use Rattle.ts_demux.specs.Hearing.{size_in, is_whole, begun}
 use Rattle.ts_demux.specs.Arrivals.{Arrival, Arrival.Gap, Arrival.Came}
-use Rattle.ts_demux.specs.Keeping.{Seen, seen, Kept, nothing, is_long}
+use Rattle.ts_demux.specs.Keeping.{Seen, seen, PidState, nothing, is_long}
 
 -- this counter and payload are those of the last load
 abbrev pub is_again_at : Option Seen → ℕ → List ℕ → Bool
@@ -69,17 +69,17 @@ IsOpen (Some bytes) = (is_whole bytes ≡ false) × (is_long bytes ≡ false)
 abbrev pub still_open : Bool → Option (List ℕ) → Option (List ℕ)
 still_open follows o = if follows then o else None
 
-abbrev pub kept_after : Kept → Arrival → Kept
+abbrev pub kept_after : PidState → Arrival → PidState
 kept_after kept Gap = nothing
 kept_after kept (Came l) =
     if is_again kept.last l then kept else record { last = Some (seen l); section = open_behind (still_open (is_next kept.last l) kept.section) l.piece }
 
 -- the sections that an arrival ends
-abbrev pub given_after : Kept → Arrival → List (List ℕ)
+abbrev pub given_after : PidState → Arrival → List (List ℕ)
 given_after kept Gap = []
 given_after kept (Came l) = if is_again kept.last l then [] else given_by (still_open (is_next kept.last l) kept.section) l.piece
 
 -- what is kept of a PID behind these arrivals
-abbrev pub kept_behind : Kept → List Arrival → Kept
+abbrev pub kept_behind : PidState → List Arrival → PidState
 kept_behind kept [] = kept
 kept_behind kept (x ∷ xs) = kept_behind (kept_after kept x) xs

@@ -2,7 +2,7 @@
 ghost use Rattle.std.specs.Prelude.{◌≡◌, ◌++◌, ◌∷◌, [], List, ℕ, Ok, IfOk, OnOk, OnErr};
 ghost use Rattle.ts_packets.specs.Bytes.{shape_in};
 ghost use Rattle.ts_demux.specs.Sections.{ended_by};
-ghost use Rattle.ts_demux.specs.Keeping.{Stands};
+ghost use Rattle.ts_demux.specs.Keeping.{DemuxStandsFor};
 
 use crate::places::Places;
 use crate::section::RawSections;
@@ -23,9 +23,9 @@ pub struct Demux {
 
 impl Model for Demux {
     ghost use Rattle.std.specs.Prelude.{List, Option};
-    ghost use Rattle.ts_demux.specs.Keeping.{Kept};
+    ghost use Rattle.ts_demux.specs.Keeping.{PidState};
 
-    ghost Value = { List (Option Kept) };
+    ghost Value = { List (Option PidState) };
 
     ghost view = { λ d. d.places };
 }
@@ -33,7 +33,7 @@ impl Model for Demux {
 impl Demux {
     /// A demultiplexer that has heard no packet. It takes no memory.
     pub fn open(alloc: Global) -> Demux
-        ensures { Stands [] result }
+        ensures { DemuxStandsFor [] result }
     {
         Demux {
             alloc,
@@ -55,9 +55,9 @@ impl Demux {
     /// can be heard again. Memory is taken where a section begins or ends, and at the first load of a PID.
     pub fn hear(&mut self, packet: &[u8; 188], shape: &Shape) -> Result<RawSections, AllocError>
         requires { shape_in packet.now ≡ Ok shape.now }
-        ensures heard { (past : List (List ℕ)) → Stands past self.old → IfOk result (λ sections. sections ≡ ended_by past packet.now) }
-        ensures stands { (past : List (List ℕ)) → Stands past self.old → OnOk result (Stands (past ++ packet.now ∷ []) self.new) }
-        ensures memory { (past : List (List ℕ)) → Stands past self.old → OnErr result (Stands past self.new) }
+        ensures heard { (past : List (List ℕ)) → DemuxStandsFor past self.old → IfOk result (λ sections. sections ≡ ended_by past packet.now) }
+        ensures stands { (past : List (List ℕ)) → DemuxStandsFor past self.old → OnOk result (DemuxStandsFor (past ++ packet.now ∷ []) self.new) }
+        ensures memory { (past : List (List ℕ)) → DemuxStandsFor past self.old → OnErr result (DemuxStandsFor past self.new) }
     {
         match *shape {
             Shape::Pass => Ok(Items::new(self.alloc)),

@@ -6,7 +6,7 @@ ghost use Rattle.ts_demux.specs.Keeping.{nothing, kept_on};
 ghost use Rattle.ts_demux.specs.Steps.{kept_after, given_after};
 
 use crate::section::RawSections;
-use crate::slot::{LoadShape, Slot};
+use crate::slot::{LoadShape, PidSlot};
 use std::alloc::{AllocError, Global};
 use std::marker::Model;
 
@@ -14,14 +14,14 @@ use std::marker::Model;
 // of its PID.
 #[derive(Drop)]
 pub(crate) struct Places {
-    slots: Vec<Option<Box<Slot>>>,
+    slots: Vec<Option<Box<PidSlot>>>,
 }
 
 impl Model for Places {
     ghost use Rattle.std.specs.Prelude.{List, Option, option_map, map};
-    ghost use Rattle.ts_demux.specs.Keeping.{Kept};
+    ghost use Rattle.ts_demux.specs.Keeping.{PidState};
 
-    ghost Value = { List (Option Kept) };
+    ghost Value = { List (Option PidState) };
 
     ghost view = { λ p. map (option_map (λ slot. slot.value)) p.slots.items };
 }
@@ -67,7 +67,7 @@ impl Places {
     }
 
     // Takes out what is kept of a PID. Want of memory leaves what is kept.
-    fn take_slot(&mut self, alloc: Global, pid: u16) -> Result<Box<Slot>, AllocError>
+    fn take_slot(&mut self, alloc: Global, pid: u16) -> Result<Box<PidSlot>, AllocError>
         requires place { pid < length self.old }
         ensures slot { IfOk result (λ slot. slot.value ≡ kept_on pid self.old) }
         ensures places { length self.new ≡ length self.old }
@@ -76,12 +76,12 @@ impl Places {
     {
         match self.slots[usize::from(pid)].take() {
             Some(slot) => Ok(slot),
-            None => Ok(Box::new(alloc, Slot::empty())?),
+            None => Ok(Box::new(alloc, PidSlot::empty())?),
         }
     }
 
     // Puts in what is to be kept of a PID.
-    fn put_slot(&mut self, pid: u16, slot: Box<Slot>)
+    fn put_slot(&mut self, pid: u16, slot: Box<PidSlot>)
         requires place { pid < length self.old }
         ensures { (q : ℕ) → kept_on q self.new ≡ (if pid == q then slot.value else kept_on q self.old) }
     {

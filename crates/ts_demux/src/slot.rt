@@ -32,29 +32,29 @@ pub(crate) struct LastLoad {
 
 // What is kept of a PID: its last load, and the first bytes of the section that is open.
 #[derive(Drop)]
-pub(crate) struct Slot {
+pub(crate) struct PidSlot {
     last: Option<LastLoad>,
     section: Option<Bytes>,
 }
 
-impl Model for Slot {
+impl Model for PidSlot {
     ghost use Rattle.std.specs.Prelude.{option_map, drop};
-    ghost use Rattle.ts_demux.specs.Keeping.{Kept};
+    ghost use Rattle.ts_demux.specs.Keeping.{PidState};
     ghost use Rattle.ts_demux.specs.Steps.{IsOpen};
 
-    ghost Value = { Kept };
+    ghost Value = { PidState };
 
     ghost view = { λ s. record { last = option_map (λ l. record { counter = l.counter; payload = drop l.at l.packet }) s.last; section = s.section } };
 
     ghost invariant = { λ s. IsOpen s.section };
 }
 
-impl Slot {
+impl PidSlot {
     // Nothing is kept.
-    pub(crate) fn empty() -> Slot
+    pub(crate) fn empty() -> PidSlot
         ensures { result ≡ nothing }
     {
-        Slot {
+        PidSlot {
             last: None,
             section: None,
         }

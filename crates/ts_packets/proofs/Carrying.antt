@@ -5,7 +5,7 @@ use Rattle.std.specs.List.{AllByRecursion}
 use Rattle.ts_packets.proofs.Filling.{length-payload}
 use Rattle.std.proofs.lemmas.List.{drop-drop}
 use Rattle.std.proofs.lemmas.List.Concat.{flat_map-append}
-use Rattle.ts_packets.specs.Packets.{Piece, IsWhole, joined, piece_of, left_by, pieces, left, HaveRoom, all_of, Carries, all_useful, goes_alone, alone, packets_of}
+use Rattle.ts_packets.specs.Packets.{Piece, IsWhole, joined, piece_of, left_by, pieces, left, HaveSectionBytes, all_of, Carries, all_useful, goes_alone, alone, packets_of}
 
 pub pieces-append : (rest : List ℕ) (gs hs : List (List (List ℕ))) → pieces rest (gs ++ hs) ≡ pieces rest gs ++ pieces (left rest gs) hs
 pieces-append rest [] hs = refl
@@ -15,7 +15,7 @@ pub left-append : (rest : List ℕ) (gs hs : List (List (List ℕ))) → left re
 left-append rest [] hs = refl
 left-append rest (g ∷ gs) hs = left-append (left_by rest g) gs hs
 
-pub HaveRoom-append : (rest : List ℕ) (gs hs : List (List (List ℕ))) → HaveRoom rest gs → HaveRoom (left rest gs) hs → HaveRoom rest (gs ++ hs)
+pub HaveRoom-append : (rest : List ℕ) (gs hs : List (List (List ℕ))) → HaveSectionBytes rest gs → HaveSectionBytes (left rest gs) hs → HaveSectionBytes rest (gs ++ hs)
 HaveRoom-append rest [] hs p q = q
 HaveRoom-append rest (g ∷ gs) hs p q = (p.0, HaveRoom-append (left_by rest g) gs hs p.1 q)
 
@@ -31,7 +31,7 @@ Carries-none = record { groups = []; are = refl; have_room = tt; sections = refl
 pub Carries-nothing : (ps : List Piece) → Carries ps [] → ps ≡ []
 Carries-nothing ps c = c.are ∙ ap (pieces []) (no_group c.groups c.have_room c.sections)
   where
-    no_group : (groups : List (List (List ℕ))) → HaveRoom [] groups → [] ≡ all_of groups → groups ≡ []
+    no_group : (groups : List (List (List ℕ))) → HaveSectionBytes [] groups → [] ≡ all_of groups → groups ≡ []
     no_group [] room e = refl
     no_group ([] ∷ groups) room e = absurd (let none : 0 < 0 = room.0 in omega arith)
     no_group ((s ∷ ss) ∷ groups) room e = cc
@@ -49,7 +49,7 @@ pub Carries-append : (ps qs : List Piece) (ss ts : List (List ℕ)) → Carries 
 Carries-append ps qs ss ts a b = record {
   groups = a.groups ++ b.groups;
   are = ap₂ (λ (x y : List Piece). x ++ y) a.are (b.are ∙ ap (λ (r : List ℕ). pieces r b.groups) (sym a.ended)) ∙ sym (pieces-append [] a.groups b.groups);
-  have_room = HaveRoom-append [] a.groups b.groups a.have_room (subst (λ (r : List ℕ). HaveRoom r b.groups) (sym a.ended) b.have_room);
+  have_room = HaveRoom-append [] a.groups b.groups a.have_room (subst (λ (r : List ℕ). HaveSectionBytes r b.groups) (sym a.ended) b.have_room);
   sections = ap₂ (λ (x y : List (List ℕ)). x ++ y) a.sections b.sections ∙ sym (flat_map-append (λ (g : List (List ℕ)). g) a.groups b.groups);
   ended = left-append [] a.groups b.groups ∙ ap (λ (r : List ℕ). left r b.groups) a.ended ∙ b.ended;
 }
@@ -66,7 +66,7 @@ joined_useful rest ((s ∷ ss) ∷ groups) e =
     ∙ ap (λ (x : List ℕ). x ++ joined (all_of groups)) (take-append-drop 183 J)
     ∙ append_assoc rest (joined (s ∷ ss)) (joined (all_of groups)) ∙ ap (λ (x : List ℕ). rest ++ x) (sym (flat_map-append (λ (x : List ℕ). x) (s ∷ ss) (all_of groups)))
 
-goes_alone-fits : (n : ℕ) (rest : List ℕ) → length rest ≤ n → HaveRoom rest (goes_alone n rest) × (left rest (goes_alone n rest) ≡ [])
+goes_alone-fits : (n : ℕ) (rest : List ℕ) → length rest ≤ n → HaveSectionBytes rest (goes_alone n rest) × (left rest (goes_alone n rest) ≡ [])
 goes_alone-fits zero [] h = (tt, refl)
 goes_alone-fits zero (b ∷ rest) h = absurd (omega arith)
 goes_alone-fits (suc n) [] h = (tt, refl)
@@ -78,11 +78,11 @@ goes_alone-fits (suc n) (b ∷ rest) h =
 behind_first : (s : List ℕ) → left_by [] (s ∷ []) ≡ drop 183 s
 behind_first s = ap (drop 183) (append-nil s)
 
-alone-fits : (s : List ℕ) → HaveRoom [] (alone s) × (left [] (alone s) ≡ [])
+alone-fits : (s : List ℕ) → HaveSectionBytes [] (alone s) × (left [] (alone s) ≡ [])
 alone-fits s =
     let r = goes_alone-fits (length s) (drop 183 s) (omega (arith, length-drop 183 s)) in
     let small : 0 < 183 = omega arith in (
-      ((small, tt), subst (λ (x : List ℕ). HaveRoom x (goes_alone (length s) (drop 183 s))) (sym (behind_first s)) r.0),
+      ((small, tt), subst (λ (x : List ℕ). HaveSectionBytes x (goes_alone (length s) (drop 183 s))) (sym (behind_first s)) r.0),
       ap (λ (x : List ℕ). left x (goes_alone (length s) (drop 183 s))) (behind_first s) ∙ r.1,
     )
 

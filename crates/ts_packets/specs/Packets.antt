@@ -35,9 +35,9 @@ Begin n [] = Unit {0}
 Begin n (s ∷ ss) = (n < 183) × Begin (n + length s) ss
 
 -- a packet has a byte of some section
-abbrev pub HasRoom : List ℕ → List (List ℕ) → Type 0
-HasRoom rest [] = 0 < length rest
-HasRoom rest (s ∷ ss) = Begin (length rest) (s ∷ ss)
+abbrev pub HasSectionByte : List ℕ → List (List ℕ) → Type 0
+HasSectionByte rest [] = 0 < length rest
+HasSectionByte rest (s ∷ ss) = Begin (length rest) (s ∷ ss)
 
 -- a group for each packet: the sections that begin in it
 abbrev pub pieces : List ℕ → List (List (List ℕ)) → List Piece
@@ -48,9 +48,9 @@ abbrev pub left : List ℕ → List (List (List ℕ)) → List ℕ
 left rest [] = rest
 left rest (group ∷ groups) = left (left_by rest group) groups
 
-abbrev pub HaveRoom : List ℕ → List (List (List ℕ)) → Type 0
-HaveRoom rest [] = Unit {0}
-HaveRoom rest (group ∷ groups) = HasRoom rest group × HaveRoom (left_by rest group) groups
+abbrev pub HaveSectionBytes : List ℕ → List (List (List ℕ)) → Type 0
+HaveSectionBytes rest [] = Unit {0}
+HaveSectionBytes rest (group ∷ groups) = HasSectionByte rest group × HaveSectionBytes (left_by rest group) groups
 
 abbrev pub all_of : List (List (List ℕ)) → List (List ℕ)
 all_of groups = flat_map (λ (group : List (List ℕ)). group) groups
@@ -59,7 +59,7 @@ all_of groups = flat_map (λ (group : List (List ℕ)). group) groups
 pub record Carries (ps : List Piece) (ss : List (List ℕ)) : Type 0 where
   pub groups : List (List (List ℕ))
   pub are : ps ≡ pieces [] groups
-  pub have_room : HaveRoom [] groups
+  pub have_room : HaveSectionBytes [] groups
   pub sections : ss ≡ all_of groups
   pub ended : left [] groups ≡ []
 

@@ -21,7 +21,7 @@ pub record Knowledge (E G : Type 0) : Type 0 where
   pub on : Option G
 
 -- What a receipt tells: the turns that it is of, what was seen, and what the state stands on.
-pub record Told (E G : Type 0) : Type 0 where
+pub record ReceiptTells (E G : Type 0) : Type 0 where
   pub turns : TableId
   pub seen : List E
   pub on : Option G
@@ -44,7 +44,7 @@ abbrev pub upper_part : {E G : Type 0} → Knowledge E G → ℕ → Knowledge E
 upper_part v span = record v { own = record { low = v.own.low + (v.own.span - span); span = span; made = [] }; finished = [] }
 
 -- receipt: what the pass has seen
-abbrev pub token : {E G : Type 0} → Knowledge E G → Told E G
+abbrev pub token : {E G : Type 0} → Knowledge E G → ReceiptTells E G
 token v = record { turns = v.turns; seen = v.seen; on = v.on }
 
 -- the longer of two lists
@@ -56,7 +56,7 @@ abbrev pub joined : {E G : Type 0} → Knowledge E G → Knowledge E G → Knowl
 joined v w = record v { seen = longer v.seen w.seen; finished = v.finished ++ w.own ∷ w.finished }
 
 -- learn: the pass has seen the longer list
-abbrev pub told : {E G : Type 0} → Knowledge E G → Told E G → Knowledge E G
+abbrev pub told : {E G : Type 0} → Knowledge E G → ReceiptTells E G → Knowledge E G
 told v w = record v { seen = longer v.seen w.seen }
 
 -- k is a number of the caller

@@ -37,7 +37,7 @@ impl<S: Chronicle> Model for Pass<S> {
 
 /// A token of what a pass had seen when it was made. It has no number.
 ///
-/// Contracts see it as `Told`. It may go to another thread, and dropping it loses nothing.
+/// Contracts see it as `ReceiptTells`. It may go to another thread, and dropping it loses nothing.
 #[derive(Drop)]
 pub struct Receipt<S: Chronicle> {
     pub(crate) seat: Seat<Option<S>, Known<S::Entry, S::Ground>>,
@@ -45,9 +45,9 @@ pub struct Receipt<S: Chronicle> {
 
 impl<S: Chronicle> Model for Receipt<S> {
     ghost use Rattle.std.specs.Prelude.{◌≡◌, [], false};
-    ghost use Rattle.turn_lock.specs.Knowledge.{Told, first_of};
+    ghost use Rattle.turn_lock.specs.Knowledge.{ReceiptTells, first_of};
 
-    ghost Value = { Told S.Entry S.Ground };
+    ghost Value = { ReceiptTells S.Entry S.Ground };
 
     ghost view = { λ p. record { turns = p.seat.table_id; seen = p.seat.me.0.seen; on = first_of p.seat.me.0.on } };
 

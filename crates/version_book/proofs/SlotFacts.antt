@@ -15,15 +15,15 @@ use Rattle.section_codec.specs.declared.table.SubTable.{SubTable}
 use Rattle.section_codec.specs.KeyOrder.{is_key, key_cmp}
 use Rattle.section_codec.specs.SubTables.{Lacks, KeysDiffer}
 use Rattle.section_codec.specs.Contents.{Content, is_content}
-use Rattle.version_book.specs.Book.{Kept, kept_in}
+use Rattle.version_book.specs.Book.{GivenVersion, given_in}
 use Rattle.section_codec.proofs.SameContent.{is_content-same}
 use Rattle.section_codec.proofs.KeyOrderFacts.{is_key-same, is_key-itself, is_key-apart, key_ties}
 use Rattle.version_book.specs.Slots.{kept_by, with_kept, shown, held_in, next_version, changed_content, given_after}
-use Rattle.version_book.specs.declared.held.Held.{Held}
+use Rattle.version_book.specs.declared.key_version.KeyVersion.{KeyVersion}
 
 -- ---- an empty slot does not show
 
-pub shown-insert : (cmp : Key → Key → Ordering) (k : Key) (es : List (Key × Option Held)) → is_some (lookup (is_at (cmp k)) es) ≡ false → shown (insert_entry cmp es k None) ≡ shown es
+pub shown-insert : (cmp : Key → Key → Ordering) (k : Key) (es : List (Key × Option KeyVersion)) → is_some (lookup (is_at (cmp k)) es) ≡ false → shown (insert_entry cmp es k None) ≡ shown es
 shown-insert cmp k [] absent = refl
 shown-insert cmp k (e ∷ es) absent = go (cmp k e.0) absent (λ later. shown-insert cmp k es later)
   where
@@ -36,20 +36,20 @@ shown-insert cmp k (e ∷ es) absent = go (cmp k e.0) absent (λ later. shown-in
 -- ---- what the slots show is what they hold, where the keys ascend
 
 -- no key above k is k
-none_above : (cmp : Key → Key → Ordering) → ((a b : Key) → is_key a b ≡ is_eq (cmp a b)) → (k : Key) (es : List (Key × Option Held))
-    → AllByRecursion (λ y. cmp k y ≡ Less) (keys_of es) → kept_in k (shown es) ≡ None
+none_above : (cmp : Key → Key → Ordering) → ((a b : Key) → is_key a b ≡ is_eq (cmp a b)) → (k : Key) (es : List (Key × Option KeyVersion))
+    → AllByRecursion (λ y. cmp k y ≡ Less) (keys_of es) → given_in k (shown es) ≡ None
 none_above cmp ties k [] above = refl
 none_above cmp ties k (e ∷ es) above = go e.1 (none_above cmp ties k es above.1)
   where
     other : is_key k e.0 ≡ false
     other = ties k e.0 ∙ ap is_eq above.0
 
-    go : (o : Option Held) → kept_in k (shown es) ≡ None → kept_in k (with_kept e.0 o (shown es)) ≡ None
+    go : (o : Option KeyVersion) → given_in k (shown es) ≡ None → given_in k (with_kept e.0 o (shown es)) ≡ None
     go None rest = rest
-    go (Some held) rest = ap (λ (b : Bool). if b then Some (kept_by held) else kept_in k (shown es)) other ∙ rest
+    go (Some held) rest = ap (λ (b : Bool). if b then Some (kept_by held) else given_in k (shown es)) other ∙ rest
 
-kept_in-shown_by : (cmp : Key → Key → Ordering) → ((a b : Key) → is_key a b ≡ is_eq (cmp a b)) → (k : Key) (es : List (Key × Option Held))
-    → IsStrictlySortedBy cmp (keys_of es) → kept_in k (shown es) ≡ option_map kept_by (held_in (lookup (is_at (cmp k)) es))
+kept_in-shown_by : (cmp : Key → Key → Ordering) → ((a b : Key) → is_key a b ≡ is_eq (cmp a b)) → (k : Key) (es : List (Key × Option KeyVersion))
+    → IsStrictlySortedBy cmp (keys_of es) → given_in k (shown es) ≡ option_map kept_by (held_in (lookup (is_at (cmp k)) es))
 kept_in-shown_by cmp ties k [] sorted = refl
 kept_in-shown_by cmp ties k (e ∷ es) sorted =
     go (is_key k e.0) refl (is_eq (cmp k e.0)) (sym (ties k e.0)) e.1 (kept_in-shown_by cmp ties k es (sorted_tail cmp e.0 (keys_of es) sorted))
@@ -57,18 +57,18 @@ kept_in-shown_by cmp ties k (e ∷ es) sorted =
     above : AllByRecursion (λ y. cmp e.0 y ≡ Less) (keys_of es)
     above = sorted_head cmp e.0 (keys_of es) sorted
 
-    go : (b : Bool) → is_key k e.0 ≡ b → (d : Bool) → d ≡ is_key k e.0 → (o : Option Held) → kept_in k (shown es) ≡ option_map kept_by (held_in (lookup (is_at (cmp k)) es))
-        → kept_in k (with_kept e.0 o (shown es)) ≡ option_map kept_by (held_in (cond d (Some o) (lookup (is_at (cmp k)) es)))
+    go : (b : Bool) → is_key k e.0 ≡ b → (d : Bool) → d ≡ is_key k e.0 → (o : Option KeyVersion) → given_in k (shown es) ≡ option_map kept_by (held_in (lookup (is_at (cmp k)) es))
+        → given_in k (with_kept e.0 o (shown es)) ≡ option_map kept_by (held_in (cond d (Some o) (lookup (is_at (cmp k)) es)))
     go true same true f None rec =
         let one : k ≡ e.0 = is_key-same k e.0 same in
-        ap (λ (q : Key). kept_in q (shown es)) one ∙ none_above cmp ties e.0 es above
-    go true same true f (Some held) rec = ap (λ (b : Bool). if b then Some (kept_by held) else kept_in k (shown es)) same
+        ap (λ (q : Key). given_in q (shown es)) one ∙ none_above cmp ties e.0 es above
+    go true same true f (Some held) rec = ap (λ (b : Bool). if b then Some (kept_by held) else given_in k (shown es)) same
     go true same false f o rec = cc
     go false other true f o rec = cc
     go false other false f None rec = rec
-    go false other false f (Some held) rec = ap (λ (b : Bool). if b then Some (kept_by held) else kept_in k (shown es)) other ∙ rec
+    go false other false f (Some held) rec = ap (λ (b : Bool). if b then Some (kept_by held) else given_in k (shown es)) other ∙ rec
 
-pub kept_in-shown : (k : Key) (es : List (Key × Option Held)) → IsStrictlySortedBy key_cmp (keys_of es) → kept_in k (shown es) ≡ option_map kept_by (held_in (lookup (is_at (key_cmp k)) es))
+pub kept_in-shown : (k : Key) (es : List (Key × Option KeyVersion)) → IsStrictlySortedBy key_cmp (keys_of es) → given_in k (shown es) ≡ option_map kept_by (held_in (lookup (is_at (key_cmp k)) es))
 kept_in-shown k es sorted = kept_in-shown_by key_cmp key_ties k es sorted
 
 -- ---- given to the slots
@@ -85,37 +85,37 @@ is_key-turned a b = go (is_key a b) refl (is_key b a) refl
     go false e false f = e ∙ sym f
 
 -- a key that these sub-tables lack keeps what it had
-given_after-lacks : (f : Key → Option Kept) (ts : List SubTable) (k : Key) → Lacks k ts → given_after f ts k ≡ f k
+given_after-lacks : (f : Key → Option GivenVersion) (ts : List SubTable) (k : Key) → Lacks k ts → given_after f ts k ≡ f k
 given_after-lacks f [] k lacks = refl
 given_after-lacks f (t ∷ ts) k lacks =
     ap (λ (b : Bool). if b then Some (record { version = next_version (f t.key) t.sections; content = t.sections }) else given_after f ts k) (is_key-apart k t.key lacks.0)
     ∙ given_after-lacks f ts k lacks.1
 
 -- what a slot is given: nothing where the content is the last one
-abbrev pub filled_by : Key → ℕ → Option Content → (Key → Option Kept) → Key → Option Kept
+abbrev pub filled_by : Key → ℕ → Option Content → (Key → Option GivenVersion) → Key → Option GivenVersion
 filled_by k version None old q = old q
 filled_by k version (Some content) old q = if is_key k q then Some (record { version = version; content = content }) else old q
 
-same_kept : (kept : Kept) (content : Content) → kept.content ≡ content → kept ≡ record { version = kept.version; content = content }
+same_kept : (kept : GivenVersion) (content : Content) → kept.content ≡ content → kept ≡ record { version = kept.version; content = content }
 same_kept kept content e = λ i. record { version = kept.version; content = e i }
 
 -- One sub-table more is given, from the last to the first.
-module _ (f : Key → Option Kept) (t : SubTable) (ts : List SubTable) (old : Key → Option Kept) (before : (q : Key) → old q ≡ given_after f ts q) (lacks : Lacks t.key ts) (q : Key) where
-  written : (x : Kept) → (if is_key t.key q then Some x else old q) ≡ (if is_key q t.key then Some x else given_after f ts q)
+module _ (f : Key → Option GivenVersion) (t : SubTable) (ts : List SubTable) (old : Key → Option GivenVersion) (before : (q : Key) → old q ≡ given_after f ts q) (lacks : Lacks t.key ts) (q : Key) where
+  written : (x : GivenVersion) → (if is_key t.key q then Some x else old q) ≡ (if is_key q t.key then Some x else given_after f ts q)
   written x =
       ap (λ (b : Bool). if b then Some x else old q) (is_key-turned t.key q)
-      ∙ ap (λ (o : Option Kept). if is_key q t.key then Some x else o) (before q)
+      ∙ ap (λ (o : Option GivenVersion). if is_key q t.key then Some x else o) (before q)
 
-  stays : (kept : Kept) → f t.key ≡ Some kept → kept.content ≡ t.sections
+  stays : (kept : GivenVersion) → f t.key ≡ Some kept → kept.content ≡ t.sections
       → old q ≡ (if is_key q t.key then Some (record { version = kept.version; content = t.sections }) else given_after f ts q)
   stays kept e same = go (is_key q t.key) refl
     where
       go : (b : Bool) → is_key q t.key ≡ b → old q ≡ (if b then Some (record { version = kept.version; content = t.sections }) else given_after f ts q)
       go true one =
-          before q ∙ ap (given_after f ts) (is_key-same q t.key one) ∙ given_after-lacks f ts t.key lacks ∙ e ∙ ap (λ (x : Kept). Some x) (same_kept kept t.sections same)
+          before q ∙ ap (given_after f ts) (is_key-same q t.key one) ∙ given_after-lacks f ts t.key lacks ∙ e ∙ ap (λ (x : GivenVersion). Some x) (same_kept kept t.sections same)
       go false other = before q
 
-  given_of : (o : Option Kept) → f t.key ≡ o
+  given_of : (o : Option GivenVersion) → f t.key ≡ o
       → filled_by t.key (next_version o t.sections) (changed_content o t.sections) old q ≡ (if is_key q t.key then Some (record { version = next_version o t.sections; content = t.sections }) else given_after f ts q)
   given_of None e = written (record { version = 0; content = t.sections })
   given_of (Some kept) e = go (is_content kept.content t.sections) refl
@@ -142,7 +142,7 @@ at_place (t ∷ ts) zero lt = (t, refl)
 at_place (t ∷ ts) (suc n) lt = at_place ts n (omega arith)
 
 -- the change that was planned for the sub-table at place n is made
-pub given_turn : (f : Key → Option Kept) (ts : List SubTable) (n : ℕ) (t : SubTable) (old : Key → Option Kept) (change : Option Content) (version : ℕ)
+pub given_turn : (f : Key → Option GivenVersion) (ts : List SubTable) (n : ℕ) (t : SubTable) (old : Key → Option GivenVersion) (change : Option Content) (version : ℕ)
     → n < length ts → t ≡ get_or ts n t → KeysDiffer ts → ((q : Key) → old q ≡ given_after f (drop (n + 1) ts) q)
     → change ≡ get_or (map (λ (x : SubTable). changed_content (f x.key) x.sections) ts) n change → version ≡ next_version (f t.key) t.sections
     → (q : Key) → filled_by t.key version change old q ≡ given_after f (drop n ts) q
@@ -158,9 +158,9 @@ given_turn f ts n t old change version lt at differ before planned counted q =
     ∙ ap (λ (x : List SubTable). given_after f x q) (sym e)
 
 -- what is kept where a slot is filled
-pub put_kept : (held : Held) (b : Bool) (new old : Option (Option Held)) → new ≡ (if b then Some (Some held) else old)
+pub put_kept : (held : KeyVersion) (b : Bool) (new old : Option (Option KeyVersion)) → new ≡ (if b then Some (Some held) else old)
     → option_map kept_by (held_in new) ≡ (if b then Some (kept_by held) else option_map kept_by (held_in old))
-put_kept held b new old e = ap (λ (o : Option (Option Held)). option_map kept_by (held_in o)) e ∙ go b
+put_kept held b new old e = ap (λ (o : Option (Option KeyVersion)). option_map kept_by (held_in o)) e ∙ go b
   where
     go : (b : Bool) → option_map kept_by (held_in (if b then Some (Some held) else old)) ≡ (if b then Some (kept_by held) else option_map kept_by (held_in old))
     go true = refl

@@ -7,18 +7,18 @@ use Rattle.section_codec.specs.Contents.{Content}
 use Rattle.version_book.specs.Airings.{CycleForm, Airing, carried, changes_after, version_at}
 
 -- the version and the content that a key was last given
-pub record Kept : Type 0 where
+pub record GivenVersion : Type 0 where
   pub version : ℕ
   pub content : Content
 
 -- each key that was ever carried, with what is kept of it
-abbrev pub KeptKeys : Type 0
-KeptKeys = List (Key × Kept)
+abbrev pub GivenVersions : Type 0
+GivenVersions = List (Key × GivenVersion)
 
 -- what is kept of a key
-abbrev pub kept_in : Key → KeptKeys → Option Kept
-kept_in k [] = None
-kept_in k (entry ∷ entries) = if is_key k entry.0 then Some entry.1 else kept_in k entries
+abbrev pub given_in : Key → GivenVersions → Option GivenVersion
+given_in k [] = None
+given_in k (entry ∷ entries) = if is_key k entry.0 then Some entry.1 else given_in k entries
 
 -- the last of c and these contents
 abbrev pub last_of : Content → List Content → Content
@@ -26,13 +26,13 @@ last_of c [] = c
 last_of c (d ∷ ds) = last_of d ds
 
 -- what is to be kept of a key that carried these contents: the last of them, with its version
-abbrev pub kept_after : List Content → Option Kept
-kept_after [] = None
-kept_after (c ∷ cs) = Some (record { version = changes_after c cs % 32; content = last_of c cs })
+abbrev pub given_after : List Content → Option GivenVersion
+given_after [] = None
+given_after (c ∷ cs) = Some (record { version = changes_after c cs % 32; content = last_of c cs })
 
 -- The book stands for these airings: it keeps of each key what they carried last.
-abbrev pub Stands : List Airing → KeptKeys → Type 0
-Stands past book = (k : Key) → kept_in k book ≡ kept_after (carried k past)
+abbrev pub BookStandsFor : List Airing → GivenVersions → Type 0
+BookStandsFor past book = (k : Key) → given_in k book ≡ given_after (carried k past)
 
 -- these sub-tables, aired at a moment in a cycle of this form
 abbrev pub aired : List SubTable → ℕ → CycleForm → Airing

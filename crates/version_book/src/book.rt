@@ -5,12 +5,12 @@ ghost use Rattle.section_codec.specs.KeyOrder.{is_key, key_cmp};
 ghost use Rattle.version_book.specs.Airings.{Airing, CycleForm};
 ghost use Rattle.section_codec.specs.SubTables.{KeysDiffer};
 ghost use Rattle.section_codec.specs.declared.table.Key.{Key};
-ghost use Rattle.version_book.specs.Book.{Stands, aired, versions_of};
+ghost use Rattle.version_book.specs.Book.{BookStandsFor, aired, versions_of};
 ghost use Rattle.version_book.specs.Laws.{NeighboursAgree, AnotherBetween};
 ghost use Rattle.version_book.specs.Slots.{kept_by, held_at, kept_at, shown, next_version, changed_content, version_given, content_given, HasSlot, given_after};
 
 use crate::content::copy;
-use crate::held::{Held, Slots};
+use crate::key_version::{KeyVersion, KeyVersions};
 use section_codec::{Key, NumberedBodies, NumberedBody, SubTable, Tables, same_content};
 use si_base::{Bytes, Items};
 use std::alloc::{AllocError, Global};
@@ -23,16 +23,16 @@ use std::marker::Model;
 #[derive(Drop)]
 pub struct VersionBook {
     alloc: Global,
-    slots: Slots,
+    slots: KeyVersions,
 }
 
 impl Model for VersionBook {
     ghost use Rattle.section_codec.specs.KeyOrder.{key_cmp};
     ghost use Rattle.std.specs.BTreeMap.{IsOrdered};
-    ghost use Rattle.version_book.specs.Book.{KeptKeys};
+    ghost use Rattle.version_book.specs.Book.{GivenVersions};
     ghost use Rattle.version_book.specs.Slots.{shown};
 
-    ghost Value = { KeptKeys };
+    ghost Value = { GivenVersions };
 
     ghost view = { λ b. shown b.slots.entries };
 
@@ -43,7 +43,7 @@ impl VersionBook {
     /// A book that stands for no airing. It takes no memory.
     pub fn open(alloc: Global) -> VersionBook
         ensures none { result ≡ [] }
-        ensures stands { Stands [] result }
+        ensures stands { BookStandsFor [] result }
     {
         VersionBook {
             alloc,
@@ -58,10 +58,10 @@ impl VersionBook {
     /// memory is wanting, the book stays as it was.
     pub fn assign(&mut self, tables: &Tables) -> Result<Bytes, AllocError>
         requires { KeysDiffer tables.now.list }
-        ensures versions { IfOk result (λ versions. (past : List Airing) (moment : ℕ) (form : CycleForm) → Stands past self.old
+        ensures versions { IfOk result (λ versions. (past : List Airing) (moment : ℕ) (form : CycleForm) → BookStandsFor past self.old
             → versions ≡ versions_of past tables.now.list moment form) }
-        ensures stands { OnOk result ((past : List Airing) (moment : ℕ) (form : CycleForm) → Stands past self.old
-            → Stands (past ++ aired tables.now.list moment form ∷ []) self.new) }
+        ensures stands { OnOk result ((past : List Airing) (moment : ℕ) (form : CycleForm) → BookStandsFor past self.old
+            → BookStandsFor (past ++ aired tables.now.list moment form ∷ []) self.new) }
         ensures small { IfOk result (λ versions. All (λ v. v < 32) versions) }
         ensures memory { OnErr result (self.new ≡ self.old) }
     {
@@ -73,7 +73,7 @@ impl VersionBook {
 }
 
 // What is held of a key.
-fn held_of(slots: &Slots, key: Key) -> Option<&Held>
+fn held_of(slots: &KeyVersions, key: Key) -> Option<&KeyVersion>
     ensures { option_copied result ≡ held_at slots.now key }
 {
     match slots.get(&key) {
@@ -85,7 +85,7 @@ fn held_of(slots: &Slots, key: Key) -> Option<&Held>
 // The version of the next content of a key, and the content to be held where it is not the last one.
 fn next(
     alloc: Global,
-    held: Option<&Held>,
+    held: Option<&KeyVersion>,
     content: &[NumberedBody],
 ) -> Result<(u8, Option<NumberedBodies>), AllocError>
     ensures version { IfOk result (λ next. next.0 ≡ next_version (option_map kept_by (option_copied held.entry)) content.now) }
@@ -100,7 +100,7 @@ fn next(
 }
 
 // Makes a slot for a key that has none.
-fn make_slot(slots: &mut Slots, key: Key) -> Result<(), AllocError>
+fn make_slot(slots: &mut KeyVersions, key: Key) -> Result<(), AllocError>
     requires { IsOrdered key_cmp slots.old }
     ensures made { OnOk result (IsSome (get key_cmp slots.new key)) }
     ensures stay { (q : Key) → IsSome (get key_cmp slots.old q) → IsSome (get key_cmp slots.new q) }
@@ -115,7 +115,7 @@ fn make_slot(slots: &mut Slots, key: Key) -> Result<(), AllocError>
 }
 
 // Fills the slot of a key. It takes no memory.
-fn fill(slots: &mut Slots, key: Key, held: Held)
+fn fill(slots: &mut KeyVersions, key: Key, held: KeyVersion)
     requires { IsSome (get key_cmp slots.old key) }
     ensures put { (q : Key) → get key_cmp slots.new q ≡ (if is_key key q then Some (Some held) else get key_cmp slots.old q) }
     ensures ordered { IsOrdered key_cmp slots.new }
@@ -133,7 +133,7 @@ struct Plan {
 }
 
 // Plans what sub-tables are given, and makes their slots. It takes all the memory that giving wants.
-fn planned(alloc: Global, slots: &mut Slots, tables: &[SubTable]) -> Result<Plan, AllocError>
+fn planned(alloc: Global, slots: &mut KeyVersions, tables: &[SubTable]) -> Result<Plan, AllocError>
     requires { IsOrdered key_cmp slots.old }
     ensures versions { IfOk result (λ plan. plan.versions.items ≡ map (version_given slots.old) tables.now) }
     ensures changes { IfOk result (λ plan. plan.changes.items ≡ map (content_given slots.old) tables.now) }
@@ -157,7 +157,7 @@ fn planned(alloc: Global, slots: &mut Slots, tables: &[SubTable]) -> Result<Plan
 
 // Gives sub-tables what was planned. It takes no memory.
 fn settle(
-    slots: &mut Slots,
+    slots: &mut KeyVersions,
     tables: &[SubTable],
     versions: &[u8],
     mut changes: Vec<Option<NumberedBodies>>,
@@ -175,7 +175,7 @@ fn settle(
         let at = changes.len();
         if let Some(content) = change {
             let version = versions[at];
-            fill(slots, tables[at].key, Held { version, content });
+            fill(slots, tables[at].key, KeyVersion { version, content });
         }
     }
 }

@@ -8,6 +8,6 @@
 
 mod book;
 mod content;
-mod held;
+mod key_version;
 
 pub use book::{VersionBook, versions_tell_contents};

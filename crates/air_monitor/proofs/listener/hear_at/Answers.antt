@@ -2,12 +2,12 @@ use Rattle.std.proofs.Common.{◌≡◌, List, ◌++◌, ◌∷◌, [], ◌∙�
 use Rattle.std.specs.Prelude.{OnErr}
 use Rattle.si_lists.proofs.Outcomes.{on_ok}
 use Rattle.guide_receiver.specs.declared.done.DoneKey.{DoneKey}
-use Rattle.guide_receiver.specs.Heard.{Stands, dones_by}
+use Rattle.guide_receiver.specs.Heard.{ReceiverStandsFor, dones_by}
 use Rattle.air_monitor.specs.Heard.{AppendsFrontOf, lines_at}
 use Rattle.air_monitor.proofs.listener.hear_at.Goals as goal
 
 pub returns-in-Ok-clause-stands : goal.returns-in-Ok-clause-stands
-returns-in-Ok-clause-stands c past stands sync = on_ok c.push_lines.result (Stands (past ++ c.args.packet.now ∷ []) c.hear.new.self) (c.in-Ok.ensures.stands past stands)
+returns-in-Ok-clause-stands c past stands sync = on_ok c.push_lines.result (ReceiverStandsFor (past ++ c.args.packet.now ∷ []) c.hear.new.self) (c.in-Ok.ensures.stands past stands)
 
 pub returns-in-Ok-clause-memory : goal.returns-in-Ok-clause-memory
 returns-in-Ok-clause-memory c past stands =

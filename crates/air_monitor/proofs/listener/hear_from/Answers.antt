@@ -1,5 +1,5 @@
 use Rattle.std.proofs.Common.{◌≡◌, ◌++◌, ◌∷◌, [], drop, false, true, arith}
-use Rattle.guide_receiver.specs.Heard.{Stands, dones_by}
+use Rattle.guide_receiver.specs.Heard.{ReceiverStandsFor, dones_by}
 use Rattle.air_monitor.specs.Heard.{AppendsFrontOf, HearsBy, lines_at}
 use Rattle.air_monitor.proofs.Outcomes.{ok_both, err_then}
 use Rattle.air_monitor.proofs.Lines.{from_join, front_from, sync_of}
@@ -15,7 +15,7 @@ returns-clause-ok c past is h sync =
     let receiver = c.hear_at.new.receiver in
     let le = c.if-number-join.false in
     let begins = sync_of join past packet (omega (arith, le)) sync in
-    ok_both c.hear_at.result (Stands (heard ++ packet ∷ []) receiver) (new ≡ old ++ lines_at c.args.number (dones_by heard packet)) (HearsBy false join (drop join (past ++ packet ∷ [])) receiver new)
+    ok_both c.hear_at.result (ReceiverStandsFor (heard ++ packet ∷ []) receiver) (new ≡ old ++ lines_at c.args.number (dones_by heard packet)) (HearsBy false join (drop join (past ++ packet ∷ [])) receiver new)
     (λ stands more. from_join join past packet c.args.number old new receiver is (omega (arith, le)) h.1 stands more)
     (c.hear_at.ensures.stands heard h.0 begins) (c.hear_at.ensures.shown heard h.0 begins)
 

@@ -2,7 +2,7 @@ use Rattle.std.proofs.Common.{◌≡◌, suc, ◌++◌, ◌∷◌, [], List, ℕ
 use Rattle.std.specs.Prelude.{Ok, Err}
 use Rattle.packet_reader.specs.Recordings.{packets_in}
 use Rattle.packet_reader.specs.Reading.{room}
-use Rattle.guide_receiver.specs.Heard.{Stands, at_packet, dones_by}
+use Rattle.guide_receiver.specs.Heard.{ReceiverStandsFor, at_packet, dones_by}
 use Rattle.guide_receiver.specs.Texts.{done_lines}
 use Rattle.si_causes.proofs.CauseFacts.{Appends-nothing}
 use Rattle.epg_cli.specs.Listen.{ReportsLines}
@@ -39,7 +39,7 @@ loop-number-preserved g c =
             takes.0,
             takes.1,
             more_parted bytes t.1 t.2 t.0 (room c.next.new.self) packet takes.0 (subst (λ n. HasParted bytes t.1 t.0 n t.2) fewer t.4) takes.2 counts.3 counts.4,
-            subst (λ (p : List ℕ). Stands (t.0 ++ p ∷ []) c.hear_packet.new.receiver) c.packet.ensures (c.in_default.ensures.stands t.0 t.5),
+            subst (λ (p : List ℕ). ReceiverStandsFor (t.0 ++ p ∷ []) c.hear_packet.new.receiver) c.packet.ensures (c.in_default.ensures.stands t.0 t.5),
             omega (arith, counts.1, number, length-append t.0 (packet ∷ [])),
             reported_more t.0 packet c.in-Ok-Some.number (g.R.Sink.written c.args.report.now) (g.R.Sink.written c.loop-number.report) (g.R.Sink.written c.hear_packet.new.report) number t.7
                 (subst (λ (p : List ℕ). ReportsLines (g.R.Sink.written c.loop-number.report) (g.R.Sink.written c.hear_packet.new.report) (done_lines (map (at_packet c.in-Ok-Some.number) (dones_by t.0 p))) (Ok tt))

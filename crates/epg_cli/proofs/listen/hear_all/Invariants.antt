@@ -2,7 +2,7 @@ use Rattle.std.proofs.Common.{◌≡◌, ◌≤◌, List, ℕ, length}
 use Rattle.std.specs.Prelude.{Some, None}
 use Rattle.std.specs.Io.KnownBytes.{Appends}
 use Rattle.packet_reader.specs.Reading.{bytes_left, room}
-use Rattle.guide_receiver.specs.Heard.{Stands}
+use Rattle.guide_receiver.specs.Heard.{ReceiverStandsFor}
 use Rattle.epg_cli.specs.Listen.{heard_text}
 use Rattle.epg_cli.proofs.ListenFacts.{HasParted}
 use Rattle.epg_cli.proofs.listen.hear_all.Given as goal
@@ -17,7 +17,7 @@ invariant-loop-number g l =
       told : (bytes : List ℕ) → bytes_left g.S.Source.left l.fn.packets ≡ Some bytes →
           (heard : List (List ℕ)) × (done : List ℕ) × (rest : List ℕ) × (bytes_left g.S.Source.left l.packets ≡ Some rest)
           × HasParted bytes done heard (room l.packets) rest
-          × Stands heard l.receiver × (l.packets.number ≡ length heard)
+          × ReceiverStandsFor heard l.receiver × (l.packets.number ≡ length heard)
           × Appends (g.R.Sink.written l.fn.report) (g.R.Sink.written l.report) (heard_text heard);
     }
 

@@ -1,7 +1,7 @@
 use Rattle.std.proofs.Common.{◌≡◌, ◌++◌, Some, option_map, subst, sym, ap, ◌∙◌}
 use Rattle.std.specs.Prelude.{option_to_list}
 use Rattle.sub_collect.specs.Runs.{counted}
-use Rattle.sub_collect.specs.Collectors.{Stands as CollectorStands}
+use Rattle.sub_collect.specs.Collectors.{CollectorStandsFor}
 use Rattle.guide_receiver.specs.Counting.{counted_in}
 use Rattle.guide_receiver.specs.declared.counting.CountedSection.{CountedSection}
 use Rattle.guide_receiver.proofs.Shown.{one_shown}
@@ -17,10 +17,10 @@ pub returns-in-Some-shown-clause-stands : goal.returns-in-Some-shown-clause-stan
 returns-in-Some-shown-clause-stands c =
     let s = counted c.in-Some.field-0.key c.in-Some.field-0.header c.in-Some.field-0.body in
     let is : Some s ≡ counted_in c.args.section.now = ap (option_map (λ (x : CountedSection). counted x.key x.header x.body)) (sym c.in-Some.is) ∙ c.in_ok-key.ensures in
-    λ past stands. subst (λ o. CollectorStands (past ++ option_to_list o) c.take.new.self) is (c.in_ok-shown.ensures.stands past stands)
+    λ past stands. subst (λ o. CollectorStandsFor (past ++ option_to_list o) c.take.new.self) is (c.in_ok-shown.ensures.stands past stands)
 
 pub returns-in-None-clause-stands : goal.returns-in-None-clause-stands
 returns-in-None-clause-stands c =
     let s = counted c.in-Some.field-0.key c.in-Some.field-0.header c.in-Some.field-0.body in
     let is : Some s ≡ counted_in c.args.section.now = ap (option_map (λ (x : CountedSection). counted x.key x.header x.body)) (sym c.in-Some.is) ∙ c.in_ok-key.ensures in
-    λ past stands. subst (λ o. CollectorStands (past ++ option_to_list o) c.take.new.self) is (c.in_ok-shown.ensures.stands past stands)
+    λ past stands. subst (λ o. CollectorStandsFor (past ++ option_to_list o) c.take.new.self) is (c.in_ok-shown.ensures.stands past stands)

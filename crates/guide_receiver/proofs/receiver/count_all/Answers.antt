@@ -3,7 +3,7 @@ use Rattle.std.specs.Prelude.{option_to_list}
 use Rattle.std.proofs.lemmas.List.{take_all}
 use Rattle.ts_demux.specs.declared.section.RawSection.{RawSection}
 use Rattle.sub_collect.specs.Completions.{dones}
-use Rattle.sub_collect.specs.Collectors.{Stands as CollectorStands}
+use Rattle.sub_collect.specs.Collectors.{CollectorStandsFor}
 use Rattle.guide_receiver.specs.Counting.{counted_in, counted_among}
 use Rattle.guide_receiver.specs.Heard.{done_key}
 use Rattle.guide_receiver.proofs.Shown.{among-next, more_shown}
@@ -18,7 +18,7 @@ loop-section-preserved c =
     λ past stands.
     let i = c.loop-section.invariant past stands in
     let shown = map done_key (dones past front) in (
-      subst (λ t. CollectorStands t c.count.new.collector) (append_assoc past front one ∙ ap (λ t. past ++ t) (sym next)) (c.in_ok-done.ensures.stands (past ++ front) i.0),
+      subst (λ t. CollectorStandsFor t c.count.new.collector) (append_assoc past front one ∙ ap (λ t. past ++ t) (sym next)) (c.in_ok-done.ensures.stands (past ++ front) i.0),
       c.in_ok-push_shown.ensures ∙ ap (λ t. t ++ option_to_list c.in_ok-done.done) i.1 ∙ append_assoc c.args.shown.now shown (option_to_list c.in_ok-done.done)
           ∙ ap (λ t. c.args.shown.now ++ (shown ++ t)) (c.in_ok-done.ensures.done (past ++ front) i.0)
           ∙ ap (λ t. c.args.shown.now ++ t) (sym (more_shown past front one))
@@ -29,4 +29,4 @@ pub returns-clause-stands : goal.returns-clause-stands
 returns-clause-stands c =
     let sections = c.args.sections.now in
     let whole = take_all c.loop-section.section-index sections (omega (arith, c.loop-section-test.false)) in
-    λ past stands. subst (λ (t : List RawSection). CollectorStands (past ++ counted_among t) c.loop-section.collector) whole (c.loop-section.invariant past stands).0
+    λ past stands. subst (λ (t : List RawSection). CollectorStandsFor (past ++ counted_among t) c.loop-section.collector) whole (c.loop-section.invariant past stands).0

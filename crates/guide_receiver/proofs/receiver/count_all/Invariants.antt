@@ -1,13 +1,13 @@
 use Rattle.std.proofs.Common.{◌≡◌, ◌++◌, List, map, take}
 use Rattle.sub_collect.specs.Runs.{Counted}
 use Rattle.sub_collect.specs.Completions.{dones}
-use Rattle.sub_collect.specs.Collectors.{Stands as CollectorStands}
+use Rattle.sub_collect.specs.Collectors.{CollectorStandsFor}
 use Rattle.guide_receiver.specs.Counting.{counted_among}
 use Rattle.guide_receiver.specs.Heard.{done_key}
 use Rattle.guide_receiver.proofs.receiver.count_all.Given as goal
 
 abbrev pub invariant-loop-section : goal.invariant-loop-section
 invariant-loop-section l =
-    (past : List Counted) → CollectorStands past l.fn.collector
-    → CollectorStands (past ++ counted_among (take l.section-index l.sections)) l.collector
+    (past : List Counted) → CollectorStandsFor past l.fn.collector
+    → CollectorStandsFor (past ++ counted_among (take l.section-index l.sections)) l.collector
     × (l.shown ≡ l.fn.shown ++ map done_key (dones past (counted_among (take l.section-index l.sections))))

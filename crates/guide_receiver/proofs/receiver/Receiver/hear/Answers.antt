@@ -3,16 +3,16 @@ use Rattle.ts_demux.specs.declared.section.RawSection.{RawSection}
 use Rattle.ts_demux.specs.Sections.{ended_by}
 use Rattle.sub_collect.specs.Runs.{Counted}
 use Rattle.sub_collect.specs.Completions.{dones}
-use Rattle.sub_collect.specs.Collectors.{Stands as CollectorStands}
+use Rattle.sub_collect.specs.Collectors.{CollectorStandsFor}
 use Rattle.guide_receiver.specs.Counting.{counted_among}
-use Rattle.guide_receiver.specs.Heard.{Stands, counted_heard, done_key}
+use Rattle.guide_receiver.specs.Heard.{ReceiverStandsFor, counted_heard, done_key}
 use Rattle.guide_receiver.proofs.Shown.{counted-push}
 use Rattle.guide_receiver.proofs.receiver.Receiver.hear.Goals as goal
 
 pub returns-clause-dones : goal.returns-clause-dones
 returns-clause-dones c =
     λ past stands.
-    let kept = subst (Stands past) (sym c.self.view_is) stands in
+    let kept = subst (ReceiverStandsFor past) (sym c.self.view_is) stands in
     let heard : c.as_slice.result.now ≡ ended_by past c.args.packet.now = c.as_slice.ensures ∙ c.in-Ok-hear.ensures.heard past kept.sections in
     c.in-Ok-count_all.ensures.dones (counted_heard past) kept.completions
     ∙ ap (λ t. t ++ map done_key (dones (counted_heard past) (counted_among c.as_slice.result.now))) c.new-dones.ensures
@@ -21,11 +21,11 @@ returns-clause-dones c =
 pub returns-clause-stands : goal.returns-clause-stands
 returns-clause-stands c =
     λ past stands.
-    let kept = subst (Stands past) (sym c.self.view_is) stands in
+    let kept = subst (ReceiverStandsFor past) (sym c.self.view_is) stands in
     let heard : c.as_slice.result.now ≡ ended_by past c.args.packet.now = c.as_slice.ensures ∙ c.in-Ok-hear.ensures.heard past kept.sections in
     record {
       sections = c.in-Ok-hear.ensures.stands past kept.sections;
-      completions = subst (λ (t : List Counted). CollectorStands t c.count_all.new.collector)
+      completions = subst (λ (t : List Counted). CollectorStandsFor t c.count_all.new.collector)
           (ap (λ (t : List RawSection). counted_heard past ++ counted_among t) heard ∙ sym (counted-push past c.args.packet.now))
           (c.in-Ok-count_all.ensures.stands (counted_heard past) kept.completions);
     }

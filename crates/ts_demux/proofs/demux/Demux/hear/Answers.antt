@@ -4,7 +4,7 @@ use Rattle.ts_packets.specs.Bytes.{shape_in}
 use Rattle.ts_packets.specs.declared.shape.Shape.TheVariants as shape
 use Rattle.ts_demux.specs.declared.section.RawSection.{RawSection}
 use Rattle.ts_demux.specs.Arrivals.{Arrival.Gap, Arrival.Came, load_in}
-use Rattle.ts_demux.specs.Keeping.{Stands}
+use Rattle.ts_demux.specs.Keeping.{DemuxStandsFor}
 use Rattle.ts_demux.proofs.Standing.{nothing_came, one_came, one_ended, passes, gap_came, gap_told, load_came, load_told, small_pid}
 use Rattle.si_lists.proofs.Outcomes.{ok_more}
 use Rattle.ts_demux.proofs.demux.Demux.hear.Goals as goal
@@ -37,7 +37,7 @@ returns-in-Gap-clause-stands c past stands =
     let is : shape_in packet ≡ Ok (shape.Gap pid) = c.requires ∙ ap Ok c.in-Gap.is in
     let its = gap_told packet pid is in
     let small : pid < 8192 = subst (λ (n : ℕ). n < 8192) (sym its) (small_pid packet (c.fits-packet 2)) in
-    one_came past packet c.self.inside.places c.forget.new.self pid Gap its small (gap_came packet pid is) c.forget.ensures (subst (Stands past) (sym c.self.view_is) stands)
+    one_came past packet c.self.inside.places c.forget.new.self pid Gap its small (gap_came packet pid is) c.forget.ensures (subst (DemuxStandsFor past) (sym c.self.view_is) stands)
 
 pub returns-in-Load-clause-heard : goal.returns-in-Load-clause-heard
 returns-in-Load-clause-heard c past stands =
@@ -48,7 +48,7 @@ returns-in-Load-clause-heard c past stands =
     let small : pid < 8192 = subst (λ (n : ℕ). n < 8192) (sym its) (small_pid packet (c.fits-packet 2)) in
     let came = load_came packet pid c.in-Load.counter c.in-Load.at c.in-Load.start is in
     let x = Came (load_in c.in-Load.start c.in-Load.counter c.in-Load.at packet) in
-    let ended = one_ended past packet c.self.inside.places pid x its small came (subst (Stands past) (sym c.self.view_is) stands) in
+    let ended = one_ended past packet c.self.inside.places pid x its small came (subst (DemuxStandsFor past) (sym c.self.view_is) stands) in
     subst (λ (y : List RawSection). IfOk c.hear.result (λ sections. sections ≡ y)) ended c.hear.ensures.given
 
 pub returns-in-Load-clause-stands : goal.returns-in-Load-clause-stands
@@ -60,4 +60,4 @@ returns-in-Load-clause-stands c past stands =
     let small : pid < 8192 = subst (λ (n : ℕ). n < 8192) (sym its) (small_pid packet (c.fits-packet 2)) in
     let came = load_came packet pid c.in-Load.counter c.in-Load.at c.in-Load.start is in
     let x = Came (load_in c.in-Load.start c.in-Load.counter c.in-Load.at packet) in
-    ok_more c.hear.result _ _ (λ after. one_came past packet c.self.inside.places c.hear.new.self pid x its small came after (subst (Stands past) (sym c.self.view_is) stands)) c.hear.ensures.kept
+    ok_more c.hear.result _ _ (λ after. one_came past packet c.self.inside.places c.hear.new.self pid x its small came after (subst (DemuxStandsFor past) (sym c.self.view_is) stands)) c.hear.ensures.kept

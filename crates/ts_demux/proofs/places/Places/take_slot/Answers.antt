@@ -1,7 +1,7 @@
 use Rattle.std.proofs.Common.{◌≡◌, ◌<◌, ◌==◌, ℕ, List, Option, Some, length, map, sym, ap, ◌∙◌, arith}
 use Rattle.std.specs.Prelude.{if◌then◌else◌, option_map}
 use Rattle.si_lists.proofs.Outcomes.{on_ok}
-use Rattle.ts_demux.specs.Keeping.{Kept, nothing, kept_in, kept_on}
+use Rattle.ts_demux.specs.Keeping.{PidState, nothing, kept_in, kept_on}
 use Rattle.ts_demux.proofs.Placing.{placed, length-mapped}
 use Rattle.ts_demux.proofs.places.Places.take_slot.Goals as goal
 
@@ -13,4 +13,4 @@ returns-clause-taken c = on_ok c.match-take.result _ (λ q.
     placed (λ slot. slot.value) q c.from.result items c.take.new.self fits
     ∙ ap (λ o. if c.from.result == q then kept_in (Some (option_map (λ slot. slot.value) o)) else kept_on q (map (option_map (λ slot. slot.value)) items)) c.take.ensures.after
     ∙ ap (λ (n : ℕ). if n == q then nothing else kept_on q (map (option_map (λ slot. slot.value)) items)) c.from.ensures
-    ∙ ap (λ (x : List (Option Kept)). if c.args.pid == q then nothing else kept_on q x) c.self.view_is)
+    ∙ ap (λ (x : List (Option PidState)). if c.args.pid == q then nothing else kept_on q x) c.self.view_is)

@@ -1,7 +1,7 @@
 use Rattle.std.proofs.Common.{sym, subst}
 use Rattle.ts_demux.specs.Steps.{IsOpen, still_open}
 use Rattle.ts_demux.proofs.Machine.{open_behind-open}
-use Rattle.ts_demux.proofs.slot.Slot.hear.Goals as goal
+use Rattle.ts_demux.proofs.slot.PidSlot.hear.Goals as goal
 
 pub invariant_of-self-3 : goal.invariant_of-self-3
 invariant_of-self-3 c =

@@ -7,7 +7,7 @@ use Rattle.sub_collect.specs.Slots.{kept_run, kept_by, latest_with_done}
 use Rattle.sub_collect.specs.declared.completed.Completed.{Completed}
 use Rattle.sub_collect.proofs.Runs.{run_of-push, run_of-other}
 use Rattle.sub_collect.proofs.Taking.{put-done, put-kept, repeat-kept, repeat-shows, repeat-test}
-use Rattle.sub_collect.proofs.collector.Slot.take.Goals as goal
+use Rattle.sub_collect.proofs.collector.KeySlot.take.Goals as goal
 
 pub returns-then-self-header-clause-shown : goal.returns-then-self-header-clause-shown
 returns-then-self-header-clause-shown c = λ heard is all.

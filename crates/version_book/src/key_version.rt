@@ -6,11 +6,11 @@ use std::collections::BTreeMap;
 
 // The version and the content that a key was last given.
 #[derive(Drop)]
-pub struct Held {
+pub struct KeyVersion {
     pub version: u8,
     pub content: NumberedBodies,
     ghost in_range: { version < 32 },
 }
 
 // A slot for each key, which is empty until the key is first given a version.
-pub type Slots = BTreeMap<Key, Option<Held>>;
+pub type KeyVersions = BTreeMap<Key, Option<KeyVersion>>;
