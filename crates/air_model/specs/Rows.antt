@@ -29,7 +29,8 @@ annex = 4257233100
 abbrev annex_section : List ℕ
 annex_section = 0x70 ∷ 0x70 ∷ 0x05 ∷ 0xC0 ∷ 0x79 ∷ 0x12 ∷ 0x45 ∷ 0x00 ∷ []
 
-row_sections : cycle_sections [] (airing_of sdt_body annex) ≡ record { pid = 17; bytes = sdt_section } ∷ record { pid = 20; bytes = annex_section } ∷ []
+row_sections : cycle_sections [] (airing_of sdt_body annex) ≡
+    record { pid = 17; bytes = sdt_section } ∷ record { pid = 20; bytes = annex_section } ∷ []
 unfolding crc_of crc_from moments_compute
 row_sections = refl
 
@@ -77,6 +78,7 @@ row_behind = refl
 row_first : before_tdt others ≡ []
 row_first = refl
 
-row_alone : cycle_sections [] (record { tables = []; moment = annex; form = record { quota = 200 } }) ≡ record { pid = 20; bytes = annex_section } ∷ []
+row_alone : cycle_sections [] (record { tables = []; moment = annex; form = record { quota = 200 } }) ≡
+    record { pid = 20; bytes = annex_section } ∷ []
 unfolding moments_compute
 row_alone = refl

@@ -55,7 +55,8 @@ sections_under (v ∷ vs) (t ∷ ts) = sections_of v t ++ sections_under vs ts
 -- the sections of a cycle of sub-tables with these versions, and of the TDT of a moment
 abbrev pub cycle_under : List ℕ → List SubTable → ℕ → List Sent
 cycle_under vs ts moment =
-    sections_under (take (prefix_len leads ts) vs) (before_tdt ts) ++ tdt moment ∷ sections_under (drop (prefix_len leads ts) vs) (behind_tdt ts)
+    sections_under (take (prefix_len leads ts) vs) (before_tdt ts)
+    ++ tdt moment ∷ sections_under (drop (prefix_len leads ts) vs) (behind_tdt ts)
 
 -- how many bytes the sections of a sub-table have, and those of all
 abbrev pub room_of : Content → ℕ

@@ -80,8 +80,10 @@ impl Cycle {
         requires ended { self.old ≡ [] }
         requires fit { AreFit tables.now.list }
         requires moment { moment.0 < 65536 * 86400 }
-        ensures versions { OnOk result ((past : List Airing) (form : CycleForm) → BookStandsFor past book.old → BookStandsFor (past ++ aired tables.now.list moment.0 form ∷ []) book.new) }
-        ensures begun { OnOk result ((past : List Airing) (form : CycleForm) → BookStandsFor past book.old → self.new ≡ each_alone (cycle_sections past (aired tables.now.list moment.0 form))) }
+        ensures versions { OnOk result ((past : List Airing) (form : CycleForm) → BookStandsFor past book.old
+            → BookStandsFor (past ++ aired tables.now.list moment.0 form ∷ []) book.new) }
+        ensures begun { OnOk result ((past : List Airing) (form : CycleForm) → BookStandsFor past book.old
+            → self.new ≡ each_alone (cycle_sections past (aired tables.now.list moment.0 form))) }
         ensures ended { OnErr result (self.new ≡ self.old) }
         ensures kept { OnErr result (book.new ≡ book.old) }
     {

@@ -50,7 +50,8 @@ pub(crate) fn lay_cycle(
     requires moment { moment.0 < 65536 * 86400 }
     requires room { vec_len bytes.old + (8 + room_for tables.now) ≤ vec_capacity bytes.old }
     requires places { vec_len placed.old + (1 + places_for tables.now) ≤ vec_capacity placed.old }
-    ensures { (ss : List Sent) → AreLaid ss bytes.old.items placed.old.items → AreLaid (ss ++ cycle_under versions.now tables.now moment.0) bytes.new.items placed.new.items }
+    ensures { (ss : List Sent) → AreLaid ss bytes.old.items placed.old.items
+        → AreLaid (ss ++ cycle_under versions.now tables.now moment.0) bytes.new.items placed.new.items }
 {
     let count = lead_count(tables);
     let (before, behind) = tables.split_at(count);
@@ -84,7 +85,8 @@ fn lay_tdt(bytes: &mut Vec<u8>, placed: &mut Vec<Placed>, moment: Moment)
     requires moment { moment.0 < 65536 * 86400 }
     requires room { vec_len bytes.old + 8 ≤ vec_capacity bytes.old }
     requires place { vec_len placed.old < vec_capacity placed.old }
-    ensures laid { (ss : List Sent) → AreLaid ss bytes.old.items placed.old.items → AreLaid (ss ++ tdt moment.0 ∷ []) bytes.new.items placed.new.items }
+    ensures laid { (ss : List Sent) → AreLaid ss bytes.old.items placed.old.items
+        → AreLaid (ss ++ tdt moment.0 ∷ []) bytes.new.items placed.new.items }
     ensures bytes_len { vec_len bytes.new ≡ vec_len bytes.old + 8 }
     ensures bytes_capacity { vec_capacity bytes.old ≤ vec_capacity bytes.new }
     ensures placed_len { vec_len placed.new ≡ vec_len placed.old + 1 }
@@ -108,7 +110,8 @@ fn lay_tables(bytes: &mut Vec<u8>, placed: &mut Vec<Placed>, tables: &[SubTable]
     requires versions { All (λ v. v < 32) versions.now }
     requires room { vec_len bytes.old + room_for tables.now ≤ vec_capacity bytes.old }
     requires places { vec_len placed.old + places_for tables.now ≤ vec_capacity placed.old }
-    ensures laid { (ss : List Sent) → AreLaid ss bytes.old.items placed.old.items → AreLaid (ss ++ sections_under versions.now tables.now) bytes.new.items placed.new.items }
+    ensures laid { (ss : List Sent) → AreLaid ss bytes.old.items placed.old.items
+        → AreLaid (ss ++ sections_under versions.now tables.now) bytes.new.items placed.new.items }
     ensures bytes_len { vec_len bytes.new ≤ vec_len bytes.old + room_for tables.now }
     ensures bytes_capacity { vec_capacity bytes.old ≤ vec_capacity bytes.new }
     ensures placed_len { vec_len placed.new ≤ vec_len placed.old + places_for tables.now }
