@@ -74,7 +74,7 @@ each_sent : (past airings : List Airing) → CanBeSent airings → AllByRecursio
 each_sent past [] fit = tt
 each_sent past (a ∷ airings) fit =
     all_append (λ (x : Sent). IsSection x.bytes) (cycle_sections past a) (sections_sent (past ++ a ∷ []) airings)
-    (each_section past a (cycle_sections past a) fit.0.fit (cycle_is_sent past a).each) (each_sent (past ++ a ∷ []) airings fit.1)
+    (each_section past a (cycle_sections past a) fit.0 (cycle_is_sent past a).each) (each_sent (past ++ a ∷ []) airings fit.1)
 
 pub each_on : (pid : ℕ) (ss : List Sent) → AllByRecursion (λ (x : Sent). IsSection x.bytes) ss → AllByRecursion IsSection (filter_map (sent_on pid) ss)
 each_on pid [] all = tt
@@ -126,7 +126,7 @@ all_each : (past : List Airing) (xs : List Aired) (h : RepeatingCycles past xs) 
 all_each past [] h fit = tt
 all_each past (x ∷ xs) h fit =
     all_append (λ (s : Sent). IsSection s.bytes) h.0.sections (all_sent (past ++ x.airing ∷ []) xs h.1)
-    (each_section past x.airing h.0.sections fit.0.fit h.0.are.each) (all_each (past ++ x.airing ∷ []) xs h.1 fit.1)
+    (each_section past x.airing h.0.sections fit.0 h.0.are.each) (all_each (past ++ x.airing ∷ []) xs h.1 fit.1)
 
 -- they are heard
 pub all_heard : (airings : List Airing) (xs : List Aired) (is : IsRepeatingAirOf airings xs) → CanBeSent airings → (pid : ℕ) → pid < 8191

@@ -1,7 +1,7 @@
 -- The version changes of an air are heard.
 use Rattle.std.proofs.Common.{◌≡◌, ◌≢◌, ℕ, ◌+◌, ◌%◌, List, [], ◌∷◌, ◌++◌, Bool, true, false, Option, Some, None, length, refl, sym, ap, ap₂, ◌∙◌, subst, arith, map, append-nil}
 use Rattle.std.specs.Prelude.{if◌then◌else◌, cond, not, filter, option_to_list}
-use Rattle.std.specs.List.{AllByRecursion}
+use Rattle.std.specs.List.{All, AllByRecursion}
 use Rattle.std.proofs.lemmas.List.{map-append}
 use Rattle.si_lists.proofs.Lists.{all_map}
 use Rattle.section_codec.specs.declared.table.Key.{Key}
@@ -23,11 +23,12 @@ use Rattle.sub_collect.proofs.Done.{dones-go_on, keys-apart}
 use Rattle.sub_collect.proofs.Shown.{quiet, shown-once}
 use Rattle.guide_receiver.specs.declared.done.DoneKey.{DoneKey}
 use Rattle.guide_receiver.specs.Counting.{is_counted, counted_among}
+use Rattle.section_codec.specs.SubTables.{IsFit}
 use Rattle.guide_receiver.specs.Heard.{DoneAt, at_packet, counted_heard, done_key, dones_by, dones_of, dones_behind}
 use Rattle.guide_receiver.proofs.Shown.{more_shown, among-append, counted-push}
 use Rattle.air_model.specs.Air.{Aired, air, airings_of}
 use Rattle.air_model.specs.Repeating.{RepeatingCycles}
-use Rattle.air_hearing.specs.Sending.{sections_sent, CanBeAired, CanBeSent}
+use Rattle.air_hearing.specs.Sending.{sections_sent, CanBeSent}
 use Rattle.air_hearing.specs.Counting.{CanBeHeard}
 use Rattle.air_hearing.specs.Changes.{is_new_at, is_change, version_with, changes_of, is_done_key}
 use Rattle.air_hearing.specs.Laws.{ChangesAreHeard, KeyIsHeard}
@@ -168,7 +169,7 @@ uncounted k other past (x ∷ xs) h can =
     ∙ ap₂ (λ (l m : List Counted). l ++ m) (block-uncounted past x.airing can.0 k other h.0.sections h.0.are.each) (uncounted k other (past ++ x.airing ∷ []) xs h.1 can.1)
 
 sent_of : (airings : List Airing) → AllByRecursion CanBeHeard airings → CanBeSent airings
-sent_of airings can = all_map CanBeHeard CanBeAired (λ a h. record { fit = h.fit; moment = h.moment }) airings can
+sent_of airings can = all_map CanBeHeard (λ (a : Airing). All IsFit a.tables) (λ a h. h.fit) airings can
 
 pub changes_heard : ChangesAreHeard
 changes_heard airings xs is can k lt = key_told k ps ∙ ap (λ (l : List Counted). map done_key (dones [] l)) heard ∙ go (is_counted k.pid k.table) refl

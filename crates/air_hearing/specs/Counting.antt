@@ -1,5 +1,5 @@
 -- Sub-tables that a receiver reads as they were meant (ISO/IEC 13818-1, 2.4.4; EN 300 468, 5.1.1).
-use Rattle.std.specs.Prelude.{◌≡◌, ◌*◌, ◌<◌, true, Some}
+use Rattle.std.specs.Prelude.{◌≡◌, ◌<◌, true, Some}
 use Rattle.std.specs.List.{All, AllByRecursion}
 use Rattle.section_codec.specs.declared.table.NumberedBody.{NumberedBody}
 use Rattle.section_codec.specs.declared.table.SubTable.{SubTable}
@@ -25,10 +25,8 @@ pub record IsReadable (t : SubTable) : Type 0 where
   pub bodies : AllByRecursion (λ (s : NumberedBody). is_body_of_table (header_of 0 t s) s.body ≡ true) t.sections
   pub numbered : IsNumbered t.key t.sections
 
--- The sub-tables of an airing can be sent, and be heard; no two have one key. Its moment can be sent: the day of a TDT has 16 bits
--- (EN 300 468, 5.2.5).
+-- The sub-tables of an airing can be sent, and be heard; no two have one key.
 pub record CanBeHeard (a : Airing) : Type 0 where
   pub differ : KeysDiffer a.tables
   pub fit : All IsFit a.tables
   pub readable : AllByRecursion IsReadable a.tables
-  pub moment : a.moment < 65536 * 86400

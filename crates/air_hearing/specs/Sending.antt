@@ -1,5 +1,5 @@
 -- What is sent of an airing list.
-use Rattle.std.specs.Prelude.{◌*◌, ◌<◌, List, [], ◌∷◌, ◌++◌}
+use Rattle.std.specs.Prelude.{List, [], ◌∷◌, ◌++◌}
 use Rattle.std.specs.List.{All, AllByRecursion}
 use Rattle.version_book.specs.Airings.{Airing}
 use Rattle.air_model.specs.Air.{Sent, cycle_sections}
@@ -10,11 +10,6 @@ abbrev pub sections_sent : List Airing → List Airing → List Sent
 sections_sent past [] = []
 sections_sent past (a ∷ airings) = cycle_sections past a ++ sections_sent (past ++ a ∷ []) airings
 
--- All sub-tables of an airing can be sent, and its moment: the day of a TDT has 16 bits (EN 300 468, 5.2.5).
-pub record CanBeAired (a : Airing) : Type 0 where
-  pub fit : All IsFit a.tables
-  pub moment : a.moment < 65536 * 86400
-
--- all these airings can be sent
+-- all sub-tables of these airings can be sent
 abbrev pub CanBeSent : List Airing → Type 0
-CanBeSent airings = AllByRecursion CanBeAired airings
+CanBeSent airings = AllByRecursion (λ (a : Airing). All IsFit a.tables) airings
