@@ -9,7 +9,7 @@ use Rattle.section_codec.specs.KeyOrder.{is_key}
 use Rattle.section_codec.specs.Contents.{Content, is_content}
 use Rattle.version_book.specs.Airings.{Airing, content_at, carried, changes_after, changes, version_at}
 use Rattle.section_codec.proofs.SameContent.{is_content-same}
-use Rattle.version_book.specs.Book.{GivenVersion, last_of, given_after}
+use Rattle.version_book.specs.Book.{GivenVersion, last_of, kept_after}
 use Rattle.version_book.specs.Slots.{next_version}
 use Rattle.version_book.proofs.Versions.{carried-push}
 use Rattle.version_book.proofs.Airs.{next_version-is, kept_after-push}
@@ -108,7 +108,7 @@ one_more k (Some kept) c numbered heard ss held all holds = go (is_content kept.
 
 -- ---- one airing after the other
 
-told-new : (k : Key) (cs : List Content) (c : Content) → map done_key (shows k (given_after cs) c) ≡ (if is_new_at cs (Some c) then record { key = k; version = next_version (given_after cs) c } ∷ [] else [])
+told-new : (k : Key) (cs : List Content) (c : Content) → map done_key (shows k (kept_after cs) c) ≡ (if is_new_at cs (Some c) then record { key = k; version = next_version (kept_after cs) c } ∷ [] else [])
 told-new k [] c = refl
 told-new k (d ∷ cs) c = go (changes_after d cs % 32) (is_content (last_of d cs) c)
   where
@@ -117,7 +117,7 @@ told-new k (d ∷ cs) c = go (changes_after d cs % 32) (is_content (last_of d cs
     go v false = refl
 
 module _ (k : Key) (counted : is_counted k.pid k.table ≡ true) where
-  changes_told : (past : List Airing) (xs : List Aired) (h : RepeatingCycles past xs) → AllByRecursion CanBeHeard (airings_of xs) → (heard : List Counted) → Heard k (given_after (carried k past)) heard
+  changes_told : (past : List Airing) (xs : List Aired) (h : RepeatingCycles past xs) → AllByRecursion CanBeHeard (airings_of xs) → (heard : List Counted) → Heard k (kept_after (carried k past)) heard
       → map done_key (dones heard (block k (all_sent past xs h))) ≡ changes_of k past (airings_of xs)
   changes_told past [] h can heard is = refl
   changes_told past (x ∷ xs) h can heard is =
@@ -139,7 +139,7 @@ module _ (k : Key) (counted : is_counted k.pid k.table ≡ true) where
       both = ap (map done_key) cut ∙ map-append done_key (dones heard ss) (dones (heard ++ ss) rest)
 
       go : (o : Option Content) → content_at k a ≡ o
-          → ((now : List Counted) → Heard k (given_after (carried k (past ++ a ∷ []))) now → map done_key (dones now rest) ≡ changes_of k (past ++ a ∷ []) (airings_of xs))
+          → ((now : List Counted) → Heard k (kept_after (carried k (past ++ a ∷ []))) now → map done_key (dones now rest) ≡ changes_of k (past ++ a ∷ []) (airings_of xs))
           → map done_key (dones heard (block k (h.0.sections ++ all_sent (past ++ a ∷ []) xs h.1))) ≡ (if is_change k past a then version_with k past a ∷ [] else []) ++ changes_of k (past ++ a ∷ []) (airings_of xs)
       go None e next =
           let none : ss ≡ [] = block-none past a can.0 k e h.0.sections h.0.are.each in
@@ -147,14 +147,14 @@ module _ (k : Key) (counted : is_counted k.pid k.table ≡ true) where
           let still : heard ++ ss ≡ heard = ap (λ (l : List Counted). heard ++ l) none ∙ append-nil heard in
           both
           ∙ ap₂ (λ (l m : List Counted). map done_key (dones heard l) ++ map done_key (dones m rest)) none still
-          ∙ next heard (subst (λ (cs : List Content). Heard k (given_after cs) heard) (sym same) is)
+          ∙ next heard (subst (λ (cs : List Content). Heard k (kept_after cs) heard) (sym same) is)
           ∙ ap (λ (o : Option Content). (if is_new_at (carried k past) o then version_with k past a ∷ [] else []) ++ changes_of k (past ++ a ∷ []) (airings_of xs)) (sym e)
       go (Some c) e next =
           let more : carried k (past ++ a ∷ []) ≡ carried k past ++ c ∷ [] = carried-push k past a ∙ ap (λ (o : Option Content). carried k past ++ option_to_list o) e in
-          let version : version_at k (past ++ a ∷ []) ≡ next_version (given_after (carried k past)) c = ap (λ (cs : List Content). changes cs % 32) more ∙ next_version-is (carried k past) c in
+          let version : version_at k (past ++ a ∷ []) ≡ next_version (kept_after (carried k past)) c = ap (λ (cs : List Content). changes cs % 32) more ∙ next_version-is (carried k past) c in
           let all = subst (λ (v : ℕ). AllByRecursion (IsWith k v c) ss) version (block-sound past a can.0 k c e h.0.sections h.0.are.each) in
-          let one = one_more k (given_after (carried k past)) c (numbered_of past a can.0 k c e) heard ss is all (block-complete past a can.0 k c e counted h.0.sections h.0.are) in
-          let kept : given_after (carried k (past ++ a ∷ [])) ≡ Some (record { version = next_version (given_after (carried k past)) c; content = c }) = ap given_after more ∙ kept_after-push (carried k past) c in
+          let one = one_more k (kept_after (carried k past)) c (numbered_of past a can.0 k c e) heard ss is all (block-complete past a can.0 k c e counted h.0.sections h.0.are) in
+          let kept : kept_after (carried k (past ++ a ∷ [])) ≡ Some (record { version = next_version (kept_after (carried k past)) c; content = c }) = ap kept_after more ∙ kept_after-push (carried k past) c in
           let here : map done_key (dones heard ss) ≡ (if is_new_at (carried k past) (Some c) then version_with k past a ∷ [] else []) =
           ap (map done_key) one.0 ∙ told-new k (carried k past) c ∙ ap (λ (v : ℕ). if is_new_at (carried k past) (Some c) then (let d : DoneKey = record { key = k; version = v } in d) ∷ [] else []) (sym version) in
           both

@@ -26,13 +26,13 @@ last_of c [] = c
 last_of c (d ∷ ds) = last_of d ds
 
 -- what is to be kept of a key that carried these contents: the last of them, with its version
-abbrev pub given_after : List Content → Option GivenVersion
-given_after [] = None
-given_after (c ∷ cs) = Some (record { version = changes_after c cs % 32; content = last_of c cs })
+abbrev pub kept_after : List Content → Option GivenVersion
+kept_after [] = None
+kept_after (c ∷ cs) = Some (record { version = changes_after c cs % 32; content = last_of c cs })
 
 -- The book stands for these airings: it keeps of each key what they carried last.
 abbrev pub BookStandsFor : List Airing → GivenVersions → Type 0
-BookStandsFor past book = (k : Key) → given_in k book ≡ given_after (carried k past)
+BookStandsFor past book = (k : Key) → given_in k book ≡ kept_after (carried k past)
 
 -- these sub-tables, aired at a moment in a cycle of this form
 abbrev pub aired : List SubTable → ℕ → CycleForm → Airing

@@ -5,7 +5,7 @@ use Rattle.section_codec.specs.declared.table.SubTable.{SubTable}
 use Rattle.section_codec.specs.declared.table.Tier3.TheVariants.{Fast}
 use Rattle.section_codec.specs.Contents.{Content}
 use Rattle.version_book.specs.Airings.{Airing, version_at, carried}
-use Rattle.version_book.specs.Book.{given_after, versions_of}
+use Rattle.version_book.specs.Book.{kept_after, versions_of}
 
 abbrev sdt : Key
 sdt = record { pid = 17; table = 66; ext = 1; stream = 0; network = 1 }
@@ -64,5 +64,5 @@ returns_changed = refl
 beside : versions_of (airs (of sdt 1 ∷ []) ∷ []) (of sdt 2 ∷ of schedule 5 ∷ []) 0 (record { quota = 200 }) ≡ 1 ∷ 0 ∷ []
 beside = refl
 
-kept : given_after (carried sdt (airs (of sdt 1 ∷ []) ∷ airs (of sdt 2 ∷ []) ∷ [])) ≡ Some (record { version = 1; content = one 2 })
+kept : kept_after (carried sdt (airs (of sdt 1 ∷ []) ∷ airs (of sdt 2 ∷ []) ∷ [])) ≡ Some (record { version = 1; content = one 2 })
 kept = refl
