@@ -101,5 +101,5 @@ play-heard lines tail mux k xs script is_air few =
       λ key lt.
           ap (λ (r : List (List ℕ) × RecordingEnd). filter (is_done_key key) (map (λ (d : DoneAt). d.done) (dones_of r.0))) record_is
           ∙ changes_heard (airings mux journal) xs (airs_repeat (airings mux journal) xs is_air) can key lt
-          ∙ counted_or_not (airings mux journal) key (airings_counted mux journal) (is_counted key.pid key.table) refl,
+          ∙ counted_or_not (airings mux journal) key (airings_counted mux journal is.sound) (is_counted key.pid key.table) refl,
     )
