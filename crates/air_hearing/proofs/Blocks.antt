@@ -5,6 +5,7 @@ use Rattle.std.specs.List.{AllByRecursion, Contains, cons_option}
 use Rattle.std.proofs.lemmas.List.{map-append}
 use Rattle.std.proofs.lemmas.List.Elements.{filter-append, All-contains, recursion_from_All}
 use Rattle.si_lists.proofs.Lists.{all_map}
+use Rattle.time_tables.proofs.Sections.{five_bytes}
 use Rattle.section_codec.specs.declared.table.Key.{Key}
 use Rattle.section_codec.specs.declared.table.NumberedBody.{NumberedBody}
 use Rattle.section_codec.specs.declared.table.SubTable.{SubTable}
@@ -104,13 +105,9 @@ table_counts t fit read version lt = go t.sections (can_count t fit read) ∙ al
     all true = some t.sections
     all false = none t.sections
 
-five : (moment : ℕ) → length (moment_bcd moment) ≡ 5
-unfolding moment_bcd
-five moment = refl
-
 -- a TDT counts for nothing
 tdt_uncounted : (moment : ℕ) → counted_in (raw_of (tdt moment)) ≡ None
-tdt_uncounted moment = ap (counted_by 0x0014) (section_in-short_bytes 0x70 (moment_bcd moment) (record { fits = lit< tt; form = refl; within = omega (arith, five moment) }))
+tdt_uncounted moment = ap (counted_by 0x0014) (section_in-short_bytes 0x70 (moment_bcd moment) (record { fits = lit< tt; form = refl; within = omega (arith, five_bytes moment) }))
 
 -- ---- the sections of an airing that count for a key
 

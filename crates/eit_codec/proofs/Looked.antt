@@ -2,19 +2,8 @@
 use Rattle.std.proofs.Common.{◌≡◌, ℕ, zero, suc, ◌<◌, ◌≤◌, Bool, true, false, ◌&&◌, List, [], ◌∷◌, length, drop, refl, sym, ap, ◌∙◌, arith}
 use Rattle.std.proofs.lemmas.List.{length-drop}
 use Rattle.si_lists.proofs.Truths.{and_false}
+pub use Rattle.table_entries.proofs.Looked.{Decides, all_left, and_true}
 use Rattle.eit_codec.specs.Bodies.{entry_length, begins_with_entry, are_entries}
-
--- what is left decides, and n bounds how many there are
-pub record Decides (test : ℕ → List ℕ → Bool) (bytes rest : List ℕ) : Type 0 where
-  pub n : ℕ
-  pub enough : length rest ≤ n
-  pub same : test n rest ≡ test (length bytes) bytes
-
-pub all_left : (test : ℕ → List ℕ → Bool) (bytes : List ℕ) → Decides test bytes bytes
-all_left test bytes = record { n = length bytes; enough = omega arith; same = refl }
-
-and_true : (a b : Bool) → a ≡ true → (a && b) ≡ b
-and_true a b e = ap (λ (x : Bool). x && b) e
 
 -- ---- entries
 

@@ -6,50 +6,22 @@ use Rattle.std.proofs.lemmas.List.{take-append-drop, length-take-le}
 use Rattle.si_time.specs.Readings.{moment_from_bcd, duration_from_bcd}
 use Rattle.desc_parts.specs.declared.descriptors.RawDesc.{RawDesc}
 use Rattle.desc_parts.specs.Descriptors.{AreDescriptors}
+use Rattle.table_entries.specs.Loops.{are_descriptors, AreBytes}
+use Rattle.table_entries.proofs.Looks.{bytes_behind, bytes_before, descriptors_of}
 use Rattle.guide_model.specs.declared.screen.ScreenEvent.{ScreenEvent}
 use Rattle.eit_codec.specs.declared.eit.Eit.{Eit}
 use Rattle.eit_codec.specs.Entries.{Entry, entry_bytes}
 use Rattle.eit_codec.specs.Shows.{event_of}
 use Rattle.eit_codec.specs.Eit.{IsEvent, AreEntries, IsEit}
-use Rattle.eit_codec.specs.Bodies.{are_descriptors, loop_length, loop_of, entry_length, time_of, duration_of, begins_with_entry, are_entries, AreBytes, BodiesCanBeRead}
+use Rattle.eit_codec.specs.Bodies.{loop_length, loop_of, entry_length, time_of, duration_of, begins_with_entry, are_entries, BodiesCanBeRead}
 
 parts : (a b : Bool) → (a && b) ≡ true → (a ≡ true) × (b ≡ true)
 parts true b e = (refl, e)
 parts false b e = cc
 
-bytes_behind : (n : ℕ) (xs : List ℕ) → AreBytes xs → AreBytes (drop n xs)
-bytes_behind zero xs all = all
-bytes_behind (suc n) [] all = tt
-bytes_behind (suc n) (x ∷ xs) all = bytes_behind n xs all.1
-
-bytes_before : (n : ℕ) (xs : List ℕ) → AreBytes xs → AreBytes (take n xs)
-bytes_before zero xs all = tt
-bytes_before (suc n) [] all = tt
-bytes_before (suc n) (x ∷ xs) all = (all.0, bytes_before n xs all.1)
-
 value : (o : Option ℕ) → is_some o ≡ true → (n : ℕ) × (o ≡ Some n)
 value None e = cc
 value (Some n) e = (n, refl)
-
--- ---- descriptors
-
-descriptors_of : (n : ℕ) (bytes : List ℕ) → AreBytes bytes → are_descriptors n bytes ≡ true → (descs : List RawDesc) × AreDescriptors bytes descs
-descriptors_of n [] all e = ([], record { whole = refl; lengths = tt })
-descriptors_of n (tag ∷ []) all e = cc
-descriptors_of zero (tag ∷ len ∷ behind) all e = cc
-descriptors_of (suc n) (tag ∷ len ∷ behind) all e =
-    let p = parts _ (are_descriptors n (drop len behind)) e in
-    let le : len ≤ length behind = leb-true len (length behind) p.0 in
-    let size : length (take len behind) ≡ len = length-take-le len behind le in
-    let rest = descriptors_of n (drop len behind) (bytes_behind len behind all.1.1) p.1 in (
-      record { tag = tag; body = take len behind } ∷ rest.0,
-      record {
-        whole =
-            ap (λ (l : List ℕ). tag ∷ len ∷ l) (sym (take-append-drop len behind))
-            ∙ ap₂ (λ (k : ℕ) (l : List ℕ). tag ∷ k ∷ (take len behind ++ l)) (sym size) rest.1.whole;
-        lengths = (subst (λ (k : ℕ). k < 256) (sym size) all.1.0, rest.1.lengths);
-      },
-    )
 
 -- ---- one entry
 

@@ -9,21 +9,12 @@ use Rattle.si_base.specs.Fields.{two}
 use Rattle.si_time.specs.Readings.{moment_from_bcd, duration_from_bcd}
 use Rattle.desc_parts.specs.declared.descriptors.RawDesc.{RawDesc}
 use Rattle.desc_parts.specs.Descriptors.{descriptor_bytes}
+use Rattle.table_entries.specs.Loops.{are_descriptors}
+use Rattle.table_entries.proofs.Looks.{descriptors_within}
 use Rattle.guide_model.specs.declared.screen.ScreenEvent.{ScreenEvent}
 use Rattle.eit_codec.specs.Entries.{Entry, entry_bytes}
 use Rattle.eit_codec.specs.Eit.{head_bytes, IsEvent, AreEvents}
-use Rattle.eit_codec.specs.Bodies.{are_descriptors, entry_length, begins_with_entry, are_entries, is_eit_body, ReadBodiesAreBodies}
-
--- ---- descriptors
-
-descriptors_are : (n : ℕ) (ds : List RawDesc) → length (flat_map descriptor_bytes ds) ≤ n → are_descriptors n (flat_map descriptor_bytes ds) ≡ true
-descriptors_are n [] le = refl
-descriptors_are zero (d ∷ ds) le = absurd (omega arith)
-descriptors_are (suc n) (d ∷ ds) le =
-    let rest = flat_map descriptor_bytes ds in
-    let size = length-append d.body rest in
-    both_true (le-leb (length d.body) (length (d.body ++ rest)) (omega (arith, size)))
-    (ap (are_descriptors n) (drop_at d.body rest (length d.body) refl) ∙ descriptors_are n ds (omega (arith, size)))
+use Rattle.eit_codec.specs.Bodies.{entry_length, begins_with_entry, are_entries, is_eit_body, ReadBodiesAreBodies}
 
 -- ---- one entry
 
@@ -61,7 +52,7 @@ one_entry e event rest is =
     let size = 4096 * e.flags + length e.descriptors in
     let at = ap₂ (λ (time duration : List ℕ). two e.id ++ time ++ duration ++ two size ++ e.descriptors ++ rest) t.5 d.3 in
     let are : are_descriptors (length e.descriptors) e.descriptors ≡ true =
-    ap (λ (l : List ℕ). are_descriptors (length l) l) is.loop.whole ∙ descriptors_are (length (flat_map descriptor_bytes is.descs)) is.descs (omega arith) in
+    ap (λ (l : List ℕ). are_descriptors (length l) l) is.loop.whole ∙ descriptors_within (length (flat_map descriptor_bytes is.descs)) is.descs (omega arith) in
     subst (λ (bytes : List ℕ). Begins bytes rest) (sym at)
     (by_bytes (e.id / 256 % 256) (e.id % 256) t.0 t.1 t.2 t.3 t.4 d.0 d.1 d.2 size event.start.0 event.seconds e.descriptors rest (omega (arith, is.fits.flags, is.fits.descriptors))
     (omega (arith, is.fits.descriptors)) (ap moment_from_bcd (sym t.5) ∙ is.start) (ap duration_from_bcd (sym d.3) ∙ is.seconds) are)

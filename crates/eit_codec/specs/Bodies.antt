@@ -1,17 +1,10 @@
 -- Whether bytes are the body of an event information section, by computing (EN 300 468, 5.2.4 and 6.1).
-use Rattle.std.specs.Prelude.{◌≡◌, ℕ, zero, suc, ◌+◌, ◌%◌, ◌<◌, Bool, true, false, ◌&&◌, nat_le, List, [], ◌∷◌, length, take, drop, slice_index, is_some}
-use Rattle.std.specs.List.{AllByRecursion}
+use Rattle.std.specs.Prelude.{◌≡◌, ℕ, zero, suc, ◌+◌, ◌%◌, Bool, true, false, ◌&&◌, nat_le, List, [], ◌∷◌, length, take, drop, slice_index, is_some}
 use Rattle.si_base.specs.Fields.{two_at}
+use Rattle.table_entries.specs.Loops.{are_descriptors, AreBytes}
 use Rattle.si_time.specs.Readings.{moment_from_bcd, duration_from_bcd}
 use Rattle.eit_codec.specs.declared.eit.Eit.{Eit}
 use Rattle.eit_codec.specs.Eit.{IsEit}
-
--- The bytes are descriptors, one after the other, of which none runs past the end. n bounds their number.
-abbrev pub are_descriptors : ℕ → List ℕ → Bool
-are_descriptors n [] = true
-are_descriptors n (tag ∷ []) = false
-are_descriptors zero (tag ∷ len ∷ behind) = false
-are_descriptors (suc n) (tag ∷ len ∷ behind) = nat_le len (length behind) && are_descriptors n (drop len behind)
 
 -- descriptors_loop_length of the entry at the front, and the length of the entry
 abbrev pub loop_length : List ℕ → ℕ
@@ -51,9 +44,6 @@ is_eit_body body = nat_le 6 (length body) && are_entries (length (drop 6 body)) 
 -- Each body that can be read is one.
 abbrev pub ReadBodiesAreBodies : Type 0
 ReadBodiesAreBodies = (body : List ℕ) (eit : Eit) → IsEit body eit → is_eit_body body ≡ true
-
-abbrev pub AreBytes : List ℕ → Type 0
-AreBytes body = AllByRecursion (λ (b : ℕ). b < 256) body
 
 -- And each such body of bytes can be read.
 abbrev pub BodiesCanBeRead : Type 0

@@ -1,8 +1,9 @@
 // Bodies that are looked at and not read.
 ghost use Rattle.std.specs.Prelude.{◌≡◌, ◌≤◌, true, length};
-ghost use Rattle.eit_codec.specs.Bodies.{are_descriptors, entry_length, begins_with_entry, are_entries, is_eit_body};
+ghost use Rattle.eit_codec.specs.Bodies.{entry_length, begins_with_entry, are_entries, is_eit_body};
 
 use si_time::{duration_from_bcd, from_bcd};
+use table_entries::are_descriptors;
 
 /// Whether these bytes are the body of a section of event information, as `read_eit` reads it (EN 300 468, 5.2.4). It
 /// takes no memory.
@@ -50,19 +51,4 @@ fn entry_length(bytes: &[u8]) -> usize
     ensures { result ≡ entry_length bytes.now }
 {
     12 + usize::from(u16::from_be_bytes([bytes[10], bytes[11]]) % 4096)
-}
-
-// Whether these bytes are descriptors, one after the other.
-fn are_descriptors(bytes: &[u8]) -> bool
-    ensures { result ≡ are_descriptors (length bytes.now) bytes.now }
-{
-    let mut rest = bytes;
-    while let [_tag, len, behind @ ..] = rest {
-        let len = usize::from(*len);
-        if behind.len() < len {
-            return false;
-        }
-        rest = &behind[len..];
-    }
-    rest.is_empty()
 }

@@ -92,6 +92,11 @@ length-cable : (c : Option Cable) → length (cable_descriptors c) ≡ cable_siz
 length-cable None = refl
 length-cable (Some c) = refl
 
+-- the descriptor of a cable is short
+pub cable_small : (c : Option Cable) → cable_size c ≤ 13
+cable_small None = omega arith
+cable_small (Some c) = omega arith
+
 pub length-descriptors : (c : Option Cable) (ks : List ServiceKind) → length (cable_descriptors c ++ service_list ks) ≡ cable_size c + (2 + 3 * length ks)
 length-descriptors c ks = omega (arith, length-append (cable_descriptors c) (service_list ks), length-service_list_body ks, length-cable c)
 

@@ -16,6 +16,7 @@ use Rattle.desc_service.proofs.Entries.{length-languages_body}
 use Rattle.pat_pmt.specs.declared.pat.PatEntry.{PatEntry}
 use Rattle.pat_pmt.specs.Pat.{pat_body, HasPid as HasProgramPid}
 use Rattle.pat_pmt.specs.Pmt.{HasPid, FitsComponent, FitsPmt, component_bytes, language_descriptors, pmt_body}
+use Rattle.nit_sdt.proofs.Networks.{cable_small}
 use Rattle.nit_sdt.specs.Nit.{FitsStream, cable_size, nit_body, stream_size}
 use Rattle.nit_sdt.specs.Bodies.{CanBeWritten}
 use Rattle.nit_sdt.proofs.Networks.{nit-has_its_size}
@@ -83,10 +84,6 @@ cable_fits (Some c) sound = record {
   fec_inner = omega (arith, sound.fec_inner);
 }
 
-cable_short : (c : Option Cable) → cable_size c ≤ 13
-cable_short None = omega arith
-cable_short (Some c) = omega arith
-
 pub name_fits : (mux : Mux) → IsSound mux → length (shown_bytes (nit_of mux).name) ≤ 255
 name_fits mux sound = omega (arith, length-coded_text mux.network_name, sound.network_name.1)
 
@@ -97,7 +94,7 @@ streams_fit mux sound = All-from_recursion FitsStream (nit_of mux).streams (
 )
 
 pub streams_short : (mux : Mux) → IsSound mux → sum_by stream_size (nit_of mux).streams ≤ 213
-streams_short mux sound = omega (arith, cable_short mux.cable, length-map mux.services kind_of, sound.count.1)
+streams_short mux sound = omega (arith, cable_small mux.cable, length-map mux.services kind_of, sound.count.1)
 
 pub nit_fits : (mux : Mux) → IsSound mux → CanBeWritten (nit_of mux)
 nit_fits mux sound = record { name = name_fits mux sound; streams = streams_fit mux sound; within = omega (arith, streams_short mux sound) }

@@ -13,7 +13,7 @@ pub record Decides (test : ℕ → List ℕ → Bool) (bytes rest : List ℕ) : 
 pub all_left : (test : ℕ → List ℕ → Bool) (bytes : List ℕ) → Decides test bytes bytes
 all_left test bytes = record { n = length bytes; enough = omega arith; same = refl }
 
-and_true : (a b : Bool) → a ≡ true → (a && b) ≡ b
+pub and_true : (a b : Bool) → a ≡ true → (a && b) ≡ b
 and_true a b e = ap (λ (x : Bool). x && b) e
 
 -- one entry more, where there are bytes

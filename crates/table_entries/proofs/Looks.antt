@@ -17,7 +17,7 @@ use Rattle.table_entries.proofs.Looked.{first_of}
 
 -- ---- descriptors
 
-descriptors_within : (n : ℕ) (ds : List RawDesc) → length (flat_map descriptor_bytes ds) ≤ n
+pub descriptors_within : (n : ℕ) (ds : List RawDesc) → length (flat_map descriptor_bytes ds) ≤ n
     → are_descriptors n (flat_map descriptor_bytes ds) ≡ true
 descriptors_within n [] le = refl
 descriptors_within zero (d ∷ ds) le = absurd (omega arith)
@@ -132,7 +132,7 @@ bytes_behind zero xs all = all
 bytes_behind (suc n) [] all = tt
 bytes_behind (suc n) (x ∷ xs) all = bytes_behind n xs all.1
 
-bytes_before : (n : ℕ) (xs : List ℕ) → AreBytes xs → AreBytes (take n xs)
+pub bytes_before : (n : ℕ) (xs : List ℕ) → AreBytes xs → AreBytes (take n xs)
 bytes_before zero xs all = tt
 bytes_before (suc n) [] all = tt
 bytes_before (suc n) (x ∷ xs) all = (all.0, bytes_before n xs all.1)
@@ -142,7 +142,7 @@ byte_at n [] all = omega arith
 byte_at zero (x ∷ xs) all = all.0
 byte_at (suc n) (x ∷ xs) all = byte_at n xs all.1
 
-descriptors_of : (n : ℕ) (bytes : List ℕ) → AreBytes bytes → are_descriptors n bytes ≡ true
+pub descriptors_of : (n : ℕ) (bytes : List ℕ) → AreBytes bytes → are_descriptors n bytes ≡ true
     → (descs : List RawDesc) × AreDescriptors bytes descs
 descriptors_of n [] all e = ([], record { whole = refl; lengths = tt })
 descriptors_of n (tag ∷ []) all e = cc

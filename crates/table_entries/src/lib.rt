@@ -11,4 +11,4 @@ mod entry;
 mod loops;
 
 pub use entry::{RawEntry, split_entry};
-pub use loops::{are_entries, behind_entry};
+pub use loops::{are_descriptors, are_entries, behind_entry};

@@ -41,8 +41,8 @@ pub fn behind_entry(size: usize, bytes: &[u8]) -> Option<&[u8]>
     Some(rest)
 }
 
-// Whether these bytes are descriptors, one after the other.
-fn are_descriptors(bytes: &[u8]) -> bool
+/// Whether these bytes are descriptors, one after the other, of which none runs past the end (EN 300 468, 6.1). It takes no memory.
+pub fn are_descriptors(bytes: &[u8]) -> bool
     ensures { result ≡ are_descriptors (length bytes.now) bytes.now }
 {
     let mut rest = bytes;

@@ -5,12 +5,12 @@ use Rattle.si_time.specs.Readings.{moment_from_bcd}
 use Rattle.section_codec.proofs.ReadBack.{section_in-short_bytes}
 use Rattle.time_tables.specs.Tdt.{tdt_in, TdtIsASection}
 
-five : (at : ℕ) → length (moment_bcd at) ≡ 5
+pub five_bytes : (at : ℕ) → length (moment_bcd at) ≡ 5
 unfolding moment_bcd
-five at = refl
+five_bytes at = refl
 
 pub tdt-is_a_section : TdtIsASection
-tdt-is_a_section at lt = section_in-short_bytes 0x70 (moment_bcd at) (record { fits = lit< tt; form = refl; within = omega (arith, five at) })
+tdt-is_a_section at lt = section_in-short_bytes 0x70 (moment_bcd at) (record { fits = lit< tt; form = refl; within = omega (arith, five_bytes at) })
 
 pub no_time : (body : List ℕ) → (length body ≡ 5 → ⊥) → None ≡ tdt_in body
 unfolding moment_from_bcd

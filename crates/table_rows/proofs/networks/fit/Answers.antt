@@ -1,11 +1,11 @@
-use Rattle.std.proofs.Common.{◌≤◌, Option, None, Some, arith, refl, subst}
+use Rattle.std.proofs.Common.{◌≤◌, arith, refl, subst}
 use Rattle.std.specs.List.{All}
 use Rattle.std.proofs.lemmas.List.{take_all}
 use Rattle.std.proofs.lemmas.List.Elements.{All-more}
 use Rattle.std.proofs.lemmas.List.Sums.{sum_by-le}
-use Rattle.guide_model.specs.declared.stream.Cable.{Cable}
 use Rattle.nit_sdt.specs.declared.nit.NitStream.{NitStream}
-use Rattle.nit_sdt.specs.Nit.{FitsStream, cable_size, stream_size}
+use Rattle.nit_sdt.specs.Nit.{FitsStream, stream_size}
+use Rattle.nit_sdt.proofs.Networks.{cable_small}
 use Rattle.table_rows.proofs.networks.fit.Goals as goal
 
 pub loop-stream-preserved : goal.loop-stream-preserved
@@ -15,10 +15,6 @@ loop-stream-preserved c =
 
 pub returns-clause-each : goal.returns-clause-each
 returns-clause-each c = λ done. subst (All FitsStream) (take_all c.loop-stream.stream-index c.args.streams.now (omega arith)) c.loop-stream.invariant
-
-cable_small : (c : Option Cable) → cable_size c ≤ 13
-cable_small None = omega arith
-cable_small (Some c) = omega arith
 
 small : (s : NitStream) → FitsStream s → stream_size s ≤ 276
 small s fits = omega (arith, fits.services, cable_small s.cable)
