@@ -9,7 +9,7 @@ use Rattle.guide_model.specs.declared.screen.ScreenEvent.{ScreenEvent}
 use Rattle.desc_parts.specs.declared.descriptors.RawDesc.{RawDesc}
 use Rattle.section_codec.specs.declared.table.NumberedBody.{NumberedBody}
 use Rattle.section_codec.specs.Contents.{Content, part_in}
-use Rattle.table_entries.specs.Loops.{loop_of, entry_length, behind_entry, AreBytes}
+use Rattle.table_entries.specs.Loops.{loop_of, loop_length, entry_length, behind_entry, AreBytes}
 use Rattle.pat_pmt.specs.declared.pat.PatEntry.{PatEntry}
 use Rattle.pat_pmt.specs.declared.pmt.Pmt.{Pmt}
 use Rattle.pat_pmt.specs.Pat.{pat_in}
@@ -48,14 +48,11 @@ descriptors_within (suc n) (tag ∷ len ∷ behind) =
     then option_map (λ descs. desc_of tag len behind ∷ descs) (descriptors_within n (drop len behind))
     else None
 
-abbrev pub descriptors_in : List ℕ → Option (List RawDesc)
-descriptors_in bytes = descriptors_within (length bytes) bytes
-
 -- what the entry at the front says, whose fields have `size` bytes, whatever the four bits before its length
 abbrev pub entry_in : {X : Type 0} → ℕ → (List ℕ → List RawDesc → Option X) → List ℕ → Option X
 entry_in size says bytes =
     if nat_le (entry_length size bytes) (length bytes)
-    then option_and_then (says (take size bytes)) (descriptors_in (loop_of size bytes))
+    then option_and_then (says (take size bytes)) (descriptors_within (loop_length size bytes) (loop_of size bytes))
     else None
 
 -- What the entries say that bytes are, one after the other. n bounds their number.

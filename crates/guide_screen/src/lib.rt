@@ -5,6 +5,8 @@
 //! needs, and `specs/Screen.antt` what it shows.
 #![tactic(auto)]
 
+mod laws;
 mod need;
 
+pub use laws::{bodies_say_what_is_read, screens_need_nothing};
 pub use need::{Heard, Need, Needs};
