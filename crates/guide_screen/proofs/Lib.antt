@@ -1,3 +1,3 @@
 pub mod Entries
-pub mod Bodies
+pub mod Saying
 pub mod Hearing

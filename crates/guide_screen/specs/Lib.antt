@@ -1,4 +1,5 @@
 pub mod View
+pub mod Holding
 pub mod Reading
 pub mod Needs
 pub mod Screen

@@ -5,8 +5,12 @@
 //! needs, and `specs/Screen.antt` what it shows.
 #![tactic(auto)]
 
+mod bodies;
+mod contents;
 mod laws;
 mod need;
+mod told;
 
+pub use contents::Latest;
 pub use laws::{bodies_say_what_is_read, screens_need_nothing};
 pub use need::{Heard, Need, Needs};

@@ -1,4 +1,4 @@
-use Rattle.guide_screen.proofs.Bodies.{bodies_say, bodies_are_read}
+use Rattle.guide_screen.proofs.Saying.{bodies_say, bodies_are_read}
 use Rattle.guide_screen.proofs.laws.bodies_say_what_is_read.Goals as goal
 
 pub returns : goal.returns

@@ -281,6 +281,11 @@ eit_read body e all said = as_said (IsEit body) (eit_in body) (eit_said body) (b
 
 -- ---- all of them
 
+-- what is not read says nothing
+pub says_none : {X : Type 0} (Is : X → Type 0) (o : Option X) → ((x : X) → o ≡ Some x → Is x) → ((x : X) → Is x → ⊥) → None ≡ o
+says_none Is None read none = refl
+says_none Is (Some x) read none = absurd (none x (read x refl))
+
 pub bodies_say : BodiesSay
 bodies_say = record { pmt = pmt_said; nit = nit_said; sdt = sdt_said; eit = eit_said }
 
