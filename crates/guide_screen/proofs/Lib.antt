@@ -1,3 +1,4 @@
 pub mod Entries
 pub mod Saying
 pub mod Hearing
+pub mod Ordering

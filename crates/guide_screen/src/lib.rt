@@ -9,6 +9,7 @@ mod bodies;
 mod contents;
 mod laws;
 mod need;
+mod services;
 mod told;
 
 pub use contents::Latest;
