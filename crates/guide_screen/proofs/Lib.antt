@@ -2,3 +2,4 @@ pub mod Entries
 pub mod Saying
 pub mod Hearing
 pub mod Ordering
+pub mod Lists

@@ -1,5 +1,5 @@
 -- Services by their ids.
-use Rattle.std.proofs.Common.{◌≡◌, ℕ, Bool, true, false, List, [], ◌∷◌, ◌++◌, length, take, drop, map, Option, Some, refl, sym, ap, ap₂, ◌∙◌, append_assoc, take-append-drop, Less, Equal, Greater, nat_cmp}
+use Rattle.std.proofs.Common.{◌≡◌, ℕ, Bool, true, false, List, [], ◌∷◌, ◌++◌, length, take, drop, map, Option, Some, refl, sym, ap, ◌∙◌, append_assoc, take-append-drop, Less, Equal, Greater, nat_cmp}
 use Rattle.std.specs.Prelude.{if◌then◌else◌, cond, ◌==◌, nat_lt, option_to_list}
 use Rattle.std.specs.BTreeMap.{insert_entry}
 use Rattle.std.specs.Ordering.{match_ordering}

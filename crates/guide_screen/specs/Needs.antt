@@ -1,5 +1,5 @@
 -- What a receiver needs before it can show a guide (ISO/IEC 13818-1, 2.4.4; EN 300 468, 5.2).
-use Rattle.std.specs.Prelude.{ℕ, ◌-◌, min, List, [], ◌∷◌, ◌++◌, ◌==◌, if◌then◌else◌, nat_lt, Option, Some, None, map}
+use Rattle.std.specs.Prelude.{ℕ, ◌+◌, ◌-◌, min, Bool, List, [], ◌∷◌, ◌++◌, ◌==◌, if◌then◌else◌, nat_lt, Option, Some, None, is_some, map}
 use Rattle.std.specs.List.{flat_map}
 use Rattle.section_codec.specs.declared.table.Key.{Key}
 use Rattle.section_codec.specs.Contents.{Content, numbers_from}
@@ -8,7 +8,7 @@ use Rattle.pat_pmt.specs.declared.pat.PatEntry.{PatEntry}
 use Rattle.nit_sdt.specs.declared.sdt.SdtService.{SdtService}
 use Rattle.guide_screen.specs.declared.need.Need.{Need}
 use Rattle.guide_screen.specs.declared.need.Need.TheVariants.{Pat, Nit, Sdt, Clock, Pmt, Present, Schedule}
-use Rattle.guide_screen.specs.View.{View, sections_at, sdt_of, pmt_key, eit_key}
+use Rattle.guide_screen.specs.View.{View, sections_at, sdt_of, pmt_key, eit_key, table_at}
 use Rattle.guide_screen.specs.Reading.{programs_in, services_in, told}
 
 -- ---- programs and services
@@ -43,10 +43,9 @@ last_beside (Some told) = min 0x5F told.1
 abbrev pub last_table : Content → ℕ
 last_table c = last_beside (told eit_numbers_in 0 c)
 
--- the tables of a schedule behind the first one, whose content this is
-abbrev pub further_tables : Option Content → List ℕ
-further_tables None = []
-further_tables (Some c) = numbers_from 0x51 (last_table c - 0x50)
+-- the tables from a first one to a last one
+abbrev pub tables_to : ℕ → ℕ → List ℕ
+tables_to first last = numbers_from first (1 + last - first)
 
 -- ---- wants
 
@@ -67,8 +66,9 @@ want_present sdt s = if s.present then record { need = Present s.service; key = 
 abbrev pub want_table : Key → ℕ → ℕ → Want
 want_table sdt service table = record { need = Schedule service table; key = eit_key sdt table service }
 
+-- its first table, and those that it tells; where it was not completed it tells none
 abbrev pub schedule_tables : (Key → Option Content) → Key → ℕ → List ℕ
-schedule_tables content sdt service = 0x50 ∷ further_tables (content (eit_key sdt 0x50 service))
+schedule_tables content sdt service = 0x50 ∷ tables_to 0x51 (last_table (table_at content sdt service 0x50))
 
 abbrev pub want_schedule : (Key → Option Content) → Key → SdtService → List Want
 want_schedule content sdt s = if s.schedule then map (want_table sdt s.service) (schedule_tables content sdt s.service) else []
@@ -85,16 +85,18 @@ wants V = flat_map want_pmt (programs V) ++ want_services V.content (sdt_of V) (
 
 -- ---- needs
 
--- a need, where there is not what meets it
-abbrev pub unless : {X : Type 0} → Need → Option X → List Need
-unless need None = need ∷ []
-unless need (Some x) = []
+-- a need, where it is not met
+abbrev pub unless : Need → Bool → List Need
+unless need met = if met then [] else need ∷ []
 
 abbrev pub unmet : (Key → Option Content) → Want → List Need
-unmet content w = unless w.need (content w.key)
+unmet content w = unless w.need (is_some (content w.key))
+
+abbrev pub unmet_of : (Key → Option Content) → List Want → List Need
+unmet_of content ws = flat_map (unmet content) ws
 
 -- the needs that are not met, in order
 abbrev pub needs : View → List Need
 needs V =
-    unless Pat V.pat ++ unless Nit V.nit ++ unless Sdt (sdt_of V) ++ unless Clock V.clock
-    ++ flat_map (unmet V.content) (wants V)
+    unless Pat (is_some V.pat) ++ unless Nit (is_some V.nit) ++ unless Sdt (is_some (sdt_of V)) ++ unless Clock (is_some V.clock)
+    ++ unmet_of V.content (wants V)

@@ -1,5 +1,5 @@
 -- What a receiver shows (EN 300 468, 5.2).
-use Rattle.std.specs.Prelude.{◌≡◌, ◌≢◌, ◌↔◌, ℕ, ◌-◌, ◌&&◌, List, [], ◌∷◌, ◌==◌, if◌then◌else◌, Option, Some, None, map, option_map, option_and_then, unwrap_or}
+use Rattle.std.specs.Prelude.{◌≡◌, ◌≢◌, ◌↔◌, ℕ, ◌&&◌, List, [], ◌∷◌, ◌==◌, if◌then◌else◌, Option, Some, None, map, option_map, option_and_then, unwrap_or}
 use Rattle.std.specs.List.{flat_map}
 use Rattle.si_text.specs.declared.shown.Shown.{Shown}
 use Rattle.si_text.specs.declared.shown.Shown.TheVariants.{Text}
@@ -8,7 +8,7 @@ use Rattle.guide_model.specs.declared.screen.ScreenEvent.{ScreenEvent}
 use Rattle.guide_model.specs.declared.screen.ScreenService.{ScreenService}
 use Rattle.guide_model.specs.declared.screen.Screen.{Screen}
 use Rattle.section_codec.specs.declared.table.Key.{Key}
-use Rattle.section_codec.specs.Contents.{Content, numbers_from}
+use Rattle.section_codec.specs.Contents.{Content}
 use Rattle.pat_pmt.specs.declared.pat.PatEntry.{PatEntry}
 use Rattle.pat_pmt.specs.declared.pmt.Pmt.{Pmt}
 use Rattle.nit_sdt.specs.declared.nit.NitStream.{NitStream}
@@ -17,9 +17,9 @@ use Rattle.eit_codec.specs.declared.eit.Eit.{Eit}
 use Rattle.guide_screen.specs.declared.need.Need.{Need}
 use Rattle.guide_screen.specs.declared.need.Heard.{Heard}
 use Rattle.guide_screen.specs.declared.need.Heard.TheVariants.{Whole, Wanting}
-use Rattle.guide_screen.specs.View.{View, sections, sdt_of, pmt_key, eit_key}
+use Rattle.guide_screen.specs.View.{View, sections, sdt_of, pmt_key, table_at}
 use Rattle.guide_screen.specs.Reading.{pmt_in, nit_in, eit_in, streams_in, events_in, told}
-use Rattle.guide_screen.specs.Needs.{programs, services, last_table, needs}
+use Rattle.guide_screen.specs.Needs.{programs, services, last_table, tables_to, needs}
 
 -- ---- a service
 
@@ -38,10 +38,6 @@ pmt_at content service pid = told pmt_in 0 (sections (content (pmt_key pid servi
 abbrev pub pmt_of : (Key → Option Content) → ℕ → Option ℕ → Option Pmt
 pmt_of content service pid = option_and_then (pmt_at content service) pid
 
--- the sections of a table of events of a service
-abbrev pub table_at : (Key → Option Content) → Key → ℕ → ℕ → Content
-table_at content sdt service table = sections (content (eit_key sdt table service))
-
 -- the first event of the section with this number
 abbrev pub first_of : List ScreenEvent → Option ScreenEvent
 first_of [] = None
@@ -50,15 +46,11 @@ first_of (e ∷ es) = Some e
 abbrev pub event_at : ℕ → Content → Option ScreenEvent
 event_at number c = option_and_then (λ (eit : Eit). first_of eit.events) (told eit_in number c)
 
--- the tables of a schedule, where the first one has this content; none below 0x50
-abbrev pub tables_of : Option Content → List ℕ
-tables_of None = []
-tables_of (Some c) = numbers_from 0x50 (last_table c - 0x4F)
-
--- the events of the tables of a schedule, in the order of tables and sections
+-- the events of a schedule, in the order of tables and sections: of the tables that its first one tells, those that were completed
 abbrev pub schedule_of : (Key → Option Content) → Key → ℕ → List ScreenEvent
 schedule_of content sdt service =
-    flat_map (λ table. events_in (table_at content sdt service table)) (tables_of (content (eit_key sdt 0x50 service)))
+    flat_map (λ table. events_in (table_at content sdt service table))
+    (tables_to 0x50 (last_table (table_at content sdt service 0x50)))
 
 abbrev pub service_with : (Key → Option Content) → Key → SdtService → Option ℕ → Option Pmt → ScreenService
 service_with content sdt s pid pmt = record {

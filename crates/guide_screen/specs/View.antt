@@ -38,3 +38,7 @@ pmt_key pid program = record { pid = pid; table = 0x02; ext = program; stream = 
 -- a table of events of a service, of the stream and the network that this SDT names
 abbrev pub eit_key : Key → ℕ → ℕ → Key
 eit_key sdt table service = record { pid = 0x12; table = table; ext = service; stream = sdt.ext; network = sdt.network }
+
+-- the sections of a table of events of a service
+abbrev pub table_at : (Key → Option Content) → Key → ℕ → ℕ → Content
+table_at content sdt service table = sections (content (eit_key sdt table service))

@@ -9,6 +9,7 @@ mod bodies;
 mod contents;
 mod laws;
 mod need;
+mod needs;
 mod services;
 mod told;
 

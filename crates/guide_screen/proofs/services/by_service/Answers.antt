@@ -1,4 +1,4 @@
-use Rattle.std.proofs.Common.{◌≡◌, ◌++◌, ◌∙◌, ℕ, length, List, ap₂, sym}
+use Rattle.std.proofs.Common.{◌≡◌, ◌++◌, ◌∙◌, length, List, ap₂, sym}
 use Rattle.nit_sdt.specs.declared.sdt.SdtService.{SdtService}
 use Rattle.guide_screen.proofs.Ordering.{one_taken, all_taken}
 use Rattle.guide_screen.proofs.services.by_service.Goals as goal
