@@ -3,3 +3,4 @@ pub mod Saying
 pub mod Hearing
 pub mod Ordering
 pub mod Lists
+pub mod Pids

@@ -14,8 +14,8 @@ use Rattle.guide_screen.specs.Reading.{programs_in, services_in, told}
 -- ---- programs and services
 
 -- the programs of the PAT
-abbrev pub programs : View → List PatEntry
-programs V = programs_in (sections_at V.content V.pat)
+abbrev pub programs_of : View → List PatEntry
+programs_of V = programs_in (sections_at V.content V.pat)
 
 -- by ascending service_id; a repeated one once, by its first entry
 abbrev pub with_service : SdtService → List SdtService → List SdtService
@@ -30,8 +30,8 @@ by_service [] = []
 by_service (s ∷ ss) = with_service s (by_service ss)
 
 -- the services of the SDT
-abbrev pub services : View → List SdtService
-services V = by_service (services_in (sections_at V.content (sdt_of V)))
+abbrev pub services_of : View → List SdtService
+services_of V = by_service (services_in (sections_at V.content (sdt_of V)))
 
 -- ---- the tables of a schedule
 
@@ -81,7 +81,7 @@ want_services content None ss = []
 want_services content (Some sdt) ss = flat_map (want_service content sdt) ss
 
 abbrev pub wants : View → List Want
-wants V = flat_map want_pmt (programs V) ++ want_services V.content (sdt_of V) (services V)
+wants V = flat_map want_pmt (programs_of V) ++ want_services V.content (sdt_of V) (services_of V)
 
 -- ---- needs
 

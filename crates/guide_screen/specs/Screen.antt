@@ -19,7 +19,7 @@ use Rattle.guide_screen.specs.declared.need.Heard.{Heard}
 use Rattle.guide_screen.specs.declared.need.Heard.TheVariants.{Whole, Wanting}
 use Rattle.guide_screen.specs.View.{View, sections, sdt_of, pmt_key, table_at}
 use Rattle.guide_screen.specs.Reading.{pmt_in, nit_in, eit_in, streams_in, events_in, told}
-use Rattle.guide_screen.specs.Needs.{programs, services, last_table, tables_to, needs}
+use Rattle.guide_screen.specs.Needs.{programs_of, services_of, last_table, tables_to, needs}
 
 -- ---- a service
 
@@ -91,7 +91,7 @@ screen V pat nit sdt clock = record {
   stream = pat.ext;
   original = sdt.network;
   cable = cable_in pat.ext sdt.network (streams_in (sections (V.content nit)));
-  services = map (screen_service V.content (programs V) sdt) (services V);
+  services = map (screen_service V.content (programs_of V) sdt) (services_of V);
 }
 
 -- the needs that are not met, or else the screen

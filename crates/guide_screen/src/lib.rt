@@ -10,6 +10,7 @@ mod contents;
 mod laws;
 mod need;
 mod needs;
+mod screen;
 mod services;
 mod told;
 

@@ -2,11 +2,12 @@
 ghost use Rattle.std.specs.Prelude.{◌≡◌, ◌++◌, ◌∷◌, [], Option, map, flat_map, IfOk, OnOk};
 ghost use Rattle.section_codec.specs.declared.table.Key.{Key};
 ghost use Rattle.section_codec.specs.Contents.{Content};
-ghost use Rattle.guide_screen.specs.Holding.{Keeps};
-ghost use Rattle.guide_screen.specs.Needs.{unless, unmet_of, tables_to};
+ghost use Rattle.guide_screen.specs.Holding.{Holds, Keeps};
+ghost use Rattle.guide_screen.specs.View.{View};
+ghost use Rattle.guide_screen.specs.Needs.{programs_of, services_of, needs, unless, unmet_of, tables_to};
 ghost use Rattle.guide_screen.specs.Needs.{want_pmt, want_present, want_schedule, want_service, want_services, want_table};
 
-use crate::contents::{eit_key, is_completed, pmt_key, sections_of};
+use crate::contents::{Latest, eit_key, is_completed, pmt_key, sections_of};
 use crate::need::Need;
 use crate::told::last_table;
 use nit_sdt::SdtService;
@@ -169,4 +170,25 @@ fn put_services(
         put_service(alloc, contents, sdt, service, needs)?;
     }
     Ok(())
+}
+
+// The needs that are not met, in order, by the programs of the PAT and the services of the SDT.
+pub(crate) fn needs_of(
+    alloc: Global,
+    contents: &Collector,
+    latest: &Latest,
+    programs: &[PatEntry],
+    services: &[SdtService],
+) -> Result<Vec<Need>, AllocError>
+    ensures { (V : View) → Holds contents.now latest.now V → programs.now ≡ programs_of V → services.now ≡ services_of V
+        → IfOk result (λ wanting. wanting.items ≡ needs V) }
+{
+    let mut needs = Vec::new(alloc);
+    put_unless(&mut needs, Need::Pat, latest.pat.is_some())?;
+    put_unless(&mut needs, Need::Nit, latest.nit.is_some())?;
+    put_unless(&mut needs, Need::Sdt, latest.sdt.is_some())?;
+    put_unless(&mut needs, Need::Clock, latest.clock.is_some())?;
+    put_pmts(contents, programs, &mut needs)?;
+    put_services(alloc, contents, latest.sdt, services, &mut needs)?;
+    Ok(needs)
 }
