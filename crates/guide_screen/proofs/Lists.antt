@@ -20,3 +20,10 @@ pub needs-next : (content : Key → Option Content) (before one after : List Wan
 needs-next content before one after old now new whole so_far put =
     put ∙ ap (λ (l : List Need). l ++ unmet_of content one) so_far ∙ append_assoc old (unmet_of content before) (unmet_of content one)
     ∙ ap (λ (l : List Need). old ++ l) (sym (flat_map-append (unmet content) before one) ∙ ap (unmet_of content) (sym whole))
+
+-- a list that was appended for those so far, and one more
+pub list-next : {X A : Type 0} (f : X → List A) (xs : List X) (i : ℕ) (d : X) (old now new : List A) → i < length xs
+    → now ≡ old ++ flat_map f (take i xs) → new ≡ now ++ f (get_or xs i d) → new ≡ old ++ flat_map f (take (i + 1) xs)
+list-next f xs i d old now new lt so_far put =
+    put ∙ ap (λ l. l ++ f (get_or xs i d)) so_far ∙ append_assoc old (flat_map f (take i xs)) (f (get_or xs i d))
+    ∙ ap (λ l. old ++ l) (sym (ap (flat_map f) (take_more xs i d lt) ∙ flat_map-push f (take i xs) (get_or xs i d)))

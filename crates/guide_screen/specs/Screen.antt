@@ -46,11 +46,14 @@ first_of (e ∷ es) = Some e
 abbrev pub event_at : ℕ → Content → Option ScreenEvent
 event_at number c = option_and_then (λ (eit : Eit). first_of eit.events) (told eit_in number c)
 
+-- the events of a table
+abbrev pub events_at : (Key → Option Content) → Key → ℕ → ℕ → List ScreenEvent
+events_at content sdt service table = events_in (table_at content sdt service table)
+
 -- the events of a schedule, in the order of tables and sections: of the tables that its first one tells, those that were completed
 abbrev pub schedule_of : (Key → Option Content) → Key → ℕ → List ScreenEvent
 schedule_of content sdt service =
-    flat_map (λ table. events_in (table_at content sdt service table))
-    (tables_to 0x50 (last_table (table_at content sdt service 0x50)))
+    flat_map (events_at content sdt service) (tables_to 0x50 (last_table (table_at content sdt service 0x50)))
 
 abbrev pub service_with : (Key → Option Content) → Key → SdtService → Option ℕ → Option Pmt → ScreenService
 service_with content sdt s pid pmt = record {

@@ -7,6 +7,7 @@
 
 mod bodies;
 mod contents;
+mod heard;
 mod laws;
 mod need;
 mod needs;
@@ -15,5 +16,6 @@ mod services;
 mod told;
 
 pub use contents::Latest;
+pub use heard::heard_guide;
 pub use laws::{bodies_say_what_is_read, screens_need_nothing};
 pub use need::{Heard, Need, Needs};

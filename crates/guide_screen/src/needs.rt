@@ -38,11 +38,7 @@ pub(crate) fn tables_to(alloc: Global, first: u8, last: u8) -> Result<Vec<u8>, A
 }
 
 // Appends the need of a program's PMT.
-fn put_pmt(
-    contents: &Collector,
-    entry: &PatEntry,
-    needs: &mut Vec<Need>,
-) -> Result<(), AllocError>
+fn put_pmt(contents: &Collector, entry: &PatEntry, needs: &mut Vec<Need>) -> Result<(), AllocError>
     ensures { (content : Key → Option Content) → Keeps contents.now content
         → OnOk result (needs.new.items ≡ needs.old.items ++ unmet_of content (want_pmt entry.now)) }
 {

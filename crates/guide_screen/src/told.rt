@@ -77,13 +77,7 @@ pub(crate) fn last_table(content: &[NumberedBody]) -> u8
     ensures { result ≡ last_table content.now }
 {
     match part_in(content, 0) {
-        Some(body) if 6 <= body.len() => {
-            if body[5] < 0x5F {
-                body[5]
-            } else {
-                0x5F
-            }
-        }
+        Some(body) if 6 <= body.len() => { if body[5] < 0x5F { body[5] } else { 0x5F } }
         _ => 0,
     }
 }
