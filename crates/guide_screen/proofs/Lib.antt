@@ -1,0 +1,6 @@
+pub mod Entries
+pub mod Saying
+pub mod Hearing
+pub mod Ordering
+pub mod Lists
+pub mod Pids

@@ -1,0 +1,7 @@
+use Rattle.std.proofs.Common.{take}
+use Rattle.table_entries.specs.Loops.{AreBytes}
+use Rattle.guide_screen.proofs.bodies.are_bytes.Given as goal
+
+-- those so far are bytes
+abbrev pub invariant-loop-byte : goal.invariant-loop-byte
+invariant-loop-byte l = AreBytes (take l.byte-index l.bytes)

@@ -1,0 +1,5 @@
+use Rattle.guide_screen.proofs.Saying.{bodies_say, bodies_are_read}
+use Rattle.guide_screen.proofs.laws.bodies_say_what_is_read.Goals as goal
+
+pub returns : goal.returns
+returns c = record { say = bodies_say; read = bodies_are_read }

@@ -1,0 +1,7 @@
+use Rattle.std.proofs.Common.{◌≡◌, take}
+use Rattle.guide_screen.specs.Reading.{streams_in}
+use Rattle.guide_screen.proofs.told.streams_in.Given as goal
+
+-- those of the sections so far
+abbrev pub invariant-loop-section : goal.invariant-loop-section
+invariant-loop-section l = l.streams.items ≡ streams_in (take l.section-index l.content)

@@ -1,0 +1,21 @@
+//! What a receiver shows of the sub-tables that it heard whole: the needs that are not met, or the whole screen (ISO/IEC 13818-1,
+//! 2.4.4; EN 300 468, 5.2).
+//!
+//! `specs/View.antt` says what a receiver has, `specs/Reading.antt` what the bodies of its tables say, `specs/Needs.antt` what it
+//! needs, and `specs/Screen.antt` what it shows.
+#![tactic(auto)]
+
+mod bodies;
+mod contents;
+mod heard;
+mod laws;
+mod need;
+mod needs;
+mod screen;
+mod services;
+mod told;
+
+pub use contents::Latest;
+pub use heard::heard_guide;
+pub use laws::{bodies_say_what_is_read, screens_need_nothing};
+pub use need::{Heard, Need, Needs};

@@ -1,0 +1,207 @@
+// The screen.
+ghost use Rattle.std.specs.Prelude.{◌≡◌, ◌++◌, ℕ, List, [], Option, map, flat_map, option_map, unwrap_or, IfOk, OnOk};
+ghost use Rattle.std.specs.BTreeMap.{get};
+ghost use Rattle.std.specs.Ordering.{nat_cmp};
+ghost use Rattle.section_codec.specs.declared.table.Key.{Key};
+ghost use Rattle.section_codec.specs.Contents.{Content};
+ghost use Rattle.pat_pmt.specs.declared.pat.PatEntry.{PatEntry};
+ghost use Rattle.guide_screen.specs.View.{View};
+ghost use Rattle.guide_screen.specs.Holding.{Keeps};
+ghost use Rattle.guide_screen.specs.Needs.{programs_of, services_of};
+ghost use Rattle.guide_screen.specs.Screen.{pid_in, pmt_pid, pmt_of, events_at, schedule_of, service_on, screen_service, cable_in, screen};
+
+use crate::contents::{eit_key, pmt_key, sections_of};
+use crate::needs::tables_to;
+use crate::told::{event_at, last_table, network_name, pmt_told, put_events, streams_in};
+use guide_model::{
+    Cable, Components, Screen, ScreenEvent, ScreenEvents, ScreenService, ScreenServices,
+};
+use nit_sdt::{NitStream, SdtService};
+use pat_pmt::{PatEntry, Pmt};
+use section_codec::Key;
+use si_base::Items;
+use si_time::Moment;
+use std::alloc::{AllocError, Global};
+use std::collections::BTreeMap;
+use sub_collect::Collector;
+
+// Of each program the PID of its first entry.
+fn pids_of(alloc: Global, programs: &[PatEntry]) -> Result<BTreeMap<u16, u16>, AllocError>
+    ensures { IfOk result (λ pids. (program : ℕ) → get nat_cmp pids program ≡ pid_in program programs.now) }
+{
+    let mut pids = BTreeMap::new(alloc);
+    let mut left = programs.len();
+    while left > 0 {
+        left -= 1;
+        let entry = programs[left];
+        pids.insert(entry.program, entry.pid)?;
+    }
+    Ok(pids)
+}
+
+// The PID of the PMT of a service; service 0 has none.
+fn pmt_pid(pids: &BTreeMap<u16, u16>, service: u16) -> Option<u16>
+    ensures { (programs : List PatEntry) → ((program : ℕ) → get nat_cmp pids.now program ≡ pid_in program programs) → result ≡ pmt_pid programs service }
+{
+    if service == 0 {
+        return None;
+    }
+    pids.get(&service).copied()
+}
+
+// The PMT of a service on this PID.
+fn pmt_of(
+    alloc: Global,
+    contents: &Collector,
+    service: u16,
+    pid: Option<u16>,
+) -> Result<Option<Pmt>, AllocError>
+    ensures { (content : Key → Option Content) → Keeps contents.now content → IfOk result (λ pmt. pmt ≡ pmt_of content service pid) }
+{
+    match pid {
+        Some(pid) => pmt_told(alloc, sections_of(contents, pmt_key(pid, service))),
+        None => Ok(None),
+    }
+}
+
+// The cable of the first of these streams with these ids.
+fn cable_in(streams: &[NitStream], stream: u16, original: u16) -> Option<Cable>
+    ensures { result ≡ cable_in stream original streams.now }
+{
+    for entry in streams {
+        if entry.stream == stream && entry.original == original {
+            return entry.cable;
+        }
+    }
+    None
+}
+
+// The events of the schedule of a service: of the tables that its first one tells, those that were completed.
+fn schedule_of(
+    alloc: Global,
+    contents: &Collector,
+    sdt: Key,
+    service: u16,
+) -> Result<ScreenEvents, AllocError>
+    ensures { (content : Key → Option Content) → Keeps contents.now content → IfOk result (λ events. events ≡ schedule_of content sdt service) }
+{
+    let first = sections_of(contents, eit_key(sdt, 0x50, service));
+    let tables = tables_to(alloc, 0x50, last_table(first))?;
+    let mut events = Vec::new(alloc);
+    put_tables(alloc, contents, sdt, service, &tables, &mut events)?;
+    Ok(Items::of(events))
+}
+
+// Appends the events of these tables; want of memory may leave a part of them.
+fn put_tables(
+    alloc: Global,
+    contents: &Collector,
+    sdt: Key,
+    service: u16,
+    tables: &[u8],
+    events: &mut Vec<ScreenEvent>,
+) -> Result<(), AllocError>
+    ensures { (content : Key → Option Content) → Keeps contents.now content
+        → OnOk result (events.new.items ≡ events.old.items ++ flat_map (events_at content sdt service) tables.now) }
+{
+    for table in tables {
+        let sections = sections_of(contents, eit_key(sdt, *table, service));
+        put_events(alloc, sections, events)?;
+    }
+    Ok(())
+}
+
+// What is shown of a service, whose PMT has this PID.
+fn service_on(
+    alloc: Global,
+    contents: &Collector,
+    sdt: Key,
+    service: SdtService,
+    pid: Option<u16>,
+) -> Result<ScreenService, AllocError>
+    ensures { (content : Key → Option Content) → Keeps contents.now content → IfOk result (λ shown. shown ≡ service_on content sdt service pid) }
+{
+    let id = service.service;
+    let (pcr_pid, components) = clock_and_components(alloc, pmt_of(alloc, contents, id, pid)?);
+    let present = sections_of(contents, eit_key(sdt, 0x4E, id));
+    let now = event_at(alloc, 0, present)?;
+    let next = event_at(alloc, 1, present)?;
+    let events = schedule_of(alloc, contents, sdt, id)?;
+    Ok(ScreenService {
+        service: id,
+        kind: service.kind,
+        provider: service.provider,
+        name: service.name,
+        pmt_pid: pid,
+        pcr_pid,
+        components,
+        now,
+        next,
+        events,
+    })
+}
+
+// The PCR PID and the components of a PMT; none of both without it.
+fn clock_and_components(alloc: Global, pmt: Option<Pmt>) -> (Option<u16>, Components)
+    ensures pcr_pid { result.0 ≡ option_map (λ p. p.pcr_pid) pmt }
+    ensures components { result.1 ≡ unwrap_or (option_map (λ p. p.components) pmt) [] }
+{
+    match pmt {
+        Some(pmt) => (Some(pmt.pcr_pid), pmt.components),
+        None => (None, Items::new(alloc)),
+    }
+}
+
+// What is shown of these services.
+fn screen_services(
+    alloc: Global,
+    contents: &Collector,
+    programs: &[PatEntry],
+    sdt: Key,
+    services: Vec<SdtService>,
+) -> Result<ScreenServices, AllocError>
+    ensures { (content : Key → Option Content) → Keeps contents.now content → IfOk result (λ shown. shown ≡ map (screen_service content programs.now sdt) services.items) }
+{
+    let pids = pids_of(alloc, programs)?;
+    let mut shown = Vec::with_capacity(alloc, services.len())?;
+    for service in services {
+        let pid = pmt_pid(&pids, service.service);
+        shown.push(service_on(alloc, contents, sdt, service, pid)?)?;
+    }
+    Ok(Items::of(shown))
+}
+
+// The keys of the tables that a screen shows, and the moment.
+#[derive(Clone, Copy)]
+pub(crate) struct Named {
+    pub(crate) pat: Key,
+    pub(crate) nit: Key,
+    pub(crate) sdt: Key,
+    pub(crate) clock: Moment,
+}
+
+// The screen of these programs and services.
+pub(crate) fn screen_of(
+    alloc: Global,
+    contents: &Collector,
+    of: Named,
+    programs: &[PatEntry],
+    services: Vec<SdtService>,
+) -> Result<Screen, AllocError>
+    ensures { (V : View) → Keeps contents.now V.content → programs.now ≡ programs_of V → services.items ≡ services_of V
+        → IfOk result (λ shown. shown ≡ screen V of.pat of.nit of.sdt of.clock.0) }
+{
+    let network = sections_of(contents, of.nit);
+    let streams = streams_in(alloc, network)?;
+    let network_name = network_name(alloc, network)?;
+    let services = screen_services(alloc, contents, programs, of.sdt, services)?;
+    Ok(Screen {
+        clock: of.clock,
+        network: of.nit.ext,
+        network_name,
+        stream: of.pat.ext,
+        original: of.sdt.network,
+        cable: cable_in(&streams, of.pat.ext, of.sdt.network),
+        services,
+    })
+}
