@@ -117,8 +117,12 @@ event_in fields descs =
     (duration_from_bcd (duration_of fields))
 
 abbrev pub head_of : List ℕ → EitHead
-head_of body = record
-    { stream = two_at 0 body; original = two_at 2 body; segment_last = slice_index body 4; last_table = slice_index body 5 }
+head_of body = record {
+  stream = two_at 0 body;
+  original = two_at 2 body;
+  segment_last = slice_index body 4;
+  last_table = slice_index body 5;
+}
 
 abbrev pub eit_with : EitHead → List ScreenEvent → Eit
 eit_with head events = record { head = head; events = events }

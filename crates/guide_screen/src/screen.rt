@@ -41,8 +41,8 @@ fn pids_of(alloc: Global, programs: &[PatEntry]) -> Result<BTreeMap<u16, u16>, A
 
 // The PID of the PMT of a service; service 0 has none.
 fn pmt_pid(pids: &BTreeMap<u16, u16>, service: u16) -> Option<u16>
-    ensures { (programs : List PatEntry) → ((program : ℕ) → get nat_cmp pids.now program ≡ pid_in program programs) → result
-        ≡ pmt_pid programs service }
+    ensures { (programs : List PatEntry) → ((program : ℕ) → get nat_cmp pids.now program ≡ pid_in program programs)
+        → result ≡ pmt_pid programs service }
 {
     if service == 0 {
         return None;
@@ -57,7 +57,8 @@ fn pmt_of(
     service: u16,
     pid: Option<u16>,
 ) -> Result<Option<Pmt>, AllocError>
-    ensures { (content : Key → Option Content) → Keeps contents.now content → IfOk result (λ pmt. pmt ≡ pmt_of content service pid) }
+    ensures { (content : Key → Option Content) → Keeps contents.now content
+        → IfOk result (λ pmt. pmt ≡ pmt_of content service pid) }
 {
     match pid {
         Some(pid) => pmt_told(alloc, sections_of(contents, pmt_key(pid, service))),
@@ -192,7 +193,8 @@ pub(crate) fn screen_of(
     programs: &[PatEntry],
     services: Vec<SdtService>,
 ) -> Result<Screen, AllocError>
-    ensures { (V : View) → Keeps contents.now V.content → programs.now ≡ programs_of V → services.items ≡ services_of V
+    ensures { (V : View) → Keeps contents.now V.content
+        → programs.now ≡ programs_of V → services.items ≡ services_of V
         → IfOk result (λ shown. shown ≡ screen V of.pat of.nit of.sdt of.clock.0) }
 {
     let network = sections_of(contents, of.nit);
