@@ -1,5 +1,7 @@
 -- What the entries of a table say is what they are read as.
-use Rattle.std.proofs.Common.{◌≡◌, ℕ, zero, suc, ◌+◌, ◌*◌, ◌/◌, ◌%◌, ◌<◌, ◌≤◌, Bool, true, false, ◌&&◌, List, [], ◌∷◌, ◌++◌, length, take, drop, get_or, length-append, append_assoc, refl, sym, ap, ap₂, ◌∙◌, arith, le-leb, Option, Some, None}
+use Rattle.std.proofs.Common.{◌≡◌, ℕ, zero, suc, ◌+◌, ◌*◌, ◌/◌, ◌%◌, ◌<◌, ◌≤◌, Bool, true, false, ◌&&◌, List, [], ◌∷◌, ◌++◌, length}
+use Rattle.std.proofs.Common.{take, drop, get_or, length-append, append_assoc, refl, sym, ap, ap₂, ◌∙◌, arith, le-leb, Option, Some}
+use Rattle.std.proofs.Common.{None}
 use Rattle.std.specs.Prelude.{if◌then◌else◌, nat_le, is_some, option_map, option_and_then}
 use Rattle.std.specs.List.{flat_map, AllByRecursion}
 use Rattle.std.proofs.lemmas.Bool.{cond-true, leb-true}
@@ -8,7 +10,8 @@ use Rattle.si_base.specs.Fields.{two}
 use Rattle.desc_parts.specs.declared.descriptors.RawDesc.{RawDesc}
 use Rattle.desc_parts.specs.Descriptors.{descriptor_bytes, AreDescriptors}
 use Rattle.table_entries.specs.Entries.{Entry, entry_bytes, FitsEntry, AreReadAs, AreEntries}
-use Rattle.table_entries.specs.Loops.{are_descriptors, loop_length, entry_length, loop_of, behind_entry, begins_with_entry, are_entries_within, are_entries}
+use Rattle.table_entries.specs.Loops.{are_descriptors, loop_length, entry_length, loop_of, behind_entry, begins_with_entry}
+use Rattle.table_entries.specs.Loops.{are_entries_within, are_entries}
 use Rattle.table_entries.proofs.Reading.{Reads}
 use Rattle.guide_screen.specs.Reading.{made, desc_of, descriptors_within, entry_in, entries_within, entries_in}
 
@@ -19,7 +22,8 @@ Says X = List ℕ → List RawDesc → Option X
 -- ---- descriptors
 
 same_desc : (d : RawDesc) (rest : List ℕ) → desc_of d.tag (length d.body) (d.body ++ rest) ≡ d
-same_desc d rest = ap (λ (body : List ℕ). let r : RawDesc = record { tag = d.tag; body = body } in r) (take_at d.body rest (length d.body) refl)
+same_desc d rest = ap (λ (body : List ℕ). let r : RawDesc = record { tag = d.tag; body = body } in r)
+    (take_at d.body rest (length d.body) refl)
 
 pub descriptors_said : (n : ℕ) (ds : List RawDesc) → length (flat_map descriptor_bytes ds) ≤ n
     → descriptors_within n (flat_map descriptor_bytes ds) ≡ Some ds
@@ -28,19 +32,24 @@ descriptors_said zero (d ∷ ds) le = absurd (omega arith)
 descriptors_said (suc n) (d ∷ ds) le =
     let rest = flat_map descriptor_bytes ds in
     let size = length-append d.body rest in
-    cond-true (nat_le (length d.body) (length (d.body ++ rest))) _ None (le-leb (length d.body) (length (d.body ++ rest)) (omega (arith, size)))
-    ∙ ap₂ (λ (x : RawDesc) (bytes : List ℕ). option_map (λ descs. x ∷ descs) (descriptors_within n bytes)) (same_desc d rest) (drop_at d.body rest (length d.body) refl)
+    cond-true (nat_le (length d.body) (length (d.body ++ rest))) _ None
+    (le-leb (length d.body) (length (d.body ++ rest)) (omega (arith, size)))
+    ∙ ap₂ (λ (x : RawDesc) (bytes : List ℕ). option_map (λ descs. x ∷ descs) (descriptors_within n bytes)) (same_desc d rest)
+    (drop_at d.body rest (length d.body) refl)
     ∙ ap (λ (o : Option (List RawDesc)). option_map (λ descs. d ∷ descs) o) (descriptors_said n ds (omega (arith, size)))
 
-pub descriptors_are_said : (bytes : List ℕ) (descs : List RawDesc) → AreDescriptors bytes descs → descriptors_within (length bytes) bytes ≡ Some descs
+pub descriptors_are_said : (bytes : List ℕ) (descs : List RawDesc) → AreDescriptors bytes descs
+    → descriptors_within (length bytes) bytes ≡ Some descs
 descriptors_are_said bytes descs is =
-    ap (λ (l : List ℕ). descriptors_within (length l) l) is.whole ∙ descriptors_said (length (flat_map descriptor_bytes descs)) descs (omega arith)
+    ap (λ (l : List ℕ). descriptors_within (length l) l) is.whole
+    ∙ descriptors_said (length (flat_map descriptor_bytes descs)) descs (omega arith)
 
 mapped : {X Y : Type 0} (f : X → Y) (o : Option X) → is_some o ≡ is_some (option_map f o)
 mapped f None = refl
 mapped f (Some x) = refl
 
-pub same_test : {X Y : Type 0} (b : Bool) (t : Bool) (o : Option X) (f : X → Y) → t ≡ is_some o → (b && t) ≡ is_some (if b then option_map f o else None)
+pub same_test : {X Y : Type 0} (b : Bool) (t : Bool) (o : Option X) (f : X → Y) → t ≡ is_some o → (b && t)
+    ≡ is_some (if b then option_map f o else None)
 same_test false t o f e = refl
 same_test true t o f e = e ∙ mapped f o
 
@@ -49,7 +58,8 @@ descriptors_test n [] = refl
 descriptors_test n (tag ∷ []) = refl
 descriptors_test zero (tag ∷ len ∷ behind) = refl
 descriptors_test (suc n) (tag ∷ len ∷ behind) =
-    same_test (nat_le len (length behind)) (are_descriptors n (drop len behind)) (descriptors_within n (drop len behind)) (λ descs. desc_of tag len behind ∷ descs)
+    same_test (nat_le len (length behind)) (are_descriptors n (drop len behind)) (descriptors_within n (drop len behind))
+    (λ descs. desc_of tag len behind ∷ descs)
     (descriptors_test n (drop len behind))
 
 -- ---- one entry
@@ -109,7 +119,8 @@ front_of size e rest fits =
     (arith, fits.bits, fits.descriptors)) (omega (arith, fits.descriptors)) refl
 
 -- what an entry at the front says
-pub entry_said : {X : Type 0} (size : ℕ) (says : Says X) (bytes fields ds rest : List ℕ) (descs : List RawDesc) → Front size bytes fields ds rest
+pub entry_said : {X : Type 0} (size : ℕ) (says : Says X) (bytes fields ds rest : List ℕ) (descs : List RawDesc)
+    → Front size bytes fields ds rest
     → AreDescriptors ds descs → entry_in size says bytes ≡ says fields descs
 entry_said size says bytes fields ds rest descs at are =
     cond-true (nat_le (entry_length size bytes) (length bytes)) _ None at.enough
@@ -158,7 +169,8 @@ entries_said {X} size says (suc n) (e ∷ es) (v ∷ values) fits are le =
     (ap (entries_within size says n) at.behind ∙ entries_said size says n es values fits.1 are.1 (omega (arith, le, some)))
 
 -- what is read as values says them
-are_said : {X : Type 0} (value_of : Reads X) (says : Says X) → ((fields : List ℕ) (bits : ℕ) (descs : List RawDesc) → says fields descs ≡ Some (value_of fields bits descs))
+are_said : {X : Type 0} (value_of : Reads X) (says : Says X)
+    → ((fields : List ℕ) (bits : ℕ) (descs : List RawDesc) → says fields descs ≡ Some (value_of fields bits descs))
     → (es : List Entry) (values : List X) → AreReadAs value_of es values → AreSaid says es values
 are_said value_of says same [] [] read = tt
 are_said value_of says same [] (v ∷ values) read = absurd read
@@ -173,7 +185,8 @@ pub read_said : {X : Type 0} (size : ℕ) (value_of : Reads X) (says : Says X)
     → (bytes : List ℕ) (values : List X) → AreEntries size value_of bytes values → entries_in size says bytes ≡ Some values
 read_said size value_of says same bytes values is =
     ap (entries_in size says) is.whole
-    ∙ entries_said size says (length (flat_map entry_bytes is.entries)) is.entries values is.fits (are_said value_of says same is.entries values is.read) (omega arith)
+    ∙ entries_said size says (length (flat_map entry_bytes is.entries)) is.entries values is.fits
+    (are_said value_of says same is.entries values is.read) (omega arith)
 
 -- ---- entries that are looked at
 
@@ -181,7 +194,8 @@ read_said size value_of says same bytes values is =
 abbrev pub SaysAlways : {X : Type 0} → Says X → Type 0
 SaysAlways says = (fields : List ℕ) (descs : List RawDesc) → is_some (says fields descs) ≡ true
 
-then_some : {X Y : Type 0} (f : X → Option Y) → ((x : X) → is_some (f x) ≡ true) → (o : Option X) → is_some o ≡ is_some (option_and_then f o)
+then_some : {X Y : Type 0} (f : X → Option Y) → ((x : X) → is_some (f x) ≡ true) → (o : Option X) → is_some o
+    ≡ is_some (option_and_then f o)
 then_some f always None = refl
 then_some f always (Some x) = sym (always x)
 
@@ -203,7 +217,8 @@ entry_test {X} size says always bytes =
     ∙ go (nat_le (entry_length size bytes) (length bytes))
   where
     go : (b : Bool) → (b && are_descriptors (loop_length size bytes) (loop_of size bytes))
-        ≡ is_some (if b then option_and_then (says (take size bytes)) (descriptors_within (loop_length size bytes) (loop_of size bytes)) else None)
+        ≡ is_some (if b then option_and_then (says (take size bytes))
+        (descriptors_within (loop_length size bytes) (loop_of size bytes)) else None)
     go false = refl
     go true =
         descriptors_test (loop_length size bytes) (loop_of size bytes)
@@ -219,7 +234,8 @@ within_test size says always n [] = refl
 within_test size says always zero (b ∷ bytes) = refl
 within_test size says always (suc n) (b ∷ bytes) =
     ap₂ (λ (x y : Bool). x && y) (entry_test size says always (b ∷ bytes)) (within_test size says always n (behind_entry size (b ∷ bytes)))
-    ∙ sym (made_test (λ value values. value ∷ values) (entry_in size says (b ∷ bytes)) (entries_within size says n (behind_entry size (b ∷ bytes))))
+    ∙ sym (made_test (λ value values. value ∷ values) (entry_in size says (b ∷ bytes))
+    (entries_within size says n (behind_entry size (b ∷ bytes))))
 
 pub entries_test : {X : Type 0} (size : ℕ) (says : Says X) → SaysAlways says → (bytes : List ℕ)
     → are_entries size bytes ≡ is_some (entries_in size says bytes)

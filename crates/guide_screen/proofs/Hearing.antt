@@ -35,7 +35,8 @@ pub wanting_needs : WantingIsNeeds
 unfolding needs_with
 wanting_needs V wanting f = wanting_is V V.pat V.nit (sdt_of V) V.clock (unmet_of V.content (wants V)) (needs V) wanting refl f
 
-whole_is : (V : View) (pat nit sdt : Option Key) (clock : Option ℕ) (ns : List Need) (shown : Screen) → heard_by V pat nit sdt clock ns ≡ Whole shown → ns ≡ []
+whole_is : (V : View) (pat nit sdt : Option Key) (clock : Option ℕ) (ns : List Need) (shown : Screen)
+    → heard_by V pat nit sdt clock ns ≡ Whole shown → ns ≡ []
 whole_is V None nit sdt clock ns shown f = cc
 whole_is V (Some p) None sdt clock ns shown f = cc
 whole_is V (Some p) (Some n) None clock ns shown f = cc
@@ -78,7 +79,8 @@ named_all (Some p) (Some n) (Some s) (Some c) of e =
     )
 
 -- where all that a screen shows is there and no need is left, it is shown
-pub shown_whole : (collector : KeysHeard) (latest : Latest) (V : View) (of : Named) (shown : Screen) → Holds collector latest V → named latest ≡ Some of
+pub shown_whole : (collector : KeysHeard) (latest : Latest) (V : View) (of : Named) (shown : Screen)
+    → Holds collector latest V → named latest ≡ Some of
     → needs V ≡ [] → shown ≡ screen V of.pat of.nit of.sdt of.clock.0 → Whole shown ≡ heard_of V
 shown_whole collector latest V of shown holds all nothing is =
     let each = named_all latest.pat latest.nit latest.sdt latest.clock of all in

@@ -1,5 +1,6 @@
 -- Services by their ids.
-use Rattle.std.proofs.Common.{◌≡◌, ℕ, Bool, true, false, List, [], ◌∷◌, ◌++◌, length, take, drop, map, Option, Some, refl, sym, ap, ◌∙◌, append_assoc, take-append-drop, Less, Equal, Greater, nat_cmp}
+use Rattle.std.proofs.Common.{◌≡◌, ℕ, Bool, true, false, List, [], ◌∷◌, ◌++◌, length, take, drop, map, Option, Some, refl, sym, ap, ◌∙◌}
+use Rattle.std.proofs.Common.{append_assoc, take-append-drop, Less, Equal, Greater, nat_cmp}
 use Rattle.std.specs.Prelude.{if◌then◌else◌, cond, ◌==◌, nat_lt, option_to_list}
 use Rattle.std.specs.BTreeMap.{insert_entry}
 use Rattle.std.specs.Ordering.{match_ordering}
@@ -34,10 +35,12 @@ one_taken all kept left taken s entries more is items one put =
     let behind = drop (length kept) all in
     let kept_is : kept ≡ left ++ s ∷ [] = items ∙ ap (λ (o : Option SdtService). left ++ option_to_list o) one in
     let whole : all ≡ left ++ (s ∷ behind) =
-    sym (take-append-drop (length kept) all) ∙ ap (λ (l : List SdtService). l ++ behind) (sym is.0 ∙ kept_is) ∙ append_assoc left (s ∷ []) behind in (
+    sym (take-append-drop (length kept) all) ∙ ap (λ (l : List SdtService). l ++ behind) (sym is.0 ∙ kept_is)
+    ∙ append_assoc left (s ∷ []) behind in (
       sym (ap (take (length left)) whole ∙ take_at left (s ∷ behind) (length left) refl),
       put ∙ ap (λ (l : List (ℕ × SdtService)). insert_entry nat_cmp l s.service s) is.1 ∙ put_service s (by_service behind)
-          ∙ ap (λ (l : List SdtService). by_id (by_service l)) (sym (ap (drop (length left)) whole ∙ drop_at left (s ∷ behind) (length left) refl)),
+          ∙ ap (λ (l : List SdtService). by_id (by_service l))
+          (sym (ap (drop (length left)) whole ∙ drop_at left (s ∷ behind) (length left) refl)),
     )
 
 values_back : (ss : List SdtService) → map (λ (e : ℕ × SdtService). e.1) (by_id ss) ≡ ss

@@ -1,5 +1,6 @@
 -- PIDs by program.
-use Rattle.std.proofs.Common.{◌≡◌, ℕ, ◌+◌, ◌<◌, Bool, true, false, List, length, drop, get_or, Option, Some, refl, sym, ap, ap₂, ◌∙◌, arith, BTreeMap, Less, Equal, Greater, nat_cmp, is_eq}
+use Rattle.std.proofs.Common.{◌≡◌, ℕ, ◌+◌, ◌<◌, Bool, true, false, List, length, drop, get_or, Option, Some, refl, sym, ap, ap₂, ◌∙◌}
+use Rattle.std.proofs.Common.{arith, BTreeMap, Less, Equal, Greater, nat_cmp, is_eq}
 use Rattle.std.specs.Prelude.{if◌then◌else◌, cond, ◌==◌, nat_lt}
 use Rattle.std.specs.BTreeMap.{get, Updates}
 use Rattle.std.proofs.lemmas.Bool.{ltb-true, eqb-true, false_from_ne_true}

@@ -1,5 +1,6 @@
 -- What bodies say is what they are read as.
-use Rattle.std.proofs.Common.{◌≡◌, ℕ, zero, suc, ◌+◌, ◌*◌, ◌/◌, ◌%◌, ◌<◌, Bool, true, false, ◌&&◌, List, [], ◌∷◌, ◌++◌, length, take, drop, get_or-take, length-append, refl, sym, ap, ap₂, subst, ◌∙◌, arith, le-leb, map, Option, Some, None}
+use Rattle.std.proofs.Common.{◌≡◌, ℕ, zero, suc, ◌+◌, ◌*◌, ◌/◌, ◌%◌, ◌<◌, Bool, true, false, ◌&&◌, List, [], ◌∷◌, ◌++◌, length, take}
+use Rattle.std.proofs.Common.{drop, get_or-take, length-append, refl, sym, ap, ap₂, subst, ◌∙◌, arith, le-leb, map, Option, Some, None}
 use Rattle.std.specs.Prelude.{if◌then◌else◌, nat_le, is_some, option_map, option_and_then}
 use Rattle.std.specs.List.{flat_map, AllByRecursion}
 use Rattle.std.specs.Cmp.Derive.{both_true}
@@ -17,7 +18,7 @@ use Rattle.table_entries.specs.Loops.{loop_length, loop_of, entry_length, behind
 use Rattle.pat_pmt.specs.declared.pmt.Pmt.{Pmt}
 use Rattle.pat_pmt.specs.Pmt.{component_of, IsPmt}
 use Rattle.pat_pmt.specs.Bodies.{is_pmt_body}
-use Rattle.pat_pmt.proofs.Bodies.{pmt_bodies}
+use Rattle.pat_pmt.proofs.Bodies.{pat_bodies, pmt_bodies}
 use Rattle.nit_sdt.specs.declared.nit.NitStream.{NitStream}
 use Rattle.nit_sdt.specs.declared.nit.Nit.{Nit}
 use Rattle.nit_sdt.specs.declared.sdt.Sdt.{Sdt}
@@ -32,8 +33,11 @@ use Rattle.eit_codec.specs.declared.eit.Eit.{Eit}
 use Rattle.eit_codec.specs.Eit.{head_bytes, IsEvent, AreEvents, IsEit}
 use Rattle.eit_codec.specs.Bodies as looks
 use Rattle.eit_codec.proofs.MadeBodies.{bodies_can_be_read}
-use Rattle.guide_screen.specs.Reading.{made, desc_of, descriptors_within, entry_in, entries_within, entries_in, clock_pid, component_in, pmt_with, pmt_in, name_in, stream_in, loop_streams, nit_with, nit_in, service_in, sdt_with, sdt_in, event_in, head_of, eit_with, eit_in, BodiesSay, BodiesAreRead}
-use Rattle.guide_screen.proofs.Entries.{same_test, front_of, entry_said, IsSaid, AreSaid, entries_said, read_said, entry_test, made_test, entries_test}
+use Rattle.guide_screen.specs.Reading.{made, desc_of, descriptors_within, entry_in, entries_within, entries_in, clock_pid, component_in}
+use Rattle.guide_screen.specs.Reading.{pmt_with, pmt_in, name_in, stream_in, loop_streams, nit_with, nit_in, service_in, sdt_with}
+use Rattle.guide_screen.specs.Reading.{sdt_in, event_in, head_of, eit_with, eit_in, BodiesSay, BodiesAreRead, BodiesAreThoseThatSay}
+use Rattle.guide_screen.proofs.Entries.{same_test, front_of, entry_said, IsSaid, AreSaid, entries_said, read_said, entry_test}
+use Rattle.guide_screen.proofs.Entries.{made_test, entries_test}
 
 -- ---- a program map table
 
@@ -44,17 +48,20 @@ pmt_said body pmt is =
     ap pmt_in is.whole
     ∙ ap₂ (λ (p : Option ℕ) (cs : Option (List Component)). made pmt_with p cs)
     (entry_said 2 clock_pid bytes is.program.fields is.program.descriptors is.loop is.descs at is.program_info)
-    (ap (entries_in 3 component_in) at.behind ∙ read_said 3 component_of component_in (λ fields bits descs. refl) is.loop pmt.components is.components)
+    (ap (entries_in 3 component_in) at.behind
+    ∙ read_said 3 component_of component_in (λ fields bits descs. refl) is.loop pmt.components is.components)
     ∙ ap (λ (pid : ℕ). Some (pmt_with pid pmt.components)) (sym is.pcr_pid)
 
 pmt_test : (body : List ℕ) → is_pmt_body body ≡ is_some (pmt_in body)
 pmt_test body =
     let behind = behind_entry 2 body in
-    ap₂ (λ (x y : Bool). x && y) (entry_test 2 clock_pid (λ fields descs. refl) body) (entries_test 3 component_in (λ fields descs. refl) behind)
+    ap₂ (λ (x y : Bool). x && y) (entry_test 2 clock_pid (λ fields descs. refl) body)
+    (entries_test 3 component_in (λ fields descs. refl) behind)
     ∙ sym (made_test pmt_with (entry_in 2 clock_pid body) (entries_in 3 component_in behind))
 
 -- what is read at all is read as what it says
-as_said : {X : Type 0} (Is : X → Type 0) (o : Option X) (said : (x : X) → Is x → o ≡ Some x) → ((x : X) × Is x) → (x : X) → o ≡ Some x → Is x
+as_said : {X : Type 0} (Is : X → Type 0) (o : Option X) (said : (x : X) → Is x → o ≡ Some x) → ((x : X) × Is x) → (x : X) → o
+    ≡ Some x → Is x
 as_said Is o said read x e = subst Is (some_same (sym (said read.0 read.1) ∙ e)) read.1
 
 pmt_read : (body : List ℕ) (pmt : Pmt) → AreBytes body → pmt_in body ≡ Some pmt → IsPmt body pmt
@@ -68,9 +75,11 @@ loop_at bits loop width within =
     let tells : length loop ≡ (256 * (told / 256 % 256) + told % 256) % 4096 = omega (arith, width, within) in
     both_true (le-leb 2 (length (two told ++ loop)) (omega arith)) (eq-eqb _ _ tells)
 
-streams_said : (bytes loop : List ℕ) (streams : List NitStream) → IsLoop bytes loop → entries_in 4 stream_in loop ≡ Some streams → loop_streams bytes ≡ Some streams
+streams_said : (bytes loop : List ℕ) (streams : List NitStream) → IsLoop bytes loop → entries_in 4 stream_in loop
+    ≡ Some streams → loop_streams bytes ≡ Some streams
 streams_said bytes loop streams is said =
-    ap loop_streams is.whole ∙ cond-true (is_loop (two (4096 * is.bits + length loop) ++ loop)) _ None (loop_at is.bits loop is.width is.within) ∙ said
+    ap loop_streams is.whole
+    ∙ cond-true (is_loop (two (4096 * is.bits + length loop) ++ loop)) _ None (loop_at is.bits loop is.width is.within) ∙ said
 
 nit_said : (body : List ℕ) (nit : Nit) → IsNit body nit → nit_in body ≡ Some nit
 nit_said body nit is =
@@ -80,7 +89,8 @@ nit_said body nit is =
     ∙ ap₂ (λ (name : Option Shown) (streams : Option (List NitStream)). made nit_with name streams)
     (entry_said 0 name_in bytes is.network.fields is.network.descriptors is.behind is.descs at is.network_descriptors)
     (ap loop_streams at.behind
-    ∙ streams_said is.behind is.loop nit.streams is.stream_loop (read_said 4 stream_of stream_in (λ fields bits descs. refl) is.loop nit.streams is.streams))
+    ∙ streams_said is.behind is.loop nit.streams is.stream_loop
+    (read_said 4 stream_of stream_in (λ fields bits descs. refl) is.loop nit.streams is.streams))
     ∙ ap (λ (name : Shown). Some (nit_with name nit.streams)) (sym is.name)
 
 streams_test : (bytes : List ℕ) → is_stream_loop bytes ≡ is_some (loop_streams bytes)
@@ -203,10 +213,12 @@ descriptors_look n [] = refl
 descriptors_look n (tag ∷ []) = refl
 descriptors_look zero (tag ∷ len ∷ behind) = refl
 descriptors_look (suc n) (tag ∷ len ∷ behind) =
-    same_test (nat_le len (length behind)) (looks.are_descriptors n (drop len behind)) (descriptors_within n (drop len behind)) (λ descs. desc_of tag len behind ∷ descs)
+    same_test (nat_le len (length behind)) (looks.are_descriptors n (drop len behind))
+    (descriptors_within n (drop len behind)) (λ descs. desc_of tag len behind ∷ descs)
     (descriptors_look n (drop len behind))
 
-then_test : {X Y : Type 0} (f : X → Option Y) (b : Bool) → ((x : X) → is_some (f x) ≡ b) → (o : Option X) → (b && is_some o) ≡ is_some (option_and_then f o)
+then_test : {X Y : Type 0} (f : X → Option Y) (b : Bool) → ((x : X) → is_some (f x) ≡ b) → (o : Option X) → (b && is_some o)
+    ≡ is_some (option_and_then f o)
 then_test f true each None = refl
 then_test f false each None = refl
 then_test f true each (Some x) = sym (each x)
@@ -231,7 +243,8 @@ duration_looked bytes =
     λ i. a i ∷ b i ∷ c i ∷ []
 
 times_look : (bytes : List ℕ) (descs : List RawDesc)
-    → is_some (event_in (take 10 bytes) descs) ≡ (is_some (moment_from_bcd (looks.time_of bytes)) && is_some (duration_from_bcd (looks.duration_of bytes)))
+    → is_some (event_in (take 10 bytes) descs)
+    ≡ (is_some (moment_from_bcd (looks.time_of bytes)) && is_some (duration_from_bcd (looks.duration_of bytes)))
 times_look bytes descs =
     made_test _ (moment_from_bcd (looks.time_of (take 10 bytes))) (duration_from_bcd (looks.duration_of (take 10 bytes)))
     ∙ ap₂ (λ (t d : List ℕ). is_some (moment_from_bcd t) && is_some (duration_from_bcd d)) (time_looked bytes) (duration_looked bytes)
@@ -260,7 +273,8 @@ event_test bytes = go (nat_le (entry_length 10 bytes) (length bytes)) refl
         ≡ is_some (if b then option_and_then (event_in (take 10 bytes)) (descriptors_within n (loop_of 10 bytes)) else None)
     go false e = no_room (nat_le 12 (length bytes)) m d r
     go true e =
-        ap (λ (t : Bool). t && true && m && d && r) (le-leb 12 (length bytes) (omega (arith, leb-true (entry_length 10 bytes) (length bytes) e)))
+        ap (λ (t : Bool). t && true && m && d && r)
+        (le-leb 12 (length bytes) (omega (arith, leb-true (entry_length 10 bytes) (length bytes) e)))
         ∙ ap (λ (t : Bool). m && d && t) (descriptors_look n (loop_of 10 bytes))
         ∙ then_test (event_in (take 10 bytes)) (m && d) (times_look bytes) (descriptors_within n (loop_of 10 bytes))
 
@@ -269,15 +283,18 @@ events_test n [] = refl
 events_test zero (b ∷ bytes) = refl
 events_test (suc n) (b ∷ bytes) =
     ap₂ (λ (x y : Bool). x && y) (event_test (b ∷ bytes)) (events_test n (behind_entry 10 (b ∷ bytes)))
-    ∙ sym (made_test (λ value values. value ∷ values) (entry_in 10 event_in (b ∷ bytes)) (entries_within 10 event_in n (behind_entry 10 (b ∷ bytes))))
+    ∙ sym (made_test (λ value values. value ∷ values) (entry_in 10 event_in (b ∷ bytes))
+    (entries_within 10 event_in n (behind_entry 10 (b ∷ bytes))))
 
 eit_test : (body : List ℕ) → looks.is_eit_body body ≡ is_some (eit_in body)
 eit_test body =
-    same_test (nat_le 6 (length body)) (looks.are_entries (length (drop 6 body)) (drop 6 body)) (entries_in 10 event_in (drop 6 body)) (eit_with (head_of body))
+    same_test (nat_le 6 (length body)) (looks.are_entries (length (drop 6 body)) (drop 6 body))
+    (entries_in 10 event_in (drop 6 body)) (eit_with (head_of body))
     (events_test (length (drop 6 body)) (drop 6 body))
 
 eit_read : (body : List ℕ) (eit : Eit) → AreBytes body → eit_in body ≡ Some eit → IsEit body eit
-eit_read body e all said = as_said (IsEit body) (eit_in body) (eit_said body) (bodies_can_be_read body all (eit_test body ∙ ap is_some said)) e said
+eit_read body e all said = as_said (IsEit body) (eit_in body) (eit_said body)
+    (bodies_can_be_read body all (eit_test body ∙ ap is_some said)) e said
 
 -- ---- all of them
 
@@ -288,6 +305,9 @@ says_none Is (Some x) read none = absurd (none x (read x refl))
 
 pub bodies_say : BodiesSay
 bodies_say = record { pmt = pmt_said; nit = nit_said; sdt = sdt_said; eit = eit_said }
+
+pub bodies_are_those_that_say : BodiesAreThoseThatSay
+bodies_are_those_that_say = record { pat = pat_bodies; pmt = pmt_test; nit = nit_test; sdt = sdt_test; eit = eit_test }
 
 pub bodies_are_read : BodiesAreRead
 bodies_are_read = record { pmt = pmt_read; nit = nit_read; sdt = sdt_read; eit = eit_read }

@@ -35,7 +35,7 @@ services_of V = by_service (services_in (sections_at V.content (sdt_of V)))
 
 -- ---- the tables of a schedule
 
--- last_table_id, which is the highest table_id of a schedule, by the section 0 of its first table; 0x5F at most
+-- last_table_id, which is the highest table_id of a schedule, by section 0 of its first table; 0x5F at most, and 0 where none tells it
 abbrev pub last_beside : Option (ℕ × ℕ) → ℕ
 last_beside None = 0
 last_beside (Some told) = min 0x5F told.1
@@ -62,7 +62,7 @@ want_pmt e = if e.program == 0 then [] else record { need = Pmt e.pid e.program;
 abbrev pub want_present : Key → SdtService → List Want
 want_present sdt s = if s.present then record { need = Present s.service; key = eit_key sdt 0x4E s.service } ∷ [] else []
 
--- the tables of the schedule, where its flag tells that it is sent
+-- a table of the schedule
 abbrev pub want_table : Key → ℕ → ℕ → Want
 want_table sdt service table = record { need = Schedule service table; key = eit_key sdt table service }
 
@@ -70,6 +70,7 @@ want_table sdt service table = record { need = Schedule service table; key = eit
 abbrev pub schedule_tables : (Key → Option Content) → Key → ℕ → List ℕ
 schedule_tables content sdt service = 0x50 ∷ tables_to 0x51 (last_table (table_at content sdt service 0x50))
 
+-- the tables of the schedule, where its flag tells that they are sent
 abbrev pub want_schedule : (Key → Option Content) → Key → SdtService → List Want
 want_schedule content sdt s = if s.schedule then map (want_table sdt s.service) (schedule_tables content sdt s.service) else []
 
@@ -98,5 +99,5 @@ unmet_of content ws = flat_map (unmet content) ws
 -- the needs that are not met, in order
 abbrev pub needs : View → List Need
 needs V =
-    unless Pat (is_some V.pat) ++ unless Nit (is_some V.nit) ++ unless Sdt (is_some (sdt_of V)) ++ unless Clock (is_some V.clock)
-    ++ unmet_of V.content (wants V)
+    unless Pat (is_some V.pat) ++ unless Nit (is_some V.nit) ++ unless Sdt (is_some (sdt_of V))
+    ++ unless Clock (is_some V.clock) ++ unmet_of V.content (wants V)

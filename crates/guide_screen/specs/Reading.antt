@@ -1,5 +1,6 @@
 -- What the bodies of tables say, by computing (ISO/IEC 13818-1, 2.4.4; EN 300 468, 5.2).
-use Rattle.std.specs.Prelude.{◌≡◌, ℕ, zero, suc, ◌%◌, nat_le, if◌then◌else◌, List, [], ◌∷◌, length, take, drop, slice_index, Option, Some, None, option_map, option_and_then, unwrap_or}
+use Rattle.std.specs.Prelude.{◌≡◌, ℕ, zero, suc, ◌%◌, nat_le, if◌then◌else◌, List, [], ◌∷◌, length, take, drop, slice_index, Option}
+use Rattle.std.specs.Prelude.{Some, None, is_some, option_map, option_and_then, unwrap_or}
 use Rattle.std.specs.List.{flat_map}
 use Rattle.si_base.specs.Fields.{two_at}
 use Rattle.si_text.specs.declared.shown.Shown.{Shown}
@@ -14,18 +15,19 @@ use Rattle.pat_pmt.specs.declared.pat.PatEntry.{PatEntry}
 use Rattle.pat_pmt.specs.declared.pmt.Pmt.{Pmt}
 use Rattle.pat_pmt.specs.Pat.{pat_in}
 use Rattle.pat_pmt.specs.Pmt.{component_of, IsPmt}
+use Rattle.pat_pmt.specs.Bodies.{is_pat_body, is_pmt_body}
 use Rattle.nit_sdt.specs.declared.nit.NitStream.{NitStream}
 use Rattle.nit_sdt.specs.declared.nit.Nit.{Nit}
 use Rattle.nit_sdt.specs.declared.sdt.SdtService.{SdtService}
 use Rattle.nit_sdt.specs.declared.sdt.Sdt.{Sdt}
 use Rattle.nit_sdt.specs.Nit.{name_of, stream_of, IsNit}
 use Rattle.nit_sdt.specs.Sdt.{service_of, IsSdt}
-use Rattle.nit_sdt.specs.Bodies.{is_loop}
+use Rattle.nit_sdt.specs.Bodies.{is_loop, is_nit_body, is_sdt_body}
 use Rattle.eit_codec.specs.declared.eit.EitHead.{EitHead}
 use Rattle.eit_codec.specs.declared.eit.Eit.{Eit}
 use Rattle.eit_codec.specs.Shows.{event_of}
 use Rattle.eit_codec.specs.Eit.{IsEit}
-use Rattle.eit_codec.specs.Bodies.{time_of, duration_of}
+use Rattle.eit_codec.specs.Bodies.{time_of, duration_of, is_eit_body}
 
 -- a value made of two, where both are there
 abbrev pub made : {X Y Z : Type 0} → (X → Y → Z) → Option X → Option Y → Option Z
@@ -115,7 +117,12 @@ event_in fields descs =
     (duration_from_bcd (duration_of fields))
 
 abbrev pub head_of : List ℕ → EitHead
-head_of body = record { stream = two_at 0 body; original = two_at 2 body; segment_last = slice_index body 4; last_table = slice_index body 5 }
+head_of body = record {
+  stream = two_at 0 body;
+  original = two_at 2 body;
+  segment_last = slice_index body 4;
+  last_table = slice_index body 5;
+}
 
 abbrev pub eit_with : EitHead → List ScreenEvent → Eit
 eit_with head events = record { head = head; events = events }
@@ -161,3 +168,11 @@ pub record BodiesAreRead : Type 0 where
   pub nit : (body : List ℕ) (nit : Nit) → AreBytes body → nit_in body ≡ Some nit → IsNit body nit
   pub sdt : (body : List ℕ) (sdt : Sdt) → AreBytes body → sdt_in body ≡ Some sdt → IsSdt body sdt
   pub eit : (body : List ℕ) (eit : Eit) → AreBytes body → eit_in body ≡ Some eit → IsEit body eit
+
+-- The bodies that say something are just those that are bodies of their table.
+pub record BodiesAreThoseThatSay : Type 0 where
+  pub pat : (body : List ℕ) → is_pat_body body ≡ is_some (pat_in body)
+  pub pmt : (body : List ℕ) → is_pmt_body body ≡ is_some (pmt_in body)
+  pub nit : (body : List ℕ) → is_nit_body body ≡ is_some (nit_in body)
+  pub sdt : (body : List ℕ) → is_sdt_body body ≡ is_some (sdt_in body)
+  pub eit : (body : List ℕ) → is_eit_body body ≡ is_some (eit_in body)

@@ -1,5 +1,6 @@
 -- What a receiver shows (EN 300 468, 5.2).
-use Rattle.std.specs.Prelude.{◌≡◌, ◌≢◌, ◌↔◌, ℕ, ◌&&◌, List, [], ◌∷◌, ◌==◌, if◌then◌else◌, Option, Some, None, map, option_map, option_and_then, unwrap_or}
+use Rattle.std.specs.Prelude.{◌≡◌, ◌≢◌, ◌↔◌, ℕ, ◌&&◌, List, [], ◌∷◌, ◌==◌, if◌then◌else◌, Option, Some, None, map, option_map}
+use Rattle.std.specs.Prelude.{option_and_then, unwrap_or}
 use Rattle.std.specs.List.{flat_map}
 use Rattle.si_text.specs.declared.shown.Shown.{Shown}
 use Rattle.si_text.specs.declared.shown.Shown.TheVariants.{Text}
@@ -50,7 +51,8 @@ event_at number c = option_and_then (λ (eit : Eit). first_of eit.events) (told 
 abbrev pub events_at : (Key → Option Content) → Key → ℕ → ℕ → List ScreenEvent
 events_at content sdt service table = events_in (table_at content sdt service table)
 
--- the events of a schedule, in the order of tables and sections: of the tables that its first one tells, those that were completed
+-- the events of a schedule, in the order of tables and sections: of the tables from 0x50 on that its first one tells, those that were
+-- completed; none where that one was not
 abbrev pub schedule_of : (Key → Option Content) → Key → ℕ → List ScreenEvent
 schedule_of content sdt service =
     flat_map (events_at content sdt service) (tables_to 0x50 (last_table (table_at content sdt service 0x50)))
@@ -84,7 +86,8 @@ network_name c = unwrap_or (option_map (λ nit. nit.name) (told nit_in 0 c)) (Te
 -- the cable of the first entry of this stream and network
 abbrev pub cable_in : ℕ → ℕ → List NitStream → Option Cable
 cable_in stream original [] = None
-cable_in stream original (e ∷ es) = if e.stream == stream && e.original == original then e.cable else cable_in stream original es
+cable_in stream original (e ∷ es) =
+    if e.stream == stream && e.original == original then e.cable else cable_in stream original es
 
 abbrev pub screen : View → Key → Key → Key → ℕ → Screen
 screen V pat nit sdt clock = record {
@@ -109,7 +112,8 @@ heard_of V = heard_by V V.pat V.nit (sdt_of V) V.clock (needs V)
 
 -- What is told as wanting are the needs, and there is one.
 abbrev pub WantingIsNeeds : Type 0
-WantingIsNeeds = (V : View) (wanting : List Need) → heard_of V ≡ Wanting wanting → (wanting ≡ needs V) × (needs V ≢ [])
+WantingIsNeeds = (V : View) (wanting : List Need) → heard_of V ≡ Wanting wanting
+    → (wanting ≡ needs V) × (needs V ≢ [])
 
 -- The screen is whole exactly where there is no need.
 abbrev pub WholeNeedsNothing : Type 0

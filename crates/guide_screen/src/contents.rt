@@ -21,14 +21,16 @@ pub struct Latest {
 
 // Whether a key was completed.
 pub(crate) fn is_completed(contents: &Collector, key: Key) -> bool
-    ensures { (content : Key → Option Content) → Keeps contents.now content → result ≡ is_some (content key) }
+    ensures { (content : Key → Option Content) → Keeps contents.now content
+        → result ≡ is_some (content key) }
 {
     contents.latest(key).is_some()
 }
 
 // The sections of a key; none where it was not completed.
 pub(crate) fn sections_of(contents: &Collector, key: Key) -> &[NumberedBody]
-    ensures { (content : Key → Option Content) → Keeps contents.now content → result.now ≡ sections (content key) }
+    ensures { (content : Key → Option Content) → Keeps contents.now content
+        → result.now ≡ sections (content key) }
 {
     match contents.latest(key) {
         Some(done) => done.sections.as_slice(),
@@ -38,7 +40,8 @@ pub(crate) fn sections_of(contents: &Collector, key: Key) -> &[NumberedBody]
 
 // The sections of a key, where there is one.
 pub(crate) fn sections_at(contents: &Collector, key: Option<Key>) -> &[NumberedBody]
-    ensures { (content : Key → Option Content) → Keeps contents.now content → result.now ≡ sections_at content key }
+    ensures { (content : Key → Option Content) → Keeps contents.now content
+        → result.now ≡ sections_at content key }
 {
     match key {
         Some(key) => sections_of(contents, key),

@@ -176,7 +176,8 @@ pub(crate) fn needs_of(
     programs: &[PatEntry],
     services: &[SdtService],
 ) -> Result<Vec<Need>, AllocError>
-    ensures { (V : View) → Holds contents.now latest.now V → programs.now ≡ programs_of V → services.now ≡ services_of V
+    ensures { (V : View) → Holds contents.now latest.now V
+        → programs.now ≡ programs_of V → services.now ≡ services_of V
         → IfOk result (λ wanting. wanting.items ≡ needs V) }
 {
     let mut needs = Vec::new(alloc);

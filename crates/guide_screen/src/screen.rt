@@ -41,7 +41,8 @@ fn pids_of(alloc: Global, programs: &[PatEntry]) -> Result<BTreeMap<u16, u16>, A
 
 // The PID of the PMT of a service; service 0 has none.
 fn pmt_pid(pids: &BTreeMap<u16, u16>, service: u16) -> Option<u16>
-    ensures { (programs : List PatEntry) → ((program : ℕ) → get nat_cmp pids.now program ≡ pid_in program programs) → result ≡ pmt_pid programs service }
+    ensures { (programs : List PatEntry) → ((program : ℕ) → get nat_cmp pids.now program ≡ pid_in program programs)
+        → result ≡ pmt_pid programs service }
 {
     if service == 0 {
         return None;
@@ -56,7 +57,8 @@ fn pmt_of(
     service: u16,
     pid: Option<u16>,
 ) -> Result<Option<Pmt>, AllocError>
-    ensures { (content : Key → Option Content) → Keeps contents.now content → IfOk result (λ pmt. pmt ≡ pmt_of content service pid) }
+    ensures { (content : Key → Option Content) → Keeps contents.now content
+        → IfOk result (λ pmt. pmt ≡ pmt_of content service pid) }
 {
     match pid {
         Some(pid) => pmt_told(alloc, sections_of(contents, pmt_key(pid, service))),
@@ -83,7 +85,8 @@ fn schedule_of(
     sdt: Key,
     service: u16,
 ) -> Result<ScreenEvents, AllocError>
-    ensures { (content : Key → Option Content) → Keeps contents.now content → IfOk result (λ events. events ≡ schedule_of content sdt service) }
+    ensures { (content : Key → Option Content) → Keeps contents.now content
+        → IfOk result (λ events. events ≡ schedule_of content sdt service) }
 {
     let first = sections_of(contents, eit_key(sdt, 0x50, service));
     let tables = tables_to(alloc, 0x50, last_table(first))?;
@@ -119,7 +122,8 @@ fn service_on(
     service: SdtService,
     pid: Option<u16>,
 ) -> Result<ScreenService, AllocError>
-    ensures { (content : Key → Option Content) → Keeps contents.now content → IfOk result (λ shown. shown ≡ service_on content sdt service pid) }
+    ensures { (content : Key → Option Content) → Keeps contents.now content
+        → IfOk result (λ shown. shown ≡ service_on content sdt service pid) }
 {
     let id = service.service;
     let (pcr_pid, components) = clock_and_components(alloc, pmt_of(alloc, contents, id, pid)?);
@@ -160,7 +164,8 @@ fn screen_services(
     sdt: Key,
     services: Vec<SdtService>,
 ) -> Result<ScreenServices, AllocError>
-    ensures { (content : Key → Option Content) → Keeps contents.now content → IfOk result (λ shown. shown ≡ map (screen_service content programs.now sdt) services.items) }
+    ensures { (content : Key → Option Content) → Keeps contents.now content
+        → IfOk result (λ shown. shown ≡ map (screen_service content programs.now sdt) services.items) }
 {
     let pids = pids_of(alloc, programs)?;
     let mut shown = Vec::with_capacity(alloc, services.len())?;
@@ -188,7 +193,8 @@ pub(crate) fn screen_of(
     programs: &[PatEntry],
     services: Vec<SdtService>,
 ) -> Result<Screen, AllocError>
-    ensures { (V : View) → Keeps contents.now V.content → programs.now ≡ programs_of V → services.items ≡ services_of V
+    ensures { (V : View) → Keeps contents.now V.content
+        → programs.now ≡ programs_of V → services.items ≡ services_of V
         → IfOk result (λ shown. shown ≡ screen V of.pat of.nit of.sdt of.clock.0) }
 {
     let network = sections_of(contents, of.nit);

@@ -24,7 +24,8 @@ pub(crate) fn programs_of(
     contents: &Collector,
     pat: Option<Key>,
 ) -> Result<Vec<PatEntry>, AllocError>
-    ensures { (content : Key → Option Content) → Keeps contents.now content → IfOk result (λ programs. programs.items ≡ programs_in (sections_at content pat)) }
+    ensures { (content : Key → Option Content) → Keeps contents.now content
+        → IfOk result (λ programs. programs.items ≡ programs_in (sections_at content pat)) }
 {
     programs_in(alloc, sections_at(contents, pat))
 }
@@ -35,7 +36,8 @@ pub(crate) fn services_of(
     contents: &Collector,
     sdt: Option<Key>,
 ) -> Result<Vec<SdtService>, AllocError>
-    ensures { (content : Key → Option Content) → Keeps contents.now content → IfOk result (λ services. services.items ≡ by_service (services_in (sections_at content sdt))) }
+    ensures { (content : Key → Option Content) → Keeps contents.now content
+        → IfOk result (λ services. services.items ≡ by_service (services_in (sections_at content sdt))) }
 {
     by_service(alloc, services_in(alloc, sections_at(contents, sdt))?)
 }

@@ -13,8 +13,11 @@ returns c V holds =
     let programs : c.in_ok-programs.programs.items ≡ programs_of V =
     c.in_ok-programs.ensures content holds.keeps ∙ ap (λ (k : Option Key). programs_in (sections_at content k)) (sym holds.pat) in
     let services : c.in_ok-services.services.items ≡ services_of V =
-    c.in_ok-services.ensures content holds.keeps ∙ ap (λ (k : Option Key). by_service (services_in (sections_at content k))) (sym holds.sdt) in
+    c.in_ok-services.ensures content holds.keeps
+    ∙ ap (λ (k : Option Key). by_service (services_in (sections_at content k))) (sym holds.sdt) in
     let wanting = c.in_ok-needs.ensures V holds (c.deref.ensures.value ∙ programs) (c.deref-2.ensures.value ∙ services) in
-    let empty : length c.in_ok-needs.needs.items ≡ 0 = sym c.in_ok-needs.needs.ok.0 ∙ eqb-true _ _ (sym c.is_empty.ensures ∙ c.if-is_empty.true) in
-    shown_whole c.args.contents.now c.args.latest V c.in-Some.of c.in_ok-screen.screen holds (sym c.named.ensures ∙ c.in-Some.is) (sym wanting ∙ no_elements c.in_ok-needs.needs.items empty)
+    let empty : length c.in_ok-needs.needs.items ≡ 0 = sym c.in_ok-needs.needs.ok.0
+    ∙ eqb-true _ _ (sym c.is_empty.ensures ∙ c.if-is_empty.true) in
+    shown_whole c.args.contents.now c.args.latest V c.in-Some.of c.in_ok-screen.screen holds
+    (sym c.named.ensures ∙ c.in-Some.is) (sym wanting ∙ no_elements c.in_ok-needs.needs.items empty)
     (c.in_ok-screen.ensures V holds.keeps (c.deref-3.ensures.value ∙ programs) services)

@@ -8,7 +8,8 @@ use Rattle.guide_screen.proofs.screen.put_tables.Goals as goal
 
 pub loop-table-preserved : goal.loop-table-preserved
 loop-table-preserved c content keeps =
-    list-next (events_at content c.args.sdt c.args.service) c.args.tables.now c.loop-table.table-index 0 c.args.events.now.items c.loop-table.events.items c.put_events.new.out.items
+    list-next (events_at content c.args.sdt c.args.service) c.args.tables.now c.loop-table.table-index 0
+    c.args.events.now.items c.loop-table.events.items c.put_events.new.out.items
     c.loop-table-test.true (c.loop-table.invariant content keeps)
     (c.in_ok-put_events.ensures
     ∙ ap (λ (x : Content). c.loop-table.events.items ++ events_in x)
