@@ -14,7 +14,7 @@ use Rattle.guide_model.specs.declared.stream.Component.{Component}
 use Rattle.guide_model.specs.declared.screen.ScreenEvent.{ScreenEvent}
 use Rattle.desc_parts.specs.declared.descriptors.RawDesc.{RawDesc}
 use Rattle.table_entries.specs.Entries.{Entry, entry_bytes, FitsEntry}
-use Rattle.table_entries.specs.Loops.{loop_length, loop_of, entry_length, behind_entry, are_entries, AreBytes}
+use Rattle.table_entries.specs.Loops.{are_descriptors, loop_length, loop_of, entry_length, behind_entry, are_entries, AreBytes}
 use Rattle.pat_pmt.specs.declared.pmt.Pmt.{Pmt}
 use Rattle.pat_pmt.specs.Pmt.{component_of, IsPmt}
 use Rattle.pat_pmt.specs.Bodies.{is_pmt_body}
@@ -36,7 +36,7 @@ use Rattle.eit_codec.proofs.MadeBodies.{bodies_can_be_read}
 use Rattle.guide_screen.specs.Reading.{made, desc_of, descriptors_within, entry_in, entries_within, entries_in, clock_pid, component_in}
 use Rattle.guide_screen.specs.Reading.{pmt_with, pmt_in, name_in, stream_in, loop_streams, nit_with, nit_in, service_in, sdt_with}
 use Rattle.guide_screen.specs.Reading.{sdt_in, event_in, head_of, eit_with, eit_in, BodiesSay, BodiesAreRead, BodiesAreThoseThatSay}
-use Rattle.guide_screen.proofs.Entries.{same_test, front_of, entry_said, IsSaid, AreSaid, entries_said, read_said, entry_test}
+use Rattle.guide_screen.proofs.Entries.{descriptors_test, same_test, front_of, entry_said, IsSaid, AreSaid, entries_said, read_said, entry_test}
 use Rattle.guide_screen.proofs.Entries.{made_test, entries_test}
 
 -- ---- a program map table
@@ -208,15 +208,6 @@ eit_said body e is =
 
 -- ---- and one that is looked at
 
-descriptors_look : (n : ℕ) (bytes : List ℕ) → looks.are_descriptors n bytes ≡ is_some (descriptors_within n bytes)
-descriptors_look n [] = refl
-descriptors_look n (tag ∷ []) = refl
-descriptors_look zero (tag ∷ len ∷ behind) = refl
-descriptors_look (suc n) (tag ∷ len ∷ behind) =
-    same_test (nat_le len (length behind)) (looks.are_descriptors n (drop len behind))
-    (descriptors_within n (drop len behind)) (λ descs. desc_of tag len behind ∷ descs)
-    (descriptors_look n (drop len behind))
-
 then_test : {X Y : Type 0} (f : X → Option Y) (b : Bool) → ((x : X) → is_some (f x) ≡ b) → (o : Option X) → (b && is_some o)
     ≡ is_some (option_and_then f o)
 then_test f true each None = refl
@@ -266,7 +257,7 @@ event_test bytes = go (nat_le (entry_length 10 bytes) (length bytes)) refl
     d = is_some (duration_from_bcd (looks.duration_of bytes))
 
     r : Bool
-    r = looks.are_descriptors n (loop_of 10 bytes)
+    r = are_descriptors n (loop_of 10 bytes)
 
     go : (b : Bool) → nat_le (entry_length 10 bytes) (length bytes) ≡ b
         → (nat_le 12 (length bytes) && b && m && d && r)
@@ -275,7 +266,7 @@ event_test bytes = go (nat_le (entry_length 10 bytes) (length bytes)) refl
     go true e =
         ap (λ (t : Bool). t && true && m && d && r)
         (le-leb 12 (length bytes) (omega (arith, leb-true (entry_length 10 bytes) (length bytes) e)))
-        ∙ ap (λ (t : Bool). m && d && t) (descriptors_look n (loop_of 10 bytes))
+        ∙ ap (λ (t : Bool). m && d && t) (descriptors_test n (loop_of 10 bytes))
         ∙ then_test (event_in (take 10 bytes)) (m && d) (times_look bytes) (descriptors_within n (loop_of 10 bytes))
 
 events_test : (n : ℕ) (bytes : List ℕ) → looks.are_entries n bytes ≡ is_some (entries_within 10 event_in n bytes)
