@@ -1,1 +1,4 @@
 pub mod Versions
+pub mod Lists
+pub mod Parts
+pub mod Joined

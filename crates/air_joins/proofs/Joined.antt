@@ -1,0 +1,82 @@
+-- What is heard of a part of an air.
+use Rattle.std.proofs.Common.{◌≡◌, ℕ, ◌+◌, ◌-◌, ◌<◌, ◌≤◌, ◌⊎◌, inl, inr, List, [], ◌∷◌, ◌++◌, length, take, drop, map, refl, sym, ap, ap₂, ◌∙◌, subst, arith}
+use Rattle.std.specs.Prelude.{filter_map, slice_range}
+use Rattle.std.specs.List.{AllByRecursion}
+use Rattle.std.proofs.lemmas.List.{take-append-drop, length-append}
+use Rattle.std.proofs.lemmas.List.Folds.{drop_split}
+use Rattle.std.proofs.lemmas.List.Elements.{filter_map-append}
+use Rattle.si_lists.proofs.Lists.{all_append}
+use Rattle.version_book.specs.Airings.{Airing}
+use Rattle.ts_packets.specs.Packets.{Piece, pieces, Carries}
+use Rattle.ts_packets.specs.Bytes.{Packet, bytes_of_packet}
+use Rattle.ts_packets.specs.Counting.{piece_on, of_pid}
+use Rattle.ts_packets.proofs.Carrying.{Carries-none, Carries-append}
+use Rattle.ts_packets.proofs.Stamps.{of_pid-append}
+use Rattle.ts_demux.specs.Hearing.{IsSection}
+use Rattle.ts_demux.specs.Sections.{sections_on}
+use Rattle.ts_demux.specs.Laws.{GoOn, within}
+use Rattle.ts_demux.proofs.Written.{part_goes_on, part_is_heard}
+use Rattle.air_model.specs.Air.{Sent, Aired, sent_on, air, airings_of}
+use Rattle.air_model.specs.Repeating.{RepeatingCycles, IsRepeatingAirOf}
+use Rattle.air_hearing.specs.Sending.{CanBeSent}
+use Rattle.air_hearing.proofs.Sections.{each_section, each_on}
+use Rattle.air_joins.specs.Joining.{sent_by, count_before, heard_between}
+use Rattle.air_joins.specs.Laws.{AirCarries, JoinedIsHeard}
+use Rattle.air_joins.proofs.Lists.{le_either, take-further, chosen-before}
+use Rattle.air_joins.proofs.Parts.{within-none}
+
+-- ---- the cycles, joined
+
+pub carried_by : (pid : ℕ) (past : List Airing) (xs : List Aired) (h : RepeatingCycles past xs) → Carries (of_pid pid (air xs)) (filter_map (sent_on pid) (sent_by past xs h))
+carried_by pid past [] h = Carries-none
+carried_by pid past (x ∷ xs) h =
+    let later = sent_by (past ++ x.airing ∷ []) xs h.1 in
+    let both = Carries-append (of_pid pid x.packets) (of_pid pid (air xs)) (filter_map (sent_on pid) h.0.sections) (filter_map (sent_on pid) later) (h.0.carried pid) (carried_by pid (past ++ x.airing ∷ []) xs h.1) in
+    record {
+      groups = both.groups;
+      are = of_pid-append pid x.packets (air xs) ∙ both.are;
+      have_room = both.have_room;
+      sections = filter_map-append (sent_on pid) h.0.sections later ∙ both.sections;
+      ended = both.ended;
+    }
+
+pub air_carries : AirCarries
+air_carries airings xs is pid = carried_by pid [] xs is.cycles
+
+sent_each : (past : List Airing) (xs : List Aired) (h : RepeatingCycles past xs) → CanBeSent (airings_of xs) → AllByRecursion (λ (x : Sent). IsSection x.bytes) (sent_by past xs h)
+sent_each past [] h fit = tt
+sent_each past (x ∷ xs) h fit =
+    all_append (λ (s : Sent). IsSection s.bytes) h.0.sections (sent_by (past ++ x.airing ∷ []) xs h.1)
+    (each_section past x.airing h.0.sections fit.0 h.0.are.each) (sent_each (past ++ x.airing ∷ []) xs h.1 fit.1)
+
+-- ---- a part
+
+-- the packets of a PID before a place are those before another place, and those between
+count-between : (pid : ℕ) (ps : List Packet) (join end : ℕ) → join ≤ end → count_before pid ps end ≡ count_before pid ps join + length (of_pid pid (slice_range ps join end))
+count-between pid ps join end le =
+    let sum : end ≡ join + (end - join) = omega (arith, le) in
+    ap (λ (k : ℕ). count_before pid ps k) sum ∙ ap (λ (l : List Packet). length (of_pid pid l)) (take-further join (end - join) ps)
+    ∙ ap length (of_pid-append pid (take join ps) (slice_range ps join end)) ∙ length-append (of_pid pid (take join ps)) (of_pid pid (slice_range ps join end))
+
+pub joined_is_heard : JoinedIsHeard
+joined_is_heard airings xs is fit pid lt carries join end = go (le_either join end)
+  where
+    all : List Packet
+    all = air xs
+
+    go : (join ≤ end) ⊎ (end ≤ join) → heard_between join end pid (air xs) ≡ within (count_before pid (air xs) join) (count_before pid (air xs) end) carries.groups
+    go (inr le) =
+        ap (λ (k : ℕ). sections_on pid (map bytes_of_packet (take k (drop join all)))) (let none : end - join ≡ 0 = omega (arith, le) in none)
+        ∙ sym (within-none (count_before pid all join) (count_before pid all end) carries.groups (inl (chosen-before (piece_on pid) end join all le)))
+    go (inl le) =
+        let part = slice_range all join end in
+        let cut : take join all ++ (part ++ drop end all) ≡ all = ap (λ (l : List Packet). take join all ++ l) (sym (drop_split all join end le)) ∙ take-append-drop join all in
+        let parts : of_pid pid (take join all) ++ (of_pid pid part ++ of_pid pid (drop end all)) ≡ pieces [] carries.groups =
+        ap (λ (l : List Piece). of_pid pid (take join all) ++ l) (sym (of_pid-append pid part (drop end all)))
+        ∙ sym (of_pid-append pid (take join all) (part ++ drop end all)) ∙ ap (of_pid pid) cut ∙ carries.are in
+        let whole : GoOn pid all = record { fields = is.fields; counted = (0, is.counted pid) } in
+        let goes_on = part_goes_on pid (take join all) part (drop end all) (subst (GoOn pid) (sym cut) whole) in
+        let each = each_on pid (sent_by [] xs is.cycles) (sent_each [] xs is.cycles (subst CanBeSent (sym is.airings_are) fit)) in
+        part_is_heard pid lt carries.groups carries.have_room (subst (AllByRecursion IsSection) carries.sections each)
+        (of_pid pid (take join all)) (of_pid pid (drop end all)) part parts goes_on
+        ∙ ap (λ (k : ℕ). within (count_before pid all join) k carries.groups) (sym (count-between pid all join end le))
