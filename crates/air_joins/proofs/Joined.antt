@@ -3,14 +3,15 @@ use Rattle.std.proofs.Common.{◌≡◌, ℕ, ◌+◌, ◌-◌, ◌<◌, ◌≤�
 use Rattle.std.specs.Prelude.{filter_map, slice_range}
 use Rattle.std.specs.List.{AllByRecursion}
 use Rattle.std.proofs.lemmas.List.{take-append-drop, length-append}
+use Rattle.std.proofs.lemmas.List.Concat.{flat_map-append}
 use Rattle.std.proofs.lemmas.List.Folds.{drop_split}
 use Rattle.std.proofs.lemmas.List.Elements.{filter_map-append}
 use Rattle.si_lists.proofs.Lists.{all_append}
 use Rattle.version_book.specs.Airings.{Airing}
-use Rattle.ts_packets.specs.Packets.{Piece, pieces, Carries}
+use Rattle.ts_packets.specs.Packets.{Piece, pieces, left, HaveSectionBytes, all_of, Carries}
 use Rattle.ts_packets.specs.Bytes.{Packet, bytes_of_packet}
 use Rattle.ts_packets.specs.Counting.{piece_on, of_pid}
-use Rattle.ts_packets.proofs.Carrying.{Carries-none, Carries-append}
+use Rattle.ts_packets.proofs.Carrying.{pieces-append, left-append, HaveRoom-append}
 use Rattle.ts_packets.proofs.Stamps.{of_pid-append}
 use Rattle.ts_demux.specs.Hearing.{IsSection}
 use Rattle.ts_demux.specs.Sections.{sections_on}
@@ -27,18 +28,50 @@ use Rattle.air_joins.proofs.Parts.{within-none}
 
 -- ---- the cycles, joined
 
-pub carried_by : (pid : ℕ) (past : List Airing) (xs : List Aired) (h : RepeatingCycles past xs) → Carries (of_pid pid (air xs)) (filter_map (sent_on pid) (sent_by past xs h))
-carried_by pid past [] h = Carries-none
-carried_by pid past (x ∷ xs) h =
-    let later = sent_by (past ++ x.airing ∷ []) xs h.1 in
-    let both = Carries-append (of_pid pid x.packets) (of_pid pid (air xs)) (filter_map (sent_on pid) h.0.sections) (filter_map (sent_on pid) later) (h.0.carried pid) (carried_by pid (past ++ x.airing ∷ []) xs h.1) in
-    record {
-      groups = both.groups;
-      are = of_pid-append pid x.packets (air xs) ∙ both.are;
-      have_room = both.have_room;
-      sections = filter_map-append (sent_on pid) h.0.sections later ∙ both.sections;
-      ended = both.ended;
-    }
+-- the groups of the cycles, one after the other: a group for each packet of a PID, the sections that begin in it
+abbrev pub groups_by : (pid : ℕ) (past : List Airing) (xs : List Aired) → RepeatingCycles past xs → List (List (List ℕ))
+groups_by pid past [] h = []
+groups_by pid past (x ∷ xs) h = (h.0.carried pid).groups ++ groups_by pid (past ++ x.airing ∷ []) xs h.1
+
+pieces_by : (pid : ℕ) (past : List Airing) (xs : List Aired) (h : RepeatingCycles past xs) → of_pid pid (air xs) ≡ pieces [] (groups_by pid past xs h)
+pieces_by pid past [] h = refl
+pieces_by pid past (x ∷ xs) h =
+    let own : Carries (of_pid pid x.packets) (filter_map (sent_on pid) h.0.sections) = h.0.carried pid in
+    let rest : List (List (List ℕ)) = groups_by pid (past ++ x.airing ∷ []) xs h.1 in
+    let later : of_pid pid (air xs) ≡ pieces (left [] own.groups) rest = pieces_by pid (past ++ x.airing ∷ []) xs h.1 ∙ ap (λ (r : List ℕ). pieces r rest) (sym own.ended) in
+    of_pid-append pid x.packets (air xs) ∙ ap₂ (λ (ps qs : List Piece). ps ++ qs) own.are later ∙ sym (pieces-append [] own.groups rest)
+
+room_by : (pid : ℕ) (past : List Airing) (xs : List Aired) (h : RepeatingCycles past xs) → HaveSectionBytes [] (groups_by pid past xs h)
+room_by pid past [] h = tt
+room_by pid past (x ∷ xs) h =
+    let own : Carries (of_pid pid x.packets) (filter_map (sent_on pid) h.0.sections) = h.0.carried pid in
+    let rest : List (List (List ℕ)) = groups_by pid (past ++ x.airing ∷ []) xs h.1 in
+    HaveRoom-append [] own.groups rest own.have_room (subst (λ (r : List ℕ). HaveSectionBytes r rest) (sym own.ended) (room_by pid (past ++ x.airing ∷ []) xs h.1))
+
+sections_by : (pid : ℕ) (past : List Airing) (xs : List Aired) (h : RepeatingCycles past xs) → filter_map (sent_on pid) (sent_by past xs h) ≡ all_of (groups_by pid past xs h)
+sections_by pid past [] h = refl
+sections_by pid past (x ∷ xs) h =
+    let own : Carries (of_pid pid x.packets) (filter_map (sent_on pid) h.0.sections) = h.0.carried pid in
+    let rest : List (List (List ℕ)) = groups_by pid (past ++ x.airing ∷ []) xs h.1 in
+    filter_map-append (sent_on pid) h.0.sections (sent_by (past ++ x.airing ∷ []) xs h.1)
+    ∙ ap₂ (λ (ss ts : List (List ℕ)). ss ++ ts) own.sections (sections_by pid (past ++ x.airing ∷ []) xs h.1)
+    ∙ sym (flat_map-append (λ (g : List (List ℕ)). g) own.groups rest)
+
+ended_by : (pid : ℕ) (past : List Airing) (xs : List Aired) (h : RepeatingCycles past xs) → left [] (groups_by pid past xs h) ≡ []
+ended_by pid past [] h = refl
+ended_by pid past (x ∷ xs) h =
+    let own : Carries (of_pid pid x.packets) (filter_map (sent_on pid) h.0.sections) = h.0.carried pid in
+    let rest : List (List (List ℕ)) = groups_by pid (past ++ x.airing ∷ []) xs h.1 in
+    left-append [] own.groups rest ∙ ap (λ (r : List ℕ). left r rest) own.ended ∙ ended_by pid (past ++ x.airing ∷ []) xs h.1
+
+abbrev carried_by : (pid : ℕ) (past : List Airing) (xs : List Aired) (h : RepeatingCycles past xs) → Carries (of_pid pid (air xs)) (filter_map (sent_on pid) (sent_by past xs h))
+carried_by pid past xs h = record {
+  groups = groups_by pid past xs h;
+  are = pieces_by pid past xs h;
+  have_room = room_by pid past xs h;
+  sections = sections_by pid past xs h;
+  ended = ended_by pid past xs h;
+}
 
 pub air_carries : AirCarries
 air_carries airings xs is pid = carried_by pid [] xs is.cycles
@@ -80,3 +113,8 @@ joined_is_heard airings xs is fit pid lt carries join end = go (le_either join e
         part_is_heard pid lt carries.groups carries.have_room (subst (AllByRecursion IsSection) carries.sections each)
         (of_pid pid (take join all)) (of_pid pid (drop end all)) part parts goes_on
         ∙ ap (λ (k : ℕ). within (count_before pid all join) k carries.groups) (sym (count-between pid all join end le))
+
+-- by the groups of the cycles
+pub joined_by : (airings : List Airing) (xs : List Aired) (is : IsRepeatingAirOf airings xs) → CanBeSent airings → (pid : ℕ) → pid < 8191 → (join end : ℕ)
+    → heard_between join end pid (air xs) ≡ within (count_before pid (air xs) join) (count_before pid (air xs) end) (groups_by pid [] xs is.cycles)
+joined_by airings xs is fit pid lt join end = joined_is_heard airings xs is fit pid lt (carried_by pid [] xs is.cycles) join end

@@ -1,5 +1,5 @@
 -- The sections that begin and end in a part of packets, where the packets are two lists.
-use Rattle.std.proofs.Common.{◌≡◌, ℕ, zero, suc, ◌+◌, ◌-◌, ◌<◌, ◌≤◌, ◌⊎◌, inl, inr, List, [], ◌∷◌, ◌++◌, length, take, drop, refl, sym, ap, ap₂, ◌∙◌, subst, arith, append-nil, length-take}
+use Rattle.std.proofs.Common.{◌≡◌, ℕ, ◌+◌, ◌-◌, ◌<◌, ◌≤◌, ◌⊎◌, inl, inr, List, [], ◌∷◌, ◌++◌, length, take, drop, refl, sym, ap, ap₂, ◌∙◌, subst, arith, append-nil, length-take}
 use Rattle.std.specs.List.{AllByRecursion}
 use Rattle.std.proofs.Math.Seq.{take-append-add}
 use Rattle.std.proofs.lemmas.List.{take-append-drop, take-append-le, take_all, drop_all}
@@ -8,7 +8,8 @@ use Rattle.ts_packets.specs.Packets.{left, all_of}
 use Rattle.ts_packets.proofs.Carrying.{left-append}
 use Rattle.ts_demux.specs.Laws.{but_last, ended, within}
 use Rattle.ts_demux.proofs.Windows.{all-front, all-behind}
-use Rattle.air_joins.proofs.Lists.{le_either, drop-both}
+use Rattle.si_lists.proofs.Lists.{all_append}
+use Rattle.air_joins.proofs.Lists.{le_either, lt_or, drop-both}
 
 abbrev Groups : Type 0
 Groups = List (List (List ℕ))
@@ -110,3 +111,26 @@ all-within P join end groups all =
     let part =
     (of_groups P (take join (take end groups)) (drop join (take end groups)) (subst (λ (gs : Groups). AllByRecursion P (all_of gs)) (sym (take-append-drop join (take end groups))) first)).1 in
     all-ended P (left [] (take end groups)) (all_of (drop join (take end groups))) part
+
+-- what holds of both parts
+pub all-parts : (P : List ℕ → Type 0) (join end : ℕ) (gs hs : Groups) → left [] gs ≡ [] → AllByRecursion P (within join end gs) → AllByRecursion P (within (join - length gs) (end - length gs) hs)
+    → AllByRecursion P (within join end (gs ++ hs))
+all-parts P join end gs hs closed one two =
+    subst (AllByRecursion P) (sym (within-append join end gs hs closed)) (all_append P (within join end gs) (within (join - length gs) (end - length gs) hs) one two)
+
+-- a part with a section has a packet
+pub some_part : (join end : ℕ) (groups : Groups) → (within join end groups ≡ []) ⊎ ((join < length groups) × (join < end))
+some_part join end groups = go (lt_or join (length groups)) (lt_or join end)
+  where
+    go : (join < length groups) ⊎ (length groups ≤ join) → (join < end) ⊎ (end ≤ join) → (within join end groups ≡ []) ⊎ ((join < length groups) × (join < end))
+    go (inl lt) (inl less) = inr (lt, less)
+    go (inr le) other = inl (within-none join end groups (inr le))
+    go (inl lt) (inr le) = inl (within-none join end groups (inl le))
+
+-- what holds of all sections that begin in a part, if it has a packet
+pub all-part : (P : List ℕ → Type 0) (join end : ℕ) (groups : Groups) → (join < length groups → join < end → AllByRecursion P (all_of groups)) → AllByRecursion P (within join end groups)
+all-part P join end groups all = go (some_part join end groups)
+  where
+    go : (within join end groups ≡ []) ⊎ ((join < length groups) × (join < end)) → AllByRecursion P (within join end groups)
+    go (inl none) = subst (AllByRecursion P) (sym none) tt
+    go (inr some) = all-within P join end groups (all some.0 some.1)

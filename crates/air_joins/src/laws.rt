@@ -1,5 +1,5 @@
 // Laws of joining an air, and of versions along it.
-ghost use Rattle.air_joins.specs.Laws.{AnotherVersionBetween, ChangesBetween, AirCarries, JoinedIsHeard};
+ghost use Rattle.air_joins.specs.Laws.{AnotherVersionBetween, ChangesBetween, AirCarries, JoinedIsHeard, HeardIsSent, CycleIsHeard};
 
 /// On each PID the packets of an air carry the sections of its cycles, cycle by cycle. A receiver that joins at any packet and loses
 /// none before another hears on each PID below 8,191, that of the null packets, just those of these sections whose first byte stands
@@ -8,6 +8,14 @@ ghost use Rattle.air_joins.specs.Laws.{AnotherVersionBetween, ChangesBetween, Ai
 pub fn joined_air_is_heard()
     ensures carries { AirCarries }
     ensures part { JoinedIsHeard }
+{}
+
+/// Each section that such a receiver hears is one of an airing whose cycle has a packet among those heard: a section of one of its
+/// sub-tables, with the version that this has there, or its TDT. And where all packets of an airing's cycle are heard, each of its
+/// sections is.
+pub fn cycles_are_heard()
+    ensures sound { HeardIsSent }
+    ensures whole { CycleIsHeard }
 {}
 
 /// Where two airings carry a key with different contents under one version_number, an airing between them carries the key with another

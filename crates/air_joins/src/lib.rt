@@ -6,4 +6,4 @@
 
 mod laws;
 
-pub use laws::{joined_air_is_heard, versions_wrap};
+pub use laws::{cycles_are_heard, joined_air_is_heard, versions_wrap};
