@@ -19,10 +19,10 @@ use Rattle.ts_demux.specs.Laws.{GoOn, within}
 use Rattle.ts_demux.proofs.Written.{part_goes_on, part_is_heard}
 use Rattle.air_model.specs.Air.{Sent, Aired, sent_on, air, airings_of}
 use Rattle.air_model.specs.Repeating.{RepeatingCycles, IsRepeatingAirOf}
-use Rattle.air_hearing.specs.Sending.{CanBeSent}
-use Rattle.air_hearing.proofs.Sections.{each_section, each_on}
-use Rattle.air_joins.specs.Joining.{sent_by, count_before, heard_between}
-use Rattle.air_joins.specs.Laws.{AirCarries, JoinedIsHeard}
+use Rattle.air_hearing.specs.Sending.{sections_sent, CanBeSent}
+use Rattle.air_hearing.proofs.Sections.{each_section, each_on, sections-each, GoOn-air}
+use Rattle.air_joins.specs.Joining.{sent_by, count_before, heard_between, PartsAreHeard}
+use Rattle.air_joins.specs.Laws.{JoinedIsHeard, RepeatingAirCarries, RepeatingJoinedIsHeard}
 use Rattle.air_joins.proofs.Lists.{le_either, take-further, chosen-before}
 use Rattle.air_joins.proofs.Parts.{within-none}
 
@@ -73,8 +73,8 @@ carried_by pid past xs h = record {
   ended = ended_by pid past xs h;
 }
 
-pub air_carries : AirCarries
-air_carries airings xs is pid = carried_by pid [] xs is.cycles
+pub repeating_carries : RepeatingAirCarries
+repeating_carries airings xs is pid = carried_by pid [] xs is.cycles
 
 sent_each : (past : List Airing) (xs : List Aired) (h : RepeatingCycles past xs) → CanBeSent (airings_of xs) → AllByRecursion (λ (x : Sent). IsSection x.bytes) (sent_by past xs h)
 sent_each past [] h fit = tt
@@ -91,30 +91,39 @@ count-between pid ps join end le =
     ap (λ (k : ℕ). count_before pid ps k) sum ∙ ap (λ (l : List Packet). length (of_pid pid l)) (take-further join (end - join) ps)
     ∙ ap length (of_pid-append pid (take join ps) (slice_range ps join end)) ∙ length-append (of_pid pid (take join ps)) (of_pid pid (slice_range ps join end))
 
-pub joined_is_heard : JoinedIsHeard
-joined_is_heard airings xs is fit pid lt carries join end = go (le_either join end)
+-- of packets that carry sections, whose counters go on
+part_of_packets : (pid : ℕ) → pid < 8191 → (all : List Packet) (ss : List (List ℕ)) (carries : Carries (of_pid pid all) ss) → AllByRecursion IsSection ss
+    → GoOn pid all → PartsAreHeard pid all carries.groups
+part_of_packets pid lt all ss carries each whole join end = go (le_either join end)
   where
-    all : List Packet
-    all = air xs
-
-    go : (join ≤ end) ⊎ (end ≤ join) → heard_between join end pid (air xs) ≡ within (count_before pid (air xs) join) (count_before pid (air xs) end) carries.groups
+    go : (join ≤ end) ⊎ (end ≤ join) → heard_between join end pid all ≡ within (count_before pid all join) (count_before pid all end) carries.groups
     go (inr le) =
         ap (λ (k : ℕ). sections_on pid (map bytes_of_packet (take k (drop join all)))) (let none : end - join ≡ 0 = omega (arith, le) in none)
         ∙ sym (within-none (count_before pid all join) (count_before pid all end) carries.groups (inl (chosen-before (piece_on pid) end join all le)))
     go (inl le) =
         let part = slice_range all join end in
-        let cut : take join all ++ (part ++ drop end all) ≡ all = ap (λ (l : List Packet). take join all ++ l) (sym (drop_split all join end le)) ∙ take-append-drop join all in
+        let cut : take join all ++ (part ++ drop end all) ≡ all =
+        ap (λ (l : List Packet). take join all ++ l) (sym (drop_split all join end le)) ∙ take-append-drop join all in
         let parts : of_pid pid (take join all) ++ (of_pid pid part ++ of_pid pid (drop end all)) ≡ pieces [] carries.groups =
         ap (λ (l : List Piece). of_pid pid (take join all) ++ l) (sym (of_pid-append pid part (drop end all)))
         ∙ sym (of_pid-append pid (take join all) (part ++ drop end all)) ∙ ap (of_pid pid) cut ∙ carries.are in
-        let whole : GoOn pid all = record { fields = is.fields; counted = (0, is.counted pid) } in
         let goes_on = part_goes_on pid (take join all) part (drop end all) (subst (GoOn pid) (sym cut) whole) in
-        let each = each_on pid (sent_by [] xs is.cycles) (sent_each [] xs is.cycles (subst CanBeSent (sym is.airings_are) fit)) in
         part_is_heard pid lt carries.groups carries.have_room (subst (AllByRecursion IsSection) carries.sections each)
         (of_pid pid (take join all)) (of_pid pid (drop end all)) part parts goes_on
         ∙ ap (λ (k : ℕ). within (count_before pid all join) k carries.groups) (sym (count-between pid all join end le))
 
+pub joined_is_heard : JoinedIsHeard
+joined_is_heard airings xs is fit pid lt carries =
+    part_of_packets pid lt (air xs) (filter_map (sent_on pid) (sections_sent [] airings)) carries (sections-each pid [] airings fit) (GoOn-air airings xs is pid)
+
+pub repeating_is_heard : RepeatingJoinedIsHeard
+repeating_is_heard airings xs is fit pid lt carries =
+    let sent : List Sent = sent_by [] xs is.cycles in
+    part_of_packets pid lt (air xs) (filter_map (sent_on pid) sent) carries
+    (each_on pid sent (sent_each [] xs is.cycles (subst CanBeSent (sym is.airings_are) fit)))
+    (record { fields = is.fields; counted = (0, is.counted pid) })
+
 -- by the groups of the cycles
 pub joined_by : (airings : List Airing) (xs : List Aired) (is : IsRepeatingAirOf airings xs) → CanBeSent airings → (pid : ℕ) → pid < 8191 → (join end : ℕ)
     → heard_between join end pid (air xs) ≡ within (count_before pid (air xs) join) (count_before pid (air xs) end) (groups_by pid [] xs is.cycles)
-joined_by airings xs is fit pid lt join end = joined_is_heard airings xs is fit pid lt (carried_by pid [] xs is.cycles) join end
+joined_by airings xs is fit pid lt join end = repeating_is_heard airings xs is fit pid lt (carried_by pid [] xs is.cycles) join end

@@ -5,12 +5,11 @@ use Rattle.section_codec.specs.declared.table.Key.{Key}
 use Rattle.version_book.specs.Airings.{Airing, content_at}
 use Rattle.ts_packets.specs.Packets.{Carries}
 use Rattle.ts_packets.specs.Counting.{of_pid}
-use Rattle.ts_demux.specs.Laws.{within}
-use Rattle.air_model.specs.Air.{Sent, Aired, sent_on, air, airings_of}
+use Rattle.air_model.specs.Air.{Sent, Aired, sent_on, air, airings_of, IsAirOf}
 use Rattle.air_model.specs.Repeating.{IsSentOf, IsRepeatingAirOf}
-use Rattle.air_hearing.specs.Sending.{CanBeSent}
+use Rattle.air_hearing.specs.Sending.{sections_sent, CanBeSent}
 use Rattle.air_joins.specs.Versions.{version_behind, changes_behind, ShareVersion}
-use Rattle.air_joins.specs.Joining.{sent_by, count_before, heard_between, IsOfCycleIn}
+use Rattle.air_joins.specs.Joining.{sent_by, heard_between, PartsAreHeard, IsOfCycleIn}
 
 -- Between them an airing carries the key with another version,
 abbrev pub AnotherVersionBetween : Type 0
@@ -25,19 +24,30 @@ ChangesBetween =
     (k : Key) (past : List Airing) (a : Airing) (between : List Airing) (b : Airing) → ShareVersion k past a between b
     → changes_behind k past a + 32 ≤ changes_behind k (past ++ a ∷ between) b
 
--- On each PID the packets of an air carry the sections of its cycles, cycle by cycle.
+-- On each PID the packets of an air carry the sections of its cycles, cycle by cycle,
 abbrev pub AirCarries : Type 0
 AirCarries =
+    (airings : List Airing) (xs : List Aired) → IsAirOf airings xs → (pid : ℕ)
+    → Carries (of_pid pid (air xs)) (filter_map (sent_on pid) (sections_sent [] airings))
+
+-- and whoever joins it hears those of them that begin and end in the packets heard.
+abbrev pub JoinedIsHeard : Type 0
+JoinedIsHeard =
+    (airings : List Airing) (xs : List Aired) → IsAirOf airings xs → CanBeSent airings → (pid : ℕ) → pid < 8191
+    → (carries : Carries (of_pid pid (air xs)) (filter_map (sent_on pid) (sections_sent [] airings)))
+    → PartsAreHeard pid (air xs) carries.groups
+
+-- The same of an air whose cycles repeat sections as they like.
+abbrev pub RepeatingAirCarries : Type 0
+RepeatingAirCarries =
     (airings : List Airing) (xs : List Aired) (is : IsRepeatingAirOf airings xs) (pid : ℕ)
     → Carries (of_pid pid (air xs)) (filter_map (sent_on pid) (sent_by [] xs is.cycles))
 
--- Whoever joins at packet join, and loses none before packet end, hears on each PID of the sections carried just those with their first
--- byte in packet join or later and their last byte before packet end, in their order.
-abbrev pub JoinedIsHeard : Type 0
-JoinedIsHeard =
+abbrev pub RepeatingJoinedIsHeard : Type 0
+RepeatingJoinedIsHeard =
     (airings : List Airing) (xs : List Aired) (is : IsRepeatingAirOf airings xs) → CanBeSent airings → (pid : ℕ) → pid < 8191
-    → (carries : Carries (of_pid pid (air xs)) (filter_map (sent_on pid) (sent_by [] xs is.cycles))) (join end : ℕ)
-    → heard_between join end pid (air xs) ≡ within (count_before pid (air xs) join) (count_before pid (air xs) end) carries.groups
+    → (carries : Carries (of_pid pid (air xs)) (filter_map (sent_on pid) (sent_by [] xs is.cycles)))
+    → PartsAreHeard pid (air xs) carries.groups
 
 -- Each section heard is one of an airing whose cycle has a packet among those heard.
 abbrev pub HeardIsSent : Type 0

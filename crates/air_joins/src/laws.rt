@@ -1,13 +1,19 @@
 // Laws of joining an air, and of versions along it.
-ghost use Rattle.air_joins.specs.Laws.{AnotherVersionBetween, ChangesBetween, AirCarries, JoinedIsHeard, HeardIsSent, CycleIsHeard};
+ghost use Rattle.air_joins.specs.Laws.{AnotherVersionBetween, ChangesBetween, AirCarries, JoinedIsHeard, RepeatingAirCarries, RepeatingJoinedIsHeard, HeardIsSent, CycleIsHeard};
 
 /// On each PID the packets of an air carry the sections of its cycles, cycle by cycle. A receiver that joins at any packet and loses
 /// none before another hears on each PID below 8,191, that of the null packets, just those of these sections whose first byte stands
 /// in the packet joined or later and whose last byte stands before the other, in their order (ISO/IEC 13818-1, 2.4.4). Nothing is
-/// said of how densely sections share packets, of how often a cycle repeats them, or of the order between PIDs.
+/// said of how densely sections share packets, or of the order between PIDs.
 pub fn joined_air_is_heard()
     ensures carries { AirCarries }
     ensures part { JoinedIsHeard }
+{}
+
+/// The same of an air whose cycles repeat sections as they like.
+pub fn joined_repeating_air_is_heard()
+    ensures carries { RepeatingAirCarries }
+    ensures part { RepeatingJoinedIsHeard }
 {}
 
 /// Each section that such a receiver hears is one of an airing whose cycle has a packet among those heard: a section of one of its

@@ -6,4 +6,6 @@
 
 mod laws;
 
-pub use laws::{cycles_are_heard, joined_air_is_heard, versions_wrap};
+pub use laws::{
+    cycles_are_heard, joined_air_is_heard, joined_repeating_air_is_heard, versions_wrap,
+};
