@@ -1,5 +1,6 @@
 -- The cycles of which a part of an air is heard.
-use Rattle.std.proofs.Common.{◌≡◌, ℕ, ◌+◌, ◌-◌, ◌<◌, inr, List, [], ◌∷◌, ◌++◌, Bool, true, false, ◌==◌, Some, None, length, refl, sym, ap, ◌∙◌, subst, arith, append_assoc, append-nil, eqb-true, eq-eqb}
+use Rattle.std.proofs.Common.{◌≡◌, ℕ, ◌+◌, ◌-◌, ◌<◌, inr, List, [], ◌∷◌, ◌++◌, Bool, true, false, ◌==◌, Some, None, length, refl, sym, ap}
+use Rattle.std.proofs.Common.{◌∙◌, subst, arith, append_assoc, append-nil, eqb-true, eq-eqb}
 use Rattle.std.specs.Prelude.{if◌then◌else◌, filter_map}
 use Rattle.std.specs.List.{AllByRecursion, Contains, cons_option}
 use Rattle.std.proofs.lemmas.List.{length-append}
@@ -33,7 +34,8 @@ record IsSentOn (pid : ℕ) (P : Sent → Type 0) (bytes : List ℕ) : Type 0 wh
   on_pid : section.pid ≡ pid
   has_bytes : section.bytes ≡ bytes
 
-sent_on_each : (pid : ℕ) (P : Sent → Type 0) (ss : List Sent) → AllByRecursion P ss → AllByRecursion (IsSentOn pid P) (filter_map (sent_on pid) ss)
+sent_on_each : (pid : ℕ) (P : Sent → Type 0) (ss : List Sent) → AllByRecursion P ss
+    → AllByRecursion (IsSentOn pid P) (filter_map (sent_on pid) ss)
 sent_on_each pid P [] all = tt
 sent_on_each pid P (s ∷ ss) all = go (s.pid == pid) refl (sent_on_each pid P ss all.1)
   where
@@ -74,10 +76,12 @@ pub record IsOfCycle (pid join end : ℕ) (past : List Airing) (xs : List Aired)
 
 -- the first cycle
 own_part : (pid : ℕ) (past : List Airing) (x : Aired) (xs : List Aired) (ss : List Sent) → AllByRecursion (IsSentOf past x.airing) ss
-    → (c : Carries (of_pid pid x.packets) (filter_map (sent_on pid) ss)) (join end : ℕ) → AllByRecursion (IsOfCycle pid join end past (x ∷ xs)) (within join end c.groups)
+    → (c : Carries (of_pid pid x.packets) (filter_map (sent_on pid) ss)) (join end : ℕ)
+    → AllByRecursion (IsOfCycle pid join end past (x ∷ xs)) (within join end c.groups)
 own_part pid past x xs ss each c join end = all-part (IsOfCycle pid join end past (x ∷ xs)) join end c.groups all
   where
-    one : join < length c.groups → join < end → (bytes : List ℕ) → IsSentOn pid (IsSentOf past x.airing) bytes → IsOfCycle pid join end past (x ∷ xs) bytes
+    one : join < length c.groups → join < end → (bytes : List ℕ) → IsSentOn pid (IsSentOf past x.airing) bytes
+        → IsOfCycle pid join end past (x ∷ xs) bytes
     one lt less bytes s =
         let size = length_groups (of_pid pid x.packets) (filter_map (sent_on pid) ss) c in
         record {
@@ -121,10 +125,12 @@ behind_first pid past x xs join end n size bytes r =
       after = r.after;
       section = r.section;
       cut = ap (λ (l : List Aired). x ∷ l) r.cut;
-      sent = subst (λ (l : List Airing). IsSentOf l r.cycle.airing r.section) (append_assoc past (x.airing ∷ []) (airings_of r.before)) r.sent;
+      sent = subst (λ (l : List Airing). IsSentOf l r.cycle.airing r.section)
+          (append_assoc past (x.airing ∷ []) (airings_of r.before)) r.sent;
       on_pid = r.on_pid;
       has_bytes = r.has_bytes;
-      reaches = shift-reaches join n (length (of_pid pid (air r.before))) (length (of_pid pid r.cycle.packets)) (length (of_pid pid (x.packets ++ air r.before))) both r.reaches;
+      reaches = shift-reaches join n (length (of_pid pid (air r.before))) (length (of_pid pid r.cycle.packets))
+          (length (of_pid pid (x.packets ++ air r.before))) both r.reaches;
       begins = shift-begins end n (length (of_pid pid (air r.before))) (length (of_pid pid (x.packets ++ air r.before))) both r.begins;
       some = r.some;
       order = shift-order join end n r.order;
@@ -132,7 +138,8 @@ behind_first pid past x xs join end n size bytes r =
 
 pub each_of_cycle : (pid : ℕ) (past : List Airing) (xs : List Aired) (h : RepeatingCycles past xs) (join end : ℕ)
     → AllByRecursion (IsOfCycle pid join end past xs) (within join end (groups_by pid past xs h))
-each_of_cycle pid past [] h join end = subst (AllByRecursion (IsOfCycle pid join end past [])) (sym (within-none join end [] (inr (omega arith)))) tt
+each_of_cycle pid past [] h join end =
+    subst (AllByRecursion (IsOfCycle pid join end past [])) (sym (within-none join end [] (inr (omega arith)))) tt
 each_of_cycle pid past (x ∷ xs) h join end =
     let own : Carries (of_pid pid x.packets) (filter_map (sent_on pid) h.0.sections) = h.0.carried pid in
     let gs : List (List (List ℕ)) = own.groups in

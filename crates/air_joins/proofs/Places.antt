@@ -25,13 +25,15 @@ before_up pid ps n m le = chosen-before (piece_on pid) n m ps le
 count_front : (pid : ℕ) (ps qs : List Packet) → count_before pid (ps ++ qs) (length ps) ≡ length (of_pid pid ps)
 count_front pid ps qs = ap (λ (l : List Packet). length (of_pid pid l)) (take-append_seam ps qs)
 
-pub count_at : (pid : ℕ) (before after : List Aired) (x : Aired) → count_before pid (air (before ++ x ∷ after)) (length (air before)) ≡ length (of_pid pid (air before))
+pub count_at : (pid : ℕ) (before after : List Aired) (x : Aired)
+    → count_before pid (air (before ++ x ∷ after)) (length (air before)) ≡ length (of_pid pid (air before))
 count_at pid before after x =
     ap (λ (l : List Packet). count_before pid l (length (air before))) (flat_map-append (λ (y : Aired). y.packets) before (x ∷ after))
     ∙ count_front pid (air before) (x.packets ++ air after)
 
 pub count_behind : (pid : ℕ) (before after : List Aired) (x : Aired)
-    → count_before pid (air (before ++ x ∷ after)) (length (air before) + length x.packets) ≡ length (of_pid pid (air before)) + length (of_pid pid x.packets)
+    → count_before pid (air (before ++ x ∷ after)) (length (air before) + length x.packets)
+    ≡ length (of_pid pid (air before)) + length (of_pid pid x.packets)
 count_behind pid before after x =
     let cut : air (before ++ x ∷ after) ≡ (air before ++ x.packets) ++ air after =
     flat_map-append (λ (y : Aired). y.packets) before (x ∷ after) ∙ sym (append_assoc (air before) x.packets (air after)) in

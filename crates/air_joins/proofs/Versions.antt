@@ -1,5 +1,6 @@
 -- Versions along an airing list.
-use Rattle.std.proofs.Common.{◌≡◌, ℕ, ◌+◌, ◌%◌, ◌≤◌, List, [], ◌∷◌, ◌++◌, Bool, true, false, Option, Some, None, refl, sym, ap, ◌∙◌, subst, arith, append_assoc, append-nil}
+use Rattle.std.proofs.Common.{◌≡◌, ℕ, ◌+◌, ◌%◌, ◌≤◌, List, [], ◌∷◌, ◌++◌, Bool, true, false, Option, Some, None, refl, sym, ap, ◌∙◌}
+use Rattle.std.proofs.Common.{subst, arith, append_assoc, append-nil}
 use Rattle.std.specs.List.{cons_option}
 use Rattle.std.specs.Prelude.{if◌then◌else◌, option_to_list, IsSome}
 use Rattle.std.proofs.lemmas.List.Elements.{filter_map-append}
@@ -31,9 +32,12 @@ ends_with (p ∷ ps) c = record {
 }
 
 -- more contents add their changes
-changes_after-more : (c : Content) (cs ds : List Content) → changes_after c (cs ++ ds) ≡ changes_after c cs + changes_after (last_of c cs) ds
+changes_after-more : (c : Content) (cs ds : List Content)
+    → changes_after c (cs ++ ds) ≡ changes_after c cs + changes_after (last_of c cs) ds
 changes_after-more c [] ds = omega arith
-changes_after-more c (x ∷ cs) ds = ap (λ (n : ℕ). if is_content c x then n else 1 + n) (changes_after-more x cs ds) ∙ step (is_content c x) (changes_after x cs) (changes_after (last_of x cs) ds)
+changes_after-more c (x ∷ cs) ds =
+    ap (λ (n : ℕ). if is_content c x then n else 1 + n) (changes_after-more x cs ds)
+    ∙ step (is_content c x) (changes_after x cs) (changes_after (last_of x cs) ds)
   where
     step : (b : Bool) (n m : ℕ) → (if b then n + m else 1 + (n + m)) ≡ (if b then n else 1 + n) + m
     step true n m = refl
@@ -70,7 +74,8 @@ record Carrier (k : Key) (airings : List Airing) (before : List Content) (c : Co
   carries : content_at k carrier ≡ Some c
   others : carried k one ≡ before
 
-carrier_of : (k : Key) (airings : List Airing) (before after : List Content) (c : Content) → carried k airings ≡ before ++ c ∷ after → Carrier k airings before c
+carrier_of : (k : Key) (airings : List Airing) (before after : List Content) (c : Content) → carried k airings ≡ before ++ c ∷ after
+    → Carrier k airings before c
 carrier_of k [] [] after c e = cc
 carrier_of k [] (x ∷ before) after c e = cc
 carrier_of k (a ∷ airings) before after c e = go (content_at k a) refl before e (λ bs f. carrier_of k airings bs after c f)
@@ -100,7 +105,8 @@ carrier_of k (a ∷ airings) before after c e = go (content_at k a) refl before 
           carrier = r.carrier;
           whole = ap (λ (l : List Airing). a ∷ l) r.whole;
           carries = r.carries;
-          others = ap (λ (o : Option Content). cons_option o (carried k r.one)) f ∙ ap (λ (l : List Content). d ∷ l) r.others ∙ ap (λ (x : Content). x ∷ bs) same;
+          others = ap (λ (o : Option Content). cons_option o (carried k r.one)) f ∙ ap (λ (l : List Content). d ∷ l) r.others
+              ∙ ap (λ (x : Content). x ∷ bs) same;
         }
 
 module _ (k : Key) (past : List Airing) (a : Airing) (c : Content) (carries : content_at k a ≡ Some c) where
@@ -134,7 +140,8 @@ another_version k past a between_them b share =
     let found = carrier_of k between_them r.0 r.1 r.2 r.3 in
     let version : version_behind k (past ++ a ∷ found.one) found.carrier ≡ changes_after s.first ((s.others ++ r.0) ++ r.2 ∷ []) % 32 =
     ap (λ (n : ℕ). n % 32)
-    (later found.one found.carrier r.2 found.carries ∙ ap (λ (l : List Content). changes_after s.first ((s.others ++ l) ++ r.2 ∷ [])) found.others) in (
+    (later found.one found.carrier r.2 found.carries
+    ∙ ap (λ (l : List Content). changes_after s.first ((s.others ++ l) ++ r.2 ∷ [])) found.others) in (
       found.one,
       found.two,
       found.carrier,
@@ -152,7 +159,8 @@ changes_apart k past a between_them b share =
     let n = changes_after s.first s.others in
     let m = changes_after (last_of s.first s.others) more in
     let sum : changes_behind k (past ++ a ∷ between_them) b ≡ n + m =
-    later ∙ ap (changes_after s.first) (append_assoc s.others (carried k between_them) (share.other ∷ [])) ∙ changes_after-more s.first s.others more in
+    later ∙ ap (changes_after s.first) (append_assoc s.others (carried k between_them) (share.other ∷ []))
+    ∙ changes_after-more s.first s.others more in
     let same : n % 32 ≡ (n + m) % 32 = ap (λ (x : ℕ). x % 32) (sym here) ∙ share.version ∙ ap (λ (x : ℕ). x % 32) sum in
     let far : n + 32 ≤ n + m =
     far_apart n m (λ e. share.differ (sym s.last ∙ unchanged (last_of s.first s.others) (carried k between_them) share.other e)) same in

@@ -11,7 +11,7 @@ use Rattle.air_hearing.specs.Sending.{sections_sent, CanBeSent}
 use Rattle.air_joins.specs.Versions.{version_behind, changes_behind, ShareVersion}
 use Rattle.air_joins.specs.Joining.{sent_by, heard_between, PartsAreHeard, IsOfCycleIn}
 
--- Between them an airing carries the key with another version,
+-- Where two airings carry a key with different contents under one version, an airing between them carries it with another version,
 abbrev pub AnotherVersionBetween : Type 0
 AnotherVersionBetween =
     (k : Key) (past : List Airing) (a : Airing) (between : List Airing) (b : Airing) → ShareVersion k past a between b
@@ -24,7 +24,7 @@ ChangesBetween =
     (k : Key) (past : List Airing) (a : Airing) (between : List Airing) (b : Airing) → ShareVersion k past a between b
     → changes_behind k past a + 32 ≤ changes_behind k (past ++ a ∷ between) b
 
--- On each PID the packets of an air carry the sections of its cycles, cycle by cycle,
+-- On each PID the packets of an air carry the sections of its cycles, cycle by cycle: in groups, one for each packet of the PID,
 abbrev pub AirCarries : Type 0
 AirCarries =
     (airings : List Airing) (xs : List Aired) → IsAirOf airings xs → (pid : ℕ)

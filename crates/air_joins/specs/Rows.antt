@@ -1,11 +1,13 @@
 -- Worked airing lists, and worked packets that are joined.
-use Rattle.std.specs.Prelude.{◌≡◌, ℕ, zero, suc, ◌%◌, List, [], ◌∷◌, ◌++◌, drop, replicate, refl}
+use Rattle.std.specs.Prelude.{◌≡◌, ℕ, zero, suc, ◌%◌, List, [], ◌∷◌, ◌++◌, drop, replicate, slice_index, refl}
 use Rattle.section_codec.specs.declared.table.Key.{Key}
+use Rattle.section_codec.specs.declared.table.SubTable.{SubTable}
 use Rattle.section_codec.specs.declared.table.Tier3.TheVariants.{Fast}
+use Rattle.section_codec.specs.Contents.{Content}
 use Rattle.version_book.specs.Airings.{Airing}
 use Rattle.ts_packets.specs.Packets.{Piece, piece_of}
 use Rattle.ts_packets.specs.Bytes.{Packet}
-use Rattle.air_joins.specs.Versions.{version_behind, changes_behind}
+use Rattle.air_joins.specs.Versions.{version_behind, changes_behind, ShareVersion}
 use Rattle.air_joins.specs.Joining.{count_before, heard_between}
 
 -- ---- versions
@@ -13,8 +15,11 @@ use Rattle.air_joins.specs.Joining.{count_before, heard_between}
 abbrev sdt : Key
 sdt = record { pid = 17; table = 66; ext = 1; stream = 0; network = 1 }
 
+abbrev of : ℕ → SubTable
+of b = record { key = sdt; tier = Fast; sections = record { number = 0; body = b ∷ [] } ∷ [] }
+
 abbrev airs : ℕ → Airing
-airs b = record { tables = record { key = sdt; tier = Fast; sections = record { number = 0; body = b ∷ [] } ∷ [] } ∷ []; moment = 0; form = record { quota = 200 } }
+airs b = record { tables = of b ∷ []; moment = 0; form = record { quota = 200 } }
 
 -- n airings, each with another content than the one before
 abbrev turns : ℕ → List Airing
@@ -30,6 +35,21 @@ row_wrapped = refl
 
 row_changes : changes_behind sdt (turns 32) (airs 7) ≡ 32
 row_changes = refl
+
+abbrev first_byte : Content → ℕ
+first_byte [] = 0
+first_byte (s ∷ ss) = slice_index s.body 0
+
+-- these two share a version
+row_share : ShareVersion sdt [] (airs 0) (drop 1 (turns 32)) (airs 7)
+row_share = record {
+  one = (of 0).sections;
+  other = (of 7).sections;
+  first = refl;
+  second = refl;
+  differ = λ e. (let apart : 0 ≡ 7 = λ i. first_byte (e i) in cc);
+  version = refl;
+}
 
 -- the same content keeps version and changes
 row_same : changes_behind sdt (airs 5 ∷ []) (airs 5) ≡ 0

@@ -1,5 +1,6 @@
 // Laws of joining an air, and of versions along it.
-ghost use Rattle.air_joins.specs.Laws.{AnotherVersionBetween, ChangesBetween, AirCarries, JoinedIsHeard, RepeatingAirCarries, RepeatingJoinedIsHeard, HeardIsSent, CycleIsHeard};
+ghost use Rattle.air_joins.specs.Laws.{AnotherVersionBetween, ChangesBetween, AirCarries, JoinedIsHeard, RepeatingAirCarries};
+ghost use Rattle.air_joins.specs.Laws.{RepeatingJoinedIsHeard, HeardIsSent, CycleIsHeard};
 
 /// On each PID the packets of an air carry the sections of its cycles, cycle by cycle. A receiver that joins at any packet and loses
 /// none before another hears on each PID below 8,191, that of the null packets, just those of these sections whose first byte stands
