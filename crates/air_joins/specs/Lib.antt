@@ -1,0 +1,4 @@
+pub mod Versions
+pub mod Joining
+pub mod Laws
+pub mod Rows
