@@ -1,5 +1,5 @@
 -- A receiver shows the screen exactly where it needs nothing.
-use Rattle.std.proofs.Common.{◌≡◌, ℕ, List, [], ◌∷◌, ◌++◌, length, Option, Some, None, refl, sym, ap, ◌∙◌, arith}
+use Rattle.std.proofs.Common.{◌≡◌, ℕ, List, [], ◌∷◌, ◌++◌, Option, Some, None, refl, sym, ap, ◌∙◌}
 use Rattle.std.specs.Prelude.{◌≢◌, is_some, option_map}
 use Rattle.si_lists.proofs.Outcomes.{some_same}
 use Rattle.si_time.specs.declared.moment.Moment.{Moment}
@@ -89,7 +89,3 @@ shown_whole collector latest V of shown holds all nothing is =
     let sdt = holds.sdt ∙ each.2 in
     let clock = holds.clock ∙ ap (option_map (λ (at : Moment). at.0)) each.3 in
     ap (λ (x : Screen). Whole x) is ∙ sym (λ i. heard_by V (pat i) (nit i) (sdt i) (clock i) (nothing i))
-
-pub no_elements : {X : Type 0} (xs : List X) → length xs ≡ 0 → xs ≡ []
-no_elements [] e = refl
-no_elements (x ∷ xs) e = absurd (omega (arith, e))

@@ -19,6 +19,7 @@ use Rattle.pat_pmt.specs.declared.pmt.Pmt.{Pmt}
 use Rattle.pat_pmt.specs.Pmt.{component_of, IsPmt}
 use Rattle.pat_pmt.specs.Bodies.{is_pmt_body}
 use Rattle.pat_pmt.proofs.Bodies.{pat_bodies, pmt_bodies}
+use Rattle.nit_sdt.proofs.Words.{word_back}
 use Rattle.nit_sdt.specs.declared.nit.NitStream.{NitStream}
 use Rattle.nit_sdt.specs.declared.nit.Nit.{Nit}
 use Rattle.nit_sdt.specs.declared.sdt.Sdt.{Sdt}
@@ -33,7 +34,7 @@ use Rattle.eit_codec.specs.declared.eit.Eit.{Eit}
 use Rattle.eit_codec.specs.Eit.{head_bytes, IsEvent, AreEvents, IsEit}
 use Rattle.eit_codec.specs.Bodies as looks
 use Rattle.eit_codec.proofs.MadeBodies.{bodies_can_be_read}
-use Rattle.guide_screen.specs.Reading.{made, desc_of, descriptors_within, entry_in, entries_within, entries_in, clock_pid, component_in}
+use Rattle.guide_screen.specs.Reading.{made, descriptors_within, entry_in, entries_within, entries_in, clock_pid, component_in}
 use Rattle.guide_screen.specs.Reading.{pmt_with, pmt_in, name_in, stream_in, loop_streams, nit_with, nit_in, service_in, sdt_with}
 use Rattle.guide_screen.specs.Reading.{sdt_in, event_in, head_of, eit_with, eit_in, BodiesSay, BodiesAreRead, BodiesAreThoseThatSay}
 use Rattle.guide_screen.proofs.Entries.{descriptors_test, same_test, front_of, entry_said, IsSaid, AreSaid, entries_said, read_said, entry_test}
@@ -159,9 +160,6 @@ duration_back e fits =
     let d = three_of e.duration fits.duration in
     ap₂ (λ (time duration : List ℕ). looks.duration_of (two e.id ++ time ++ duration)) t.5 d.3 ∙ sym d.3
 
-id_back : (id : ℕ) → id < 65536 → 256 * (id / 256 % 256) + id % 256 ≡ id
-id_back id lt = omega (arith, lt)
-
 event_said : (e : eit.Entry) (event : ScreenEvent) → IsEvent e event → IsSaid event_in (as_entry e) event
 event_said e event is = record {
   descs = is.descs;
@@ -169,7 +167,7 @@ event_said e event is = record {
   says_it =
       ap₂ (λ (start seconds : Option ℕ). made (λ at long. event_of (two_at 0 (as_entry e).fields) at long is.descs) start seconds)
       (ap moment_from_bcd (time_back e is.fits) ∙ is.start) (ap duration_from_bcd (duration_back e is.fits) ∙ is.seconds)
-      ∙ ap (λ (id : ℕ). Some (event_of id event.start.0 event.seconds is.descs)) (id_back e.id is.fits.id)
+      ∙ ap (λ (id : ℕ). Some (event_of id event.start.0 event.seconds is.descs)) (word_back e.id is.fits.id)
       ∙ ap (λ x. Some x) (sym is.shows);
 }
 
@@ -204,7 +202,7 @@ eit_said body e is =
     ap eit_in is.whole
     ∙ cond-true (nat_le 6 (length bytes)) _ None (le-leb 6 (length bytes) (omega arith))
     ∙ ap₂ (λ (head : EitHead) (events : Option (List ScreenEvent)). option_map (eit_with head) events)
-    (same_head h _ _ (id_back h.stream is.fits.stream) (id_back h.original is.fits.original)) said
+    (same_head h _ _ (word_back h.stream is.fits.stream) (word_back h.original is.fits.original)) said
 
 -- ---- and one that is looked at
 
