@@ -2,7 +2,7 @@
 //! are complete, each with its version_number. What counts are the sections of PAT, PMT, NIT, SDT and event information of this
 //! multiplex, in force, whose body is one of their table; a section with a broken body is passed over.
 //!
-//! The layer above uses one fact: a [`Receiver`] stands for the packets that it heard (`Stands`), and [`Receiver::hear`] gives
+//! The layer above uses one fact: a [`Receiver`] stands for the packets that it heard (`ReceiverStandsFor`), and [`Receiver::hear`] gives
 //! just the completions that the definitions show at one packet more (`dones_by`). [`write_done`] appends the line of one.
 #![tactic(auto)]
 

@@ -1,7 +1,7 @@
 //! Sub-tables of the sections that are heard: a sub-table is complete when one version of it was heard whole
 //! (ISO/IEC 13818-1, 2.4.4; EN 300 468, 5.1.1).
 //!
-//! A `Collector` stands for a list of counted sections, in the order in which they ended (`Stands` of
+//! A `Collector` stands for a list of counted sections, in the order in which they ended (`CollectorStandsFor` of
 //! `specs/Collectors.antt`). `take` counts one section more, and tells whether it shows a completion
 //! (`shown_at` of `specs/Completions.antt`); `latest` is the latest completion of a key. What a key's sections
 //! complete is said in `specs/Runs.antt`.
