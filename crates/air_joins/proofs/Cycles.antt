@@ -16,7 +16,7 @@ use Rattle.ts_demux.specs.Laws.{within}
 use Rattle.air_model.specs.Air.{Sent, Aired, sent_on, air, airings_of}
 use Rattle.air_model.specs.Repeating.{IsSentOf, RepeatingCycles}
 use Rattle.air_model.proofs.Repeating.{around}
-use Rattle.air_joins.proofs.Parts.{within-none, all-parts, all-part}
+use Rattle.ts_demux.proofs.Parts.{within-none, all-parts, all-part}
 use Rattle.air_joins.proofs.Joined.{groups_by}
 
 pub length_groups : (ps : List Piece) (ss : List (List ℕ)) (c : Carries ps ss) → length c.groups ≡ length ps

@@ -19,13 +19,13 @@ use Rattle.ts_demux.specs.Sections.{sections_on}
 use Rattle.ts_demux.specs.Laws.{GoOn, within}
 use Rattle.ts_demux.proofs.Written.{part_goes_on, part_is_heard}
 use Rattle.air_model.specs.Air.{Sent, Aired, sent_on, air, airings_of}
-use Rattle.air_model.specs.Repeating.{RepeatingCycles, IsRepeatingAirOf}
+use Rattle.air_model.specs.Repeating.{RepeatingCycles, IsRepeatingAirOf, sent_by}
 use Rattle.air_hearing.specs.Sending.{sections_sent, CanBeSent}
 use Rattle.air_hearing.proofs.Sections.{each_section, each_on, sections-each, GoOn-air}
-use Rattle.air_joins.specs.Joining.{sent_by, count_before, heard_between, PartsAreHeard}
+use Rattle.air_joins.specs.Joining.{count_before, heard_between, PartsAreHeard}
 use Rattle.air_joins.specs.Laws.{JoinedIsHeard, RepeatingAirCarries, RepeatingJoinedIsHeard}
-use Rattle.air_joins.proofs.Lists.{le_either, take-further, chosen-before}
-use Rattle.air_joins.proofs.Parts.{within-none}
+use Rattle.si_lists.proofs.Parts.{le_either, take-further, chosen-before}
+use Rattle.ts_demux.proofs.Parts.{within-none}
 
 -- ---- the cycles, joined
 

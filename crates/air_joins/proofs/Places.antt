@@ -8,7 +8,7 @@ use Rattle.ts_packets.specs.Counting.{piece_on, of_pid}
 use Rattle.ts_packets.proofs.Stamps.{of_pid-append}
 use Rattle.air_model.specs.Air.{Aired, air}
 use Rattle.air_joins.specs.Joining.{count_before, HasPacketIn}
-use Rattle.air_joins.proofs.Lists.{le_either, lt_or, chosen-before, chosen-fewer}
+use Rattle.si_lists.proofs.Parts.{le_either, lt_or, chosen-before, chosen-fewer}
 
 -- what counts up tells an order
 order_told : (f : ℕ → ℕ) → ((n m : ℕ) → n ≤ m → f n ≤ f m) → (n m : ℕ) → f n < f m → n < m

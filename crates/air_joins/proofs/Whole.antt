@@ -13,7 +13,7 @@ use Rattle.air_model.specs.Air.{Sent, Aired, sent_on, air, airings_of}
 use Rattle.air_model.specs.Repeating.{IsSentOf, AreSentOf, RepeatingCycles}
 use Rattle.air_joins.specs.Joining.{count_before, IsOfCycleIn}
 use Rattle.air_joins.specs.Laws.{HeardIsSent, CycleIsHeard}
-use Rattle.air_joins.proofs.Parts.{within-append, within-all}
+use Rattle.ts_demux.proofs.Parts.{within-append, within-all}
 use Rattle.air_joins.proofs.Joined.{groups_by, joined_by}
 use Rattle.air_joins.proofs.Cycles.{IsOfCycle, each_of_cycle, length_groups, count_both, contains-sent}
 use Rattle.air_joins.proofs.Places.{before_up, count_at, count_behind, has_packet}

@@ -8,11 +8,6 @@ use Rattle.ts_demux.specs.Laws.{within}
 use Rattle.air_model.specs.Air.{Sent, Aired, air, airings_of}
 use Rattle.air_model.specs.Repeating.{IsSentOf, RepeatingCycles}
 
--- the sections that these cycles send behind other airings, cycle by cycle, in the order in which they are sent
-abbrev pub sent_by : (past : List Airing) (xs : List Aired) → RepeatingCycles past xs → List Sent
-sent_by past [] cycles = []
-sent_by past (x ∷ xs) cycles = cycles.0.sections ++ sent_by (past ++ x.airing ∷ []) xs cycles.1
-
 -- how many of the packets before a place are of a PID
 abbrev pub count_before : ℕ → List Packet → ℕ → ℕ
 count_before pid packets place = length (of_pid pid (take place packets))

@@ -6,10 +6,10 @@ use Rattle.version_book.specs.Airings.{Airing, content_at}
 use Rattle.ts_packets.specs.Packets.{Carries}
 use Rattle.ts_packets.specs.Counting.{of_pid}
 use Rattle.air_model.specs.Air.{Sent, Aired, sent_on, air, airings_of, IsAirOf}
-use Rattle.air_model.specs.Repeating.{IsSentOf, IsRepeatingAirOf}
+use Rattle.air_model.specs.Repeating.{IsSentOf, IsRepeatingAirOf, sent_by}
 use Rattle.air_hearing.specs.Sending.{sections_sent, CanBeSent}
 use Rattle.air_joins.specs.Versions.{version_behind, changes_behind, ShareVersion}
-use Rattle.air_joins.specs.Joining.{sent_by, heard_between, PartsAreHeard, IsOfCycleIn}
+use Rattle.air_joins.specs.Joining.{heard_between, PartsAreHeard, IsOfCycleIn}
 
 -- Where two airings carry a key with different contents under one version, an airing between them carries it with another version,
 abbrev pub AnotherVersionBetween : Type 0

@@ -36,6 +36,11 @@ abbrev pub RepeatingCycles : List Airing → List Aired → Type 0
 RepeatingCycles past [] = Unit {0}
 RepeatingCycles past (x ∷ xs) = IsRepeatingCycle past x × RepeatingCycles (past ++ x.airing ∷ []) xs
 
+-- the sections that these cycles send behind other airings, cycle by cycle, in the order in which they are sent
+abbrev pub sent_by : (past : List Airing) (xs : List Aired) → RepeatingCycles past xs → List Sent
+sent_by past [] cycles = []
+sent_by past (x ∷ xs) cycles = cycles.0.sections ++ sent_by (past ++ x.airing ∷ []) xs cycles.1
+
 -- These are an air of the airing list whose cycles repeat sections as they like.
 pub record IsRepeatingAirOf (airings : List Airing) (xs : List Aired) : Type 0 where
   pub airings_are : airings_of xs ≡ airings

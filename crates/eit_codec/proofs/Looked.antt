@@ -1,8 +1,8 @@
 -- Bodies, looked at from the front.
 use Rattle.std.proofs.Common.{◌≡◌, ℕ, zero, suc, ◌<◌, ◌≤◌, Bool, true, false, ◌&&◌, List, [], ◌∷◌, length, drop, refl, sym, ap, ◌∙◌, arith}
 use Rattle.std.proofs.lemmas.List.{length-drop}
-use Rattle.si_lists.proofs.Truths.{and_false}
-pub use Rattle.table_entries.proofs.Looked.{Decides, all_left, and_true}
+use Rattle.si_lists.proofs.Truths.{and_true, and_false}
+use Rattle.si_lists.proofs.Tests.{Decides}
 use Rattle.eit_codec.specs.Bodies.{entry_length, begins_with_entry, are_entries}
 
 -- ---- entries

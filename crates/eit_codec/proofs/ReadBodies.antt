@@ -4,7 +4,7 @@ use Rattle.std.specs.Prelude.{is_some}
 use Rattle.std.specs.List.{flat_map}
 use Rattle.std.proofs.lemmas.List.{take_at, drop_at}
 use Rattle.std.specs.Cmp.Derive.{both_true}
-use Rattle.si_lists.proofs.Lists.{three_of}
+use Rattle.si_lists.proofs.Lists.{three_of, five_of}
 use Rattle.si_base.specs.Fields.{two}
 use Rattle.si_time.specs.Readings.{moment_from_bcd, duration_from_bcd}
 use Rattle.desc_parts.specs.declared.descriptors.RawDesc.{RawDesc}
@@ -17,15 +17,6 @@ use Rattle.eit_codec.specs.Eit.{head_bytes, IsEvent, AreEvents}
 use Rattle.eit_codec.specs.Bodies.{entry_length, begins_with_entry, are_entries, is_eit_body, ReadBodiesAreBodies}
 
 -- ---- one entry
-
-five : (xs : List ℕ) → length xs ≡ 5 → (a : ℕ) × (b : ℕ) × (c : ℕ) × (d : ℕ) × (f : ℕ) × (xs ≡ a ∷ b ∷ c ∷ d ∷ f ∷ [])
-five [] e = absurd (omega arith)
-five (a ∷ []) e = absurd (omega arith)
-five (a ∷ b ∷ []) e = absurd (omega arith)
-five (a ∷ b ∷ c ∷ []) e = absurd (omega arith)
-five (a ∷ b ∷ c ∷ d ∷ []) e = absurd (omega arith)
-five (a ∷ b ∷ c ∷ d ∷ f ∷ []) e = (a, b, c, d, f, refl)
-five (a ∷ b ∷ c ∷ d ∷ f ∷ g ∷ xs) e = absurd (omega arith)
 
 -- these bytes begin with an entry, and this is what stands behind it
 abbrev Begins : List ℕ → List ℕ → Type 0
@@ -47,7 +38,7 @@ by_bytes i j a b c d f x y z size start seconds ds rest small told is_start is_s
 
 one_entry : (e : Entry) (event : ScreenEvent) (rest : List ℕ) → IsEvent e event → Begins (entry_bytes e ++ rest) rest
 one_entry e event rest is =
-    let t = five e.time is.fits.time in
+    let t = five_of e.time is.fits.time in
     let d = three_of e.duration is.fits.duration in
     let size = 4096 * e.flags + length e.descriptors in
     let at = ap₂ (λ (time duration : List ℕ). two e.id ++ time ++ duration ++ two size ++ e.descriptors ++ rest) t.5 d.3 in

@@ -6,6 +6,7 @@ use Rattle.std.specs.Prelude.{if◌then◌else◌, nat_le, is_some, option_map, 
 use Rattle.std.specs.List.{flat_map, AllByRecursion}
 use Rattle.std.proofs.lemmas.Bool.{cond-true, leb-true}
 use Rattle.std.proofs.lemmas.List.{take_at, drop_at, get_or_at}
+use Rattle.si_lists.proofs.Outcomes.{mapped}
 use Rattle.si_base.specs.Fields.{two}
 use Rattle.desc_parts.specs.declared.descriptors.RawDesc.{RawDesc}
 use Rattle.desc_parts.specs.Descriptors.{descriptor_bytes, AreDescriptors}
@@ -13,6 +14,7 @@ use Rattle.table_entries.specs.Entries.{Entry, entry_bytes, FitsEntry, AreReadAs
 use Rattle.table_entries.specs.Loops.{are_descriptors, loop_length, entry_length, loop_of, behind_entry, begins_with_entry}
 use Rattle.table_entries.specs.Loops.{are_entries_within, are_entries}
 use Rattle.table_entries.proofs.Reading.{Reads}
+use Rattle.table_entries.proofs.Looks.{entry_size}
 use Rattle.guide_screen.specs.Reading.{made, desc_of, descriptors_within, entry_in, entries_within, entries_in}
 
 -- how an entry is said
@@ -43,10 +45,6 @@ pub descriptors_are_said : (bytes : List ℕ) (descs : List RawDesc) → AreDesc
 descriptors_are_said bytes descs is =
     ap (λ (l : List ℕ). descriptors_within (length l) l) is.whole
     ∙ descriptors_said (length (flat_map descriptor_bytes descs)) descs (omega arith)
-
-mapped : {X Y : Type 0} (f : X → Y) (o : Option X) → is_some o ≡ is_some (option_map f o)
-mapped f None = refl
-mapped f (Some x) = refl
 
 pub same_test : {X Y : Type 0} (b : Bool) (t : Bool) (o : Option X) (f : X → Y) → t ≡ is_some o → (b && t)
     ≡ is_some (if b then option_map f o else None)
@@ -147,11 +145,6 @@ first_said : {X : Type 0} (size : ℕ) (says : Says X) (n : ℕ) (bytes : List �
     ≡ made (λ value values. value ∷ values) (entry_in size says bytes) (entries_within size says n (behind_entry size bytes))
 first_said size says n [] some = absurd (omega arith)
 first_said size says n (b ∷ bytes) some = refl
-
-entry_size : (e : Entry) (rest : List ℕ) → 2 + length rest ≤ length (entry_bytes e ++ rest)
-entry_size e rest =
-    let told = two (4096 * e.bits + length e.descriptors) in
-    omega (arith, length-append (entry_bytes e) rest, length-append (e.fields ++ told) e.descriptors, length-append e.fields told)
 
 pub entries_said : {X : Type 0} (size : ℕ) (says : Says X) (n : ℕ) (es : List Entry) (values : List X) → AllByRecursion (FitsEntry size) es
     → AreSaid says es values → length (flat_map entry_bytes es) ≤ n → entries_within size says n (flat_map entry_bytes es) ≡ Some values

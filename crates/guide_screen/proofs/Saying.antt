@@ -5,7 +5,7 @@ use Rattle.std.specs.Prelude.{if◌then◌else◌, nat_le, is_some, option_map, 
 use Rattle.std.specs.List.{flat_map, AllByRecursion}
 use Rattle.std.specs.Cmp.Derive.{both_true}
 use Rattle.std.proofs.lemmas.Bool.{cond-true, leb-true, eq-eqb}
-use Rattle.si_lists.proofs.Lists.{three_of}
+use Rattle.si_lists.proofs.Lists.{three_of, five_of}
 use Rattle.si_lists.proofs.Outcomes.{some_same}
 use Rattle.si_base.specs.Fields.{two, two_at}
 use Rattle.si_time.specs.Readings.{moment_from_bcd, duration_from_bcd}
@@ -26,7 +26,7 @@ use Rattle.nit_sdt.specs.declared.sdt.Sdt.{Sdt}
 use Rattle.nit_sdt.specs.Nit.{stream_of, IsLoop, IsNit}
 use Rattle.nit_sdt.specs.Sdt.{service_of, IsSdt}
 use Rattle.nit_sdt.specs.Bodies.{is_loop, is_stream_loop, is_nit_body, is_sdt_body}
-use Rattle.nit_sdt.proofs.Bodies.{nit_bodies, sdt_bodies}
+use Rattle.nit_sdt.proofs.Bodies.{loop_at, nit_bodies, sdt_bodies}
 use Rattle.eit_codec.specs.Entries as eit
 use Rattle.eit_codec.specs.Shows.{event_of}
 use Rattle.eit_codec.specs.declared.eit.EitHead.{EitHead}
@@ -69,12 +69,6 @@ pmt_read : (body : List ℕ) (pmt : Pmt) → AreBytes body → pmt_in body ≡ S
 pmt_read body pmt all e = as_said (IsPmt body) (pmt_in body) (pmt_said body) (pmt_bodies body all (pmt_test body ∙ ap is_some e)) pmt e
 
 -- ---- a network information table
-
-loop_at : (bits : ℕ) (loop : List ℕ) → bits < 16 → length loop < 4096 → is_loop (two (4096 * bits + length loop) ++ loop) ≡ true
-loop_at bits loop width within =
-    let told = 4096 * bits + length loop in
-    let tells : length loop ≡ (256 * (told / 256 % 256) + told % 256) % 4096 = omega (arith, width, within) in
-    both_true (le-leb 2 (length (two told ++ loop)) (omega arith)) (eq-eqb _ _ tells)
 
 streams_said : (bytes loop : List ℕ) (streams : List NitStream) → IsLoop bytes loop → entries_in 4 stream_in loop
     ≡ Some streams → loop_streams bytes ≡ Some streams
@@ -140,23 +134,14 @@ as_fits e fits = record {
   descriptors = fits.descriptors;
 }
 
-five : (xs : List ℕ) → length xs ≡ 5 → (a : ℕ) × (b : ℕ) × (c : ℕ) × (d : ℕ) × (f : ℕ) × (xs ≡ a ∷ b ∷ c ∷ d ∷ f ∷ [])
-five [] e = absurd (omega arith)
-five (a ∷ []) e = absurd (omega arith)
-five (a ∷ b ∷ []) e = absurd (omega arith)
-five (a ∷ b ∷ c ∷ []) e = absurd (omega arith)
-five (a ∷ b ∷ c ∷ d ∷ []) e = absurd (omega arith)
-five (a ∷ b ∷ c ∷ d ∷ f ∷ []) e = (a, b, c, d, f, refl)
-five (a ∷ b ∷ c ∷ d ∷ f ∷ g ∷ xs) e = absurd (omega arith)
-
 time_back : (e : eit.Entry) → eit.FitsEntry e → looks.time_of (as_entry e).fields ≡ e.time
 time_back e fits =
-    let t = five e.time fits.time in
+    let t = five_of e.time fits.time in
     ap (λ (time : List ℕ). looks.time_of (two e.id ++ time ++ e.duration)) t.5 ∙ sym t.5
 
 duration_back : (e : eit.Entry) → eit.FitsEntry e → looks.duration_of (as_entry e).fields ≡ e.duration
 duration_back e fits =
-    let t = five e.time fits.time in
+    let t = five_of e.time fits.time in
     let d = three_of e.duration fits.duration in
     ap₂ (λ (time duration : List ℕ). looks.duration_of (two e.id ++ time ++ duration)) t.5 d.3 ∙ sym d.3
 

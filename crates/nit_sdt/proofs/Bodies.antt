@@ -29,7 +29,7 @@ use Rattle.nit_sdt.proofs.Services.{length-service_descriptor, services_whole}
 -- ---- loops behind their length
 
 -- bytes behind their length of 12 bits, whatever the four bits before it
-loop_at : (bits : ℕ) (loop : List ℕ) → bits < 16 → length loop < 4096 → is_loop (two (4096 * bits + length loop) ++ loop) ≡ true
+pub loop_at : (bits : ℕ) (loop : List ℕ) → bits < 16 → length loop < 4096 → is_loop (two (4096 * bits + length loop) ++ loop) ≡ true
 loop_at bits loop width within =
     let told = 4096 * bits + length loop in
     let tells : length loop ≡ (256 * (told / 256 % 256) + told % 256) % 4096 = omega (arith, width, within) in

@@ -6,6 +6,7 @@ use Rattle.std.specs.List.{flat_map}
 use Rattle.std.specs.Cmp.Derive.{both_true}
 use Rattle.std.proofs.lemmas.List.{append-nil}
 use Rattle.si_lists.proofs.Truths.{first_true, second_true}
+use Rattle.si_lists.proofs.Outcomes.{mapped}
 use Rattle.si_base.specs.Fields.{two_at}
 use Rattle.guide_model.specs.declared.stream.Component.{Component}
 use Rattle.desc_service.specs.Languages.{languages_body, iso_639_language}
@@ -22,10 +23,6 @@ use Rattle.pat_pmt.proofs.Programs.{components_fit, components_whole}
 
 four_more : (n : ℕ) → suc (suc (suc (suc n))) % 4 ≡ n % 4
 four_more n = omega arith
-
-mapped : {X Y : Type 0} (f : X → Y) (o : Option X) → is_some o ≡ is_some (option_map f o)
-mapped f None = refl
-mapped f (Some x) = refl
 
 pub pat_bodies : PatBodiesAreRead
 pat_bodies [] = refl

@@ -50,6 +50,15 @@ three_of (a ∷ b ∷ []) e = absurd (omega arith)
 three_of (a ∷ b ∷ c ∷ []) e = (a, b, c, refl)
 three_of (a ∷ b ∷ c ∷ d ∷ xs) e = absurd (omega arith)
 
+pub five_of : (xs : List ℕ) → length xs ≡ 5 → (a : ℕ) × (b : ℕ) × (c : ℕ) × (d : ℕ) × (f : ℕ) × (xs ≡ a ∷ b ∷ c ∷ d ∷ f ∷ [])
+five_of [] e = absurd (omega arith)
+five_of (a ∷ []) e = absurd (omega arith)
+five_of (a ∷ b ∷ []) e = absurd (omega arith)
+five_of (a ∷ b ∷ c ∷ []) e = absurd (omega arith)
+five_of (a ∷ b ∷ c ∷ d ∷ []) e = absurd (omega arith)
+five_of (a ∷ b ∷ c ∷ d ∷ f ∷ []) e = (a, b, c, d, f, refl)
+five_of (a ∷ b ∷ c ∷ d ∷ f ∷ g ∷ xs) e = absurd (omega arith)
+
 -- what one element more adds, before what is left
 pub flat_map-next : {X Y : Type 0} (f : X → List Y) (front : List X) (x : X) (rest : List Y) → flat_map f (front ++ x ∷ []) ++ rest ≡ flat_map f front ++ (f x ++ rest)
 flat_map-next f [] x rest = ap (λ ys. ys ++ rest) (append-nil (f x))

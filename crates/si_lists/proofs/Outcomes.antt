@@ -1,12 +1,16 @@
 -- Options and results.
 use Rattle.std.proofs.Common.{◌≡◌, Bool, true, false, refl}
-use Rattle.std.specs.Prelude.{Option, Some, None, IfSome, option_map, option_and_then, if◌then◌else◌, Result, Ok, Err, OnOk, OnErr}
+use Rattle.std.specs.Prelude.{Option, Some, None, IfSome, is_some, option_map, option_and_then, if◌then◌else◌, Result, Ok, Err, OnOk, OnErr}
 use Prim.{⊥}
 
 -- what a map of an option says of the option
 pub none_of : {X Y : Type 0} (f : X → Y) (o : Option X) → option_map f o ≡ None → o ≡ None
 none_of f None e = refl
 none_of f (Some x) e = cc e
+
+pub mapped : {X Y : Type 0} (f : X → Y) (o : Option X) → is_some o ≡ is_some (option_map f o)
+mapped f None = refl
+mapped f (Some x) = refl
 
 pub none_some : {X : Type 0} {x : X} → None ≡ Some x → ⊥
 none_some h = cc

@@ -1,5 +1,5 @@
 -- Truth values.
-use Rattle.std.proofs.Common.{◌≡◌, ◌&&◌, ℕ, Bool, true, false, Some, None, refl}
+use Rattle.std.proofs.Common.{◌≡◌, ◌&&◌, ℕ, Bool, true, false, Some, None, refl, ap}
 use Rattle.std.specs.Prelude.{cond}
 use Prim.{⊥}
 
@@ -10,6 +10,9 @@ first_true false b e = cc
 pub second_true : (a b : Bool) → (a && b) ≡ true → b ≡ true
 second_true true b e = e
 second_true false b e = cc
+
+pub and_true : (a b : Bool) → a ≡ true → (a && b) ≡ b
+and_true a b e = ap (λ (x : Bool). x && b) e
 
 pub and_false : (a b : Bool) → a ≡ false → (a && b) ≡ false
 and_false true b e = cc

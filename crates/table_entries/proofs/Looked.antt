@@ -1,20 +1,9 @@
 -- Loops, looked at from the front.
 use Rattle.std.proofs.Common.{◌≡◌, ℕ, zero, suc, ◌<◌, ◌≤◌, Bool, true, false, ◌&&◌, List, [], ◌∷◌, length, refl, sym, ap, ◌∙◌, arith}
 use Rattle.std.proofs.lemmas.List.{length-drop}
-use Rattle.si_lists.proofs.Truths.{and_false}
+use Rattle.si_lists.proofs.Truths.{and_true, and_false}
+use Rattle.si_lists.proofs.Tests.{Decides}
 use Rattle.table_entries.specs.Loops.{entry_length, begins_with_entry, behind_entry, are_entries_within}
-
--- what is left decides, and n bounds how many there are
-pub record Decides (test : ℕ → List ℕ → Bool) (bytes rest : List ℕ) : Type 0 where
-  pub n : ℕ
-  pub enough : length rest ≤ n
-  pub same : test n rest ≡ test (length bytes) bytes
-
-pub all_left : (test : ℕ → List ℕ → Bool) (bytes : List ℕ) → Decides test bytes bytes
-all_left test bytes = record { n = length bytes; enough = omega arith; same = refl }
-
-pub and_true : (a b : Bool) → a ≡ true → (a && b) ≡ b
-and_true a b e = ap (λ (x : Bool). x && b) e
 
 -- one entry more, where there are bytes
 pub first_of : (size n : ℕ) (bytes : List ℕ) → 0 < length bytes

@@ -92,7 +92,7 @@ begins_with size e rest fits are =
 abbrev pub HaveDescriptors : List Entry → Type 0
 HaveDescriptors es = AllByRecursion (λ (e : Entry). HasDescriptors e.descriptors) es
 
-entry_size : (e : Entry) (rest : List ℕ) → 2 + length rest ≤ length (entry_bytes e ++ rest)
+pub entry_size : (e : Entry) (rest : List ℕ) → 2 + length rest ≤ length (entry_bytes e ++ rest)
 entry_size e rest =
     let told = two (4096 * e.bits + length e.descriptors) in
     omega (arith, length-append (entry_bytes e) rest, length-append (e.fields ++ told) e.descriptors, length-append e.fields told)

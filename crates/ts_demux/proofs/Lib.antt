@@ -13,3 +13,4 @@ pub mod Starting
 pub mod Standing
 pub mod Open
 pub mod Keeping
+pub mod Parts

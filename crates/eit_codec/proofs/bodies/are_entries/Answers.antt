@@ -2,7 +2,8 @@ use Rattle.std.proofs.Common.{ℕ, ◌-◌, ◌<◌, List, length, drop, subst, 
 use Rattle.std.proofs.lemmas.Bool.{eqb-false}
 use Rattle.std.proofs.lemmas.List.{take_all, length-drop}
 use Rattle.eit_codec.specs.Bodies.{are_entries}
-use Rattle.eit_codec.proofs.Looked.{Decides, next_entry}
+use Rattle.si_lists.proofs.Tests.{Decides}
+use Rattle.eit_codec.proofs.Looked.{next_entry}
 use Rattle.eit_codec.proofs.bodies.are_entries.Goals as goal
 
 pub loop-rest-preserved : goal.loop-rest-preserved

@@ -1,6 +1,6 @@
 use Rattle.std.proofs.Common.{length}
 use Rattle.eit_codec.specs.Bodies.{are_entries}
-use Rattle.eit_codec.proofs.Looked.{Decides}
+use Rattle.si_lists.proofs.Tests.{Decides}
 use Rattle.eit_codec.proofs.bodies.are_entries.Given as goal
 
 abbrev pub invariant-loop-rest : goal.invariant-loop-rest

@@ -1,6 +1,6 @@
 use Rattle.std.proofs.Common.{length}
 use Rattle.table_entries.specs.Loops.{are_descriptors}
-use Rattle.table_entries.proofs.Looked.{Decides}
+use Rattle.si_lists.proofs.Tests.{Decides}
 use Rattle.table_entries.proofs.loops.are_descriptors.Given as goal
 
 abbrev pub invariant-loop-rest : goal.invariant-loop-rest

@@ -1,7 +1,8 @@
 use Rattle.std.proofs.Common.{◌<◌, List, ℕ, length, subst, sym, arith}
 use Rattle.std.proofs.lemmas.Bool.{eqb-false}
 use Rattle.table_entries.specs.Loops.{are_entries_within}
-use Rattle.table_entries.proofs.Looked.{Decides, next_entry}
+use Rattle.si_lists.proofs.Tests.{Decides}
+use Rattle.table_entries.proofs.Looked.{next_entry}
 use Rattle.table_entries.proofs.loops.are_entries.Goals as goal
 
 pub loop-rest-preserved : goal.loop-rest-preserved

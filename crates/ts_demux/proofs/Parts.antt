@@ -10,7 +10,7 @@ use Rattle.ts_packets.proofs.Carrying.{left-append}
 use Rattle.ts_demux.specs.Laws.{but_last, ended, within}
 use Rattle.ts_demux.proofs.Windows.{all-front, all-behind}
 use Rattle.si_lists.proofs.Lists.{all_append}
-use Rattle.air_joins.proofs.Lists.{le_either, lt_or, drop-both}
+use Rattle.si_lists.proofs.Parts.{le_either, lt_or, drop-both}
 
 abbrev Groups : Type 0
 Groups = List (List (List ℕ))
