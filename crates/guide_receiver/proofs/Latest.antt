@@ -1,8 +1,8 @@
 -- What was heard last, with one more.
 use Rattle.std.proofs.Common.{◌≡◌, ℕ, ◌+◌, ◌<◌, Bool, true, false, List, [], ◌∷◌, ◌++◌, refl, sym, ap, ◌∙◌, subst, map, take, length, get_or, append-nil, append_assoc, Option, Some, None, option_map, if◌then◌else◌}
-use Rattle.std.specs.Prelude.{◌==◌, cond, filter, filter_map, option_to_list}
+use Rattle.std.specs.Prelude.{◌==◌, cond, filter, filter_map}
 use Rattle.std.specs.Ordering.{nat_cmp}
-use Rattle.std.specs.BTreeMap.{is_at}
+use Rattle.std.specs.BTreeMap.{get, is_at}
 use Rattle.std.specs.Cmp.{unsigned_ties}
 use Rattle.std.specs.Map.{lookup}
 use Rattle.std.specs.Option.{option_or}
@@ -16,7 +16,9 @@ use Rattle.sub_collect.specs.Runs.{Counted}
 use Rattle.sub_collect.specs.Completions.{dones}
 use Rattle.sub_collect.specs.declared.completed.Completed.{Completed}
 use Rattle.sub_collect.proofs.Done.{dones-go_on}
+use Rattle.guide_screen.specs.View.{View, sdt_of, sdt_behind}
 use Rattle.guide_receiver.specs.declared.done.DoneKey.{DoneKey}
+use Rattle.guide_receiver.specs.declared.latest_keys.LatestKeys.{LatestKeys}
 use Rattle.guide_receiver.specs.Heard.{done_key}
 use Rattle.guide_receiver.specs.Latest.{LatestKept, sdt_in, last_of, keys_shown, is_pat_key, is_nit_key, is_sdt_key, moment_in, clock_of, AreLatest, IsClock}
 
@@ -51,6 +53,15 @@ sdt_in-get ext [] = refl
 sdt_in-get ext (e ∷ es) =
     ap (λ (b : Bool). cond b (Some e.1) (lookup (is_at (nat_cmp ext)) es)) (sym (unsigned_ties ext e.0))
     ∙ ap (λ (o : Option Key). if ext == e.0 then Some e.1 else o) (sdt_in-get ext es)
+
+-- the SDT of a view, as it is kept
+pub sdt-kept : (V : View) (keys : LatestKeys) (sdt : Option Key) → V.pat ≡ keys.pat → ((ext : ℕ) → V.sdt ext ≡ sdt_in ext keys.sdts.entries)
+    → ((pat : Key) → keys.pat ≡ Some pat → sdt ≡ get nat_cmp keys.sdts pat.ext) → (keys.pat ≡ None → sdt ≡ None) → sdt_of V ≡ sdt
+sdt-kept V keys sdt pat is some none = ap (sdt_behind V) pat ∙ go keys.pat refl
+  where
+    go : (o : Option Key) → keys.pat ≡ o → sdt_behind V o ≡ sdt
+    go None e = sym (none e)
+    go (Some p) e = is p.ext ∙ sym (sdt_in-get p.ext keys.sdts.entries) ∙ sym (some p e)
 
 keys_of_dones : (ds : List Completed) → map (λ (d : DoneKey). d.key) (map done_key ds) ≡ map (λ (d : Completed). d.key) ds
 keys_of_dones [] = refl

@@ -1,5 +1,7 @@
 // The keys that were completed last.
-ghost use Rattle.std.specs.Prelude.{[], List, ◌++◌, ◌∷◌, OnOk};
+ghost use Rattle.std.specs.Prelude.{◌≡◌, [], List, ◌++◌, ◌∷◌, Some, None, OnOk};
+ghost use Rattle.std.specs.BTreeMap.{get};
+ghost use Rattle.std.specs.Ordering.{nat_cmp};
 ghost use Rattle.section_codec.specs.declared.table.Key.{Key};
 ghost use Rattle.guide_receiver.specs.Latest.{AreLatest, kept_keys};
 
@@ -24,6 +26,17 @@ impl LatestKeys {
             pat: None,
             nit: None,
             sdts: BTreeMap::new(alloc),
+        }
+    }
+
+    // The key of the SDT of the PAT's transport_stream_id.
+    pub(crate) fn sdt(&self) -> Option<Key>
+        ensures some { (pat : Key) → self.now.pat ≡ Some pat → result ≡ get nat_cmp self.now.sdts pat.ext }
+        ensures none { self.now.pat ≡ None → result ≡ None }
+    {
+        match self.pat {
+            Some(pat) => self.sdts.get(&pat.ext).copied(),
+            None => None,
         }
     }
 

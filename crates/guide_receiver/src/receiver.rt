@@ -102,14 +102,10 @@ impl Receiver {
     pub fn guide(&self) -> Result<Heard, AllocError>
         ensures { (past : List (List ℕ)) → ReceiverStandsFor past self.now → IfOk result (λ heard. heard ≡ guide_of past) }
     {
-        let sdt = match self.latest.pat {
-            Some(pat) => self.latest.sdts.get(&pat.ext).copied(),
-            None => None,
-        };
         let latest = Latest {
             pat: self.latest.pat,
             nit: self.latest.nit,
-            sdt,
+            sdt: self.latest.sdt(),
             clock: self.clock,
         };
         heard_guide(self.alloc, &self.collector, latest)
