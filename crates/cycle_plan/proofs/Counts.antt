@@ -10,7 +10,7 @@ use Rattle.cycle_plan.specs.Cycle.{led, at_least_one}
 use Rattle.cycle_plan.specs.Spacing.{Lacks}
 use Rattle.cycle_plan.proofs.Lists.{all_front, all_behind, none, packets-append, two_fronts, pass_over}
 use Rattle.cycle_plan.proofs.Leads.{AllAre, filter-all, filter-none}
-use Rattle.cycle_plan.proofs.Cuts.{le_tells}
+use Rattle.std.proofs.lemmas.Bool.{le-leb}
 
 -- the packets of the sections that fail a test
 abbrev pub failing : (ℕ → Bool) → (ℕ → ℕ) → List ℕ → ℕ
@@ -64,7 +64,7 @@ shorts-cut : (size : ℕ → ℕ) (q : ℕ) (parts : List (List ℕ)) → ArePar
 shorts-cut size q [] h = refl
 shorts-cut size q (c ∷ []) h = refl
 shorts-cut size q (c ∷ d ∷ parts) h =
-    ap (λ (b : Bool). (if b then 0 else 1) + shorts size q (d ∷ parts)) (le_tells q (packets_in size c) h.1) ∙ (let i = shorts-cut size q (d ∷ parts) h.2 in let e : 0 + shorts size q (d ∷ parts) ≡ 0 = omega arith in e)
+    ap (λ (b : Bool). (if b then 0 else 1) + shorts size q (d ∷ parts)) (le-leb q (packets_in size c) h.1) ∙ (let i = shorts-cut size q (d ∷ parts) h.2 in let e : 0 + shorts size q (d ∷ parts) ≡ 0 = omega arith in e)
 
 pub shorts-one : (size : ℕ → ℕ) (q : ℕ) (parts : List (List ℕ)) → AreParts size q q parts → shorts size q (at_least_one parts) ≡ 0
 shorts-one size q [] h = refl

@@ -10,7 +10,7 @@ use Rattle.cycle_plan.specs.Cutting.{packets_in, in_front, cut_from, cut}
 use Rattle.cycle_plan.specs.Cycle.{Planned, at_least_one, led, fast_of, near_of, far_of, body_of, cycle_of}
 use Rattle.cycle_plan.specs.Sections.{is_fast, is_near, planned}
 use Rattle.cycle_plan.specs.Cursor.{upto, threaded}
-use Rattle.cycle_plan.proofs.Cuts.{le_tells, gt_tells}
+use Rattle.std.proofs.lemmas.Bool.{le-leb, lt-leb}
 
 -- ---- steps
 
@@ -23,11 +23,11 @@ upto-none a b h = ap (numbers_from a) (let e : b - a ≡ 0 = omega arith in e)
 threaded-less : (size : ℕ → ℕ) (lead : List ℕ) (least wanted x : ℕ) (xs : List ℕ) → size x < wanted → threaded size lead least wanted (x ∷ xs) ≡ x ∷ threaded size lead least (wanted - size x) xs
 threaded-less size lead least wanted x [] h = refl
 threaded-less size lead least wanted x (y ∷ xs) h =
-    ap (λ (b : Bool). x ∷ (if b then lead ++ threaded size lead least least (y ∷ xs) else threaded size lead least (wanted - size x) (y ∷ xs))) (gt_tells wanted (size x) h)
+    ap (λ (b : Bool). x ∷ (if b then lead ++ threaded size lead least least (y ∷ xs) else threaded size lead least (wanted - size x) (y ∷ xs))) (lt-leb wanted (size x) h)
 
 threaded-full : (size : ℕ → ℕ) (lead : List ℕ) (least wanted x y : ℕ) (xs : List ℕ) → wanted ≤ size x → threaded size lead least wanted (x ∷ y ∷ xs) ≡ x ∷ (lead ++ threaded size lead least least (y ∷ xs))
 threaded-full size lead least wanted x y xs h =
-    ap (λ (b : Bool). x ∷ (if b then lead ++ threaded size lead least least (y ∷ xs) else threaded size lead least (wanted - size x) (y ∷ xs))) (le_tells wanted (size x) h)
+    ap (λ (b : Bool). x ∷ (if b then lead ++ threaded size lead least least (y ∷ xs) else threaded size lead least (wanted - size x) (y ∷ xs))) (le-leb wanted (size x) h)
 
 -- a section of the lead
 pub lead-step : (r : List ℕ) (a b : ℕ) (t : List ℕ) → r ≡ upto a b ++ t → a < b → r ≡ a ∷ (upto (a + 1) b ++ t)

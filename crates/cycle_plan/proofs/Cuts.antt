@@ -1,20 +1,8 @@
 -- What cutting a list from its front gives.
 use Rattle.std.proofs.Common.{◌≡◌, ℕ, ◌-◌, ◌<◌, ◌≤◌, List, [], ◌∷◌, ◌++◌, Bool, true, false, refl, sym, ap, ◌∙◌, arith, append-nil}
 use Rattle.std.specs.Prelude.{if◌then◌else◌, nat_le}
-use Rattle.std.proofs.lemmas.Bool.Decides.{nat_tests}
+use Rattle.std.proofs.lemmas.Bool.{le-leb, lt-leb, leb-true, leb-false}
 use Rattle.cycle_plan.specs.Cutting.{packets_in, in_front, cut_from, cut, joined, IsPart, AreParts, IsCut, CutsAreUnique}
-
-pub le_tells : (a b : ℕ) → a ≤ b → nat_le a b ≡ true
-le_tells a b h = grind (arith, nat_tests)
-
-pub gt_tells : (a b : ℕ) → b < a → nat_le a b ≡ false
-gt_tells a b h = grind (arith, nat_tests)
-
-le_told : (a b : ℕ) → nat_le a b ≡ true → a ≤ b
-le_told a b h = grind (arith, nat_tests)
-
-gt_told : (a b : ℕ) → nat_le a b ≡ false → b < a
-gt_told a b h = grind (arith, nat_tests)
 
 -- ---- the parts joined are the list
 
@@ -56,8 +44,8 @@ are_parts size least wanted (x ∷ xs) l w =
 
     go : (b : Bool) → nat_le wanted (size x) ≡ b → AreParts size least least (cut_from size least least xs) → (0 < wanted - size x → AreParts size least (wanted - size x) (cut_from size least (wanted - size x) xs)) →
         AreParts size least wanted (if b then (x ∷ []) ∷ cut_from size least least xs else in_front x (cut_from size least (wanted - size x) xs))
-    go true e h k = one (cut_from size least least xs) (le_told wanted (size x) e) h
-    go false e h k = let g = gt_told wanted (size x) e in in_front-are size least wanted x (cut_from size least (wanted - size x) xs) g (k (omega arith))
+    go true e h k = one (cut_from size least least xs) (leb-true wanted (size x) e) h
+    go false e h k = let g = leb-false wanted (size x) e in in_front-are size least wanted x (cut_from size least (wanted - size x) xs) g (k (omega arith))
 
 pub is_cut : (size : ℕ → ℕ) (least : ℕ) (xs : List ℕ) → 0 < least → IsCut size least xs (cut size least xs)
 is_cut size least xs l = record { joined_are = joined-cut_from size least least xs; each = are_parts size least least xs l l }
@@ -88,7 +76,7 @@ shorter size wanted x y c is = go is.front is.are is.below
         record { less = omega arith; is = record { front = front; last = is.last; are = t; below = omega arith } }
 
 not_enough : (size : ℕ → ℕ) (least wanted x : ℕ) (xs : List ℕ) → size x < wanted → cut_from size least wanted (x ∷ xs) ≡ in_front x (cut_from size least (wanted - size x) xs)
-not_enough size least wanted x xs h = ap (λ (b : Bool). if b then (x ∷ []) ∷ cut_from size least least xs else in_front x (cut_from size least (wanted - size x) xs)) (gt_tells wanted (size x) h)
+not_enough size least wanted x xs h = ap (λ (b : Bool). if b then (x ∷ []) ∷ cut_from size least least xs else in_front x (cut_from size least (wanted - size x) xs)) (lt-leb wanted (size x) h)
 
 last_part : (size : ℕ → ℕ) (least : ℕ) (c : List ℕ) (wanted : ℕ) → IsPart size wanted c → c ∷ [] ≡ cut_from size least wanted c
 last_part size least [] wanted is = absurd (no_part size wanted is)
@@ -106,7 +94,7 @@ next_part : (size : ℕ → ℕ) (least : ℕ) (d : List ℕ) (ds : List (List �
 next_part size least d ds h [] wanted is full = absurd (no_part size wanted is)
 next_part size least d ds h (x ∷ []) wanted is full =
     ap (λ (t : List (List ℕ)). (x ∷ []) ∷ t) h
-    ∙ sym (ap (λ (b : Bool). if b then (x ∷ []) ∷ cut_from size least least (d ++ joined ds) else in_front x (cut_from size least (wanted - size x) (d ++ joined ds))) (le_tells wanted (size x) (omega arith)))
+    ∙ sym (ap (λ (b : Bool). if b then (x ∷ []) ∷ cut_from size least least (d ++ joined ds) else in_front x (cut_from size least (wanted - size x) (d ++ joined ds))) (le-leb wanted (size x) (omega arith)))
 next_part size least d ds h (x ∷ y ∷ c) wanted is full =
     let s = shorter size wanted x y c is in
     let l = s.less in

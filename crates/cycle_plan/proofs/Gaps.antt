@@ -11,7 +11,8 @@ use Rattle.cycle_plan.specs.Cycle.{Planned, led, fast_of, near_of, chunks_of, bo
 use Rattle.cycle_plan.specs.Spacing.{Lacks, fast_bound, near_span, near_bound, IsWithinLimits, CyclesAreSpaced}
 use Rattle.cycle_plan.proofs.Lists.{all_at, packets-append, all-numbers, numbers-lack, once}
 use Rattle.cycle_plan.proofs.Leads.{AllAre, Between, between, led-append, all-parts, filter-led, filter-all}
-use Rattle.cycle_plan.proofs.Cuts.{le_tells, gt_tells, is_cut}
+use Rattle.std.proofs.lemmas.Bool.{le-leb, lt-leb}
+use Rattle.cycle_plan.proofs.Cuts.{is_cut}
 use Rattle.cycle_plan.proofs.Tiers.{tiers, small_runs, small_chunks, chunks_joined, runs_joined}
 use Rattle.cycle_plan.proofs.Counts.{failing, packets-split, shorts, shorts-append, shorts-one, few-behind}
 use Rattle.cycle_plan.proofs.Places.{spaced_by}
@@ -56,9 +57,9 @@ near_slow : (p : Planned) → IsWithinLimits p → (x : ℕ) → p.fasts ≤ x �
 near_slow p is x l m before gap after e h =
     let t : ℕ → Bool = λ i. nat_le p.fasts i in
     let o = once p.fasts p.nears x l m in
-    let tx : t x ≡ true = le_tells p.fasts x l in
-    let low : AllAre t false (fast_of p) = all-numbers (λ (i : ℕ). t i ≡ false) 0 p.fasts (λ i l m. gt_tells p.fasts i (omega arith)) in
-    let slow : AllAre t true (body_of p) = (tiers (λ (i : ℕ). t i ≡ true) p (λ i l m. le_tells p.fasts i l)).whole in
+    let tx : t x ≡ true = le-leb p.fasts x l in
+    let low : AllAre t false (fast_of p) = all-numbers (λ (i : ℕ). t i ≡ false) 0 p.fasts (λ i l m. lt-leb p.fasts i (omega arith)) in
+    let slow : AllAre t true (body_of p) = (tiers (λ (i : ℕ). t i ≡ true) p (λ i l m. le-leb p.fasts i l)).whole in
     let body_is : filter t (cycle_of p) ≡ body_of p = filter-led t (fast_of p) (runs_of p) low ∙ ap (filter t) (runs_joined p) ∙ filter-all t (body_of p) slow in
     let cs = chunks_of p in
     let lacking : AllByRecursion (Lacks x) cs = all-parts (λ (i : ℕ). i ≡ x → Prim.⊥) cs
@@ -93,9 +94,9 @@ near_gap : (p : Planned) → IsWithinLimits p → (x : ℕ) → p.fasts ≤ x �
 near_gap p is x l m before gap after e h =
     let t : ℕ → Bool = λ i. nat_le p.fasts i in
     let slow = near_slow p is x l m before gap after e h in
-    let low : AllAre t false (fast_of p) = all-numbers (λ (i : ℕ). t i ≡ false) 0 p.fasts (λ i l m. gt_tells p.fasts i (omega arith)) in
+    let low : AllAre t false (fast_of p) = all-numbers (λ (i : ℕ). t i ≡ false) 0 p.fasts (λ i l m. lt-leb p.fasts i (omega arith)) in
     let runs = runs_of p in
-    let high : AllByRecursion (AllAre t true) runs = (tiers (λ (i : ℕ). t i ≡ true) p (λ i l m. le_tells p.fasts i l)).runs in
+    let high : AllByRecursion (AllAre t true) runs = (tiers (λ (i : ℕ). t i ≡ true) p (λ i l m. le-leb p.fasts i l)).runs in
     let few = few-behind t p.size p.quota (fast_of p) (runs ++ runs) low (all_append (AllAre t true) runs runs high high)
     x (numbers-lack x 0 p.fasts (inr (omega arith))) before gap (x ∷ after) (sym (two_cycles p) ∙ e) in
     let d = packets-split t p.size gap in

@@ -9,7 +9,7 @@ use Rattle.cycle_plan.specs.Cycle.{Planned, at_least_one, led, fast_of, near_of,
 use Rattle.cycle_plan.specs.Order.{CyclesAreWhole}
 use Rattle.cycle_plan.proofs.Lists.{all-numbers, once}
 use Rattle.cycle_plan.proofs.Leads.{AllAre, filter-all, filter-led, all-led}
-use Rattle.cycle_plan.proofs.Cuts.{le_tells, gt_tells}
+use Rattle.std.proofs.lemmas.Bool.{le-leb, lt-leb}
 use Rattle.cycle_plan.proofs.Tiers.{tiers, chunks_joined, runs_joined}
 
 -- ---- each section stands in the cycle
@@ -57,11 +57,11 @@ cycles_are_whole p =
     let n = p.fasts + p.nears in
     let far : ℕ → Bool = λ i. nat_le n i in
     let slow : ℕ → Bool = λ i. nat_le p.fasts i in
-    let fast_low : AllAre far false (fast_of p) = all-numbers (λ (i : ℕ). far i ≡ false) 0 p.fasts (λ i l m. gt_tells n i (omega arith)) in
-    let near_low : AllAre far false (near_of p) = all-numbers (λ (i : ℕ). far i ≡ false) p.fasts p.nears (λ i l m. gt_tells n i m) in
-    let far_far : AllAre far true (far_of p) = all-numbers (λ (i : ℕ). far i ≡ true) n p.fars (λ i l m. le_tells n i l) in
-    let fast_slow : AllAre slow false (fast_of p) = all-numbers (λ (i : ℕ). slow i ≡ false) 0 p.fasts (λ i l m. gt_tells p.fasts i (omega arith)) in
-    let body_slow : AllAre slow true (body_of p) = (tiers (λ (i : ℕ). slow i ≡ true) p (λ i l m. le_tells p.fasts i l)).whole in
+    let fast_low : AllAre far false (fast_of p) = all-numbers (λ (i : ℕ). far i ≡ false) 0 p.fasts (λ i l m. lt-leb n i (omega arith)) in
+    let near_low : AllAre far false (near_of p) = all-numbers (λ (i : ℕ). far i ≡ false) p.fasts p.nears (λ i l m. lt-leb n i m) in
+    let far_far : AllAre far true (far_of p) = all-numbers (λ (i : ℕ). far i ≡ true) n p.fars (λ i l m. le-leb n i l) in
+    let fast_slow : AllAre slow false (fast_of p) = all-numbers (λ (i : ℕ). slow i ≡ false) 0 p.fasts (λ i l m. lt-leb p.fasts i (omega arith)) in
+    let body_slow : AllAre slow true (body_of p) = (tiers (λ (i : ℕ). slow i ≡ true) p (λ i l m. le-leb p.fasts i l)).whole in
     let known : ℕ → Type 0 = λ i. i < p.fasts + p.nears + p.fars in
     record {
       each = each p;

@@ -1,6 +1,7 @@
 // The body of a cycle: for each chunk of Far, all Near sections and then the chunk.
 ghost use Rattle.std.specs.Prelude.{◌≡◌, ◌<◌, ◌↔◌, [], ◌∷◌, IfSome, IfNone, IsTrue, slice_index, length};
 
+use std::alloc::Global;
 use std::marker::Model;
 
 // What is still to come of the body: Near from `near_at` on, then Far from `far_at` on; the chunk that is being sent wants so many packets still.
@@ -28,6 +29,21 @@ impl Model for Body {
 }
 
 impl Body {
+    /// The end of a body without a section.
+    pub(crate) fn ended(alloc: Global) -> Body
+        ensures { result.items ≡ [] }
+    {
+        Body {
+            sizes: Vec::new(alloc),
+            near_from: 0,
+            far_from: 0,
+            near_packets: 0,
+            near_at: 0,
+            far_at: 0,
+            wants: 0,
+        }
+    }
+
     /// The next section of the body, or None at its end.
     pub(crate) fn next(&mut self) -> Option<usize>
         ensures some { IfSome result (λ i. self.old.items ≡ i ∷ self.new.items) }

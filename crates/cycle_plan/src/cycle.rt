@@ -31,6 +31,19 @@ impl Model for CyclePlan {
 }
 
 impl CyclePlan {
+    /// The end of a cycle: no section is to come. It takes no memory.
+    pub fn ended(alloc: Global) -> CyclePlan
+        ensures { result ≡ [] }
+    {
+        CyclePlan {
+            body: Body::ended(alloc),
+            fasts: 0,
+            quota: 0,
+            fast_at: 0,
+            wants: 0,
+        }
+    }
+
     /// The next section of the cycle, or None exactly at its end. It takes no memory, and constant time.
     pub fn next(&mut self) -> Option<usize>
         ensures some { IfSome result (λ i. self.old ≡ i ∷ self.new) }
