@@ -70,7 +70,8 @@ from_pid k (r ∷ rs) = go (r.pid == k.pid) refl (from_pid k rs)
         elsewhere k r (counted_in r) refl e (counted_among rs) ∙ rec
         ∙ ap (λ (b : Bool). of_key k (filter_map (count_on k.pid) (cons_option (if b then Some r.bytes else None) (filter_map (bytes_on k.pid) rs)))) (sym e)
 
-raw-on : (pid : ℕ) (ss : List Sent) → filter_map (bytes_on pid) (map raw_of ss) ≡ filter_map (sent_on pid) ss
+-- what is heard on a PID of what is sent
+pub raw-on : (pid : ℕ) (ss : List Sent) → filter_map (bytes_on pid) (map raw_of ss) ≡ filter_map (sent_on pid) ss
 raw-on pid [] = refl
 raw-on pid (s ∷ ss) = ap (λ (l : List (List ℕ)). cons_option (sent_on pid s) l) (raw-on pid ss)
 

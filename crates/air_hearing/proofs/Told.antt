@@ -168,7 +168,8 @@ uncounted k other past (x ∷ xs) h can =
     block-append k h.0.sections (all_sent (past ++ x.airing ∷ []) xs h.1)
     ∙ ap₂ (λ (l m : List Counted). l ++ m) (block-uncounted past x.airing can.0 k other h.0.sections h.0.are.each) (uncounted k other (past ++ x.airing ∷ []) xs h.1 can.1)
 
-sent_of : (airings : List Airing) → AllByRecursion CanBeHeard airings → CanBeSent airings
+-- what can be heard can be sent
+pub sent_of : (airings : List Airing) → AllByRecursion CanBeHeard airings → CanBeSent airings
 sent_of airings can = all_map CanBeHeard (λ (a : Airing). All IsFit a.tables) (λ a h. h.fit) airings can
 
 pub changes_heard : ChangesAreHeard

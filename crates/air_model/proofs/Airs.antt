@@ -9,7 +9,9 @@ use Rattle.ts_packets.specs.Bytes.{Packet, HasFields, bytes_of_packet}
 use Rattle.ts_packets.specs.Counting.{of_pid, loads_on, Count}
 use Rattle.ts_packets.proofs.Carrying.{Carries-whole}
 use Rattle.air_model.specs.Air.{Aired, sent_on, cycle_sections, IsCycle, Cycles, air, airings_of, air_bytes, IsAirOf}
+use Rattle.air_model.specs.Repeating.{RepeatingCycles, IsRepeatingAirOf}
 use Rattle.air_model.specs.Making.{each_alone, counted, cycle_alone, AreMade}
+use Rattle.air_model.proofs.Repeating.{airs_repeat}
 use Rattle.air_model.proofs.Counted.{PidsFit, of_pid-counted, fields-counted, count-counted, Carries-each_alone}
 
 -- the air of no airing
@@ -80,16 +82,20 @@ whole_packets (p ∷ ps) h = (first, whole_packets ps others)
         go true all = all.1
         go false all = all
 
-whole_cycles : (past : List Airing) (xs : List Aired) → Cycles past xs → AllByRecursion (λ (p : Packet). IsWhole p.piece) (air xs)
+whole_cycles : (past : List Airing) (xs : List Aired) → RepeatingCycles past xs → AllByRecursion (λ (p : Packet). IsWhole p.piece) (air xs)
 whole_cycles past [] h = tt
 whole_cycles past (x ∷ xs) h =
     all-both (λ (p : Packet). IsWhole p.piece) x.packets (air xs)
-    (whole_packets x.packets (λ pid. Carries-whole (of_pid pid x.packets) (filter_map (sent_on pid) (cycle_sections past x.airing)) (h.0 pid))) (whole_cycles (past ++ x.airing ∷ []) xs h.1)
+    (whole_packets x.packets (λ pid. Carries-whole (of_pid pid x.packets) (filter_map (sent_on pid) h.0.sections) (h.0.carried pid)))
+    (whole_cycles (past ++ x.airing ∷ []) xs h.1)
 
 bytes_whole : (ps : List Packet) → AllByRecursion (λ (p : Packet). IsWhole p.piece) ps → AllByRecursion (λ (p : Packet). length (bytes_of_packet p) ≡ 188) ps
 bytes_whole [] h = tt
 bytes_whole (p ∷ ps) h = (omega (arith, h.0), bytes_whole ps h.1)
 
 -- each packet of an air has 188 bytes
+pub repeating-whole : (airings : List Airing) (xs : List Aired) → IsRepeatingAirOf airings xs → AllByRecursion (λ (p : Packet). length (bytes_of_packet p) ≡ 188) (air xs)
+repeating-whole airings xs h = bytes_whole (air xs) (whole_cycles [] xs h.cycles)
+
 pub air-whole : (airings : List Airing) (xs : List Aired) → IsAirOf airings xs → AllByRecursion (λ (p : Packet). length (bytes_of_packet p) ≡ 188) (air xs)
-air-whole airings xs h = bytes_whole (air xs) (whole_cycles [] xs h.cycles)
+air-whole airings xs h = repeating-whole airings xs (airs_repeat airings xs h)

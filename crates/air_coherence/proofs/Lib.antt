@@ -1,0 +1,5 @@
+pub mod Told
+pub mod Steady
+pub mod Counts
+pub mod Coherent
+pub mod Sent

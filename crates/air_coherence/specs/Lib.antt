@@ -1,0 +1,3 @@
+pub mod Coherence
+pub mod Laws
+pub mod Rows
