@@ -1,6 +1,6 @@
 // A run of feeds, control and player, whose air is heard.
 ghost use Rattle.std.specs.Prelude.{◌≡◌, ◌≤◌, OnErr, IfOk, [], length};
-ghost use Rattle.mux_config.specs.Sound.{IsSound};
+ghost use Rattle.mux_model.specs.Sound.{IsSound};
 ghost use Rattle.headend_live.specs.OnAir.{HasAirCause};
 ghost use Rattle.air_monitor.specs.Heard.{HasTaken, WasHeard};
 ghost use Rattle.headend_live.specs.Callers.{HasRun};
@@ -10,7 +10,7 @@ ghost use Rattle.headend_live.specs.Live.{run_stop};
 use crate::live::{Ended, LiveStop, and_stop, run_hall};
 use air_monitor::{DoneLines, Monitor, MonitorLog};
 use desk_core::Desk;
-use mux_config::Mux;
+use mux_model::Mux;
 use si_causes::{Gate, LineReader, Sink, Source};
 use std::alloc::{AllocError, Global};
 use std::sync::Wait;
