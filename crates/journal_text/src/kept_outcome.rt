@@ -76,7 +76,7 @@ fn read_counted(word: &str, n: &str) -> Option<Field>
 }
 
 // FIELD
-#[tactic(auto, unfolding(crate::specs::Kept::field_of))]
+#[tactic(auto, unfolding(crate::specs::KeptOutcomes::field_of))]
 fn read_field(fields: &[Txt]) -> Option<Field>
     ensures { result ≡ field_of fields.now }
 {
@@ -91,7 +91,7 @@ fn read_field(fields: &[Txt]) -> Option<Field>
 }
 
 // `range,FIELD` or `overlap,E`.
-#[tactic(auto, unfolding(crate::specs::Kept::day_fault_of))]
+#[tactic(auto, unfolding(crate::specs::KeptOutcomes::day_fault_of))]
 fn read_day_fault(fields: &[Txt]) -> Option<DayFault>
     ensures { result ≡ day_fault_of fields.now }
 {
@@ -129,7 +129,7 @@ fn read_done(fields: &[Txt]) -> Option<Reply>
 }
 
 // The reply to an edit.
-#[tactic(auto, unfolding(crate::specs::Kept::reply_of))]
+#[tactic(auto, unfolding(crate::specs::KeptOutcomes::reply_of))]
 fn read_reply(word: &str, fields: &[Txt]) -> Option<Reply>
     ensures { result ≡ reply_of word.now fields.now }
 {
@@ -193,7 +193,7 @@ fn read_swapped(fields: &[Txt]) -> Option<Outcome>
 
 /// The outcome of these fields, as an outcome line has them behind `=`. Ids and places are 0 to 65535, other numbers have
 /// one to nine digits, leading zeros taken, and a moment is one that `si_time::read_moment` reads. It takes no memory.
-#[tactic(auto, unfolding(crate::specs::Kept::outcome_of_fields))]
+#[tactic(auto, unfolding(crate::specs::KeptOutcomes::outcome_of_fields))]
 pub fn read_outcome(fields: &[Txt]) -> Option<Outcome>
     ensures value { result ≡ outcome_of_fields fields.now }
     ensures window { IfSome result IsInWindow }

@@ -158,7 +158,7 @@ fn starts_outcome(fields: &[Txt]) -> bool
 }
 
 // The outcome that outcome line `at` keeps, where it may stand.
-#[tactic(auto, unfolding(crate::specs::Kept::outcome_of_fields))]
+#[tactic(auto, unfolding(crate::specs::KeptOutcomes::outcome_of_fields))]
 fn kept_on(at: u64, fields: &[Txt], after: bool) -> Result<Outcome, EditStop>
     ensures says { Says at (kept_in after fields.now) result }
     ensures window { IfOk result IsInWindow }
