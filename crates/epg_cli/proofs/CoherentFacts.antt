@@ -3,12 +3,12 @@ use Rattle.std.proofs.Common.{◌≡◌, ℕ, ◌+◌, List, [], length, take, r
 use Rattle.std.specs.Prelude.{Option, Some, None}
 use Rattle.std.specs.List.{AllByRecursion}
 use Rattle.std.proofs.lemmas.List.{take_all}
-use Rattle.mux_config.specs.declared.mux.Mux.{Mux}
+use Rattle.mux_model.specs.declared.mux.Mux.{Mux}
 use Rattle.feed_edits.specs.Ahead.{Tail, Breaks, tail_of}
 use Rattle.si_causes.specs.Text.{text_lines}
 use Rattle.input_lines.specs.Going.{shown_whole}
-use Rattle.desk_core.specs.declared.step.Entry.{Entry}
-use Rattle.desk_core.specs.Journal.{Command}
+use Rattle.journal_model.specs.declared.step.Entry.{Entry}
+use Rattle.journal_model.specs.Steps.{Command}
 use Rattle.desk_core.proofs.JournalFacts.{journal_legal}
 use Rattle.version_book.specs.Airings.{Airing}
 use Rattle.air_hearing.specs.Counting.{CanBeHeard}

@@ -3,11 +3,11 @@ use Rattle.std.proofs.Common.{◌≡◌, ◌⊎◌, inl, inr, ℕ, List, ◌∙�
 use Rattle.std.specs.Prelude.{Option, None}
 use Rattle.si_causes.specs.Opening.{Files}
 use Rattle.si_causes.specs.Text.{text_lines}
-use Rattle.mux_config.specs.declared.mux.Mux.{Mux}
+use Rattle.mux_model.specs.declared.mux.Mux.{Mux}
 use Rattle.mux_config.specs.Block.{Whole}
 use Rattle.mux_config.proofs.FineLines.{whole_descriptions_are_sound}
 use Rattle.feed_edits.specs.Ahead.{Row}
-use Rattle.desk_core.specs.declared.step.Entry.{Entry}
+use Rattle.journal_model.specs.declared.step.Entry.{Entry}
 use Rattle.air_coherence.specs.Coherence.{SentCoherent}
 use Rattle.air_monitor.specs.declared.done_line.DoneLine.{DoneLine}
 use Rattle.headend_live.specs.Air.{airings}

@@ -7,19 +7,19 @@ use Rattle.si_lists.proofs.Lists.{all_append, each_unit}
 use Rattle.si_lists.proofs.Parts.{lt_or}
 use Rattle.si_causes.specs.Opening.{Files}
 use Rattle.si_causes.specs.declared.stop.ReadStop.TheVariants.{Failed, TooLong as Overlong}
-use Rattle.mux_config.specs.declared.mux.Mux.{Mux}
-use Rattle.feed_edits.specs.declared.edit.Edit.{Edit}
+use Rattle.mux_model.specs.declared.mux.Mux.{Mux}
+use Rattle.journal_model.specs.declared.edit.Edit.{Edit}
 use Rattle.feed_edits.specs.declared.stop.EditStop.{EditStop}
 use Rattle.feed_edits.specs.declared.stop.EditStop.TheVariants.{NoCommand as Refused, Read, Memory}
 use Rattle.feed_edits.specs.Ahead.{Row, Stop}
 use Rattle.feed_edits.specs.Edits.{edits_ahead}
-use Rattle.feed_edits.specs.Typed.{IsTypedEdit}
+use Rattle.journal_model.specs.Edits.{IsTypedEdit}
 use Rattle.feed_edits.proofs.Typed.{ahead_typed}
-use Rattle.desk_core.specs.declared.control.Control.{Control}
-use Rattle.desk_core.specs.declared.control.Control.TheVariants.{Tick as tick, Publish as publish}
-use Rattle.desk_core.specs.declared.step.Step.{Step}
-use Rattle.desk_core.specs.declared.step.Entry.{Entry}
-use Rattle.desk_core.specs.Journal.{Command, command_of}
+use Rattle.journal_model.specs.declared.control.Control.{Control}
+use Rattle.journal_model.specs.declared.control.Control.TheVariants.{Tick as tick, Publish as publish}
+use Rattle.journal_model.specs.declared.step.Step.{Step}
+use Rattle.journal_model.specs.declared.step.Entry.{Entry}
+use Rattle.journal_model.specs.Steps.{Command, command_of}
 use Rattle.turn_lock.specs.Journal.{entries_of}
 use Rattle.desk_hall.specs.Turn.{caller_of}
 use Rattle.desk_hall.specs.Reads.{commands_by, control_step, controls_ahead, edit_step}

@@ -2,11 +2,11 @@
 use Rattle.std.proofs.Common.{List}
 use Rattle.std.specs.Prelude.{ℕ, Option, Ok, Err, Result}
 use Rattle.std.specs.List.{AllByRecursion}
-use Rattle.mux_config.specs.declared.mux.Mux.{Mux}
+use Rattle.mux_model.specs.declared.mux.Mux.{Mux}
 use Rattle.air_hearing.specs.Counting.{CanBeHeard}
 use Rattle.air_coherence.specs.Coherence.{SentCoherent}
 use Rattle.air_coherence.proofs.Sent.{cycles_sent_coherent, whole_sent_coherent, cut_sent_coherent}
-use Rattle.desk_core.specs.declared.step.Entry.{Entry}
+use Rattle.journal_model.specs.declared.step.Entry.{Entry}
 use Rattle.headend_live.specs.declared.send.SendStop.{SendStop}
 use Rattle.headend_live.specs.declared.send.SendStop.TheVariants.{Air, Memory}
 use Rattle.headend_live.specs.Air.{airings}

@@ -2,15 +2,16 @@
 use Rattle.std.proofs.Common.{◌≡◌, ℕ, List, [], ◌∷◌, Bool, true, false, map, subst, sym}
 use Rattle.std.specs.Prelude.{Some, None, Option, IfSome, if◌then◌else◌}
 use Rattle.std.specs.List.{AllByRecursion, cons_option}
-use Rattle.feed_edits.specs.declared.edit.Edit.{Edit}
-use Rattle.feed_edits.specs.Typed.{IsTypedEdit}
+use Rattle.journal_model.specs.declared.edit.Edit.{Edit}
+use Rattle.journal_model.specs.Edits.{IsTypedEdit}
 use Rattle.feed_book.specs.Accepted.{is_done}
-use Rattle.desk_core.specs.declared.step.Step.{Step}
-use Rattle.desk_core.specs.declared.step.Step.TheVariants.{Edit as edit, Tick, Publish, Swap}
-use Rattle.desk_core.specs.declared.step.Outcome.{Outcome}
-use Rattle.desk_core.specs.declared.step.Outcome.TheVariants.{Edited, Ticked, Late, Published, Swapped}
-use Rattle.desk_core.specs.declared.step.Entry.{Entry}
-use Rattle.desk_core.specs.Journal.{Command, accepted, accepted_by, command_of}
+use Rattle.journal_model.specs.declared.step.Step.{Step}
+use Rattle.journal_model.specs.declared.step.Step.TheVariants.{Edit as edit, Tick, Publish, Swap}
+use Rattle.journal_model.specs.declared.step.Outcome.{Outcome}
+use Rattle.journal_model.specs.declared.step.Outcome.TheVariants.{Edited, Ticked, Late, Published, Swapped}
+use Rattle.journal_model.specs.declared.step.Entry.{Entry}
+use Rattle.desk_core.specs.Journal.{accepted, accepted_by}
+use Rattle.journal_model.specs.Steps.{Command, command_of}
 use Rattle.turn_lock.specs.Journal.{entries_of}
 use Rattle.desk_hall.specs.Turn.{caller_of}
 use Rattle.headend_live.specs.Laws.{HasTypedEdits}

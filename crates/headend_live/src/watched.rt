@@ -1,7 +1,6 @@
 // A run of feeds, control and player, whose air is heard.
 ghost use Rattle.std.specs.Prelude.{◌≡◌, ◌≤◌, OnErr, IfOk, [], length};
-ghost use Rattle.mux_config.specs.Sound.{IsSound};
-ghost use Rattle.mux_config.specs.Laws.{IsSoundWithIds};
+ghost use Rattle.mux_model.specs.Sound.{IsSound, IsSoundWithIds};
 ghost use Rattle.air_coherence.specs.Coherence.{SentCoherent};
 ghost use Rattle.headend_live.specs.Air.{airings};
 ghost use Rattle.headend_live.specs.Laws.{HasTypedEdits};
@@ -14,7 +13,7 @@ ghost use Rattle.headend_live.specs.Live.{run_stop};
 use crate::live::{Ended, LiveStop, and_stop, run_hall};
 use air_monitor::{DoneLines, Monitor, MonitorLog};
 use desk_core::Desk;
-use mux_config::Mux;
+use mux_model::Mux;
 use si_causes::{Gate, LineReader, Sink, Source};
 use std::alloc::{AllocError, Global};
 use std::sync::Wait;
