@@ -11,6 +11,7 @@ mod descriptors;
 mod events;
 mod hearing;
 mod packets;
+mod plans;
 mod playing;
 mod readings;
 mod sections;
@@ -31,6 +32,7 @@ fn answer(row: &mut Row) {
         "write_done" => hearing::line(row),
         "assign" => versions::assign(row),
         "take" => completions::take(row),
+        "plan" => plans::order(row),
         "play" => playing::play(row),
         "play_into" => playing::play_into(row),
         call => answer_of_section(row, call),

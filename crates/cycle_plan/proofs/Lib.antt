@@ -1,0 +1,9 @@
+pub mod Lists
+pub mod Leads
+pub mod Cuts
+pub mod Tiers
+pub mod Order
+pub mod Counts
+pub mod Places
+pub mod Gaps
+pub mod Cursors

@@ -1,0 +1,9 @@
+pub mod Cutting
+pub mod Cycle
+pub mod Sections
+pub mod Order
+pub mod Spacing
+pub mod Cursor
+pub mod BodyView
+pub mod PlanView
+pub mod Rows
