@@ -5,7 +5,7 @@ use Rattle.std.proofs.lemmas.List.{map_more, take_at}
 use Rattle.std.proofs.Math.Seq.{take-append_seam, drop-append_seam}
 use Rattle.std.specs.Io.KnownBytes.{Appends, Consumes, prepend_known}
 use Rattle.std.proofs.KnownBytes.{Appends-trans, prepend_known-nil}
-use Rattle.guide_receiver.proofs.Dones.{dones_push}
+use Rattle.heard_completions.proofs.Dones.{dones_push}
 use Rattle.si_causes.proofs.CauseFacts.{Rose-from, front_behind, Appends-nothing}
 use Rattle.si_causes.specs.Causes.{AppendsFront}
 use Rattle.packet_reader.specs.Recordings.{RecordingEnd, RecordingEnd.AtEnd, RecordingEnd.Broken, RecordingEnd.PastLimit, packet_limit, is_packet, and_packet, packets_in, recording}
@@ -13,9 +13,9 @@ use Rattle.packet_reader.specs.Reading.{Reading, GivesPacket, TakesPacket, Count
 use Rattle.packet_reader.proofs.RecordingFacts.{packet_step, broken_step, short_piece}
 use Rattle.packet_reader.specs.declared.stop.PacketStop.{PacketStop}
 use Rattle.packet_reader.specs.declared.stop.PacketStop.TheVariants as packet
-use Rattle.guide_receiver.specs.declared.done.DoneKey.{DoneKey}
-use Rattle.guide_receiver.specs.Heard.{DoneAt, at_packet, dones_by, dones_behind}
-use Rattle.guide_receiver.specs.Texts.{done_line, done_lines}
+use Rattle.heard_completions.specs.declared.done.DoneKey.{DoneKey}
+use Rattle.heard_completions.specs.Dones.{DoneAt, at_packet, dones_by, dones_behind}
+use Rattle.heard_completions.specs.Texts.{done_line, done_lines}
 use Rattle.epg_cli.specs.declared.listen.ListenStop.{ListenStop}
 use Rattle.epg_cli.specs.declared.listen.ListenStop.TheVariants as stop
 use Rattle.epg_report.specs.declared.status.Status.{Status}

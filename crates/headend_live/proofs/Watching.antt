@@ -15,9 +15,12 @@ use Rattle.guide_receiver.specs.Heard.{Hearing}
 use Rattle.headend_live.specs.declared.send.SendStop.{SendStop}
 use Rattle.headend_live.specs.declared.send.SendStop.TheVariants.{Air, Memory}
 use Rattle.air_monitor.specs.declared.done_line.DoneLine.{DoneLine}
-use Rattle.air_monitor.specs.Heard.{AreInSync, AreWhole, HasTaken, HearsBy, WasHeard, Watching, WatchedOn, joined, whole_packets}
+use Rattle.air_monitor.specs.Heard.{AreInSync, HasTaken, HearsBy, WasHeard, Watching, WatchedOn}
+use Rattle.ts_packets.specs.WholePackets.{AreWhole, whole_packets}
+use Rattle.ts_packets.specs.Packets.{joined}
 use Rattle.air_monitor.specs.Watches.{watched_at_once}
-use Rattle.air_monitor.proofs.Packets.{heard_front, told_taken, was_heard, whole_packets-front}
+use Rattle.air_monitor.proofs.Packets.{heard_front, told_taken, was_heard}
+use Rattle.ts_packets.proofs.WholePackets.{whole_packets-front}
 use Rattle.headend_live.specs.Live.{AirDid}
 use Rattle.headend_live.specs.Watched.{HeardOfAir, HeardWhole, watched_stop}
 use Rattle.headend_live.specs.declared.live.LiveStop.{LiveStop}

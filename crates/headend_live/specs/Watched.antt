@@ -7,7 +7,8 @@ use Rattle.carousel_player.specs.Playing.{Playing}
 use Rattle.turn_lock.specs.Knowledge.{TableId}
 use Rattle.guide_receiver.specs.Heard.{Hearing, ReceiverStandsFor}
 use Rattle.air_monitor.specs.declared.done_line.DoneLine.{DoneLine}
-use Rattle.air_monitor.specs.Heard.{HearsBy, lines_of_air, whole_packets}
+use Rattle.air_monitor.specs.Heard.{HearsBy, lines_of_air}
+use Rattle.ts_packets.specs.WholePackets.{whole_packets}
 use Rattle.headend_live.specs.declared.live.LiveStop.{LiveStop}
 use Rattle.headend_live.specs.declared.live.LiveStop.TheVariants as live
 use Rattle.headend_live.specs.declared.watched.LivePlan.{LivePlan}

@@ -2,8 +2,9 @@ use Rattle.std.proofs.Common.{◌≡◌, suc, ◌++◌, ◌∷◌, [], List, ℕ
 use Rattle.std.specs.Prelude.{Ok, Err}
 use Rattle.packet_reader.specs.Recordings.{packets_in}
 use Rattle.packet_reader.specs.Reading.{room}
-use Rattle.guide_receiver.specs.Heard.{ReceiverStandsFor, at_packet, dones_by}
-use Rattle.guide_receiver.specs.Texts.{done_lines}
+use Rattle.guide_receiver.specs.Heard.{ReceiverStandsFor}
+use Rattle.heard_completions.specs.Dones.{at_packet, dones_by}
+use Rattle.heard_completions.specs.Texts.{done_lines}
 use Rattle.si_causes.proofs.CauseFacts.{Appends-nothing}
 use Rattle.epg_cli.specs.Listen.{ReportsLines}
 use Rattle.epg_cli.proofs.ListenFacts.{HasParted, start_parted, parted_recording, more_parted, given_packet, reported_more, heard_line, heard_end, heard_stop, no_read_cause}

@@ -1,6 +1,6 @@
 -- The line of a completion.
 use Rattle.std.specs.Prelude.{ℕ, ◌++◌, List, [], ◌∷◌, codes, decimal, flat_map}
-use Rattle.guide_receiver.specs.Heard.{DoneAt}
+use Rattle.heard_completions.specs.Dones.{DoneAt}
 
 -- a number behind a tab
 abbrev pub field_text : ℕ → List ℕ

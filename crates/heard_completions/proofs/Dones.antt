@@ -1,6 +1,6 @@
 -- The completions of one packet more.
 use Rattle.std.proofs.Common.{◌≡◌, ℕ, List, [], ◌∷◌, ◌++◌, length, map, sym, ap, ◌∙◌, append-nil, append_assoc}
-use Rattle.guide_receiver.specs.Heard.{at_packet, dones_by, dones_behind}
+use Rattle.heard_completions.specs.Dones.{at_packet, dones_by, dones_behind}
 
 pub dones_push : (past xs : List (List ℕ)) (p : List ℕ) → dones_behind past (xs ++ p ∷ []) ≡ dones_behind past xs ++ map (at_packet (length (past ++ xs))) (dones_by (past ++ xs) p)
 dones_push past [] p =

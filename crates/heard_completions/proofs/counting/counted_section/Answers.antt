@@ -1,8 +1,8 @@
 use Rattle.std.proofs.Common.{◌≡◌, Ok}
 use Rattle.section_codec.specs.declared.section.Section.TheVariants.{Long}
 use Rattle.section_codec.specs.Section.{section_in}
-use Rattle.guide_receiver.proofs.Reading.{body-read}
-use Rattle.guide_receiver.proofs.counting.counted_section.Goals as goal
+use Rattle.heard_completions.proofs.Reading.{body-read}
+use Rattle.heard_completions.proofs.counting.counted_section.Goals as goal
 
 pub returns-in-Some-clause-body : goal.returns-in-Some-clause-body
 returns-in-Some-clause-body c =

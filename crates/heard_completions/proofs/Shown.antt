@@ -10,9 +10,9 @@ use Rattle.sub_collect.specs.Runs.{Counted, completed}
 use Rattle.sub_collect.specs.Completions.{done_at, dones, latest_of, repeats, of_key, shown_after, shown_at}
 use Rattle.sub_collect.specs.declared.completed.Completed.{Completed}
 use Rattle.sub_collect.proofs.Done.{shown_at-is, completion-push, dones-go_on}
-use Rattle.guide_receiver.specs.declared.done.DoneKey.{DoneKey}
-use Rattle.guide_receiver.specs.Counting.{counted_in, counted_among}
-use Rattle.guide_receiver.specs.Heard.{counted_heard, done_key}
+use Rattle.heard_completions.specs.declared.done.DoneKey.{DoneKey}
+use Rattle.heard_completions.specs.Counting.{counted_in, counted_among}
+use Rattle.heard_completions.specs.Dones.{counted_heard, done_key}
 
 not_repeated : (t : Bool) (d e : Completed) → (if t then None else Some e) ≡ Some d → e ≡ d
 not_repeated true d e is = cc

@@ -4,7 +4,7 @@ ghost use Rattle.section_codec.specs.Tables.{is_pat, is_pmt, is_nit, is_sdt, is_
 ghost use Rattle.section_codec.specs.Section.{long_body};
 ghost use Rattle.section_codec.specs.Segments.{segment_last_in};
 ghost use Rattle.sub_collect.specs.Runs.{counted};
-ghost use Rattle.guide_receiver.specs.Counting.{is_counted, is_last_within, is_event_body, is_body_of_table, counted_in};
+ghost use Rattle.heard_completions.specs.Counting.{is_counted, is_last_within, is_event_body, is_body_of_table, counted_in};
 
 use eit_codec::is_eit_body;
 use nit_sdt::{is_nit_body, is_sdt_body};
@@ -16,16 +16,17 @@ use si_base::Bytes;
 use std::alloc::{AllocError, Global};
 use ts_demux::RawSection;
 
-// A section that counts.
+/// A section that counts: its key, its header, and what stands between the header and the CRC.
 #[derive(Drop)]
-pub(crate) struct CountedSection {
-    pub(crate) key: Key,
-    pub(crate) header: LongHeader,
-    pub(crate) body: Bytes,
+pub struct CountedSection {
+    pub key: Key,
+    pub header: LongHeader,
+    pub body: Bytes,
 }
 
-// The section that counts, where these bytes are one.
-pub(crate) fn counted_section(
+/// The section that counts, or `None` exactly where this one does not: it is no section in the long form that is in force, its table is
+/// none of those that count on its PID, or its body is none of its table (EN 300 468, 5.1.1 and 5.1.3).
+pub fn counted_section(
     alloc: Global,
     raw: &RawSection,
 ) -> Result<Option<CountedSection>, AllocError>

@@ -1,7 +1,7 @@
 // Completions, and their lines.
 ghost use Rattle.std.specs.Prelude.{◌≡◌, ◌++◌, IfOk, OnOk, OnErr, flat_map};
-ghost use Rattle.guide_receiver.specs.Heard.{at_packet};
-ghost use Rattle.guide_receiver.specs.Texts.{field_text, done_line};
+ghost use Rattle.heard_completions.specs.Dones.{at_packet};
+ghost use Rattle.heard_completions.specs.Texts.{field_text, done_line};
 
 use section_codec::Key;
 use si_base::Items;
