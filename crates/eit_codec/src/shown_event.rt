@@ -10,6 +10,7 @@ ghost use Rattle.eit_codec.specs.ShownEvent.{short_of, genres_of, rating_of, sam
 use desc_event::{
     RawDesc, ShortEvent, read_content, read_extended_event, read_parental_rating, read_short_event,
 };
+use desc_parts::no_text;
 use guide_model::{Genres, Rating};
 use si_base::{Bytes, Items};
 use si_text::{Shown, Txt, decode_text};
@@ -28,19 +29,9 @@ pub(crate) fn short_of(alloc: Global, descs: &[RawDesc]) -> Result<ShortEvent, A
     }
     Ok(ShortEvent {
         language: *b"und",
-        name: empty(alloc)?,
-        short: empty(alloc)?,
+        name: no_text(alloc)?,
+        short: no_text(alloc)?,
     })
-}
-
-// The empty text.
-fn empty(alloc: Global) -> Result<Shown, AllocError>
-    ensures { IfOk result (λ shown. shown ≡ Text []) }
-{
-    match Txt::of(alloc, "")? {
-        Some(text) => Ok(Shown::Text(text)),
-        None => Err(AllocError),
-    }
 }
 
 /// The genres of the first content.

@@ -46,7 +46,11 @@ fn country_of(rating: &Option<RawRating>) -> &[u8]
 }
 
 // Adds the value of a rating, or an empty field.
-fn add_value(alloc: Global, row: &mut LineWriter, rating: &Option<RawRating>) -> Result<(), AllocError>
+fn add_value(
+    alloc: Global,
+    row: &mut LineWriter,
+    rating: &Option<RawRating>,
+) -> Result<(), AllocError>
     requires { IsOpenFor 0 row.old }
     ensures { OnOk result (row.new ≡ and_field row.old (rating_field rating.now)) }
 {

@@ -1,6 +1,6 @@
 use Rattle.std.proofs.Common.{refl}
 use Rattle.std.specs.Str.{chars}
-use Rattle.nit_sdt.proofs.texts.no_text.Goals as goal
+use Rattle.desc_parts.proofs.coded.no_text.Goals as goal
 
 pub of_kept-requires : goal.of_kept-requires
 unfolding chars
