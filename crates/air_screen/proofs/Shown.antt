@@ -1,11 +1,11 @@
 -- What is published is shown.
-use Rattle.std.proofs.Common.{◌≡◌, ℕ, suc, ◌+◌, ◌<◌, ◌≤◌, List, [], ◌∷◌, ◌++◌, Bool, true, false, Option, Some, None, length, map, refl, sym, ap, ap₂, ◌∙◌, subst, arith, append_assoc, eq-eqb}
-use Rattle.std.specs.Prelude.{◌*◌, slice_range, is_some, IsSome}
+use Rattle.std.proofs.Common.{◌≡◌, ℕ, ◌<◌, List, [], ◌∷◌, ◌++◌, true, false, Option, Some, None, length, map, refl, sym, ap, ◌∙◌, subst, append_assoc, eq-eqb}
+use Rattle.std.specs.Prelude.{◌*◌, slice_range, IsSome}
 use Rattle.std.specs.List.{AllByRecursion}
 use Rattle.si_lists.proofs.Lists.{all_two}
 use Rattle.guide_model.specs.declared.guide.Guide.{Guide}
 use Rattle.mux_model.specs.declared.mux.Mux.{Mux}
-use Rattle.mux_model.specs.Sound.{IsSound, IsSoundWithIds}
+use Rattle.mux_model.specs.Sound.{IsSoundWithIds}
 use Rattle.section_codec.specs.declared.table.Key.{Key}
 use Rattle.section_codec.specs.declared.table.SubTable.{SubTable}
 use Rattle.section_codec.specs.Contents.{Content}
@@ -24,7 +24,7 @@ use Rattle.air_model.specs.Air.{Aired, air, airings_of}
 use Rattle.air_model.specs.Repeating.{IsRepeatingAirOf}
 use Rattle.air_hearing.specs.Counting.{CanBeHeard}
 use Rattle.air_joins.specs.Joining.{HasPacketIn}
-use Rattle.air_exact.specs.Exact.{StaysOnAir, IsOnlyKey, HaveOneEach, HasOnAir}
+use Rattle.air_exact.specs.Exact.{StaysOnAir, HaveOneEach, HasOnAir}
 use Rattle.air_exact.proofs.Views.{on_air_heard}
 use Rattle.publication.specs.Network.{nit_key, nit_table}
 use Rattle.publication.specs.Programs.{pat_key, pat_table, pmt_tables}
