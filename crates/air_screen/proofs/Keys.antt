@@ -8,7 +8,7 @@ use Rattle.mux_model.specs.declared.mux.Mux.{Mux}
 use Rattle.mux_model.specs.Sound.{IsSound, IsSoundService}
 use Rattle.section_codec.specs.declared.table.Key.{Key}
 use Rattle.section_codec.specs.declared.table.SubTable.{SubTable}
-use Rattle.guide_receiver.specs.Counting.{is_counted}
+use Rattle.heard_completions.specs.Counting.{is_counted}
 use Rattle.guide_receiver.specs.Latest.{is_pat_key, is_nit_key, is_sdt_key}
 use Rattle.publication.specs.Network.{nit_key}
 use Rattle.publication.specs.Programs.{pat_key}
