@@ -7,6 +7,7 @@
 
 mod cycle;
 mod laying;
+mod planning;
 mod player;
 mod sending;
 
