@@ -1,4 +1,4 @@
--- A cycle that sends each section once is one that repeats as it likes.
+-- A cycle that is sent in the order of its plan is one that repeats as it likes.
 use Rattle.std.proofs.Common.{◌≡◌, ℕ, ◌<◌, ◌⊎◌, inl, inr, List, [], ◌∷◌, ◌++◌, length, take, drop, map, refl, sym, ap, subst, arith}
 use Rattle.std.specs.Prelude.{flat_map}
 use Rattle.std.specs.List.{AllByRecursion, Contains, prefix_len}
