@@ -1,15 +1,16 @@
 // The monitor.
-ghost use Rattle.std.specs.Prelude.{◌≡◌, [], true};
-ghost use Rattle.air_monitor.specs.Heard.{HasTaken, WatchedOn};
+ghost use Rattle.std.specs.Prelude.{◌≡◌, ℕ, List, [], false, true, IfOk};
+ghost use Rattle.guide_receiver.specs.Guides.{guide_of};
+ghost use Rattle.air_monitor.specs.Heard.{HasTaken, HearsBy, WatchedOn};
 ghost use Rattle.air_monitor.specs.Watches.{watched_at_once, watched_later};
 
 use crate::done_line::DoneLines;
 use crate::listen::listen;
 use crate::listener::Listener;
 use crate::part::Part;
-use guide_receiver::Receiver;
+use guide_receiver::{Heard, Receiver};
 use si_causes::{Failed, Sink};
-use std::alloc::Global;
+use std::alloc::{AllocError, Global};
 use std::marker::Model;
 
 /// A sink that passes on what it is given to an air, and hears what the air took: the whole packets, from one on.
@@ -41,6 +42,17 @@ pub struct MonitorLog {
     pub dones: DoneLines,
     pub receiver: Receiver,
     pub wanting: bool,
+}
+
+impl MonitorLog {
+    /// What a receiver has to show of the packets that were heard, where memory was not wanting: the needs that are not met, or else the
+    /// whole screen (EN 300 468, 5.2).
+    pub fn guide(&self) -> Result<Heard, AllocError>
+        ensures { (join : ℕ) (packets : List (List ℕ)) → HearsBy false join packets self.now.receiver self.now.dones
+            → IfOk result (λ heard. heard ≡ guide_of packets) }
+    {
+        self.receiver.guide()
+    }
 }
 
 impl<A: Sink> Monitor<A> {

@@ -4,9 +4,9 @@ use Rattle.std.specs.Prelude.{flat_map, filter, if◌then◌else◌, slice_index
 use Rattle.std.specs.List.{AllByRecursion}
 use Rattle.std.proofs.lemmas.List.{take_at, drop_at}
 use Rattle.input_lines.specs.Lines.{record_lines}
-use Rattle.mux_config.specs.declared.mux.Mux.{Mux}
+use Rattle.mux_model.specs.declared.mux.Mux.{Mux}
 use Rattle.mux_config.specs.Block.{Block, Faulty, Whole, Unended, block_from}
-use Rattle.mux_config.specs.Laws.{IsSoundWithIds}
+use Rattle.mux_model.specs.Sound.{IsSoundWithIds}
 use Rattle.mux_config.proofs.FineLines.{block_sound}
 use Rattle.feed_edits.specs.Ahead.{Tail}
 use Rattle.ts_packets.specs.Bytes.{Packet, bytes_of_packet}
@@ -42,7 +42,7 @@ mux_with (Faulty fault) tail mux sound e = cc
 mux_with (Whole m behind) tail mux sound e = (let same : m ≡ mux = cc in subst IsSoundWithIds same (sound m behind refl))
 mux_with Unended tail mux sound e = cc
 
-mux_of_script : (lines : List (List ℕ)) (tail : Tail) (mux : Mux) → (script_with (block_from [] (record_lines 1 lines)) tail).mux ≡ Some mux → IsSoundWithIds mux
+pub mux_of_script : (lines : List (List ℕ)) (tail : Tail) (mux : Mux) → (script_with (block_from [] (record_lines 1 lines)) tail).mux ≡ Some mux → IsSoundWithIds mux
 mux_of_script lines tail mux e = mux_with (block_from [] (record_lines 1 lines)) tail mux (λ m behind is. block_sound 1 lines m behind is) e
 
 -- ---- an air as a recording

@@ -75,12 +75,14 @@ joined-push : (xss : List (List RawSection)) (xs : List RawSection) → flat_map
 joined-push [] xs = append-nil xs
 joined-push (ys ∷ yss) xs = ap (λ t. ys ++ t) (joined-push yss xs) ∙ sym (append_assoc ys (flat_map (λ (t : List RawSection). t) yss) xs)
 
--- the counted sections of a list with one packet more
+-- the sections of a list with one packet more
+pub heard-push : (past : List (List ℕ)) (packet : List ℕ) → heard_all [] (past ++ packet ∷ []) ≡ heard_all [] past ++ ended_by past packet
+heard-push past packet =
+    ap (flat_map (λ (s : List RawSection). s)) (each-push [] past packet) ∙ joined-push (heard_each [] past) (ended_by past packet)
+
+-- the counted ones of them
 pub counted-push : (past : List (List ℕ)) (packet : List ℕ) → counted_heard (past ++ packet ∷ []) ≡ counted_heard past ++ counted_among (ended_by past packet)
-counted-push past packet =
-    ap (λ t. counted_among (flat_map (λ (s : List RawSection). s) t)) (each-push [] past packet)
-    ∙ ap counted_among (joined-push (heard_each [] past) (ended_by past packet))
-    ∙ among-append (heard_all [] past) (ended_by past packet)
+counted-push past packet = ap counted_among (heard-push past packet) ∙ among-append (heard_all [] past) (ended_by past packet)
 
 one_counted : (o : Option Counted) → cons_option o [] ≡ option_to_list o
 one_counted None = refl

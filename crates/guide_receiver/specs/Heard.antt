@@ -6,8 +6,10 @@ use Rattle.sub_collect.specs.Runs.{Counted}
 use Rattle.sub_collect.specs.Completions.{dones}
 use Rattle.sub_collect.specs.Collectors.{KeysHeard, CollectorStandsFor}
 use Rattle.sub_collect.specs.declared.completed.Completed.{Completed}
+use Rattle.si_time.specs.declared.moment.Moment.{Moment}
 use Rattle.guide_receiver.specs.declared.done.DoneKey.{DoneKey}
 use Rattle.guide_receiver.specs.Counting.{counted_among}
+use Rattle.guide_receiver.specs.Latest.{LatestKept, keys_shown, AreLatest, IsClock}
 
 -- the sections of a packet list that count, in the order in which they end
 abbrev pub counted_heard : List (List ℕ) → List Counted
@@ -43,12 +45,16 @@ dones_of packets = dones_behind [] packets
 
 -- ---- the receiver
 
--- what a receiver keeps: its demultiplexer and its collector
+-- what a receiver keeps: its demultiplexer, its collector, the keys that were completed last, and the moment that it heard last
 pub record Hearing : Type 0 where
   pub demux : List (Option PidState)
   pub collector : KeysHeard
+  pub latest : LatestKept
+  pub clock : Option Moment
 
 -- A receiver stands for these packets, each by its bytes.
 pub record ReceiverStandsFor (past : List (List ℕ)) (receiver : Hearing) : Type 0 where
   pub sections : DemuxStandsFor past receiver.demux
   pub completions : CollectorStandsFor (counted_heard past) receiver.collector
+  pub latest : AreLatest (keys_shown (counted_heard past)) receiver.latest
+  pub clock : IsClock (heard_all [] past) receiver.clock

@@ -1,4 +1,6 @@
 pub mod Counting
+pub mod Latest
 pub mod Heard
+pub mod Guides
 pub mod Texts
 mod Rows

@@ -1,14 +1,22 @@
 // The receiver.
 ghost use Rattle.std.specs.Prelude.{◌≡◌, ◌≢◌, ◌↔◌, ◌++◌, ◌∷◌, [], List, ℕ, Option, Err, IfOk, OnOk, map, option_map, option_to_list, slice_index};
+ghost use Rattle.section_codec.specs.declared.table.Key.{Key};
 ghost use Rattle.sub_collect.specs.Runs.{Counted};
 ghost use Rattle.sub_collect.specs.Completions.{dones};
 ghost use Rattle.sub_collect.specs.Collectors.{CollectorStandsFor};
+ghost use Rattle.guide_receiver.specs.declared.done.DoneKey.{DoneKey};
 ghost use Rattle.guide_receiver.specs.Counting.{counted_in, counted_among};
+ghost use Rattle.guide_receiver.specs.Latest.{keys_shown, kept_keys, AreLatest};
 ghost use Rattle.guide_receiver.specs.Heard.{ReceiverStandsFor, done_key, dones_by};
+ghost use Rattle.guide_receiver.specs.Guides.{guide_of};
 
+use crate::clock::clock_behind;
 use crate::counting::{CountedSection, counted_section};
 use crate::done::{DoneKey, Dones};
+use crate::latest_keys::LatestKeys;
+use guide_screen::{Heard, Latest, heard_guide};
 use si_base::Items;
+use si_time::Moment;
 use std::alloc::{AllocError, Global};
 use std::marker::Model;
 use sub_collect::Collector;
@@ -22,21 +30,25 @@ pub enum HearStop {
     Memory,
 }
 
-/// A receiver of a transport stream. It stands for the packets that it heard, and keeps of each PID the section that is open, and
-/// of each sub-table its present run of sections and its latest completion. It keeps its allocator.
+/// A receiver of a transport stream. It stands for the packets that it heard, and keeps of each PID the section that is open, of
+/// each sub-table its present run of sections and its latest completion, the keys of PAT, NIT and SDTs that were completed last, and
+/// the last moment that it heard. It keeps its allocator.
 #[derive(Drop)]
 pub struct Receiver {
     alloc: Global,
     demux: Demux,
     collector: Collector,
+    latest: LatestKeys,
+    clock: Option<Moment>,
 }
 
 impl Model for Receiver {
+    ghost use Rattle.guide_receiver.specs.Latest.{kept_keys};
     ghost use Rattle.guide_receiver.specs.Heard.{Hearing};
 
     ghost Value = { Hearing };
 
-    ghost view = { λ r. record { demux = r.demux; collector = r.collector } };
+    ghost view = { λ r. record { demux = r.demux; collector = r.collector; latest = kept_keys r.latest; clock = r.clock } };
 }
 
 impl Receiver {
@@ -48,6 +60,8 @@ impl Receiver {
             alloc,
             demux: Demux::open(alloc),
             collector: Collector::open(alloc),
+            latest: LatestKeys::open(alloc),
+            clock: None,
         }
     }
 
@@ -66,10 +80,15 @@ impl Receiver {
         let Ok(sections) = self.demux.hear(packet, &shape) else {
             return Err(HearStop::Memory);
         };
+        let Ok(clock) = clock_behind(self.alloc, self.clock, sections.as_slice()) else {
+            return Err(HearStop::Memory);
+        };
+        self.clock = clock;
         let mut dones = Items::new(self.alloc);
         let Ok(()) = count_all(
             self.alloc,
             &mut self.collector,
+            &mut self.latest,
             sections.as_slice(),
             &mut dones,
         ) else {
@@ -77,21 +96,38 @@ impl Receiver {
         };
         Ok(dones)
     }
+
+    /// What the receiver has to show of the packets that it stands for: the needs that are not met, of which there is one at least, or
+    /// else the whole screen (EN 300 468, 5.2). Its time is that of `heard_guide`.
+    pub fn guide(&self) -> Result<Heard, AllocError>
+        ensures { (past : List (List ℕ)) → ReceiverStandsFor past self.now → IfOk result (λ heard. heard ≡ guide_of past) }
+    {
+        let latest = Latest {
+            pat: self.latest.pat,
+            nit: self.latest.nit,
+            sdt: self.latest.sdt(),
+            clock: self.clock,
+        };
+        heard_guide(self.alloc, &self.collector, latest)
+    }
 }
 
-// Counts these sections, and appends the completions that they show.
+// Counts these sections, keeps the keys that they complete, and appends the completions that they show.
 fn count_all(
     alloc: Global,
     collector: &mut Collector,
+    latest: &mut LatestKeys,
     sections: &[RawSection],
     shown: &mut Dones,
 ) -> Result<(), AllocError>
     ensures dones { (past : List Counted) → CollectorStandsFor past collector.old → OnOk result (shown.new ≡ shown.old ++ map done_key (dones past (counted_among sections.now))) }
     ensures stands { (past : List Counted) → CollectorStandsFor past collector.old → OnOk result (CollectorStandsFor (past ++ counted_among sections.now) collector.new) }
+    ensures latest { (past : List Counted) → CollectorStandsFor past collector.old → AreLatest (keys_shown past) (kept_keys latest.old)
+        → OnOk result (AreLatest (keys_shown (past ++ counted_among sections.now)) (kept_keys latest.new)) }
 {
     for section in sections {
         let done = count(alloc, collector, section)?;
-        push_shown(shown, done)?;
+        keep_shown(latest, shown, done)?;
     }
     Ok(())
 }
@@ -115,13 +151,20 @@ fn count(
     })
 }
 
-// Appends a completion, where there is one.
-fn push_shown(shown: &mut Dones, done: Option<DoneKey>) -> Result<(), AllocError>
-    ensures { OnOk result (shown.new ≡ shown.old ++ option_to_list done) }
+// Appends a completion, where there is one, and keeps its key.
+fn keep_shown(
+    latest: &mut LatestKeys,
+    shown: &mut Dones,
+    done: Option<DoneKey>,
+) -> Result<(), AllocError>
+    ensures shown { OnOk result (shown.new ≡ shown.old ++ option_to_list done) }
+    ensures latest { (keys : List Key) → AreLatest keys (kept_keys latest.old)
+        → OnOk result (AreLatest (keys ++ map (λ (d : DoneKey). d.key) (option_to_list done)) (kept_keys latest.new)) }
 {
     let Some(done) = done else {
         return Ok(());
     };
+    latest.complete(done.key)?;
     match shown.push(done) {
         Ok(()) => Ok(()),
         Err(_) => Err(AllocError),

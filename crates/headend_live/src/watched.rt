@@ -1,6 +1,9 @@
 // A run of feeds, control and player, whose air is heard.
 ghost use Rattle.std.specs.Prelude.{◌≡◌, ◌≤◌, OnErr, IfOk, [], length};
-ghost use Rattle.mux_config.specs.Sound.{IsSound};
+ghost use Rattle.mux_model.specs.Sound.{IsSound, IsSoundWithIds};
+ghost use Rattle.air_coherence.specs.Coherence.{SentCoherent};
+ghost use Rattle.headend_live.specs.Air.{airings};
+ghost use Rattle.headend_live.specs.Laws.{HasTypedEdits};
 ghost use Rattle.headend_live.specs.OnAir.{HasAirCause};
 ghost use Rattle.air_monitor.specs.Heard.{HasTaken, WasHeard};
 ghost use Rattle.headend_live.specs.Callers.{HasRun};
@@ -10,7 +13,7 @@ ghost use Rattle.headend_live.specs.Live.{run_stop};
 use crate::live::{Ended, LiveStop, and_stop, run_hall};
 use air_monitor::{DoneLines, Monitor, MonitorLog};
 use desk_core::Desk;
-use mux_config::Mux;
+use mux_model::Mux;
 use si_causes::{Gate, LineReader, Sink, Source};
 use std::alloc::{AllocError, Global};
 use std::sync::Wait;
@@ -152,6 +155,8 @@ pub fn run_live<
     requires few { length feeds.items ≤ 16 }
     requires cycles { plan.cycles ≤ 1000 }
     ensures ran { IfOk result (λ end. LiveRan F.left F.faults F.same S.left S.faults S.same mux plan feeds.items control (A.written air.old) (A.written air.new) (A.faults air.old) (A.faults air.new) end) }
+    // What was sent is coherent: of any part of its packets no content is ever completed from two airings.
+    ensures coherent { IfOk result (λ end. IsSoundWithIds mux → HasTypedEdits end.desk.entries → SentCoherent (airings mux end.desk.entries) (A.written air.old) (A.written air.new)) }
     ensures memory { OnErr result (air.new ≡ air.old) }
 {
     let Ran { end, heard } = run_and_hear(

@@ -5,8 +5,11 @@ use Rattle.ts_demux.specs.declared.section.RawSection.{RawSection}
 use Rattle.sub_collect.specs.Completions.{dones}
 use Rattle.sub_collect.specs.Collectors.{CollectorStandsFor}
 use Rattle.guide_receiver.specs.Counting.{counted_in, counted_among}
+use Rattle.guide_receiver.specs.declared.done.DoneKey.{DoneKey}
+use Rattle.guide_receiver.specs.Latest.{keys_shown, kept_keys, AreLatest}
 use Rattle.guide_receiver.specs.Heard.{done_key}
 use Rattle.guide_receiver.proofs.Shown.{among-next, more_shown}
+use Rattle.guide_receiver.proofs.Latest.{keys-more}
 use Rattle.guide_receiver.proofs.receiver.count_all.Goals as goal
 
 pub loop-section-preserved : goal.loop-section-preserved
@@ -19,10 +22,16 @@ loop-section-preserved c =
     let i = c.loop-section.invariant past stands in
     let shown = map done_key (dones past front) in (
       subst (λ t. CollectorStandsFor t c.count.new.collector) (append_assoc past front one ∙ ap (λ t. past ++ t) (sym next)) (c.in_ok-done.ensures.stands (past ++ front) i.0),
-      c.in_ok-push_shown.ensures ∙ ap (λ t. t ++ option_to_list c.in_ok-done.done) i.1 ∙ append_assoc c.args.shown.now shown (option_to_list c.in_ok-done.done)
+      c.in_ok-keep_shown.ensures.shown ∙ ap (λ t. t ++ option_to_list c.in_ok-done.done) i.1 ∙ append_assoc c.args.shown.now shown (option_to_list c.in_ok-done.done)
           ∙ ap (λ t. c.args.shown.now ++ (shown ++ t)) (c.in_ok-done.ensures.done (past ++ front) i.0)
           ∙ ap (λ t. c.args.shown.now ++ t) (sym (more_shown past front one))
           ∙ ap (λ t. c.args.shown.now ++ map done_key (dones past t)) (sym next),
+      λ latest.
+          let keys = keys_shown (past ++ front) in
+          subst (λ ks. AreLatest ks (kept_keys c.keep_shown.new.latest))
+          (ap (λ (ds : List DoneKey). keys ++ map (λ (d : DoneKey). d.key) ds) (c.in_ok-done.ensures.done (past ++ front) i.0)
+          ∙ sym (keys-more (past ++ front) one) ∙ ap keys_shown (append_assoc past front one ∙ ap (λ t. past ++ t) (sym next)))
+          (c.in_ok-keep_shown.ensures.latest keys (i.2 latest)),
     )
 
 pub returns-clause-stands : goal.returns-clause-stands
@@ -30,3 +39,9 @@ returns-clause-stands c =
     let sections = c.args.sections.now in
     let whole = take_all c.loop-section.section-index sections (omega (arith, c.loop-section-test.false)) in
     λ past stands. subst (λ (t : List RawSection). CollectorStandsFor (past ++ counted_among t) c.loop-section.collector) whole (c.loop-section.invariant past stands).0
+
+pub returns-clause-latest : goal.returns-clause-latest
+returns-clause-latest c =
+    let sections = c.args.sections.now in
+    let whole = take_all c.loop-section.section-index sections (omega (arith, c.loop-section-test.false)) in
+    λ past stands latest. subst (λ (t : List RawSection). AreLatest (keys_shown (past ++ counted_among t)) (kept_keys c.loop-section.latest)) whole ((c.loop-section.invariant past stands).2 latest)

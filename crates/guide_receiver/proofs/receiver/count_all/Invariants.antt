@@ -3,6 +3,7 @@ use Rattle.sub_collect.specs.Runs.{Counted}
 use Rattle.sub_collect.specs.Completions.{dones}
 use Rattle.sub_collect.specs.Collectors.{CollectorStandsFor}
 use Rattle.guide_receiver.specs.Counting.{counted_among}
+use Rattle.guide_receiver.specs.Latest.{keys_shown, kept_keys, AreLatest}
 use Rattle.guide_receiver.specs.Heard.{done_key}
 use Rattle.guide_receiver.proofs.receiver.count_all.Given as goal
 
@@ -11,3 +12,4 @@ invariant-loop-section l =
     (past : List Counted) → CollectorStandsFor past l.fn.collector
     → CollectorStandsFor (past ++ counted_among (take l.section-index l.sections)) l.collector
     × (l.shown ≡ l.fn.shown ++ map done_key (dones past (counted_among (take l.section-index l.sections))))
+    × (AreLatest (keys_shown past) (kept_keys l.fn.latest) → AreLatest (keys_shown (past ++ counted_among (take l.section-index l.sections))) (kept_keys l.latest))

@@ -1,6 +1,8 @@
 use Rattle.std.proofs.Common.{◌∙◌, ap}
 use Rattle.headend_live.specs.Live.{run_stop}
 use Rattle.headend_live.specs.Watched.{watched_stop}
+use Rattle.headend_live.proofs.CarryFacts.{airings_heard}
+use Rattle.headend_live.proofs.Coherent.{air_coherent}
 use Rattle.headend_live.proofs.Watching.{heard_of_air, heard_whole}
 use Rattle.headend_live.proofs.watched.run_live.Goals as goal
 
@@ -28,3 +30,12 @@ returns-in-Ok-clause-ran g c =
           (heard_of_air c.args.mux end.desk.entries c.args.plan.join (g.A.Sink.written c.args.air.now) (g.A.Sink.written ran.new.air) end.sent ran.result.heard.wanting ran.result.heard.receiver ran.result.heard.dones bytes told did.2.air ran.ensures.heard)
           (λ is. other (c.watched_stop-stop.ensures ∙ is));
     }
+
+pub returns-in-Ok-clause-coherent : goal.returns-in-Ok-clause-coherent
+returns-in-Ok-clause-coherent g c =
+    let ran = c.run_and_hear-end in
+    let end = c.in-Ok.end in
+    let did = rw c.in-Ok.is at ran.ensures.did in
+    λ sound typed.
+    air_coherent c.args.mux end.desk.entries (g.A.Sink.written c.args.air.now) (g.A.Sink.written ran.new.air) end.sent
+    (airings_heard c.args.mux end.desk.entries sound typed did.2.journal_did.legal) did.2.air

@@ -1,31 +1,39 @@
-use Rattle.std.proofs.Common.{◌≡◌, ◌++◌, List, map, subst, sym, ap, ◌∙◌}
+use Rattle.std.proofs.Common.{◌≡◌, ◌++◌, List, [], map, subst, sym, ap, ◌∙◌}
 use Rattle.ts_demux.specs.declared.section.RawSection.{RawSection}
-use Rattle.ts_demux.specs.Sections.{ended_by}
+use Rattle.ts_demux.specs.Sections.{ended_by, heard_all}
 use Rattle.sub_collect.specs.Runs.{Counted}
 use Rattle.sub_collect.specs.Completions.{dones}
 use Rattle.sub_collect.specs.Collectors.{CollectorStandsFor}
 use Rattle.guide_receiver.specs.Counting.{counted_among}
+use Rattle.guide_receiver.specs.Latest.{keys_shown, kept_keys, AreLatest, IsClock}
 use Rattle.guide_receiver.specs.Heard.{ReceiverStandsFor, counted_heard, done_key}
-use Rattle.guide_receiver.proofs.Shown.{counted-push}
+use Rattle.guide_receiver.proofs.Shown.{counted-push, heard-push}
 use Rattle.guide_receiver.proofs.receiver.Receiver.hear.Goals as goal
 
 pub returns-clause-dones : goal.returns-clause-dones
 returns-clause-dones c =
     λ past stands.
     let kept = subst (ReceiverStandsFor past) (sym c.self.view_is) stands in
-    let heard : c.as_slice.result.now ≡ ended_by past c.args.packet.now = c.as_slice.ensures ∙ c.in-Ok-hear.ensures.heard past kept.sections in
+    let heard : c.as_slice-2.result.now ≡ ended_by past c.args.packet.now = c.as_slice-2.ensures ∙ c.in-Ok-hear.ensures.heard past kept.sections in
     c.in-Ok-count_all.ensures.dones (counted_heard past) kept.completions
-    ∙ ap (λ t. t ++ map done_key (dones (counted_heard past) (counted_among c.as_slice.result.now))) c.new-dones.ensures
+    ∙ ap (λ t. t ++ map done_key (dones (counted_heard past) (counted_among c.as_slice-2.result.now))) c.new-dones.ensures
     ∙ ap (λ (t : List RawSection). map done_key (dones (counted_heard past) (counted_among t))) heard
 
 pub returns-clause-stands : goal.returns-clause-stands
 returns-clause-stands c =
     λ past stands.
     let kept = subst (ReceiverStandsFor past) (sym c.self.view_is) stands in
-    let heard : c.as_slice.result.now ≡ ended_by past c.args.packet.now = c.as_slice.ensures ∙ c.in-Ok-hear.ensures.heard past kept.sections in
+    let packet = c.args.packet.now in
+    let ended : c.as_slice.result.now ≡ ended_by past packet = c.as_slice.ensures ∙ c.in-Ok-hear.ensures.heard past kept.sections in
+    let heard : c.as_slice-2.result.now ≡ ended_by past packet = c.as_slice-2.ensures ∙ c.in-Ok-hear.ensures.heard past kept.sections in
+    let counted = ap (λ (t : List RawSection). counted_heard past ++ counted_among t) heard ∙ sym (counted-push past packet) in
+    let all = ap (λ (t : List RawSection). heard_all [] past ++ t) ended ∙ sym (heard-push past packet) in
     record {
       sections = c.in-Ok-hear.ensures.stands past kept.sections;
-      completions = subst (λ (t : List Counted). CollectorStandsFor t c.count_all.new.collector)
-          (ap (λ (t : List RawSection). counted_heard past ++ counted_among t) heard ∙ sym (counted-push past c.args.packet.now))
+      completions = subst (λ (t : List Counted). CollectorStandsFor t c.count_all.new.collector) counted
           (c.in-Ok-count_all.ensures.stands (counted_heard past) kept.completions);
+      latest = subst (λ (t : List Counted). AreLatest (keys_shown t) (kept_keys c.count_all.new.latest)) counted
+          (c.in-Ok-count_all.ensures.latest (counted_heard past) kept.completions kept.latest);
+      clock = subst (λ (t : List RawSection). IsClock t c.in-Ok-clock_behind.clock) all
+          (c.in-Ok-clock_behind.ensures (heard_all [] past) kept.clock);
     }

@@ -1,0 +1,2 @@
+pub mod Genres
+mod Rows

@@ -1,0 +1,100 @@
+-- What was heard last, with one more.
+use Rattle.std.proofs.Common.{◌≡◌, ℕ, ◌+◌, ◌<◌, Bool, true, false, List, [], ◌∷◌, ◌++◌, refl, sym, ap, ◌∙◌, subst, map, take, length, get_or, append-nil, append_assoc, Option, Some, None, option_map, if◌then◌else◌}
+use Rattle.std.specs.Prelude.{◌==◌, cond, filter, filter_map}
+use Rattle.std.specs.Ordering.{nat_cmp}
+use Rattle.std.specs.BTreeMap.{get, is_at}
+use Rattle.std.specs.Cmp.{unsigned_ties}
+use Rattle.std.specs.Map.{lookup}
+use Rattle.std.specs.Option.{option_or}
+use Rattle.std.specs.List.{cons_option}
+use Rattle.std.proofs.lemmas.List.{map-append, take_more}
+use Rattle.std.proofs.lemmas.List.Elements.{filter-append, filter_map-append}
+use Rattle.si_time.specs.declared.moment.Moment.{Moment}
+use Rattle.section_codec.specs.declared.table.Key.{Key}
+use Rattle.ts_demux.specs.declared.section.RawSection.{RawSection}
+use Rattle.sub_collect.specs.Runs.{Counted}
+use Rattle.sub_collect.specs.Completions.{dones}
+use Rattle.sub_collect.specs.declared.completed.Completed.{Completed}
+use Rattle.sub_collect.proofs.Done.{dones-go_on}
+use Rattle.guide_screen.specs.View.{View, sdt_of, sdt_behind}
+use Rattle.guide_receiver.specs.declared.done.DoneKey.{DoneKey}
+use Rattle.guide_receiver.specs.declared.latest_keys.LatestKeys.{LatestKeys}
+use Rattle.guide_receiver.specs.Heard.{done_key}
+use Rattle.guide_receiver.specs.Latest.{LatestKept, sdt_in, last_of, keys_shown, is_pat_key, is_nit_key, is_sdt_key, moment_in, clock_of, AreLatest, IsClock}
+
+last-push : {X : Type 0} (xs : List X) (x : X) → last_of (xs ++ x ∷ []) ≡ Some x
+last-push [] x = refl
+last-push (y ∷ ys) x = ap (λ o. option_or o (Some y)) (last-push ys x)
+
+last_that-push : {X : Type 0} (test : X → Bool) (xs : List X) (x : X) → last_of (filter test (xs ++ x ∷ [])) ≡ (if test x then Some x else last_of (filter test xs))
+last_that-push test xs x = ap last_of (filter-append test xs (x ∷ [])) ∙ go (test x)
+  where
+    go : (b : Bool) → last_of (filter test xs ++ cond b (x ∷ []) []) ≡ (if b then Some x else last_of (filter test xs))
+    go true = last-push (filter test xs) x
+    go false = ap last_of (append-nil (filter test xs))
+
+-- ---- keys
+
+-- one more key was completed
+pub key-put : (keys : List Key) (k : Key) (old new : LatestKept) → AreLatest keys old
+    → new.pat ≡ (if is_pat_key k then Some k else old.pat)
+    → new.nit ≡ (if is_nit_key k then Some k else old.nit)
+    → ((ext : ℕ) → sdt_in ext new.sdts ≡ (if is_sdt_key ext k then Some k else sdt_in ext old.sdts))
+    → AreLatest (keys ++ k ∷ []) new
+key-put keys k old new are pat nit sdts = record {
+  pat = pat ∙ ap (λ o. if is_pat_key k then Some k else o) are.pat ∙ sym (last_that-push is_pat_key keys k);
+  nit = nit ∙ ap (λ o. if is_nit_key k then Some k else o) are.nit ∙ sym (last_that-push is_nit_key keys k);
+  sdts = λ ext. sdts ext ∙ ap (λ o. if is_sdt_key ext k then Some k else o) (are.sdts ext) ∙ sym (last_that-push (is_sdt_key ext) keys k);
+}
+
+-- the SDT of a transport_stream_id, as the map has it
+pub sdt_in-get : (ext : ℕ) (es : List (ℕ × Key)) → lookup (is_at (nat_cmp ext)) es ≡ sdt_in ext es
+sdt_in-get ext [] = refl
+sdt_in-get ext (e ∷ es) =
+    ap (λ (b : Bool). cond b (Some e.1) (lookup (is_at (nat_cmp ext)) es)) (sym (unsigned_ties ext e.0))
+    ∙ ap (λ (o : Option Key). if ext == e.0 then Some e.1 else o) (sdt_in-get ext es)
+
+-- the SDT of a view, as it is kept
+pub sdt-kept : (V : View) (keys : LatestKeys) (sdt : Option Key) → V.pat ≡ keys.pat → ((ext : ℕ) → V.sdt ext ≡ sdt_in ext keys.sdts.entries)
+    → ((pat : Key) → keys.pat ≡ Some pat → sdt ≡ get nat_cmp keys.sdts pat.ext) → (keys.pat ≡ None → sdt ≡ None) → sdt_of V ≡ sdt
+sdt-kept V keys sdt pat is some none = ap (sdt_behind V) pat ∙ go keys.pat refl
+  where
+    go : (o : Option Key) → keys.pat ≡ o → sdt_behind V o ≡ sdt
+    go None e = sym (none e)
+    go (Some p) e = is p.ext ∙ sym (sdt_in-get p.ext keys.sdts.entries) ∙ sym (some p e)
+
+keys_of_dones : (ds : List Completed) → map (λ (d : DoneKey). d.key) (map done_key ds) ≡ map (λ (d : Completed). d.key) ds
+keys_of_dones [] = refl
+keys_of_dones (d ∷ ds) = ap (λ t. d.key ∷ t) (keys_of_dones ds)
+
+-- the keys that more sections complete
+pub keys-more : (past more : List Counted) → keys_shown (past ++ more) ≡ keys_shown past ++ map (λ (d : DoneKey). d.key) (map done_key (dones past more))
+keys-more past more =
+    ap (map (λ (d : Completed). d.key)) (dones-go_on [] past more)
+    ∙ map-append (λ (d : Completed). d.key) (dones [] past) (dones past more)
+    ∙ ap (λ t. keys_shown past ++ t) (sym (keys_of_dones (dones past more)))
+
+-- ---- the clock
+
+-- one section more
+pub clock-push : (sections : List RawSection) (s : RawSection) → clock_of (sections ++ s ∷ []) ≡ option_or (moment_in s) (clock_of sections)
+clock-push sections s = ap last_of (filter_map-append moment_in sections (s ∷ [])) ∙ go (moment_in s)
+  where
+    go : (o : Option ℕ) → last_of (filter_map moment_in sections ++ cons_option o []) ≡ option_or o (clock_of sections)
+    go None = ap last_of (append-nil (filter_map moment_in sections))
+    go (Some at) = last-push (filter_map moment_in sections) at
+
+-- one section more, and its moment, where it tells one
+pub clock-next : (sections : List RawSection) (s : RawSection) (before at : Option Moment) → IsClock sections before → option_map (λ (t : Moment). t.0) at ≡ moment_in s
+    → IsClock (sections ++ s ∷ []) (option_or at before)
+clock-next sections s before None is told =
+    is ∙ ap (λ o. option_or o (clock_of sections)) told ∙ sym (clock-push sections s)
+clock-next sections s before (Some at) is told =
+    ap (λ o. option_or o (clock_of sections)) told ∙ sym (clock-push sections s)
+
+pub clock-step : (past sections : List RawSection) (i : ℕ) (item : RawSection) (before at now : Option Moment) → i < length sections → item ≡ get_or sections i item
+    → IsClock (past ++ take i sections) before → option_map (λ (t : Moment). t.0) at ≡ moment_in item → now ≡ option_or at before → IsClock (past ++ take (i + 1) sections) now
+clock-step past sections i item before at now lt is clock told kept =
+    subst (λ (t : List RawSection). IsClock t now)
+    (append_assoc past (take i sections) (item ∷ []) ∙ ap (λ t. past ++ t) (sym (take_more sections i item lt ∙ ap (λ x. take i sections ++ x ∷ []) (sym is))))
+    (subst (λ (o : Option Moment). IsClock ((past ++ take i sections) ++ item ∷ []) o) (sym kept) (clock-next (past ++ take i sections) item before at clock told))

@@ -1,0 +1,24 @@
+-- The heard guide of a packet list: what a receiver that heard just these packets has to show (EN 300 468, 5.2).
+use Rattle.std.specs.Prelude.{ℕ, List, [], filter}
+use Rattle.ts_demux.specs.Sections.{heard_all}
+use Rattle.guide_screen.specs.View.{View}
+use Rattle.guide_screen.specs.Holding.{content_in}
+use Rattle.guide_screen.specs.Screen.{heard_of}
+use Rattle.guide_screen.specs.declared.need.Heard.{Heard}
+use Rattle.guide_receiver.specs.Heard.{counted_heard}
+use Rattle.guide_receiver.specs.Latest.{last_of, keys_shown, is_pat_key, is_nit_key, is_sdt_key, clock_of}
+
+-- What is heard: of each key the content that it completed last; of the PAT, of the NIT and of the SDT of each
+-- transport_stream_id the key whose completion was shown last; and the moment that the last TDT tells.
+abbrev pub view_of : List (List ℕ) → View
+view_of packets = record {
+  content = content_in (counted_heard packets);
+  pat = last_of (filter is_pat_key (keys_shown (counted_heard packets)));
+  nit = last_of (filter is_nit_key (keys_shown (counted_heard packets)));
+  sdt = λ ext. last_of (filter (is_sdt_key ext) (keys_shown (counted_heard packets)));
+  clock = clock_of (heard_all [] packets);
+}
+
+-- what is shown of it: the needs that are not met, or the whole screen
+abbrev pub guide_of : List (List ℕ) → Heard
+guide_of packets = heard_of (view_of packets)

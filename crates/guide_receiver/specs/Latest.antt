@@ -1,0 +1,82 @@
+-- What was heard last: of the tables that come once, the key that was completed last, and the moment of the last time and date table
+-- (ISO/IEC 13818-1, 2.4.4.3; EN 300 468, 5.2.1, 5.2.3 and 5.2.5).
+use Rattle.std.specs.Prelude.{◌≡◌, ℕ, Bool, ◌&&◌, ◌==◌, if◌then◌else◌, List, [], ◌∷◌, map, filter, filter_map, Option, Some, None, option_map, Result, Ok, Err}
+use Rattle.std.specs.Option.{option_or}
+use Rattle.si_time.specs.declared.moment.Moment.{Moment}
+use Rattle.section_codec.specs.declared.table.Key.{Key}
+use Rattle.section_codec.specs.declared.section.Section.{Section}
+use Rattle.section_codec.specs.declared.section.Section.TheVariants.{Long, Short}
+use Rattle.section_codec.specs.declared.section.BadSection.{BadSection}
+use Rattle.section_codec.specs.Section.{section_in}
+use Rattle.time_tables.specs.Tdt.{tdt_in}
+use Rattle.ts_demux.specs.declared.section.RawSection.{RawSection}
+use Rattle.sub_collect.specs.Runs.{Counted}
+use Rattle.sub_collect.specs.Completions.{dones}
+use Rattle.sub_collect.specs.declared.completed.Completed.{Completed}
+use Rattle.guide_receiver.specs.declared.latest_keys.LatestKeys.{LatestKeys}
+
+-- the last of a list
+abbrev pub last_of : {X : Type 0} → List X → Option X
+last_of [] = None
+last_of (x ∷ xs) = option_or (last_of xs) (Some x)
+
+-- ---- keys
+
+-- the keys of the completions that these sections show, in order
+abbrev pub keys_shown : List Counted → List Key
+keys_shown heard = map (λ (d : Completed). d.key) (dones [] heard)
+
+abbrev pub is_pat_key : Key → Bool
+is_pat_key k = k.table == 0x00
+
+abbrev pub is_nit_key : Key → Bool
+is_nit_key k = k.table == 0x40
+
+-- the SDT of a transport_stream_id, of any network
+abbrev pub is_sdt_key : ℕ → Key → Bool
+is_sdt_key ext k = k.table == 0x42 && k.ext == ext
+
+-- ---- the clock
+
+-- UTC_time of a TDT, which has table_id 0x70 in the short form
+abbrev pub moment_of : Section → Option ℕ
+moment_of (Long h body) = None
+moment_of (Short table body) = if table == 0x70 then tdt_in body else None
+
+abbrev pub moment_by : Result Section BadSection → Option ℕ
+moment_by (Ok section) = moment_of section
+moment_by (Err bad) = None
+
+-- TDTs come on PID 0x0014
+abbrev pub moment_in : RawSection → Option ℕ
+moment_in raw = if raw.pid == 0x0014 then moment_by (section_in raw.bytes) else None
+
+-- the last moment that these sections tell
+abbrev pub clock_of : List RawSection → Option ℕ
+clock_of sections = last_of (filter_map moment_in sections)
+
+-- ---- what is kept
+
+-- the keys of the PAT and of the NIT, and by transport_stream_id those of the SDTs
+pub record LatestKept : Type 0 where
+  pub pat : Option Key
+  pub nit : Option Key
+  pub sdts : List (ℕ × Key)
+
+abbrev pub kept_keys : LatestKeys → LatestKept
+kept_keys keys = record { pat = keys.pat; nit = keys.nit; sdts = keys.sdts.entries }
+
+-- the SDT that is kept of a transport_stream_id
+abbrev pub sdt_in : ℕ → List (ℕ × Key) → Option Key
+sdt_in ext [] = None
+sdt_in ext (entry ∷ entries) = if ext == entry.0 then Some entry.1 else sdt_in ext entries
+
+-- These are the latest of the keys that were completed, in this order.
+pub record AreLatest (keys : List Key) (latest : LatestKept) : Type 0 where
+  pub pat : latest.pat ≡ last_of (filter is_pat_key keys)
+  pub nit : latest.nit ≡ last_of (filter is_nit_key keys)
+  pub sdts : (ext : ℕ) → sdt_in ext latest.sdts ≡ last_of (filter (is_sdt_key ext) keys)
+
+-- This is the moment that these sections tell last.
+abbrev pub IsClock : List RawSection → Option Moment → Type 0
+IsClock sections clock = option_map (λ (at : Moment). at.0) clock ≡ clock_of sections

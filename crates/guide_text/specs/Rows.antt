@@ -1,0 +1,119 @@
+-- Worked guides.
+use Rattle.std.specs.Prelude.{◌≡◌, [], ◌∷◌, Some, None, codes, refl}
+use Rattle.std.specs.Fmt.{digits}
+use Rattle.hex.specs.Hex.{encode_with}
+use Rattle.si_time.specs.Moments.{moments_compute}
+use Rattle.si_text.specs.declared.shown.Shown.TheVariants.{Text, Hex}
+use Rattle.guide_model.specs.declared.screen.ScreenEvent.{ScreenEvent}
+use Rattle.guide_model.specs.declared.screen.ScreenService.{ScreenService}
+use Rattle.guide_model.specs.declared.screen.Screen.{Screen}
+use Rattle.guide_screen.specs.declared.need.Need.TheVariants.{Pat, Nit, Sdt, Clock, Pmt, Present, Schedule}
+use Rattle.guide_screen.specs.declared.need.Heard.TheVariants.{Whole, Wanting}
+use Rattle.guide_text.specs.Guides.{event_line, component_line, service_line, cable_line, guide_text}
+
+-- nothing was heard
+row_nothing : guide_text (Wanting (Pat ∷ Nit ∷ Sdt ∷ Clock ∷ [])) ≡ codes "wanting\tpat\nwanting\tnit\nwanting\tsdt\nwanting\tclock\nend\n"
+row_nothing = refl
+
+row_wanting : guide_text (Wanting (Pmt 256 101 ∷ Present 101 ∷ Schedule 101 0x50 ∷ [])) ≡ codes "wanting\tpmt\t256\t101\nwanting\tpresent\t101\nwanting\tschedule\t101\t80\nend\n"
+unfolding digits
+row_wanting = refl
+
+-- one service without events, at 1970-01-01
+abbrev row_service : ScreenService
+row_service = record {
+  service = 101;
+  kind = 1;
+  provider = Text (codes "Acme");
+  name = Text (codes "News");
+  pmt_pid = Some 256;
+  pcr_pid = Some 257;
+  components = [];
+  now = None;
+  next = None;
+  events = [];
+}
+
+abbrev row_screen : Screen
+row_screen = record {
+  clock = record { 0 = 3506716800 };
+  network = 40;
+  network_name = Text (codes "Demo");
+  stream = 1;
+  original = 1;
+  cable = None;
+  services = row_service ∷ [];
+}
+
+row_whole : guide_text (Whole row_screen) ≡ codes "clock\t1970-01-01T00:00:00Z\nnetwork\t40\tDemo\nstream\t1\t1\nservice\t101\t1\tAcme\tNews\t256\t257\nend\n"
+unfolding digits moments_compute
+row_whole = refl
+
+-- 312.0000 MHz, 64-QAM, 6.8750 Msymbol/s
+row_cable : cable_line (record { frequency = 3120000; modulation = 3; symbol_rate = 68750; fec_outer = 2; fec_inner = 15 }) ≡ codes "cable\t3120000\t3\t68750\t2\t15\n"
+unfolding digits
+row_cable = refl
+
+-- an event that was told whole
+abbrev row_event : ScreenEvent
+row_event = record {
+  id = 7;
+  start = record { 0 = 4257233100 };
+  seconds = 6330;
+  language = codes "eng";
+  name = Text (codes "News");
+  short = Text (codes "At noon");
+  extended = Hex (0x0A ∷ 0xFF ∷ []);
+  rating = Some (record { country = codes "GBR"; value = 9 });
+  genres = record { level1 = 2; level2 = 0; user = 255 } ∷ record { level1 = 8; level2 = 1; user = 0 } ∷ [];
+}
+
+row_event_line : event_line (codes "event") row_event ≡ codes "event\t7\t1993-10-13T12:45:00Z\t01:45:30\teng\tNews\tAt noon\thex:0aff\tGBR\t9\t2.0.255 8.1.0\n"
+unfolding digits moments_compute encode_with
+row_event_line = refl
+
+-- one with the least: a language that is not of letters, no texts, no rating and no genres
+abbrev row_bare : ScreenEvent
+row_bare = record {
+  id = 65535;
+  start = record { 0 = 0 };
+  seconds = 0;
+  language = 0x65 ∷ 0x6E ∷ 0x31 ∷ [];
+  name = Text [];
+  short = Text [];
+  extended = Text [];
+  rating = None;
+  genres = [];
+}
+
+row_bare_line : event_line (codes "next") row_bare ≡ codes "next\t65535\t1858-11-17T00:00:00Z\t00:00:00\thex:656e31\t\t\t\t\t\t\n"
+unfolding digits moments_compute encode_with
+row_bare_line = refl
+
+-- a component with a language and one without
+row_component : component_line (record { stream_type = 3; pid = 258; language = Some (codes "deu") }) ≡ codes "component\t3\t258\tdeu\n"
+unfolding digits
+row_component = refl
+
+row_no_language : component_line (record { stream_type = 27; pid = 257; language = None }) ≡ codes "component\t27\t257\t\n"
+unfolding digits
+row_no_language = refl
+
+-- a service that no program has, and whose name is no text
+abbrev row_alone : ScreenService
+row_alone = record {
+  service = 5;
+  kind = 0;
+  provider = Text [];
+  name = Hex (0x05 ∷ 0xA4 ∷ []);
+  pmt_pid = None;
+  pcr_pid = None;
+  components = [];
+  now = None;
+  next = None;
+  events = [];
+}
+
+row_alone_line : service_line row_alone ≡ codes "service\t5\t0\t\thex:05a4\t\t\n"
+unfolding digits encode_with
+row_alone_line = refl

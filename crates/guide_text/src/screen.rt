@@ -1,0 +1,77 @@
+// The lines of a whole screen.
+ghost use Rattle.std.specs.Prelude.{◌≡◌, ◌++◌, OnOk};
+ghost use Rattle.guide_text.specs.Fields.{optional};
+ghost use Rattle.guide_text.specs.Guides.{clock_line, network_line, stream_line, cable_line, screen_text};
+
+use crate::field::{put_decimal, put_moment, put_shown};
+use crate::service::put_services;
+use guide_model::{Cable, Screen};
+use si_time::Moment;
+use std::alloc::{AllocError, Global};
+
+// Appends the line of the last moment that was heard.
+fn put_clock(out: &mut Vec<u8>, clock: Moment) -> Result<(), AllocError>
+    ensures { OnOk result (out.new.items ≡ out.old.items ++ clock_line clock.0) }
+{
+    out.extend_from_slice(b"clock")?;
+    put_moment(out, clock)?;
+    out.extend_from_slice(b"\n")
+}
+
+// Appends the line of the network.
+fn put_network(alloc: Global, out: &mut Vec<u8>, screen: &Screen) -> Result<(), AllocError>
+    ensures { OnOk result (out.new.items ≡ out.old.items ++ network_line screen.now) }
+{
+    out.extend_from_slice(b"network")?;
+    put_decimal(alloc, out, u64::from(screen.network))?;
+    put_shown(alloc, out, &screen.network_name)?;
+    out.extend_from_slice(b"\n")
+}
+
+// Appends the line of the stream.
+fn put_stream(alloc: Global, out: &mut Vec<u8>, screen: &Screen) -> Result<(), AllocError>
+    ensures { OnOk result (out.new.items ≡ out.old.items ++ stream_line screen.now) }
+{
+    out.extend_from_slice(b"stream")?;
+    put_decimal(alloc, out, u64::from(screen.stream))?;
+    put_decimal(alloc, out, u64::from(screen.original))?;
+    out.extend_from_slice(b"\n")
+}
+
+// Appends the line of how the stream is sent by cable.
+fn put_cable(alloc: Global, out: &mut Vec<u8>, cable: Cable) -> Result<(), AllocError>
+    ensures { OnOk result (out.new.items ≡ out.old.items ++ cable_line cable) }
+{
+    out.extend_from_slice(b"cable")?;
+    put_decimal(alloc, out, u64::from(cable.frequency))?;
+    put_decimal(alloc, out, u64::from(cable.modulation))?;
+    put_decimal(alloc, out, u64::from(cable.symbol_rate))?;
+    put_decimal(alloc, out, u64::from(cable.fec_outer))?;
+    put_decimal(alloc, out, u64::from(cable.fec_inner))?;
+    out.extend_from_slice(b"\n")
+}
+
+// Appends the line of how the stream is sent by cable, where it is told.
+fn put_some_cable(alloc: Global, out: &mut Vec<u8>, cable: Option<Cable>) -> Result<(), AllocError>
+    ensures { OnOk result (out.new.items ≡ out.old.items ++ optional cable_line cable) }
+{
+    match cable {
+        Some(cable) => put_cable(alloc, out, cable),
+        None => Ok(()),
+    }
+}
+
+/// Appends the lines of a screen.
+pub(crate) fn put_screen(
+    alloc: Global,
+    out: &mut Vec<u8>,
+    screen: &Screen,
+) -> Result<(), AllocError>
+    ensures { OnOk result (out.new.items ≡ out.old.items ++ screen_text screen.now) }
+{
+    put_clock(out, screen.clock)?;
+    put_network(alloc, out, screen)?;
+    put_stream(alloc, out, screen)?;
+    put_some_cable(alloc, out, screen.cable)?;
+    put_services(alloc, out, screen.services.as_slice())
+}

@@ -1,0 +1,48 @@
+-- A worked multiplex: one service without components, which starts at 1970-01-01T00:00:00Z.
+use Rattle.std.specs.Prelude.{[], ◌∷◌, None, codes}
+use Rattle.std.proofs.Common.{lit≤, lit<}
+use Rattle.si_time.specs.declared.moment.Moment.{Moment}
+use Rattle.mux_model.specs.declared.mux.Mux.{Mux}
+use Rattle.mux_model.specs.Sound.{IsSound}
+
+-- 1970-01-01T00:00:00Z
+abbrev pub row_start : Moment
+row_start = record { 0 = 3506716800 }
+
+abbrev pub row_mux : Mux
+row_mux = record {
+  network = 40;
+  network_name = codes "Demo";
+  stream = 1;
+  original = 1;
+  cable = None;
+  start = row_start;
+  quota = 200;
+  services = record { service = 101; feed = 1; kind = 1; pmt_pid = 256; pcr_pid = 257; provider = codes "Acme"; name = codes "One"; components = [] } ∷ [];
+}
+
+pub row_sound : IsSound row_mux
+row_sound = record {
+  network_name = (lit≤ tt, lit≤ tt);
+  cable = tt;
+  start = lit< tt;
+  quota = (lit≤ tt, lit≤ tt);
+  count = (lit≤ tt, lit≤ tt);
+  services = (
+    record {
+      service = (lit≤ tt, lit≤ tt);
+      feed = (lit≤ tt, lit≤ tt);
+      pmt_pid = (lit≤ tt, lit≤ tt);
+      pcr_pid = (lit≤ tt, lit≤ tt);
+      provider = lit≤ tt;
+      name = (lit≤ tt, lit≤ tt);
+      count = lit≤ tt;
+      components = tt;
+      components_once = tt;
+    },
+    tt,
+  );
+  ascend = (tt, tt);
+  pmts_once = (tt, tt);
+  apart = (tt, tt);
+}

@@ -1,0 +1,82 @@
+-- A sound multiplex: every value in its range, and nothing that has to be single stands twice. What the types of the fields
+-- bound already (16 bits of an id, 8 of a type) is not said again.
+use Rattle.std.specs.Prelude.{◌≡◌, ◌≢◌, ℕ, ◌*◌, ◌<◌, ◌≤◌, List, [], ◌∷◌, length, Option, Some, None, map}
+use Rattle.std.specs.List.{AllByRecursion, flat_map}
+use Rattle.guide_model.specs.declared.stream.Cable.{Cable}
+use Rattle.guide_model.specs.declared.stream.Component.{Component}
+use Rattle.si_text.specs.Coding.{coded_size}
+use Rattle.mux_model.specs.declared.mux.MuxService.{MuxService}
+use Rattle.mux_model.specs.declared.mux.Mux.{Mux}
+
+abbrev pub Between : ℕ → ℕ → ℕ → Type 0
+Between low high n = (low ≤ n) × (n ≤ high)
+
+pub record IsSoundCable (cable : Cable) : Type 0 where
+  pub frequency : cable.frequency ≤ 99999999
+  pub symbol_rate : cable.symbol_rate ≤ 9999999
+  pub fec_outer : cable.fec_outer ≤ 15
+  pub fec_inner : cable.fec_inner ≤ 15
+
+abbrev pub HasSoundCable : Option Cable → Type 0
+HasSoundCable None = Unit {0}
+HasSoundCable (Some cable) = IsSoundCable cable
+
+-- no language, or three letters a to z
+abbrev pub HasSoundLanguage : Option (List ℕ) → Type 0
+HasSoundLanguage None = Unit {0}
+HasSoundLanguage (Some letters) = (length letters ≡ 3) × AllByRecursion (Between 97 122) letters
+
+pub record IsSoundComponent (component : Component) : Type 0 where
+  pub pid : Between 32 8190 component.pid
+  pub language : HasSoundLanguage component.language
+
+-- no number stands twice
+abbrev pub AreDifferent : List ℕ → Type 0
+AreDifferent [] = Unit {0}
+AreDifferent (n ∷ ns) = AllByRecursion (λ m. n ≢ m) ns × AreDifferent ns
+
+abbrev pub component_pids : MuxService → List ℕ
+component_pids s = map (λ (c : Component). c.pid) s.components
+
+pub record IsSoundService (s : MuxService) : Type 0 where
+  pub service : Between 1 65535 s.service
+  pub feed : Between 1 16 s.feed
+  pub pmt_pid : Between 32 8190 s.pmt_pid
+  pub pcr_pid : Between 32 8191 s.pcr_pid
+  pub provider : coded_size s.provider ≤ 100
+  pub name : Between 1 100 (coded_size s.name)
+  pub count : length s.components ≤ 16
+  pub components : AllByRecursion IsSoundComponent s.components
+  pub components_once : AreDifferent (component_pids s)
+
+-- each id is below those behind it
+abbrev pub DoAscend : List MuxService → Type 0
+DoAscend [] = Unit {0}
+DoAscend (s ∷ ss) = AllByRecursion (λ (t : MuxService). s.service < t.service) ss × DoAscend ss
+
+-- the PIDs of the PMTs, and those of all components
+abbrev pub pmt_pids : List MuxService → List ℕ
+pmt_pids ss = map (λ (s : MuxService). s.pmt_pid) ss
+
+abbrev pub all_component_pids : List MuxService → List ℕ
+all_component_pids ss = flat_map component_pids ss
+
+pub record IsSound (mux : Mux) : Type 0 where
+  pub network_name : Between 1 100 (coded_size mux.network_name)
+  pub cable : HasSoundCable mux.cable
+  pub start : mux.start.0 < 65536 * 86400
+  pub quota : Between 1 10000 mux.quota
+  pub count : Between 1 64 (length mux.services)
+  pub services : AllByRecursion IsSoundService mux.services
+  pub ascend : DoAscend mux.services
+  pub pmts_once : AreDifferent (pmt_pids mux.services)
+  -- no component has the PID of a PMT
+  pub apart :
+      AllByRecursion (λ pmt. AllByRecursion (λ pid. pmt ≢ pid) (all_component_pids mux.services)) (pmt_pids mux.services)
+
+-- a sound multiplex, of which the ids are of 16 bits
+pub record IsSoundWithIds (mux : Mux) : Type 0 where
+  pub sound : IsSound mux
+  pub network : mux.network < 65536
+  pub stream : mux.stream < 65536
+  pub original : mux.original < 65536
