@@ -5,18 +5,18 @@ use Rattle.std.specs.List.{AllByRecursion, filter_map, cons_option}
 use Rattle.std.proofs.lemmas.Bool.{cases_Bool}
 use Rattle.si_lists.proofs.Lists.{all_push}
 use Rattle.si_time.specs.declared.moment.Moment.{Moment}
-use Rattle.mux_config.specs.declared.mux.Mux.{Mux}
-use Rattle.mux_config.specs.Sound.{IsSound}
+use Rattle.mux_model.specs.declared.mux.Mux.{Mux}
+use Rattle.mux_model.specs.Sound.{IsSound}
 use Rattle.guide_limits.specs.Standing.{last_or}
-use Rattle.desk_core.specs.declared.step.Step.{Step}
-use Rattle.desk_core.specs.declared.step.Step.TheVariants.{Edit as edit, Tick, Publish, Swap}
-use Rattle.desk_core.specs.declared.step.Outcome.{Outcome}
-use Rattle.desk_core.specs.declared.step.Outcome.TheVariants.{Edited, Ticked, Late, Published, Swapped}
-use Rattle.desk_core.specs.declared.step.Entry.{Entry}
-use Rattle.desk_core.specs.Steps.{IsStepWithin}
+use Rattle.journal_model.specs.declared.step.Step.{Step}
+use Rattle.journal_model.specs.declared.step.Step.TheVariants.{Edit as edit, Tick, Publish, Swap}
+use Rattle.journal_model.specs.declared.step.Outcome.{Outcome}
+use Rattle.journal_model.specs.declared.step.Outcome.TheVariants.{Edited, Ticked, Late, Published, Swapped}
+use Rattle.journal_model.specs.declared.step.Entry.{Entry}
+use Rattle.journal_model.specs.Steps.{IsStepWithin}
 use Rattle.desk_core.specs.Journal.{LegalAfter, later_of, latest_of_all, ticked_by, moment_of, outcome_of}
 use Rattle.desk_core.specs.Publications.{aired_by}
-use Rattle.desk_core.specs.declared.step.Airing.{Airing}
+use Rattle.desk_core.specs.declared.airing.Airing.{Airing}
 use Rattle.desk_core.specs.declared.derived.Derived.{Derived}
 use Rattle.desk_core.specs.Holding.{IsDerived}
 use Rattle.desk_core.proofs.HeldFacts.{not_aired}

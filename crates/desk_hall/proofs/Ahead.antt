@@ -2,12 +2,12 @@
 use Rattle.std.proofs.Common.{◌≡◌, ℕ, List, [], ◌∷◌, refl, ap, ◌∙◌}
 use Rattle.std.specs.Prelude.{Option, Some, None, option_and_then}
 use Rattle.input_lines.specs.Fields.{record_of}
-use Rattle.feed_edits.specs.declared.edit.Edit.{Edit}
+use Rattle.journal_model.specs.declared.edit.Edit.{Edit}
 use Rattle.feed_edits.specs.Ahead.{Ahead, Row, Tail, Found, Came, Stopped, Stop}
 use Rattle.feed_edits.specs.Edits.{and_edits, edits_ahead, first_edit, on_line}
 use Rattle.feed_edits.proofs.Fewer.{edits_go_on}
-use Rattle.desk_core.specs.declared.control.Control.{Control}
-use Rattle.desk_core.specs.Controls.{first_control, control_of}
+use Rattle.journal_model.specs.declared.control.Control.{Control}
+use Rattle.control_lines.specs.Controls.{first_control, control_of}
 use Rattle.desk_hall.specs.Reads.{and_control, controls_in, controls_ahead}
 use Rattle.desk_hall.proofs.Follows.{and_all}
 

@@ -10,8 +10,8 @@ use Rattle.feed_edits.specs.declared.stop.EditStop.{EditStop}
 use Rattle.feed_edits.specs.declared.stop.EditStop.TheVariants.{NoCommand as Refused, Read, Memory}
 use Rattle.feed_edits.specs.Ahead.{Ahead, Found, Came, Stopped, Stop, End, ahead}
 use Rattle.feed_edits.specs.Reads.{Gives, Leaves, Passes, Takes}
-use Rattle.desk_core.specs.declared.step.Step.{Step}
-use Rattle.desk_core.specs.declared.step.Outcome.{Outcome}
+use Rattle.journal_model.specs.declared.step.Step.{Step}
+use Rattle.journal_model.specs.declared.step.Outcome.{Outcome}
 use Rattle.desk_hall.specs.Turn.{View, Made, Idle}
 use Rattle.desk_hall.specs.Reads.{DidEach, ToldDid, TakenDid, HasReadCause}
 use Rattle.desk_hall.proofs.Passes.{each_none, each_more, each_idle}

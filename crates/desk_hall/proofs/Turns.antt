@@ -1,14 +1,14 @@
 -- One turn: what a step appends, and what a swap puts on air.
 use Rattle.std.proofs.Common.{◌≡◌, ℕ, List, [], ◌∷◌, ◌++◌, refl, sym, ap, ◌∙◌, subst, arith, inl, inr, append-nil}
 use Rattle.std.specs.Prelude.{Option, Some, None, Result, Ok, Err, IfOk, OnErr}
-use Rattle.mux_config.specs.declared.mux.Mux.{Mux}
+use Rattle.mux_model.specs.declared.mux.Mux.{Mux}
 use Rattle.guide_model.specs.declared.guide.Guide.{Guide}
-use Rattle.desk_core.specs.declared.step.Step.{Step}
-use Rattle.desk_core.specs.declared.step.Step.TheVariants.{Swap}
-use Rattle.desk_core.specs.declared.step.Outcome.{Outcome}
-use Rattle.desk_core.specs.declared.step.Outcome.TheVariants.{Swapped}
-use Rattle.desk_core.specs.declared.step.Entry.{Entry}
-use Rattle.desk_core.specs.declared.step.Airing.{Airing}
+use Rattle.journal_model.specs.declared.step.Step.{Step}
+use Rattle.journal_model.specs.declared.step.Step.TheVariants.{Swap}
+use Rattle.journal_model.specs.declared.step.Outcome.{Outcome}
+use Rattle.journal_model.specs.declared.step.Outcome.TheVariants.{Swapped}
+use Rattle.journal_model.specs.declared.step.Entry.{Entry}
+use Rattle.desk_core.specs.declared.airing.Airing.{Airing}
 use Rattle.desk_core.specs.Journal.{publishes, moment_of}
 use Rattle.desk_core.specs.Publications.{airing_of}
 use Rattle.desk_core.specs.Desks.{DeskState, and_entry, latest_of, on_air_of}

@@ -5,17 +5,17 @@ use Rattle.si_causes.specs.Reading.{Reading}
 use Rattle.si_causes.specs.declared.stop.ReadStop.TheVariants.{Failed, TooLong as Overlong}
 use Rattle.input_lines.specs.Fields.{record_of}
 use Rattle.input_lines.specs.Going.{WereWhole}
-use Rattle.feed_edits.specs.declared.edit.Edit.{Edit}
+use Rattle.journal_model.specs.declared.edit.Edit.{Edit}
 use Rattle.feed_edits.specs.declared.stop.EditStop.{EditStop}
 use Rattle.feed_edits.specs.declared.stop.EditStop.TheVariants.{NoCommand as Refused, Read, Memory}
 use Rattle.feed_edits.specs.Ahead.{Ahead, Row, Tail, Breaks, Found, Came, Stopped, Stop, End, NoCommand, TooLong, Unread, stop_at}
 use Rattle.feed_edits.specs.Reads.{ahead_with}
-use Rattle.desk_core.specs.declared.control.Control.{Control}
-use Rattle.desk_core.specs.declared.control.Control.TheVariants.{Tick as tick, Publish as publish}
-use Rattle.desk_core.specs.declared.step.Step.{Step}
-use Rattle.desk_core.specs.declared.step.Step.TheVariants.{Edit as edit, Tick, Publish}
-use Rattle.desk_core.specs.Journal.{Command}
-use Rattle.desk_core.specs.Controls.{control_of}
+use Rattle.journal_model.specs.declared.control.Control.{Control}
+use Rattle.journal_model.specs.declared.control.Control.TheVariants.{Tick as tick, Publish as publish}
+use Rattle.journal_model.specs.declared.step.Step.{Step}
+use Rattle.journal_model.specs.declared.step.Step.TheVariants.{Edit as edit, Tick, Publish}
+use Rattle.journal_model.specs.Steps.{Command}
+use Rattle.control_lines.specs.Controls.{control_of}
 use Rattle.desk_hall.specs.Turn.{View, Did}
 
 -- ---- what is asked for

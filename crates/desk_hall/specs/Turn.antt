@@ -1,15 +1,16 @@
 -- What one turn does to the journal of a desk, and to what its pass knows.
 use Rattle.std.specs.Prelude.{◌≡◌, ◌⊎◌, ◌<◌, ◌*◌, ℕ, List, [], ◌∷◌, ◌++◌, map, Option, Some, Ok, Err, Result}
 use mathlib.Core.List.{IsPrefix}
-use Rattle.mux_config.specs.declared.mux.Mux.{Mux}
+use Rattle.mux_model.specs.declared.mux.Mux.{Mux}
 use Rattle.guide_limits.specs.Limits.{IsGuideWithin}
-use Rattle.desk_core.specs.declared.step.Step.{Step}
-use Rattle.desk_core.specs.declared.step.Step.TheVariants.{Swap}
-use Rattle.desk_core.specs.declared.step.Outcome.{Outcome}
-use Rattle.desk_core.specs.declared.step.Outcome.TheVariants.{Swapped}
-use Rattle.desk_core.specs.declared.step.Entry.{Entry}
-use Rattle.desk_core.specs.declared.step.Airing.{Airing}
-use Rattle.desk_core.specs.Journal.{Command, Legal, command_of, outcome_of}
+use Rattle.journal_model.specs.declared.step.Step.{Step}
+use Rattle.journal_model.specs.declared.step.Step.TheVariants.{Swap}
+use Rattle.journal_model.specs.declared.step.Outcome.{Outcome}
+use Rattle.journal_model.specs.declared.step.Outcome.TheVariants.{Swapped}
+use Rattle.journal_model.specs.declared.step.Entry.{Entry}
+use Rattle.desk_core.specs.declared.airing.Airing.{Airing}
+use Rattle.desk_core.specs.Journal.{Legal, outcome_of}
+use Rattle.journal_model.specs.Steps.{Command, command_of}
 use Rattle.desk_core.specs.Desks.{DeskState, latest_of, on_air_of}
 use Rattle.turn_lock.specs.Knowledge.{Knowledge, IsExact, numbers}
 

@@ -2,7 +2,7 @@
 ghost use Rattle.std.specs.Prelude.{◌≡◌, ◌≤◌, List, ℕ, None, Some, IfSome};
 ghost use Rattle.std.specs.Io.KnownBytes.{IsAtEnd};
 ghost use Rattle.si_causes.specs.Reading.{text_left};
-ghost use Rattle.feed_edits.specs.declared.edit.Edit.{Edit as AnEdit};
+ghost use Rattle.journal_model.specs.declared.edit.Edit.{Edit as AnEdit};
 ghost use Rattle.feed_edits.specs.declared.stop.EditStop.TheVariants.{Read};
 ghost use Rattle.feed_edits.specs.Ahead.{ahead};
 ghost use Rattle.feed_edits.specs.Edits.{edits_ahead};

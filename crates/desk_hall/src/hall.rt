@@ -1,20 +1,19 @@
 // The hall: a desk that callers use in turns.
 ghost use Rattle.std.specs.Prelude.{◌≡◌, ◌<◌, ◌*◌, ℕ, Some, IfOk, OnErr};
-ghost use Rattle.mux_config.specs.Sound.{IsSound};
+ghost use Rattle.mux_model.specs.Sound.{IsSound};
 ghost use Rattle.guide_limits.specs.Limits.{IsGuideWithin};
-ghost use Rattle.feed_book.specs.Replies.{IsDayWithin};
-ghost use Rattle.desk_core.specs.Steps.{IsStepWithin};
-ghost use Rattle.desk_core.specs.declared.step.Step.TheVariants.{Edit as edit_of, Tick, Publish, Swap};
-ghost use Rattle.desk_core.specs.declared.step.Outcome.TheVariants.{Edited, Ticked, Late, Published, Swapped};
+ghost use Rattle.journal_model.specs.Edits.{IsDayWithin};
+ghost use Rattle.journal_model.specs.Steps.{IsStepWithin};
+ghost use Rattle.journal_model.specs.declared.step.Step.TheVariants.{Edit as edit_of, Tick, Publish, Swap};
+ghost use Rattle.journal_model.specs.declared.step.Outcome.TheVariants.{Edited, Ticked, Late, Published, Swapped};
 ghost use Rattle.turn_lock.specs.Knowledge.{first_pass, Closes, HasAny, numbers};
 ghost use Rattle.desk_core.specs.Journal.{Legal};
 ghost use Rattle.desk_hall.specs.Turn.{Made, Idle, IsAiring, Keeps, caller_of};
 
 use crate::state::{HallPass, HallState, Stepping, Swapping};
-use desk_core::{Airing, Desk, Outcome, Step};
-use feed_book::Reply;
-use feed_edits::Edit;
-use mux_config::Mux;
+use desk_core::{Airing, Desk};
+use journal_model::{Edit, Outcome, Reply, Step};
+use mux_model::Mux;
 use si_time::Moment;
 use std::alloc::{AllocError, Global};
 use std::marker::Model;

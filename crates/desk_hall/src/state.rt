@@ -1,8 +1,9 @@
 // The desk as a state that keeps a journal, and what is done to it in one turn.
-ghost use Rattle.std.specs.Prelude.{◌≡◌};
+ghost use Rattle.std.specs.Prelude.{◌≡◌, ◌<◌, ◌*◌, IfOk, OnErr};
 
-use desk_core::{Airing, Desk, Entry, Outcome, Step};
-use mux_config::Mux;
+use desk_core::{Airing, Desk};
+use journal_model::{Entry, Outcome, Step};
+use mux_model::Mux;
 use std::alloc::AllocError;
 use turn_lock::{Chronicle, Job, Pass};
 
@@ -36,7 +37,7 @@ pub(crate) struct Stepping {
 }
 
 impl Job<HallState> for Stepping {
-    ghost use Rattle.desk_core.specs.Steps.{IsStepWithin};
+    ghost use Rattle.journal_model.specs.Steps.{IsStepWithin};
     ghost use Rattle.desk_hall.specs.Turn.{StepDone};
 
     type Answer = Result<Outcome, AllocError>;
@@ -72,10 +73,9 @@ impl Job<HallState> for Swapping {
     }
 }
 
-ghost use Rattle.std.specs.Prelude.{◌<◌, ◌*◌, IfOk, OnErr};
 ghost use Rattle.guide_limits.specs.Limits.{IsGuideWithin};
-ghost use Rattle.desk_core.specs.declared.step.Step.TheVariants.{Swap};
-ghost use Rattle.desk_core.specs.declared.step.Outcome.TheVariants.{Swapped};
+ghost use Rattle.journal_model.specs.declared.step.Step.TheVariants.{Swap};
+ghost use Rattle.journal_model.specs.declared.step.Outcome.TheVariants.{Swapped};
 ghost use Rattle.desk_core.specs.Desks.{latest_of, and_entry};
 
 // What is latest, and then the swap that puts it on air.

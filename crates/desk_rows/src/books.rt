@@ -1,13 +1,14 @@
 // What a feed book replies to edits, and what stands behind them.
 ghost use Rattle.journal_text.specs.Script.{IsItemWithin};
-ghost use Rattle.mux_config.specs.Sound.{IsSound};
+ghost use Rattle.mux_model.specs.Sound.{IsSound};
 
 use crate::events::put_guide;
 use crate::words::{put_last, put_reply};
-use desk_core::Step;
-use feed_book::{Book, Reply};
+use feed_book::Book;
+use journal_model::{Reply, Step};
 use journal_text::{ScriptItem, next_item};
-use mux_config::{Mux, read_mux};
+use mux_config::read_mux;
+use mux_model::Mux;
 use page_share::PageGuide;
 use row_lines::{Lines, WHOLE, reader};
 use si_time::Moment;

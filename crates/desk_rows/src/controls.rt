@@ -1,6 +1,7 @@
 // What control lines give.
 use crate::words::{put_end, put_last};
-use desk_core::{Control, next_control};
+use control_lines::next_control;
+use journal_model::Control;
 use row_lines::{Lines, moment_text, text_of};
 use si_time::Moment;
 use std::alloc::{AllocError, Global};

@@ -1,12 +1,14 @@
 // What a desk answers to the steps of a script, and what is on air behind them.
-ghost use Rattle.desk_core.specs.Steps.{IsStepWithin};
-ghost use Rattle.mux_config.specs.Sound.{IsSound};
+ghost use Rattle.journal_model.specs.Steps.{IsStepWithin};
+ghost use Rattle.mux_model.specs.Sound.{IsSound};
 
 use crate::events::put_service;
 use crate::words::{put_last, put_outcome};
-use desk_core::{Airing, Desk, Outcome, Step};
+use desk_core::{Airing, Desk};
+use journal_model::{Outcome, Step};
 use journal_text::{ScriptItem, next_item};
-use mux_config::{Mux, read_mux};
+use mux_config::read_mux;
+use mux_model::Mux;
 use page_share::PageGuide;
 use row_lines::{Lines, WHOLE, moment_text, reader, text_of};
 use si_time::Moment;

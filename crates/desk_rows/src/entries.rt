@@ -1,10 +1,8 @@
 // The text of a journal's entry.
 ghost use Rattle.std.specs.Prelude.{IfSome};
-ghost use Rattle.desk_core.specs.Steps.{IsStepWithin};
-ghost use Rattle.journal_text.specs.Entries.{IsEntryInWindow};
-ghost use Rattle.journal_text.specs.Outcomes.{IsInWindow};
+ghost use Rattle.journal_model.specs.Steps.{IsStepWithin, IsEntryInWindow, IsInWindow};
 
-use desk_core::{Entry, Outcome};
+use journal_model::{Entry, Outcome};
 use journal_text::{ScriptItem, next_item, write_entry};
 use row_lines::{Lines, text_of};
 use std::alloc::{AllocError, Global};

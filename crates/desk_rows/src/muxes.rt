@@ -1,7 +1,8 @@
 // What descriptions of a multiplex give.
 use crate::words::put_read_stop;
 use guide_model::{Cable, Component};
-use mux_config::{Mux, MuxFault, MuxService, MuxStop, Word, read_mux};
+use mux_config::{MuxFault, MuxStop, Word, read_mux};
+use mux_model::{Mux, MuxService};
 use row_lines::{Lines, moment_text, text_of};
 use si_causes::ReadStop;
 use std::alloc::{AllocError, Global};

@@ -1,9 +1,9 @@
 // Outcomes as they are read and written.
-ghost use Rattle.journal_text.specs.Outcomes.{IsInWindow};
+ghost use Rattle.journal_model.specs.Steps.{IsInWindow};
 
 use crate::words::put_outcome;
-use desk_core::Outcome;
 use input_lines::fields;
+use journal_model::Outcome;
 use journal_text::{read_outcome, write_outcome};
 use row_lines::{Lines, text_of};
 use std::alloc::{AllocError, Global};

@@ -1,7 +1,6 @@
 // Parts of answers in words.
-use desk_core::Outcome;
-use feed_book::{DayFault, Field, Reply};
 use feed_edits::EditStop;
+use journal_model::{DayFault, Field, Outcome, Reply};
 use row_lines::{moment_text, text_of};
 use si_causes::ReadStop;
 use si_time::Moment;

@@ -9,7 +9,7 @@ use Rattle.si_lists.proofs.Lists.{all_append, all_map, all_two}
 use Rattle.si_base.specs.Fields.{two, two_at}
 use Rattle.guide_model.specs.declared.event.Event.{Event}
 use Rattle.desc_event.specs.EventDescriptors.{entry_size}
-use Rattle.mux_config.specs.declared.mux.Mux.{Mux}
+use Rattle.mux_model.specs.declared.mux.Mux.{Mux}
 use Rattle.guide_limits.specs.Events.{block_of}
 use Rattle.guide_limits.proofs.RunFacts.{runs_fit}
 use Rattle.section_codec.specs.declared.table.NumberedBody.{NumberedBody}
@@ -22,8 +22,7 @@ use Rattle.eit_codec.proofs.ReadBack.{entry-has_its_size, eit-reads_back}
 use Rattle.eit_segments.specs.declared.event.EventAt.{EventAt}
 use Rattle.eit_segments.specs.declared.piece.Piece.{Piece}
 use Rattle.eit_segments.specs.Placement.{in_block, start_block, block_place, present_at, following_at}
-use Rattle.eit_segments.specs.Schedule.{CanBePlaced, block_runs, sections_from, segment_sections, last_used, table_sections, sections_in_table, section_events}
-use Rattle.eit_segments.specs.Schedule.{last_number as last_in_table}
+use Rattle.eit_segments.specs.Schedule.{CanBePlaced, block_runs, sections_from, segment_sections, last_used, table_sections, sections_in_table, section_events, last_number as last_in_table}
 use Rattle.eit_segments.specs.Laws.{at_of, events_of, told_last}
 use Rattle.eit_segments.proofs.Few.{filter_all, sum_map, events_can_be_placed}
 use Rattle.eit_segments.proofs.Lists.{range_more}

@@ -8,11 +8,11 @@ use Rattle.guide_model.specs.declared.event.Event.{Event}
 use Rattle.guide_model.specs.declared.event.Rating.{Rating}
 use Rattle.guide_model.specs.declared.guide.ServiceGuide.{ServiceGuide}
 use Rattle.desc_event.specs.ParentalRating.{HasThreeLetters}
-use Rattle.mux_config.specs.declared.mux.MuxService.{MuxService}
-use Rattle.feed_edits.specs.declared.edit.Item.{Item}
-use Rattle.feed_edits.specs.declared.edit.Edit.{Edit}
-use Rattle.feed_edits.specs.declared.edit.Edit.TheVariants.{Put, Withdraw, Clear, Name, Day}
-use Rattle.feed_edits.specs.Typed.{IsTypedItem, IsTypedEdit}
+use Rattle.mux_model.specs.declared.mux.MuxService.{MuxService}
+use Rattle.journal_model.specs.declared.edit.Item.{Item}
+use Rattle.journal_model.specs.declared.edit.Edit.{Edit}
+use Rattle.journal_model.specs.declared.edit.Edit.TheVariants.{Put, Withdraw, Clear, Name, Day}
+use Rattle.journal_model.specs.Edits.{IsTypedItem, IsTypedEdit}
 use Rattle.guide_limits.specs.Kept.{Kept}
 use Rattle.guide_limits.specs.Guides.{kept_after}
 use Rattle.guide_limits.specs.Readings.{event_of}

@@ -7,9 +7,9 @@ use Rattle.guide_model.specs.declared.guide.Guide.{Guide}
 use Rattle.guide_model.specs.declared.guide.ServiceGuide.{ServiceGuide}
 use Rattle.desc_event.specs.EventDescriptors.{entry_size}
 use Rattle.si_time.specs.declared.moment.Moment.{Moment}
-use Rattle.mux_config.specs.declared.mux.Mux.{Mux}
-use Rattle.feed_edits.specs.declared.edit.Edit.{Edit}
-use Rattle.feed_edits.specs.Typed.{IsTypedEdit}
+use Rattle.mux_model.specs.declared.mux.Mux.{Mux}
+use Rattle.journal_model.specs.declared.edit.Edit.{Edit}
+use Rattle.journal_model.specs.Edits.{IsTypedEdit}
 use Rattle.guide_limits.specs.Guides.{book_after, guide_of}
 use Rattle.guide_limits.specs.Limits.{IsServiceWithin, IsGuideWithin}
 use Rattle.section_codec.specs.declared.table.NumberedBody.{NumberedBody}

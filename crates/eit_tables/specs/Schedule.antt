@@ -3,7 +3,7 @@ use Rattle.std.specs.Prelude.{ℕ, ◌+◌, ◌-◌, List, map, min}
 use Rattle.std.specs.List.{range_with_len}
 use Rattle.guide_model.specs.declared.event.Event.{Event}
 use Rattle.guide_model.specs.declared.guide.ServiceGuide.{ServiceGuide}
-use Rattle.mux_config.specs.declared.mux.Mux.{Mux}
+use Rattle.mux_model.specs.declared.mux.Mux.{Mux}
 use Rattle.section_codec.specs.Tables.{tier_of}
 use Rattle.section_codec.specs.declared.table.NumberedBody.{NumberedBody}
 use Rattle.section_codec.specs.declared.table.SubTable.{SubTable}

@@ -10,7 +10,7 @@ use desc_event::event_len;
 use eit_codec::EitHead;
 use eit_segments::EventAt;
 use guide_model::Event;
-use mux_config::Mux;
+use mux_model::Mux;
 use section_codec::Key;
 use std::alloc::{AllocError, Global};
 

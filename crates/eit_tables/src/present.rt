@@ -11,7 +11,7 @@ use crate::events::{eit_head, eit_key};
 use eit_codec::write_eit;
 use eit_segments::{EventAt, present_following};
 use guide_model::{Event, ServiceGuide};
-use mux_config::Mux;
+use mux_model::Mux;
 use section_codec::{NumberedBodies, NumberedBody, SubTable, Tier3};
 use si_base::Bytes;
 use si_time::Moment;

@@ -11,7 +11,7 @@ use crate::events::{eit_head, eit_key};
 use eit_codec::write_eit;
 use eit_segments::{EventAt, Piece, sections_in_table};
 use guide_model::{Event, ServiceGuide};
-use mux_config::Mux;
+use mux_model::Mux;
 use section_codec::{NumberedBodies, NumberedBody, SubTable, SubTables, Tier3};
 use si_time::Moment;
 use std::alloc::{AllocError, Global};

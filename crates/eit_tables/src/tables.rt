@@ -11,7 +11,7 @@ use crate::present::present_table;
 use crate::schedule::{LAST_NEAR, put_schedule};
 use eit_segments::last_table;
 use guide_model::ServiceGuide;
-use mux_config::Mux;
+use mux_model::Mux;
 use section_codec::SubTables;
 use si_time::{Moment, midnight};
 use std::alloc::{AllocError, Global};

@@ -4,9 +4,9 @@ use Rattle.std.specs.Prelude.{flat_map, filter, if◌then◌else◌, slice_index
 use Rattle.std.specs.List.{AllByRecursion}
 use Rattle.std.proofs.lemmas.List.{take_at, drop_at}
 use Rattle.input_lines.specs.Lines.{record_lines}
-use Rattle.mux_config.specs.declared.mux.Mux.{Mux}
+use Rattle.mux_model.specs.declared.mux.Mux.{Mux}
 use Rattle.mux_config.specs.Block.{Block, Faulty, Whole, Unended, block_from}
-use Rattle.mux_config.specs.Laws.{IsSoundWithIds}
+use Rattle.mux_model.specs.Sound.{IsSoundWithIds}
 use Rattle.mux_config.proofs.FineLines.{block_sound}
 use Rattle.feed_edits.specs.Ahead.{Tail}
 use Rattle.ts_packets.specs.Bytes.{Packet, bytes_of_packet}

@@ -3,14 +3,14 @@ use Rattle.std.proofs.Common.{◌≡◌, ◌∙◌, ◌==◌, ℕ, true, refl, a
 use Rattle.std.proofs.lemmas.Bool.Decides.{nat_tests}
 use Rattle.si_lists.proofs.Truths.{first_true, second_true}
 use Rattle.si_time.specs.declared.moment.Moment.{Moment}
-use Rattle.feed_book.specs.declared.reply.Field.{Field}
-use Rattle.feed_book.specs.declared.reply.Field.TheVariants.{Start, Duration, Window, Language, Name, Short, Extended, Country, Rating, Genre, Provider, ServiceName, Count, Segment}
-use Rattle.feed_book.specs.declared.reply.DayFault.{DayFault}
-use Rattle.feed_book.specs.declared.reply.DayFault.TheVariants.{Range as BadField, Overlap as Overlaps}
-use Rattle.feed_book.specs.declared.reply.Reply.{Reply}
-use Rattle.feed_book.specs.declared.reply.Reply.TheVariants.{Done, Foreign, Range, Overlap, Member}
-use Rattle.desk_core.specs.declared.step.Outcome.{Outcome}
-use Rattle.desk_core.specs.declared.step.Outcome.TheVariants.{Edited, Ticked, Late, Published, Swapped}
+use Rattle.journal_model.specs.declared.reply.Field.{Field}
+use Rattle.journal_model.specs.declared.reply.Field.TheVariants.{Start, Duration, Window, Language, Name, Short, Extended, Country, Rating, Genre, Provider, ServiceName, Count, Segment}
+use Rattle.journal_model.specs.declared.reply.DayFault.{DayFault}
+use Rattle.journal_model.specs.declared.reply.DayFault.TheVariants.{Range as BadField, Overlap as Overlaps}
+use Rattle.journal_model.specs.declared.reply.Reply.{Reply}
+use Rattle.journal_model.specs.declared.reply.Reply.TheVariants.{Done, Foreign, Range, Overlap, Member}
+use Rattle.journal_model.specs.declared.step.Outcome.{Outcome}
+use Rattle.journal_model.specs.declared.step.Outcome.TheVariants.{Edited, Ticked, Late, Published, Swapped}
 use Rattle.epg_cli.specs.Outcomes.{is_field, is_day_fault, is_reply, is_outcome, OutcomesAreCompared}
 use Rattle.epg_cli.proofs.AgainFacts.{same_outcome}
 

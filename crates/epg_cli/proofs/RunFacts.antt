@@ -14,7 +14,7 @@ use Rattle.input_lines.specs.Lines.{lines_of, record_lines}
 use Rattle.input_lines.specs.Going.{WereWhole, shown_whole}
 use Rattle.input_lines.proofs.Steps.{whole_more}
 use Rattle.mux_config.specs.declared.fault.MuxFault.{MuxFault}
-use Rattle.mux_config.specs.declared.mux.Mux.{Mux}
+use Rattle.mux_model.specs.declared.mux.Mux.{Mux}
 use Rattle.mux_config.specs.declared.stop.MuxStop.{MuxStop}
 use Rattle.mux_config.specs.declared.stop.MuxStop.TheVariants as mux
 use Rattle.mux_config.specs.Block.{Block, Faulty, Whole, Unended, at_text_end, block_from, block_of}
@@ -25,8 +25,9 @@ use Rattle.version_book.specs.Airings.{Airing}
 use Rattle.air_model.specs.Air.{IsAirOf}
 use Rattle.air_model.proofs.Airs.{IsAirOf-none}
 use Rattle.carousel_player.specs.Playing.{Playing, AtEnd as AllSent}
-use Rattle.desk_core.specs.declared.step.Entry.{Entry}
-use Rattle.desk_core.specs.Journal.{Command, journal_of}
+use Rattle.journal_model.specs.declared.step.Entry.{Entry}
+use Rattle.desk_core.specs.Journal.{journal_of}
+use Rattle.journal_model.specs.Steps.{Command}
 use Rattle.desk_core.specs.Desks.{DeskState, fresh}
 use Rattle.journal_text.specs.Entries.{journal_text}
 use Rattle.headend_live.specs.Air.{airings}

@@ -4,22 +4,22 @@ use Rattle.std.specs.Prelude.{IfSome, if◌then◌else◌}
 use Rattle.std.specs.List.{AllByRecursion, cons_option}
 use Rattle.std.proofs.lemmas.List.Elements.{All-from_recursion, All-take, recursion_from_All}
 use Rattle.input_lines.specs.Lines.{record_lines}
-use Rattle.mux_config.specs.declared.mux.Mux.{Mux}
+use Rattle.mux_model.specs.declared.mux.Mux.{Mux}
 use Rattle.mux_config.specs.Block.{Block, Faulty, Whole, Unended, block_from}
-use Rattle.feed_edits.specs.declared.edit.Edit.{Edit}
+use Rattle.journal_model.specs.declared.edit.Edit.{Edit}
 use Rattle.feed_book.specs.Accepted.{is_done}
 use Rattle.feed_edits.specs.Ahead.{Tail}
-use Rattle.feed_edits.specs.Typed.{IsTypedEdit}
-use Rattle.desk_core.specs.declared.step.Step.{Step}
-use Rattle.desk_core.specs.declared.step.Step.TheVariants.{Edit as edit, Tick, Publish, Swap}
-use Rattle.desk_core.specs.declared.step.Outcome.{Outcome}
-use Rattle.desk_core.specs.declared.step.Outcome.TheVariants.{Edited, Ticked, Late, Published, Swapped}
-use Rattle.desk_core.specs.declared.step.Entry.{Entry}
-use Rattle.desk_core.specs.Journal.{Command, accepted, accepted_by, entry_after, journal_after, journal_of}
+use Rattle.journal_model.specs.Edits.{IsTypedEdit}
+use Rattle.journal_model.specs.declared.step.Step.{Step}
+use Rattle.journal_model.specs.declared.step.Step.TheVariants.{Edit as edit, Tick, Publish, Swap}
+use Rattle.journal_model.specs.declared.step.Outcome.{Outcome}
+use Rattle.journal_model.specs.declared.step.Outcome.TheVariants.{Edited, Ticked, Late, Published, Swapped}
+use Rattle.journal_model.specs.declared.step.Entry.{Entry}
+use Rattle.desk_core.specs.Journal.{accepted, accepted_by, entry_after, journal_after, journal_of}
+use Rattle.journal_model.specs.Steps.{Command, IsTypedStep}
 use Rattle.journal_text.specs.declared.script.ScriptItem.{ScriptItem}
 use Rattle.journal_text.specs.declared.script.ScriptItem.TheVariants.{Step as step, Kept, End}
 use Rattle.journal_text.specs.Script.{asked_by, items_ahead}
-use Rattle.journal_text.specs.Typed.{IsTypedStep}
 use Rattle.journal_text.specs.ScriptLaws.{IsTypedScriptItem}
 use Rattle.journal_text.proofs.TypedFacts.{items_typed}
 use Rattle.headend_live.specs.Laws.{HasTypedEdits}

@@ -2,9 +2,8 @@
 use Rattle.std.proofs.Common.{◌≡◌, ℕ, zero, suc, List, [], ◌∷◌, subst}
 use Rattle.std.specs.Prelude.{Some}
 use Rattle.std.specs.List.{slice_get}
-use Rattle.desk_core.specs.declared.step.Entry.{Entry}
-use Rattle.journal_text.specs.Outcomes.{IsInWindow}
-use Rattle.journal_text.specs.Entries.{AreInWindow}
+use Rattle.journal_model.specs.declared.step.Entry.{Entry}
+use Rattle.journal_model.specs.Steps.{IsInWindow, AreInWindow}
 
 pub entry_window : (entries : List Entry) (k : ℕ) (entry : Entry) → slice_get entries k ≡ Some entry → AreInWindow entries → IsInWindow entry.outcome
 entry_window [] k entry e h = cc

@@ -3,11 +3,12 @@ use Rattle.std.specs.Prelude.{◌≡◌, ◌⊎◌, ◌≤◌, ℕ, List, [], �
 use Rattle.std.specs.List.{AllByRecursion}
 use Rattle.si_causes.specs.Text.{text_limit}
 use Rattle.input_lines.specs.Lines.{record_lines}
-use Rattle.mux_config.specs.declared.mux.Mux.{Mux}
+use Rattle.mux_model.specs.declared.mux.Mux.{Mux}
 use Rattle.mux_config.specs.Block.{Whole, block_from}
 use Rattle.feed_edits.specs.Ahead.{Row}
-use Rattle.desk_core.specs.declared.step.Entry.{Entry}
-use Rattle.desk_core.specs.Journal.{Legal, command_of}
+use Rattle.journal_model.specs.declared.step.Entry.{Entry}
+use Rattle.desk_core.specs.Journal.{Legal}
+use Rattle.journal_model.specs.Steps.{command_of}
 use Rattle.journal_text.specs.Back.{IsReadable, shown_lines}
 use Rattle.journal_text.specs.Entries.{journal_text}
 use Rattle.epg_live.specs.declared.reporting.HeardAir.{HeardAir}

@@ -1,6 +1,6 @@
 -- What `listen` hears of what `play` sent.
 use Rattle.std.specs.Prelude.{◌≡◌, ℕ, ◌<◌, ◌≤◌, List, [], length, take, Some, filter, map}
-use Rattle.mux_config.specs.declared.mux.Mux.{Mux}
+use Rattle.mux_model.specs.declared.mux.Mux.{Mux}
 use Rattle.feed_edits.specs.Ahead.{Tail}
 use Rattle.desk_core.specs.Journal.{journal_of}
 use Rattle.packet_reader.specs.Recordings.{RecordingEnd.AtEnd, packet_limit, recording}

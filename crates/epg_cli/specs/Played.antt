@@ -5,19 +5,19 @@ use Rattle.si_causes.specs.Reading.{Reading}
 use Rattle.si_causes.specs.declared.stop.ReadStop.TheVariants.{Failed, TooLong as Overlong}
 use Rattle.input_lines.specs.Going.{WereWhole}
 use Rattle.carousel_player.specs.Playing.{Playing}
-use Rattle.mux_config.specs.declared.mux.Mux.{Mux}
+use Rattle.mux_model.specs.declared.mux.Mux.{Mux}
 use Rattle.feed_edits.specs.declared.stop.EditStop.{EditStop}
 use Rattle.feed_edits.specs.declared.stop.EditStop.TheVariants as edits
 use Rattle.feed_edits.specs.Ahead.{Ahead, Breaks}
 use Rattle.feed_edits.specs.Ahead as reading
 use Rattle.feed_edits.specs.Reads.{ahead_with}
-use Rattle.desk_core.specs.declared.step.Step.{Step}
-use Rattle.desk_core.specs.declared.step.Outcome.{Outcome}
-use Rattle.desk_core.specs.declared.step.Entry.{Entry}
-use Rattle.desk_core.specs.Journal.{Command, journal_after}
+use Rattle.journal_model.specs.declared.step.Step.{Step}
+use Rattle.journal_model.specs.declared.step.Outcome.{Outcome}
+use Rattle.journal_model.specs.declared.step.Entry.{Entry}
+use Rattle.desk_core.specs.Journal.{journal_after}
+use Rattle.journal_model.specs.Steps.{Command, IsInWindow}
 use Rattle.desk_core.specs.Desks.{DeskState}
 use Rattle.journal_text.specs.declared.script.ScriptItem.{ScriptItem}
-use Rattle.journal_text.specs.Outcomes.{IsInWindow}
 use Rattle.journal_text.specs.Script.{items_ahead, kept_first}
 use Rattle.headend_live.specs.OnAir.{HasAired, HasAiredFront, and_step}
 use Rattle.epg_cli.specs.declared.stop.PlayStop.{PlayStop}

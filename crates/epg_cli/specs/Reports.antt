@@ -1,7 +1,7 @@
 -- What a report of `play` tells: its journal and how it ends.
 use Rattle.std.specs.Prelude.{◌≡◌, ◌++◌, List, Option}
 use Rattle.std.specs.List.{AllByRecursion}
-use Rattle.desk_core.specs.declared.step.Entry.{Entry}
+use Rattle.journal_model.specs.declared.step.Entry.{Entry}
 use Rattle.journal_text.specs.Back.{IsOfLines}
 use Rattle.journal_text.specs.Entries.{journal_text}
 use Rattle.epg_cli.specs.declared.stop.PlayStop.{PlayStop}

@@ -3,16 +3,17 @@ use Rattle.std.specs.Prelude.{◌≡◌, List, ℕ, [], ◌∷◌, ◌++◌, Som
 use Rattle.input_lines.specs.Fields.{fields_compute}
 use Rattle.mux_config.specs.declared.fault.Word.TheVariants as word
 use Rattle.mux_config.specs.declared.fault.MuxFault.TheVariants.{Line, Twice, Missing}
-use Rattle.feed_edits.specs.declared.edit.Edit.TheVariants.{Name}
+use Rattle.journal_model.specs.declared.edit.Edit.TheVariants.{Name}
 use Rattle.feed_edits.specs.Heads.{edit_head}
-use Rattle.desk_core.specs.declared.step.Outcome.TheVariants.{Published}
-use Rattle.desk_core.specs.declared.step.Step.TheVariants.{Edit as edit, Publish, Swap}
-use Rattle.desk_core.specs.Controls.{control_of}
+use Rattle.journal_model.specs.declared.step.Outcome.TheVariants.{Published}
+use Rattle.journal_model.specs.declared.step.Step.TheVariants.{Edit as edit, Publish, Swap}
+use Rattle.control_lines.specs.Controls.{control_of}
 use Rattle.si_time.specs.Readings.{readings_compute}
 use Rattle.std.specs.Fmt.{digits}
 use Rattle.csv.specs.Writing.{fields_text}
 use Rattle.journal_text.specs.Entries.{journal_text}
-use Rattle.desk_core.specs.Rows.{row_mux, row_commands, row_journal}
+use Rattle.mux_model.specs.Rows.{row_mux}
+use Rattle.journal_model.specs.Rows.{row_commands, row_journal}
 use Rattle.journal_text.specs.Kept.{outcome_of_fields, reply_of}
 use Rattle.journal_text.specs.Script.{items_ahead}
 use Rattle.epg_cli.specs.Script.{Ended, NoMux, NoCommand, Disagreed, Unread, no_mux, script_in, script_taken}

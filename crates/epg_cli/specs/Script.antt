@@ -6,13 +6,14 @@ use Rattle.input_lines.specs.Going.{shown_whole}
 use Rattle.mux_config.specs.declared.fault.Word.TheVariants as word
 use Rattle.mux_config.specs.declared.fault.MuxFault.{MuxFault}
 use Rattle.mux_config.specs.declared.fault.MuxFault.TheVariants.{Missing}
-use Rattle.mux_config.specs.declared.mux.Mux.{Mux}
+use Rattle.mux_model.specs.declared.mux.Mux.{Mux}
 use Rattle.mux_config.specs.Block.{Block, Faulty, Whole, Unended, block_from}
 use Rattle.feed_edits.specs.Ahead.{Ahead, Tail, Ends, Exceeds, Breaks, tail_of}
 use Rattle.feed_edits.specs.Ahead as reading
-use Rattle.desk_core.specs.declared.step.Outcome.{Outcome}
-use Rattle.desk_core.specs.declared.step.Entry.{Entry}
-use Rattle.desk_core.specs.Journal.{Command, journal_after}
+use Rattle.journal_model.specs.declared.step.Outcome.{Outcome}
+use Rattle.journal_model.specs.declared.step.Entry.{Entry}
+use Rattle.desk_core.specs.Journal.{journal_after}
+use Rattle.journal_model.specs.Steps.{Command}
 use Rattle.journal_text.specs.declared.script.ScriptItem.{ScriptItem}
 use Rattle.journal_text.specs.Script.{Asked, asked_by, items_ahead}
 use Rattle.epg_cli.specs.Outcomes.{is_outcome}

@@ -3,19 +3,19 @@ ghost use Rattle.std.specs.Prelude.{◌≡◌, ◌≤◌, ◌++◌, ◌∷◌, [
 ghost use Rattle.std.specs.Io.KnownBytes.{IsAtEnd};
 ghost use Rattle.si_causes.specs.Reading.{text_left};
 ghost use Rattle.feed_edits.specs.Ahead.{ahead};
-ghost use Rattle.desk_core.specs.declared.step.Entry.{Entry as AnEntry};
+ghost use Rattle.journal_model.specs.declared.step.Entry.{Entry as AnEntry};
 ghost use Rattle.desk_core.specs.Journal.{Legal};
-ghost use Rattle.desk_core.specs.Steps.{IsStepWithin};
-ghost use Rattle.journal_text.specs.Outcomes.{IsInWindow};
+ghost use Rattle.journal_model.specs.Steps.{IsStepWithin, IsInWindow};
 ghost use Rattle.headend_live.specs.OnAir.{HasAired, IsOnAir, is_swap};
 ghost use Rattle.epg_cli.specs.Outcomes.{is_outcome};
 ghost use Rattle.epg_cli.specs.Played.{AiredTo, HasAirCause, HasReadCause, IsDifference, IsStopInWindow, RestDid, RestTaken, StepDid, course, late_difference, read_stop};
 
 use crate::stop::PlayStop;
 use carousel_player::Player;
-use desk_core::{Desk, Outcome, Step};
+use desk_core::Desk;
 use feed_edits::EditStop;
 use headend_live::{SendStop, send_on_air};
+use journal_model::{Outcome, Step};
 use journal_text::{ScriptItem, next_item};
 use si_causes::{LineReader, Sink, Source};
 use std::alloc::Global;

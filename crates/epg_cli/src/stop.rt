@@ -2,7 +2,7 @@
 ghost use Rattle.std.specs.Prelude.{◌≡◌};
 ghost use Rattle.epg_cli.specs.declared.stop.PlayStop.TheVariants.{Memory};
 
-use desk_core::Outcome;
+use journal_model::Outcome;
 use mux_config::MuxFault;
 use si_causes::ReadStop;
 use std::alloc::AllocError;

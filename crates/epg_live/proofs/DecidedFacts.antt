@@ -5,14 +5,14 @@ use Rattle.std.specs.List.{AllByRecursion}
 use Rattle.si_causes.specs.Causes.{Rose}
 use Rattle.si_causes.specs.Opening.{Files, file_at}
 use Rattle.si_causes.specs.declared.stop.ReadStop.TheVariants.{Failed, TooLong as Overlong}
-use Rattle.mux_config.specs.declared.mux.Mux.{Mux}
+use Rattle.mux_model.specs.declared.mux.Mux.{Mux}
 use Rattle.mux_config.specs.Block.{Block}
 use Rattle.feed_edits.specs.declared.stop.EditStop.{EditStop}
 use Rattle.feed_edits.specs.declared.stop.EditStop.TheVariants as edit
 use Rattle.feed_edits.specs.Ahead.{Row, Stop}
 use Rattle.feed_edits.specs.Edits.{edits_ahead}
-use Rattle.desk_core.specs.declared.step.Entry.{Entry}
-use Rattle.desk_core.specs.Journal.{command_of}
+use Rattle.journal_model.specs.declared.step.Entry.{Entry}
+use Rattle.journal_model.specs.Steps.{command_of}
 use Rattle.desk_hall.specs.Reads.{HasReadCause, ToldDid, commands_by, control_step, controls_ahead, edit_step}
 use Rattle.headend_live.specs.Callers.{CommandsAre}
 use Rattle.headend_live.specs.declared.live.LiveStop.{LiveStop}

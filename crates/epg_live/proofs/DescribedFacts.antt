@@ -9,7 +9,7 @@ use Rattle.si_causes.proofs.TextFacts.{fresh_text}
 use Rattle.input_lines.specs.Lines.{lines_of, record_lines}
 use Rattle.input_lines.specs.Going.{WereWhole, shown_whole}
 use Rattle.input_lines.proofs.Steps.{whole_more}
-use Rattle.mux_config.specs.declared.mux.Mux.{Mux}
+use Rattle.mux_model.specs.declared.mux.Mux.{Mux}
 use Rattle.mux_config.specs.declared.stop.MuxStop.{MuxStop}
 use Rattle.mux_config.specs.declared.stop.MuxStop.TheVariants as mux
 use Rattle.mux_config.specs.Block.{Whole, Unended, block_from}
@@ -18,8 +18,8 @@ use Rattle.feed_edits.specs.declared.stop.EditStop.{EditStop}
 use Rattle.feed_edits.specs.declared.stop.EditStop.TheVariants as edit
 use Rattle.feed_edits.specs.Ahead.{Ahead, Breaks, Row, Tail, ahead, tail_of}
 use Rattle.feed_edits.specs.Reads.{ahead_with}
-use Rattle.desk_core.specs.declared.step.Entry.{Entry}
-use Rattle.desk_core.specs.Journal.{Command}
+use Rattle.journal_model.specs.declared.step.Entry.{Entry}
+use Rattle.journal_model.specs.Steps.{Command}
 use Rattle.desk_hall.specs.Reads.{TakenDid, commands_by, control_step, controls_ahead}
 use Rattle.headend_live.specs.Callers.{CommandsAre}
 use Rattle.epg_live.specs.declared.reporting.HeardAir.{HeardAir}

@@ -6,13 +6,13 @@ use Rattle.si_causes.specs.Opening.{Files}
 use Rattle.si_causes.specs.Reading.{Reading}
 use Rattle.si_causes.specs.declared.stop.ReadStop.TheVariants.{Failed, TooLong as Overlong}
 use Rattle.si_causes.proofs.CauseFacts.{Rose-from}
-use Rattle.mux_config.specs.declared.mux.Mux.{Mux}
+use Rattle.mux_model.specs.declared.mux.Mux.{Mux}
 use Rattle.mux_config.specs.declared.stop.MuxStop.{MuxStop}
 use Rattle.mux_config.specs.declared.stop.MuxStop.TheVariants as mux
 use Rattle.mux_config.specs.Block.{Whole}
 use Rattle.mux_config.specs.Reads.{MuxCame}
 use Rattle.feed_edits.specs.Ahead.{Row}
-use Rattle.desk_core.specs.declared.step.Entry.{Entry}
+use Rattle.journal_model.specs.declared.step.Entry.{Entry}
 use Rattle.epg_live.specs.declared.reporting.HeardAir.{HeardAir}
 use Rattle.epg_report.specs.declared.status.Status.{Status}
 use Rattle.epg_report.specs.declared.status.Status.TheVariants.{Done, Usage, BadScript, Disagrees, BadMux, BadFeed, BadStream, TooLong, OpenFault, ReadFault, WriteFault, Memory}

@@ -6,13 +6,13 @@ use Rattle.si_causes.specs.Opening.{Files, Holds, file_at}
 use Rattle.si_causes.specs.Reading.{Reading, fresh, text_left}
 use Rattle.si_causes.specs.declared.stop.ReadStop.TheVariants.{Failed, TooLong as Overlong}
 use Rattle.si_causes.proofs.TextFacts.{fresh_text}
-use Rattle.mux_config.specs.declared.mux.Mux.{Mux}
+use Rattle.mux_model.specs.declared.mux.Mux.{Mux}
 use Rattle.feed_edits.specs.declared.stop.EditStop.{EditStop}
 use Rattle.feed_edits.specs.declared.stop.EditStop.TheVariants as edit
 use Rattle.feed_edits.specs.Ahead.{Ahead, ahead}
 use Rattle.feed_edits.specs.Edits.{edits_ahead}
-use Rattle.desk_core.specs.declared.step.Entry.{Entry}
-use Rattle.desk_core.specs.Journal.{command_of}
+use Rattle.journal_model.specs.declared.step.Entry.{Entry}
+use Rattle.journal_model.specs.Steps.{command_of}
 use Rattle.desk_hall.specs.Reads.{HasReadCause, commands_by, control_step, controls_ahead, edit_step, ToldDid}
 use Rattle.turn_lock.specs.Knowledge.{TableId}
 use Rattle.headend_live.specs.declared.jobs.FeedJob.{FeedJob}

@@ -8,16 +8,17 @@ use Rattle.si_causes.specs.Text.{text_lines}
 use Rattle.si_causes.specs.declared.stop.ReadStop.TheVariants.{Failed}
 use Rattle.input_lines.specs.Lines.{lines_of, record_lines}
 use Rattle.input_lines.specs.Going.{shown_whole}
-use Rattle.mux_config.specs.declared.mux.Mux.{Mux}
+use Rattle.mux_model.specs.declared.mux.Mux.{Mux}
 use Rattle.mux_config.specs.Block.{Block, Faulty, Whole, Unended, block_from, block_of}
 use Rattle.mux_config.specs.Reads.{ReadMux, WholeCame}
 use Rattle.feed_edits.specs.declared.stop.EditStop.{EditStop}
 use Rattle.feed_edits.specs.declared.stop.EditStop.TheVariants.{Read}
 use Rattle.feed_edits.specs.Ahead.{Ahead, Row, Stop, Unread, Breaks, ahead_in, tail_of}
 use Rattle.feed_edits.specs.Edits.{edits_ahead}
-use Rattle.desk_core.specs.declared.step.Step.{Step}
-use Rattle.desk_core.specs.declared.step.Entry.{Entry}
-use Rattle.desk_core.specs.Journal.{Command, Legal, command_of}
+use Rattle.journal_model.specs.declared.step.Step.{Step}
+use Rattle.journal_model.specs.declared.step.Entry.{Entry}
+use Rattle.desk_core.specs.Journal.{Legal}
+use Rattle.journal_model.specs.Steps.{Command, command_of}
 use Rattle.desk_hall.specs.Turn.{caller_of}
 use Rattle.desk_hall.specs.Reads.{ToldDid, commands_by, control_step, controls_ahead, edit_step}
 use Rattle.turn_lock.specs.Journal.{entries_of}

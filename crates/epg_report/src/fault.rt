@@ -1,10 +1,11 @@
 // The lines of faults.
 ghost use Rattle.std.specs.Prelude.{◌≡◌, ◌≤◌, ◌++◌, OnOk, codes, decimal};
-ghost use Rattle.journal_text.specs.Outcomes.{IsInWindow, outcome_text};
+ghost use Rattle.journal_text.specs.Outcomes.{outcome_text};
+ghost use Rattle.journal_model.specs.Steps.{IsInWindow};
 ghost use Rattle.epg_report.specs.Texts.{CanBeSaid, fault_lines, fault_text, has_line, mux_fault_text, origin_text, word_text};
 
 use crate::status::{Origin, Outlet, Status};
-use desk_core::Outcome;
+use journal_model::Outcome;
 use journal_text::write_outcome;
 use mux_config::{MuxFault, Word};
 use si_causes::{Sink, write_all};

@@ -1,8 +1,10 @@
 // The text of a desk's journal.
 ghost use Rattle.std.specs.Prelude.{◌≡◌, IfOk};
-ghost use Rattle.journal_text.specs.Entries.{journal_text, AreInWindow};
+ghost use Rattle.journal_text.specs.Entries.{journal_text};
+ghost use Rattle.journal_model.specs.Steps.{AreInWindow};
 
-use desk_core::{Desk, Entry};
+use desk_core::Desk;
+use journal_model::Entry;
 use journal_text::write_entry;
 use std::alloc::{AllocError, Global};
 

@@ -2,7 +2,7 @@
 ghost use Rattle.std.specs.Prelude.{◌≡◌};
 ghost use Rattle.epg_report.specs.Codes.{code_of};
 
-use desk_core::Outcome;
+use journal_model::Outcome;
 use mux_config::MuxFault;
 
 /// A text that is read: the input, or the text of a feed, by its number.

@@ -10,10 +10,9 @@ ghost use Rattle.feed_book.specs.Slots.{slot_of as slot_of_event, AreIndexed};
 ghost use Rattle.std.specs.Prelude.{IfOk, OnOk, OnErr, Some, None, [], if◌then◌else◌};
 
 use crate::reading::{event_of, field_fault};
-use crate::reply::{DayFault, Reply};
 use crate::slots::{IndexedEvent, place_fault, place_of_id, place_of_start, slot_of};
-use feed_edits::Item;
 use guide_model::Event;
+use journal_model::{DayFault, Item, Reply};
 use page_share::Page;
 use std::alloc::AllocError;
 

@@ -11,18 +11,19 @@ use Rattle.si_lists.proofs.Truths.{first_true, second_true}
 use Rattle.input_lines.proofs.Numerals.{own}
 use Rattle.guide_model.specs.declared.event.Genre.{Genre}
 use Rattle.input_lines.specs.Numbers.{is_digit, is_numeral, value_from, number_in}
-use Rattle.feed_edits.specs.declared.edit.RawRating.{RawRating}
-use Rattle.feed_edits.specs.declared.edit.Item.{Item}
-use Rattle.feed_edits.specs.Items.{genre_of, genre_from, genres_of, all_some, rating_of, item_of, item_line, IsShapedItem}
-use Rattle.feed_edits.specs.declared.edit.Edit.{Edit}
-use Rattle.feed_edits.specs.declared.edit.Edit.TheVariants.{Put, Withdraw, Clear, Name, Day}
+use Rattle.journal_model.specs.declared.edit.RawRating.{RawRating}
+use Rattle.journal_model.specs.declared.edit.Item.{Item}
+use Rattle.feed_edits.specs.Items.{genre_of, genre_from, genres_of, all_some, rating_of, item_of, item_line}
+use Rattle.journal_model.specs.Edits.{IsShapedItem, IsShaped, HasGenreNumbers, HasItemNumbers, HasNumbers}
+use Rattle.journal_model.specs.declared.edit.Edit.{Edit}
+use Rattle.journal_model.specs.declared.edit.Edit.TheVariants.{Put, Withdraw, Clear, Name, Day}
 use Rattle.feed_edits.specs.declared.heads.Head.{Head}
 use Rattle.feed_edits.specs.declared.heads.Head.TheVariants.{Whole, OfDay}
 use Rattle.input_lines.specs.Fields.{record_of}
 use Rattle.feed_edits.specs.Ahead.{Ahead, Row, Tail, Found, Came, and_then}
-use Rattle.feed_edits.specs.Heads.{edit_head, IsShaped}
+use Rattle.feed_edits.specs.Heads.{edit_head}
 use Rattle.feed_edits.specs.Edits.{items_of, with_items, edit_from}
-use Rattle.feed_edits.specs.Back.{genre_field, genres_field, country_field, rating_field, item_fields, edit_fields, item_rows, HasGenreNumbers, HasItemNumbers, HasNumbers, HaveFields, EditsReadBack}
+use Rattle.feed_edits.specs.Back.{genre_field, genres_field, country_field, rating_field, item_fields, edit_fields, item_rows, HaveFields, EditsReadBack}
 use Rattle.feed_edits.proofs.Genres.{genres_of_some}
 
 -- ---- numbers

@@ -10,10 +10,10 @@ use Rattle.input_lines.specs.Fields.{record_of}
 use Rattle.input_lines.specs.Lines.{lines_of}
 use Rattle.input_lines.specs.Going.{LineCame, NoneCame, RecordCame}
 use Rattle.input_lines.specs.Records.{FirstRecord, NoRecord, GivesRecord}
-use Rattle.feed_edits.specs.declared.edit.Item.{Item}
-use Rattle.feed_edits.specs.declared.edit.DayText.{DayText}
-use Rattle.feed_edits.specs.declared.edit.Edit.{Edit}
-use Rattle.feed_edits.specs.declared.edit.Edit.TheVariants.{Day}
+use Rattle.journal_model.specs.declared.edit.Item.{Item}
+use Rattle.journal_model.specs.declared.edit.DayText.{DayText}
+use Rattle.journal_model.specs.declared.edit.Edit.{Edit}
+use Rattle.journal_model.specs.declared.edit.Edit.TheVariants.{Day}
 use Rattle.feed_edits.specs.declared.heads.Head.{Head}
 use Rattle.feed_edits.specs.declared.heads.Head.TheVariants.{OfDay, Whole}
 use Rattle.feed_edits.specs.declared.stop.EditStop.{EditStop}

@@ -1,9 +1,9 @@
 -- What is ahead gets fewer lines with each edit.
 use Rattle.std.proofs.Common.{◌≡◌, ◌≤◌, ◌-◌, ℕ, zero, suc, List, [], ◌∷◌, length, refl, ap, sym, arith}
 use Rattle.std.specs.Prelude.{Option, Some, None}
-use Rattle.feed_edits.specs.declared.edit.Item.{Item}
-use Rattle.feed_edits.specs.declared.edit.Edit.{Edit}
-use Rattle.feed_edits.specs.declared.edit.Edit.TheVariants.{Day}
+use Rattle.journal_model.specs.declared.edit.Item.{Item}
+use Rattle.journal_model.specs.declared.edit.Edit.{Edit}
+use Rattle.journal_model.specs.declared.edit.Edit.TheVariants.{Day}
 use Rattle.feed_edits.specs.declared.heads.Head.{Head}
 use Rattle.feed_edits.specs.declared.heads.Head.TheVariants.{Whole, OfDay}
 use Rattle.feed_edits.specs.Ahead.{Ahead, Row, Tail, Found, Came, Stopped, Stop, and_then, first_row, row_of, stop_at, missing_at}

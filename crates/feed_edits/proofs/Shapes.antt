@@ -5,11 +5,12 @@ use Rattle.std.proofs.lemmas.Bool.{cases_Bool}
 use Rattle.si_time.specs.Readings.{has_shape}
 use Rattle.guide_model.specs.declared.event.Genre.{Genre}
 use Rattle.input_lines.specs.Numbers.{number_in}
-use Rattle.feed_edits.specs.declared.edit.Stamp.{Stamp}
-use Rattle.feed_edits.specs.declared.edit.Length.{Length}
-use Rattle.feed_edits.specs.declared.edit.RawRating.{RawRating}
-use Rattle.feed_edits.specs.declared.edit.Item.{Item}
-use Rattle.feed_edits.specs.Items.{IsShapedItem, item_of, item_with, stamp_of, length_of, rating_of, rating_with, genres_of}
+use Rattle.journal_model.specs.declared.edit.Stamp.{Stamp}
+use Rattle.journal_model.specs.declared.edit.Length.{Length}
+use Rattle.journal_model.specs.declared.edit.RawRating.{RawRating}
+use Rattle.journal_model.specs.declared.edit.Item.{Item}
+use Rattle.feed_edits.specs.Items.{item_of, item_with, stamp_of, length_of, rating_of, rating_with, genres_of}
+use Rattle.journal_model.specs.Edits.{IsShapedItem}
 
 abbrev IsStamp : Stamp → Type 0
 IsStamp stamp = has_shape (codes "dddd-dd-ddTdd:dd:ddZ") stamp.0 ≡ true

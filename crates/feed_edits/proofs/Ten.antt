@@ -3,9 +3,9 @@ use Rattle.std.proofs.Common.{◌≡◌, ◌<◌, ◌≤◌, ℕ, List, [], ◌�
 use Rattle.std.specs.Prelude.{Option, Some, None}
 use Rattle.guide_model.specs.declared.event.Genre.{Genre}
 use Rattle.input_lines.specs.Numbers.{number_in}
-use Rattle.feed_edits.specs.declared.edit.Stamp.{Stamp}
-use Rattle.feed_edits.specs.declared.edit.Length.{Length}
-use Rattle.feed_edits.specs.declared.edit.RawRating.{RawRating}
+use Rattle.journal_model.specs.declared.edit.Stamp.{Stamp}
+use Rattle.journal_model.specs.declared.edit.Length.{Length}
+use Rattle.journal_model.specs.declared.edit.RawRating.{RawRating}
 use Rattle.feed_edits.specs.Items.{item_of, item_with, stamp_of, length_of, rating_of, genres_of}
 
 abbrev Text : Type 0

@@ -11,20 +11,20 @@ use Rattle.guide_model.specs.declared.event.Genre.{Genre}
 use Rattle.input_lines.specs.Fields.{line_fields, is_line, record_of}
 use Rattle.input_lines.specs.Numbers.{is_word, is_numeral, value_from, in_range, number_in}
 use Rattle.input_lines.proofs.CleanLines.{line_kept, is_line_back}
-use Rattle.feed_edits.specs.declared.edit.Stamp.{Stamp}
-use Rattle.feed_edits.specs.declared.edit.Length.{Length}
-use Rattle.feed_edits.specs.declared.edit.DayText.{DayText}
-use Rattle.feed_edits.specs.declared.edit.RawRating.{RawRating}
-use Rattle.feed_edits.specs.declared.edit.Edit.{Edit}
-use Rattle.feed_edits.specs.declared.edit.Edit.TheVariants.{Put, Withdraw, Clear, Name, Day}
+use Rattle.journal_model.specs.declared.edit.Stamp.{Stamp}
+use Rattle.journal_model.specs.declared.edit.Length.{Length}
+use Rattle.journal_model.specs.declared.edit.DayText.{DayText}
+use Rattle.journal_model.specs.declared.edit.RawRating.{RawRating}
+use Rattle.journal_model.specs.declared.edit.Edit.{Edit}
+use Rattle.journal_model.specs.declared.edit.Edit.TheVariants.{Put, Withdraw, Clear, Name, Day}
 use Rattle.feed_edits.specs.declared.heads.Head.{Head}
 use Rattle.feed_edits.specs.declared.heads.Head.TheVariants.{Whole, OfDay}
 use Rattle.feed_edits.specs.Ahead.{Ahead, Row, Found, Came, Stopped, and_then, first_row, stop_at, missing_at}
 use Rattle.feed_edits.specs.Items.{stamp_of, length_of, day_of, genre_from, genre_of, genres_of, all_some, rating_of, item_with, item_of, item_line}
 use Rattle.feed_edits.specs.Heads.{put_of, withdraw_of, clear_of, name_of, day_head_of, edit_head}
 use Rattle.feed_edits.specs.Edits.{on_line, first_item, items_of, with_items, edit_from, first_edit, and_edits, edits_upto, edits_ahead}
-use Rattle.feed_edits.specs.Back.{HasGenreNumbers, HasItemNumbers, HasNumbers}
-use Rattle.feed_edits.specs.Typed.{IsTypedItem, IsTypedEdit, IfCame, ReadEditsAreTyped, EditsAheadAreTyped}
+use Rattle.journal_model.specs.Edits.{HasGenreNumbers, HasItemNumbers, HasNumbers, IsTypedItem, IsTypedEdit}
+use Rattle.feed_edits.specs.Typed.{IfCame, ReadEditsAreTyped, EditsAheadAreTyped}
 
 -- ---- numbers
 

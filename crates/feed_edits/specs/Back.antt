@@ -1,14 +1,14 @@
 -- The fields of an edit's lines, which read back as the edit.
-use Rattle.std.specs.Prelude.{◌≡◌, ◌≤◌, ℕ, List, [], ◌∷◌, ◌++◌, length, map, Option, Some, None, IfSome, codes, decimal}
-use Rattle.std.specs.List.{AllByRecursion, join_with_byte}
+use Rattle.std.specs.Prelude.{◌≡◌, ℕ, List, [], ◌∷◌, ◌++◌, length, map, Option, Some, None, codes, decimal}
+use Rattle.std.specs.List.{join_with_byte}
 use Rattle.guide_model.specs.declared.event.Genre.{Genre}
 use Rattle.input_lines.specs.Fields.{record_of}
-use Rattle.feed_edits.specs.declared.edit.RawRating.{RawRating}
-use Rattle.feed_edits.specs.declared.edit.Item.{Item}
-use Rattle.feed_edits.specs.declared.edit.Edit.{Edit}
-use Rattle.feed_edits.specs.declared.edit.Edit.TheVariants.{Put, Withdraw, Clear, Name, Day}
+use Rattle.journal_model.specs.declared.edit.RawRating.{RawRating}
+use Rattle.journal_model.specs.declared.edit.Item.{Item}
+use Rattle.journal_model.specs.declared.edit.Edit.{Edit}
+use Rattle.journal_model.specs.declared.edit.Edit.TheVariants.{Put, Withdraw, Clear, Name, Day}
 use Rattle.feed_edits.specs.Ahead.{Ahead, Row, Tail, Came}
-use Rattle.feed_edits.specs.Heads.{IsShaped}
+use Rattle.journal_model.specs.Edits.{IsShaped, HasNumbers}
 use Rattle.feed_edits.specs.Edits.{read_edit, first_edit, and_edits, edits_ahead}
 
 -- `a.b.u`, with points (46)
@@ -48,24 +48,6 @@ item_rows (Withdraw service event) = []
 item_rows (Clear service) = []
 item_rows (Name service provider name) = []
 item_rows (Day service date items) = map (λ item. codes "item" ∷ item_fields item) items
-
--- numbers of 8 and of 16 bits
-pub record HasGenreNumbers (g : Genre) : Type 0 where
-  pub level1 : g.level1 ≤ 255
-  pub level2 : g.level2 ≤ 255
-  pub user : g.user ≤ 255
-
-pub record HasItemNumbers (item : Item) : Type 0 where
-  pub id : item.id ≤ 65535
-  pub rating : IfSome item.rating (λ rating. rating.value ≤ 255)
-  pub genres : AllByRecursion HasGenreNumbers item.genres
-
-abbrev pub HasNumbers : Edit → Type 0
-HasNumbers (Put service item) = (service ≤ 65535) × HasItemNumbers item
-HasNumbers (Withdraw service event) = (service ≤ 65535) × (event ≤ 65535)
-HasNumbers (Clear service) = service ≤ 65535
-HasNumbers (Name service provider name) = service ≤ 65535
-HasNumbers (Day service date items) = (service ≤ 65535) × AllByRecursion HasItemNumbers items
 
 -- these are the fields of these lines
 abbrev pub HaveFields : List Row → List (List (List ℕ)) → Type 0

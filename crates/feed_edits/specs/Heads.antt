@@ -1,15 +1,12 @@
 -- The line of an edit: a whole edit, or the head of a day, whose items follow on lines of their own.
-use Rattle.std.specs.Prelude.{◌≡◌, ◌≤◌, ℕ, true, List, [], ◌∷◌, length, Option, None, option_map, option_and_then, if◌then◌else◌, codes}
-use Rattle.std.specs.List.{All}
+use Rattle.std.specs.Prelude.{◌≡◌, ◌≤◌, ℕ, true, List, [], ◌∷◌, Option, None, option_map, option_and_then, if◌then◌else◌, codes}
 use Rattle.si_time.specs.Readings.{has_shape}
 use Rattle.input_lines.specs.Numbers.{is_word, number_in}
-use Rattle.feed_edits.specs.declared.edit.DayText.{DayText}
-use Rattle.feed_edits.specs.declared.edit.Item.{Item}
-use Rattle.feed_edits.specs.declared.edit.Edit.{Edit}
-use Rattle.feed_edits.specs.declared.edit.Edit.TheVariants.{Put, Withdraw, Clear, Name, Day}
+use Rattle.journal_model.specs.declared.edit.Edit.TheVariants.{Put, Withdraw, Clear, Name}
 use Rattle.feed_edits.specs.declared.heads.Head.{Head}
 use Rattle.feed_edits.specs.declared.heads.Head.TheVariants.{Whole, OfDay}
-use Rattle.feed_edits.specs.Items.{item_of, day_of, IsShapedItem}
+use Rattle.feed_edits.specs.Items.{item_of, day_of}
+use Rattle.journal_model.specs.Edits.{IsShaped}
 
 -- SERVICE, and the fields of an event
 abbrev pub put_of : List (List ℕ) → Option Head
@@ -47,20 +44,6 @@ edit_head (word ∷ fields) =
     else (if is_word (codes "name") word then name_of fields
     else (if is_word (codes "day") word then day_head_of fields
     else None))))
-
--- a day as lines can give it
-pub record IsShapedDay (date : DayText) (listed : List Item) : Type 0 where
-  pub day : has_shape (codes "dddd-dd-dd") date.0 ≡ true
-  pub count : length listed ≤ 2000
-  pub items : All IsShapedItem listed
-
--- an edit as lines can give it
-abbrev pub IsShaped : Edit → Type 0
-IsShaped (Put service item) = IsShapedItem item
-IsShaped (Withdraw service event) = Unit {0}
-IsShaped (Clear service) = Unit {0}
-IsShaped (Name service provider name) = Unit {0}
-IsShaped (Day service day items) = IsShapedDay day items
 
 -- the head of such an edit
 abbrev pub IsShapedHead : Head → Type 0

@@ -1,14 +1,14 @@
 -- An event as a feed gives it, in the fields of a line.
-use Rattle.std.specs.Prelude.{◌≡◌, ◌≢◌, ℕ, true, ◌==◌, List, [], ◌∷◌, map, Option, Some, None, IfSome, option_map, option_and_then, if◌then◌else◌, codes}
+use Rattle.std.specs.Prelude.{ℕ, ◌==◌, List, [], ◌∷◌, map, Option, Some, None, option_map, option_and_then, if◌then◌else◌, codes}
 use Rattle.std.specs.List.{slice_split}
 use Rattle.si_time.specs.Readings.{has_shape}
 use Rattle.guide_model.specs.declared.event.Genre.{Genre}
 use Rattle.input_lines.specs.Numbers.{is_word, number_in}
-use Rattle.feed_edits.specs.declared.edit.Stamp.{Stamp}
-use Rattle.feed_edits.specs.declared.edit.Length.{Length}
-use Rattle.feed_edits.specs.declared.edit.DayText.{DayText}
-use Rattle.feed_edits.specs.declared.edit.RawRating.{RawRating}
-use Rattle.feed_edits.specs.declared.edit.Item.{Item}
+use Rattle.journal_model.specs.declared.edit.Stamp.{Stamp}
+use Rattle.journal_model.specs.declared.edit.Length.{Length}
+use Rattle.journal_model.specs.declared.edit.DayText.{DayText}
+use Rattle.journal_model.specs.declared.edit.RawRating.{RawRating}
+use Rattle.journal_model.specs.declared.edit.Item.{Item}
 
 -- START, with any digits
 abbrev pub stamp_of : List ℕ → Option Stamp
@@ -80,9 +80,3 @@ item_of fields = None
 unfoldable pub item_line : List (List ℕ) → Option Item
 item_line [] = None
 item_line (word ∷ fields) = if is_word (codes "item") word then item_of fields else None
-
--- an item as a line can give it
-pub record IsShapedItem (item : Item) : Type 0 where
-  pub start : has_shape (codes "dddd-dd-ddTdd:dd:ddZ") item.start.0 ≡ true
-  pub length : has_shape (codes "dd:dd:dd") item.length.0 ≡ true
-  pub country : IfSome item.rating (λ rating. rating.country ≢ [])

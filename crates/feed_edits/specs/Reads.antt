@@ -6,7 +6,7 @@ use Rattle.si_causes.specs.declared.stop.ReadStop.{ReadStop}
 use Rattle.si_causes.specs.declared.stop.ReadStop.TheVariants.{Failed, TooLong as Overlong}
 use Rattle.input_lines.specs.Lines.{record_lines}
 use Rattle.input_lines.specs.Going.{HandedOut, HasEnded, NoneCame, WereWhole}
-use Rattle.feed_edits.specs.declared.edit.Edit.{Edit}
+use Rattle.journal_model.specs.declared.edit.Edit.{Edit}
 use Rattle.feed_edits.specs.declared.stop.EditStop.{EditStop}
 use Rattle.feed_edits.specs.declared.stop.EditStop.TheVariants.{NoCommand as Refused, Read, Memory}
 use Rattle.feed_edits.specs.Ahead.{Ahead, Tail, Ends, Breaks, Exceeds, Found, Came, Stopped, Stop, End, NoCommand, TooLong, Unread, ahead}

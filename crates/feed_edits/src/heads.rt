@@ -2,9 +2,9 @@
 ghost use Rattle.std.specs.Prelude.{◌≡◌, IfOk, IfSome};
 ghost use Rattle.feed_edits.specs.Heads.{IsShapedHead, clear_of, day_head_of, edit_head, name_of, put_of, withdraw_of};
 
-use crate::edit::{DayText, Edit};
 use crate::items::{read_day, read_item};
 use input_lines::{is_word, number};
+use journal_model::{DayText, Edit};
 use si_text::Txt;
 use std::alloc::{AllocError, Global};
 

@@ -1,10 +1,11 @@
 // Events in the fields of a line.
 ghost use Rattle.std.specs.Prelude.{◌≡◌, ◌∷◌, [], IfOk, IfSome};
-ghost use Rattle.feed_edits.specs.Items.{IsShapedItem, day_of, genre_from, genre_of, genres_of, item_line, item_of, length_of, rating_of, stamp_of};
+ghost use Rattle.feed_edits.specs.Items.{day_of, genre_from, genre_of, genres_of, item_line, item_of, length_of, rating_of, stamp_of};
+ghost use Rattle.journal_model.specs.Edits.{IsShapedItem};
 
-use crate::edit::{DayText, Item, Length, RawRating, Stamp};
 use guide_model::{Genre, Genres};
 use input_lines::{is_word, number};
+use journal_model::{DayText, Item, Length, RawRating, Stamp};
 use si_text::Txt;
 use si_time::has_shape;
 use std::alloc::{AllocError, Global};

@@ -5,10 +5,10 @@ use Rattle.std.specs.List.{AllByRecursion, cons_option, flat_map}
 use Rattle.std.proofs.lemmas.List.{reverse-append}
 use Rattle.si_lists.proofs.Lists.{all_push}
 use Rattle.guide_model.specs.declared.event.Event.{Event}
-use Rattle.feed_edits.specs.declared.edit.Item.{Item}
-use Rattle.feed_edits.specs.declared.edit.Edit.{Edit}
-use Rattle.feed_edits.specs.declared.edit.Edit.TheVariants.{Put, Withdraw, Clear, Name, Day}
-use Rattle.feed_edits.specs.declared.edit.DayText.{DayText}
+use Rattle.journal_model.specs.declared.edit.Item.{Item}
+use Rattle.journal_model.specs.declared.edit.Edit.{Edit}
+use Rattle.journal_model.specs.declared.edit.Edit.TheVariants.{Put, Withdraw, Clear, Name, Day}
+use Rattle.journal_model.specs.declared.edit.DayText.{DayText}
 use Rattle.guide_limits.specs.Events.{start_of}
 use Rattle.guide_limits.specs.Readings.{event_of}
 use Rattle.guide_limits.specs.Standing.{or_else, is_on, unless_on, last_item, word_of, sought, ids_in, once, placed, by_start, standing}

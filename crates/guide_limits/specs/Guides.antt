@@ -2,8 +2,8 @@
 use Rattle.std.specs.Prelude.{List, map}
 use Rattle.guide_model.specs.declared.guide.Guide.{Guide}
 use Rattle.si_time.specs.declared.moment.Moment.{Moment}
-use Rattle.mux_config.specs.declared.mux.MuxService.{MuxService}
-use Rattle.feed_edits.specs.declared.edit.Edit.{Edit}
+use Rattle.mux_model.specs.declared.mux.MuxService.{MuxService}
+use Rattle.journal_model.specs.declared.edit.Edit.{Edit}
 use Rattle.guide_limits.specs.Standing.{standing, names_of}
 use Rattle.guide_limits.specs.Kept.{Kept}
 

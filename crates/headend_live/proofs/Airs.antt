@@ -5,19 +5,19 @@ use Rattle.std.specs.Io.KnownBytes.{Appends}
 use Rattle.std.proofs.KnownBytes.{Appends-trans}
 use mathlib.Core.List.{IsPrefix}
 use Rattle.guide_model.specs.declared.guide.Guide.{Guide}
-use Rattle.mux_config.specs.declared.mux.Mux.{Mux}
+use Rattle.mux_model.specs.declared.mux.Mux.{Mux}
 use Rattle.version_book.specs.Airings.{CycleForm, Airing}
 use Rattle.air_model.specs.Air.{Aired, air, airings_of, air_bytes}
 use Rattle.air_model.specs.Making.{cycle_alone}
 use Rattle.air_model.proofs.Airs.{AreMade-push}
 use Rattle.carousel_player.specs.Playing.{Playing, form_of}
 use Rattle.publication.specs.Tables.{tables_of, HasServicesOf}
-use Rattle.desk_core.specs.declared.step.Step.{Step}
-use Rattle.desk_core.specs.declared.step.Step.TheVariants.{Swap}
-use Rattle.desk_core.specs.declared.step.Outcome.{Outcome}
-use Rattle.desk_core.specs.declared.step.Outcome.TheVariants.{Swapped}
-use Rattle.desk_core.specs.declared.step.Airing.{Airing as OnAir}
-use Rattle.desk_core.specs.declared.step.Entry.{Entry}
+use Rattle.journal_model.specs.declared.step.Step.{Step}
+use Rattle.journal_model.specs.declared.step.Step.TheVariants.{Swap}
+use Rattle.journal_model.specs.declared.step.Outcome.{Outcome}
+use Rattle.journal_model.specs.declared.step.Outcome.TheVariants.{Swapped}
+use Rattle.desk_core.specs.declared.airing.Airing.{Airing as OnAir}
+use Rattle.journal_model.specs.declared.step.Entry.{Entry}
 use Rattle.desk_core.specs.Journal.{publishes}
 use Rattle.desk_core.specs.Publications.{aired_by, publication}
 use Rattle.desk_core.specs.Desks.{on_air_of}

@@ -1,12 +1,13 @@
 -- The journal of a run, from what the last pass knows of it.
 use Rattle.std.proofs.Common.{◌≡◌, ◌≢◌, ◌⊎◌, inl, inr, ℕ, zero, suc, List, [], ◌∷◌, ◌++◌, map, refl, sym, ap, ◌∙◌, subst, append-nil, append_assoc}
 use Rattle.std.specs.List.{AllByRecursion}
-use Rattle.mux_config.specs.declared.mux.Mux.{Mux}
+use Rattle.mux_model.specs.declared.mux.Mux.{Mux}
 use Rattle.version_book.specs.Airings.{Airing}
-use Rattle.desk_core.specs.declared.step.Step.TheVariants.{Publish, Swap}
-use Rattle.desk_core.specs.declared.step.Outcome.TheVariants.{Published}
-use Rattle.desk_core.specs.declared.step.Entry.{Entry}
-use Rattle.desk_core.specs.Journal.{Command, Legal, LegalAfter, command_of}
+use Rattle.journal_model.specs.declared.step.Step.TheVariants.{Publish, Swap}
+use Rattle.journal_model.specs.declared.step.Outcome.TheVariants.{Published}
+use Rattle.journal_model.specs.declared.step.Entry.{Entry}
+use Rattle.desk_core.specs.Journal.{Legal, LegalAfter}
+use Rattle.journal_model.specs.Steps.{Command, command_of}
 use Rattle.desk_core.specs.Publications.{aired_by}
 use Rattle.headend_live.specs.Air.{airings_by}
 use Rattle.turn_lock.specs.declared.known.Caller.{Caller}

@@ -5,14 +5,14 @@ use Rattle.std.specs.List.{AllByRecursion}
 use Rattle.std.proofs.Math.Seq.{take-append_seam}
 use native.Mathlib.Decide.{ℕ_discrete, dec_le}
 use mathlib.Core.Logic.{dite}
-use Rattle.mux_config.specs.declared.mux.Mux.{Mux}
-use Rattle.feed_edits.specs.declared.edit.Edit.{Edit}
-use Rattle.desk_core.specs.declared.control.Control.{Control}
-use Rattle.desk_core.specs.declared.control.Control.TheVariants.{Tick, Publish}
+use Rattle.mux_model.specs.declared.mux.Mux.{Mux}
+use Rattle.journal_model.specs.declared.edit.Edit.{Edit}
+use Rattle.journal_model.specs.declared.control.Control.{Control}
+use Rattle.journal_model.specs.declared.control.Control.TheVariants.{Tick, Publish}
 use Rattle.si_causes.specs.Reading.{Reading}
-use Rattle.desk_core.specs.declared.step.Step.{Step}
-use Rattle.desk_core.specs.declared.step.Entry.{Entry}
-use Rattle.desk_core.specs.Journal.{Command, command_of}
+use Rattle.journal_model.specs.declared.step.Step.{Step}
+use Rattle.journal_model.specs.declared.step.Entry.{Entry}
+use Rattle.journal_model.specs.Steps.{Command, command_of}
 use Rattle.headend_live.specs.OnAir.{is_swap}
 use Rattle.turn_lock.specs.declared.known.Caller.{Caller}
 use Rattle.turn_lock.specs.Knowledge.{TableId, HasAny, first_pass, lower_part, upper_part}

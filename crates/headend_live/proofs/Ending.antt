@@ -3,14 +3,15 @@ use Rattle.std.proofs.Common.{◌≡◌, ◌≢◌, inl, inr, ℕ, zero, suc, �
 use Rattle.std.specs.Prelude.{Option, Result, Ok, Err, ◌||◌, is_some}
 use Rattle.std.specs.List.{AllByRecursion}
 use mathlib.Core.List.{IsPrefix}
-use Rattle.mux_config.specs.declared.mux.Mux.{Mux}
+use Rattle.mux_model.specs.declared.mux.Mux.{Mux}
 use Rattle.version_book.specs.Airings.{Airing}
 use Rattle.air_model.specs.Air.{IsAirOf, airings_of}
 use Rattle.carousel_player.specs.Playing.{Playing}
-use Rattle.desk_core.specs.declared.step.Step.TheVariants.{Publish}
-use Rattle.desk_core.specs.declared.step.Outcome.TheVariants.{Published}
-use Rattle.desk_core.specs.declared.step.Entry.{Entry}
-use Rattle.desk_core.specs.Journal.{Command, Legal, command_of}
+use Rattle.journal_model.specs.declared.step.Step.TheVariants.{Publish}
+use Rattle.journal_model.specs.declared.step.Outcome.TheVariants.{Published}
+use Rattle.journal_model.specs.declared.step.Entry.{Entry}
+use Rattle.desk_core.specs.Journal.{Legal}
+use Rattle.journal_model.specs.Steps.{Command, command_of}
 use Rattle.headend_live.specs.declared.send.SendStop.{SendStop}
 use Rattle.headend_live.specs.declared.send.SendStop.TheVariants.{Air, Memory}
 use Rattle.headend_live.specs.Air.{airings, airings_by}

@@ -2,7 +2,7 @@
 use Rattle.std.proofs.Common.{◌≡◌, ℕ, ◌+◌, length, length-append, arith, List, [], ◌∷◌, ◌++◌, refl, sym, ap, ◌∙◌, append-nil, append_assoc}
 use Rattle.si_causes.specs.Reading.{Reading}
 use Rattle.headend_live.specs.declared.jobs.FeedJob.{FeedJob}
-use Rattle.mux_config.specs.declared.mux.Mux.{Mux}
+use Rattle.mux_model.specs.declared.mux.Mux.{Mux}
 use Rattle.turn_lock.specs.Knowledge.{TableId}
 use Rattle.headend_live.specs.Live.{jobs_back, new_feed}
 use Rattle.headend_live.specs.Back.{lines_back}

@@ -3,8 +3,8 @@ use Rattle.std.proofs.Common.{◌≡◌, inl, inr, ℕ, ◌<◌, List, [], ◌�
 use Rattle.std.specs.Prelude.{slice_index_or, Option, None}
 use Rattle.turn_lock.specs.Knowledge.{TableId, Knowledge, HasAny, joined}
 use Rattle.headend_live.specs.declared.jobs.FeedJob.{FeedJob}
-use Rattle.mux_config.specs.declared.mux.Mux.{Mux}
-use Rattle.desk_core.specs.declared.step.Entry.{Entry}
+use Rattle.mux_model.specs.declared.mux.Mux.{Mux}
+use Rattle.journal_model.specs.declared.step.Entry.{Entry}
 use Rattle.turn_lock.specs.declared.known.Caller.{Caller}
 use Rattle.headend_live.specs.Jobs.{AllOf}
 use Rattle.headend_live.specs.declared.live.LiveStop.{LiveStop}

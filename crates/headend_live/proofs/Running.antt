@@ -4,13 +4,13 @@ use Rattle.std.specs.Prelude.{Option, Some, Result, Ok, Err, OnOk, slice_index_o
 use Rattle.std.specs.List.{AllByRecursion}
 use native.Mathlib.Decide.{ℕ_discrete, dec_le}
 use mathlib.Core.Logic.{dite}
-use Rattle.mux_config.specs.declared.mux.Mux.{Mux}
+use Rattle.mux_model.specs.declared.mux.Mux.{Mux}
 use Rattle.si_causes.specs.Causes.{Rose}
 use Rattle.si_causes.proofs.CauseFacts.{Appends-nothing}
 use Rattle.headend_live.specs.OnAir.{HasAirCause}
 use Rattle.si_causes.specs.Reading.{Reading}
 use Rattle.carousel_player.specs.Playing.{Playing, AtEnd}
-use Rattle.desk_core.specs.declared.step.Entry.{Entry}
+use Rattle.journal_model.specs.declared.step.Entry.{Entry}
 use Rattle.headend_live.specs.declared.send.SendStop.{SendStop}
 use Rattle.headend_live.specs.declared.send.SendStop.TheVariants.{Air, Memory}
 use Rattle.turn_lock.specs.declared.known.Caller.{Caller}

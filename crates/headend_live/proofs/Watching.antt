@@ -5,12 +5,12 @@ use Rattle.std.specs.List.{AllByRecursion}
 use Rattle.std.proofs.lemmas.List.{take_all}
 use Rattle.std.proofs.Math.Seq.{take-append-add}
 use Rattle.std.specs.Io.KnownBytes.{Appends}
-use Rattle.mux_config.specs.declared.mux.Mux.{Mux}
+use Rattle.mux_model.specs.declared.mux.Mux.{Mux}
 use Rattle.ts_packets.specs.Bytes.{Packet, bytes_of_packet}
 use Rattle.version_book.specs.Airings.{Airing}
 use Rattle.air_model.specs.Air.{Aired, IsAirOf, air, air_bytes}
 use Rattle.air_model.proofs.Airs.{air-whole, air_bytes-push}
-use Rattle.desk_core.specs.declared.step.Entry.{Entry}
+use Rattle.journal_model.specs.declared.step.Entry.{Entry}
 use Rattle.guide_receiver.specs.Heard.{Hearing, ReceiverStandsFor}
 use Rattle.guide_receiver.specs.Guides.{guide_of}
 use Rattle.guide_screen.specs.declared.need.Heard.{Heard}

@@ -1,14 +1,14 @@
 -- Each caller's commands in the journal of a run.
 use Rattle.std.specs.Prelude.{◌≡◌, ℕ, suc, ◌+◌, ◌<◌, ◌≤◌, List, [], ◌∷◌, ◌++◌, length, map, Option, Some, None, Ok, Err, Result}
 use Rattle.si_causes.specs.Reading.{Reading, text_left}
-use Rattle.mux_config.specs.declared.mux.Mux.{Mux}
+use Rattle.mux_model.specs.declared.mux.Mux.{Mux}
 use Rattle.carousel_player.specs.Playing.{Playing}
 use Rattle.feed_edits.specs.declared.stop.EditStop.{EditStop}
 use Rattle.feed_edits.specs.Ahead.{Ahead, Stop, ahead}
 use Rattle.feed_edits.specs.Edits.{edits_ahead}
-use Rattle.desk_core.specs.declared.step.Step.{Step}
-use Rattle.desk_core.specs.declared.step.Entry.{Entry}
-use Rattle.desk_core.specs.Journal.{Command, command_of}
+use Rattle.journal_model.specs.declared.step.Step.{Step}
+use Rattle.journal_model.specs.declared.step.Entry.{Entry}
+use Rattle.journal_model.specs.Steps.{Command, command_of}
 use Rattle.headend_live.specs.declared.send.SendStop.{SendStop}
 use Rattle.headend_live.specs.declared.send.SendStop.TheVariants.{Air, Memory}
 use Rattle.turn_lock.specs.Journal.{entries_of}

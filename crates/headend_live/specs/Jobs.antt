@@ -2,11 +2,11 @@
 use Rattle.std.specs.Prelude.{◌≡◌, ℕ, ◌^◌, ◌<◌, ◌≤◌, List, [], ◌∷◌, Option, Some, None, OnOk}
 use Rattle.std.specs.Io.KnownBytes.{IsAtEnd}
 use Rattle.si_causes.specs.Reading.{Reading, text_left}
-use Rattle.mux_config.specs.Sound.{IsSound}
+use Rattle.mux_model.specs.Sound.{IsSound}
 use Rattle.feed_edits.specs.declared.stop.EditStop.{EditStop}
 use Rattle.feed_edits.specs.Ahead.{Ahead, Stop, ahead}
 use Rattle.feed_edits.specs.Edits.{edits_ahead}
-use Rattle.desk_core.specs.declared.step.Step.{Step}
+use Rattle.journal_model.specs.declared.step.Step.{Step}
 use Rattle.turn_lock.specs.Knowledge.{TableId}
 use Rattle.headend_live.specs.declared.jobs.FeedJob.{FeedJob}
 use Rattle.headend_live.specs.declared.jobs.ControlJob.{ControlJob}

@@ -1,10 +1,10 @@
 -- How a run ends.
 use Rattle.std.specs.Prelude.{◌≡◌, ◌⊎◌, ℕ, ◌+◌, ◌<◌, Bool, true, false, ◌||◌, is_some, List, [], ◌∷◌, ◌++◌, length, map, take, Option, Some, None, Ok, Err, Result}
-use Rattle.mux_config.specs.declared.mux.Mux.{Mux}
+use Rattle.mux_model.specs.declared.mux.Mux.{Mux}
 use Rattle.carousel_player.specs.Playing.{Playing}
-use Rattle.desk_core.specs.declared.step.Step.TheVariants.{Publish}
-use Rattle.desk_core.specs.declared.step.Outcome.TheVariants.{Published}
-use Rattle.desk_core.specs.declared.step.Entry.{Entry}
+use Rattle.journal_model.specs.declared.step.Step.TheVariants.{Publish}
+use Rattle.journal_model.specs.declared.step.Outcome.TheVariants.{Published}
+use Rattle.journal_model.specs.declared.step.Entry.{Entry}
 use Rattle.headend_live.specs.declared.send.SendStop.{SendStop}
 use Rattle.headend_live.specs.declared.send.SendStop.TheVariants.{Air, Memory}
 use Rattle.turn_lock.specs.declared.known.Caller.{Caller}
@@ -23,7 +23,7 @@ use Rattle.std.specs.Io.KnownBytes.{Appends}
 use Rattle.version_book.specs.Airings.{Airing}
 use Rattle.air_model.specs.Air.{Aired, IsAirOf, airings_of, air_bytes}
 use Rattle.air_model.specs.Making.{AreMade}
-use Rattle.desk_core.specs.Journal.{command_of}
+use Rattle.journal_model.specs.Steps.{command_of}
 use Rattle.headend_live.specs.Air.{airings}
 use Rattle.headend_live.specs.OnAir.{cycle_bytes}
 use Rattle.headend_live.specs.Playing.{SwapsPlayed, HasPlayedTo, HasPlayedFront, HasPlayedSome}

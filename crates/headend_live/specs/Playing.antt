@@ -2,16 +2,16 @@
 use Rattle.std.specs.Prelude.{◌≡◌, ◌⊎◌, ℕ, suc, ◌<◌, ◌≤◌, List, [], ◌∷◌, ◌++◌, length, take, replicate, Option, Ok, Err, Result}
 use Rattle.std.specs.Io.KnownBytes.{Appends}
 use mathlib.Core.List.{IsPrefix}
-use Rattle.mux_config.specs.declared.mux.Mux.{Mux}
+use Rattle.mux_model.specs.declared.mux.Mux.{Mux}
 use Rattle.version_book.specs.Airings.{Airing}
 use Rattle.air_model.specs.Air.{Aired, IsAirOf, airings_of, air_bytes}
 use Rattle.air_model.specs.Making.{AreMade}
 use Rattle.carousel_player.specs.Playing.{Playing, AtEnd, form_of}
-use Rattle.desk_core.specs.declared.step.Step.TheVariants.{Swap}
-use Rattle.desk_core.specs.declared.step.Outcome.TheVariants.{Swapped}
-use Rattle.desk_core.specs.declared.step.Airing.{Airing as OnAir}
-use Rattle.desk_core.specs.declared.step.Entry.{Entry}
-use Rattle.desk_core.specs.Journal.{Command}
+use Rattle.journal_model.specs.declared.step.Step.TheVariants.{Swap}
+use Rattle.journal_model.specs.declared.step.Outcome.TheVariants.{Swapped}
+use Rattle.desk_core.specs.declared.airing.Airing.{Airing as OnAir}
+use Rattle.journal_model.specs.declared.step.Entry.{Entry}
+use Rattle.journal_model.specs.Steps.{Command}
 use Rattle.desk_core.specs.Desks.{on_air_of}
 use Rattle.headend_live.specs.declared.send.SendStop.{SendStop}
 use Rattle.headend_live.specs.declared.send.SendStop.TheVariants.{Air, Memory}

@@ -6,12 +6,12 @@ use Rattle.guide_model.specs.declared.event.Event.{Event}
 use Rattle.guide_model.specs.declared.guide.Guide.{Guide}
 use Rattle.guide_model.specs.declared.screen.ScreenEvent.{ScreenEvent}
 use Rattle.guide_model.specs.declared.screen.ScreenService.{ScreenService}
-use Rattle.mux_config.specs.declared.mux.MuxService.{MuxService}
-use Rattle.mux_config.specs.declared.mux.Mux.{Mux}
+use Rattle.mux_model.specs.declared.mux.MuxService.{MuxService}
+use Rattle.mux_model.specs.declared.mux.Mux.{Mux}
 use Rattle.version_book.specs.Airings.{Airing}
-use Rattle.desk_core.specs.declared.step.Step.TheVariants.{Publish, Swap}
-use Rattle.desk_core.specs.declared.step.Outcome.TheVariants.{Published, Swapped}
-use Rattle.desk_core.specs.declared.step.Entry.{Entry}
+use Rattle.journal_model.specs.declared.step.Step.TheVariants.{Publish, Swap}
+use Rattle.journal_model.specs.declared.step.Outcome.TheVariants.{Published, Swapped}
+use Rattle.journal_model.specs.declared.step.Entry.{Entry}
 use Rattle.desk_core.specs.Publications.{swaps}
 use Rattle.headend_live.specs.Air.{airings}
 use Rattle.headend_live.specs.Screen.{screen_of}

@@ -7,8 +7,8 @@ use Rattle.guide_model.specs.declared.guide.ServiceGuide.{ServiceGuide}
 use Rattle.guide_model.specs.declared.screen.Screen.{Screen}
 use Rattle.guide_model.specs.declared.screen.ScreenEvent.{ScreenEvent}
 use Rattle.guide_model.specs.declared.screen.ScreenService.{ScreenService}
-use Rattle.mux_config.specs.declared.mux.Mux.{Mux}
-use Rattle.mux_config.specs.declared.mux.MuxService.{MuxService}
+use Rattle.mux_model.specs.declared.mux.Mux.{Mux}
+use Rattle.mux_model.specs.declared.mux.MuxService.{MuxService}
 use Rattle.guide_limits.specs.Events.{start_of, midnight}
 use Rattle.eit_codec.specs.Eit.{shown_event}
 use Rattle.eit_tables.specs.Present.{present_event, following_event}

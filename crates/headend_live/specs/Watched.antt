@@ -1,7 +1,7 @@
 -- A run whose air is heard.
 use Rattle.std.specs.Prelude.{◌≡◌, ◌≢◌, ◌↔◌, ℕ, Bool, true, false, List, drop, Option, Some, None, IfSome, IsSome, Result}
 use Rattle.std.specs.Io.KnownBytes.{Appends}
-use Rattle.mux_config.specs.declared.mux.Mux.{Mux}
+use Rattle.mux_model.specs.declared.mux.Mux.{Mux}
 use Rattle.si_causes.specs.Reading.{Reading}
 use Rattle.carousel_player.specs.Playing.{Playing}
 use Rattle.turn_lock.specs.Knowledge.{TableId}

@@ -1,10 +1,11 @@
 -- A whole journal, by the callers that made it.
 use Rattle.std.specs.Prelude.{◌≡◌, ◌≢◌, ℕ, false, List, [], ◌∷◌, ◌++◌}
 use Rattle.std.specs.List.{AllByRecursion}
-use Rattle.mux_config.specs.declared.mux.Mux.{Mux}
-use Rattle.desk_core.specs.declared.step.Step.TheVariants.{Publish, Swap}
-use Rattle.desk_core.specs.declared.step.Entry.{Entry}
-use Rattle.desk_core.specs.Journal.{Command, Legal}
+use Rattle.mux_model.specs.declared.mux.Mux.{Mux}
+use Rattle.journal_model.specs.declared.step.Step.TheVariants.{Publish, Swap}
+use Rattle.journal_model.specs.declared.step.Entry.{Entry}
+use Rattle.desk_core.specs.Journal.{Legal}
+use Rattle.journal_model.specs.Steps.{Command}
 use Rattle.headend_live.specs.Air.{airings, airings_by}
 use Rattle.headend_live.specs.OnAir.{is_swap}
 use Rattle.turn_lock.specs.declared.known.Caller.{Caller}

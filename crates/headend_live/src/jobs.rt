@@ -8,7 +8,7 @@ use crate::send::SendStop;
 use carousel_player::Player;
 use desk_hall::{Hall, HallPass};
 use feed_edits::EditStop;
-use mux_config::Mux;
+use mux_model::Mux;
 use si_causes::{Gate, LineReader, Sink, Source};
 use std::alloc::Global;
 use std::sync::Wait;

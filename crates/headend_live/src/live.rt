@@ -1,8 +1,8 @@
 // The end of a run: the passes come together, the control publishes and swaps, and the hall is closed.
 ghost use Rattle.std.specs.Prelude.{◌≡◌, ◌≢◌, ◌+◌, ◌≤◌, ◌<◌, ◌++◌, ◌^◌, ℕ, OnOk, OnErr, IfOk, List, [], ◌∷◌, Option, Some, None, Bool, false, ◌||◌, is_some, Err, length, vec_len, vec_capacity};
 ghost use mathlib.Core.List.{IsPrefix};
-ghost use Rattle.mux_config.specs.Sound.{IsSound};
-ghost use Rattle.mux_config.specs.declared.mux.Mux.{Mux as AMux};
+ghost use Rattle.mux_model.specs.Sound.{IsSound};
+ghost use Rattle.mux_model.specs.declared.mux.Mux.{Mux as AMux};
 ghost use Rattle.air_model.specs.Air.{Aired};
 ghost use Rattle.carousel_player.specs.Playing.{AtEnd, Playing};
 ghost use Rattle.turn_lock.specs.Knowledge.{HasAny, TableId, first_pass, numbers};
@@ -23,7 +23,7 @@ use carousel_player::Player;
 use desk_core::Desk;
 use desk_hall::{Hall, HallPass, HallState};
 use feed_edits::EditStop;
-use mux_config::Mux;
+use mux_model::Mux;
 use si_causes::{Gate, LineReader, Sink, Source};
 use std::alloc::{AllocError, Global};
 use std::sync::Wait;

@@ -2,14 +2,14 @@
 ghost use Rattle.std.specs.Prelude.{◌≡◌, ◌≤◌, ◌<◌, ◌^◌, [], List, Some, OnOk};
 ghost use Rattle.air_model.specs.Air.{Aired};
 ghost use Rattle.carousel_player.specs.Playing.{AtEnd};
-ghost use Rattle.mux_config.specs.Sound.{IsSound};
+ghost use Rattle.mux_model.specs.Sound.{IsSound};
 ghost use Rattle.headend_live.specs.OnAir.{HasAirCause};
 ghost use Rattle.headend_live.specs.Playing.{SwapPlayed, SwapsPlayed};
 
 use crate::send::{SendStop, send_cycle};
 use carousel_player::Player;
 use desk_hall::{Hall, HallPass};
-use mux_config::Mux;
+use mux_model::Mux;
 use si_causes::{Gate, Place, Sink};
 use std::alloc::Global;
 use std::sync::Wait;

@@ -1,6 +1,6 @@
 // A run of feeds, control and player, whose air is heard.
 ghost use Rattle.std.specs.Prelude.{◌≡◌, ◌≤◌, ◌↔◌, Bool, true, List, ℕ, Option, None, Some, OnErr, IfOk, IfSome, IsSome, [], length};
-ghost use Rattle.mux_config.specs.Sound.{IsSound};
+ghost use Rattle.mux_model.specs.Sound.{IsSound};
 ghost use Rattle.headend_live.specs.OnAir.{HasAirCause};
 ghost use Rattle.guide_receiver.specs.Heard.{ReceiverStandsFor};
 ghost use Rattle.guide_receiver.specs.Guides.{guide_of};
@@ -13,7 +13,7 @@ use crate::live::{Ended, LiveStop, and_stop, run_hall};
 use air_monitor::{DoneLines, Monitor, MonitorLog};
 use desk_core::Desk;
 use guide_receiver::{Heard, Receiver};
-use mux_config::Mux;
+use mux_model::Mux;
 use si_causes::{Gate, LineReader, Sink, Source};
 use std::alloc::{AllocError, Global};
 use std::sync::Wait;

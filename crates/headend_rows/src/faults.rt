@@ -1,7 +1,7 @@
 // Inputs that stop at one of their lines.
 use crate::runs::{MUX, joined, playing, status_of};
-use desk_core::Outcome;
 use epg_cli::Status;
+use journal_model::Outcome;
 use mux_config::MuxFault;
 use std::alloc::{AllocError, Global};
 use std::marker::Sync;

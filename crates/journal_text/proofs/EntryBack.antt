@@ -11,28 +11,25 @@ use Rattle.si_time.specs.declared.moment.Moment.{Moment}
 use Rattle.input_lines.specs.Fields.{record_of}
 use Rattle.input_lines.specs.Lines.{record_lines}
 use Rattle.input_lines.specs.Numbers.{is_word, is_digit}
-use Rattle.feed_edits.specs.declared.edit.Item.{Item}
-use Rattle.feed_edits.specs.declared.edit.Edit.{Edit}
-use Rattle.feed_edits.specs.declared.edit.Edit.TheVariants.{Put, Withdraw, Clear, Name, Day}
+use Rattle.journal_model.specs.declared.edit.Item.{Item}
+use Rattle.journal_model.specs.declared.edit.Edit.{Edit}
+use Rattle.journal_model.specs.declared.edit.Edit.TheVariants.{Put, Withdraw, Clear, Name, Day}
 use Rattle.feed_edits.specs.Ahead.{Ahead, Row, Tail, Came, and_then}
 use Rattle.feed_edits.specs.Edits.{on_line, read_edit}
-use Rattle.feed_edits.specs.Items.{IsShapedItem}
-use Rattle.feed_edits.specs.Heads.{IsShaped}
+use Rattle.journal_model.specs.Edits.{IsShapedItem, IsShaped, IsTypedItem, IsTypedEdit}
 use Rattle.feed_edits.specs.Back.{HaveFields, edit_fields, item_rows}
-use Rattle.feed_edits.specs.Typed.{IsTypedItem, IsTypedEdit}
 use Rattle.feed_edits.proofs.Back.{edits_read_back, number_back}
 use Rattle.feed_edits.proofs.Typed.{typed_numbers}
-use Rattle.desk_core.specs.declared.step.Step.{Step}
-use Rattle.desk_core.specs.declared.step.Step.TheVariants.{Edit as edit, Tick, Publish, Swap}
-use Rattle.desk_core.specs.declared.step.Outcome.{Outcome}
-use Rattle.desk_core.specs.declared.step.Entry.{Entry}
-use Rattle.desk_core.specs.Controls.{control_of}
-use Rattle.desk_core.specs.Steps.{IsStepWithin}
+use Rattle.journal_model.specs.declared.step.Step.{Step}
+use Rattle.journal_model.specs.declared.step.Step.TheVariants.{Edit as edit, Tick, Publish, Swap}
+use Rattle.journal_model.specs.declared.step.Outcome.{Outcome}
+use Rattle.journal_model.specs.declared.step.Entry.{Entry}
+use Rattle.control_lines.specs.Controls.{control_of}
+use Rattle.journal_model.specs.Steps.{IsStepWithin, IsTypedStep}
 use Rattle.journal_text.specs.declared.script.ScriptItem.TheVariants.{Step as step, Kept}
 use Rattle.journal_text.specs.Edits.{line_text, item_text, item_row, items_of}
 use Rattle.journal_text.specs.Entries.{step_fields, step_items, entry_text}
 use Rattle.journal_text.specs.Script.{feed_of, feed_command, short_step, command_with, command_of_caller, command_by, read_command, kept_in, kept_item, step_item, read_item, item_on, first_script_item, IsShapedStep}
-use Rattle.journal_text.specs.Typed.{IsTypedStep}
 use Rattle.journal_text.specs.Back.{IsNumeralNumber, IsRow, IsShort, command_row, outcome_row, row_line, shown_lines, ahead_of, command_lines, IsReadableOutcome, IsWritableOutcome, EntriesReadBack}
 use Rattle.journal_text.proofs.RowBack.{rows_read_back}
 use Rattle.journal_text.proofs.OutcomeBack.{outcome_back, numeral_back, moment_back, digits_of, low}

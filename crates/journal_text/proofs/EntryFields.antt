@@ -8,22 +8,19 @@ use Rattle.std.proofs.lemmas.Bool.{and_parts}
 use Rattle.si_text.specs.Decoding.{IsKept}
 use Rattle.input_lines.specs.Numbers.{is_digit}
 use Rattle.guide_model.specs.declared.event.Genre.{Genre}
-use Rattle.feed_edits.specs.declared.edit.RawRating.{RawRating}
-use Rattle.feed_edits.specs.declared.edit.Item.{Item}
-use Rattle.feed_edits.specs.declared.edit.Edit.{Edit}
-use Rattle.feed_edits.specs.declared.edit.Edit.TheVariants.{Put, Withdraw, Clear, Name, Day}
-use Rattle.feed_edits.specs.Items.{IsShapedItem}
-use Rattle.feed_edits.specs.Heads.{IsShaped}
-use Rattle.feed_edits.specs.Back.{genre_field, genres_field, rating_field, item_fields, edit_fields, country_field, HasGenreNumbers}
-use Rattle.feed_edits.specs.Typed.{IsTypedItem, IsTypedEdit}
-use Rattle.desk_core.specs.declared.step.Step.{Step}
-use Rattle.desk_core.specs.declared.step.Step.TheVariants.{Edit as edit, Tick, Publish, Swap}
-use Rattle.desk_core.specs.Steps.{IsStepWithin}
+use Rattle.journal_model.specs.declared.edit.RawRating.{RawRating}
+use Rattle.journal_model.specs.declared.edit.Item.{Item}
+use Rattle.journal_model.specs.declared.edit.Edit.{Edit}
+use Rattle.journal_model.specs.declared.edit.Edit.TheVariants.{Put, Withdraw, Clear, Name, Day}
+use Rattle.journal_model.specs.Edits.{IsShapedItem, IsShaped, HasGenreNumbers, IsTypedItem, IsTypedEdit}
+use Rattle.feed_edits.specs.Back.{genre_field, genres_field, rating_field, item_fields, edit_fields, country_field}
+use Rattle.journal_model.specs.declared.step.Step.{Step}
+use Rattle.journal_model.specs.declared.step.Step.TheVariants.{Edit as edit, Tick, Publish, Swap}
+use Rattle.journal_model.specs.Steps.{IsStepWithin, IsTypedStep}
 use Rattle.journal_text.specs.Edits.{item_row}
 use Rattle.journal_text.specs.Entries.{step_fields}
 use Rattle.journal_text.specs.Script.{IsShapedStep}
 use Rattle.journal_text.specs.Back.{IsFront, IsFronted, command_row}
-use Rattle.journal_text.specs.Typed.{IsTypedStep}
 use Rattle.journal_text.proofs.OutcomeBack.{digits_of, decimal_some, small}
 use Rattle.journal_text.proofs.EntryRows.{is_printing, is_written, printing_kept, digits_printing, shape_written, written_kept, moment_written, number_kept}
 

@@ -13,13 +13,13 @@ use Rattle.input_lines.specs.Numbers.{is_digit}
 use Rattle.input_lines.proofs.CleanText.{is_plain_char, IsClean}
 use Rattle.input_lines.proofs.CleanLines.{kept_from}
 use Rattle.si_time.proofs.TextFacts.{moment_in-only, moment_in-moment_text}
-use Rattle.feed_book.specs.declared.reply.Field.{Field}
-use Rattle.feed_book.specs.declared.reply.Field.TheVariants.{Start, Duration, Window, Language, Name, Short, Extended, Country, Rating, Genre, Provider, ServiceName, Count, Segment}
-use Rattle.feed_book.specs.declared.reply.DayFault.{DayFault}
-use Rattle.feed_book.specs.declared.reply.DayFault.TheVariants.{Range as BadField, Overlap as Overlaps}
-use Rattle.feed_book.specs.declared.reply.Reply.TheVariants.{Done, Foreign, Range, Overlap, Member}
-use Rattle.desk_core.specs.declared.step.Outcome.{Outcome}
-use Rattle.desk_core.specs.declared.step.Outcome.TheVariants.{Edited, Ticked, Late, Published, Swapped}
+use Rattle.journal_model.specs.declared.reply.Field.{Field}
+use Rattle.journal_model.specs.declared.reply.Field.TheVariants.{Start, Duration, Window, Language, Name, Short, Extended, Country, Rating, Genre, Provider, ServiceName, Count, Segment}
+use Rattle.journal_model.specs.declared.reply.DayFault.{DayFault}
+use Rattle.journal_model.specs.declared.reply.DayFault.TheVariants.{Range as BadField, Overlap as Overlaps}
+use Rattle.journal_model.specs.declared.reply.Reply.TheVariants.{Done, Foreign, Range, Overlap, Member}
+use Rattle.journal_model.specs.declared.step.Outcome.{Outcome}
+use Rattle.journal_model.specs.declared.step.Outcome.TheVariants.{Edited, Ticked, Late, Published, Swapped}
 use Rattle.journal_text.specs.Edits.{line_text}
 use Rattle.journal_text.specs.Outcomes.{field_fields, day_fault_fields, outcome_fields, outcome_text, with_commas}
 use Rattle.journal_text.specs.Back.{HasFieldNumber, HasDayFaultNumbers, HasOutcomeNumbers, field_numbers, day_fault_numbers, outcome_numbers, IsFronted, IsReadableOutcome, IsWritableOutcome, row_line, outcome_row}

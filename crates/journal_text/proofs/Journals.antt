@@ -13,34 +13,32 @@ use Rattle.si_causes.specs.Lines.{raw_lines}
 use Rattle.si_text.specs.Decoding.{IsKept}
 use Rattle.input_lines.specs.Fields.{line_fields}
 use Rattle.input_lines.specs.Numbers.{is_digit, is_word, value_from}
-use Rattle.feed_book.specs.declared.reply.Field.{Field}
-use Rattle.feed_book.specs.declared.reply.Field.TheVariants.{Start, Duration, Window, Language, Name as NameField, Short, Extended, Country, Rating, Genre, Provider, ServiceName, Count, Segment}
-use Rattle.feed_book.specs.declared.reply.DayFault.{DayFault}
-use Rattle.feed_book.specs.declared.reply.DayFault.TheVariants.{Range as BadField, Overlap as Overlaps}
-use Rattle.feed_book.specs.declared.reply.Reply.{Reply}
-use Rattle.feed_book.specs.declared.reply.Reply.TheVariants.{Done, Foreign, Range, Overlap, Member}
-use Rattle.feed_edits.specs.declared.edit.Item.{Item}
-use Rattle.feed_edits.specs.declared.edit.Edit.{Edit}
-use Rattle.feed_edits.specs.declared.edit.Edit.TheVariants.{Put, Withdraw, Clear, Name, Day}
-use Rattle.feed_edits.specs.Items.{all_some, item_of, item_line, IsShapedItem}
-use Rattle.feed_edits.specs.Heads.{IsShaped}
-use Rattle.feed_edits.specs.Back.{HasNumbers, edit_fields}
-use Rattle.feed_edits.specs.Typed.{IsTypedItem}
+use Rattle.journal_model.specs.declared.reply.Field.{Field}
+use Rattle.journal_model.specs.declared.reply.Field.TheVariants.{Start, Duration, Window, Language, Name as NameField, Short, Extended, Country, Rating, Genre, Provider, ServiceName, Count, Segment}
+use Rattle.journal_model.specs.declared.reply.DayFault.{DayFault}
+use Rattle.journal_model.specs.declared.reply.DayFault.TheVariants.{Range as BadField, Overlap as Overlaps}
+use Rattle.journal_model.specs.declared.reply.Reply.{Reply}
+use Rattle.journal_model.specs.declared.reply.Reply.TheVariants.{Done, Foreign, Range, Overlap, Member}
+use Rattle.journal_model.specs.declared.edit.Item.{Item}
+use Rattle.journal_model.specs.declared.edit.Edit.{Edit}
+use Rattle.journal_model.specs.declared.edit.Edit.TheVariants.{Put, Withdraw, Clear, Name, Day}
+use Rattle.feed_edits.specs.Items.{all_some, item_of, item_line}
+use Rattle.journal_model.specs.Edits.{IsShapedItem, IsShaped, HasNumbers, IsTypedItem}
+use Rattle.feed_edits.specs.Back.{edit_fields}
 use Rattle.feed_edits.proofs.Back.{number_back, item_back, item_line_back}
 use Rattle.feed_edits.proofs.Typed.{typed_numbers}
-use Rattle.desk_core.specs.declared.step.Step.{Step}
-use Rattle.desk_core.specs.declared.step.Step.TheVariants.{Edit as edit, Tick, Publish, Swap}
-use Rattle.desk_core.specs.declared.step.Outcome.{Outcome}
-use Rattle.desk_core.specs.declared.step.Outcome.TheVariants.{Edited, Ticked, Late, Published, Swapped}
-use Rattle.desk_core.specs.declared.step.Entry.{Entry}
-use Rattle.desk_core.specs.Steps.{IsStepWithin}
-use Rattle.desk_core.specs.Controls.{moment_at}
+use Rattle.journal_model.specs.declared.step.Step.{Step}
+use Rattle.journal_model.specs.declared.step.Step.TheVariants.{Edit as edit, Tick, Publish, Swap}
+use Rattle.journal_model.specs.declared.step.Outcome.{Outcome}
+use Rattle.journal_model.specs.declared.step.Outcome.TheVariants.{Edited, Ticked, Late, Published, Swapped}
+use Rattle.journal_model.specs.declared.step.Entry.{Entry}
+use Rattle.journal_model.specs.Steps.{IsStepWithin, IsTypedStep}
+use Rattle.control_lines.specs.Controls.{moment_at}
 use Rattle.journal_text.specs.Edits.{line_text, item_text, item_row, items_of}
 use Rattle.journal_text.specs.Entries.{step_fields, step_items, entry_text, journal_text}
 use Rattle.journal_text.specs.Outcomes.{field_fields, day_fault_fields, outcome_fields}
 use Rattle.journal_text.specs.Kept.{event_word, other_word, or_else}
 use Rattle.journal_text.specs.Script.{short_step, feed_of, IsShapedStep}
-use Rattle.journal_text.specs.Typed.{IsTypedStep}
 use Rattle.journal_text.specs.Back.{IsFronted, IsWritableOutcome, IsOfLines, command_row, outcome_row, row_line, field_numbers, day_fault_numbers, BeginsNoEntry, JournalsDiffer, JournalsEnd}
 use Rattle.journal_text.proofs.CleanRows.{row_clean, all_clean, clean_inner, line_first}
 use Rattle.journal_text.proofs.RowBack.{fields_back}

@@ -1,5 +1,4 @@
 pub mod LineFacts
-pub mod WindowFacts
 pub mod ScriptFacts
 pub mod ItemsAhead
 pub mod TypedFacts

@@ -10,14 +10,14 @@ use Rattle.si_time.specs.declared.moment.Moment.{Moment}
 use Rattle.si_time.proofs.TextFacts.{moment_in-moment_text}
 use Rattle.input_lines.specs.Numbers.{is_digit, is_numeral, value_from, numeral_of}
 use Rattle.feed_edits.proofs.Back.{number_back}
-use Rattle.feed_book.specs.declared.reply.Field.{Field}
-use Rattle.feed_book.specs.declared.reply.Field.TheVariants.{Start, Duration, Window, Language, Name, Short, Extended, Country, Rating, Genre, Provider, ServiceName, Count, Segment}
-use Rattle.feed_book.specs.declared.reply.DayFault.{DayFault}
-use Rattle.feed_book.specs.declared.reply.DayFault.TheVariants.{Range as BadField, Overlap as Overlaps}
-use Rattle.feed_book.specs.declared.reply.Reply.TheVariants.{Done, Foreign, Range, Overlap, Member}
-use Rattle.desk_core.specs.declared.step.Outcome.{Outcome}
-use Rattle.desk_core.specs.declared.step.Outcome.TheVariants.{Edited, Ticked, Late, Published, Swapped}
-use Rattle.desk_core.specs.Controls.{moment_at}
+use Rattle.journal_model.specs.declared.reply.Field.{Field}
+use Rattle.journal_model.specs.declared.reply.Field.TheVariants.{Start, Duration, Window, Language, Name, Short, Extended, Country, Rating, Genre, Provider, ServiceName, Count, Segment}
+use Rattle.journal_model.specs.declared.reply.DayFault.{DayFault}
+use Rattle.journal_model.specs.declared.reply.DayFault.TheVariants.{Range as BadField, Overlap as Overlaps}
+use Rattle.journal_model.specs.declared.reply.Reply.TheVariants.{Done, Foreign, Range, Overlap, Member}
+use Rattle.journal_model.specs.declared.step.Outcome.{Outcome}
+use Rattle.journal_model.specs.declared.step.Outcome.TheVariants.{Edited, Ticked, Late, Published, Swapped}
+use Rattle.control_lines.specs.Controls.{moment_at}
 use Rattle.journal_text.specs.Outcomes.{field_text, field_fields, day_fault_text, day_fault_fields, outcome_fields, with_commas}
 use Rattle.journal_text.specs.Kept.{field_of, day_fault_of, reply_of, outcome_of_fields}
 use Rattle.journal_text.specs.Back.{IsNumeralNumber, HasFieldNumber, HasDayFaultNumbers, IsReadableOutcome, OutcomesAreFields}

@@ -8,17 +8,17 @@ use Rattle.input_lines.specs.Fields.{record_of}
 use Rattle.input_lines.specs.Lines.{lines_of}
 use Rattle.input_lines.specs.Going.{LineCame, RecordCame}
 use Rattle.input_lines.specs.Records.{FirstRecord, NoRecord, GivesRecord}
-use Rattle.feed_edits.specs.declared.edit.Edit.{Edit}
+use Rattle.journal_model.specs.declared.edit.Edit.{Edit}
 use Rattle.feed_edits.specs.declared.stop.EditStop.{EditStop}
 use Rattle.feed_edits.specs.declared.stop.EditStop.TheVariants.{NoCommand as Refused, Read, Memory}
 use Rattle.feed_edits.specs.Ahead.{Ahead, Row, Found, Came, Stopped, Stop, End as end, NoCommand, and_then, first_row, stop_at, ahead, Tail}
 use Rattle.feed_edits.specs.Edits.{on_line, read_edit}
 use Rattle.feed_edits.specs.Reads.{Leaves, Gives, Passes, Takes, Says, Looked, ahead_with}
 use Rattle.feed_edits.proofs.Turns.{Known, looked_none, passes_step, leaves_step, row_passes, row_leaves, row_stop_takes, row_stop_gives, row_none, takes_stop, gives_stop, takes_join, gives_join, gives_same, passes_same, leaves_same}
-use Rattle.desk_core.specs.declared.step.Step.{Step}
-use Rattle.desk_core.specs.declared.step.Step.TheVariants.{Edit as edit}
-use Rattle.desk_core.specs.declared.step.Outcome.{Outcome}
-use Rattle.desk_core.specs.Journal.{Command}
+use Rattle.journal_model.specs.declared.step.Step.{Step}
+use Rattle.journal_model.specs.declared.step.Step.TheVariants.{Edit as edit}
+use Rattle.journal_model.specs.declared.step.Outcome.{Outcome}
+use Rattle.journal_model.specs.Steps.{Command}
 use Rattle.journal_text.specs.declared.script.ScriptItem.{ScriptItem}
 use Rattle.journal_text.specs.declared.script.ScriptItem.TheVariants.{Step as step, Kept, End}
 use Rattle.journal_text.specs.Script.{command_with, command_of_caller, command_by, caller_of, read_command, feed_of, feed_command, short_step, is_outcome_line, kept_in, kept_item, step_item, read_item, item_on, first_script_item}

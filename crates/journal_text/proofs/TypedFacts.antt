@@ -8,18 +8,18 @@ use Rattle.input_lines.specs.Fields.{record_of}
 use Rattle.input_lines.specs.Numbers.{is_word, number_in}
 use Rattle.feed_edits.specs.Ahead.{Ahead, Row, Found, Came, Stopped, first_row, stop_at}
 use Rattle.feed_edits.specs.Edits.{on_line, read_edit}
-use Rattle.feed_edits.specs.Typed.{IsTypedEdit, IfCame}
+use Rattle.feed_edits.specs.Typed.{IfCame}
+use Rattle.journal_model.specs.Edits.{IsTypedEdit}
 use Rattle.feed_edits.proofs.Typed.{number_within, record_kept, read_typed, then_came, any_came, line_came}
-use Rattle.desk_core.specs.declared.control.Control.{Control}
-use Rattle.desk_core.specs.declared.control.Control.TheVariants.{Tick as tick, Publish as publish}
-use Rattle.desk_core.specs.declared.step.Step.{Step}
-use Rattle.desk_core.specs.declared.step.Step.TheVariants.{Swap}
-use Rattle.desk_core.specs.declared.step.Outcome.{Outcome}
-use Rattle.desk_core.specs.Journal.{Command}
-use Rattle.desk_core.specs.Controls.{control_of}
+use Rattle.journal_model.specs.declared.control.Control.{Control}
+use Rattle.journal_model.specs.declared.control.Control.TheVariants.{Tick as tick, Publish as publish}
+use Rattle.journal_model.specs.declared.step.Step.{Step}
+use Rattle.journal_model.specs.declared.step.Step.TheVariants.{Swap}
+use Rattle.journal_model.specs.declared.step.Outcome.{Outcome}
+use Rattle.journal_model.specs.Steps.{Command, IsTypedStep}
+use Rattle.control_lines.specs.Controls.{control_of}
 use Rattle.journal_text.specs.declared.script.ScriptItem.{ScriptItem}
 use Rattle.journal_text.specs.Script.{is_swap, control_step, short_step, feed_of, command_with, caller_of, command_by, read_command, is_outcome_line, kept_in, kept_item, step_item, read_item, first_script_item, is_command, and_items, items_upto, items_ahead}
-use Rattle.journal_text.specs.Typed.{IsTypedStep}
 use Rattle.journal_text.specs.ScriptLaws.{IsTypedScriptItem, ItemsAreTyped}
 
 abbrev IsTypedCommand : Command → Type 0

@@ -7,25 +7,24 @@ use Rattle.si_text.specs.Decoding.{IsKept}
 use Rattle.input_lines.specs.Fields.{record_of}
 use Rattle.input_lines.specs.Lines.{is_passed, record_lines}
 use Rattle.input_lines.specs.Numbers.{is_digit}
-use Rattle.feed_book.specs.declared.reply.Field.{Field}
-use Rattle.feed_book.specs.declared.reply.Field.TheVariants.{Start, Duration, Window, Language, Name, Short, Extended, Country, Rating, Genre, Provider, ServiceName, Count, Segment}
-use Rattle.feed_book.specs.declared.reply.DayFault.{DayFault}
-use Rattle.feed_book.specs.declared.reply.DayFault.TheVariants.{Range as BadField, Overlap as Overlaps}
-use Rattle.feed_book.specs.declared.reply.Reply.{Reply}
-use Rattle.feed_book.specs.declared.reply.Reply.TheVariants.{Done, Foreign, Range, Overlap, Member}
-use Rattle.desk_core.specs.declared.step.Outcome.{Outcome}
-use Rattle.desk_core.specs.declared.step.Outcome.TheVariants.{Edited, Ticked, Late, Published, Swapped}
-use Rattle.feed_edits.specs.declared.edit.Item.{Item}
+use Rattle.journal_model.specs.declared.reply.Field.{Field}
+use Rattle.journal_model.specs.declared.reply.Field.TheVariants.{Start, Duration, Window, Language, Name, Short, Extended, Country, Rating, Genre, Provider, ServiceName, Count, Segment}
+use Rattle.journal_model.specs.declared.reply.DayFault.{DayFault}
+use Rattle.journal_model.specs.declared.reply.DayFault.TheVariants.{Range as BadField, Overlap as Overlaps}
+use Rattle.journal_model.specs.declared.reply.Reply.{Reply}
+use Rattle.journal_model.specs.declared.reply.Reply.TheVariants.{Done, Foreign, Range, Overlap, Member}
+use Rattle.journal_model.specs.declared.step.Outcome.{Outcome}
+use Rattle.journal_model.specs.declared.step.Outcome.TheVariants.{Edited, Ticked, Late, Published, Swapped}
+use Rattle.journal_model.specs.declared.edit.Item.{Item}
 use Rattle.feed_edits.specs.Ahead.{Ahead, Tail, Came}
-use Rattle.desk_core.specs.declared.step.Step.{Step}
-use Rattle.desk_core.specs.declared.step.Entry.{Entry}
-use Rattle.desk_core.specs.Steps.{IsStepWithin}
+use Rattle.journal_model.specs.declared.step.Step.{Step}
+use Rattle.journal_model.specs.declared.step.Entry.{Entry}
+use Rattle.journal_model.specs.Steps.{IsStepWithin, IsTypedStep, IsInWindow}
 use Rattle.journal_text.specs.declared.script.ScriptItem.TheVariants.{Step as step, Kept}
 use Rattle.journal_text.specs.Edits.{line_text, item_row}
 use Rattle.journal_text.specs.Entries.{step_fields, step_items, entry_text, journal_text}
 use Rattle.journal_text.specs.Script.{first_script_item, IsShapedStep}
-use Rattle.journal_text.specs.Typed.{IsTypedStep}
-use Rattle.journal_text.specs.Outcomes.{outcome_text, outcome_fields, with_commas, IsInWindow}
+use Rattle.journal_text.specs.Outcomes.{outcome_text, outcome_fields, with_commas}
 use Rattle.journal_text.specs.Kept.{outcome_of_fields}
 
 -- ---- rows

@@ -1,13 +1,12 @@
 -- The lines of fields, and the items of an edit, which have lines of their own.
-use Rattle.std.specs.Prelude.{◌≡◌, ◌<◌, ℕ, ◌++◌, ◌+◌, ◌-◌, List, [], ◌∷◌, codes}
-use Rattle.std.specs.Prelude.{Vec}
+use Rattle.std.specs.Prelude.{◌≡◌, ◌<◌, ℕ, ◌++◌, ◌+◌, ◌-◌, List, [], ◌∷◌, codes, Vec}
 use Rattle.std.specs.declared.alloc.Global.{Global}
 use Rattle.csv.specs.Writing.{default_writer, row_body, next_sep, field_text, writer_under, writer_pending, fields_written, writer_setup}
 use Rattle.csv.specs.declared.writer.WriterBuilder.{WriterBuilder}
 use Rattle.csv.specs.declared.writer.Writer.{Writer}
-use Rattle.feed_edits.specs.declared.edit.Item.{Item}
-use Rattle.feed_edits.specs.declared.edit.Edit.{Edit}
-use Rattle.feed_edits.specs.declared.edit.Edit.TheVariants.{Put, Withdraw, Clear, Name, Day}
+use Rattle.journal_model.specs.declared.edit.Item.{Item}
+use Rattle.journal_model.specs.declared.edit.Edit.{Edit}
+use Rattle.journal_model.specs.declared.edit.Edit.TheVariants.{Put, Withdraw, Clear, Name, Day}
 use Rattle.feed_edits.specs.Back.{item_fields}
 
 -- the items of a day

@@ -1,14 +1,13 @@
 -- The text of a journal.
-use Rattle.std.specs.Prelude.{ℕ, ◌*◌, ◌<◌, ◌++◌, List, [], ◌∷◌, codes, decimal, flat_map}
-use Rattle.std.specs.List.{AllByRecursion}
+use Rattle.std.specs.Prelude.{ℕ, ◌++◌, List, [], ◌∷◌, codes, decimal, flat_map}
 use Rattle.si_time.specs.Moments.{moment_text}
-use Rattle.feed_edits.specs.declared.edit.Item.{Item}
+use Rattle.journal_model.specs.declared.edit.Item.{Item}
 use Rattle.feed_edits.specs.Back.{edit_fields}
-use Rattle.desk_core.specs.declared.step.Step.{Step}
-use Rattle.desk_core.specs.declared.step.Step.TheVariants.{Edit as edit, Tick, Publish, Swap}
-use Rattle.desk_core.specs.declared.step.Entry.{Entry}
+use Rattle.journal_model.specs.declared.step.Step.{Step}
+use Rattle.journal_model.specs.declared.step.Step.TheVariants.{Edit as edit, Tick, Publish, Swap}
+use Rattle.journal_model.specs.declared.step.Entry.{Entry}
 use Rattle.journal_text.specs.Edits.{items_of, line_text, item_text}
-use Rattle.journal_text.specs.Outcomes.{outcome_text, IsInWindow}
+use Rattle.journal_text.specs.Outcomes.{outcome_text}
 
 -- the fields of a step behind its caller's number
 abbrev pub step_fields : Step → List (List ℕ)
@@ -34,18 +33,3 @@ entry_text entry = command_text entry.who entry.step ++ (codes "=," ++ outcome_t
 
 abbrev pub journal_text : List Entry → List ℕ
 journal_text journal = flat_map entry_text journal
-
--- the moment of a step can be written: it is one that 16 bits of days can say (EN 300 468, annex C)
-abbrev pub IsStepInWindow : Step → Type 0
-IsStepInWindow (edit feed e) = Unit {0}
-IsStepInWindow (Tick at) = at.0 < 65536 * 86400
-IsStepInWindow Publish = Unit {0}
-IsStepInWindow Swap = Unit {0}
-
--- the moments of an entry can be written, and those of a journal
-pub record IsEntryInWindow (entry : Entry) : Type 0 where
-  pub step : IsStepInWindow entry.step
-  pub outcome : IsInWindow entry.outcome
-
-abbrev pub AreInWindow : List Entry → Type 0
-AreInWindow entries = AllByRecursion IsEntryInWindow entries

@@ -3,7 +3,6 @@ pub mod Outcomes
 pub mod Entries
 pub mod Kept
 pub mod Script
-pub mod Typed
 pub mod ScriptReads
 pub mod ScriptLaws
 pub mod Back

@@ -1,14 +1,14 @@
 -- The text of an outcome, as an outcome line has it behind `=,`, and its fields.
-use Rattle.std.specs.Prelude.{ℕ, ◌*◌, ◌<◌, ◌++◌, List, [], ◌∷◌, codes, decimal}
+use Rattle.std.specs.Prelude.{ℕ, ◌++◌, List, [], ◌∷◌, codes, decimal}
 use Rattle.si_time.specs.Moments.{moment_text}
-use Rattle.feed_book.specs.declared.reply.Field.{Field}
-use Rattle.feed_book.specs.declared.reply.Field.TheVariants.{Start, Duration, Window, Language, Name, Short, Extended, Country, Rating, Genre, Provider, ServiceName, Count, Segment}
-use Rattle.feed_book.specs.declared.reply.DayFault.{DayFault}
-use Rattle.feed_book.specs.declared.reply.DayFault.TheVariants.{Range as BadField, Overlap as Overlaps}
-use Rattle.feed_book.specs.declared.reply.Reply.{Reply}
-use Rattle.feed_book.specs.declared.reply.Reply.TheVariants.{Done, Foreign, Range, Overlap, Member}
-use Rattle.desk_core.specs.declared.step.Outcome.{Outcome}
-use Rattle.desk_core.specs.declared.step.Outcome.TheVariants.{Edited, Ticked, Late, Published, Swapped}
+use Rattle.journal_model.specs.declared.reply.Field.{Field}
+use Rattle.journal_model.specs.declared.reply.Field.TheVariants.{Start, Duration, Window, Language, Name, Short, Extended, Country, Rating, Genre, Provider, ServiceName, Count, Segment}
+use Rattle.journal_model.specs.declared.reply.DayFault.{DayFault}
+use Rattle.journal_model.specs.declared.reply.DayFault.TheVariants.{Range as BadField, Overlap as Overlaps}
+use Rattle.journal_model.specs.declared.reply.Reply.{Reply}
+use Rattle.journal_model.specs.declared.reply.Reply.TheVariants.{Done, Foreign, Range, Overlap, Member}
+use Rattle.journal_model.specs.declared.step.Outcome.{Outcome}
+use Rattle.journal_model.specs.declared.step.Outcome.TheVariants.{Edited, Ticked, Late, Published, Swapped}
 
 abbrev pub field_text : Field → List ℕ
 field_text Start = codes "start"
@@ -84,11 +84,3 @@ outcome_fields Ticked = codes "ticked" ∷ []
 outcome_fields (Late at) = codes "late" ∷ moment_text at.0 ∷ []
 outcome_fields (Published n) = codes "published" ∷ decimal n ∷ []
 outcome_fields (Swapped n at) = codes "swapped" ∷ decimal n ∷ moment_text at.0 ∷ []
-
--- the moment of an outcome, where it has one, can be written: 16 bits say its day
-abbrev pub IsInWindow : Outcome → Type 0
-IsInWindow (Edited reply) = Unit {0}
-IsInWindow Ticked = Unit {0}
-IsInWindow (Late at) = at.0 < 65536 * 86400
-IsInWindow (Published n) = Unit {0}
-IsInWindow (Swapped n at) = at.0 < 65536 * 86400

@@ -6,17 +6,17 @@ use Rattle.si_time.specs.Moments.{moments_compute}
 use Rattle.input_lines.specs.Fields.{fields_compute}
 use Rattle.feed_edits.specs.Ahead.{End, NoCommand, Ends, Breaks, Unread}
 use Rattle.feed_edits.specs.Heads.{edit_head}
-use Rattle.feed_edits.specs.declared.edit.Edit.TheVariants.{Clear}
-use Rattle.feed_book.specs.declared.reply.Field.TheVariants.{Segment}
-use Rattle.feed_book.specs.declared.reply.DayFault.TheVariants.{Range as BadField, Overlap as Overlaps}
-use Rattle.feed_book.specs.declared.reply.Reply.TheVariants.{Done, Member}
-use Rattle.desk_core.specs.declared.step.Step.TheVariants.{Edit as edit, Publish, Swap}
-use Rattle.desk_core.specs.declared.step.Outcome.TheVariants.{Edited, Published}
-use Rattle.desk_core.specs.Controls.{control_of}
+use Rattle.journal_model.specs.declared.edit.Edit.TheVariants.{Clear}
+use Rattle.journal_model.specs.declared.reply.Field.TheVariants.{Segment}
+use Rattle.journal_model.specs.declared.reply.DayFault.TheVariants.{Range as BadField, Overlap as Overlaps}
+use Rattle.journal_model.specs.declared.reply.Reply.TheVariants.{Done, Member}
+use Rattle.journal_model.specs.declared.step.Step.TheVariants.{Edit as edit, Publish, Swap}
+use Rattle.journal_model.specs.declared.step.Outcome.TheVariants.{Edited, Published}
+use Rattle.control_lines.specs.Controls.{control_of}
 use Rattle.journal_text.specs.declared.script.ScriptItem.TheVariants.{Step as step, Kept}
 use Rattle.journal_text.specs.Kept.{field_of, day_fault_of, reply_of, outcome_of_fields}
 use Rattle.journal_text.specs.Script.{items_ahead, script_of}
-use Rattle.desk_core.specs.Rows.{row_journal}
+use Rattle.journal_model.specs.Rows.{row_journal}
 use Rattle.journal_text.specs.Entries.{journal_text}
 
 row_text : journal_text row_journal ≡ codes "0,feed,1,name,101,Acme,News\n=,done\n0,publish\n=,published,1\n0,swap\n=,swapped,1,1970-01-01T00:00:00Z\n"

@@ -3,21 +3,19 @@ use Rattle.std.specs.Prelude.{ℕ, zero, suc, Bool, true, false, List, [], ◌�
 use Rattle.si_causes.specs.Text.{text_lines}
 use Rattle.input_lines.specs.Fields.{record_of}
 use Rattle.input_lines.specs.Numbers.{is_word, number_in, numeral_of}
-use Rattle.feed_edits.specs.declared.edit.Edit.{Edit}
-use Rattle.feed_edits.specs.Heads.{IsShaped}
+use Rattle.journal_model.specs.declared.edit.Edit.{Edit}
+use Rattle.journal_model.specs.Edits.{IsShaped}
 use Rattle.feed_edits.specs.Ahead.{Ahead, Found, Came, Stopped, Stop, and_then, first_row, stop_at, ahead_in}
 use Rattle.feed_edits.specs.Edits.{on_line, read_edit}
-use Rattle.desk_core.specs.declared.control.Control.{Control}
-use Rattle.desk_core.specs.declared.control.Control.TheVariants.{Tick as tick, Publish as publish}
-use Rattle.desk_core.specs.declared.step.Step.{Step}
-use Rattle.desk_core.specs.declared.step.Step.TheVariants.{Edit as edit, Tick, Publish, Swap}
-use Rattle.desk_core.specs.declared.step.Outcome.{Outcome}
-use Rattle.desk_core.specs.Steps.{IsStepWithin}
-use Rattle.desk_core.specs.Journal.{Command}
-use Rattle.desk_core.specs.Controls.{control_of}
+use Rattle.journal_model.specs.declared.control.Control.{Control}
+use Rattle.journal_model.specs.declared.control.Control.TheVariants.{Tick as tick, Publish as publish}
+use Rattle.journal_model.specs.declared.step.Step.{Step}
+use Rattle.journal_model.specs.declared.step.Step.TheVariants.{Edit as edit, Tick, Publish, Swap}
+use Rattle.journal_model.specs.declared.step.Outcome.{Outcome}
+use Rattle.journal_model.specs.Steps.{IsStepWithin, Command, IsInWindow}
+use Rattle.control_lines.specs.Controls.{control_of}
 use Rattle.journal_text.specs.declared.script.ScriptItem.{ScriptItem}
 use Rattle.journal_text.specs.declared.script.ScriptItem.TheVariants.{Step as step, Kept, End}
-use Rattle.journal_text.specs.Outcomes.{IsInWindow}
 use Rattle.journal_text.specs.Kept.{outcome_of_fields}
 
 -- `swap`

@@ -5,7 +5,7 @@ use Rattle.feed_edits.specs.Ahead.{Ahead}
 use Rattle.journal_text.specs.declared.script.ScriptItem.{ScriptItem}
 use Rattle.journal_text.specs.declared.script.ScriptItem.TheVariants.{Step as step, Kept, End}
 use Rattle.journal_text.specs.Script.{first_script_item, and_items, items_ahead}
-use Rattle.journal_text.specs.Typed.{IsTypedStep}
+use Rattle.journal_model.specs.Steps.{IsTypedStep}
 
 -- The items ahead are the first of them and those of what is ahead behind it, whatever stands behind the lines: the end, more
 -- than a text may have, or a read that failed.

@@ -5,8 +5,8 @@ ghost use Rattle.journal_text.specs.Edits.{and_field, and_fields, item_text, ite
 
 use crate::line::Row;
 use crate::outcome::put_number;
-use feed_edits::{Edit, Item, RawRating};
 use guide_model::Genre;
+use journal_model::{Edit, Item, RawRating};
 use std::alloc::{AllocError, Global};
 
 // Appends a genre: its two levels and its user byte, with points between.

@@ -1,14 +1,14 @@
 // The text of a journal's entry.
 ghost use Rattle.std.specs.Prelude.{◌≡◌, ◌++◌, ◌∷◌, IfOk, OnOk, OnErr, codes, decimal};
 ghost use Rattle.journal_text.specs.Edits.{and_fields, IsOpenFor};
-ghost use Rattle.journal_text.specs.Outcomes.{outcome_text, IsInWindow};
-ghost use Rattle.journal_text.specs.Entries.{step_fields, step_items, command_text, entry_text, IsEntryInWindow, IsStepInWindow};
+ghost use Rattle.journal_text.specs.Outcomes.{outcome_text};
+ghost use Rattle.journal_model.specs.Steps.{IsInWindow, IsEntryInWindow, IsStepInWindow};
+ghost use Rattle.journal_text.specs.Entries.{step_fields, step_items, command_text, entry_text};
 
 use crate::edit::{add_edit, items_of, put_items};
 use crate::line::Row;
 use crate::outcome::put_outcome;
-use desk_core::{Entry, Outcome, Step};
-use feed_edits::Item;
+use journal_model::{Entry, Item, Outcome, Step};
 use si_time::write_moment;
 use std::alloc::{AllocError, Global};
 

@@ -1,13 +1,12 @@
 // The outcome of an outcome line.
 ghost use Rattle.std.specs.Prelude.{◌≡◌, IfSome};
-ghost use Rattle.feed_book.specs.declared.reply.Reply.TheVariants.{Done};
-ghost use Rattle.desk_core.specs.declared.step.Outcome.TheVariants.{Ticked};
-ghost use Rattle.journal_text.specs.Outcomes.{IsInWindow};
+ghost use Rattle.journal_model.specs.declared.reply.Reply.TheVariants.{Done};
+ghost use Rattle.journal_model.specs.declared.step.Outcome.TheVariants.{Ticked};
+ghost use Rattle.journal_model.specs.Steps.{IsInWindow};
 ghost use Rattle.journal_text.specs.Kept.{alone, counted_field, day_fault_of, event_word, field_of, id_of, late_of, member_of, other_word, outcome_of_fields, published_of, reply_of, swapped_of};
 
-use desk_core::Outcome;
-use feed_book::{DayFault, Field, Reply};
 use input_lines::{is_word, number, numeral};
+use journal_model::{DayFault, Field, Outcome, Reply};
 use si_text::Txt;
 use si_time::read_moment;
 

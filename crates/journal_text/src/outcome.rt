@@ -1,10 +1,10 @@
 // The text of an outcome.
 ghost use Rattle.std.specs.Prelude.{◌≡◌, ◌*◌, ◌<◌, ◌++◌, IfOk, OnOk, OnErr, codes, decimal};
 ghost use Rattle.si_time.specs.Moments.{moment_text};
-ghost use Rattle.journal_text.specs.Outcomes.{field_text, day_fault_text, reply_text, outcome_text, IsInWindow};
+ghost use Rattle.journal_text.specs.Outcomes.{field_text, day_fault_text, reply_text, outcome_text};
+ghost use Rattle.journal_model.specs.Steps.{IsInWindow};
 
-use desk_core::Outcome;
-use feed_book::{DayFault, Field, Reply};
+use journal_model::{DayFault, Field, Outcome, Reply};
 use si_time::{Moment, write_moment};
 use std::alloc::{AllocError, Global};
 

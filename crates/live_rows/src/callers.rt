@@ -1,6 +1,6 @@
 // Two callers that take turns in two threads.
 ghost use Rattle.std.specs.Prelude.{◌≡◌};
-ghost use Rattle.mux_config.specs.Sound.{IsSound};
+ghost use Rattle.mux_model.specs.Sound.{IsSound};
 ghost use Rattle.desk_hall.specs.Turn.{Keeps};
 
 use crate::halls::two_services;
@@ -8,7 +8,7 @@ use crate::journals::{put_edits, put_steps_of};
 use crate::lines::{Lines, WHOLE, reader};
 use desk_core::Desk;
 use headend_live::{Hall, HallPass};
-use mux_config::Mux;
+use mux_model::Mux;
 use row_gates::Holding;
 use std::alloc::{AllocError, Global};
 use std::marker::Sync;

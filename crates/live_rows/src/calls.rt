@@ -1,18 +1,19 @@
 // What the single calls of a hall answer.
 ghost use Rattle.std.specs.Prelude.{◌≡◌, ◌<◌, ℕ};
-ghost use Rattle.mux_config.specs.Sound.{IsSound};
+ghost use Rattle.mux_model.specs.Sound.{IsSound};
 ghost use Rattle.journal_text.specs.Script.{IsItemWithin};
-ghost use Rattle.desk_core.specs.Steps.{IsStepWithin};
+ghost use Rattle.journal_model.specs.Steps.{IsStepWithin};
 ghost use Rattle.desk_hall.specs.Turn.{Keeps};
 
 use crate::halls::two_services;
 use crate::journals::put_entries;
 use crate::lines::Lines;
 use crate::words::{put_outcome, put_reply};
-use desk_core::{Airing, Step};
+use desk_core::Airing;
 use headend_live::{Hall, HallPass};
+use journal_model::Step;
 use journal_text::{ScriptItem, next_item};
-use mux_config::Mux;
+use mux_model::Mux;
 use std::alloc::{AllocError, Global};
 use std::sync::Wait;
 

@@ -1,9 +1,10 @@
 // Halls of a multiplex of two services, each of a feed of its own.
 ghost use Rattle.std.specs.Prelude.{◌≡◌, ◌<◌, ◌≤◌, IfOk, IfSome};
-ghost use Rattle.mux_config.specs.Sound.{IsSound};
+ghost use Rattle.mux_model.specs.Sound.{IsSound};
 
 use crate::lines::{WHOLE, reader};
-use mux_config::{Mux, read_mux};
+use mux_config::read_mux;
+use mux_model::Mux;
 use std::alloc::{AllocError, Global};
 
 // Service 101 of feed 1 and service 102 of feed 2; the desk starts on 13 October 1993 at 12:45.

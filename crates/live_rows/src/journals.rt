@@ -1,6 +1,6 @@
 // Journals in words.
 use crate::words::{put_entry, put_step};
-use desk_core::{Entry, Step};
+use journal_model::{Entry, Step};
 use std::alloc::AllocError;
 
 /// Appends the entries.

@@ -1,13 +1,13 @@
 // What a job that reads leaves: the journal of its hall, and why it ended.
 ghost use Rattle.std.specs.Prelude.{◌≡◌};
-ghost use Rattle.mux_config.specs.Sound.{IsSound};
+ghost use Rattle.mux_model.specs.Sound.{IsSound};
 
 use crate::halls::two_services;
 use crate::journals::put_entries;
 use crate::lines::Lines;
 use crate::words::put_stop;
 use headend_live::{Hall, HallPass};
-use mux_config::Mux;
+use mux_model::Mux;
 use si_causes::OpenGate;
 use std::alloc::{AllocError, Global};
 use std::sync::Wait;

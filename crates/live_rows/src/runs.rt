@@ -1,13 +1,13 @@
 // What a run of two feeds, a control and a player leaves.
 ghost use Rattle.std.specs.Prelude.{◌≤◌};
-ghost use Rattle.mux_config.specs.Sound.{IsSound};
+ghost use Rattle.mux_model.specs.Sound.{IsSound};
 
 use crate::halls::two_services;
 use crate::journals::{put_others, put_steps_of};
 use crate::lines::{Lines, WHOLE, reader};
 use crate::words::put_stop;
 use headend_live::{DoneLine, LiveEnd, LivePlan, LiveStop, run_live};
-use mux_config::Mux;
+use mux_model::Mux;
 use row_gates::Holding;
 use si_causes::{MemSink, MemSource};
 use std::alloc::{AllocError, Global};

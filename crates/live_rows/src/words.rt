@@ -1,7 +1,6 @@
 // Parts of answers in words.
-use desk_core::{Entry, Outcome, Step};
-use feed_book::Reply;
-use feed_edits::{Edit, EditStop};
+use feed_edits::EditStop;
+use journal_model::{Edit, Entry, Outcome, Reply, Step};
 use si_causes::ReadStop;
 use std::alloc::AllocError;
 

@@ -12,8 +12,8 @@ use Rattle.input_lines.specs.Fields.{record_of}
 use Rattle.input_lines.specs.Lines.{record_lines}
 use Rattle.input_lines.specs.Numbers.{in_range, is_word, numeral_of}
 use Rattle.mux_config.specs.declared.fault.MuxFault.{MuxFault}
-use Rattle.mux_config.specs.declared.mux.MuxService.{MuxService}
-use Rattle.mux_config.specs.declared.mux.Mux.{Mux}
+use Rattle.mux_model.specs.declared.mux.MuxService.{MuxService}
+use Rattle.mux_model.specs.declared.mux.Mux.{Mux}
 use Rattle.mux_config.specs.declared.rows.Numbers.{Numbers}
 use Rattle.mux_config.specs.declared.record.Record.{Record}
 use Rattle.mux_config.specs.declared.record.Record.TheVariants.{Network, Stream, Delivery, Service, Part, Quota, End}
@@ -23,8 +23,8 @@ use Rattle.mux_config.specs.declared.record.Numbered.{Numbered}
 use Rattle.mux_config.specs.Block.{Block, Faulty, Whole, Unended, and_found, at_text_end, block_from, ended, fault_of, has_no_place, is_end, repeated_at, unless}
 use Rattle.mux_config.specs.Fields.{cable_with, found_fields, found_in, found_line, found_with, is_language, is_letter, is_service_in_range, language_of, network_in, stream_in, cable_in, delivery_with, numbers_in, service_of, service_in, bare_service, part_in, start_with, start_in, quota_in, spelled, within}
 use Rattle.mux_config.specs.Fine.{AreFine, IsFine, IsFineFound, IsFineService}
-use Rattle.mux_config.specs.Laws.{IsSoundWithIds, WholeDescriptionsAreSound}
-use Rattle.mux_config.specs.Sound.{Between, HasSoundLanguage, IsSoundCable}
+use Rattle.mux_config.specs.Laws.{WholeDescriptionsAreSound}
+use Rattle.mux_model.specs.Sound.{IsSoundWithIds, Between, HasSoundLanguage, IsSoundCable}
 use Rattle.mux_config.proofs.Soundness.{fine_none, fine_more, sound_end}
 
 -- ---- numbers in their ranges

@@ -6,7 +6,7 @@ use Rattle.std.proofs.lemmas.Bool.{cases_Bool}
 use Rattle.std.proofs.lemmas.Bool.Decides.{nat_tests}
 use Rattle.std.proofs.lemmas.Option.{cond_some}
 use Rattle.si_lists.proofs.Truths.{none_not}
-use Rattle.mux_config.specs.declared.mux.MuxService.{MuxService}
+use Rattle.mux_model.specs.declared.mux.MuxService.{MuxService}
 use Rattle.mux_config.specs.declared.record.Record.{Record}
 use Rattle.mux_config.specs.declared.record.Numbered.{Numbered}
 use Rattle.mux_config.specs.Block.{all_of, insert, service_in, sorted, with_parts}

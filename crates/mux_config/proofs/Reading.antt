@@ -14,7 +14,7 @@ use Rattle.input_lines.specs.Records.{FirstRecord, NoRecord, GivesRecord}
 use Rattle.input_lines.proofs.LastLines.{none_last, last_split, before_last, front_passed}
 use Rattle.input_lines.proofs.Steps.{handed_none, handed_more, whole_more, records_past, record_first}
 use Rattle.mux_config.specs.declared.fault.MuxFault.{MuxFault}
-use Rattle.mux_config.specs.declared.mux.Mux.{Mux}
+use Rattle.mux_model.specs.declared.mux.Mux.{Mux}
 use Rattle.mux_config.specs.declared.stop.MuxStop.{MuxStop}
 use Rattle.mux_config.specs.declared.stop.MuxStop.TheVariants.{Fault, Read, Memory}
 use Rattle.mux_config.specs.declared.record.Numbered.{Numbered}

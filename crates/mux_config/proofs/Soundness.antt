@@ -9,16 +9,15 @@ use Rattle.si_lists.proofs.Lists.{all_push}
 use Rattle.guide_model.specs.declared.stream.Component.{Component}
 use Rattle.si_time.specs.declared.moment.Moment.{Moment}
 use Rattle.si_text.specs.Coding.{coded_size}
-use Rattle.mux_config.specs.declared.mux.MuxService.{MuxService}
-use Rattle.mux_config.specs.declared.mux.Mux.{Mux}
+use Rattle.mux_model.specs.declared.mux.MuxService.{MuxService}
+use Rattle.mux_model.specs.declared.mux.Mux.{Mux}
 use Rattle.mux_config.specs.declared.record.Record.{Record}
 use Rattle.mux_config.specs.declared.record.Record.TheVariants.{Network, Stream, Delivery, Service, Part, Start, Quota, End}
 use Rattle.mux_config.specs.declared.record.Numbered.{Numbered}
 use Rattle.mux_config.specs.Block.{Whole, all_of, delivery_in, first, first_line, has_id, has_pmt, has_pid, holds, ended, is_stream, stream_in, with_network, with_services, with_stream, has_no_place, insert, is_delivery, is_network, is_quota, is_start, mux_with, network_in, numbered, part_in, quota_in, repeated_at, said, service_in, services_of, sorted, start_in, with_parts}
 use Rattle.mux_config.specs.Fine.{AreFine, IsApart, IsFine, IsFineService, in_order, parts_in}
-use Rattle.mux_config.specs.Sound.{AreDifferent, Between, DoAscend, HasSoundCable, IsSound, IsSoundComponent, IsSoundService, all_component_pids, component_pids, pmt_pids}
+use Rattle.mux_model.specs.Sound.{AreDifferent, Between, DoAscend, HasSoundCable, IsSound, IsSoundComponent, IsSoundService, all_component_pids, component_pids, pmt_pids, IsSoundWithIds}
 use Rattle.mux_config.specs.Reads.{Makes}
-use Rattle.mux_config.specs.Laws.{IsSoundWithIds}
 use Rattle.mux_config.specs.declared.stop.MuxStop.{MuxStop}
 use Rattle.mux_config.proofs.IndexFacts.{all_more, first_more, or_none_left, or_none_right, first_before, all_kept}
 use Rattle.mux_config.proofs.Ordering.{sorted_more}

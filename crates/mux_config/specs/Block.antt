@@ -10,8 +10,8 @@ use Rattle.input_lines.specs.Lines.{Lines, record_lines}
 use Rattle.mux_config.specs.declared.fault.Word.TheVariants as word
 use Rattle.mux_config.specs.declared.fault.MuxFault.{MuxFault}
 use Rattle.mux_config.specs.declared.fault.MuxFault.TheVariants as fault
-use Rattle.mux_config.specs.declared.mux.MuxService.{MuxService}
-use Rattle.mux_config.specs.declared.mux.Mux.{Mux}
+use Rattle.mux_model.specs.declared.mux.MuxService.{MuxService}
+use Rattle.mux_model.specs.declared.mux.Mux.{Mux}
 use Rattle.mux_config.specs.declared.record.Record.{Record}
 use Rattle.mux_config.specs.declared.record.Record.TheVariants.{Network, Stream, Delivery, Service, Part, Start, Quota, End}
 use Rattle.mux_config.specs.declared.record.Numbered.{Numbered}

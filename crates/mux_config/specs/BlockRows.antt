@@ -7,8 +7,8 @@ use Rattle.si_causes.specs.Text.{AtEnd, PastLimit}
 use Rattle.si_time.specs.Readings as times
 use Rattle.mux_config.specs.declared.fault.Word.TheVariants.{Network, Stream, Service, End}
 use Rattle.mux_config.specs.declared.fault.MuxFault.TheVariants.{Line, Range, Twice, Missing}
-use Rattle.mux_config.specs.declared.mux.MuxService.{MuxService}
-use Rattle.mux_config.specs.declared.mux.Mux.{Mux}
+use Rattle.mux_model.specs.declared.mux.MuxService.{MuxService}
+use Rattle.mux_model.specs.declared.mux.Mux.{Mux}
 use Rattle.mux_config.specs.Block.{Faulty, Unended, Whole, block_of}
 
 abbrev network_line : List ℕ

@@ -3,7 +3,7 @@ use Rattle.std.specs.Prelude.{ℕ, Bool, true, false, ◌&&◌, List, [], ◌∷
 use Rattle.guide_model.specs.declared.stream.Cable.{Cable}
 use Rattle.input_lines.specs.Fields.{record_of}
 use Rattle.input_lines.specs.Numbers.{is_word, numeral_of, in_range}
-use Rattle.mux_config.specs.declared.mux.MuxService.{MuxService}
+use Rattle.mux_model.specs.declared.mux.MuxService.{MuxService}
 use Rattle.mux_config.specs.declared.rows.Numbers.{Numbers}
 use Rattle.mux_config.specs.declared.record.Record.{Record}
 use Rattle.mux_config.specs.declared.record.Record.TheVariants.{Network, Stream, Delivery, Service, Part, Start, Quota, End}

@@ -3,12 +3,12 @@ use Rattle.std.specs.Prelude.{◌≡◌, ◌≢◌, ℕ, ◌*◌, ◌<◌, ◌�
 use Rattle.std.specs.List.{AllByRecursion}
 use Rattle.guide_model.specs.declared.stream.Component.{Component}
 use Rattle.si_text.specs.Coding.{coded_size}
-use Rattle.mux_config.specs.declared.mux.MuxService.{MuxService}
+use Rattle.mux_model.specs.declared.mux.MuxService.{MuxService}
 use Rattle.mux_config.specs.declared.record.Record.{Record}
 use Rattle.mux_config.specs.declared.record.Record.TheVariants.{Network, Stream, Delivery, Service, Part, Start, Quota}
 use Rattle.mux_config.specs.declared.record.RecordFound.{RecordFound}
 use Rattle.mux_config.specs.declared.record.RecordFound.TheVariants.{Is}
-use Rattle.mux_config.specs.Sound.{AreDifferent, Between, DoAscend, IsSoundCable, IsSoundComponent, pmt_pids}
+use Rattle.mux_model.specs.Sound.{AreDifferent, Between, DoAscend, IsSoundCable, IsSoundComponent, pmt_pids}
 use Rattle.mux_config.specs.declared.record.Numbered.{Numbered}
 use Rattle.mux_config.specs.Block.{all_of, first_line, has_id, has_pid, has_pmt, holds, part_in, service_in, sorted}
 

@@ -1,6 +1,6 @@
 -- Kinds of records, as the code names them.
 use Rattle.std.specs.Prelude.{Bool, List, Option, Some, None}
-use Rattle.mux_config.specs.declared.mux.MuxService.{MuxService}
+use Rattle.mux_model.specs.declared.mux.MuxService.{MuxService}
 use Rattle.mux_config.specs.declared.record.Numbered.{Numbered}
 use Rattle.mux_config.specs.declared.index.Kind.{Kind}
 use Rattle.mux_config.specs.declared.index.Kind.TheVariants.{Networks, Streams, Deliveries, Starts, Quotas, Holders}

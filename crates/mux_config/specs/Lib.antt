@@ -1,4 +1,3 @@
-pub mod Sound
 pub mod Fields
 pub mod Block
 pub mod Fine

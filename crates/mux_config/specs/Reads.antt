@@ -7,7 +7,7 @@ use Rattle.si_causes.specs.declared.stop.ReadStop.TheVariants.{Failed, TooLong}
 use Rattle.input_lines.specs.Lines.{Lines, lines_of, record_lines}
 use Rattle.input_lines.specs.Going.{HandedOut, HasEnded, WereWhole}
 use Rattle.mux_config.specs.declared.fault.MuxFault.{MuxFault}
-use Rattle.mux_config.specs.declared.mux.Mux.{Mux}
+use Rattle.mux_model.specs.declared.mux.Mux.{Mux}
 use Rattle.mux_config.specs.declared.stop.MuxStop.{MuxStop}
 use Rattle.mux_config.specs.declared.stop.MuxStop.TheVariants.{Fault, Read, Memory}
 use Rattle.mux_config.specs.declared.record.Numbered.{Numbered}

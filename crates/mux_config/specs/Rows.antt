@@ -4,9 +4,9 @@ use Rattle.std.proofs.Common.{lit≤, lit<, eq-eqb, sym, ◌∙◌}
 use Rattle.std.proofs.lemmas.Bool.{false≢true}
 use Rattle.std.proofs.Math.Nat.{not-le_of_lt}
 use Rattle.guide_model.specs.declared.stream.Component.{Component}
-use Rattle.mux_config.specs.declared.mux.MuxService.{MuxService}
-use Rattle.mux_config.specs.declared.mux.Mux.{Mux}
-use Rattle.mux_config.specs.Sound.{IsSound, HasSoundCable, HasSoundLanguage}
+use Rattle.mux_model.specs.declared.mux.MuxService.{MuxService}
+use Rattle.mux_model.specs.declared.mux.Mux.{Mux}
+use Rattle.mux_model.specs.Sound.{IsSound, HasSoundCable, HasSoundLanguage}
 
 -- numbers that differ as they compute
 differ : (m n : ℕ) → (m == n) ≡ false → m ≢ n

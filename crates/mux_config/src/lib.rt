@@ -1,13 +1,12 @@
 //! The description of a multiplex: its network, its stream and its services (EN 300 468, 5.2.1 and 5.2.3).
 //!
-//! The layers above use the records as they stand, what makes a multiplex sound, and that a copy equals its source.
-//! [`read_mux`] reads a description from the lines of a text, and gives its multiplex or its first fault.
+//! [`read_mux`] reads a description from the lines of a text, and gives its multiplex, which is sound, or its first fault.
+//! The records that it makes are those of `mux_model`.
 #![tactic(auto)]
 
 mod fault;
 mod index;
 mod laws;
-mod mux;
 mod read;
 mod record;
 mod rows;
@@ -17,6 +16,6 @@ mod whole;
 pub use fault::{MuxFault, Word};
 pub use input_lines::{LineFields, fields};
 pub use laws::whole_descriptions_are_sound;
-pub use mux::{Mux, MuxService, MuxServices};
+pub use mux_model::{Mux, MuxService, MuxServices};
 pub use read::read_mux;
 pub use stop::MuxStop;

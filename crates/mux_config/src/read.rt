@@ -6,19 +6,19 @@ ghost use Rattle.mux_config.specs.declared.stop.MuxStop.TheVariants.{Read};
 ghost use Rattle.mux_config.specs.Block.{is_end as ends_here};
 ghost use Rattle.mux_config.specs.Fields.{found_line as found_there};
 ghost use Rattle.mux_config.specs.Fine.{AreFine, IsFine, IsFineFound};
-ghost use Rattle.mux_config.specs.Sound.{IsSound};
+ghost use Rattle.mux_model.specs.Sound.{IsSound};
 ghost use Rattle.mux_config.specs.Index.{IsIndexed};
 ghost use Rattle.mux_config.specs.Reads.{MuxCame, ReadMux, TookLine};
 ghost use Rattle.mux_config.specs.declared.record.RecordFound.TheVariants.{Is};
 
 use crate::fault::{MuxFault, Word};
 use crate::index::Records;
-use crate::mux::Mux;
 use crate::record::{Record, RecordFound};
 use crate::rows::found_in;
 use crate::stop::MuxStop;
 use crate::whole::multiplex;
 use input_lines::{fields, next_record_line};
+use mux_model::Mux;
 use si_causes::{LineReader, Source};
 use std::alloc::{AllocError, Global};
 

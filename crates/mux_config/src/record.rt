@@ -1,6 +1,6 @@
 // The records of a description.
-use crate::mux::MuxService;
 use guide_model::{Cable, Component};
+use mux_model::MuxService;
 use si_text::Txt;
 use si_time::Moment;
 

@@ -4,13 +4,13 @@ ghost use Rattle.si_text.specs.Coding.{coded_size};
 ghost use Rattle.input_lines.specs.Numbers.{in_range, is_word as is_service_word};
 ghost use Rattle.mux_config.specs.declared.record.RecordFound.TheVariants.{NoRecord};
 ghost use Rattle.mux_config.specs.Fine.{IsFineFound};
-ghost use Rattle.mux_config.specs.Sound.{Between, HasSoundLanguage};
+ghost use Rattle.mux_model.specs.Sound.{Between, HasSoundLanguage};
 ghost use Rattle.mux_config.specs.Fields.{network_in, stream_in, cable_in, delivery_with, numbers_in, service_with, service_of as numbers_service, bare_service, is_letter as is_small_letter, is_language as is_a_language, language_of, part_in, start_in, quota_in, found_in};
 
-use crate::mux::MuxService;
 use crate::record::{Record, RecordFound};
 use guide_model::{Cable, Component, Components};
 use input_lines::{is_word, numeral};
+use mux_model::MuxService;
 use si_text::{Txt, coded_len};
 use si_time::read_moment;
 use std::alloc::{AllocError, Global};

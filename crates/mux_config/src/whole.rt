@@ -1,7 +1,7 @@
 // The multiplex that records make.
 ghost use Rattle.std.specs.Prelude.{◌≡◌, ◌≤◌, ◌∷◌, ◌++◌, [], ℕ, List, length, nat_lt, position, take, drop, IfOk, OnOk};
 ghost use Rattle.std.specs.Option.{unwrap_or};
-ghost use Rattle.mux_config.specs.declared.mux.MuxService.{MuxService};
+ghost use Rattle.mux_model.specs.declared.mux.MuxService.{MuxService};
 ghost use Rattle.mux_config.specs.Block.{all_of, cable_of as the_cable, ended, first, insert as inserted, is_network, is_stream, network_in, part_in, quota_of as the_quota, said, service_in, services_of as the_services, start_of as the_start, stream_in, with_parts as with_its_parts};
 ghost use Rattle.mux_config.specs.Kinds.{put_service};
 ghost use Rattle.mux_config.specs.Reads.{Makes};
@@ -9,10 +9,10 @@ ghost use Rattle.std.specs.List.{cons_option};
 
 use crate::fault::{MuxFault, Word};
 use crate::index::{Kind, first_of};
-use crate::mux::{Mux, MuxService, MuxServices};
 use crate::record::{Numbered, Record};
 use crate::stop::MuxStop;
 use guide_model::{Cable, Component, Components};
+use mux_model::{Mux, MuxService, MuxServices};
 use si_base::Items;
 use si_text::Txt;
 use si_time::Moment;

@@ -7,19 +7,18 @@ use Rattle.si_lists.proofs.Lists.{all_map}
 use Rattle.si_text.specs.Decoding.{shown_bytes}
 use Rattle.guide_model.specs.declared.stream.Cable.{Cable}
 use Rattle.guide_model.specs.declared.stream.Component.{Component}
-use Rattle.mux_config.specs.declared.mux.MuxService.{MuxService}
-use Rattle.mux_config.specs.declared.mux.Mux.{Mux}
-use Rattle.mux_config.specs.Sound.{IsSound, IsSoundService, IsSoundComponent, HasSoundCable, HasSoundLanguage}
+use Rattle.mux_model.specs.declared.mux.MuxService.{MuxService}
+use Rattle.mux_model.specs.declared.mux.Mux.{Mux}
+use Rattle.mux_model.specs.Sound.{IsSound, IsSoundService, IsSoundComponent, HasSoundCable, HasSoundLanguage}
 use Rattle.desc_event.proofs.Pieces.{length-coded_text}
 use Rattle.desc_service.specs.CableDelivery.{FitsCable}
 use Rattle.desc_service.proofs.Entries.{length-languages_body}
 use Rattle.pat_pmt.specs.declared.pat.PatEntry.{PatEntry}
 use Rattle.pat_pmt.specs.Pat.{pat_body, HasPid as HasProgramPid}
 use Rattle.pat_pmt.specs.Pmt.{HasPid, FitsComponent, FitsPmt, component_bytes, language_descriptors, pmt_body}
-use Rattle.nit_sdt.proofs.Networks.{cable_small}
+use Rattle.nit_sdt.proofs.Networks.{cable_small, nit-has_its_size}
 use Rattle.nit_sdt.specs.Nit.{FitsStream, cable_size, nit_body, stream_size}
 use Rattle.nit_sdt.specs.Bodies.{CanBeWritten}
-use Rattle.nit_sdt.proofs.Networks.{nit-has_its_size}
 use Rattle.publication.specs.Programs.{program_entry, pat_of, pmt_of}
 use Rattle.publication.specs.Network.{kind_of, nit_of}
 

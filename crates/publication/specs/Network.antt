@@ -1,8 +1,8 @@
 -- The network information table of a multiplex (EN 300 468, 5.2.1).
 use Rattle.std.specs.Prelude.{[], ◌∷◌, map}
 use Rattle.si_text.specs.declared.shown.Shown.TheVariants.{Text}
-use Rattle.mux_config.specs.declared.mux.MuxService.{MuxService}
-use Rattle.mux_config.specs.declared.mux.Mux.{Mux}
+use Rattle.mux_model.specs.declared.mux.MuxService.{MuxService}
+use Rattle.mux_model.specs.declared.mux.Mux.{Mux}
 use Rattle.section_codec.specs.declared.table.Key.{Key}
 use Rattle.section_codec.specs.declared.table.SubTable.{SubTable}
 use Rattle.desc_service.specs.declared.service_list.ServiceKind.{ServiceKind}

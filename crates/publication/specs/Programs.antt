@@ -1,7 +1,7 @@
 -- The program association table and the program map tables of a multiplex (ISO/IEC 13818-1, 2.4.4.3 and 2.4.4.8).
 use Rattle.std.specs.Prelude.{List, ◌∷◌, map}
-use Rattle.mux_config.specs.declared.mux.MuxService.{MuxService}
-use Rattle.mux_config.specs.declared.mux.Mux.{Mux}
+use Rattle.mux_model.specs.declared.mux.MuxService.{MuxService}
+use Rattle.mux_model.specs.declared.mux.Mux.{Mux}
 use Rattle.section_codec.specs.declared.table.Key.{Key}
 use Rattle.section_codec.specs.declared.table.SubTable.{SubTable}
 use Rattle.pat_pmt.specs.declared.pat.PatEntry.{PatEntry}

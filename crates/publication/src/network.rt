@@ -1,12 +1,12 @@
 // The network information table.
 ghost use Rattle.std.specs.Prelude.{◌≡◌, map, IfOk};
-ghost use Rattle.mux_config.specs.Sound.{IsSound};
+ghost use Rattle.mux_model.specs.Sound.{IsSound};
 ghost use Rattle.publication.specs.Network.{kind_of, nit_of, nit_table, stream_of};
 
 use crate::programs::NIT_PID;
 use crate::sections::single_table;
 use desc_service::{ServiceKind, ServiceKinds};
-use mux_config::{Mux, MuxService};
+use mux_model::{Mux, MuxService};
 use nit_sdt::{Nit, NitStream, NitStreams, write_nit};
 use section_codec::{Key, SubTable};
 use si_text::Shown;

@@ -1,11 +1,11 @@
 // The program association table and the program map tables.
 ghost use Rattle.std.specs.Prelude.{◌≡◌, ◌∷◌, ◌++◌, map, IfOk, OnOk};
 ghost use Rattle.std.specs.List.{All};
-ghost use Rattle.mux_config.specs.Sound.{IsSound, IsSoundService};
+ghost use Rattle.mux_model.specs.Sound.{IsSound, IsSoundService};
 ghost use Rattle.publication.specs.Programs.{pat_of, pat_table, pmt_of, pmt_table};
 
 use crate::sections::single_table;
-use mux_config::{Mux, MuxService};
+use mux_model::{Mux, MuxService};
 use pat_pmt::{PatEntries, PatEntry, Pmt, write_pat, write_pmt};
 use section_codec::{Key, SubTable, SubTables};
 use std::alloc::{AllocError, Global};

@@ -1,7 +1,7 @@
 -- What the book of a row stays.
 use Rattle.std.specs.Prelude.{List}
-use Rattle.mux_config.specs.declared.mux.MuxService.{MuxService}
-use Rattle.feed_edits.specs.declared.edit.Edit.{Edit}
+use Rattle.mux_model.specs.declared.mux.MuxService.{MuxService}
+use Rattle.journal_model.specs.declared.edit.Edit.{Edit}
 use Rattle.guide_limits.specs.Kept.{Kept}
 use Rattle.feed_book.specs.Books.{IsBookAfter}
 

@@ -1,12 +1,14 @@
 // The sub-tables of what stands behind the edits of a row.
 ghost use Rattle.std.specs.Prelude.{IfOk};
-ghost use Rattle.feed_edits.specs.Heads.{IsShaped};
-ghost use Rattle.mux_config.specs.Sound.{IsSound};
+ghost use Rattle.journal_model.specs.Edits.{IsShaped};
+ghost use Rattle.mux_model.specs.Sound.{IsSound};
 ghost use Rattle.publication_rows.specs.Books.{KeepsBook};
 
-use feed_book::{Book, Reply};
-use feed_edits::{Edit, EditStop, next_edit};
-use mux_config::{Mux, read_mux};
+use feed_book::Book;
+use feed_edits::{EditStop, next_edit};
+use journal_model::{Edit, Reply};
+use mux_config::read_mux;
+use mux_model::Mux;
 use publication::build;
 use row_lines::{Lines, Row, WHOLE, reader, written_out};
 use section_codec::Tables;

@@ -1,7 +1,7 @@
 use Rattle.std.proofs.Common.{sym, subst}
-use Rattle.mux_config.specs.declared.mux.Mux.{Mux}
+use Rattle.mux_model.specs.declared.mux.Mux.{Mux}
 use Rattle.desk_core.specs.Journal.{Legal}
-use Rattle.journal_text.proofs.WindowFacts.{legal_window}
+use Rattle.desk_core.proofs.WindowFacts.{legal_window}
 use Rattle.epg_cli.proofs.WindowFacts.{entry_window}
 use Rattle.epg_cli.proofs.play.last_outcome.Goals as goal
 

@@ -2,7 +2,7 @@ use Rattle.std.proofs.Common.{◌≡◌, ◌≤◌, length}
 use Rattle.std.specs.Prelude.{IfSome}
 use Rattle.std.specs.List.{All}
 use Rattle.si_causes.specs.Reading.{room}
-use Rattle.feed_edits.specs.Items.{IsShapedItem}
+use Rattle.journal_model.specs.Edits.{IsShapedItem}
 use Rattle.feed_edits.proofs.Edits.{Made}
 use Rattle.feed_edits.proofs.reading.next_items.Given as goal
 

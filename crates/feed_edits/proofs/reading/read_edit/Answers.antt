@@ -2,7 +2,7 @@ use Rattle.std.proofs.Common.{◌≡◌, ◌≤◌, List, ℕ, length, drop, ari
 use Rattle.std.specs.Prelude.{Err, IfSome}
 use Rattle.std.proofs.lemmas.Grind.{common_steps}
 use Rattle.feed_edits.specs.Ahead.{ahead}
-use Rattle.feed_edits.specs.declared.edit.Edit.{Edit}
+use Rattle.journal_model.specs.declared.edit.Edit.{Edit}
 use Rattle.feed_edits.specs.Edits.{read_edit}
 use Rattle.feed_edits.specs.Reads.{Takes, ReadsStopped}
 use Rattle.feed_edits.proofs.Edits.{past_fields, past_takes, fields_takes, fields_refused_takes, stopped_past, stopped_head, stopped_refused}

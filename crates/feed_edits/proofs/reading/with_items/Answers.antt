@@ -1,8 +1,8 @@
 use Rattle.std.proofs.Common.{ap, subst, sym}
 use Rattle.std.specs.Prelude.{Ok, Err, IfSome}
 use Rattle.input_lines.proofs.Steps.{stuck_at}
-use Rattle.feed_edits.specs.declared.edit.Edit.{Edit}
-use Rattle.feed_edits.specs.declared.edit.Edit.TheVariants.{Day}
+use Rattle.journal_model.specs.declared.edit.Edit.{Edit}
+use Rattle.journal_model.specs.declared.edit.Edit.TheVariants.{Day}
 use Rattle.feed_edits.specs.declared.heads.Head.{Head}
 use Rattle.feed_edits.specs.Ahead.{Came}
 use Rattle.feed_edits.specs.Edits.{with_items}

@@ -1,7 +1,7 @@
 use Rattle.std.proofs.Common.{◌≡◌, ◌∙◌, ap, sym, subst}
 use Rattle.std.specs.Prelude.{Option, Some, ◌||◌, is_some}
 use Rattle.headend_live.specs.declared.live.LiveStop.{LiveStop}
-use Rattle.mux_config.specs.declared.mux.Mux.{Mux}
+use Rattle.mux_model.specs.declared.mux.Mux.{Mux}
 use Rattle.desk_core.specs.Journal.{Legal}
 use Rattle.turn_lock.proofs.Lists.{prefix_trans}
 use Rattle.desk_hall.specs.Turn.{View}

@@ -1,6 +1,6 @@
 use Rattle.std.proofs.Common.{◌≡◌, ◌∙◌, ◌+◌, ap, sym, subst, length, arith}
 use Rattle.std.specs.Prelude.{None, Ok}
-use Rattle.mux_config.specs.declared.mux.Mux.{Mux}
+use Rattle.mux_model.specs.declared.mux.Mux.{Mux}
 use Rattle.turn_lock.specs.Knowledge.{Lock}
 use Rattle.headend_live.specs.declared.jobs.PlayerJob.{PlayerJob}
 use Rattle.headend_live.specs.declared.jobs.ControlJob.{ControlJob}

@@ -1,6 +1,6 @@
 use Rattle.std.proofs.Common.{◌≢◌, ◌∙◌, ap, sym, subst, arith, length, List, ◌∷◌}
 use Rattle.std.specs.List.{AllByRecursion}
-use Rattle.desk_core.specs.declared.step.Entry.{Entry}
+use Rattle.journal_model.specs.declared.step.Entry.{Entry}
 use Rattle.turn_lock.specs.Knowledge.{HasAny}
 use Rattle.turn_lock.specs.declared.known.Caller.{Caller}
 use Rattle.headend_live.specs.declared.jobs.FeedJob.{FeedJob}

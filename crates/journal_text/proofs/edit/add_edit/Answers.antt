@@ -1,5 +1,5 @@
 use Rattle.std.proofs.Common.{◌≡◌, OnOk, sym, subst}
-use Rattle.feed_edits.specs.declared.edit.Edit.{Edit}
+use Rattle.journal_model.specs.declared.edit.Edit.{Edit}
 use Rattle.feed_edits.specs.Back.{edit_fields}
 use Rattle.journal_text.specs.Edits.{and_fields}
 use Rattle.journal_text.proofs.edit.add_edit.Goals as goal

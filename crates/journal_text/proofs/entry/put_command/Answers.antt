@@ -1,5 +1,5 @@
 use Rattle.std.proofs.Common.{◌≡◌, ℕ, List, ◌∷◌, ◌++◌, decimal, ap, ◌∙◌, flat_map}
-use Rattle.feed_edits.specs.declared.edit.Item.{Item}
+use Rattle.journal_model.specs.declared.edit.Item.{Item}
 use Rattle.journal_text.specs.Edits.{Line, and_field, and_fields, no_fields, item_text, line_text}
 use Rattle.journal_text.specs.Entries.{step_fields, step_items}
 use Rattle.journal_text.proofs.LineFacts.{ended_line, behind}

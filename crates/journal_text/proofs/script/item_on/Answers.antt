@@ -1,7 +1,7 @@
 use Rattle.std.proofs.Common.{◌≡◌, ◌∙◌, List, ℕ, true, false, ap, sym, subst, arith}
 use Rattle.std.specs.Prelude.{Err}
 use Rattle.std.proofs.lemmas.Grind.{common_steps}
-use Rattle.desk_core.specs.declared.step.Outcome.{Outcome}
+use Rattle.journal_model.specs.declared.step.Outcome.{Outcome}
 use Rattle.feed_edits.specs.Reads.{Says}
 use Rattle.journal_text.specs.Script.{is_outcome_line, kept_in}
 use Rattle.journal_text.proofs.ScriptFacts.{kept_passes, kept_refused_takes, step_passes, step_stop_takes}

@@ -1,8 +1,8 @@
 use Rattle.std.proofs.Common.{◌∙◌, ap, arith, refl, subst}
 use Rattle.std.specs.Prelude.{Some}
 use Rattle.feed_edits.specs.declared.stop.EditStop.TheVariants.{Memory}
-use Rattle.desk_core.specs.declared.step.Step.{Step}
-use Rattle.desk_core.specs.Controls.{first_control}
+use Rattle.journal_model.specs.declared.step.Step.{Step}
+use Rattle.control_lines.specs.Controls.{first_control}
 use Rattle.desk_hall.specs.Turn.{View, Made}
 use Rattle.desk_hall.specs.Reads.{control_step, controls_ahead}
 use Rattle.desk_hall.proofs.Ahead.{controls_on}

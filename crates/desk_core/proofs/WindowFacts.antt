@@ -6,16 +6,14 @@ use Rattle.std.proofs.lemmas.Bool.{cases_Bool}
 use Rattle.si_lists.proofs.Lists.{all_push}
 use Rattle.desk_core.proofs.MomentFacts.{InRange, moment_range}
 use Rattle.si_time.specs.declared.moment.Moment.{Moment}
-use Rattle.mux_config.specs.declared.mux.Mux.{Mux}
-use Rattle.mux_config.specs.Sound.{IsSound}
-use Rattle.desk_core.specs.declared.step.Step.{Step}
-use Rattle.desk_core.specs.declared.step.Step.TheVariants.{Edit as edit, Tick, Publish, Swap}
-use Rattle.desk_core.specs.declared.step.Outcome.{Outcome}
-use Rattle.desk_core.specs.declared.step.Entry.{Entry}
-use Rattle.desk_core.specs.Steps.{IsStepWithin}
+use Rattle.mux_model.specs.declared.mux.Mux.{Mux}
+use Rattle.mux_model.specs.Sound.{IsSound}
+use Rattle.journal_model.specs.declared.step.Step.{Step}
+use Rattle.journal_model.specs.declared.step.Step.TheVariants.{Edit as edit, Tick, Publish, Swap}
+use Rattle.journal_model.specs.declared.step.Outcome.{Outcome}
+use Rattle.journal_model.specs.declared.step.Entry.{Entry}
+use Rattle.journal_model.specs.Steps.{IsStepWithin, IsInWindow, IsStepInWindow, AreInWindow}
 use Rattle.desk_core.specs.Journal.{LegalAfter, Legal, ticked, moment_of, outcome_of}
-use Rattle.journal_text.specs.Outcomes.{IsInWindow}
-use Rattle.journal_text.specs.Entries.{IsStepInWindow, AreInWindow}
 
 ticked_range : (now at : Moment) → InRange now → IsInWindow (ticked now at)
 ticked_range now at h = elim (cases_Bool (nat_lt at.0 now.0)) [

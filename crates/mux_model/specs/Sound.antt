@@ -5,8 +5,8 @@ use Rattle.std.specs.List.{AllByRecursion, flat_map}
 use Rattle.guide_model.specs.declared.stream.Cable.{Cable}
 use Rattle.guide_model.specs.declared.stream.Component.{Component}
 use Rattle.si_text.specs.Coding.{coded_size}
-use Rattle.mux_config.specs.declared.mux.MuxService.{MuxService}
-use Rattle.mux_config.specs.declared.mux.Mux.{Mux}
+use Rattle.mux_model.specs.declared.mux.MuxService.{MuxService}
+use Rattle.mux_model.specs.declared.mux.Mux.{Mux}
 
 abbrev pub Between : ℕ → ℕ → ℕ → Type 0
 Between low high n = (low ≤ n) × (n ≤ high)
@@ -73,3 +73,10 @@ pub record IsSound (mux : Mux) : Type 0 where
   -- no component has the PID of a PMT
   pub apart :
       AllByRecursion (λ pmt. AllByRecursion (λ pid. pmt ≢ pid) (all_component_pids mux.services)) (pmt_pids mux.services)
+
+-- a sound multiplex, of which the ids are of 16 bits
+pub record IsSoundWithIds (mux : Mux) : Type 0 where
+  pub sound : IsSound mux
+  pub network : mux.network < 65536
+  pub stream : mux.stream < 65536
+  pub original : mux.original < 65536
