@@ -11,7 +11,7 @@ use Rattle.version_book.specs.Airings.{Airing}
 use Rattle.air_model.specs.Air.{Aired, IsAirOf, air, air_bytes}
 use Rattle.air_model.proofs.Airs.{air-whole, air_bytes-push}
 use Rattle.journal_model.specs.declared.step.Entry.{Entry}
-use Rattle.guide_receiver.specs.Heard.{Hearing, ReceiverStandsFor}
+use Rattle.guide_receiver.specs.Heard.{Hearing}
 use Rattle.guide_receiver.specs.Guides.{guide_of}
 use Rattle.guide_screen.specs.declared.need.Heard.{Heard}
 use Rattle.headend_live.specs.declared.send.SendStop.{SendStop}
@@ -97,10 +97,10 @@ was_heard_by written is_same (Err e) m n has on same =
 
 -- where the stop is no want of memory, the lines are exact
 pub heard_whole : (join : ℕ) (before now : Option (List ℕ)) (wanting : Bool) (receiver : Hearing) (dones : List DoneLine) (heard : Option Heard) (stop : Option LiveStop) → HeardOfAir join before now wanting receiver dones
-    → ((past : List (List ℕ)) → ReceiverStandsFor past receiver → IfSome heard (λ (h : Heard). h ≡ guide_of past))
+    → ((join : ℕ) (packets : List (List ℕ)) → HearsBy false join packets receiver dones → IfSome heard (λ (h : Heard). h ≡ guide_of packets))
     → watched_stop wanting stop ≢ Some live.Memory → HeardWhole join before now receiver dones heard
 heard_whole join before now false receiver dones heard stop h guide other =
-    record { taken = h.taken; gave = h.gave; stands = h.heard.0; lines = h.heard.1; guide = guide (drop join (whole_packets h.taken)) h.heard.0 }
+    record { taken = h.taken; gave = h.gave; stands = h.heard.0; lines = h.heard.1; guide = guide join (drop join (whole_packets h.taken)) h.heard }
 heard_whole join before now true receiver dones heard stop h guide other = absurd (other refl)
 
 -- all completions are a front of them

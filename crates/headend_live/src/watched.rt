@@ -1,10 +1,9 @@
 // A run of feeds, control and player, whose air is heard.
-ghost use Rattle.std.specs.Prelude.{◌≡◌, ◌≤◌, ◌↔◌, Bool, true, List, ℕ, Option, None, Some, OnErr, IfOk, IfSome, IsSome, [], length};
+ghost use Rattle.std.specs.Prelude.{◌≡◌, ◌≤◌, ◌↔◌, Bool, true, false, List, ℕ, Option, None, Some, OnErr, IfOk, IfSome, IsSome, [], length};
 ghost use Rattle.mux_model.specs.Sound.{IsSound};
 ghost use Rattle.headend_live.specs.OnAir.{HasAirCause};
-ghost use Rattle.guide_receiver.specs.Heard.{ReceiverStandsFor};
 ghost use Rattle.guide_receiver.specs.Guides.{guide_of};
-ghost use Rattle.air_monitor.specs.Heard.{HasTaken, WasHeard};
+ghost use Rattle.air_monitor.specs.Heard.{HasTaken, HearsBy, WasHeard};
 ghost use Rattle.headend_live.specs.Callers.{HasRun};
 ghost use Rattle.headend_live.specs.Watched.{LiveRan, wanting_stop, watched_stop};
 ghost use Rattle.headend_live.specs.Live.{run_stop};
@@ -12,7 +11,7 @@ ghost use Rattle.headend_live.specs.Live.{run_stop};
 use crate::live::{Ended, LiveStop, and_stop, run_hall};
 use air_monitor::{DoneLines, Monitor, MonitorLog};
 use desk_core::Desk;
-use guide_receiver::{Heard, Receiver};
+use guide_receiver::Heard;
 use mux_model::Mux;
 use si_causes::{Gate, LineReader, Sink, Source};
 use std::alloc::{AllocError, Global};
@@ -58,12 +57,13 @@ fn wanting_stop(wanting: bool) -> Option<LiveStop>
 }
 
 // The guide that was heard, where nothing stopped the run.
-fn guide_unless(stop: Option<LiveStop>, receiver: &Receiver) -> Result<Option<Heard>, AllocError>
+fn guide_unless(stop: Option<LiveStop>, log: &MonitorLog) -> Result<Option<Heard>, AllocError>
     ensures there { IfOk result (λ heard. IsSome heard ↔ (stop ≡ None)) }
-    ensures guide { (past : List (List ℕ)) → ReceiverStandsFor past receiver.now → IfOk result (λ heard. IfSome heard (λ h. h ≡ guide_of past)) }
+    ensures guide { (join : ℕ) (packets : List (List ℕ)) → HearsBy false join packets log.now.receiver log.now.dones
+        → IfOk result (λ heard. IfSome heard (λ h. h ≡ guide_of packets)) }
 {
     match stop {
-        None => Ok(Some(receiver.guide()?)),
+        None => Ok(Some(log.guide()?)),
         Some(_) => Ok(None),
     }
 }
@@ -72,10 +72,11 @@ fn guide_unless(stop: Option<LiveStop>, receiver: &Receiver) -> Result<Option<He
 fn guide_and_stop(log: &MonitorLog, stop: Option<LiveStop>) -> (Option<Heard>, Option<LiveStop>)
     ensures stop { (wanting : Bool) × (log.now.wanting ≡ true → wanting ≡ true) × (result.1 ≡ watched_stop wanting stop) }
     ensures there { IsSome result.0 ↔ (result.1 ≡ None) }
-    ensures guide { (past : List (List ℕ)) → ReceiverStandsFor past log.now.receiver → IfSome result.0 (λ h. h ≡ guide_of past) }
+    ensures guide { (join : ℕ) (packets : List (List ℕ)) → HearsBy false join packets log.now.receiver log.now.dones
+        → IfSome result.0 (λ h. h ≡ guide_of packets) }
 {
     let stop = watched_stop(log.wanting, stop);
-    match guide_unless(stop, &log.receiver) {
+    match guide_unless(stop, log) {
         Ok(heard) => (heard, stop),
         Err(_) => (None, Some(LiveStop::Memory)),
     }
