@@ -11,7 +11,7 @@ returns-in-Ok-clause-ran g c =
     let end = c.in-Ok.end in
     let did = rw c.in-Ok.is at ran.ensures.did in
     let stop = rw c.in-Ok.is at ran.ensures.stop in
-    let stopped = c.guide_and_stop.ensures.stop in
+    let stopped = c.guide_and_stop-guide.ensures.stop in
     let heard : (bytes : List ℕ) → g.A.Sink.written c.args.air.now ≡ Some bytes → HeardOfAir c.args.plan.join (g.A.Sink.written c.args.air.now) (g.A.Sink.written ran.new.air) stopped.0 ran.result.heard.receiver ran.result.heard.dones =
     (λ bytes told. or_wanting c.args.plan.join (g.A.Sink.written c.args.air.now) (g.A.Sink.written ran.new.air) ran.result.heard.wanting stopped.0 ran.result.heard.receiver ran.result.heard.dones stopped.1
     (heard_of_air c.args.mux end.desk.entries c.args.plan.join (g.A.Sink.written c.args.air.now) (g.A.Sink.written ran.new.air) end.sent ran.result.heard.wanting ran.result.heard.receiver ran.result.heard.dones bytes told did.2.air ran.ensures.heard)) in
@@ -30,6 +30,6 @@ returns-in-Ok-clause-ran g c =
       stop_is = stopped.2 ∙ ap (watched_stop stopped.0) (stop ∙ ap (λ o. run_stop end.sent o end.feed) did.6 ∙ ap (run_stop end.sent did.2.control.stop) did.7);
       heard = λ bytes told. heard bytes told;
       whole = λ bytes told other. heard_whole c.args.plan.join (g.A.Sink.written c.args.air.now) (g.A.Sink.written ran.new.air) stopped.0 ran.result.heard.receiver ran.result.heard.dones _ end.stop
-          (heard bytes told) c.guide_and_stop.ensures.guide (λ is. other (stopped.2 ∙ is));
-      told = c.guide_and_stop.ensures.there;
+          (heard bytes told) c.guide_and_stop-guide.ensures.guide (λ is. other (stopped.2 ∙ is));
+      told = c.guide_and_stop-guide.ensures.there;
     }
