@@ -88,7 +88,7 @@ module _ (k : Key) (low high : ℕ) (all : List Aired) where
 -- ---- an air
 
 module _ (airings : List Airing) (xs : List Aired) (is : IsRepeatingAirOf airings xs) (can : AllByRecursion CanBeHeard airings) where
-  cans : AllByRecursion CanBeHeard (airings_of xs)
+  pub cans : AllByRecursion CanBeHeard (airings_of xs)
   cans = subst (AllByRecursion CanBeHeard) (sym is.airings_are) can
 
   aired_in : (k : Key) (join end : ℕ) (d : Completed) → IsOfLast k (count_before k.pid (air xs) join) (count_before k.pid (air xs) end) xs d → IsAiredIn join end xs d
@@ -135,7 +135,7 @@ module _ (airings : List Airing) (xs : List Aired) (is : IsRepeatingAirOf airing
       whole : (n : ℕ) → n ≡ n - 0
       whole n = omega arith
 
-  coherent_in : (join end : ℕ) (k : Key) (b : Bool) → is_counted k.pid k.table ≡ b
+  pub coherent_in : (join end : ℕ) (k : Key) (b : Bool) → is_counted k.pid k.table ≡ b
       → AllByRecursion (IsAiredIn join end xs) (completed_of k (map bytes_of_packet (slice_range (air xs) join end)))
   coherent_in join end k false e = none_completed k (map bytes_of_packet (slice_range (air xs) join end)) (IsAiredIn join end xs) e
   coherent_in join end k true e =

@@ -42,7 +42,7 @@ mux_with (Faulty fault) tail mux sound e = cc
 mux_with (Whole m behind) tail mux sound e = (let same : m ≡ mux = cc in subst IsSoundWithIds same (sound m behind refl))
 mux_with Unended tail mux sound e = cc
 
-mux_of_script : (lines : List (List ℕ)) (tail : Tail) (mux : Mux) → (script_with (block_from [] (record_lines 1 lines)) tail).mux ≡ Some mux → IsSoundWithIds mux
+pub mux_of_script : (lines : List (List ℕ)) (tail : Tail) (mux : Mux) → (script_with (block_from [] (record_lines 1 lines)) tail).mux ≡ Some mux → IsSoundWithIds mux
 mux_of_script lines tail mux e = mux_with (block_from [] (record_lines 1 lines)) tail mux (λ m behind is. block_sound 1 lines m behind is) e
 
 -- ---- an air as a recording

@@ -9,3 +9,4 @@ pub mod ReportFacts
 pub mod OutcomeFacts
 mod StopLines
 mod CommandFacts
+mod CoherentFacts

@@ -7,3 +7,4 @@ pub mod Hearing
 pub mod Again
 pub mod Reports
 pub mod Rows
+pub mod Coherent

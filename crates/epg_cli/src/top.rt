@@ -6,9 +6,11 @@ ghost use Rattle.si_causes.specs.Opening.{Files};
 ghost use Rattle.si_causes.specs.Reading.{fresh};
 ghost use Rattle.epg_report.specs.Texts.{fault_line};
 ghost use Rattle.epg_cli.specs.Again.{PrintsScript};
+ghost use Rattle.epg_cli.specs.Coherent.{PlayIsCoherent};
 ghost use Rattle.epg_cli.specs.Script.{Ended, script_in};
 ghost use Rattle.command_words.specs.Commands.{texts};
 ghost use Rattle.command_words.specs.Grammar.{command_of, Play, Listen, Live};
+ghost use Rattle.epg_live.specs.Coherent.{LiveIsCoherent};
 ghost use Rattle.epg_live.specs.Decided.{AreWhole, text_status};
 ghost use Rattle.epg_live.specs.Ends.{HasAsked, LeavesLive};
 ghost use Rattle.epg_live.specs.Stops.{HasStatusCause, IsOfLive};
@@ -114,6 +116,8 @@ pub fn run_play<S: Source, A: Sink, R: Sink>(
 ) -> Status
     ensures leaves { (text : List ℕ) → S.left input.old ≡ Some text
         → Leaves text (S.left input.new) (told A.written A.faults air.old air.new) (told R.written R.faults report.old report.new) result }
+    // What was sent is coherent: of any part of its packets no content is ever completed from two airings.
+    ensures coherent { (text : List ℕ) → S.left input.old ≡ Some text → PlayIsCoherent text (told A.written A.faults air.old air.new) result }
     // Where neither the input nor a sink fails, the script decides the status, but for want of memory.
     ensures completes { (text : List ℕ) → S.left input.old ≡ Some text → ¬ (Rose (S.faults input.old) (S.faults input.new))
         → ¬ (Rose (A.faults air.old) (A.faults air.new)) → ¬ (Rose (R.faults report.old) (R.faults report.new)) → Completes (script_in text).stop result }
@@ -183,6 +187,9 @@ pub fn run<W: Threads + Wait + Sync, O: Opener, S: Source + Send, A: Sink + Send
     // What is left with each status of `play`: the journal that the report has, and the air.
     ensures leaves { command_of (texts words.now) ≡ Some Play → (text : List ℕ) → S.left input.old ≡ Some text
         → Leaves text (S.left input.new) (told A.written A.faults air.old air.new) (told R.written R.faults report.old report.new) result }
+    // And the air is coherent: of any part of its packets no content is ever completed from two airings of that journal.
+    ensures coherent { command_of (texts words.now) ≡ Some Play → (text : List ℕ) → S.left input.old ≡ Some text
+        → PlayIsCoherent text (told A.written A.faults air.old air.new) result }
     ensures completes { command_of (texts words.now) ≡ Some Play → (text : List ℕ) → S.left input.old ≡ Some text → ¬ (Rose (S.faults input.old) (S.faults input.new))
         → ¬ (Rose (A.faults air.old) (A.faults air.new)) → ¬ (Rose (R.faults report.old) (R.faults report.new)) → Completes (script_in text).stop result }
     // And so a script that is whole is played to its end.
@@ -201,6 +208,10 @@ pub fn run<W: Threads + Wait + Sync, O: Opener, S: Source + Send, A: Sink + Send
         → (text : List ℕ) → S.left input.old ≡ Some text → (files : Files) → O.files opener.old ≡ Some files
         → LeavesLive paths cycles join text files (S.left input.new) (O.read_faults opener.old) (O.read_faults opener.new)
         (told A.written A.faults air.old air.new) (told R.written R.faults report.old report.new) result }
+    // And that air is coherent.
+    ensures live_coherent { (paths : List (List ℕ)) (cycles join : ℕ) → command_of (texts words.now) ≡ Some (Live paths cycles join)
+        → (text : List ℕ) → S.left input.old ≡ Some text → (files : Files) → O.files opener.old ≡ Some files
+        → LiveIsCoherent text (told A.written A.faults air.old air.new) (told R.written R.faults report.old report.new) result }
     // The journal that the report has is a script: behind its description `play` plays it to this journal again.
     ensures live_again { (paths : List (List ℕ)) (cycles join : ℕ) → command_of (texts words.now) ≡ Some (Live paths cycles join)
         → (text : List ℕ) → S.left input.old ≡ Some text → (files : Files) → O.files opener.old ≡ Some files

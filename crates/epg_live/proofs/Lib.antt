@@ -4,3 +4,5 @@ mod RanFacts
 mod DescribedFacts
 mod MetFacts
 mod DecidedFacts
+mod TypedFacts
+pub mod CoherentFacts

@@ -3,3 +3,4 @@ pub mod Stops
 pub mod Runs
 pub mod Decided
 pub mod Ends
+pub mod Coherent

@@ -95,7 +95,7 @@ front_whole own own' fin xs ys low made mine none whole = record {
 -- ---- which entries are swaps
 
 -- what holds of each caller's entries holds of all
-of_all : (P : ℕ → Entry → Type 0) (journal : List Entry) → ((k : ℕ) → AllByRecursion (P k) (of k journal)) → AllByRecursion (λ (e : Entry). P e.who e) journal
+pub of_all : (P : ℕ → Entry → Type 0) (journal : List Entry) → ((k : ℕ) → AllByRecursion (P k) (of k journal)) → AllByRecursion (λ (e : Entry). P e.who e) journal
 of_all P [] all = tt
 of_all P (e ∷ es) all = (
   (subst (λ (l : List Entry). AllByRecursion (P e.who) l) (of_mine e.who e es refl) (all e.who)).0,

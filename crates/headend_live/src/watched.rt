@@ -1,6 +1,9 @@
 // A run of feeds, control and player, whose air is heard.
 ghost use Rattle.std.specs.Prelude.{◌≡◌, ◌≤◌, ◌↔◌, Bool, true, false, List, ℕ, Option, None, Some, OnErr, IfOk, IfSome, IsSome, [], length};
-ghost use Rattle.mux_model.specs.Sound.{IsSound};
+ghost use Rattle.mux_model.specs.Sound.{IsSound, IsSoundWithIds};
+ghost use Rattle.air_coherence.specs.Coherence.{SentCoherent};
+ghost use Rattle.headend_live.specs.Air.{airings};
+ghost use Rattle.headend_live.specs.Laws.{HasTypedEdits};
 ghost use Rattle.headend_live.specs.OnAir.{HasAirCause};
 ghost use Rattle.guide_receiver.specs.Guides.{guide_of};
 ghost use Rattle.air_monitor.specs.Heard.{HasTaken, HearsBy, WasHeard};
@@ -182,6 +185,8 @@ pub fn run_live<
     requires few { length feeds.items ≤ 16 }
     requires cycles { plan.cycles ≤ 1000 }
     ensures ran { IfOk result (λ end. LiveRan F.left F.faults F.same S.left S.faults S.same mux plan feeds.items control (A.written air.old) (A.written air.new) (A.faults air.old) (A.faults air.new) end) }
+    // What was sent is coherent: of any part of its packets no content is ever completed from two airings.
+    ensures coherent { IfOk result (λ end. IsSoundWithIds mux → HasTypedEdits end.desk.entries → SentCoherent (airings mux end.desk.entries) (A.written air.old) (A.written air.new)) }
     ensures memory { OnErr result (air.new ≡ air.old) }
 {
     let Ran { end, heard } = run_and_hear(

@@ -10,6 +10,7 @@ use Rattle.epg_report.specs.declared.status.Status.TheVariants.{Done, Memory}
 use Rattle.epg_live.specs.Decided.{AreWhole, text_status}
 use Rattle.epg_live.specs.Ends.{HasAsked, LeavesLive}
 use Rattle.epg_live.specs.Stops.{HasStatusCause, IsOfLive}
+use Rattle.epg_cli.specs.Coherent.{PlayIsCoherent}
 use Rattle.epg_cli.specs.Script.{script_in}
 use Rattle.epg_cli.specs.Run.{Leaves, IsOfPlay, Completes}
 use Rattle.epg_cli.specs.Listen.{LeavesHeard, HearsThrough, IsOfListen}
@@ -454,3 +455,45 @@ returns-in-Err-Usage-clause-report g c = λ e. cc
 
 pub returns-in-Err-Usage-clause-opener_kept : goal.returns-in-Err-Usage-clause-opener_kept
 returns-in-Err-Usage-clause-opener_kept g c = λ spelled. refl
+
+pub returns-in-Ok-Play-clause-coherent : goal.returns-in-Ok-Play-clause-coherent
+returns-in-Ok-Play-clause-coherent g c = λ spelled. c.run_play.ensures.coherent
+
+pub returns-in-Ok-Play-clause-live_coherent : goal.returns-in-Ok-Play-clause-live_coherent
+returns-in-Ok-Play-clause-live_coherent g c =
+    let spells : command_of (texts c.args.words.now) ≡ Some Play = rw c.in-Ok-Play.field-0-is at c.in-Ok-Play.ensures.command in
+    λ paths cycles join spelled. absurd (play_live (command_of (texts c.args.words.now)) paths cycles join spells spelled)
+
+pub returns-in-Ok-Listen-clause-coherent : goal.returns-in-Ok-Listen-clause-coherent
+returns-in-Ok-Listen-clause-coherent g c =
+    let spells : command_of (texts c.args.words.now) ≡ Some Listen = rw c.in-Ok-Listen.field-0-is at c.in-Ok-Listen.ensures.command in
+    λ spelled. absurd (play_listen (command_of (texts c.args.words.now)) spelled spells)
+
+pub returns-in-Ok-Listen-clause-live_coherent : goal.returns-in-Ok-Listen-clause-live_coherent
+returns-in-Ok-Listen-clause-live_coherent g c =
+    let spells : command_of (texts c.args.words.now) ≡ Some Listen = rw c.in-Ok-Listen.field-0-is at c.in-Ok-Listen.ensures.command in
+    λ paths cycles join spelled. absurd (listen_live (command_of (texts c.args.words.now)) paths cycles join spells spelled)
+
+pub returns-in-Ok-Live-clause-coherent : goal.returns-in-Ok-Live-clause-coherent
+returns-in-Ok-Live-clause-coherent g c =
+    let spells : command_of (texts c.args.words.now) ≡ Some (Live (texts c.in-Ok-Live.live.feeds.items) c.in-Ok-Live.live.cycles c.in-Ok-Live.live.join) = rw c.in-Ok-Live.field-0-is at c.in-Ok-Live.ensures.command in
+    λ spelled. absurd (play_live (command_of (texts c.args.words.now)) (texts c.in-Ok-Live.live.feeds.items) c.in-Ok-Live.live.cycles c.in-Ok-Live.live.join spelled spells)
+
+pub returns-in-Ok-Live-clause-live_coherent : goal.returns-in-Ok-Live-clause-live_coherent
+returns-in-Ok-Live-clause-live_coherent g c = λ paths cycles join spelled text tells files known. c.run_live_files.ensures.coherent text tells files known
+
+pub returns-in-Err-Memory-clause-coherent : goal.returns-in-Err-Memory-clause-coherent
+returns-in-Err-Memory-clause-coherent g c = λ spelled text tells. of_memory (PlayIsCoherent text (told g.A.Sink.written g.A.Sink.faults c.args.air.now c.args.air.now)) c.out_of_memory.result c.out_of_memory.ensures.status tt
+
+pub returns-in-Err-Memory-clause-live_coherent : goal.returns-in-Err-Memory-clause-live_coherent
+returns-in-Err-Memory-clause-live_coherent g c = λ paths cycles join spelled text tells files known. inl c.out_of_memory.ensures.status
+
+pub returns-in-Err-Usage-clause-coherent : goal.returns-in-Err-Usage-clause-coherent
+returns-in-Err-Usage-clause-coherent g c =
+    let none : command_of (texts c.args.words.now) ≡ None = (rw c.in-Err-Usage.field-0-is at c.in-Err-Usage.ensures.usage).0 refl in
+    λ spelled. absurd (some_none (command_of (texts c.args.words.now)) Play spelled none)
+
+pub returns-in-Err-Usage-clause-live_coherent : goal.returns-in-Err-Usage-clause-live_coherent
+returns-in-Err-Usage-clause-live_coherent g c =
+    let none : command_of (texts c.args.words.now) ≡ None = (rw c.in-Err-Usage.field-0-is at c.in-Err-Usage.ensures.usage).0 refl in
+    λ paths cycles join spelled. absurd (some_none (command_of (texts c.args.words.now)) (Live paths cycles join) spelled none)

@@ -2,6 +2,8 @@ use Rattle.std.proofs.Common.{◌≡◌, ℕ, List, ◌∙◌, ap}
 use Rattle.std.specs.Prelude.{Some}
 use Rattle.headend_live.specs.Live.{run_stop}
 use Rattle.headend_live.specs.Watched.{HeardOfAir, watched_stop}
+use Rattle.headend_live.proofs.CarryFacts.{airings_heard}
+use Rattle.headend_live.proofs.Coherent.{air_coherent}
 use Rattle.headend_live.proofs.Watching.{heard_of_air, heard_whole, or_wanting}
 use Rattle.headend_live.proofs.watched.run_live.Goals as goal
 
@@ -33,3 +35,12 @@ returns-in-Ok-clause-ran g c =
           (heard bytes told) c.guide_and_stop-guide.ensures.guide (λ is. other (stopped.2 ∙ is));
       told = c.guide_and_stop-guide.ensures.there;
     }
+
+pub returns-in-Ok-clause-coherent : goal.returns-in-Ok-clause-coherent
+returns-in-Ok-clause-coherent g c =
+    let ran = c.run_and_hear-end in
+    let end = c.in-Ok.end in
+    let did = rw c.in-Ok.is at ran.ensures.did in
+    λ sound typed.
+    air_coherent c.args.mux end.desk.entries (g.A.Sink.written c.args.air.now) (g.A.Sink.written ran.new.air) end.sent
+    (airings_heard c.args.mux end.desk.entries sound typed did.2.journal_did.legal) did.2.air

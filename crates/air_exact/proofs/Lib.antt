@@ -1,0 +1,6 @@
+pub mod Ends
+pub mod Contents
+pub mod Shown
+pub mod Latest
+pub mod Clock
+pub mod Views

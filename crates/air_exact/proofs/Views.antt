@@ -1,0 +1,91 @@
+-- What is heard of what stays on air.
+use Rattle.std.proofs.Common.{◌≡◌, ℕ, List, [], ◌∷◌, ◌++◌, Bool, true, false, Option, Some, None, map, refl, sym, ◌∙◌, subst}
+use Rattle.std.specs.Prelude.{filter, slice_range, option_map, if◌then◌else◌, IsSome}
+use Rattle.std.specs.List.{AllByRecursion}
+use Rattle.si_lists.proofs.Lists.{all_map}
+use Rattle.section_codec.specs.declared.table.Key.{Key}
+use Rattle.section_codec.specs.declared.table.SubTable.{SubTable}
+use Rattle.section_codec.specs.Contents.{Content}
+use Rattle.section_codec.specs.KeyOrder.{is_key}
+use Rattle.section_codec.proofs.KeyOrderFacts.{is_key-same}
+use Rattle.version_book.specs.Airings.{Airing, content_at, content_in as content_among}
+use Rattle.ts_packets.specs.Bytes.{bytes_of_packet}
+use Rattle.sub_collect.specs.Completions.{latest_of, dones}
+use Rattle.sub_collect.specs.declared.completed.Completed.{Completed}
+use Rattle.sub_collect.proofs.Done.{latest-is_shown}
+use Rattle.guide_receiver.specs.Counting.{is_counted}
+use Rattle.guide_receiver.specs.Heard.{counted_heard}
+use Rattle.guide_receiver.specs.Latest.{last_of, keys_shown, is_pat_key, is_nit_key, is_sdt_key}
+use Rattle.air_model.specs.Air.{Aired, air, airings_of}
+use Rattle.air_model.specs.Repeating.{IsRepeatingAirOf}
+use Rattle.air_hearing.specs.Counting.{CanBeHeard}
+use Rattle.air_coherence.specs.Coherence.{IsAiredIn}
+use Rattle.air_coherence.proofs.Coherent.{coherent_in}
+use Rattle.air_exact.specs.Exact.{StaysOnAir, IsOnlyKey, IsCarried}
+use Rattle.air_exact.specs.Laws.{OnAirIsHeard}
+use Rattle.air_exact.proofs.Contents.{contents_heard}
+use Rattle.air_exact.proofs.Shown.{all_shown}
+use Rattle.air_exact.proofs.Latest.{only_is_latest}
+use Rattle.air_exact.proofs.Clock.{clock_heard}
+
+-- ---- keys of airings
+
+element_at : (P : Airing → Type 0) (before : List Aired) (x : Aired) (after : List Aired) → AllByRecursion P (airings_of (before ++ x ∷ after)) → P x.airing
+element_at P [] x after all = all.0
+element_at P (y ∷ before) x after all = element_at P before x after all.1
+
+key_carried : (Q : Key → Type 0) (k : Key) (ts : List SubTable) → AllByRecursion (λ (t : SubTable). Q t.key) ts → (c : Content) → content_among k ts ≡ Some c → Q k
+key_carried Q k [] all c e = cc
+key_carried Q k (t ∷ ts) all c e = pick (is_key k t.key) refl e (λ f. key_carried Q k ts all.1 c f)
+  where
+    pick : (b : Bool) → is_key k t.key ≡ b → (if b then Some t.sections else content_among k ts) ≡ Some c → (content_among k ts ≡ Some c → Q k) → Q k
+    pick true f g rest = subst Q (sym (is_key-same k t.key f)) all.0
+    pick false f g rest = rest g
+
+some_content : (o : Option Content) → IsSome o → (c : Content) × (o ≡ Some c)
+some_content None some = (let no : false ≡ true = some in cc)
+some_content (Some c) some = (c, refl)
+
+some_done : (o : Option Completed) (c : Content) → option_map (λ (d : Completed). d.sections) o ≡ Some c → (d : Completed) × (o ≡ Some d)
+some_done None c e = cc
+some_done (Some d) c e = (d, refl)
+
+-- ---- the view
+
+module _ (airings : List Airing) (before : List Aired) (x : Aired) (after : List Aired) (is : IsRepeatingAirOf airings (before ++ x ∷ after)) (can : AllByRecursion CanBeHeard airings)
+    (join end : ℕ) (stays : StaysOnAir join end before x after) where
+  abbrev packets : List (List ℕ)
+  packets = map bytes_of_packet (slice_range (air (before ++ x ∷ after)) join end)
+
+  -- each completion that is shown is of one airing
+  each_aired : AllByRecursion (IsAiredIn join end (before ++ x ∷ after)) (dones [] (counted_heard packets))
+  each_aired =
+      all_shown (IsAiredIn join end (before ++ x ∷ after)) (counted_heard packets)
+      (λ k. coherent_in airings (before ++ x ∷ after) is can join end k (is_counted k.pid k.table) refl)
+
+  -- the only key that passes a test is the latest
+  latest_key : (test : Key → Bool) (k : Key) → IsOnlyKey test k airings → IsCarried test k x.airing → last_of (filter test (keys_shown (counted_heard packets))) ≡ Some k
+  latest_key test k only carried =
+      let some = some_content (content_at k x.airing) carried.some in
+      let heard = contents_heard airings before x after is can join end stays k carried.counted some.0 some.1 in
+      let last = some_done (latest_of k (counted_heard packets)) some.0 heard in
+      only_is_latest test k (dones [] (counted_heard packets))
+      (all_map (IsAiredIn join end (before ++ x ∷ after)) (λ (d : Completed). test d.key ≡ true → d.key ≡ k) one (dones [] (counted_heard packets)) each_aired)
+      carried.passes last.0 (sym (latest-is_shown k (counted_heard packets)) ∙ last.1)
+    where
+      one : (d : Completed) → IsAiredIn join end (before ++ x ∷ after) d → test d.key ≡ true → d.key ≡ k
+      one d aired =
+          let all = subst (λ (ys : List Aired). IsOnlyKey test k (airings_of ys)) aired.cut (subst (IsOnlyKey test k) (sym is.airings_are) only) in
+          key_carried (λ (q : Key). test q ≡ true → q ≡ k) d.key aired.cycle.airing.tables
+          (element_at (λ (a : Airing). AllByRecursion (λ (t : SubTable). test t.key ≡ true → t.key ≡ k) a.tables) aired.before aired.cycle aired.after all) d.sections aired.content
+
+pub on_air_heard : OnAirIsHeard
+on_air_heard airings before x after is can join end stays within pat nit sdt once =
+    let clock = clock_heard airings before x after is can join end stays.joined stays.whole within in
+    record {
+      content = λ k c counted content. contents_heard airings before x after is can join end stays k counted c content;
+      pat_is = latest_key airings before x after is can join end stays is_pat_key pat once.pats once.pat_is;
+      nit_is = latest_key airings before x after is can join end stays is_nit_key nit once.nits once.nit_is;
+      sdt_is = latest_key airings before x after is can join end stays (is_sdt_key sdt.ext) sdt once.sdts once.sdt_is;
+      clock = subst IsSome (sym clock.1) refl;
+    }
