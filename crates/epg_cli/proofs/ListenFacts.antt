@@ -13,9 +13,10 @@ use Rattle.packet_reader.specs.Reading.{Reading, GivesPacket, TakesPacket, Count
 use Rattle.packet_reader.proofs.RecordingFacts.{packet_step, broken_step, short_piece}
 use Rattle.packet_reader.specs.declared.stop.PacketStop.{PacketStop}
 use Rattle.packet_reader.specs.declared.stop.PacketStop.TheVariants as packet
-use Rattle.guide_receiver.specs.declared.done.DoneKey.{DoneKey}
-use Rattle.guide_receiver.specs.Heard.{DoneAt, Hearing, ReceiverStandsFor, at_packet, dones_by, dones_behind}
-use Rattle.guide_receiver.specs.Texts.{done_line, done_lines}
+use Rattle.heard_completions.specs.declared.done.DoneKey.{DoneKey}
+use Rattle.guide_receiver.specs.Heard.{Hearing, ReceiverStandsFor}
+use Rattle.heard_completions.specs.Dones.{DoneAt, at_packet, dones_by, dones_behind}
+use Rattle.heard_completions.specs.Texts.{done_line, done_lines}
 use Rattle.epg_cli.specs.declared.listen.ListenStop.{ListenStop}
 use Rattle.epg_cli.specs.declared.listen.ListenStop.TheVariants as stop
 use Rattle.epg_report.specs.declared.status.Status.{Status}

@@ -5,9 +5,10 @@ use Rattle.si_causes.specs.Causes.{Rose, AppendsFront}
 use Rattle.packet_reader.specs.Recordings.{RecordingEnd, RecordingEnd.AtEnd, RecordingEnd.Broken, RecordingEnd.PastLimit, recording}
 use Rattle.packet_reader.specs.declared.stop.PacketStop.{PacketStop}
 use Rattle.packet_reader.specs.declared.stop.PacketStop.TheVariants as packet
-use Rattle.guide_receiver.specs.Heard.{Hearing, ReceiverStandsFor, dones_of}
+use Rattle.guide_receiver.specs.Heard.{Hearing, ReceiverStandsFor}
+use Rattle.heard_completions.specs.Dones.{dones_of}
 use Rattle.guide_receiver.specs.Guides.{guide_of}
-use Rattle.guide_receiver.specs.Texts.{done_lines}
+use Rattle.heard_completions.specs.Texts.{done_lines}
 use Rattle.guide_text.specs.Guides.{guide_text}
 use Rattle.epg_cli.specs.declared.listen.ListenStop.{ListenStop}
 use Rattle.epg_cli.specs.declared.listen.ListenStop.TheVariants as stop

@@ -2,8 +2,9 @@
 ghost use Rattle.std.specs.Prelude.{◌≡◌, ◌≤◌, ◌++◌, ◌∷◌, [], List, ℕ, None, Some, Ok, Err, IfOk, OnOk, map, slice_index};
 ghost use Rattle.std.specs.Io.KnownBytes.{IsAtEnd};
 ghost use Rattle.packet_reader.specs.Reading.{bytes_left};
-ghost use Rattle.guide_receiver.specs.Heard.{Hearing, ReceiverStandsFor, at_packet, dones_by};
-ghost use Rattle.guide_receiver.specs.Texts.{done_lines};
+ghost use Rattle.guide_receiver.specs.Heard.{Hearing, ReceiverStandsFor};
+ghost use Rattle.heard_completions.specs.Dones.{at_packet, dones_by};
+ghost use Rattle.heard_completions.specs.Texts.{done_lines};
 ghost use Rattle.epg_report.specs.Texts.{fault_line};
 ghost use Rattle.epg_report.specs.Told.{told};
 ghost use Rattle.epg_cli.specs.Listen.{ReportsLines, HasHeard, HasReadCause, HasReportCause, IsNoReadStop, EndsHeard, heard_guide, packet_stop_text, packet_stop_status};
