@@ -171,11 +171,11 @@ air_is_coherent airings xs is can n join end le k =
     (sym (front_part n join end l few ∙ part-map bytes_of_packet join end (air xs)))
     (coherent_in airings xs is can join end k (is_counted k.pid k.table) refl)
 
-packets_whole : (ps : List Packet) → AllByRecursion (λ (p : Packet). length (bytes_of_packet p) ≡ 188) ps → AreWhole (map bytes_of_packet ps)
+pub packets_whole : (ps : List Packet) → AllByRecursion (λ (p : Packet). length (bytes_of_packet p) ≡ 188) ps → AreWhole (map bytes_of_packet ps)
 packets_whole [] all = tt
 packets_whole (p ∷ ps) all = (all.0, packets_whole ps all.1)
 
-packets_joined : (ps : List Packet) → flat_map bytes_of_packet ps ≡ joined (map bytes_of_packet ps)
+pub packets_joined : (ps : List Packet) → flat_map bytes_of_packet ps ≡ joined (map bytes_of_packet ps)
 packets_joined [] = refl
 packets_joined (p ∷ ps) = ap (λ (t : List ℕ). bytes_of_packet p ++ t) (packets_joined ps)
 

@@ -14,15 +14,10 @@ use Rattle.publication.specs.Network.{nit_key}
 use Rattle.publication.specs.Programs.{pat_key}
 use Rattle.publication.specs.Tables.{sdt_key, tables_of}
 use Rattle.publication.proofs.FitFacts.{each_pmt, each_sub_table}
+use Rattle.heard_completions.proofs.Tables.{schedules_counted, pmts_counted}
 
 abbrev IsCounted : SubTable → Type 0
 IsCounted t = is_counted t.key.pid t.key.table ≡ true
-
-schedules_counted : (table : ℕ) → 0x50 ≤ table → table < 0x60 → is_counted 0x0012 table ≡ true
-schedules_counted table above below = grind (arith, nat_tests)
-
-pmts_counted : (pid : ℕ) → 32 ≤ pid → pid ≤ 8190 → is_counted pid 0x02 ≡ true
-pmts_counted pid above below = grind (arith, nat_tests)
 
 -- receivers count all sub-tables of a publication
 pub published_counted : (mux : Mux) (guide : Guide) → IsSound mux → AllByRecursion (λ (t : SubTable). is_counted t.key.pid t.key.table ≡ true) (tables_of mux guide)

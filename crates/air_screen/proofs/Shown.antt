@@ -34,6 +34,7 @@ use Rattle.publication_screen.proofs.Whole.{publication_is_shown}
 use Rattle.air_screen.specs.Published.{CanBePublished, ArePublished, number_at, StaysPublished, AreShown}
 use Rattle.air_screen.specs.Laws.{PublishedIsShown}
 use Rattle.air_screen.proofs.Keys.{published_counted, only_pat, only_nit, only_sdt}
+use Rattle.air_exact.proofs.Contents.{can_at}
 
 -- ---- the publication of an airing
 
@@ -59,10 +60,6 @@ each_published P mux guides holds (n ∷ numbers) (a ∷ airings) e =
     let first : a.tables ≡ tables_of mux (guides n) = cc in
     let rest : map Tables airings ≡ map (λ (m : ℕ). tables_of mux (guides m)) numbers = cc in
     (subst P (sym first) (holds n), each_published P mux guides holds numbers airings rest)
-
-can_at : (before : List Aired) (x : Aired) (after : List Aired) → AllByRecursion CanBeHeard (airings_of (before ++ x ∷ after)) → CanBeHeard x.airing
-can_at [] x after all = all.0
-can_at (y ∷ before) x after all = can_at before x after all.1
 
 some_clock : (o : Option ℕ) → IsSome o → (clock : ℕ) × (o ≡ Some clock)
 some_clock None some = (let no : false ≡ true = some in cc)

@@ -43,6 +43,7 @@ use Rattle.epg_cli.specs.Script.{Script, Stop, Ended, Disagreed, difference, scr
 use Rattle.epg_cli.specs.Run.{whole_journal}
 use Rattle.epg_cli.specs.Again.{Describes, IsScript, JournalsPlayAgain, PrintsScript}
 use Rattle.epg_cli.proofs.CourseFacts.{Rest, and_command, course_at, step_ahead, agreed_ahead, stop_ahead}
+use Rattle.epg_live.proofs.CoherentFacts.{by_memory}
 
 -- ---- an outcome is itself
 
@@ -229,13 +230,9 @@ is_script text mux rows journal whole legal other behind block is d readable le 
 none_is_script : (text : List ℕ) (journal : List Entry) → journal ≡ [] → IsScript text journal
 none_is_script text journal none mux rows block is d readable le = journals-again mux block journal d (subst (λ (es : List Entry). Legal mux es) (sym none) tt) readable le
 
-ends_by_memory : (text : List ℕ) (report : ReportTaken) (met status : Status) → met ≡ Memory → ReportEnds met text report status → status ≡ Memory
-ends_by_memory text report met status is (inl (took, same)) = same ∙ is
-ends_by_memory text report met status is (inr (rose, took, same)) = same ∙ ap or_report is
-
 prints_met : (paths : List (List ℕ)) (cycles join : ℕ) (text : List ℕ) (files : Files) (left : Option (List ℕ)) (feeds_before feeds_now : ℕ) (before now : Option (List ℕ)) (report : ReportTaken) (journal : List Entry) (heard : HeardAir) (met status : Status)
     → HasMet paths cycles join text files left feeds_before feeds_now before now journal heard met → ReportEnds met (run_text journal heard) report status → PrintsScript text report status
-prints_met paths cycles join text files left feeds_before feeds_now before now report journal heard met status (inl memory) ends = inl (ends_by_memory (run_text journal heard) report met status memory ends)
+prints_met paths cycles join text files left feeds_before feeds_now before now report journal heard met status (inl memory) ends = inl (by_memory (run_text journal heard) report met status memory ends)
 prints_met paths cycles join text files left feeds_before feeds_now before now report journal heard met status (inr (inl none)) ends = inr (journal, heard, met, ends, none_is_script text journal none.journal_is)
 prints_met paths cycles join text files left feeds_before feeds_now before now report journal heard met status (inr (inr (mux, rows, whole, ran))) ends =
     inr (journal, heard, met, ends, is_script text mux rows journal whole ran.journal_is.legal)

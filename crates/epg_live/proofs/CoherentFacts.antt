@@ -33,7 +33,7 @@ ran_coherent mux cycles join text left rows paths files feeds_before feeds_now b
     air_coherent mux journal before now ran.sent
     (airings_heard mux journal (whole_descriptions_are_sound 1 (text_lines text) mux rows whole) typed ran.journal_is.legal) ran.air_is
 
-by_memory : (text : List ℕ) (report : ReportTaken) (met status : Status) → met ≡ Memory → ReportEnds met text report status → status ≡ Memory
+pub by_memory : (text : List ℕ) (report : ReportTaken) (met status : Status) → met ≡ Memory → ReportEnds met text report status → status ≡ Memory
 by_memory text report met status is (inl (took, same)) = same ∙ is
 by_memory text report met status is (inr (rose, took, same)) = same ∙ ap or_report is
 

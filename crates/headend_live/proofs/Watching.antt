@@ -27,18 +27,11 @@ use Rattle.headend_live.specs.Live.{AirDid}
 use Rattle.headend_live.specs.Watched.{HeardOfAir, HeardWhole, watched_stop}
 use Rattle.headend_live.specs.declared.live.LiveStop.{LiveStop}
 use Rattle.headend_live.specs.declared.live.LiveStop.TheVariants as live
-
-packets_whole : (ps : List Packet) → AllByRecursion (λ (p : Packet). length (bytes_of_packet p) ≡ 188) ps → AreWhole (map bytes_of_packet ps)
-packets_whole [] all = tt
-packets_whole (p ∷ ps) all = (all.0, packets_whole ps all.1)
+use Rattle.air_coherence.proofs.Coherent.{packets_whole, packets_joined}
 
 packets_sync : (ps : List Packet) → AreInSync (map bytes_of_packet ps)
 packets_sync [] = tt
 packets_sync (p ∷ ps) = (refl, packets_sync ps)
-
-packets_joined : (ps : List Packet) → flat_map bytes_of_packet ps ≡ joined (map bytes_of_packet ps)
-packets_joined [] = refl
-packets_joined (p ∷ ps) = ap (λ t. bytes_of_packet p ++ t) (packets_joined ps)
 
 -- a front of an air was appended
 record FrontOfAir (before now : Option (List ℕ)) : Type 0 where

@@ -57,13 +57,10 @@ use Rattle.publication_screen.specs.Laws.{PublicationIsShown}
 use Rattle.publication_screen.proofs.Own.{pat_said, pmt_said, pids_said, nit_said, sdt_said, services_in_order}
 use Rattle.publication_screen.proofs.Events.{HasIds, now_said, next_said}
 use Rattle.publication_screen.proofs.Schedules.{HasTable, has_tables, last_is, schedule_said}
+use Rattle.eit_tables.proofs.EitFacts.{all_of_map}
 
 abbrev Held : (Key → Option Content) → SubTable → Type 0
 Held content t = content t.key ≡ Some t.sections
-
-of_map : {X Y : Type 0} (P : Y → Type 0) (f : X → Y) (xs : List X) → AllByRecursion P (map f xs) → AllByRecursion (λ (x : X). P (f x)) xs
-of_map P f [] all = tt
-of_map P f (x ∷ xs) all = (all.0, of_map P f xs all.1)
 
 of_flat : {X Y : Type 0} (P : Y → Type 0) (f : X → List Y) (xs : List X) → AllByRecursion P (flat_map f xs) → AllByRecursion (λ (x : X). AllByRecursion P (f x)) xs
 of_flat P f [] all = tt
@@ -286,8 +283,8 @@ module _ (nit_back : NitReadsBack) (sdt_back : SdtReadsBack) (mux : Mux) (guide 
   services_have : Services mux ids moment V.content mux.services guide.services
   services_have =
       all_services mux ids moment V.content mux.services guide.services same sound.sound.services within.services typed (typed_small guide within typed)
-      (of_map (Held V.content) programs.pmt_table mux.services pmts_have)
-      (of_map (Held V.content) (present_table mux moment) guide.services
+      (all_of_map (Held V.content) programs.pmt_table mux.services pmts_have)
+      (all_of_map (Held V.content) (present_table mux moment) guide.services
       (all-front (Held V.content) (present_tables mux guide) (all_near_tables mux guide ++ all_far_tables mux guide) others_have.1.1))
       (of_flat (Held V.content) (near_tables mux (midnight moment)) guide.services
       (all-front (Held V.content) (all_near_tables mux guide) (all_far_tables mux guide) schedules_have))
