@@ -31,9 +31,9 @@ pub enum HearStop {
     Memory,
 }
 
-/// A receiver of a transport stream. It stands for the packets that it heard, and keeps of each PID the section that is open, of
-/// each sub-table its present run of sections and its latest completion, the keys of PAT, NIT and SDTs that were completed last, and
-/// the last moment that it heard. It keeps its allocator.
+/// A receiver of a transport stream. It stands for the packets that it heard, and keeps of each PID the section that is open, the
+/// sections that counted last, of each sub-table its present run of sections and its latest completion, the keys of PAT, NIT and SDTs
+/// that were completed last, and the last moment that it heard. It keeps its allocator.
 #[derive(Drop)]
 pub struct Receiver {
     alloc: Global,
