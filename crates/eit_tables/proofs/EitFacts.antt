@@ -11,7 +11,7 @@ use Rattle.guide_model.specs.declared.event.Event.{Event}
 use Rattle.desc_event.specs.EventDescriptors.{entry_size}
 use Rattle.mux_model.specs.declared.mux.Mux.{Mux}
 use Rattle.guide_limits.specs.Events.{block_of}
-use Rattle.guide_limits.proofs.RunFacts.{runs_fit}
+use Rattle.longest_runs.proofs.RunFacts.{runs_fit}
 use Rattle.section_codec.specs.declared.table.NumberedBody.{NumberedBody}
 use Rattle.section_codec.specs.Contents.{numbers, last_number, Ascend}
 use Rattle.section_codec.specs.Segments.{segment_of, last_beside, segment_last_in, numbers_in_segment, and_numbers, segments_need, table_needs, told_by, segment_last_at}
