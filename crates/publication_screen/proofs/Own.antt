@@ -14,8 +14,8 @@ use Rattle.mux_model.specs.declared.mux.MuxService.{MuxService}
 use Rattle.mux_model.specs.declared.mux.Mux.{Mux}
 use Rattle.mux_model.specs.Sound.{IsSound, IsSoundService, DoAscend, IsSoundWithIds}
 use Rattle.guide_limits.specs.Limits.{IsServiceWithin}
-use Rattle.guide_limits.specs.Runs.{longest_runs}
-use Rattle.guide_limits.proofs.RunFacts.{are_longest}
+use Rattle.longest_runs.specs.Runs.{longest_runs}
+use Rattle.longest_runs.proofs.RunFacts.{are_longest}
 use Rattle.pat_pmt.specs.Pat.{pat_in, pat_body, FitsProgram}
 use Rattle.pat_pmt.specs.Pmt.{pmt_body}
 use Rattle.pat_pmt.proofs.Programs.{pat-reads_back, pmt-reads_back}
