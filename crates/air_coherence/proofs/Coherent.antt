@@ -1,6 +1,5 @@
 -- Airs are coherent.
-use Rattle.std.proofs.Common.{◌≡◌, ℕ, ◌+◌, ◌-◌, ◌/◌, ◌≤◌, ◌⊎◌, inl, inr, List, [], ◌∷◌, ◌++◌, Bool, true, false, Option, Some, None, length, take, drop, map, refl, sym}
-use Rattle.std.proofs.Common.{ap, ◌∙◌, subst, arith, append_assoc, length-take}
+use Rattle.std.proofs.Common.{◌≡◌, ℕ, ◌+◌, ◌-◌, ◌/◌, ◌≤◌, ◌⊎◌, inl, inr, List, [], ◌∷◌, ◌++◌, Bool, true, false, Option, Some, None, length, take, drop, map, refl, sym, ap, ◌∙◌, subst, arith, append_assoc, length-take}
 use Rattle.std.specs.Prelude.{flat_map, slice_range}
 use Rattle.std.specs.List.{AllByRecursion, cons_option}
 use Rattle.std.proofs.lemmas.List.{map-append, take-map, drop-map, take-take, drop-take}
@@ -15,8 +14,8 @@ use Rattle.sub_collect.specs.Runs.{Counted, completed}
 use Rattle.sub_collect.specs.Completions.{of_key, done_at, completion_at, completion, completions}
 use Rattle.sub_collect.specs.declared.completed.Completed.{Completed}
 use Rattle.sub_collect.proofs.OneContent.{completes-no-other}
-use Rattle.guide_receiver.specs.Counting.{is_counted}
-use Rattle.guide_receiver.specs.Heard.{counted_heard}
+use Rattle.heard_completions.specs.Counting.{is_counted}
+use Rattle.heard_completions.specs.Dones.{counted_heard}
 use Rattle.air_model.specs.Air.{Aired, air, airings_of, air_bytes}
 use Rattle.air_model.specs.Repeating.{IsRepeatingAirOf}
 use Rattle.air_model.proofs.Airs.{repeating-whole}
@@ -25,8 +24,9 @@ use Rattle.air_hearing.proofs.Told.{sent_of}
 use Rattle.air_joins.specs.Joining.{count_before}
 use Rattle.air_joins.proofs.Joined.{joined_by}
 use Rattle.air_joins.proofs.Places.{has_packet}
-use Rattle.air_monitor.specs.Heard.{AreWhole, joined, whole_packets}
-use Rattle.air_monitor.proofs.Packets.{whole_packets-front}
+use Rattle.ts_packets.specs.WholePackets.{AreWhole, whole_packets}
+use Rattle.ts_packets.specs.Packets.{joined}
+use Rattle.ts_packets.proofs.WholePackets.{whole_packets-front}
 use Rattle.air_coherence.specs.Coherence.{completed_of, IsAiredIn, IsCoherent}
 use Rattle.air_coherence.specs.Laws.{AirIsCoherent, FrontIsCoherent}
 use Rattle.air_coherence.proofs.Counts.{key_heard, heard_of_key, counted_below, none_counts}
@@ -171,11 +171,11 @@ air_is_coherent airings xs is can n join end le k =
     (sym (front_part n join end l few ∙ part-map bytes_of_packet join end (air xs)))
     (coherent_in airings xs is can join end k (is_counted k.pid k.table) refl)
 
-packets_whole : (ps : List Packet) → AllByRecursion (λ (p : Packet). length (bytes_of_packet p) ≡ 188) ps → AreWhole (map bytes_of_packet ps)
+pub packets_whole : (ps : List Packet) → AllByRecursion (λ (p : Packet). length (bytes_of_packet p) ≡ 188) ps → AreWhole (map bytes_of_packet ps)
 packets_whole [] all = tt
 packets_whole (p ∷ ps) all = (all.0, packets_whole ps all.1)
 
-packets_joined : (ps : List Packet) → flat_map bytes_of_packet ps ≡ joined (map bytes_of_packet ps)
+pub packets_joined : (ps : List Packet) → flat_map bytes_of_packet ps ≡ joined (map bytes_of_packet ps)
 packets_joined [] = refl
 packets_joined (p ∷ ps) = ap (λ (t : List ℕ). bytes_of_packet p ++ t) (packets_joined ps)
 

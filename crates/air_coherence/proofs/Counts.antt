@@ -1,6 +1,5 @@
 -- What bytes that are heard on a key's PID count for.
-use Rattle.std.proofs.Common.{◌≡◌, ℕ, ◌<◌, List, [], ◌∷◌, ◌++◌, Bool, true, false, ◌&&◌, Option, Some, None, refl, sym, ap, ap₂}
-use Rattle.std.proofs.Common.{◌∙◌, subst, arith, map}
+use Rattle.std.proofs.Common.{◌≡◌, ℕ, ◌<◌, List, [], ◌∷◌, ◌++◌, Bool, true, false, ◌&&◌, Option, Some, None, refl, sym, ap, ap₂, ◌∙◌, subst, arith, map}
 use Rattle.std.specs.Prelude.{if◌then◌else◌, cond, filter_map, option_map, Result, Ok, Err}
 use Rattle.std.specs.List.{AllByRecursion, cons_option}
 use Rattle.std.proofs.lemmas.List.Elements.{filter-append, filter_map-append}
@@ -24,8 +23,8 @@ use Rattle.ts_demux.proofs.Parts.{all-within}
 use Rattle.ts_demux.proofs.Windows.{all-front, all-behind}
 use Rattle.sub_collect.specs.Runs.{Counted, counted}
 use Rattle.sub_collect.specs.Completions.{is_of, of_key}
-use Rattle.guide_receiver.specs.Counting.{is_counted, is_body_of_table, counted_by, counted_in, counted_among}
-use Rattle.guide_receiver.specs.Heard.{counted_heard}
+use Rattle.heard_completions.specs.Counting.{is_counted, is_body_of_table, counted_by, counted_in, counted_among}
+use Rattle.heard_completions.specs.Dones.{counted_heard}
 use Rattle.air_model.specs.Air.{Sent, sent_on}
 use Rattle.air_hearing.specs.Counting.{raw_of}
 use Rattle.air_hearing.proofs.Keys.{count_on, from_pid, raw-on}

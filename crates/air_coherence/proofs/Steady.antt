@@ -1,6 +1,5 @@
 -- Sections of a key in the order in which they are heard: next to each other, those of one version are of one content.
-use Rattle.std.proofs.Common.{◌≡◌, ◌≢◌, ℕ, ◌+◌, ◌-◌, ◌%◌, ◌≤◌, ◌⊎◌, inl, inr, List, [], ◌∷◌, ◌++◌, Bool, true, false, ◌==◌, Option, Some, None, length, map}
-use Rattle.std.proofs.Common.{refl, sym, ap, ◌∙◌, subst, arith, append-nil, eqb-true}
+use Rattle.std.proofs.Common.{◌≡◌, ◌≢◌, ℕ, ◌+◌, ◌-◌, ◌%◌, ◌≤◌, ◌⊎◌, inl, inr, List, [], ◌∷◌, ◌++◌, Bool, true, false, ◌==◌, Option, Some, None, length, map, refl, sym, ap, ◌∙◌, subst, arith, append-nil, eqb-true}
 use Rattle.std.specs.Prelude.{if◌then◌else◌, filter_map, option_to_list}
 use Rattle.std.specs.List.{AllByRecursion}
 use Rattle.si_lists.proofs.Lists.{all_map, all_two}
@@ -20,7 +19,7 @@ use Rattle.ts_demux.proofs.Parts.{within-none, within-all}
 use Rattle.sub_collect.specs.Runs.{Counted, all_of_version, is_one_version, run_of, latest_section}
 use Rattle.sub_collect.specs.Laws.{HoldAll, IsSectionOf, IsWith}
 use Rattle.sub_collect.proofs.Whole.{none_held}
-use Rattle.guide_receiver.specs.Counting.{is_counted}
+use Rattle.heard_completions.specs.Counting.{is_counted}
 use Rattle.air_model.specs.Air.{Aired, sent_on, airings_of}
 use Rattle.air_model.specs.Repeating.{RepeatingCycles}
 use Rattle.air_hearing.specs.Counting.{CanBeHeard}

@@ -6,12 +6,12 @@ use Rattle.section_codec.specs.declared.table.Key.{Key}
 use Rattle.version_book.specs.Airings.{Airing, content_at}
 use Rattle.sub_collect.specs.Completions.{of_key, completions}
 use Rattle.sub_collect.specs.declared.completed.Completed.{Completed}
-use Rattle.guide_receiver.specs.Heard.{counted_heard}
+use Rattle.heard_completions.specs.Dones.{counted_heard}
 use Rattle.air_model.specs.Air.{Aired, IsAirOf, air, airings_of, air_bytes}
 use Rattle.air_model.specs.Making.{AreMade}
 use Rattle.air_joins.specs.Versions.{version_behind}
 use Rattle.air_joins.specs.Joining.{HasPacketIn}
-use Rattle.air_monitor.specs.Heard.{whole_packets}
+use Rattle.ts_packets.specs.WholePackets.{whole_packets}
 
 -- what is completed of a key, at each of its sections that count
 abbrev pub completed_of : Key → List (List ℕ) → List Completed

@@ -6,7 +6,7 @@ use Rattle.ts_packets.specs.Bytes.{bytes_of_packet}
 use Rattle.air_model.specs.Air.{Aired, air, air_bytes}
 use Rattle.air_model.specs.Repeating.{IsRepeatingAirOf}
 use Rattle.air_hearing.specs.Counting.{CanBeHeard}
-use Rattle.air_monitor.specs.Heard.{whole_packets}
+use Rattle.ts_packets.specs.WholePackets.{whole_packets}
 use Rattle.air_coherence.specs.Coherence.{IsCoherent}
 
 -- The air of any airings that can be heard is coherent, and so is the air of its first packets alone.

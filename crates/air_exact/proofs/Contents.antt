@@ -35,7 +35,7 @@ cycle_at : (past : List Airing) (before : List Aired) (x : Aired) (after : List 
 cycle_at past [] x after h = (past, h.0)
 cycle_at past (y ∷ before) x after h = cycle_at (past ++ y.airing ∷ []) before x after h.1
 
-can_at : (before : List Aired) (x : Aired) (after : List Aired) → AllByRecursion CanBeHeard (airings_of (before ++ x ∷ after)) → CanBeHeard x.airing
+pub can_at : (before : List Aired) (x : Aired) (after : List Aired) → AllByRecursion CanBeHeard (airings_of (before ++ x ∷ after)) → CanBeHeard x.airing
 can_at [] x after can = can.0
 can_at (y ∷ before) x after can = can_at before x after can.1
 

@@ -1,6 +1,5 @@
 -- What is heard of a key at the end, where it stays on air.
-use Rattle.std.proofs.Common.{◌≡◌, ◌≢◌, ℕ, ◌+◌, ◌-◌, ◌%◌, ◌<◌, ◌≤◌, ◌⊎◌, inl, inr, List, [], ◌∷◌, ◌++◌, Bool, true, false, Option, Some, None, length, map, refl, sym, ap}
-use Rattle.std.proofs.Common.{◌∙◌, subst, arith, append_assoc, append-nil, eqb-true}
+use Rattle.std.proofs.Common.{◌≡◌, ◌≢◌, ℕ, ◌+◌, ◌-◌, ◌%◌, ◌<◌, ◌≤◌, ◌⊎◌, inl, inr, List, [], ◌∷◌, ◌++◌, Bool, true, false, Option, Some, None, length, map, refl, sym, ap, ◌∙◌, subst, arith, append_assoc, append-nil, eqb-true}
 use Rattle.std.specs.Prelude.{if◌then◌else◌, filter, filter_map, IsSome, is_some, ◌==◌}
 use Rattle.std.specs.List.{AllByRecursion}
 use Rattle.std.proofs.lemmas.List.{map-append}
@@ -22,7 +21,7 @@ use Rattle.sub_collect.specs.Laws.{HoldAll, IsSectionOf, IsWith, IsNumbered}
 use Rattle.sub_collect.proofs.Runs.{version-joins, run_of-new, latest-push, no-latest}
 use Rattle.sub_collect.proofs.Whole.{none_held, run_behind}
 use Rattle.sub_collect.proofs.OneContent.{completes}
-use Rattle.guide_receiver.specs.Counting.{is_counted}
+use Rattle.heard_completions.specs.Counting.{is_counted}
 use Rattle.air_model.specs.Air.{Aired, sent_on, air, airings_of}
 use Rattle.air_model.specs.Repeating.{RepeatingCycles}
 use Rattle.air_hearing.specs.Counting.{CanBeHeard}

@@ -5,8 +5,8 @@ use Rattle.section_codec.specs.declared.table.Key.{Key}
 use Rattle.section_codec.specs.Contents.{Content}
 use Rattle.version_book.specs.Airings.{Airing, content_at}
 use Rattle.ts_packets.specs.Bytes.{bytes_of_packet}
-use Rattle.guide_receiver.specs.Counting.{is_counted}
-use Rattle.guide_receiver.specs.Heard.{counted_heard}
+use Rattle.heard_completions.specs.Counting.{is_counted}
+use Rattle.heard_completions.specs.Dones.{counted_heard}
 use Rattle.guide_receiver.specs.Guides.{view_of}
 use Rattle.guide_screen.specs.Holding.{content_in}
 use Rattle.air_model.specs.Air.{Aired, air}

@@ -21,11 +21,11 @@ use Rattle.sub_collect.specs.Laws.{is_done_of, IsNumbered, HoldAll, IsWith, IsFr
 use Rattle.sub_collect.specs.declared.completed.Completed.{Completed}
 use Rattle.sub_collect.proofs.Done.{dones-go_on, keys-apart}
 use Rattle.sub_collect.proofs.Shown.{quiet, shown-once}
-use Rattle.guide_receiver.specs.declared.done.DoneKey.{DoneKey}
-use Rattle.guide_receiver.specs.Counting.{is_counted, counted_among}
+use Rattle.heard_completions.specs.declared.done.DoneKey.{DoneKey}
+use Rattle.heard_completions.specs.Counting.{is_counted, counted_among}
 use Rattle.section_codec.specs.SubTables.{IsFit}
-use Rattle.guide_receiver.specs.Heard.{DoneAt, at_packet, counted_heard, done_key, dones_by, dones_of, dones_behind}
-use Rattle.guide_receiver.proofs.Shown.{more_shown, among-append, counted-push}
+use Rattle.heard_completions.specs.Dones.{DoneAt, at_packet, counted_heard, done_key, dones_by, dones_of, dones_behind}
+use Rattle.heard_completions.proofs.Shown.{more_shown, among-append, counted-push}
 use Rattle.air_model.specs.Air.{Aired, air, airings_of}
 use Rattle.air_model.specs.Repeating.{RepeatingCycles}
 use Rattle.air_hearing.specs.Sending.{sections_sent, CanBeSent}

@@ -5,7 +5,7 @@ use Rattle.section_codec.specs.KeyOrder.{is_key}
 use Rattle.section_codec.specs.Contents.{Content, is_content}
 use Rattle.version_book.specs.Airings.{Airing, carried, content_at, version_at}
 use Rattle.version_book.specs.Book.{last_of}
-use Rattle.guide_receiver.specs.declared.done.DoneKey.{DoneKey}
+use Rattle.heard_completions.specs.declared.done.DoneKey.{DoneKey}
 
 -- a content behind others is new: it is the first, or the last of the others is another one
 abbrev pub is_new : List Content → Content → Bool

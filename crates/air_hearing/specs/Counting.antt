@@ -9,7 +9,7 @@ use Rattle.version_book.specs.Airings.{Airing}
 use Rattle.section_codec.specs.SubTables.{KeysDiffer, IsFit, header_of}
 use Rattle.ts_demux.specs.declared.section.RawSection.{RawSection}
 use Rattle.sub_collect.specs.Laws.{IsNumbered}
-use Rattle.guide_receiver.specs.Counting.{is_body_of_table}
+use Rattle.heard_completions.specs.Counting.{is_body_of_table}
 use Rattle.air_model.specs.Air.{Sent}
 
 -- a section that is sent, as it is heard whole

@@ -6,7 +6,7 @@ use Rattle.section_codec.specs.declared.table.Key.{Key}
 use Rattle.section_codec.specs.declared.table.SubTable.{SubTable}
 use Rattle.section_codec.specs.declared.table.Tier3.TheVariants.{Fast}
 use Rattle.version_book.specs.Airings.{Airing}
-use Rattle.guide_receiver.specs.Counting.{counted_among}
+use Rattle.heard_completions.specs.Counting.{counted_among}
 use Rattle.air_model.specs.Air.{sent_on}
 use Rattle.air_hearing.specs.Sending.{sections_sent}
 use Rattle.air_hearing.specs.Counting.{raw_of}

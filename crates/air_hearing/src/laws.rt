@@ -16,8 +16,8 @@ pub fn tables_count()
 {}
 
 /// Whatever sub-tables the airings carry, however densely sections share packets, and however often and in whatever order a cycle
-/// repeats sections: of each key just the version changes of the airing list are shown, in order. An air, of which each cycle
-/// sends each section once, is such an air.
+/// repeats sections: of each key just the version changes of the airing list are shown, in order. An air whose cycles are sent in
+/// the order of their plan is such an air.
 pub fn changes_are_heard()
     ensures changes { ChangesAreHeard }
     ensures airs { AirsRepeat }

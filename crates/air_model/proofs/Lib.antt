@@ -1,3 +1,5 @@
+pub mod Elements
+pub mod Planned
 pub mod Counted
 pub mod Airs
 pub mod Repeating

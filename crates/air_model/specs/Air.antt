@@ -1,16 +1,18 @@
 -- Cycles of airings, and the air of an airing list.
-use Rattle.std.specs.Prelude.{◌≡◌, ℕ, List, [], ◌∷◌, ◌++◌, Bool, true, false, not, ◌&&◌, Option, Some, None, ◌==◌, if◌then◌else◌, drop, map, flat_map, filter_map}
+use Rattle.std.specs.Prelude.{◌≡◌, ℕ, List, [], ◌∷◌, ◌++◌, Bool, true, false, not, ◌&&◌, Option, Some, None, ◌==◌, if◌then◌else◌, length, drop, map, flat_map, filter_map, slice_get}
 use Rattle.std.specs.List.{AllByRecursion, prefix_len, take_while}
 use Rattle.section_codec.specs.SubTables.{header_of}
 use Rattle.section_codec.specs.declared.table.NumberedBody.{NumberedBody}
 use Rattle.section_codec.specs.declared.table.SubTable.{SubTable}
 use Rattle.section_codec.specs.declared.table.Tier3.{Tier3}
-use Rattle.section_codec.specs.declared.table.Tier3.TheVariants.{Fast, Near, Far}
+use Rattle.section_codec.specs.declared.table.Tier3.TheVariants.{Fast}
 use Rattle.section_codec.specs.Section.{section_bytes}
 use Rattle.section_codec.specs.Tables.{is_eit}
 use Rattle.time_tables.specs.Tdt.{tdt_section}
 use Rattle.version_book.specs.Airings.{Airing, version_at}
-use Rattle.ts_packets.specs.Packets.{Carries}
+use Rattle.cycle_plan.specs.Cycle.{cycle_of}
+use Rattle.cycle_plan.specs.Sections.{is_fast, planned}
+use Rattle.ts_packets.specs.Packets.{Carries, packets_of}
 use Rattle.ts_packets.specs.Bytes.{Packet, HasFields, bytes_of_packet}
 use Rattle.ts_packets.specs.Counting.{of_pid, loads_on, Count}
 
@@ -35,11 +37,6 @@ table_sections airings tables = flat_map (λ (t : SubTable). sections_of (versio
 abbrev pub tdt : ℕ → Sent
 tdt moment = record { pid = 0x0014; bytes = tdt_section moment }
 
-abbrev pub is_fast : Tier3 → Bool
-is_fast Fast = true
-is_fast Near = false
-is_fast Far = false
-
 -- a sub-table is sent most often, and is no event information
 abbrev pub leads : SubTable → Bool
 leads t = is_fast t.tier && not (is_eit t.key.table)
@@ -51,12 +48,35 @@ before_tdt tables = take_while leads tables
 abbrev pub behind_tdt : List SubTable → List SubTable
 behind_tdt tables = drop (prefix_len leads tables) tables
 
--- The sections of the cycle of an airing behind others, in the order in which they are sent: each section of each
--- sub-table once, and the TDT of the airing's moment once: behind PAT, PMT, NIT and SDT, before all event information.
--- How often a tier is repeated within a cycle belongs here alone.
-abbrev pub cycle_sections : List Airing → Airing → List Sent
-cycle_sections past a =
+-- Each section of an airing behind others once: those of each sub-table, and the TDT of the airing's moment behind PAT, PMT, NIT and
+-- SDT, before all event information.
+abbrev pub sections_once : List Airing → Airing → List Sent
+sections_once past a =
     table_sections (past ++ a ∷ []) (before_tdt a.tables) ++ tdt a.moment ∷ table_sections (past ++ a ∷ []) (behind_tdt a.tables)
+
+-- ---- their order in a cycle
+
+-- a section as a plan takes it: its tier, and how many packets it has
+abbrev pub weight : Tier3 → Sent → Tier3 × ℕ
+weight tier s = (tier, packets_of (length s.bytes))
+
+-- of the sections of these sub-tables, with their versions in the last of these airings
+abbrev pub table_weights : List Airing → List SubTable → List (Tier3 × ℕ)
+table_weights airings tables = flat_map (λ (t : SubTable). map (weight t.tier) (sections_of (version_at t.key airings) t)) tables
+
+-- of each section of an airing behind others, in the order of `sections_once`
+abbrev pub weights_once : List Airing → Airing → List (Tier3 × ℕ)
+weights_once past a =
+    table_weights (past ++ a ∷ []) (before_tdt a.tables) ++ weight Fast (tdt a.moment) ∷ table_weights (past ++ a ∷ []) (behind_tdt a.tables)
+
+-- what stands at these places of a list
+abbrev pub at_places : {X : Type 0} → List X → List ℕ → List X
+at_places xs places = filter_map (slice_get xs) places
+
+-- The sections of the cycle of an airing behind others, in the order in which they are sent: those of the airing, each once or more
+-- often, by the tiers and the quota.
+abbrev pub cycle_sections : List Airing → Airing → List Sent
+cycle_sections past a = at_places (sections_once past a) (cycle_of (planned (weights_once past a) a.form.quota))
 
 -- ---- a cycle and an air
 

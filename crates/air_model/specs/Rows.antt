@@ -1,13 +1,16 @@
 -- A worked air: one SDT section and the TDT, aired twice, and then another content; and the place of the TDT.
 use Rattle.std.specs.Prelude.{◌≡◌, ℕ, List, [], ◌∷◌, ◌++◌, map, replicate, refl}
 use Rattle.si_time.specs.Moments.{moments_compute}
+use Rattle.section_codec.specs.declared.table.NumberedBody.{NumberedBody}
 use Rattle.section_codec.specs.declared.table.SubTable.{SubTable}
 use Rattle.section_codec.specs.declared.table.Tier3.{Tier3}
-use Rattle.section_codec.specs.declared.table.Tier3.TheVariants.{Fast, Near}
+use Rattle.section_codec.specs.declared.table.Tier3.TheVariants.{Fast, Near, Far}
 use Rattle.si_base.specs.Crc.{crc_of, crc_from}
+use Rattle.cycle_plan.specs.Cycle.{cycle_of}
+use Rattle.cycle_plan.specs.Sections.{planned}
 use Rattle.version_book.specs.Airings.{Airing}
 use Rattle.ts_packets.specs.Bytes.{bytes_of_packet}
-use Rattle.air_model.specs.Air.{Aired, before_tdt, behind_tdt, cycle_sections, air_bytes}
+use Rattle.air_model.specs.Air.{Sent, Aired, weights_once, before_tdt, behind_tdt, cycle_sections, air_bytes}
 use Rattle.air_model.specs.Making.{cycle_alone}
 
 abbrev sdt_body : List ℕ
@@ -82,3 +85,25 @@ row_alone : cycle_sections [] (record { tables = []; moment = annex; form = reco
     record { pid = 20; bytes = annex_section } ∷ []
 unfolding moments_compute
 row_alone = refl
+
+-- ---- the order of a cycle
+
+abbrev of_bodies : ℕ → Tier3 → List NumberedBody → SubTable
+of_bodies table tier sections = record { key = record { pid = 18; table = table; ext = 1; stream = 1; network = 1 }; tier = tier; sections = sections }
+
+-- a Near section and two Far ones, each of one packet, and a quota of three packets
+abbrev with_far : Airing
+with_far = record {
+  tables = of_bodies 0x50 Near (record { number = 0; body = [] } ∷ []) ∷ of_bodies 0x58 Far (record { number = 0; body = [] } ∷ record { number = 8; body = [] } ∷ []) ∷ [];
+  moment = annex;
+  form = record { quota = 3 };
+}
+
+-- the TDT, Near, Far, Near; and again the TDT, and the other Far section
+row_order : cycle_of (planned (weights_once [] with_far) 3) ≡ 0 ∷ 1 ∷ 2 ∷ 1 ∷ 0 ∷ 3 ∷ []
+unfolding moments_compute
+row_order = refl
+
+row_sent : map (λ (s : Sent). s.pid) (cycle_sections [] with_far) ≡ 20 ∷ 18 ∷ 18 ∷ 18 ∷ 20 ∷ 18 ∷ []
+unfolding moments_compute
+row_sent = refl

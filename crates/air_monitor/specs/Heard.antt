@@ -1,21 +1,15 @@
 -- What a monitor hears of the bytes that an air took.
-use Rattle.std.specs.Prelude.{◌≡◌, ℕ, zero, suc, ◌+◌, ◌/◌, ◌<◌, List, [], ◌∷◌, ◌++◌, length, take, drop, map, flat_map, slice_index, Bool, true, false, Option}
+use Rattle.std.specs.Prelude.{◌≡◌, ℕ, ◌+◌, ◌<◌, List, ◌++◌, length, drop, map, slice_index, Bool, true, false, Option}
 use Rattle.std.specs.List.{AllByRecursion}
 use Rattle.std.specs.Io.KnownBytes.{Appends}
-use Rattle.guide_receiver.specs.declared.done.DoneKey.{DoneKey}
-use Rattle.guide_receiver.specs.Heard.{DoneAt, Hearing, ReceiverStandsFor, dones_of}
+use Rattle.heard_completions.specs.declared.done.DoneKey.{DoneKey}
+use Rattle.guide_receiver.specs.Heard.{Hearing, ReceiverStandsFor}
+use Rattle.heard_completions.specs.Dones.{DoneAt, dones_of}
 use Rattle.air_monitor.specs.declared.done_line.DoneLine.{DoneLine}
+use Rattle.ts_packets.specs.Packets.{joined}
+use Rattle.ts_packets.specs.WholePackets.{AreWhole, whole_packets}
 
 -- ---- the packets of an air
-
--- the first n pieces of 188 bytes
-abbrev pub pieces : ℕ → List ℕ → List (List ℕ)
-pieces zero bytes = []
-pieces (suc n) bytes = take 188 bytes ∷ pieces n (drop 188 bytes)
-
--- the whole packets of an air; what stands behind the last of them is shorter
-abbrev pub whole_packets : List ℕ → List (List ℕ)
-whole_packets bytes = pieces (length bytes / 188) bytes
 
 -- each begins with the sync_byte
 abbrev pub AreInSync : List (List ℕ) → Type 0
@@ -71,12 +65,6 @@ pub record Listening : Type 0 where
 pub record Hears (packets : List (List ℕ)) (listener : Listening) : Type 0 where
   pub number_is : listener.wanting ≡ false → listener.number ≡ length packets
   pub heard : AreInSync (drop listener.join packets) → HearsBy listener.wanting listener.join (drop listener.join packets) listener.receiver listener.dones
-
-abbrev pub joined : List (List ℕ) → List ℕ
-joined packets = flat_map (λ (p : List ℕ). p) packets
-
-abbrev pub AreWhole : List (List ℕ) → Type 0
-AreWhole packets = AllByRecursion (λ (p : List ℕ). length p ≡ 188) packets
 
 -- These bytes came: whole packets, which were heard, and the part of a packet.
 pub record HasTaken (past part : List ℕ) (listener : Listening) : Type 0 where

@@ -1,8 +1,9 @@
 -- Sections that were laid can be sent, and are those of the cycle.
-use Rattle.std.proofs.Common.{◌≡◌, ℕ, ◌+◌, ◌<◌, ◌≤◌, Bool, true, false, cond, List, [], ◌∷◌, ◌++◌, length, refl, sym, ap, ap₂, ◌∙◌, subst, arith, map, length-append}
-use Rattle.std.specs.Prelude.{take, drop, flat_map}
-use Rattle.std.specs.List.{AllByRecursion, All, prefix_len}
+use Rattle.std.proofs.Common.{◌≡◌, ℕ, suc, ◌+◌, ◌<◌, ◌≤◌, Bool, true, false, cond, Option, Some, None, List, [], ◌∷◌, ◌++◌, length, refl, sym, ap, ap₂, ◌∙◌, subst, arith, map, length-append}
+use Rattle.std.specs.Prelude.{take, drop, flat_map, slice_get, option_map}
+use Rattle.std.specs.List.{AllByRecursion, All, prefix_len, cons_option}
 use Rattle.std.proofs.lemmas.List.{take-map, drop-map}
+use Rattle.std.proofs.lemmas.Option.{slice_get-map}
 use Rattle.std.proofs.lemmas.List.Elements.{recursion_from_All, All-take, All-drop}
 use Rattle.si_time.specs.Moments.{moment_bcd}
 use Rattle.time_tables.specs.Tdt.{tdt_section}
@@ -14,12 +15,19 @@ use Rattle.section_codec.specs.Tables.{is_eit}
 use Rattle.section_codec.specs.Contents.{Content}
 use Rattle.version_book.specs.Airings.{CycleForm, Airing, version_at}
 use Rattle.version_book.specs.Book.{aired, versions_of}
-use Rattle.air_model.specs.Air.{Sent, sent_section, sections_of, tdt, leads, before_tdt, behind_tdt, cycle_sections}
+use Rattle.section_codec.specs.declared.table.Tier3.{Tier3}
+use Rattle.cycle_plan.specs.Cycle.{cycle_of}
+use Rattle.cycle_plan.specs.Sections.{planned}
+use Rattle.air_model.specs.Air.{Sent, sent_section, sections_of, tdt, leads, before_tdt, behind_tdt, sections_once, at_places, cycle_sections}
+use Rattle.air_model.proofs.Planned.{all_at}
 use Rattle.air_model.specs.Making.{each_alone}
 use Rattle.carousel_player.specs.declared.cycle.Placed.{Placed}
 use Rattle.section_codec.specs.SubTables.{IsFit, header_of}
-use Rattle.carousel_player.specs.Laying.{IsPlaced, IsBegun, IsUnderWay, sent_at, places_from, AreLaid, sections_under, cycle_under}
+use Rattle.carousel_player.specs.Laying.{IsPlaced, IsUnderWay, sent_at, places_from, AreLaid, sections_under, cycle_under}
+use Rattle.carousel_player.specs.Planning.{weights_under}
 use Rattle.carousel_player.proofs.Laid.{laid_sent}
+use Rattle.carousel_player.proofs.Steps.{can_begin}
+use Rattle.carousel_player.proofs.Weights.{eight, weights_given}
 
 -- a section that can be sent
 record IsSendable (s : Sent) : Type 0 where
@@ -49,10 +57,6 @@ sendable (v ∷ vs) [] fit = tt
 sendable (v ∷ vs) (t ∷ ts) fit =
     all-append (sections_of v t) (sections_under vs ts) (sendable_sections v t t.sections (let lt : t.key.pid < 8191 = fit.0.pid in omega (arith, lt)) (recursion_from_All _ t.sections fit.0.bodies)) (sendable vs ts fit.1)
 
-pub eight : (moment : ℕ) → length (tdt_section moment) ≡ 8
-unfolding moment_bcd
-eight moment = refl
-
 sendable_cycle : (vs : List ℕ) (ts : List SubTable) (moment : ℕ) → All IsFit ts → AllByRecursion IsSendable (cycle_under vs ts moment)
 sendable_cycle vs ts moment fit =
     let n = prefix_len leads ts in
@@ -69,27 +73,26 @@ placed_fit size start (s ∷ ss) le fit =
     let both = length-append s.bytes all in
     (record { pid = fit.0.pid; some = fit.0.some; most = fit.0.most; within = omega (arith, both) }, placed_fit size (start + length s.bytes) ss (omega (arith, both)) fit.1)
 
-first_begun : (ss : List Sent) → AllByRecursion IsSendable ss → IsBegun 0 (places_from 0 ss)
-first_begun [] fit = refl
-first_begun (s ∷ ss) fit = omega (arith, fit.0.some)
-
--- a cycle of laid sections can begin
-pub under_way : (vs : List ℕ) (ts : List SubTable) (moment : ℕ) (bytes : List ℕ) (placed : List Placed) → AreLaid (cycle_under vs ts moment) bytes placed → All IsFit ts → IsUnderWay (length bytes) placed 0 0
-under_way vs ts moment bytes placed h fit =
+-- a cycle of laid sections can begin, in whatever order
+pub under_way : (vs : List ℕ) (ts : List SubTable) (moment : ℕ) (bytes : List ℕ) (placed : List Placed) (order : List ℕ) → AreLaid (cycle_under vs ts moment) bytes placed → All IsFit ts
+    → AllByRecursion (λ (at : ℕ). at < length (cycle_under vs ts moment)) order → IsUnderWay (length bytes) placed order 0
+under_way vs ts moment bytes placed order h fit within =
     let ss = cycle_under vs ts moment in
-    let can = sendable_cycle vs ts moment fit in
-    record {
-      within = omega arith;
-      sections = subst (AllByRecursion (IsPlaced (length bytes))) (sym h.placed_are) (placed_fit (length bytes) 0 ss (omega (arith, ap length h.bytes_are)) can);
-      begun = subst (IsBegun 0) (sym h.placed_are) (first_begun ss can);
-    }
+    let all : AllByRecursion (IsPlaced (length bytes)) placed =
+    subst (AllByRecursion (IsPlaced (length bytes))) (sym h.placed_are) (placed_fit (length bytes) 0 ss (omega (arith, ap length h.bytes_are)) (sendable_cycle vs ts moment fit)) in
+    let many : length placed ≡ length ss = ap length h.placed_are ∙ length-places 0 ss in
+    can_begin (length bytes) placed order (subst (λ (n : ℕ). AllByRecursion (λ (at : ℕ). at < n) order) (sym many) within) (all_at (IsPlaced (length bytes)) placed order all)
+  where
+    length-places : (start : ℕ) (ss : List Sent) → length (places_from start ss) ≡ length ss
+    length-places start [] = refl
+    length-places start (s ∷ ss) = ap suc (length-places (start + length s.bytes) ss)
 
 versions_given : (f : SubTable → ℕ) (ts : List SubTable) → sections_under (map f ts) ts ≡ flat_map (λ (t : SubTable). sections_of (f t) t) ts
 versions_given f [] = refl
 versions_given f (t ∷ ts) = ap (λ (l : List Sent). sections_of (f t) t ++ l) (versions_given f ts)
 
--- with the versions of the airing they are its cycle
-sections_given : (past : List Airing) (moment : ℕ) (form : CycleForm) (ts : List SubTable) → cycle_under (versions_of past ts moment form) ts moment ≡ cycle_sections past (aired ts moment form)
+-- with the versions of the airing they are its sections
+sections_given : (past : List Airing) (moment : ℕ) (form : CycleForm) (ts : List SubTable) → cycle_under (versions_of past ts moment form) ts moment ≡ sections_once past (aired ts moment form)
 sections_given past moment form ts =
     ap₂ (λ (x y : List Sent). x ++ tdt moment ∷ y)
     (ap (λ (vs : List ℕ). sections_under vs (before_tdt ts)) (take-map version n ts) ∙ versions_given version (before_tdt ts))
@@ -101,7 +104,23 @@ sections_given past moment form ts =
     version : SubTable → ℕ
     version t = version_at t.key (past ++ aired ts moment form ∷ [])
 
-pub cycle_begun : (past : List Airing) (moment : ℕ) (form : CycleForm) (vs : List ℕ) (ts : List SubTable) (bytes : List ℕ) (placed : List Placed) → AreLaid (cycle_under vs ts moment) bytes placed → vs ≡ versions_of past ts moment form
-    → each_alone (map (sent_at bytes) placed) ≡ each_alone (cycle_sections past (aired ts moment form))
-cycle_begun past moment form vs ts bytes placed h is =
-    ap each_alone (laid_sent (cycle_under vs ts moment) bytes placed h ∙ ap (λ (l : List ℕ). cycle_under l ts moment) is ∙ sections_given past moment form ts)
+map-at_places : {X Y : Type 0} (f : X → Y) (xs : List X) (order : List ℕ) → map f (at_places xs order) ≡ at_places (map f xs) order
+map-at_places f xs [] = refl
+map-at_places f xs (i ∷ order) = go (slice_get xs i) (map-at_places f xs order) ∙ ap (λ (o : Option _). cons_option o (at_places (map f xs) order)) (sym (slice_get-map f xs i))
+  where
+    go : (o : Option _) → map f (at_places xs order) ≡ at_places (map f xs) order → map f (cons_option o (at_places xs order)) ≡ cons_option (option_map f o) (at_places (map f xs) order)
+    go None e = e
+    go (Some x) e = ap (λ (l : List _). f x ∷ l) e
+
+-- in the order of the plan they are the cycle
+pub cycle_begun : (past : List Airing) (moment quota : ℕ) (vs : List ℕ) (ts : List SubTable) (bytes : List ℕ) (placed : List Placed) → AreLaid (cycle_under vs ts moment) bytes placed
+    → vs ≡ versions_of past ts moment (record { quota = quota })
+    → each_alone (map (sent_at bytes) (at_places placed (cycle_of (planned (weights_under ts) quota)))) ≡ each_alone (cycle_sections past (aired ts moment (record { quota = quota })))
+cycle_begun past moment quota vs ts bytes placed h is =
+    let form : CycleForm = record { quota = quota } in
+    let order = cycle_of (planned (weights_under ts) quota) in
+    let sections : map (sent_at bytes) placed ≡ sections_once past (aired ts moment form) =
+    laid_sent (cycle_under vs ts moment) bytes placed h ∙ ap (λ (l : List ℕ). cycle_under l ts moment) is ∙ sections_given past moment form ts in
+    ap each_alone
+    (map-at_places (sent_at bytes) placed order ∙ ap (λ (l : List Sent). at_places l order) sections
+    ∙ ap (λ (ws : List (Tier3 × ℕ)). at_places (sections_once past (aired ts moment form)) (cycle_of (planned ws quota))) (weights_given past moment form ts))

@@ -3,3 +3,4 @@ pub mod Laid
 pub mod Begun
 pub mod Sendings
 pub mod Plays
+pub mod Weights

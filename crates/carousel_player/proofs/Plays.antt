@@ -17,7 +17,10 @@ use Rattle.version_book.specs.Book.{BookStandsFor, aired}
 use Rattle.ts_packets.specs.Packets.{Piece, pieces, alone}
 use Rattle.ts_packets.specs.Bytes.{Packet, HasFields, bytes_of_packet, packet_on, packets_alone}
 use Rattle.ts_packets.specs.Counting.{StandFor}
-use Rattle.air_model.specs.Air.{Sent, Aired, air, airings_of, air_bytes, IsAirOf, sent_section, sections_of, table_sections, tdt, leads, before_tdt, behind_tdt, cycle_sections}
+use Rattle.air_model.specs.Air.{Sent, Aired, air, airings_of, air_bytes, IsAirOf, sent_section, sections_of, table_sections, tdt, leads, before_tdt, behind_tdt, sections_once, weights_once, cycle_sections}
+use Rattle.air_model.proofs.Planned.{all_at}
+use Rattle.cycle_plan.specs.Cycle.{cycle_of}
+use Rattle.cycle_plan.specs.Sections.{planned}
 use Rattle.air_model.specs.Making.{each_alone, counted}
 use Rattle.air_model.proofs.Counted.{PidsFit, counted-append, length-counted}
 use Rattle.air_model.proofs.Airs.{air-push, air_bytes-push, airings_of-push, air_more-alone}
@@ -51,9 +54,11 @@ pids_cycle : (past : List Airing) (a : Airing) → All IsFit a.tables → AllByR
 pids_cycle past a fit =
     let n = prefix_len leads a.tables in
     let version : SubTable → ℕ = λ t. version_at t.key (past ++ a ∷ []) in
+    let once : AllByRecursion (λ (s : Sent). s.pid < 8192) (sections_once past a) =
     all_append (λ (s : Sent). s.pid < 8192) (table_sections (past ++ a ∷ []) (before_tdt a.tables)) (tdt a.moment ∷ table_sections (past ++ a ∷ []) (behind_tdt a.tables))
     (pids_sent version (before_tdt a.tables) (recursion_from_All IsFit (before_tdt a.tables) (All-take IsFit n a.tables fit)))
-    (omega arith, pids_sent version (behind_tdt a.tables) (recursion_from_All IsFit (behind_tdt a.tables) (All-drop IsFit n a.tables fit)))
+    (omega arith, pids_sent version (behind_tdt a.tables) (recursion_from_All IsFit (behind_tdt a.tables) (All-drop IsFit n a.tables fit))) in
+    all_at (λ (s : Sent). s.pid < 8192) (sections_once past a) (cycle_of (planned (weights_once past a) a.form.quota)) once
 
 pub begins : (xs : List Aired) (ts : List SubTable) (moment : ℕ) (form : CycleForm) (old new : Playing) → AtEnd xs old → All IsFit ts → new.counters ≡ old.counters
     → BookStandsFor (airings_of xs ++ aired ts moment form ∷ []) new.book → new.left ≡ each_alone (cycle_sections (airings_of xs) (aired ts moment form)) → Begins xs (aired ts moment form) new

@@ -1,11 +1,11 @@
 -- Sections laid end to end, and the packets of them that are still to come.
-use Rattle.std.specs.Prelude.{◌≡◌, ℕ, ◌+◌, ◌<◌, ◌≤◌, List, [], ◌∷◌, ◌++◌, length, take, drop, map, flat_map}
+use Rattle.std.specs.Prelude.{◌≡◌, ℕ, ◌+◌, ◌<◌, ◌≤◌, List, [], ◌∷◌, ◌++◌, Option, Some, None, length, take, drop, map, flat_map}
 use Rattle.std.specs.List.{AllByRecursion, prefix_len}
 use Rattle.ts_packets.specs.Packets.{packets_of}
 use Rattle.ts_packets.specs.Bytes.{Packet}
 use Rattle.section_codec.specs.declared.table.SubTable.{SubTable}
 use Rattle.section_codec.specs.Contents.{Content}
-use Rattle.air_model.specs.Air.{Sent, sections_of, tdt, leads, before_tdt, behind_tdt}
+use Rattle.air_model.specs.Air.{Sent, sections_of, tdt, leads, before_tdt, behind_tdt, at_places}
 use Rattle.air_model.specs.Making.{each_alone}
 use Rattle.carousel_player.specs.declared.cycle.Placed.{Placed}
 
@@ -19,20 +19,25 @@ pub record IsPlaced (size : ℕ) (p : Placed) : Type 0 where
 abbrev pub sent_at : List ℕ → Placed → Sent
 sent_at bytes p = record { pid = p.pid; bytes = take p.len (drop p.start bytes) }
 
--- the packets behind so many of the section at a place
-abbrev pub packets_left : List ℕ → List Placed → ℕ → ℕ → List Packet
-packets_left bytes placed at index = drop index (each_alone (map (sent_at bytes) (drop at placed)))
+-- the sections still to come: the one that is being sent, and those behind it; none where none is being sent
+abbrev pub order_left : Option ℕ → List ℕ → List ℕ
+order_left None order = []
+order_left (Some at) order = at ∷ order
+
+-- the packets of sections in this order, behind so many of the first of them
+abbrev pub packets_left : List ℕ → List Placed → List ℕ → ℕ → List Packet
+packets_left bytes placed order index = drop index (each_alone (map (sent_at bytes) (at_places placed order)))
 
 -- fewer packets were sent of the first section than it has; none where there is no section
 abbrev pub IsBegun : ℕ → List Placed → Type 0
 IsBegun index [] = index ≡ 0
 IsBegun index (p ∷ ps) = index < packets_of p.len
 
--- what is sent from a place on
-pub record IsUnderWay (size : ℕ) (placed : List Placed) (at index : ℕ) : Type 0 where
-  pub within : at ≤ length placed
-  pub sections : AllByRecursion (IsPlaced size) (drop at placed)
-  pub begun : IsBegun index (drop at placed)
+-- sections are sent in this order
+pub record IsUnderWay (size : ℕ) (placed : List Placed) (order : List ℕ) (index : ℕ) : Type 0 where
+  pub within : AllByRecursion (λ (at : ℕ). at < length placed) order
+  pub sections : AllByRecursion (IsPlaced size) (at_places placed order)
+  pub begun : IsBegun index (at_places placed order)
 
 -- ---- laying
 

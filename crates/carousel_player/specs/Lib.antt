@@ -1,3 +1,4 @@
 pub mod Laying
+pub mod Planning
 pub mod Sending
 pub mod Playing

@@ -12,6 +12,8 @@ ghost use Rattle.carousel_player.specs.Sending.{PutsFirst};
 ghost use Rattle.section_codec.specs.SubTables.{AreFit};
 
 use crate::laying::{lay_cycle, room_for};
+use crate::planning::plan_cycle;
+use cycle_plan::CyclePlan;
 use section_codec::{SubTable, Tables};
 use si_time::Moment;
 use std::alloc::{AllocError, Global};
@@ -27,26 +29,28 @@ pub(crate) struct Placed {
     pub(crate) len: usize,
 }
 
-// The sections, the place of the one that is being sent, and how many of its packets were sent. Contracts see the
-// packets still to come, before they are counted.
+// The sections, each laid once; the place of the one that is being sent, the order of those behind it, and how many packets of it
+// were sent. Contracts see the packets still to come, before they are counted.
 #[derive(Drop)]
 pub(crate) struct Cycle {
+    alloc: Global,
     bytes: Vec<u8>,
     placed: Vec<Placed>,
-    at: usize,
+    plan: CyclePlan,
+    at: Option<usize>,
     index: u32,
 }
 
 impl Model for Cycle {
     ghost use Rattle.std.specs.Prelude.{List, length};
     ghost use Rattle.ts_packets.specs.Bytes.{Packet};
-    ghost use Rattle.carousel_player.specs.Laying.{packets_left, IsUnderWay};
+    ghost use Rattle.carousel_player.specs.Laying.{order_left, packets_left, IsUnderWay};
 
     ghost Value = { List Packet };
 
-    ghost view = { λ c. packets_left c.bytes.items c.placed.items c.at c.index };
+    ghost view = { λ c. packets_left c.bytes.items c.placed.items (order_left c.at c.plan) c.index };
 
-    ghost invariant = { λ c. IsUnderWay (length c.bytes.items) c.placed.items c.at c.index };
+    ghost invariant = { λ c. IsUnderWay (length c.bytes.items) c.placed.items (order_left c.at c.plan) c.index };
 }
 
 impl Cycle {
@@ -55,9 +59,11 @@ impl Cycle {
         ensures { result ≡ [] }
     {
         Cycle {
+            alloc,
             bytes: Vec::new(alloc),
             placed: Vec::new(alloc),
-            at: 0,
+            plan: CyclePlan::ended(alloc),
+            at: None,
             index: 0,
         }
     }
@@ -66,15 +72,16 @@ impl Cycle {
     pub(crate) fn is_ended(&self) -> bool
         ensures { result ≡ (length self.now == 0) }
     {
-        self.at == self.placed.len()
+        self.at.is_none()
     }
 
-    /// Begins the cycle of these sub-tables, with the versions that the book gives them, and the TDT of this moment. All memory
-    /// is taken first.
+    /// Begins the cycle of these sub-tables, with the versions that the book gives them, and the TDT of this moment, in the order
+    /// of this quota. All memory is taken first.
     pub(crate) fn begin(
         &mut self,
         book: &mut VersionBook,
         tables: &Tables,
+        quota: u32,
         moment: Moment,
     ) -> Result<(), AllocError>
         requires ended { self.old ≡ [] }
@@ -82,15 +89,16 @@ impl Cycle {
         requires moment { moment.0 < 65536 * 86400 }
         ensures versions { OnOk result ((past : List Airing) (form : CycleForm) → BookStandsFor past book.old
             → BookStandsFor (past ++ aired tables.now.list moment.0 form ∷ []) book.new) }
-        ensures begun { OnOk result ((past : List Airing) (form : CycleForm) → BookStandsFor past book.old
-            → self.new ≡ each_alone (cycle_sections past (aired tables.now.list moment.0 form))) }
+        ensures begun { OnOk result ((past : List Airing) → BookStandsFor past book.old
+            → self.new ≡ each_alone (cycle_sections past (aired tables.now.list moment.0 (record { quota = quota })))) }
         ensures ended { OnErr result (self.new ≡ self.old) }
         ensures kept { OnErr result (book.new ≡ book.old) }
     {
-        self.at = 0;
+        self.at = None;
         self.index = 0;
         let list = tables.list.as_slice();
         take_room(&mut self.bytes, &mut self.placed, list)?;
+        let mut plan = plan_cycle(self.alloc, list, quota)?;
         let versions = book.assign(tables)?;
         lay_cycle(
             &mut self.bytes,
@@ -99,6 +107,8 @@ impl Cycle {
             versions.as_slice(),
             moment,
         );
+        self.at = plan.next();
+        self.plan = plan;
         Ok(())
     }
 
@@ -108,12 +118,15 @@ impl Cycle {
         requires some { 0 < length self.old }
         ensures { PutsFirst self.old self.new into.new }
     {
-        let placed = self.placed[self.at];
+        let Some(at) = self.at else {
+            return;
+        };
+        let placed = self.placed[at];
         put_placed(&self.bytes, placed, self.index, into);
         if self.index + 1 < packets_of(placed.len) {
             self.index += 1;
         } else {
-            self.at += 1;
+            self.at = self.plan.next();
             self.index = 0;
         }
     }

@@ -61,8 +61,8 @@ pub(crate) fn lay_cycle(
     lay_tables(bytes, placed, behind, late);
 }
 
-// How many of these sub-tables are sent before the TDT.
-fn lead_count(tables: &[SubTable]) -> usize
+/// How many of these sub-tables are sent before the TDT.
+pub(crate) fn lead_count(tables: &[SubTable]) -> usize
     ensures { result ≡ prefix_len leads tables.now }
 {
     let mut count = 0;

@@ -3,10 +3,12 @@
 //!
 //! A layer above relies on this contract: a player stands for the air that it has handed out; `swap` begins the cycle
 //! of one airing more and names its packets, `next_packet` gives its next packet, and `play_cycle` appends the rest of it to the sink.
+//! Sections are laid once for a cycle and sent in the order that `cycle_plan` gives.
 #![tactic(auto)]
 
 mod cycle;
 mod laying;
+mod planning;
 mod player;
 mod sending;
 

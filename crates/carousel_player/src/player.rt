@@ -38,9 +38,8 @@ impl Model for Player {
 }
 
 impl Player {
-    /// A player that has handed out nothing and is at its end. The quota, 1 to 10,000, is the number of packets of a run
-    /// between two sendings of the most frequent sections; while a cycle has each section once, it changes nothing. It
-    /// takes no memory.
+    /// A player that has handed out nothing and is at its end. The quota, 1 to 10,000, is the number of packets of a run between
+    /// two sendings of the sections of tier Fast (`cycle_plan`). It takes no memory.
     pub fn open(alloc: Global, quota: u32) -> Player
         requires some { 1 ≤ quota }
         requires most { quota ≤ 10000 }
@@ -58,10 +57,11 @@ impl Player {
 
     /// Begins the cycle of one airing more: of these sub-tables, of the publication with this number, at the moment of
     /// the swap (EN 300 468, 5.1.1), in a cycle of the player's quota. The moment is sent as the cycle's TDT (EN 300 468,
-    /// 5.2.5); no packet tells the number. Each section begins in a packet of its own. It needs a player at its end, a moment
-    /// whose day has 16 bits, and sub-tables whose keys differ, in the order of their tiers (TR 101 211, 4.4), with PIDs below
-    /// 8,191, each with at least one section, ascending numbers and bodies that fit a section in the long form, and none with
-    /// the table_id 0xFF, which is fill. All memory is taken first: where it is wanting, the player stays as it was, at its end.
+    /// 5.2.5); no packet tells the number. Each section is laid once, is sent as often as its tier and the quota say
+    /// (`cycle_plan`), and begins in a packet of its own. It needs a player at its end, a moment whose day has 16 bits, and
+    /// sub-tables whose keys differ, in the order of their tiers (TR 101 211, 4.4), with PIDs below 8,191, each with at least
+    /// one section, ascending numbers and bodies that fit a section in the long form, and none with the table_id 0xFF, which
+    /// is fill. All memory is taken first: where it is wanting, the player stays as it was, at its end.
     pub fn swap(&mut self, tables: Tables, number: u64, moment: Moment) -> Result<(), AllocError>
         requires at_end { self.old.left ≡ [] }
         requires fit { AreFit tables.list }
@@ -70,7 +70,8 @@ impl Player {
         ensures quota { self.new.quota ≡ self.old.quota }
         ensures memory { OnErr result (self.new ≡ self.old) }
     {
-        self.cycle.begin(&mut self.book, &tables, moment)
+        let quota = self.quota;
+        self.cycle.begin(&mut self.book, &tables, quota, moment)
     }
 
     /// Whether the cycle has ended: nothing of it is to come.

@@ -131,6 +131,10 @@ counts_fit (x ∷ xs) =
     sum_up : (a b c d e f l : ℕ) → a ≡ e + c → b ≡ f + d → c + d ≤ l → e + f ≤ 1 → a + b ≤ suc l
     sum_up a b c d e f l h i j k = omega arith
 
+-- each section has a tier
+pub planned_all : (sections : List (Tier3 × ℕ)) (quota : ℕ) → let p = planned sections quota in p.fasts + p.nears + p.fars ≡ length sections
+planned_all sections quota = let fit = counts_fit sections in omega arith
+
 -- the tiers stand within the sections
 pub tiers_fit : (sections : List (Tier3 × ℕ)) (fasts nears : ℕ) (sizes : List ℕ) →
     fasts ≡ count_by (λ s. is_fast s.0) sections → nears ≡ count_by (λ s. is_near s.0) sections → sizes ≡ map (λ s. s.1) sections → fasts + nears ≤ length sizes

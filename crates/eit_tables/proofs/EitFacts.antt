@@ -11,7 +11,7 @@ use Rattle.guide_model.specs.declared.event.Event.{Event}
 use Rattle.desc_event.specs.EventDescriptors.{entry_size}
 use Rattle.mux_model.specs.declared.mux.Mux.{Mux}
 use Rattle.guide_limits.specs.Events.{block_of}
-use Rattle.guide_limits.proofs.RunFacts.{runs_fit}
+use Rattle.longest_runs.proofs.RunFacts.{runs_fit}
 use Rattle.section_codec.specs.declared.table.NumberedBody.{NumberedBody}
 use Rattle.section_codec.specs.Contents.{numbers, last_number, Ascend}
 use Rattle.section_codec.specs.Segments.{segment_of, last_beside, segment_last_in, numbers_in_segment, and_numbers, segments_need, table_needs, told_by, segment_last_at}
@@ -37,7 +37,7 @@ use Rattle.eit_tables.proofs.EventFacts.{all_codable}
 
 -- ---- what holds of each element
 
-all_of_map : {X Y : Type 0} (P : Y → Type 0) (f : X → Y) (xs : List X) → AllByRecursion P (map f xs) → AllByRecursion (λ (x : X). P (f x)) xs
+pub all_of_map : {X Y : Type 0} (P : Y → Type 0) (f : X → Y) (xs : List X) → AllByRecursion P (map f xs) → AllByRecursion (λ (x : X). P (f x)) xs
 all_of_map P f [] h = tt
 all_of_map P f (x ∷ xs) h = (h.0, all_of_map P f xs h.1)
 

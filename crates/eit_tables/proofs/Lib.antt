@@ -1,3 +1,4 @@
+pub mod StandingFacts
 pub mod ListFacts
 pub mod EventFacts
 pub mod EntryFacts

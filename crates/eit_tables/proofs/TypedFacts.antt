@@ -18,7 +18,7 @@ use Rattle.guide_limits.specs.Guides.{kept_after}
 use Rattle.guide_limits.specs.Readings.{event_of}
 use Rattle.guide_limits.specs.Standing.{standing}
 use Rattle.guide_limits.specs.Limits.{IsRatingWithin, IsEventWithin, IsServiceWithin}
-use Rattle.guide_limits.proofs.StandingFacts.{OfEachItem, standing_all}
+use Rattle.eit_tables.proofs.StandingFacts.{OfEachItem, standing_all}
 use Rattle.eit_codec.specs.Eit.{IsTyped}
 use Rattle.eit_tables.specs.Laws.{ReadEditsLeaveTypedEvents}
 

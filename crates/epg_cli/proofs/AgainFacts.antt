@@ -32,7 +32,7 @@ use Rattle.journal_text.specs.Back.{EntryReadsBack, IsReadable, ahead_of, comman
 use Rattle.journal_text.specs.Entries.{entry_text, journal_text}
 use Rattle.journal_text.proofs.EntryBack.{entries_read_back}
 use Rattle.headend_live.specs.OnAir.{and_step}
-use Rattle.air_monitor.specs.declared.done_line.DoneLine.{DoneLine}
+use Rattle.epg_live.specs.declared.reporting.HeardAir.{HeardAir}
 use Rattle.epg_report.specs.declared.status.Status.{Status}
 use Rattle.epg_report.specs.declared.status.Status.TheVariants.{Memory}
 use Rattle.epg_report.specs.Told.{ReportTaken}
@@ -43,6 +43,7 @@ use Rattle.epg_cli.specs.Script.{Script, Stop, Ended, Disagreed, difference, scr
 use Rattle.epg_cli.specs.Run.{whole_journal}
 use Rattle.epg_cli.specs.Again.{Describes, IsScript, JournalsPlayAgain, PrintsScript}
 use Rattle.epg_cli.proofs.CourseFacts.{Rest, and_command, course_at, step_ahead, agreed_ahead, stop_ahead}
+use Rattle.epg_live.proofs.CoherentFacts.{by_memory}
 
 -- ---- an outcome is itself
 
@@ -229,19 +230,15 @@ is_script text mux rows journal whole legal other behind block is d readable le 
 none_is_script : (text : List ℕ) (journal : List Entry) → journal ≡ [] → IsScript text journal
 none_is_script text journal none mux rows block is d readable le = journals-again mux block journal d (subst (λ (es : List Entry). Legal mux es) (sym none) tt) readable le
 
-ends_by_memory : (text : List ℕ) (report : ReportTaken) (met status : Status) → met ≡ Memory → ReportEnds met text report status → status ≡ Memory
-ends_by_memory text report met status is (inl (took, same)) = same ∙ is
-ends_by_memory text report met status is (inr (rose, took, same)) = same ∙ ap or_report is
-
-prints_met : (paths : List (List ℕ)) (cycles join : ℕ) (text : List ℕ) (files : Files) (left : Option (List ℕ)) (feeds_before feeds_now : ℕ) (before now : Option (List ℕ)) (report : ReportTaken) (journal : List Entry) (dones : List DoneLine) (met status : Status)
-    → HasMet paths cycles join text files left feeds_before feeds_now before now journal dones met → ReportEnds met (run_text journal dones) report status → PrintsScript text report status
-prints_met paths cycles join text files left feeds_before feeds_now before now report journal dones met status (inl memory) ends = inl (ends_by_memory (run_text journal dones) report met status memory ends)
-prints_met paths cycles join text files left feeds_before feeds_now before now report journal dones met status (inr (inl none)) ends = inr (journal, dones, met, ends, none_is_script text journal none.journal_is)
-prints_met paths cycles join text files left feeds_before feeds_now before now report journal dones met status (inr (inr (mux, rows, whole, ran))) ends =
-    inr (journal, dones, met, ends, is_script text mux rows journal whole ran.journal_is.legal)
+prints_met : (paths : List (List ℕ)) (cycles join : ℕ) (text : List ℕ) (files : Files) (left : Option (List ℕ)) (feeds_before feeds_now : ℕ) (before now : Option (List ℕ)) (report : ReportTaken) (journal : List Entry) (heard : HeardAir) (met status : Status)
+    → HasMet paths cycles join text files left feeds_before feeds_now before now journal heard met → ReportEnds met (run_text journal heard) report status → PrintsScript text report status
+prints_met paths cycles join text files left feeds_before feeds_now before now report journal heard met status (inl memory) ends = inl (by_memory (run_text journal heard) report met status memory ends)
+prints_met paths cycles join text files left feeds_before feeds_now before now report journal heard met status (inr (inl none)) ends = inr (journal, heard, met, ends, none_is_script text journal none.journal_is)
+prints_met paths cycles join text files left feeds_before feeds_now before now report journal heard met status (inr (inr (mux, rows, whole, ran))) ends =
+    inr (journal, heard, met, ends, is_script text mux rows journal whole ran.journal_is.legal)
 
 pub prints : (paths : List (List ℕ)) (cycles join : ℕ) (text : List ℕ) (files : Files) (left : Option (List ℕ)) (feeds_before feeds_now : ℕ) (air report : ReportTaken) (status : Status)
     → LeavesLive paths cycles join text files left feeds_before feeds_now air report status → PrintsScript text report status
 prints paths cycles join text files left feeds_before feeds_now air report status (inl memory) = inl memory
-prints paths cycles join text files left feeds_before feeds_now air report status (inr (journal, dones, met, has, ends)) =
-    prints_met paths cycles join text files left feeds_before feeds_now air.old air.new report journal dones met status has ends
+prints paths cycles join text files left feeds_before feeds_now air report status (inr (journal, heard, met, has, ends)) =
+    prints_met paths cycles join text files left feeds_before feeds_now air.old air.new report journal heard met status has ends

@@ -17,9 +17,9 @@ use Rattle.desk_core.proofs.JournalFacts.{journal_legal}
 use Rattle.air_model.specs.Air.{air, air_bytes}
 use Rattle.air_model.proofs.Airs.{air-whole}
 use Rattle.air_model.proofs.Repeating.{airs_repeat}
-use Rattle.guide_receiver.specs.declared.done.DoneKey.{DoneKey}
-use Rattle.guide_receiver.specs.Counting.{is_counted}
-use Rattle.guide_receiver.specs.Heard.{DoneAt, dones_of}
+use Rattle.heard_completions.specs.declared.done.DoneKey.{DoneKey}
+use Rattle.heard_completions.specs.Counting.{is_counted}
+use Rattle.heard_completions.specs.Dones.{DoneAt, dones_of}
 use Rattle.section_codec.specs.declared.table.Key.{Key}
 use Rattle.section_codec.specs.declared.table.SubTable.{SubTable}
 use Rattle.section_codec.specs.KeyOrder.{is_key}

@@ -5,7 +5,7 @@ use Rattle.std.proofs.lemmas.List.{map_more, take_at}
 use Rattle.std.proofs.Math.Seq.{take-append_seam, drop-append_seam}
 use Rattle.std.specs.Io.KnownBytes.{Appends, Consumes, prepend_known}
 use Rattle.std.proofs.KnownBytes.{Appends-trans, prepend_known-nil}
-use Rattle.guide_receiver.proofs.Dones.{dones_push}
+use Rattle.heard_completions.proofs.Dones.{dones_push}
 use Rattle.si_causes.proofs.CauseFacts.{Rose-from, front_behind, Appends-nothing}
 use Rattle.si_causes.specs.Causes.{AppendsFront}
 use Rattle.packet_reader.specs.Recordings.{RecordingEnd, RecordingEnd.AtEnd, RecordingEnd.Broken, RecordingEnd.PastLimit, packet_limit, is_packet, and_packet, packets_in, recording}
@@ -13,9 +13,10 @@ use Rattle.packet_reader.specs.Reading.{Reading, GivesPacket, TakesPacket, Count
 use Rattle.packet_reader.proofs.RecordingFacts.{packet_step, broken_step, short_piece}
 use Rattle.packet_reader.specs.declared.stop.PacketStop.{PacketStop}
 use Rattle.packet_reader.specs.declared.stop.PacketStop.TheVariants as packet
-use Rattle.guide_receiver.specs.declared.done.DoneKey.{DoneKey}
-use Rattle.guide_receiver.specs.Heard.{DoneAt, at_packet, dones_by, dones_behind}
-use Rattle.guide_receiver.specs.Texts.{done_line, done_lines}
+use Rattle.heard_completions.specs.declared.done.DoneKey.{DoneKey}
+use Rattle.guide_receiver.specs.Heard.{Hearing, ReceiverStandsFor}
+use Rattle.heard_completions.specs.Dones.{DoneAt, at_packet, dones_by, dones_behind}
+use Rattle.heard_completions.specs.Texts.{done_line, done_lines}
 use Rattle.epg_cli.specs.declared.listen.ListenStop.{ListenStop}
 use Rattle.epg_cli.specs.declared.listen.ListenStop.TheVariants as stop
 use Rattle.epg_report.specs.declared.status.Status.{Status}
@@ -24,7 +25,7 @@ use Rattle.epg_report.specs.declared.status.Origin.TheVariants.{Input, Feed}
 use Rattle.epg_report.specs.declared.status.Outlet.TheVariants.{Air, Report}
 use Rattle.epg_report.specs.Texts.{fault_line}
 use Rattle.epg_report.specs.Told.{ReportTaken, Reported}
-use Rattle.epg_cli.specs.Listen.{Recording, heard_text, end_line, packet_stop_text, packet_stop_status, HasHeard, ReportsLines, LeavesHeard, IsOfListen, HearsThrough, EndsHeard, HasReadCause, IsNoReadStop}
+use Rattle.epg_cli.specs.Listen.{Recording, heard_text, heard_guide, packet_stop_text, packet_stop_status, HasHeard, ReportsLines, LeavesHeard, IsOfListen, HearsThrough, EndsHeard, HasReadCause, IsNoReadStop}
 
 -- ---- lines
 
@@ -105,11 +106,15 @@ front_heard all y heard e = ap (λ (r : Recording). take (length heard) r.0) e �
 text_is : (old new : Option (List ℕ)) (xs ys : List (List ℕ)) → xs ≡ ys → Appends old new (heard_text ys) → Appends old new (heard_text xs)
 text_is old new xs ys e done = subst (λ (l : List (List ℕ)). Appends old new (heard_text l)) (sym e) done
 
-pub heard_end : {S : Type 0} (left : S → Option (List ℕ)) (before after : Reading S) (bytes : List ℕ) (y : Recording) (heard : List (List ℕ)) (old new : Option (List ℕ))
-    → recording bytes ≡ (heard ++ y.0, y.1) → GivesPacket left before after y (Ok None) → Appends old new (heard_text heard) → HasHeard bytes (left after.source) old new (Ok tt)
-heard_end left before after bytes y heard old new e gives done =
+pub heard_end : {S : Type 0} (left : S → Option (List ℕ)) (before after : Reading S) (bytes : List ℕ) (y : Recording) (heard : List (List ℕ)) (receiver : Hearing) (old new : Option (List ℕ))
+    → recording bytes ≡ (heard ++ y.0, y.1) → GivesPacket left before after y (Ok None) → Appends old new (heard_text heard) → ReceiverStandsFor heard receiver → HasHeard bytes (left after.source) receiver old new (Ok tt)
+heard_end left before after bytes y heard receiver old new e gives done stands =
     let last = last_heard (recording bytes) y heard AtEnd e (given_end left before after y gives) in
-    (ap (λ (r : Recording). r.1) last, text_is old new (recording bytes).0 heard (ap (λ (r : Recording). r.0) last) done)
+    let packets : (recording bytes).0 ≡ heard = ap (λ (r : Recording). r.0) last in (
+      ap (λ (r : Recording). r.1) last,
+      text_is old new (recording bytes).0 heard packets done,
+      subst (λ (l : List (List ℕ)). ReceiverStandsFor l receiver) (sym packets) stands,
+    )
 
 -- ---- what was taken
 
@@ -161,16 +166,16 @@ left_behind (Some xs) (Some ys) held more rest e gave =
     let same : held ++ xs ≡ rest = cc in
     (ys, refl, sym same ∙ ap (λ l. held ++ l) gave ∙ sym (append_assoc held more ys))
 
-pub heard_stop : {S : Type 0} (left : S → Option (List ℕ)) (before after : Reading S) (s : PacketStop) (bytes done rest : List ℕ) (heard : List (List ℕ)) (old new : Option (List ℕ))
+pub heard_stop : {S : Type 0} (left : S → Option (List ℕ)) (before after : Reading S) (s : PacketStop) (bytes done rest : List ℕ) (heard : List (List ℕ)) (receiver : Hearing) (old new : Option (List ℕ))
     → bytes_left left before ≡ Some rest → HasParted bytes done heard (room before) rest → before.number ≡ length heard → GivesPacket left before after (packets_in (room before) rest) (Err s)
-    → TakesPacket left before after (Err s) → Counts before after (Err s) → Appends old new (heard_text heard) → HasHeard bytes (left after.source) old new (Err (stop.Read s))
-heard_stop left before after (packet.Broken n) bytes done rest heard old new tells parted count gives takes counts lines =
+    → TakesPacket left before after (Err s) → Counts before after (Err s) → Appends old new (heard_text heard) → HasHeard bytes (left after.source) receiver old new (Err (stop.Read s))
+heard_stop left before after (packet.Broken n) bytes done rest heard receiver old new tells parted count gives takes counts lines =
     let last = last_heard (recording bytes) (packets_in (room before) rest) heard Broken (parted_recording bytes done rest heard (room before) parted) (given_broken left before after (packets_in (room before) rest) n gives) in
     (ap (λ (r : Recording). r.1) last, counts.0 ∙ count ∙ ap (λ (r : Recording). length r.0) (sym last), text_is old new (recording bytes).0 heard (ap (λ (r : Recording). r.0) last) lines)
-heard_stop left before after packet.TooLong bytes done rest heard old new tells parted count gives takes counts lines =
+heard_stop left before after packet.TooLong bytes done rest heard receiver old new tells parted count gives takes counts lines =
     let last = last_heard (recording bytes) (packets_in (room before) rest) heard PastLimit (parted_recording bytes done rest heard (room before) parted) (given_past left before after (packets_in (room before) rest) gives) in
     (ap (λ (r : Recording). r.1) last, text_is old new (recording bytes).0 heard (ap (λ (r : Recording). r.0) last) lines)
-heard_stop left before after packet.Failed bytes done rest heard old new tells parted count gives takes counts lines =
+heard_stop left before after packet.Failed bytes done rest heard receiver old new tells parted count gives takes counts lines =
     let short = before.held ++ takes.0 in
     let behind = left_behind (left before.source) (left after.source) before.held takes.0 rest tells takes.1 in
     let none = ap (λ (r : Recording). r.0) (parted.packets short) ∙ ap (λ (l : List (List ℕ)). heard ++ l) (none_in_short (room before) short takes.2) ∙ append-nil heard in (
@@ -185,12 +190,12 @@ heard_stop left before after packet.Failed bytes done rest heard old new tells p
     )
 
 -- the lines of a packet were not all written, or there was no memory for them
-pub heard_line : (s : ListenStop) (bytes : List ℕ) (left : Option (List ℕ)) (y x : Recording) (heard : List (List ℕ)) (p : List ℕ) (n : ℕ) (a b c : Option (List ℕ))
+pub heard_line : (s : ListenStop) (bytes : List ℕ) (left : Option (List ℕ)) (receiver : Hearing) (y x : Recording) (heard : List (List ℕ)) (p : List ℕ) (n : ℕ) (a b c : Option (List ℕ))
     → recording bytes ≡ (heard ++ y.0, y.1) → y ≡ and_packet p x → n ≡ length heard → Appends a b (heard_text heard)
-    → ReportsLines b c (done_lines (map (at_packet n) (dones_by heard p))) (Err s) → HasHeard bytes left a c (Err s)
-heard_line (stop.Read s) bytes left y x heard p n a b c e t number done reports = absurd reports
-heard_line stop.Memory bytes left y x heard p n a b c e t number done reports = tt
-heard_line stop.Report bytes left y x heard p n a b c e t number done reports =
+    → ReportsLines b c (done_lines (map (at_packet n) (dones_by heard p))) (Err s) → HasHeard bytes left receiver a c (Err s)
+heard_line (stop.Read s) bytes left receiver y x heard p n a b c e t number done reports = absurd reports
+heard_line stop.Memory bytes left receiver y x heard p n a b c e t number done reports = tt
+heard_line stop.Report bytes left receiver y x heard p n a b c e t number done reports =
     let lines = ap (λ k. done_lines (map (at_packet k) (dones_by heard p))) number in
     let text = ap (λ l. heard_text heard ++ l) lines ∙ sym (text_push heard p) ∙ ap heard_text (sym (front_heard (recording bytes) x (heard ++ p ∷ []) (more_heard (recording bytes) y x heard p e t))) in
     (length (heard ++ p ∷ []), subst (AppendsFront a c) text (front_behind a b c (heard_text heard) (done_lines (map (at_packet n) (dones_by heard p))) done reports))
@@ -203,31 +208,31 @@ behind : (a b c : Option (List ℕ)) (f g h : ℕ) (xs ys : List ℕ) → f ≤ 
 behind a b c f g h xs ys le done (inl all) = inl (Appends-trans a b c xs ys done all)
 behind a b c f g h xs ys le done (inr (rose, front)) = inr (Rose-from f g h le rose, front_behind a b c xs ys done front)
 
-pub leaves_heard : (heard : Result (Unit {0}) ListenStop) (bytes : List ℕ) (left : Option (List ℕ)) (old mid new : Option (List ℕ)) (f g h : ℕ) (status : Status) → f ≤ g → HasHeard bytes left old mid heard
-    → EndsHeard heard (record { old = mid; new = new; faults_old = g; faults_new = h }) status → LeavesHeard bytes left (record { old = old; new = new; faults_old = f; faults_new = h }) status
-leaves_heard (Ok u) bytes left old mid new f g h Done le (ended, done) ends = record { ended = ended; report_is = Appends-trans old mid new (heard_text (recording bytes).0) end_line done ends }
-leaves_heard (Ok u) bytes left old mid new f g h (WriteFault Report) le (ended, done) ends = inr (ended, front_behind old mid new (heard_text (recording bytes).0) end_line done ends.0)
-leaves_heard (Ok u) bytes left old mid new f g h (WriteFault Air) le has ends = absurd ends
-leaves_heard (Ok u) bytes left old mid new f g h Usage le has ends = absurd ends
-leaves_heard (Ok u) bytes left old mid new f g h (BadScript n) le has ends = absurd ends
-leaves_heard (Ok u) bytes left old mid new f g h (Disagrees n kept found) le has ends = absurd ends
-leaves_heard (Ok u) bytes left old mid new f g h (BadMux fault) le has ends = absurd ends
-leaves_heard (Ok u) bytes left old mid new f g h (BadFeed i n) le has ends = absurd ends
-leaves_heard (Ok u) bytes left old mid new f g h (BadStream n) le has ends = absurd ends
-leaves_heard (Ok u) bytes left old mid new f g h (TooLong origin) le has ends = absurd ends
-leaves_heard (Ok u) bytes left old mid new f g h (OpenFault i) le has ends = absurd ends
-leaves_heard (Ok u) bytes left old mid new f g h (ReadFault origin) le has ends = absurd ends
-leaves_heard (Ok u) bytes left old mid new f g h Memory le has ends = absurd ends
-leaves_heard (Err stop.Memory) bytes left old mid new f g h status le has ends = subst (LeavesHeard bytes left (record { old = old; new = new; faults_old = f; faults_new = h })) (sym ends) tt
-leaves_heard (Err stop.Report) bytes left old mid new f g h status le has ends =
+pub leaves_heard : (heard : Result (Unit {0}) ListenStop) (bytes : List ℕ) (left : Option (List ℕ)) (receiver : Hearing) (old mid new : Option (List ℕ)) (f g h : ℕ) (status : Status) → f ≤ g → HasHeard bytes left receiver old mid heard
+    → EndsHeard receiver heard (record { old = mid; new = new; faults_old = g; faults_new = h }) status → LeavesHeard bytes left (record { old = old; new = new; faults_old = f; faults_new = h }) status
+leaves_heard (Ok u) bytes left receiver old mid new f g h Done le (ended, (done, stands)) ends = record { ended = ended; report_is = Appends-trans old mid new (heard_text (recording bytes).0) (heard_guide (recording bytes).0) done (ends (recording bytes).0 stands) }
+leaves_heard (Ok u) bytes left receiver old mid new f g h (WriteFault Report) le (ended, (done, stands)) ends = inr (ended, front_behind old mid new (heard_text (recording bytes).0) (heard_guide (recording bytes).0) done (ends.0 (recording bytes).0 stands))
+leaves_heard (Ok u) bytes left receiver old mid new f g h (WriteFault Air) le has ends = absurd ends
+leaves_heard (Ok u) bytes left receiver old mid new f g h Usage le has ends = absurd ends
+leaves_heard (Ok u) bytes left receiver old mid new f g h (BadScript n) le has ends = absurd ends
+leaves_heard (Ok u) bytes left receiver old mid new f g h (Disagrees n kept found) le has ends = absurd ends
+leaves_heard (Ok u) bytes left receiver old mid new f g h (BadMux fault) le has ends = absurd ends
+leaves_heard (Ok u) bytes left receiver old mid new f g h (BadFeed i n) le has ends = absurd ends
+leaves_heard (Ok u) bytes left receiver old mid new f g h (BadStream n) le has ends = absurd ends
+leaves_heard (Ok u) bytes left receiver old mid new f g h (TooLong origin) le has ends = absurd ends
+leaves_heard (Ok u) bytes left receiver old mid new f g h (OpenFault i) le has ends = absurd ends
+leaves_heard (Ok u) bytes left receiver old mid new f g h (ReadFault origin) le has ends = absurd ends
+leaves_heard (Ok u) bytes left receiver old mid new f g h Memory le has ends = tt
+leaves_heard (Err stop.Memory) bytes left receiver old mid new f g h status le has ends = subst (LeavesHeard bytes left (record { old = old; new = new; faults_old = f; faults_new = h })) (sym ends) tt
+leaves_heard (Err stop.Report) bytes left receiver old mid new f g h status le has ends =
     let told : ReportTaken = record { old = old; new = new; faults_old = f; faults_new = h } in
     subst (LeavesHeard bytes left told) (sym ends.0) (inl (has.0, subst (λ (w : Option (List ℕ)). AppendsFront old w (heard_text (take has.0 (recording bytes).0))) ends.1 has.1))
-leaves_heard (Err (stop.Read s)) bytes left old mid new f g h status le has (inl memory) = subst (LeavesHeard bytes left (record { old = old; new = new; faults_old = f; faults_new = h })) (sym memory) tt
-leaves_heard (Err (stop.Read (packet.Broken n))) bytes left old mid new f g h status le has (inr (is, reported)) =
+leaves_heard (Err (stop.Read s)) bytes left receiver old mid new f g h status le has (inl memory) = subst (LeavesHeard bytes left (record { old = old; new = new; faults_old = f; faults_new = h })) (sym memory) tt
+leaves_heard (Err (stop.Read (packet.Broken n))) bytes left receiver old mid new f g h status le has (inr (is, reported)) =
     subst (LeavesHeard bytes left (record { old = old; new = new; faults_old = f; faults_new = h })) (sym is) (has.0, has.1, behind old mid new f g h (heard_text (recording bytes).0) (fault_line (packet_stop_text (packet.Broken n))) le has.2 reported)
-leaves_heard (Err (stop.Read packet.TooLong)) bytes left old mid new f g h status le has (inr (is, reported)) =
+leaves_heard (Err (stop.Read packet.TooLong)) bytes left receiver old mid new f g h status le has (inr (is, reported)) =
     subst (LeavesHeard bytes left (record { old = old; new = new; faults_old = f; faults_new = h })) (sym is) (has.0, behind old mid new f g h (heard_text (recording bytes).0) (fault_line (packet_stop_text packet.TooLong)) le has.1 reported)
-leaves_heard (Err (stop.Read packet.Failed)) bytes left old mid new f g h status le has (inr (is, reported)) =
+leaves_heard (Err (stop.Read packet.Failed)) bytes left receiver old mid new f g h status le has (inr (is, reported)) =
     subst (LeavesHeard bytes left (record { old = old; new = new; faults_old = f; faults_new = h })) (sym is) (record { taken = has.0; is_taken = has.1; report_is = behind old mid new f g h (heard_text (recording has.0).0) (fault_line (packet_stop_text packet.Failed)) le has.2 reported })
 
 -- the source of the reader is the input, which was lent
@@ -268,21 +273,21 @@ stop_of_listen (packet.Broken n) = tt
 stop_of_listen packet.TooLong = tt
 stop_of_listen packet.Failed = tt
 
-pub of_listen : (heard : Result (Unit {0}) ListenStop) (t : ReportTaken) (status : Status) → EndsHeard heard t status → IsOfListen status
-of_listen (Ok u) t Done ends = tt
-of_listen (Ok u) t (WriteFault Report) ends = tt
-of_listen (Ok u) t (WriteFault Air) ends = absurd ends
-of_listen (Ok u) t Usage ends = absurd ends
-of_listen (Ok u) t (BadScript n) ends = absurd ends
-of_listen (Ok u) t (Disagrees n kept found) ends = absurd ends
-of_listen (Ok u) t (BadMux fault) ends = absurd ends
-of_listen (Ok u) t (BadFeed i n) ends = absurd ends
-of_listen (Ok u) t (BadStream n) ends = absurd ends
-of_listen (Ok u) t (TooLong origin) ends = absurd ends
-of_listen (Ok u) t (OpenFault i) ends = absurd ends
-of_listen (Ok u) t (ReadFault origin) ends = absurd ends
-of_listen (Ok u) t Memory ends = absurd ends
-of_listen (Err stop.Report) t status ends = subst IsOfListen (sym ends.0) tt
-of_listen (Err stop.Memory) t status ends = subst IsOfListen (sym ends) tt
-of_listen (Err (stop.Read s)) t status (inl memory) = subst IsOfListen (sym memory) tt
-of_listen (Err (stop.Read s)) t status (inr (is, reported)) = subst IsOfListen (sym is) (stop_of_listen s)
+pub of_listen : (receiver : Hearing) (heard : Result (Unit {0}) ListenStop) (t : ReportTaken) (status : Status) → EndsHeard receiver heard t status → IsOfListen status
+of_listen receiver (Ok u) t Done ends = tt
+of_listen receiver (Ok u) t (WriteFault Report) ends = tt
+of_listen receiver (Ok u) t (WriteFault Air) ends = absurd ends
+of_listen receiver (Ok u) t Usage ends = absurd ends
+of_listen receiver (Ok u) t (BadScript n) ends = absurd ends
+of_listen receiver (Ok u) t (Disagrees n kept found) ends = absurd ends
+of_listen receiver (Ok u) t (BadMux fault) ends = absurd ends
+of_listen receiver (Ok u) t (BadFeed i n) ends = absurd ends
+of_listen receiver (Ok u) t (BadStream n) ends = absurd ends
+of_listen receiver (Ok u) t (TooLong origin) ends = absurd ends
+of_listen receiver (Ok u) t (OpenFault i) ends = absurd ends
+of_listen receiver (Ok u) t (ReadFault origin) ends = absurd ends
+of_listen receiver (Ok u) t Memory ends = tt
+of_listen receiver (Err stop.Report) t status ends = subst IsOfListen (sym ends.0) tt
+of_listen receiver (Err stop.Memory) t status ends = subst IsOfListen (sym ends) tt
+of_listen receiver (Err (stop.Read s)) t status (inl memory) = subst IsOfListen (sym memory) tt
+of_listen receiver (Err (stop.Read s)) t status (inr (is, reported)) = subst IsOfListen (sym is) (stop_of_listen s)

@@ -11,7 +11,7 @@ use Rattle.desk_core.specs.Journal.{Legal}
 use Rattle.journal_model.specs.Steps.{command_of}
 use Rattle.journal_text.specs.Back.{IsReadable, shown_lines}
 use Rattle.journal_text.specs.Entries.{journal_text}
-use Rattle.air_monitor.specs.declared.done_line.DoneLine.{DoneLine}
+use Rattle.epg_live.specs.declared.reporting.HeardAir.{HeardAir}
 use Rattle.epg_report.specs.declared.status.Status.{Status}
 use Rattle.epg_report.specs.declared.status.Status.TheVariants.{Memory}
 use Rattle.epg_report.specs.Told.{ReportTaken}
@@ -48,4 +48,4 @@ IsScript text journal =
 abbrev pub PrintsScript : List ℕ → ReportTaken → Status → Type 0
 PrintsScript text report status =
     (status ≡ Memory)
-    ⊎ ((journal : List Entry) × (dones : List DoneLine) × (met : Status) × ReportEnds met (run_text journal dones) report status × IsScript text journal)
+    ⊎ ((journal : List Entry) × (heard : HeardAir) × (met : Status) × ReportEnds met (run_text journal heard) report status × IsScript text journal)

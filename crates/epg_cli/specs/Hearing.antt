@@ -5,7 +5,7 @@ use Rattle.feed_edits.specs.Ahead.{Tail}
 use Rattle.desk_core.specs.Journal.{journal_of}
 use Rattle.packet_reader.specs.Recordings.{RecordingEnd.AtEnd, packet_limit, recording}
 use Rattle.section_codec.specs.declared.table.Key.{Key}
-use Rattle.guide_receiver.specs.Heard.{DoneAt, dones_of}
+use Rattle.heard_completions.specs.Dones.{DoneAt, dones_of}
 use Rattle.air_model.specs.Air.{Aired, IsAirOf, air, air_bytes}
 use Rattle.air_hearing.specs.Changes.{changes_of, is_done_key}
 use Rattle.headend_live.specs.Air.{airings}

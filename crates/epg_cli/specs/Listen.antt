@@ -1,12 +1,15 @@
 -- What a run of `listen` leaves, for each status.
-use Rattle.std.specs.Prelude.{◌≡◌, ℕ, ◌/◌, ◌⊎◌, ◌++◌, List, length, take, Option, Some, Ok, Err, Result, codes}
+use Rattle.std.specs.Prelude.{◌≡◌, ℕ, ◌/◌, ◌⊎◌, ◌++◌, List, length, take, Option, Some, Ok, Err, Result}
 use Rattle.std.specs.Io.KnownBytes.{Appends}
 use Rattle.si_causes.specs.Causes.{Rose, AppendsFront}
 use Rattle.packet_reader.specs.Recordings.{RecordingEnd, RecordingEnd.AtEnd, RecordingEnd.Broken, RecordingEnd.PastLimit, recording}
 use Rattle.packet_reader.specs.declared.stop.PacketStop.{PacketStop}
 use Rattle.packet_reader.specs.declared.stop.PacketStop.TheVariants as packet
-use Rattle.guide_receiver.specs.Heard.{dones_of}
-use Rattle.guide_receiver.specs.Texts.{done_lines}
+use Rattle.guide_receiver.specs.Heard.{Hearing, ReceiverStandsFor}
+use Rattle.heard_completions.specs.Dones.{dones_of}
+use Rattle.guide_receiver.specs.Guides.{guide_of}
+use Rattle.heard_completions.specs.Texts.{done_lines}
+use Rattle.guide_text.specs.Guides.{guide_text}
 use Rattle.epg_cli.specs.declared.listen.ListenStop.{ListenStop}
 use Rattle.epg_cli.specs.declared.listen.ListenStop.TheVariants as stop
 use Rattle.epg_report.specs.declared.status.Status.{Status}
@@ -24,9 +27,13 @@ Recording = List (List ℕ) × RecordingEnd
 abbrev pub heard_text : List (List ℕ) → List ℕ
 heard_text packets = done_lines (dones_of packets)
 
--- the line behind them, where the recording was heard to its end
-abbrev pub end_line : List ℕ
-end_line = codes "end\n"
+-- the text of the guide that was heard of them
+abbrev pub heard_guide : List (List ℕ) → List ℕ
+heard_guide packets = guide_text (guide_of packets)
+
+-- the whole report of a recording of these packets
+abbrev pub report_of : List (List ℕ) → List ℕ
+report_of packets = heard_text packets ++ heard_guide packets
 
 -- the status of a stop
 abbrev pub packet_stop_status : PacketStop → Status
@@ -38,10 +45,10 @@ packet_stop_status packet.Failed = ReadFault Input
 abbrev pub packet_stop_text : PacketStop → List ℕ
 packet_stop_text stop = fault_text (packet_stop_status stop)
 
--- with Done: each piece of the recording is a packet, and the report is the completions of all of them and the end
+-- with Done: each piece of the recording is a packet, and the report is the completions of all of them and the guide
 pub record HeardWhole (recording : Recording) (report : ReportTaken) : Type 0 where
   pub ended : recording.1 ≡ AtEnd
-  pub report_is : Appends report.old report.new (heard_text recording.0 ++ end_line)
+  pub report_is : Appends report.old report.new (report_of recording.0)
 
 -- with a fault behind all packets of the recording
 abbrev pub HeardAll : Recording → List ℕ → ReportTaken → Type 0
@@ -61,11 +68,11 @@ pub record HeardTaken (bytes : List ℕ) (left : Option (List ℕ)) (report : Re
   pub report_is : Reported report (heard_text (recording taken).0 ++ fault_line (packet_stop_text packet.Failed))
 
 -- With a fault of the report no fault of the recording was met: the report has a proper front of the completions of the first k packets,
--- or, where the recording was heard to its end, of all completions and the end.
+-- or, where the recording was heard to its end, of all completions and the guide.
 abbrev pub HeardUnreported : Recording → ReportTaken → Type 0
 HeardUnreported recording report =
     ((k : ℕ) × AppendsFront report.old report.new (heard_text (take k recording.0)))
-    ⊎ ((recording.1 ≡ AtEnd) × AppendsFront report.old report.new (heard_text recording.0 ++ end_line))
+    ⊎ ((recording.1 ≡ AtEnd) × AppendsFront report.old report.new (report_of recording.0))
 
 -- What a run of `listen` leaves with each status, of the bytes of a recording, and of what is left of them. No other status comes.
 abbrev pub LeavesHeard : List ℕ → Option (List ℕ) → ReportTaken → Status → Type 0
@@ -104,14 +111,14 @@ ReportsLines old new text (Err stop.Report) = AppendsFront old new text
 ReportsLines old new text (Err stop.Memory) = Unit {0}
 ReportsLines old new text (Err (stop.Read s)) = ⊥
 
--- what hearing a recording leaves in the report
-abbrev pub HasHeard : List ℕ → Option (List ℕ) → Option (List ℕ) → Option (List ℕ) → Result (Unit {0}) ListenStop → Type 0
-HasHeard bytes left old new (Ok u) = ((recording bytes).1 ≡ AtEnd) × Appends old new (heard_text (recording bytes).0)
-HasHeard bytes left old new (Err (stop.Read (packet.Broken n))) = ((recording bytes).1 ≡ Broken) × (n ≡ length (recording bytes).0) × Appends old new (heard_text (recording bytes).0)
-HasHeard bytes left old new (Err (stop.Read packet.TooLong)) = ((recording bytes).1 ≡ PastLimit) × Appends old new (heard_text (recording bytes).0)
-HasHeard bytes left old new (Err (stop.Read packet.Failed)) = (taken : List ℕ) × WasTaken bytes left taken × Appends old new (heard_text (recording taken).0)
-HasHeard bytes left old new (Err stop.Report) = (k : ℕ) × AppendsFront old new (heard_text (take k (recording bytes).0))
-HasHeard bytes left old new (Err stop.Memory) = Unit {0}
+-- What hearing a recording leaves in the report. Where it was heard to its end, the receiver stands for all its packets.
+abbrev pub HasHeard : List ℕ → Option (List ℕ) → Hearing → Option (List ℕ) → Option (List ℕ) → Result (Unit {0}) ListenStop → Type 0
+HasHeard bytes left receiver old new (Ok u) = ((recording bytes).1 ≡ AtEnd) × Appends old new (heard_text (recording bytes).0) × ReceiverStandsFor (recording bytes).0 receiver
+HasHeard bytes left receiver old new (Err (stop.Read (packet.Broken n))) = ((recording bytes).1 ≡ Broken) × (n ≡ length (recording bytes).0) × Appends old new (heard_text (recording bytes).0)
+HasHeard bytes left receiver old new (Err (stop.Read packet.TooLong)) = ((recording bytes).1 ≡ PastLimit) × Appends old new (heard_text (recording bytes).0)
+HasHeard bytes left receiver old new (Err (stop.Read packet.Failed)) = (taken : List ℕ) × WasTaken bytes left taken × Appends old new (heard_text (recording taken).0)
+HasHeard bytes left receiver old new (Err stop.Report) = (k : ℕ) × AppendsFront old new (heard_text (take k (recording bytes).0))
+HasHeard bytes left receiver old new (Err stop.Memory) = Unit {0}
 
 -- a stop by a failed read, and one by a failed write, have their causes
 abbrev pub HasReadCause : ℕ → ℕ → Result (Unit {0}) ListenStop → Type 0
@@ -127,11 +134,15 @@ abbrev pub HasReportCause : ℕ → ℕ → Result (Unit {0}) ListenStop → Typ
 HasReportCause before now (Err stop.Report) = Rose before now
 HasReportCause before now result = Unit {0}
 
--- how the report ends, by why the recording was not heard on, and the status
-abbrev pub EndsHeard : Result (Unit {0}) ListenStop → ReportTaken → Status → Type 0
-EndsHeard (Ok u) report Done = Appends report.old report.new end_line
-EndsHeard (Ok u) report (WriteFault Report) = AppendsFront report.old report.new end_line × Rose report.faults_old report.faults_new
-EndsHeard (Ok u) report status = ⊥
-EndsHeard (Err (stop.Read s)) report status = (status ≡ Memory) ⊎ ((status ≡ packet_stop_status s) × Reported report (fault_line (packet_stop_text s)))
-EndsHeard (Err stop.Report) report status = (status ≡ WriteFault Report) × (report.old ≡ report.new)
-EndsHeard (Err stop.Memory) report status = status ≡ Memory
+-- How the report ends, by why the recording was not heard on, and the status. Where it was heard to its end, the guide of what the
+-- receiver stands for was reported, or a proper front of it.
+abbrev pub EndsHeard : Hearing → Result (Unit {0}) ListenStop → ReportTaken → Status → Type 0
+EndsHeard receiver (Ok u) report Done = (past : List (List ℕ)) → ReceiverStandsFor past receiver → Appends report.old report.new (heard_guide past)
+EndsHeard receiver (Ok u) report (WriteFault Report) =
+    ((past : List (List ℕ)) → ReceiverStandsFor past receiver → AppendsFront report.old report.new (heard_guide past))
+    × Rose report.faults_old report.faults_new
+EndsHeard receiver (Ok u) report Memory = Unit {0}
+EndsHeard receiver (Ok u) report status = ⊥
+EndsHeard receiver (Err (stop.Read s)) report status = (status ≡ Memory) ⊎ ((status ≡ packet_stop_status s) × Reported report (fault_line (packet_stop_text s)))
+EndsHeard receiver (Err stop.Report) report status = (status ≡ WriteFault Report) × (report.old ≡ report.new)
+EndsHeard receiver (Err stop.Memory) report status = status ≡ Memory

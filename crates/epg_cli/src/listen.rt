@@ -1,15 +1,17 @@
 // A recording, heard packet by packet.
-ghost use Rattle.std.specs.Prelude.{◌≡◌, ◌≤◌, ◌++◌, ◌∷◌, [], List, ℕ, None, Some, Err, IfOk, OnOk, map, slice_index};
+ghost use Rattle.std.specs.Prelude.{◌≡◌, ◌≤◌, ◌++◌, ◌∷◌, [], List, ℕ, None, Some, Ok, Err, IfOk, OnOk, map, slice_index};
 ghost use Rattle.std.specs.Io.KnownBytes.{IsAtEnd};
 ghost use Rattle.packet_reader.specs.Reading.{bytes_left};
-ghost use Rattle.guide_receiver.specs.Heard.{ReceiverStandsFor, at_packet, dones_by};
-ghost use Rattle.guide_receiver.specs.Texts.{done_lines};
+ghost use Rattle.guide_receiver.specs.Heard.{Hearing, ReceiverStandsFor};
+ghost use Rattle.heard_completions.specs.Dones.{at_packet, dones_by};
+ghost use Rattle.heard_completions.specs.Texts.{done_lines};
 ghost use Rattle.epg_report.specs.Texts.{fault_line};
 ghost use Rattle.epg_report.specs.Told.{told};
-ghost use Rattle.epg_cli.specs.Listen.{ReportsLines, HasHeard, HasReadCause, HasReportCause, IsNoReadStop, EndsHeard, packet_stop_text, packet_stop_status};
+ghost use Rattle.epg_cli.specs.Listen.{ReportsLines, HasHeard, HasReadCause, HasReportCause, IsNoReadStop, EndsHeard, heard_guide, packet_stop_text, packet_stop_status};
 
 use epg_report::{Origin, Outlet, Status, out_of_memory, put_fault_line};
 use guide_receiver::{DoneKey, HearStop, Receiver, write_done};
+use guide_text::print_heard;
 use packet_reader::{PacketReader, PacketStop};
 use si_causes::{Sink, Source, write_all};
 use std::alloc::{AllocError, Global};
@@ -76,7 +78,7 @@ pub(crate) fn hear_all<S: Source, R: Sink>(
     requires going { packets.old.stop ≡ None }
     requires start { packets.old.number ≡ 0 }
     requires unheard { ReceiverStandsFor [] receiver.old }
-    ensures heard { (bytes : List ℕ) → bytes_left S.left packets.old ≡ Some bytes → HasHeard bytes (S.left packets.new.source) (R.written report.old) (R.written report.new) result }
+    ensures heard { (bytes : List ℕ) → bytes_left S.left packets.old ≡ Some bytes → HasHeard bytes (S.left packets.new.source) receiver.new (R.written report.old) (R.written report.new) result }
     ensures end { OnOk result (IsAtEnd (S.left packets.new.source)) }
     ensures read_cause { HasReadCause (S.faults packets.old.source) (S.faults packets.new.source) result }
     ensures report_cause { HasReportCause (R.faults report.old) (R.faults report.new) result }
@@ -117,7 +119,7 @@ fn fault_of(alloc: Global, stop: PacketStop) -> Result<Vec<u8>, AllocError>
 
 // Reports why no further packet comes.
 fn report_stop<R: Sink>(alloc: Global, stop: PacketStop, report: &mut R) -> Status
-    ensures ends { EndsHeard (Err (ListenStop.Read stop)) (told R.written R.faults report.old report.new) result }
+    ensures ends { (receiver : Hearing) → EndsHeard receiver (Err (ListenStop.Read stop)) (told R.written R.faults report.old report.new) result }
     ensures later { R.faults report.old ≤ R.faults report.new }
 {
     let Ok(text) = fault_of(alloc, stop) else {
@@ -127,20 +129,42 @@ fn report_stop<R: Sink>(alloc: Global, stop: PacketStop, report: &mut R) -> Stat
     status_of(stop)
 }
 
+// The text of the guide of what was heard.
+fn guide_of(alloc: Global, receiver: &Receiver) -> Result<Vec<u8>, AllocError>
+    ensures { (past : List (List ℕ)) → ReceiverStandsFor past receiver.now → IfOk result (λ text. text.items ≡ heard_guide past) }
+{
+    let heard = receiver.guide()?;
+    let mut text = Vec::new(alloc);
+    print_heard(alloc, &heard, &mut text)?;
+    Ok(text)
+}
+
+// Reports the guide of what was heard.
+fn report_guide<R: Sink>(alloc: Global, receiver: &Receiver, report: &mut R) -> Status
+    ensures ends { EndsHeard receiver.now (Ok tt) (told R.written R.faults report.old report.new) result }
+    ensures later { R.faults report.old ≤ R.faults report.new }
+{
+    let Ok(text) = guide_of(alloc, receiver) else {
+        return out_of_memory(report);
+    };
+    match write_all(report, &text) {
+        Ok(()) => Status::Done,
+        Err(_) => Status::WriteFault(Outlet::Report),
+    }
+}
+
 /// Ends the report of what was heard, and says how the run ends.
 pub(crate) fn end_report<R: Sink>(
     alloc: Global,
     heard: Result<(), ListenStop>,
+    receiver: &Receiver,
     report: &mut R,
 ) -> Status
-    ensures ends { EndsHeard heard (told R.written R.faults report.old report.new) result }
+    ensures ends { EndsHeard receiver.now heard (told R.written R.faults report.old report.new) result }
     ensures later { R.faults report.old ≤ R.faults report.new }
 {
     match heard {
-        Ok(()) => match write_all(report, b"end\n") {
-            Ok(()) => Status::Done,
-            Err(_) => Status::WriteFault(Outlet::Report),
-        },
+        Ok(()) => report_guide(alloc, receiver, report),
         Err(ListenStop::Read(stop)) => report_stop(alloc, stop, report),
         Err(ListenStop::Report) => Status::WriteFault(Outlet::Report),
         Err(ListenStop::Memory) => out_of_memory(report),

@@ -134,8 +134,8 @@ pub fn run_play<S: Source, A: Sink, R: Sink>(
 }
 
 /// Hears the recording of the input: packets of 188 bytes from its first byte on. It reports one line for each completion of a
-/// sub-table, before it reads the next packet, and then the line `end`, or a line that names the fault (ISO/IEC 13818-1, 2.4;
-/// EN 300 468, 5.1).
+/// sub-table, before it reads the next packet, and then the guide that it heard, or a line that names the fault (ISO/IEC 13818-1, 2.4;
+/// EN 300 468, 5.1 and 5.2).
 pub fn run_listen<S: Source, R: Sink>(alloc: Global, input: &mut S, report: &mut R) -> Status
     ensures leaves { (bytes : List ℕ) → S.left input.old ≡ Some bytes
         → LeavesHeard bytes (S.left input.new) (told R.written R.faults report.old report.new) result }
@@ -165,7 +165,7 @@ fn listen_through<S: Source, R: Sink>(alloc: Global, input: &mut S, report: &mut
     let mut receiver = Receiver::open(alloc);
     let heard = hear_all(alloc, &mut packets, &mut receiver, report);
     let _source = packets.close();
-    end_report(alloc, heard, report)
+    end_report(alloc, heard, &receiver, report)
 }
 
 /// Does all that the program does: it takes the words of the command line without the program's name, what opens files, the input,
@@ -196,7 +196,7 @@ pub fn run<W: Threads + Wait + Sync, O: Opener, S: Source + Send, A: Sink + Send
     ensures whole { command_of (texts words.now) ≡ Some Play → (text : List ℕ) → S.left input.old ≡ Some text → (script_in text).stop ≡ Ended → ¬ (Rose (S.faults input.old) (S.faults input.new))
         → ¬ (Rose (A.faults air.old) (A.faults air.new)) → ¬ (Rose (R.faults report.old) (R.faults report.new)) → (result ≡ Status.Done) ⊎ (result ≡ Status.Memory) }
     ensures status { command_of (texts words.now) ≡ Some Play → IsOfPlay result }
-    // What is left with each status of `listen`: the completions that the report has. Nothing is sent.
+    // What is left with each status of `listen`: the completions and the guide that the report has. Nothing is sent.
     ensures listen_leaves { command_of (texts words.now) ≡ Some Listen → (bytes : List ℕ) → S.left input.old ≡ Some bytes
         → LeavesHeard bytes (S.left input.new) (told R.written R.faults report.old report.new) result }
     ensures listen_completes { command_of (texts words.now) ≡ Some Listen → (bytes : List ℕ) → S.left input.old ≡ Some bytes → ¬ (Rose (S.faults input.old) (S.faults input.new))

@@ -20,7 +20,7 @@ use Rattle.headend_live.specs.declared.live.LiveStop.TheVariants as live
 use Rattle.headend_live.specs.declared.send.SendStop.{SendStop}
 use Rattle.headend_live.specs.declared.send.SendStop.TheVariants as send
 use Rattle.headend_live.specs.Live.{after, and_stop, control_stop, feed_stop, or_feed, run_stop}
-use Rattle.air_monitor.specs.declared.done_line.DoneLine.{DoneLine}
+use Rattle.epg_live.specs.declared.reporting.HeardAir.{HeardAir}
 use Rattle.epg_report.specs.declared.status.Status.{Status}
 use Rattle.epg_report.specs.declared.status.Status.TheVariants.{Done, Usage, BadScript, Disagrees, BadMux, BadFeed, BadStream, TooLong, OpenFault, ReadFault, WriteFault, Memory}
 use Rattle.epg_report.specs.declared.status.Origin.TheVariants.{Input, Feed}
@@ -121,9 +121,9 @@ module _ (status : Status) (no_input : status ≡ ReadFault Input → ⊥) (no_a
   run_decided (Ok u) control ahead feeds fed is (inr (inr same)) (inr found) =
       inr (is ∙ ap (λ (o : Option LiveStop). live_status (and_stop (control_stop control) o)) found ∙ ap (λ (o : Option EditStop). live_status (and_stop (control_stop o) fed)) same)
 
-  jobs_decided : (mux : Mux) (cycles join : ℕ) (text : List ℕ) (left : Option (List ℕ)) (rows : List Row) (paths : List (List ℕ)) (files : Files) (feeds_before feeds_now : ℕ) (before now : Option (List ℕ)) (journal : List Entry) (dones : List DoneLine)
-      → (Rose feeds_before feeds_now → ⊥) → JobsRan mux cycles join text left rows paths files feeds_before feeds_now before now journal dones status → (status ≡ Memory) ⊎ (status ≡ jobs_status (behind text rows) paths files)
-  jobs_decided mux cycles join text left rows paths files feeds_before feeds_now before now journal dones none ran =
+  jobs_decided : (mux : Mux) (cycles join : ℕ) (text : List ℕ) (left : Option (List ℕ)) (rows : List Row) (paths : List (List ℕ)) (files : Files) (feeds_before feeds_now : ℕ) (before now : Option (List ℕ)) (journal : List Entry) (heard : HeardAir)
+      → (Rose feeds_before feeds_now → ⊥) → JobsRan mux cycles join text left rows paths files feeds_before feeds_now before now journal heard status → (status ≡ Memory) ⊎ (status ≡ jobs_status (behind text rows) paths files)
+  jobs_decided mux cycles join text left rows paths files feeds_before feeds_now before now journal heard none ran =
       run_decided ran.sent ran.control_stop (controls_ahead (behind text rows)).1 (feeds_stop None 1 ran.feed_stops) (feeds_stop None 1 (map (λ path. feed_text_stop (file_at path files)) paths)) ran.status_is
       (as_ahead (λ values. CommandsAre journal 0 (commands_by 0 control_step values ++ map command_of ran.final)) (controls_ahead (behind text rows)) ran.control_stop ran.journal_is.control_did)
       (feeds_decided files journal feeds_before feeds_now none None 1 paths ran.feed_stops ran.journal_is.feeds_did ran.causes)
@@ -147,14 +147,14 @@ before_decided text left paths files (ReadFault (Feed f)) why no_open no_input =
 before_decided text left paths files (WriteFault outlet) why no_open no_input = absurd why
 before_decided text left paths files Memory why no_open no_input = absurd why
 
-met_decided : (paths : List (List ℕ)) (cycles join : ℕ) (text : List ℕ) (files : Files) (left : Option (List ℕ)) (feeds_before feeds_now : ℕ) (before now : Option (List ℕ)) (journal : List Entry) (dones : List DoneLine) (met : Status)
-    → HasMet paths cycles join text files left feeds_before feeds_now before now journal dones met → ((f : ℕ) → met ≡ OpenFault f → ⊥) → (met ≡ ReadFault Input → ⊥) → (met ≡ WriteFault Air → ⊥) → (Rose feeds_before feeds_now → ⊥)
+met_decided : (paths : List (List ℕ)) (cycles join : ℕ) (text : List ℕ) (files : Files) (left : Option (List ℕ)) (feeds_before feeds_now : ℕ) (before now : Option (List ℕ)) (journal : List Entry) (heard : HeardAir) (met : Status)
+    → HasMet paths cycles join text files left feeds_before feeds_now before now journal heard met → ((f : ℕ) → met ≡ OpenFault f → ⊥) → (met ≡ ReadFault Input → ⊥) → (met ≡ WriteFault Air → ⊥) → (Rose feeds_before feeds_now → ⊥)
     → (met ≡ Memory) ⊎ (met ≡ text_status text paths files)
-met_decided paths cycles join text files left feeds_before feeds_now before now journal dones met (inl memory) no_open no_input no_air no_feed = inl memory
-met_decided paths cycles join text files left feeds_before feeds_now before now journal dones met (inr (inl none)) no_open no_input no_air no_feed =
+met_decided paths cycles join text files left feeds_before feeds_now before now journal heard met (inl memory) no_open no_input no_air no_feed = inl memory
+met_decided paths cycles join text files left feeds_before feeds_now before now journal heard met (inr (inl none)) no_open no_input no_air no_feed =
     inr (before_decided text left paths files met none.why no_open no_input)
-met_decided paths cycles join text files left feeds_before feeds_now before now journal dones met (inr (inr (mux, rows, whole, ran))) no_open no_input no_air no_feed =
-    elim (jobs_decided met no_input no_air mux cycles join text left rows paths files feeds_before feeds_now before now journal dones no_feed ran) [
+met_decided paths cycles join text files left feeds_before feeds_now before now journal heard met (inr (inr (mux, rows, whole, ran))) no_open no_input no_air no_feed =
+    elim (jobs_decided met no_input no_air mux cycles join text left rows paths files feeds_before feeds_now before now journal heard no_feed ran) [
       | inl memory ↦ inl memory
       | inr ends ↦ inr (ends ∙ sym (ap (λ (b : Block). block_status b text paths files) whole))
     ]
@@ -163,10 +163,10 @@ pub decided : (paths : List (List ℕ)) (cycles join : ℕ) (text : List ℕ) (f
     → LeavesLive paths cycles join text files left feeds_before feeds_now air report status → HasStatusCause input_before input_now feeds_before feeds_now air.faults_old air.faults_new status → ((f : ℕ) → status ≡ OpenFault f → ⊥)
     → (Rose input_before input_now → ⊥) → (Rose feeds_before feeds_now → ⊥) → (Rose air.faults_old air.faults_new → ⊥) → (Rose report.faults_old report.faults_new → ⊥) → (status ≡ Memory) ⊎ (status ≡ text_status text paths files)
 decided paths cycles join text files left input_before input_now feeds_before feeds_now air report status (inl memory) cause no_open no_read no_feed no_air no_report = inl memory
-decided paths cycles join text files left input_before input_now feeds_before feeds_now air report status (inr (journal, dones, met, has, inr (rose, took, same))) cause no_open no_read no_feed no_air no_report = absurd (no_report rose)
-decided paths cycles join text files left input_before input_now feeds_before feeds_now air report status (inr (journal, dones, met, has, inl (took, same))) cause no_open no_read no_feed no_air no_report =
+decided paths cycles join text files left input_before input_now feeds_before feeds_now air report status (inr (journal, heard, met, has, inr (rose, took, same))) cause no_open no_read no_feed no_air no_report = absurd (no_report rose)
+decided paths cycles join text files left input_before input_now feeds_before feeds_now air report status (inr (journal, heard, met, has, inl (took, same))) cause no_open no_read no_feed no_air no_report =
     let caused : (s : Status) → met ≡ s → HasStatusCause input_before input_now feeds_before feeds_now air.faults_old air.faults_new s = (λ s e. subst (λ (t : Status). HasStatusCause input_before input_now feeds_before feeds_now air.faults_old air.faults_new t) (same ∙ e) cause) in
-    elim (met_decided paths cycles join text files left feeds_before feeds_now air.old air.new journal dones met has (λ f e. no_open f (same ∙ e)) (λ e. no_read (caused (ReadFault Input) e)) (λ e. no_air (caused (WriteFault Air) e)) no_feed) [
+    elim (met_decided paths cycles join text files left feeds_before feeds_now air.old air.new journal heard met has (λ f e. no_open f (same ∙ e)) (λ e. no_read (caused (ReadFault Input) e)) (λ e. no_air (caused (WriteFault Air) e)) no_feed) [
       | inl memory ↦ inl (same ∙ memory)
       | inr ends ↦ inr (same ∙ ends)
     ]

@@ -22,11 +22,11 @@ use Rattle.journal_model.specs.declared.step.Entry.{Entry}
 use Rattle.journal_model.specs.Steps.{Command}
 use Rattle.desk_hall.specs.Reads.{TakenDid, commands_by, control_step, controls_ahead}
 use Rattle.headend_live.specs.Callers.{CommandsAre}
-use Rattle.air_monitor.specs.declared.done_line.DoneLine.{DoneLine}
+use Rattle.epg_live.specs.declared.reporting.HeardAir.{HeardAir}
 use Rattle.epg_report.specs.declared.status.Status.{Status}
 use Rattle.epg_report.specs.declared.status.Status.TheVariants.{Memory}
 use Rattle.epg_live.specs.Stops.{mux_status}
-use Rattle.epg_live.specs.Runs.{ControlTook, HasRead, NoJobs, behind, described}
+use Rattle.epg_live.specs.Runs.{ControlTook, HasRead, NoJobs, behind, described, nothing_heard}
 
 -- of known bytes some were taken, and the others are left
 bytes_left : (left : Option (List ℕ)) (text taken : List ℕ) → Consumes (Some text) left taken → (rest : List ℕ) × (text ≡ taken ++ rest) × (left ≡ Some rest)
@@ -41,23 +41,23 @@ module _ {S : Type 0} (left : S → Option (List ℕ)) (faults : S → ℕ) wher
   unread_told old source text e tells = ap (λ (r : Reading S). text_left left r) e ∙ fresh_text left source ∙ tells
 
   -- why there is no multiplex
-  pub not_described : (old new : Reading S) (source : S) (text : List ℕ) (before now : Option (List ℕ)) (journal : List Entry) (dones : List DoneLine) (stop : MuxStop) → old ≡ fresh source → left source ≡ Some text
-      → ReadMux {S = S} left old new (lines_of old text) (Err stop) → MuxCame left faults old new (Err stop) → journal ≡ [] → dones ≡ [] → now ≡ before
-      → (mux_status stop ≡ Memory) ⊎ NoJobs text (left new.source) before now journal dones (mux_status stop)
-  not_described old new source text before now journal dones (mux.Fault fault) e tells read came none quiet same =
-      inr (record { why = subst (λ (r : Reading S). ReadMux {S = S} left r new (lines_of r text) (Err (mux.Fault fault))) e read; journal_is = none; dones_are = quiet; sent = same })
-  not_described old new source text before now journal dones (mux.Read Overlong) e tells read came none quiet same =
-      inr (record { why = subst (λ (r : Reading S). ReadMux {S = S} left r new (lines_of r text) (Err (mux.Read Overlong))) e read; journal_is = none; dones_are = quiet; sent = same })
-  not_described old new source text before now journal dones (mux.Read Failed) e tells read came none quiet same =
+  pub not_described : (old new : Reading S) (source : S) (text : List ℕ) (before now : Option (List ℕ)) (journal : List Entry) (heard : HeardAir) (stop : MuxStop) → old ≡ fresh source → left source ≡ Some text
+      → ReadMux {S = S} left old new (lines_of old text) (Err stop) → MuxCame left faults old new (Err stop) → journal ≡ [] → heard ≡ nothing_heard → now ≡ before
+      → (mux_status stop ≡ Memory) ⊎ NoJobs text (left new.source) before now journal heard (mux_status stop)
+  not_described old new source text before now journal heard (mux.Fault fault) e tells read came none quiet same =
+      inr (record { why = subst (λ (r : Reading S). ReadMux {S = S} left r new (lines_of r text) (Err (mux.Fault fault))) e read; journal_is = none; heard_is = quiet; sent = same })
+  not_described old new source text before now journal heard (mux.Read Overlong) e tells read came none quiet same =
+      inr (record { why = subst (λ (r : Reading S). ReadMux {S = S} left r new (lines_of r text) (Err (mux.Read Overlong))) e read; journal_is = none; heard_is = quiet; sent = same })
+  not_described old new source text before now journal heard (mux.Read Failed) e tells read came none quiet same =
       let fault = subst (λ (r : Reading S). MuxCame left faults r new (Err (mux.Read Failed))) e came in
       let b = bytes_left (left new.source) text fault.whole.more (subst (λ (o : Option (List ℕ)). Consumes o (left new.source) fault.whole.more) tells fault.whole.gave) in
       inr (record {
         why = record { taken = fault.whole.more; rest = b.0; text_is = b.1; left_is = b.2; unended = ap (λ l. block_from [] (record_lines 1 l)) fault.whole.whole ∙ fault.unended };
         journal_is = none;
-        dones_are = quiet;
+        heard_is = quiet;
         sent = same;
       })
-  not_described old new source text before now journal dones mux.Memory e tells read came none quiet same = inl refl
+  not_described old new source text before now journal heard mux.Memory e tells read came none quiet same = inl refl
 
   -- a multiplex was described, and the reader has what is behind it still to give
   pub is_described : (old new : Reading S) (source : S) (text : List ℕ) (mux : Mux) → old ≡ fresh source → ReadMux {S = S} left old new (lines_of old text) (Ok mux)

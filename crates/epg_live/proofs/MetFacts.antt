@@ -13,7 +13,7 @@ use Rattle.mux_config.specs.Block.{Whole}
 use Rattle.mux_config.specs.Reads.{MuxCame}
 use Rattle.feed_edits.specs.Ahead.{Row}
 use Rattle.journal_model.specs.declared.step.Entry.{Entry}
-use Rattle.air_monitor.specs.declared.done_line.DoneLine.{DoneLine}
+use Rattle.epg_live.specs.declared.reporting.HeardAir.{HeardAir}
 use Rattle.epg_report.specs.declared.status.Status.{Status}
 use Rattle.epg_report.specs.declared.status.Status.TheVariants.{Done, Usage, BadScript, Disagrees, BadMux, BadFeed, BadStream, TooLong, OpenFault, ReadFault, WriteFault, Memory}
 use Rattle.epg_report.specs.declared.status.Origin.TheVariants.{Input, Feed}
@@ -22,7 +22,7 @@ use Rattle.epg_live.specs.declared.feeds.OpenStop.{OpenStop}
 use Rattle.epg_live.specs.declared.feeds.OpenStop.TheVariants as opening
 use Rattle.epg_live.specs.Opened.{HasOpenCause, HasTried, OpenedTo}
 use Rattle.epg_live.specs.Stops.{HasStatusCause, IsMet, IsOfLive, IsOfRun, mux_status, open_status}
-use Rattle.epg_live.specs.Runs.{NoJobs, Ran, described}
+use Rattle.epg_live.specs.Runs.{NoJobs, Ran, described, nothing_heard}
 use Rattle.epg_live.specs.Ends.{AskedFor, HasAsked, HasMet, LeavesLive, ReportEnds, or_report, run_text}
 use Rattle.epg_report.specs.Told.{ReportTaken}
 use Rattle.epg_live.proofs.OpenFacts.{tried_none}
@@ -62,10 +62,10 @@ mux_not_open mux.Memory f e = cc
 
 -- ---- where the files were not opened
 
-pub not_opened : (text : List ℕ) (left before now : Option (List ℕ)) (journal : List Entry) (dones : List DoneLine) (stop : OpenStop) (mux : Mux) (rows : List Row) → described text ≡ Whole mux rows → journal ≡ [] → dones ≡ [] → now ≡ before
-    → (open_status stop ≡ Memory) ⊎ NoJobs text left before now journal dones (open_status stop)
-not_opened text left before now journal dones (opening.Feed f) mux rows whole none quiet same = inr (record { why = (mux, rows, whole); journal_is = none; dones_are = quiet; sent = same })
-not_opened text left before now journal dones opening.Memory mux rows whole none quiet same = inl refl
+pub not_opened : (text : List ℕ) (left before now : Option (List ℕ)) (journal : List Entry) (heard : HeardAir) (stop : OpenStop) (mux : Mux) (rows : List Row) → described text ≡ Whole mux rows → journal ≡ [] → heard ≡ nothing_heard → now ≡ before
+    → (open_status stop ≡ Memory) ⊎ NoJobs text left before now journal heard (open_status stop)
+not_opened text left before now journal heard (opening.Feed f) mux rows whole none quiet same = inr (record { why = (mux, rows, whole); journal_is = none; heard_is = quiet; sent = same })
+not_opened text left before now journal heard opening.Memory mux rows whole none quiet same = inl refl
 
 pub open_caused : (stop : OpenStop) (input_before input_now feeds_before feeds_now air_before air_now : ℕ) → HasStatusCause input_before input_now feeds_before feeds_now air_before air_now (open_status stop)
 open_caused (opening.Feed f) input_before input_now feeds_before feeds_now air_before air_now = tt
@@ -130,13 +130,13 @@ all_asked r paths old mid new n feeds met is count same of (k, tried, to) =
     let all : k ≡ n = subst (OpenedTo k n) is to in
     (k, subst (λ (o : Option (List (List ℕ))). HasTried old o (take k paths)) (sym same) tried, run_asked (length paths) k met of (all ∙ sym count))
 
-pub ran_met : {S E : Type 0} (left : S → Option (List ℕ)) (r : Result S E) (paths : List (List ℕ)) (cycles join : ℕ) (text : List ℕ) (files : Files) (feeds_old feeds_mid feeds_now : ℕ) (before now : Option (List ℕ)) (journal : List Entry) (dones : List DoneLine)
-    (met : Status) → feeds_mid ≡ feeds_old → IfOk r (λ s. (met ≡ Memory) ⊎ Ran paths cycles join text files (left s) feeds_mid feeds_now before now journal dones met)
-    → IfOk r (λ s. HasMet paths cycles join text files (left s) feeds_old feeds_now before now journal dones met)
-ran_met left (Err e) paths cycles join text files feeds_old feeds_mid feeds_now before now journal dones met same did = tt
-ran_met left (Ok s) paths cycles join text files feeds_old feeds_mid feeds_now before now journal dones met same (inl memory) = inl memory
-ran_met left (Ok s) paths cycles join text files feeds_old feeds_mid feeds_now before now journal dones met same (inr ran) =
-    inr (inr (subst (λ (n : ℕ). Ran paths cycles join text files (left s) n feeds_now before now journal dones met) same ran))
+pub ran_met : {S E : Type 0} (left : S → Option (List ℕ)) (r : Result S E) (paths : List (List ℕ)) (cycles join : ℕ) (text : List ℕ) (files : Files) (feeds_old feeds_mid feeds_now : ℕ) (before now : Option (List ℕ)) (journal : List Entry) (heard : HeardAir)
+    (met : Status) → feeds_mid ≡ feeds_old → IfOk r (λ s. (met ≡ Memory) ⊎ Ran paths cycles join text files (left s) feeds_mid feeds_now before now journal heard met)
+    → IfOk r (λ s. HasMet paths cycles join text files (left s) feeds_old feeds_now before now journal heard met)
+ran_met left (Err e) paths cycles join text files feeds_old feeds_mid feeds_now before now journal heard met same did = tt
+ran_met left (Ok s) paths cycles join text files feeds_old feeds_mid feeds_now before now journal heard met same (inl memory) = inl memory
+ran_met left (Ok s) paths cycles join text files feeds_old feeds_mid feeds_now before now journal heard met same (inr ran) =
+    inr (inr (subst (λ (n : ℕ). Ran paths cycles join text files (left s) n feeds_now before now journal heard met) same ran))
 
 cause_from : (old mid now feeds_old feeds_mid feeds_now air_before air_now : ℕ) (met : Status) → old ≤ mid → feeds_mid ≡ feeds_old → HasStatusCause mid now feeds_mid feeds_now air_before air_now met → HasStatusCause old now feeds_old feeds_now air_before air_now met
 cause_from old mid now feeds_old feeds_mid feeds_now air_before air_now Done le same cause = tt
@@ -164,10 +164,10 @@ pub if_ok : {S E : Type 0} (P Q : S → Type 0) (r : Result S E) → ((s : S) �
 if_ok P Q (Err e) f p = tt
 if_ok P Q (Ok s) f p = f s p
 
-pub as_met : (paths : List (List ℕ)) (cycles join : ℕ) (text : List ℕ) (files : Files) (left : Option (List ℕ)) (feeds_old feeds_now : ℕ) (before now : Option (List ℕ)) (journal : List Entry) (dones : List DoneLine) (met : Status)
-    → (met ≡ Memory) ⊎ NoJobs text left before now journal dones met → HasMet paths cycles join text files left feeds_old feeds_now before now journal dones met
-as_met paths cycles join text files left feeds_old feeds_now before now journal dones met (inl memory) = inl memory
-as_met paths cycles join text files left feeds_old feeds_now before now journal dones met (inr none) = inr (inl none)
+pub as_met : (paths : List (List ℕ)) (cycles join : ℕ) (text : List ℕ) (files : Files) (left : Option (List ℕ)) (feeds_old feeds_now : ℕ) (before now : Option (List ℕ)) (journal : List Entry) (heard : HeardAir) (met : Status)
+    → (met ≡ Memory) ⊎ NoJobs text left before now journal heard met → HasMet paths cycles join text files left feeds_old feeds_now before now journal heard met
+as_met paths cycles join text files left feeds_old feeds_now before now journal heard met (inl memory) = inl memory
+as_met paths cycles join text files left feeds_old feeds_now before now journal heard met (inr none) = inr (inl none)
 
 -- where memory was wanting behind the opening, all were asked for
 pub some_asked : {S E T : Type 0} (r : Result S E) (opened : Result T OpenStop) (paths : List (List ℕ)) (old mid new : Option (List (List ℕ))) (n : ℕ) → new ≡ mid → (k : ℕ) × HasTried old mid (take k paths) × OpenedTo k n opened
@@ -237,14 +237,14 @@ ends_of_live met text report status is (inl memory) = subst IsOfLive (sym memory
 ends_of_live met text report status is (inr (inl (took, same))) = subst IsOfLive (sym same) (met_of_live met is)
 ends_of_live met text report status is (inr (inr (rose, took, same))) = subst IsOfLive (sym same) (report_of_live met is)
 
-leaves : (paths : List (List ℕ)) (cycles join : ℕ) (text : List ℕ) (files : Files) (left : Option (List ℕ)) (feeds_old feeds_now : ℕ) (air report : ReportTaken) (journal : List Entry) (dones : List DoneLine) (met status : Status)
-    → HasMet paths cycles join text files left feeds_old feeds_now air.old air.new journal dones met → Ends met (run_text journal dones) report status → LeavesLive paths cycles join text files left feeds_old feeds_now air report status
-leaves paths cycles join text files left feeds_old feeds_now air report journal dones met status has (inl memory) = inl memory
-leaves paths cycles join text files left feeds_old feeds_now air report journal dones met status has (inr ends) = inr (journal, dones, met, has, ends)
+leaves : (paths : List (List ℕ)) (cycles join : ℕ) (text : List ℕ) (files : Files) (left : Option (List ℕ)) (feeds_old feeds_now : ℕ) (air report : ReportTaken) (journal : List Entry) (heard : HeardAir) (met status : Status)
+    → HasMet paths cycles join text files left feeds_old feeds_now air.old air.new journal heard met → Ends met (run_text journal heard) report status → LeavesLive paths cycles join text files left feeds_old feeds_now air report status
+leaves paths cycles join text files left feeds_old feeds_now air report journal heard met status has (inl memory) = inl memory
+leaves paths cycles join text files left feeds_old feeds_now air report journal heard met status has (inr ends) = inr (journal, heard, met, has, ends)
 
 -- the same of an input that is the source which the reader gave back
-pub leaves_live : {S : Type 0} (left_of : S → Option (List ℕ)) (source input : S) (paths : List (List ℕ)) (cycles join : ℕ) (text : List ℕ) (files : Files) (feeds_old feeds_now : ℕ) (air report : ReportTaken) (journal : List Entry) (dones : List DoneLine)
-    (met status : Status) → input ≡ source → HasMet paths cycles join text files (left_of source) feeds_old feeds_now air.old air.new journal dones met → Ends met (run_text journal dones) report status
+pub leaves_live : {S : Type 0} (left_of : S → Option (List ℕ)) (source input : S) (paths : List (List ℕ)) (cycles join : ℕ) (text : List ℕ) (files : Files) (feeds_old feeds_now : ℕ) (air report : ReportTaken) (journal : List Entry) (heard : HeardAir)
+    (met status : Status) → input ≡ source → HasMet paths cycles join text files (left_of source) feeds_old feeds_now air.old air.new journal heard met → Ends met (run_text journal heard) report status
     → LeavesLive paths cycles join text files (left_of input) feeds_old feeds_now air report status
-leaves_live {S = S} left_of source input paths cycles join text files feeds_old feeds_now air report journal dones met status e has ends =
-    subst (λ (s : S). LeavesLive paths cycles join text files (left_of s) feeds_old feeds_now air report status) (sym e) (leaves paths cycles join text files (left_of source) feeds_old feeds_now air report journal dones met status has ends)
+leaves_live {S = S} left_of source input paths cycles join text files feeds_old feeds_now air report journal heard met status e has ends =
+    subst (λ (s : S). LeavesLive paths cycles join text files (left_of s) feeds_old feeds_now air report status) (sym e) (leaves paths cycles join text files (left_of source) feeds_old feeds_now air report journal heard met status has ends)

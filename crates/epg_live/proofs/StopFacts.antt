@@ -1,6 +1,6 @@
 -- One of two stops, and the statuses of stops.
 use Rattle.std.proofs.Common.{◌≡◌, ◌⊎◌, inl, inr, ℕ, ◌+◌, List, [], ◌∷◌, refl, sym, ap, ◌∙◌}
-use Rattle.std.specs.Prelude.{Bool, true, false, Option, Some, None, Ok, Err, Result}
+use Rattle.std.specs.Prelude.{◌↔◌, Bool, true, false, Option, Some, None, IsSome, Ok, Err, Result}
 use Rattle.si_causes.specs.Causes.{Rose}
 use Rattle.si_causes.specs.declared.stop.ReadStop.TheVariants.{Failed, TooLong as Overlong}
 use Rattle.feed_edits.specs.declared.stop.EditStop.{EditStop}
@@ -13,6 +13,8 @@ use Rattle.headend_live.specs.declared.send.SendStop.TheVariants as send
 use Rattle.headend_live.specs.OnAir.{HasAirCause}
 use Rattle.headend_live.specs.Live.{after, and_stop, control_stop, feed_stop, or_feed, run_stop, sent_stop}
 use Rattle.headend_live.specs.Watched.{watched_stop}
+use Rattle.guide_screen.specs.declared.need.Heard.{Heard}
+use Rattle.epg_report.specs.declared.status.Status.{Status}
 use Rattle.epg_report.specs.declared.status.Status.TheVariants.{Done}
 use Rattle.epg_report.specs.declared.status.Origin.TheVariants.{Input, Feed}
 use Rattle.epg_live.specs.Stops.{HaveReadCauses, HasStatusCause, feeds_stop, live_status, read_status}
@@ -76,6 +78,10 @@ done_none (Some (live.Feed f (edit.NoCommand n))) e = cc
 done_none (Some (live.Feed f (edit.Read Failed))) e = cc
 done_none (Some (live.Feed f (edit.Read Overlong))) e = cc
 done_none (Some (live.Feed f edit.Memory)) e = cc
+
+-- so a guide that is told where there is none is told with Done
+pub done_told : (heard : Option Heard) (end : Option LiveStop) (met : Status) → met ≡ live_status end → IsSome heard ↔ (end ≡ None) → IsSome heard ↔ (met ≡ Done)
+done_told heard end met is told = (λ some. is ∙ ap live_status (told.0 some), λ done. told.1 (done_none end (sym is ∙ done)))
 
 none_watched : (wanting : Bool) (stop : Option LiveStop) → watched_stop wanting stop ≡ None → stop ≡ None
 none_watched true stop e = cc

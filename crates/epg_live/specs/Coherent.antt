@@ -5,7 +5,7 @@ use Rattle.mux_config.specs.Block.{Whole}
 use Rattle.feed_edits.specs.Ahead.{Row}
 use Rattle.journal_model.specs.declared.step.Entry.{Entry}
 use Rattle.air_coherence.specs.Coherence.{SentCoherent}
-use Rattle.air_monitor.specs.declared.done_line.DoneLine.{DoneLine}
+use Rattle.epg_live.specs.declared.reporting.HeardAir.{HeardAir}
 use Rattle.headend_live.specs.Air.{airings}
 use Rattle.epg_report.specs.declared.status.Status.{Status}
 use Rattle.epg_report.specs.declared.status.Status.TheVariants.{Memory}
@@ -22,5 +22,5 @@ JournalIsCoherent text journal before now =
 abbrev pub LiveIsCoherent : List ℕ → ReportTaken → ReportTaken → Status → Type 0
 LiveIsCoherent text air report status =
     (status ≡ Memory)
-    ⊎ ((journal : List Entry) × (dones : List DoneLine) × (met : Status) × ReportEnds met (run_text journal dones) report status
+    ⊎ ((journal : List Entry) × (heard : HeardAir) × (met : Status) × ReportEnds met (run_text journal heard) report status
     × JournalIsCoherent text journal air.old air.new)

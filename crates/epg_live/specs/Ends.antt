@@ -1,14 +1,16 @@
 -- What a run of `live` leaves.
-use Rattle.std.specs.Prelude.{◌≡◌, ◌⊎◌, ℕ, ◌≤◌, List, [], ◌++◌, length, take, flat_map, codes, Option, Some, None, Ok, Err, Result}
+use Rattle.std.specs.Prelude.{◌≡◌, ◌⊎◌, ℕ, ◌≤◌, List, [], ◌++◌, length, take, flat_map, Option, Some, None, Ok, Err, Result}
 use Rattle.std.specs.Io.KnownBytes.{Appends}
 use Rattle.si_causes.specs.Causes.{Rose, AppendsFront}
 use Rattle.si_causes.specs.Opening.{Files}
 use Rattle.journal_model.specs.declared.step.Entry.{Entry}
 use Rattle.desk_core.specs.Desks.{DeskState}
 use Rattle.journal_text.specs.Entries.{journal_text}
-use Rattle.guide_receiver.specs.declared.done.DoneKey.{DoneKey}
-use Rattle.guide_receiver.specs.Heard.{at_packet}
-use Rattle.guide_receiver.specs.Texts.{done_line}
+use Rattle.heard_completions.specs.declared.done.DoneKey.{DoneKey}
+use Rattle.heard_completions.specs.Dones.{at_packet}
+use Rattle.heard_completions.specs.Texts.{done_line}
+use Rattle.guide_text.specs.Fields.{optional}
+use Rattle.guide_text.specs.Guides.{guide_text}
 use Rattle.air_monitor.specs.declared.done_line.DoneLine.{DoneLine}
 use Rattle.epg_report.specs.declared.status.Status.{Status}
 use Rattle.epg_report.specs.declared.status.Status.TheVariants.{Done, BadMux, OpenFault, ReadFault, TooLong, WriteFault, Memory}
@@ -16,9 +18,10 @@ use Rattle.epg_report.specs.declared.status.Origin.TheVariants.{Input}
 use Rattle.epg_report.specs.declared.status.Outlet.TheVariants.{Report}
 use Rattle.epg_report.specs.Texts.{fault_lines}
 use Rattle.epg_report.specs.Told.{ReportTaken}
+use Rattle.epg_live.specs.declared.reporting.HeardAir.{HeardAir}
 use Rattle.epg_live.specs.declared.reporting.LiveRun.{LiveRun}
 use Rattle.epg_live.specs.Opened.{HasTried}
-use Rattle.epg_live.specs.Runs.{NoJobs, Ran}
+use Rattle.epg_live.specs.Runs.{NoJobs, Ran, nothing_heard}
 
 -- ---- the report
 
@@ -30,14 +33,13 @@ line_done line = record { key = line.key; version = line.version }
 abbrev pub done_text : List DoneLine → List ℕ
 done_text dones = flat_map (λ (line : DoneLine). done_line (at_packet line.packet (line_done line))) dones
 
--- the journal, and the lines of the completions
-abbrev pub run_text : List Entry → List DoneLine → List ℕ
-run_text journal dones = journal_text journal ++ done_text dones
+-- those lines, and the text of the guide, where there is one
+abbrev pub heard_text : HeardAir → List ℕ
+heard_text heard = done_text heard.dones ++ optional guide_text heard.guide
 
--- the line that ends them: `end`, or the one that names the fault that was met
-abbrev pub met_lines : Status → List ℕ
-met_lines Done = codes "end\n"
-met_lines met = fault_lines met
+-- the journal, and what was heard
+abbrev pub run_text : List Entry → HeardAir → List ℕ
+run_text journal heard = journal_text journal ++ heard_text heard
 
 -- the status of a run that met this, and whose report failed: the first fault decides
 abbrev pub or_report : Status → Status
@@ -49,26 +51,26 @@ abbrev pub ended_by : {E : Type 0} → Status → Result (Unit {0}) E → Status
 ended_by met (Ok u) = met
 ended_by met (Err failed) = or_report met
 
--- How the report of a run ends that met this status, and the status of the run.
+-- How the report of a run ends that met this status, and the status of the run: behind this text stands the line of the fault, if any.
 abbrev pub ReportEnds : Status → List ℕ → ReportTaken → Status → Type 0
 ReportEnds met text report status =
-    (Appends report.old report.new (text ++ met_lines met) × (status ≡ met))
-    ⊎ (Rose report.faults_old report.faults_new × AppendsFront report.old report.new (text ++ met_lines met) × (status ≡ or_report met))
+    (Appends report.old report.new (text ++ fault_lines met) × (status ≡ met))
+    ⊎ (Rose report.faults_old report.faults_new × AppendsFront report.old report.new (text ++ fault_lines met) × (status ≡ or_report met))
 
 -- ---- the whole run
 
 -- what was met, and done until then: want of memory; or no job started; or they ran
-abbrev pub HasMet : List (List ℕ) → ℕ → ℕ → List ℕ → Files → Option (List ℕ) → ℕ → ℕ → Option (List ℕ) → Option (List ℕ) → List Entry → List DoneLine → Status → Type 0
-HasMet paths cycles join text files left faults_before faults_now before now journal dones met =
-    (met ≡ Memory) ⊎ (NoJobs text left before now journal dones met ⊎ Ran paths cycles join text files left faults_before faults_now before now journal dones met)
+abbrev pub HasMet : List (List ℕ) → ℕ → ℕ → List ℕ → Files → Option (List ℕ) → ℕ → ℕ → Option (List ℕ) → Option (List ℕ) → List Entry → HeardAir → Status → Type 0
+HasMet paths cycles join text files left faults_before faults_now before now journal heard met =
+    (met ≡ Memory) ⊎ (NoJobs text left before now journal heard met ⊎ Ran paths cycles join text files left faults_before faults_now before now journal heard met)
 
--- What a run over the files of these paths leaves, of the text of its input and the files of its opener, and of what is left of that text: the report has the journal
--- and the completions, and ends by the status that was met. Want of memory, whoever met it, goes before all.
+-- What a run over the files of these paths leaves, of the text of its input and the files of its opener, and of what is left of that text: the report has the journal,
+-- the completions and, where no fault was met, the guide, and ends by the status that was met. Want of memory, whoever met it, goes before all.
 abbrev pub LeavesLive : List (List ℕ) → ℕ → ℕ → List ℕ → Files → Option (List ℕ) → ℕ → ℕ → ReportTaken → ReportTaken → Status → Type 0
 LeavesLive paths cycles join text files left faults_before faults_now air report status =
     (status ≡ Memory)
-    ⊎ ((journal : List Entry) × (dones : List DoneLine) × (met : Status)
-    × HasMet paths cycles join text files left faults_before faults_now air.old air.new journal dones met × ReportEnds met (run_text journal dones) report status)
+    ⊎ ((journal : List Entry) × (heard : HeardAir) × (met : Status)
+    × HasMet paths cycles join text files left faults_before faults_now air.old air.new journal heard met × ReportEnds met (run_text journal heard) report status)
 
 -- ---- inside a run
 
@@ -92,4 +94,4 @@ HasAsked paths old new status = (k : ℕ) × HasTried old new (take k paths) × 
 -- nothing has run
 pub record IsBlank (run : LiveRun) : Type 0 where
   pub desk : run.desk ≡ None
-  pub dones : run.dones ≡ []
+  pub heard : run.heard ≡ nothing_heard

@@ -1,5 +1,5 @@
 -- A run over the text of its input and the files of its feeds.
-use Rattle.std.specs.Prelude.{◌≡◌, ℕ, ◌+◌, ◌≤◌, List, [], ◌∷◌, ◌++◌, length, map, Option, Some, None, Ok, Err, Result}
+use Rattle.std.specs.Prelude.{◌≡◌, ◌↔◌, ℕ, ◌+◌, ◌≤◌, List, [], ◌∷◌, ◌++◌, length, map, Option, Some, None, IfSome, IsSome, Ok, Err, Result}
 use Rattle.std.specs.Io.KnownBytes.{Appends}
 use Rattle.si_causes.specs.Causes.{Rose}
 use Rattle.si_causes.specs.Opening.{Files, file_at}
@@ -22,14 +22,16 @@ use Rattle.journal_model.specs.Steps.{Command, command_of}
 use Rattle.desk_hall.specs.Turn.{caller_of}
 use Rattle.desk_hall.specs.Reads.{ToldDid, commands_by, control_step, controls_ahead, edit_step}
 use Rattle.turn_lock.specs.Journal.{entries_of}
-use Rattle.air_monitor.specs.declared.done_line.DoneLine.{DoneLine}
+use Rattle.guide_screen.specs.declared.need.Heard.{Heard}
 use Rattle.air_monitor.specs.Heard.{lines_of_air}
 use Rattle.headend_live.specs.declared.send.SendStop.{SendStop}
 use Rattle.headend_live.specs.Callers.{CommandsAre, PlayerSwapped}
 use Rattle.headend_live.specs.Live.{AirDid, LastMade, halts, run_stop}
+use Rattle.headend_live.specs.Watched.{guide_of_air}
 use Rattle.epg_report.specs.declared.status.Status.{Status}
-use Rattle.epg_report.specs.declared.status.Status.TheVariants.{BadMux, TooLong, OpenFault, ReadFault, Memory}
+use Rattle.epg_report.specs.declared.status.Status.TheVariants.{Done, BadMux, TooLong, OpenFault, ReadFault, Memory}
 use Rattle.epg_report.specs.declared.status.Origin.TheVariants.{Input}
+use Rattle.epg_live.specs.declared.reporting.HeardAir.{HeardAir}
 use Rattle.epg_live.specs.Stops.{HaveReadCauses, feeds_stop, live_status}
 
 -- ---- what was asked for
@@ -81,6 +83,9 @@ FeedsDid files journal f (path ∷ paths) (stop ∷ stops) =
 
 -- ---- a run whose jobs started
 
+abbrev pub nothing_heard : HeardAir
+nothing_heard = record { dones = []; guide = None }
+
 -- The journal: each caller's commands stand in it once, in order, whatever other jobs met, each with the reply of a desk of one thread
 -- (`legal`), and no one else's. Caller 0 is the control, caller 1 the player. `final` is what the control made behind all jobs.
 pub record IsJournal (mux : Mux) (cycles : ℕ) (text : List ℕ) (left : Option (List ℕ)) (rows : List Row) (paths : List (List ℕ)) (files : Files) (journal : List Entry)
@@ -94,17 +99,20 @@ pub record IsJournal (mux : Mux) (cycles : ℕ) (text : List ℕ) (left : Option
   pub front : List Entry
   pub ends : journal ≡ front ++ final
 
--- the completions are those that the whole packets show which the air took, from packet `join` on
-pub record AreHeard (join : ℕ) (before now : Option (List ℕ)) (dones : List DoneLine) : Type 0 where
+-- The completions are those that the whole packets show which the air took, from packet `join` on; a guide that is told is the one that
+-- they give.
+pub record WasHeard (join : ℕ) (before now : Option (List ℕ)) (heard : HeardAir) : Type 0 where
   pub taken : List ℕ
   pub gave : Appends before now taken
-  pub lines : dones ≡ lines_of_air join taken
+  pub lines : heard.dones ≡ lines_of_air join taken
+  pub guide : IfSome heard.guide (λ (h : Heard). h ≡ guide_of_air join taken)
 
 -- The jobs started, and all have ended. The status is that of the first stop in the order air, control, feeds by number; Done exactly
 -- where there is none, and then the control's publish, swap and swap end the journal (`last`). `sent` says how the last cycle ended. A feed was not read
--- to its own stop only where the opener's count of read faults rose (`causes`). The completions are told where the air tells its bytes.
+-- to its own stop only where the opener's count of read faults rose (`causes`). A guide is told exactly with
+-- Done (`told`); what it and the completions are is known where the air tells its bytes.
 pub record JobsRan (mux : Mux) (cycles join : ℕ) (text : List ℕ) (left : Option (List ℕ)) (rows : List Row) (paths : List (List ℕ)) (files : Files) (faults_before faults_now : ℕ) (before now : Option (List ℕ))
-    (journal : List Entry) (dones : List DoneLine) (status : Status) : Type 0 where
+    (journal : List Entry) (heard : HeardAir) (status : Status) : Type 0 where
   pub player : Result (Unit {0}) SendStop
   pub sent : Result (Unit {0}) SendStop
   pub control_stop : Option EditStop
@@ -115,13 +123,14 @@ pub record JobsRan (mux : Mux) (cycles join : ℕ) (text : List ℕ) (left : Opt
   pub status_is : status ≡ live_status (run_stop sent control_stop (feeds_stop None 1 feed_stops))
   pub causes : HaveReadCauses faults_before faults_now feed_stops
   pub air_is : AirDid mux journal before now sent
-  pub heard : (sent : List ℕ) → before ≡ Some sent → AreHeard join before now dones
+  pub was_heard : (sent : List ℕ) → before ≡ Some sent → WasHeard join before now heard
+  pub told : IsSome heard.guide ↔ (status ≡ Done)
 
 -- jobs ran over the multiplex of the text
-abbrev pub Ran : List (List ℕ) → ℕ → ℕ → List ℕ → Files → Option (List ℕ) → ℕ → ℕ → Option (List ℕ) → Option (List ℕ) → List Entry → List DoneLine → Status → Type 0
-Ran paths cycles join text files left faults_before faults_now before now journal dones met =
+abbrev pub Ran : List (List ℕ) → ℕ → ℕ → List ℕ → Files → Option (List ℕ) → ℕ → ℕ → Option (List ℕ) → Option (List ℕ) → List Entry → HeardAir → Status → Type 0
+Ran paths cycles join text files left faults_before faults_now before now journal heard met =
     (mux : Mux) × (rows : List Row) × (described text ≡ Whole mux rows)
-    × JobsRan mux cycles join text left rows paths files faults_before faults_now before now journal dones met
+    × JobsRan mux cycles join text left rows paths files faults_before faults_now before now journal heard met
 
 -- a reader behind the description that it read of the text of its source
 pub record HasRead {S : Type 0} (left : S → Option (List ℕ)) (text : List ℕ) (mux : Mux) (reader : Reading S) : Type 0 where
@@ -149,8 +158,8 @@ EndsBefore text left (OpenFault f) = (mux : Mux) × (rows : List Row) × (descri
 EndsBefore text left status = ⊥
 
 -- no job started: nothing was sent
-pub record NoJobs (text : List ℕ) (left : Option (List ℕ)) (before now : Option (List ℕ)) (journal : List Entry) (dones : List DoneLine) (status : Status) : Type 0 where
+pub record NoJobs (text : List ℕ) (left : Option (List ℕ)) (before now : Option (List ℕ)) (journal : List Entry) (heard : HeardAir) (status : Status) : Type 0 where
   pub why : EndsBefore text left status
   pub journal_is : journal ≡ []
-  pub dones_are : dones ≡ []
+  pub heard_is : heard ≡ nothing_heard
   pub sent : now ≡ before

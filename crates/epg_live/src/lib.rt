@@ -1,5 +1,5 @@
 //! A run of `live`: it reads the description of a multiplex from the input, opens the files of the feeds, runs feeds, control and player
-//! side by side, and reports the journal and the completions that were heard of the air.
+//! side by side, and reports the journal, and the completions and the guide that were heard of the air.
 //!
 //! The promise is on [`run_live_files`], in the record `LeavesLive`: what the air and the report took, over the text of the input and the
 //! files of the opener. Its faults have their causes, and it asks the opener for the paths of its words alone, each once, in order,

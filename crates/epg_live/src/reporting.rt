@@ -1,21 +1,44 @@
 // The report of a run.
 ghost use Rattle.std.specs.Prelude.{◌≡◌, ◌⊎◌, ◌++◌, IfOk, OnOk};
-ghost use Rattle.epg_report.specs.Texts.{CanBeSaid};
+ghost use Rattle.guide_text.specs.Fields.{optional};
+ghost use Rattle.guide_text.specs.Guides.{guide_text};
+ghost use Rattle.epg_report.specs.Texts.{CanBeSaid, fault_lines};
 ghost use Rattle.epg_report.specs.Told.{told};
-ghost use Rattle.epg_live.specs.Ends.{ReportEnds, done_text, ended_by, entries_of, line_done, met_lines, run_text};
+ghost use Rattle.epg_live.specs.Ends.{ReportEnds, done_text, ended_by, entries_of, heard_text, line_done, run_text};
+ghost use Rattle.epg_live.specs.Runs.{nothing_heard};
 
 use desk_core::Desk;
 use epg_report::{Outlet, Status, journal_of, out_of_memory, put_fault_line};
 use guide_receiver::{DoneKey, write_done};
-use headend_live::{DoneLine, DoneLines};
+use guide_text::print_heard;
+use headend_live::{DoneLine, DoneLines, Heard};
 use si_causes::{Failed, Sink, write_all};
 use std::alloc::{AllocError, Global};
 
-/// What ran: the desk, where jobs started, the completions that were heard, and the status that was met; Done where no fault was.
+/// What was heard of the air: the completions, and where no fault was met the guide.
+#[derive(Drop)]
+pub(crate) struct HeardAir {
+    pub(crate) dones: DoneLines,
+    pub(crate) guide: Option<Heard>,
+}
+
+impl HeardAir {
+    /// Nothing. It takes no memory.
+    pub(crate) fn nothing(alloc: Global) -> HeardAir
+        ensures { result ≡ nothing_heard }
+    {
+        HeardAir {
+            dones: DoneLines::new(alloc),
+            guide: None,
+        }
+    }
+}
+
+/// What ran: the desk, where jobs started, what was heard, and the status that was met; Done where no fault was.
 #[derive(Drop)]
 pub(crate) struct LiveRun {
     pub(crate) desk: Option<Desk>,
-    pub(crate) dones: DoneLines,
+    pub(crate) heard: HeardAir,
     pub(crate) met: Status,
 }
 
@@ -38,35 +61,42 @@ fn put_dones(alloc: Global, out: &mut Vec<u8>, dones: &[DoneLine]) -> Result<(),
     Ok(())
 }
 
-// Appends the line that ends a report: `end`, or the one that names the fault.
-fn put_end(alloc: Global, out: &mut Vec<u8>, met: Status) -> Result<(), AllocError>
-    requires { CanBeSaid met }
-    ensures { OnOk result (out.new.items ≡ out.old.items ++ met_lines met) }
+// Appends the text of the guide, where there is one.
+fn put_guide(alloc: Global, out: &mut Vec<u8>, guide: &Option<Heard>) -> Result<(), AllocError>
+    ensures { OnOk result (out.new.items ≡ out.old.items ++ optional guide_text guide.now) }
 {
-    match met {
-        Status::Done => out.extend_from_slice(b"end\n"),
-        met => put_fault_line(alloc, out, met),
+    match guide {
+        Some(guide) => print_heard(alloc, guide, out),
+        None => Ok(()),
     }
+}
+
+// Appends the lines of what was heard: the completions, and then the guide.
+fn put_heard(alloc: Global, out: &mut Vec<u8>, heard: &HeardAir) -> Result<(), AllocError>
+    ensures { OnOk result (out.new.items ≡ out.old.items ++ heard_text heard.now) }
+{
+    put_dones(alloc, out, heard.dones.as_slice())?;
+    put_guide(alloc, out, &heard.guide)
 }
 
 // The whole report.
 fn report_of(alloc: Global, run: &LiveRun) -> Result<Vec<u8>, AllocError>
     requires { CanBeSaid run.now.met }
-    ensures { IfOk result (λ text. text.items ≡ run_text (entries_of run.now.desk) run.now.dones ++ met_lines run.now.met) }
+    ensures { IfOk result (λ text. text.items ≡ run_text (entries_of run.now.desk) run.now.heard ++ fault_lines run.now.met) }
 {
     let mut text = match &run.desk {
         Some(desk) => journal_of(alloc, desk)?,
         None => Vec::new(alloc),
     };
-    put_dones(alloc, &mut text, run.dones.as_slice())?;
-    put_end(alloc, &mut text, run.met)?;
+    put_heard(alloc, &mut text, &run.heard)?;
+    put_fault_line(alloc, &mut text, run.met)?;
     Ok(text)
 }
 
 /// Reports what ran, and says how the run ends. A report that fails changes the status of a run without a fault alone.
 pub(crate) fn finish<R: Sink>(alloc: Global, run: &LiveRun, report: &mut R) -> Status
     requires { CanBeSaid run.now.met }
-    ensures ends { (result ≡ Status.Memory) ⊎ ReportEnds run.now.met (run_text (entries_of run.now.desk) run.now.dones) (told R.written R.faults report.old report.new) result }
+    ensures ends { (result ≡ Status.Memory) ⊎ ReportEnds run.now.met (run_text (entries_of run.now.desk) run.now.heard) (told R.written R.faults report.old report.new) result }
 {
     let Ok(text) = report_of(alloc, run) else {
         return out_of_memory(report);

@@ -13,7 +13,7 @@ ghost use Rattle.epg_live.specs.Opened.{AreOpened};
 ghost use Rattle.epg_live.specs.Stops.{HasStatusCause, IsMet, IsOfRun, live_status, mux_status, open_status, read_status};
 
 use crate::feeds::{OpenStop, close_feeds, open_feeds};
-use crate::reporting::LiveRun;
+use crate::reporting::{HeardAir, LiveRun};
 use command_words::LiveWords;
 use epg_report::{Origin, Outlet, Status};
 use feed_edits::EditStop;
@@ -110,7 +110,7 @@ fn run_jobs<W: Threads + Wait + Sync, O: Opener, S: Source + Send, A: Sink + Sen
     ensures ran { (paths : List (List ℕ)) → AreOpened O.From.left O.From.faults (O.files opener.old) paths feeds.items
         → (text : List ℕ) → HasRead S.left text mux lines → (files : Files) → O.files opener.old ≡ Some files
         → IfOk result (λ source. (run.new.met ≡ Status.Memory) ⊎ Ran paths plan.cycles plan.join text files (S.left source) (O.read_faults opener.old) (O.read_faults opener.new)
-        (A.written air.old) (A.written air.new) (entries_of run.new.desk) run.new.dones run.new.met) }
+        (A.written air.old) (A.written air.new) (entries_of run.new.desk) run.new.heard run.new.met) }
     ensures cause { IfOk result (λ source. HasStatusCause (S.faults lines.source) (S.faults source) (O.read_faults opener.old) (O.read_faults opener.new) (A.faults air.old) (A.faults air.new) run.new.met) }
     ensures end { IfOk result (λ source. run.new.met ≡ Status.Done → IsAtEnd (S.left source)) }
     ensures said { IfOk result (λ _. CanBeSaid run.new.met) }
@@ -122,7 +122,10 @@ fn run_jobs<W: Threads + Wait + Sync, O: Opener, S: Source + Send, A: Sink + Sen
 {
     let end = run_live(rt, alloc, mux, plan, feeds, lines, air, gate)?;
     run.desk = Some(end.desk);
-    run.dones = end.dones;
+    run.heard = HeardAir {
+        dones: end.dones,
+        guide: end.heard,
+    };
     run.met = live_status(end.stop);
     close_feeds(opener, end.feeds);
     Ok(end.control.close())
@@ -151,7 +154,7 @@ pub(crate) fn run_described<
     requires blank { IsBlank run.old }
     ensures met { (text : List ℕ) → S.left lines.source ≡ Some text → (files : Files) → O.files opener.old ≡ Some files
         → IfOk result (λ source. HasMet (texts words.now.feeds.items) words.now.cycles words.now.join text files (S.left source) (O.read_faults opener.old) (O.read_faults opener.new)
-        (A.written air.old) (A.written air.new) (entries_of run.new.desk) run.new.dones run.new.met) }
+        (A.written air.old) (A.written air.new) (entries_of run.new.desk) run.new.heard run.new.met) }
     ensures cause { IfOk result (λ source. HasStatusCause (S.faults lines.source) (S.faults source) (O.read_faults opener.old) (O.read_faults opener.new) (A.faults air.old) (A.faults air.new) run.new.met) }
     ensures open_cause { IfOk result (λ _. (f : ℕ) → run.new.met ≡ Status.OpenFault f → Rose (O.faults opener.old) (O.faults opener.new)) }
     ensures asked { IfOk result (λ _. HasAsked (texts words.now.feeds.items) (O.tried opener.old) (O.tried opener.new) run.new.met) }

@@ -10,11 +10,10 @@ ghost use Rattle.epg_live.specs.Decided.{AreWhole, text_status};
 ghost use Rattle.epg_live.specs.Coherent.{LiveIsCoherent};
 ghost use Rattle.epg_live.specs.Ends.{HasAsked, LeavesLive};
 
-use crate::reporting::{LiveRun, finish};
+use crate::reporting::{HeardAir, LiveRun, finish};
 use crate::run::run_described;
 use command_words::LiveWords;
 use epg_report::{Outlet, Status, out_of_memory};
-use headend_live::DoneLines;
 use si_causes::{Gate, LineReader, Opener, Sink, Source};
 use std::alloc::Global;
 use std::marker::{Send, Sync};
@@ -56,7 +55,7 @@ fn run_files<
     };
     let mut run = LiveRun {
         desk: None,
-        dones: DoneLines::new(alloc),
+        heard: HeardAir::nothing(alloc),
         met: Status::Done,
     };
     let Ok(_source) = run_described(rt, alloc, words, opener, lines, air, gate, &mut run) else {

@@ -1,2 +1,0 @@
-pub mod RunFacts
-pub mod StandingFacts

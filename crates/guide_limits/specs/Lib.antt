@@ -5,4 +5,3 @@ pub mod Readings
 pub mod Standing
 pub mod KeptService
 pub mod Guides
-pub mod Runs

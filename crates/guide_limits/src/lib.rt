@@ -1,11 +1,6 @@
 //! What the guide of a book is, and how large it may be (EN 300 468, 5.2.3, 5.2.4 and 6.2): when an event is, events that
-//! are apart, the limits of events, services and guides, the guide that edits leave, and how next things are cut into runs
-//! within a limit.
+//! are apart, the limits of events, services and guides, and the guide that edits leave.
 //!
-//! This crate has definitions and laws alone: for the book, which keeps edits within these limits, and for the layers that
-//! need a guide within them and nothing else of a book. `runs_are_longest` says what the longest runs are.
+//! This crate has definitions alone: for the book, which keeps edits within these limits, and for the layers that
+//! need a guide within them and nothing else of a book.
 #![tactic(auto)]
-
-mod laws;
-
-pub use laws::runs_are_longest;

@@ -1,4 +1,1 @@
-pub mod Shown
-pub mod Reading
 pub mod Latest
-pub mod Dones

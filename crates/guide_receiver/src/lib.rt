@@ -9,12 +9,10 @@
 #![tactic(auto)]
 
 mod clock;
-mod counting;
-mod done;
 mod known;
 mod latest_keys;
 mod receiver;
 
-pub use done::{DoneKey, Dones, write_done};
 pub use guide_screen::{Heard, Need, Needs};
+pub use heard_completions::{DoneKey, Dones, write_done};
 pub use receiver::{HearStop, Receiver};

@@ -4,18 +4,18 @@ ghost use Rattle.section_codec.specs.declared.table.Key.{Key};
 ghost use Rattle.sub_collect.specs.Runs.{Counted};
 ghost use Rattle.sub_collect.specs.Completions.{dones};
 ghost use Rattle.sub_collect.specs.Collectors.{CollectorStandsFor};
-ghost use Rattle.guide_receiver.specs.declared.done.DoneKey.{DoneKey};
-ghost use Rattle.guide_receiver.specs.Counting.{counted_in, counted_among};
+ghost use Rattle.heard_completions.specs.declared.done.DoneKey.{DoneKey};
+ghost use Rattle.heard_completions.specs.Counting.{counted_in, counted_among};
 ghost use Rattle.guide_receiver.specs.Latest.{keys_shown, kept_keys, AreLatest};
-ghost use Rattle.guide_receiver.specs.Heard.{CountsAgain, ReceiverStandsFor, done_key, dones_by};
+ghost use Rattle.guide_receiver.specs.Heard.{CountsAgain, ReceiverStandsFor};
+ghost use Rattle.heard_completions.specs.Dones.{done_key, dones_by};
 ghost use Rattle.guide_receiver.specs.Guides.{guide_of};
 
 use crate::clock::clock_behind;
-use crate::counting::{CountedSection, counted_section};
-use crate::done::{DoneKey, Dones};
 use crate::known::KnownSections;
 use crate::latest_keys::LatestKeys;
 use guide_screen::{Heard, Latest, heard_guide};
+use heard_completions::{CountedSection, DoneKey, Dones, counted_section};
 use si_base::Items;
 use si_time::Moment;
 use std::alloc::{AllocError, Global};
@@ -31,9 +31,9 @@ pub enum HearStop {
     Memory,
 }
 
-/// A receiver of a transport stream. It stands for the packets that it heard, and keeps of each PID the section that is open, of
-/// each sub-table its present run of sections and its latest completion, the keys of PAT, NIT and SDTs that were completed last, and
-/// the last moment that it heard. It keeps its allocator.
+/// A receiver of a transport stream. It stands for the packets that it heard, and keeps of each PID the section that is open, the
+/// sections that counted last, of each sub-table its present run of sections and its latest completion, the keys of PAT, NIT and SDTs
+/// that were completed last, and the last moment that it heard. It keeps its allocator.
 #[derive(Drop)]
 pub struct Receiver {
     alloc: Global,

@@ -1,10 +1,9 @@
 -- What bodies say is what they are read as.
-use Rattle.std.proofs.Common.{◌≡◌, ℕ, zero, suc, ◌+◌, ◌*◌, ◌/◌, ◌%◌, ◌<◌, Bool, true, false, ◌&&◌, List, [], ◌∷◌, ◌++◌, length, take}
+use Rattle.std.proofs.Common.{◌≡◌, ℕ, zero, suc, ◌+◌, ◌*◌, ◌<◌, Bool, true, false, ◌&&◌, List, [], ◌∷◌, ◌++◌, length, take}
 use Rattle.std.proofs.Common.{drop, get_or-take, length-append, refl, sym, ap, ap₂, subst, ◌∙◌, arith, le-leb, map, Option, Some, None}
 use Rattle.std.specs.Prelude.{if◌then◌else◌, nat_le, is_some, option_map, option_and_then}
 use Rattle.std.specs.List.{flat_map, AllByRecursion}
-use Rattle.std.specs.Cmp.Derive.{both_true}
-use Rattle.std.proofs.lemmas.Bool.{cond-true, leb-true, eq-eqb}
+use Rattle.std.proofs.lemmas.Bool.{cond-true, leb-true}
 use Rattle.si_lists.proofs.Lists.{three_of, five_of}
 use Rattle.si_lists.proofs.Outcomes.{some_same}
 use Rattle.si_base.specs.Fields.{two, two_at}

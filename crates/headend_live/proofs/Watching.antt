@@ -1,6 +1,6 @@
 -- What is heard of the air of a run.
-use Rattle.std.proofs.Common.{◌≡◌, ◌≢◌, ℕ, ◌+◌, ◌/◌, Bool, true, false, List, [], ◌∷◌, ◌++◌, length, take, drop, map, flat_map, refl, sym, ap, ◌∙◌, subst, arith}
-use Rattle.std.specs.Prelude.{Option, Some, Ok, Err, Result, OnOk, OnErr}
+use Rattle.std.proofs.Common.{◌≡◌, ◌≢◌, ℕ, ◌+◌, ◌/◌, Bool, true, false, List, [], ◌∷◌, ◌++◌, length, take, drop, map, flat_map, refl, sym, ap, ◌∙◌, subst, arith, append-nil}
+use Rattle.std.specs.Prelude.{Option, Some, IfSome, Ok, Err, Result, OnOk, OnErr}
 use Rattle.std.specs.List.{AllByRecursion}
 use Rattle.std.proofs.lemmas.List.{take_all}
 use Rattle.std.proofs.Math.Seq.{take-append-add}
@@ -12,28 +12,26 @@ use Rattle.air_model.specs.Air.{Aired, IsAirOf, air, air_bytes}
 use Rattle.air_model.proofs.Airs.{air-whole, air_bytes-push}
 use Rattle.journal_model.specs.declared.step.Entry.{Entry}
 use Rattle.guide_receiver.specs.Heard.{Hearing}
+use Rattle.guide_receiver.specs.Guides.{guide_of}
+use Rattle.guide_screen.specs.declared.need.Heard.{Heard}
 use Rattle.headend_live.specs.declared.send.SendStop.{SendStop}
 use Rattle.headend_live.specs.declared.send.SendStop.TheVariants.{Air, Memory}
 use Rattle.air_monitor.specs.declared.done_line.DoneLine.{DoneLine}
-use Rattle.air_monitor.specs.Heard.{AreInSync, AreWhole, HasTaken, HearsBy, WasHeard, Watching, WatchedOn, joined, whole_packets}
+use Rattle.air_monitor.specs.Heard.{AreInSync, HasTaken, HearsBy, WasHeard, Watching, WatchedOn}
+use Rattle.ts_packets.specs.WholePackets.{AreWhole, whole_packets}
+use Rattle.ts_packets.specs.Packets.{joined}
 use Rattle.air_monitor.specs.Watches.{watched_at_once}
-use Rattle.air_monitor.proofs.Packets.{heard_front, told_taken, was_heard, whole_packets-front}
+use Rattle.air_monitor.proofs.Packets.{heard_front, told_taken, was_heard}
+use Rattle.ts_packets.proofs.WholePackets.{whole_packets-front}
 use Rattle.headend_live.specs.Live.{AirDid}
 use Rattle.headend_live.specs.Watched.{HeardOfAir, HeardWhole, watched_stop}
 use Rattle.headend_live.specs.declared.live.LiveStop.{LiveStop}
 use Rattle.headend_live.specs.declared.live.LiveStop.TheVariants as live
-
-packets_whole : (ps : List Packet) → AllByRecursion (λ (p : Packet). length (bytes_of_packet p) ≡ 188) ps → AreWhole (map bytes_of_packet ps)
-packets_whole [] all = tt
-packets_whole (p ∷ ps) all = (all.0, packets_whole ps all.1)
+use Rattle.air_coherence.proofs.Coherent.{packets_whole, packets_joined}
 
 packets_sync : (ps : List Packet) → AreInSync (map bytes_of_packet ps)
 packets_sync [] = tt
 packets_sync (p ∷ ps) = (refl, packets_sync ps)
-
-packets_joined : (ps : List Packet) → flat_map bytes_of_packet ps ≡ joined (map bytes_of_packet ps)
-packets_joined [] = refl
-packets_joined (p ∷ ps) = ap (λ t. bytes_of_packet p ++ t) (packets_joined ps)
 
 -- a front of an air was appended
 record FrontOfAir (before now : Option (List ℕ)) : Type 0 where
@@ -94,7 +92,18 @@ was_heard_by written is_same (Err e) m n has on same =
     (was_heard written (λ _ _. Unit {0}) m m has (watched_at_once written (λ _ _. Unit {0}) (λ _. tt) m))
 
 -- where the stop is no want of memory, the lines are exact
-pub heard_whole : (join : ℕ) (before now : Option (List ℕ)) (wanting : Bool) (receiver : Hearing) (dones : List DoneLine) (stop : Option LiveStop) → HeardOfAir join before now wanting receiver dones
-    → watched_stop wanting stop ≢ Some live.Memory → HeardWhole join before now receiver dones
-heard_whole join before now false receiver dones stop h other = record { taken = h.taken; gave = h.gave; stands = h.heard.0; lines = h.heard.1 }
-heard_whole join before now true receiver dones stop h other = absurd (other refl)
+pub heard_whole : (join : ℕ) (before now : Option (List ℕ)) (wanting : Bool) (receiver : Hearing) (dones : List DoneLine) (heard : Option Heard) (stop : Option LiveStop) → HeardOfAir join before now wanting receiver dones
+    → ((join : ℕ) (packets : List (List ℕ)) → HearsBy false join packets receiver dones → IfSome heard (λ (h : Heard). h ≡ guide_of packets))
+    → watched_stop wanting stop ≢ Some live.Memory → HeardWhole join before now receiver dones heard
+heard_whole join before now false receiver dones heard stop h guide other =
+    record { taken = h.taken; gave = h.gave; stands = h.heard.0; lines = h.heard.1; guide = guide join (drop join (whole_packets h.taken)) h.heard }
+heard_whole join before now true receiver dones heard stop h guide other = absurd (other refl)
+
+-- all completions are a front of them
+pub or_wanting : (join : ℕ) (before now : Option (List ℕ)) (was wanting : Bool) (receiver : Hearing) (dones : List DoneLine) → (was ≡ true → wanting ≡ true) → HeardOfAir join before now was receiver dones
+    → HeardOfAir join before now wanting receiver dones
+or_wanting join before now false false receiver dones more h = h
+or_wanting join before now true true receiver dones more h = h
+or_wanting join before now true false receiver dones more h = cc (more refl)
+or_wanting join before now false true receiver dones more h =
+    record { taken = h.taken; gave = h.gave; heard = ([], sym h.heard.1 ∙ sym (append-nil dones)) }

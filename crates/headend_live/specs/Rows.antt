@@ -14,7 +14,7 @@ use Rattle.journal_model.specs.declared.step.Outcome.TheVariants.{Published, Swa
 use Rattle.journal_model.specs.declared.step.Entry.{Entry}
 use Rattle.desk_core.specs.Publications.{swaps}
 use Rattle.headend_live.specs.Air.{airings}
-use Rattle.headend_live.specs.Screen.{screen_of}
+use Rattle.publication_screen.specs.Screen.{screen_of}
 
 abbrev news : MuxService
 news = record { service = 101; feed = 1; kind = 1; pmt_pid = 256; pcr_pid = 257; provider = codes "First"; name = codes "First"; components = [] }

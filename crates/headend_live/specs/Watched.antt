@@ -1,13 +1,16 @@
 -- A run whose air is heard.
-use Rattle.std.specs.Prelude.{◌≡◌, ◌≢◌, ℕ, Bool, true, false, List, drop, Option, Some, None, Result}
+use Rattle.std.specs.Prelude.{◌≡◌, ◌≢◌, ◌↔◌, ℕ, Bool, true, false, List, drop, Option, Some, None, IfSome, IsSome, Result}
 use Rattle.std.specs.Io.KnownBytes.{Appends}
 use Rattle.mux_model.specs.declared.mux.Mux.{Mux}
 use Rattle.si_causes.specs.Reading.{Reading}
 use Rattle.carousel_player.specs.Playing.{Playing}
 use Rattle.turn_lock.specs.Knowledge.{TableId}
 use Rattle.guide_receiver.specs.Heard.{Hearing, ReceiverStandsFor}
+use Rattle.guide_receiver.specs.Guides.{guide_of}
+use Rattle.guide_screen.specs.declared.need.Heard.{Heard}
 use Rattle.air_monitor.specs.declared.done_line.DoneLine.{DoneLine}
-use Rattle.air_monitor.specs.Heard.{HearsBy, lines_of_air, whole_packets}
+use Rattle.air_monitor.specs.Heard.{HearsBy, lines_of_air}
+use Rattle.ts_packets.specs.WholePackets.{whole_packets}
 use Rattle.headend_live.specs.declared.live.LiveStop.{LiveStop}
 use Rattle.headend_live.specs.declared.live.LiveStop.TheVariants as live
 use Rattle.headend_live.specs.declared.watched.LivePlan.{LivePlan}
@@ -18,6 +21,10 @@ use Rattle.headend_live.specs.Back.{lines_back}
 use Rattle.headend_live.specs.Callers.{HaveTheirCommands}
 use Rattle.headend_live.specs.Live.{LiveDid, and_stop, first_stop, run_stop}
 
+-- the guide that the whole packets of an air give, from packet `join` on
+abbrev pub guide_of_air : ℕ → List ℕ → Heard
+guide_of_air join bytes = guide_of (drop join (whole_packets bytes))
+
 -- The completions are those of the whole packets that the air took, from packet `join` on, and the receiver stands for these; where memory was
 -- wanting, the completions are a front of them.
 pub record HeardOfAir (join : ℕ) (before now : Option (List ℕ)) (wanting : Bool) (receiver : Hearing) (dones : List DoneLine) : Type 0 where
@@ -25,12 +32,13 @@ pub record HeardOfAir (join : ℕ) (before now : Option (List ℕ)) (wanting : B
   pub gave : Appends before now taken
   pub heard : HearsBy wanting join (drop join (whole_packets taken)) receiver dones
 
--- and exactly these
-pub record HeardWhole (join : ℕ) (before now : Option (List ℕ)) (receiver : Hearing) (dones : List DoneLine) : Type 0 where
+-- and exactly these; the guide, where it is told, is the one that these packets give
+pub record HeardWhole (join : ℕ) (before now : Option (List ℕ)) (receiver : Hearing) (dones : List DoneLine) (heard : Option Heard) : Type 0 where
   pub taken : List ℕ
   pub gave : Appends before now taken
   pub stands : ReceiverStandsFor (drop join (whole_packets taken)) receiver
   pub lines : dones ≡ lines_of_air join taken
+  pub guide : IfSome heard (λ (h : Heard). h ≡ guide_of_air join taken)
 
 -- the stop of a run, where want of memory for what was heard is one too
 abbrev pub wanting_stop : Bool → Option LiveStop
@@ -46,7 +54,8 @@ watched_stop wanting stop = and_stop (wanting_stop wanting) stop
 -- the journal is legal, has no other callers, and ends with the control's last turns, which are made where no job stopped (`did`). The
 -- air has the cycles of that journal, or a front of them. The stop is want of memory, whoever met it, or else the first in the order
 -- air, control, feeds by number. The readers are as the jobs left them, in the order of the feeds. Where the air tells its bytes, the
--- completions are those of its whole packets from one on, or a front of them where the stop is want of memory.
+-- completions are those of its whole packets from one on, or a front of them where the stop is want of memory. The guide is told exactly where
+-- there is no stop (`told`), and then is the one that these packets give (`whole`).
 pub record LiveRan {F S : Type 0} (left : F → Option (List ℕ)) (faults : F → ℕ) (is_same : F → F → Type 0) (leftS : S → Option (List ℕ)) (faultsS : S → ℕ) (is_sameS : S → S → Type 0)
     (mux : Mux) (plan : LivePlan) (feeds : List (Reading F)) (control : Reading S) (before now : Option (List ℕ)) (faults_before faults_now : ℕ) (end : LiveEnd F S) : Type 0 where
   pub mux_is : end.desk.mux ≡ mux
@@ -62,4 +71,5 @@ pub record LiveRan {F S : Type 0} (left : F → Option (List ℕ)) (faults : F �
   pub receiver : Hearing
   pub stop_is : end.stop ≡ watched_stop wanting (run_stop sent did.control.stop (first_stop did.feeds))
   pub heard : (bytes : List ℕ) → before ≡ Some bytes → HeardOfAir plan.join before now wanting receiver end.dones
-  pub whole : (bytes : List ℕ) → before ≡ Some bytes → end.stop ≢ Some live.Memory → HeardWhole plan.join before now receiver end.dones
+  pub whole : (bytes : List ℕ) → before ≡ Some bytes → end.stop ≢ Some live.Memory → HeardWhole plan.join before now receiver end.dones end.heard
+  pub told : IsSome end.heard ↔ (end.stop ≡ None)

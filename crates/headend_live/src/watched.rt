@@ -1,11 +1,12 @@
 // A run of feeds, control and player, whose air is heard.
-ghost use Rattle.std.specs.Prelude.{◌≡◌, ◌≤◌, OnErr, IfOk, [], length};
+ghost use Rattle.std.specs.Prelude.{◌≡◌, ◌≤◌, ◌↔◌, Bool, true, false, List, ℕ, Option, None, Some, OnErr, IfOk, IfSome, IsSome, [], length};
 ghost use Rattle.mux_model.specs.Sound.{IsSound, IsSoundWithIds};
 ghost use Rattle.air_coherence.specs.Coherence.{SentCoherent};
 ghost use Rattle.headend_live.specs.Air.{airings};
 ghost use Rattle.headend_live.specs.Laws.{HasTypedEdits};
 ghost use Rattle.headend_live.specs.OnAir.{HasAirCause};
-ghost use Rattle.air_monitor.specs.Heard.{HasTaken, WasHeard};
+ghost use Rattle.guide_receiver.specs.Guides.{guide_of};
+ghost use Rattle.air_monitor.specs.Heard.{HasTaken, HearsBy, WasHeard};
 ghost use Rattle.headend_live.specs.Callers.{HasRun};
 ghost use Rattle.headend_live.specs.Watched.{LiveRan, wanting_stop, watched_stop};
 ghost use Rattle.headend_live.specs.Live.{run_stop};
@@ -13,6 +14,7 @@ ghost use Rattle.headend_live.specs.Live.{run_stop};
 use crate::live::{Ended, LiveStop, and_stop, run_hall};
 use air_monitor::{DoneLines, Monitor, MonitorLog};
 use desk_core::Desk;
+use guide_receiver::Heard;
 use mux_model::Mux;
 use si_causes::{Gate, LineReader, Sink, Source};
 use std::alloc::{AllocError, Global};
@@ -29,12 +31,13 @@ pub struct LivePlan {
 /// The readers of the feeds, in the order of their numbers.
 pub type Readers<F> = Vec<LineReader<F>>;
 
-/// What a run leaves: the desk with its journal, the completions that were heard, why it stopped, and the readers as its jobs left
-/// them.
+/// What a run leaves: the desk with its journal, the completions that were heard, the guide that was heard where nothing stopped it, why
+/// it stopped, and the readers as its jobs left them.
 #[derive(Drop)]
 pub struct LiveEnd<F: Source, S: Source> {
     pub desk: Desk,
     pub dones: DoneLines,
+    pub heard: Option<Heard>,
     pub stop: Option<LiveStop>,
     pub feeds: Readers<F>,
     pub control: LineReader<S>,
@@ -53,6 +56,32 @@ fn wanting_stop(wanting: bool) -> Option<LiveStop>
     match wanting {
         true => Some(LiveStop::Memory),
         false => None,
+    }
+}
+
+// The guide that was heard, where nothing stopped the run.
+fn guide_unless(stop: Option<LiveStop>, log: &MonitorLog) -> Result<Option<Heard>, AllocError>
+    ensures there { IfOk result (λ heard. IsSome heard ↔ (stop ≡ None)) }
+    ensures guide { (join : ℕ) (packets : List (List ℕ)) → HearsBy false join packets log.now.receiver log.now.dones
+        → IfOk result (λ heard. IfSome heard (λ h. h ≡ guide_of packets)) }
+{
+    match stop {
+        None => Ok(Some(log.guide()?)),
+        Some(_) => Ok(None),
+    }
+}
+
+// The guide and the stop of a run, where want of memory for the guide is a stop too.
+fn guide_and_stop(log: &MonitorLog, stop: Option<LiveStop>) -> (Option<Heard>, Option<LiveStop>)
+    ensures stop { (wanting : Bool) × (log.now.wanting ≡ true → wanting ≡ true) × (result.1 ≡ watched_stop wanting stop) }
+    ensures there { IsSome result.0 ↔ (result.1 ≡ None) }
+    ensures guide { (join : ℕ) (packets : List (List ℕ)) → HearsBy false join packets log.now.receiver log.now.dones
+        → IfSome result.0 (λ h. h ≡ guide_of packets) }
+{
+    let stop = watched_stop(log.wanting, stop);
+    match guide_unless(stop, log) {
+        Ok(heard) => (heard, stop),
+        Err(_) => (None, Some(LiveStop::Memory)),
     }
 }
 
@@ -132,7 +161,8 @@ fn run_and_hear<
 /// Runs feeds, control and player side by side over a fresh desk, in threads where they can be had: the control is caller 0, the
 /// player caller 1, and feed f caller f + 1. The player makes its swaps, each followed by its whole cycle; the others do the lines
 /// that their readers still have. A job that meets a fault ends, and the others go on. Where none met one, caller 0 then publishes,
-/// swaps, and swaps again, with a cycle behind each swap. The packets of the air are heard from packet `plan.join` on.
+/// swaps, and swaps again, with a cycle behind each swap. The packets of the air are heard from packet `plan.join` on; where nothing
+/// stopped the run, the guide of these packets is told.
 ///
 /// `AllocError` is want of memory before any job has started, and leaves the air as it was.
 pub fn run_live<
@@ -172,10 +202,11 @@ pub fn run_live<
     );
     match end {
         Ok(end) => {
-            let stop = watched_stop(heard.wanting, end.stop);
+            let (guide, stop) = guide_and_stop(&heard, end.stop);
             Ok(LiveEnd {
                 desk: end.desk,
                 dones: heard.dones,
+                heard: guide,
                 stop,
                 feeds: end.feeds,
                 control: end.lines,

@@ -1,7 +1,5 @@
-// A run with events on air: what `play` sends of them, and what `listen` hears.
-use crate::hearing::tells;
+// A run with events on air: what `play` sends of them.
 use crate::runs::{air_of, spelled};
-use epg_cli::Status;
 use std::test::Fail;
 
 // An event now, the next one, and one on the ninth day; they are on air when the next one is now already. Then that is published, and
@@ -56,25 +54,11 @@ const PACKETS: &str = "\
 47 40 12 11 00 52 F0 26 00 65 C1 00 00 00 01 00 01 00 52 00 03 C0 81 00 00 00 01 30 00 00 0B 4D 09 65 6E 67 04 46 69 6C 6D 00 56 E4 8E 8E FF*142
 ";
 
-// What is heard of them: each table once, and then present and following again, with the next version.
-const DONE: &str = "\
-done\t0\t0\t0\t1\t0\t0\t0
-done\t1\t256\t2\t101\t0\t0\t0
-done\t2\t16\t64\t40\t0\t0\t0
-done\t3\t17\t66\t1\t0\t1\t0
-done\t6\t18\t78\t101\t1\t1\t0
-done\t11\t18\t80\t101\t1\t1\t0
-done\t12\t18\t81\t101\t1\t1\t0
-done\t13\t18\t82\t101\t1\t1\t0
-done\t20\t18\t78\t101\t1\t1\t1
-";
-
-// These packets are the whole air of this script, and these lines all that is heard of it.
+// These packets are the whole air of this script.
 #[test]
-fn events_are_sent_and_heard(rt: HostRuntime) -> Result<(), Fail> {
+fn events_are_sent(rt: HostRuntime) -> Result<(), Fail> {
     let air = air_of(&rt, rt.alloc(), SCRIPT)?;
     let packets = spelled(rt.alloc(), PACKETS)?;
     assert!(rt; air.as_slice() == packets.as_slice());
-    assert!(rt; tells(&rt, rt.alloc(), &air, DONE, Status::Done, "end\n")?);
     Ok(())
 }

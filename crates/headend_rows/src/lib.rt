@@ -12,8 +12,6 @@ mod failing;
 #[cfg(test)]
 mod faults;
 #[cfg(test)]
-mod hearing;
-#[cfg(test)]
 mod journals;
 #[cfg(test)]
 mod order;

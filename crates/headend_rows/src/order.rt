@@ -109,6 +109,15 @@ const REPORTED: &[usize] = &[
     175, 175, 175, 175, 175,
 ];
 
+// What is reported behind them.
+const GUIDE: &str = "\
+clock\t1970-01-01T00:00:00Z
+network\t40\tDemo
+stream\t1\t1
+service\t101\t1\tAcme\tNews 2\t256\t257
+end
+";
+
 // Whether `listen` reports the completions of each of these packets before it reads the next one.
 fn reports_before_it_reads(alloc: Global, packets: &[&[u8]]) -> bool {
     let taken = Cell::new(0);
@@ -124,7 +133,7 @@ fn reports_before_it_reads(alloc: Global, packets: &[&[u8]]) -> bool {
     status == Status::Done
         && input.agrees
         && input.reads == REPORTED.len()
-        && taken.get() == 175 + 4
+        && taken.get() == 175 + GUIDE.len()
 }
 
 // The same of the air of three swaps, each of a new name.

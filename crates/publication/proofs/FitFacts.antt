@@ -14,8 +14,8 @@ use Rattle.mux_model.specs.Sound.{IsSoundService, DoAscend}
 use Rattle.guide_limits.specs.Events.{midnight, block_of}
 use Rattle.guide_limits.specs.Sound.{AreAscending}
 use Rattle.guide_limits.specs.Limits.{IsServiceWithin, IsGuideWithin}
-use Rattle.guide_limits.specs.Runs.{longest_runs}
-use Rattle.guide_limits.proofs.RunFacts.{runs_some, runs_fit}
+use Rattle.longest_runs.specs.Runs.{longest_runs}
+use Rattle.longest_runs.proofs.RunFacts.{runs_some, runs_fit}
 use Rattle.section_codec.specs.declared.table.Key.{Key}
 use Rattle.section_codec.specs.declared.table.NumberedBody.{NumberedBody}
 use Rattle.section_codec.specs.declared.table.SubTable.{SubTable}

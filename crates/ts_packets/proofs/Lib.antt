@@ -3,3 +3,4 @@ pub mod Carrying
 pub mod Headers
 pub mod Stamps
 pub mod Joined
+pub mod WholePackets

@@ -3,3 +3,4 @@ pub mod Bytes
 pub mod Counting
 pub mod Laws
 pub mod Rows
+pub mod WholePackets

@@ -63,6 +63,7 @@ impl VersionBook {
         ensures stands { OnOk result ((past : List Airing) (moment : ℕ) (form : CycleForm) → BookStandsFor past self.old
             → BookStandsFor (past ++ aired tables.now.list moment form ∷ []) self.new) }
         ensures small { IfOk result (λ versions. All (λ v. v < 32) versions) }
+        ensures each { IfOk result (λ versions. length versions ≡ length tables.now.list) }
         ensures memory { OnErr result (self.new ≡ self.old) }
     {
         let tables = tables.list.as_slice();

@@ -2,8 +2,9 @@ use Rattle.std.proofs.Common.{◌≡◌, suc, ◌++◌, ◌∷◌, [], List, ℕ
 use Rattle.std.specs.Prelude.{Ok, Err}
 use Rattle.packet_reader.specs.Recordings.{packets_in}
 use Rattle.packet_reader.specs.Reading.{room}
-use Rattle.guide_receiver.specs.Heard.{ReceiverStandsFor, at_packet, dones_by}
-use Rattle.guide_receiver.specs.Texts.{done_lines}
+use Rattle.guide_receiver.specs.Heard.{ReceiverStandsFor}
+use Rattle.heard_completions.specs.Dones.{at_packet, dones_by}
+use Rattle.heard_completions.specs.Texts.{done_lines}
 use Rattle.si_causes.proofs.CauseFacts.{Appends-nothing}
 use Rattle.epg_cli.specs.Listen.{ReportsLines}
 use Rattle.epg_cli.proofs.ListenFacts.{HasParted, start_parted, parted_recording, more_parted, given_packet, reported_more, heard_line, heard_end, heard_stop, no_read_cause}
@@ -55,7 +56,7 @@ returns-in-Err-hear_packet-clause-heard g c = λ bytes tells.
     let t = i.told bytes tells in
     let given = given_packet g.S.Source.left c.loop-number.packets c.next.new.self (packets_in (room c.loop-number.packets) t.2) c.in-Ok-Some.number ((rw c.in-Ok-Some.field-0-is at c.in-Ok-Some.ensures.packets) i.going t.2 t.3) in
     let number : c.in-Ok-Some.number ≡ length t.0 = counts.0 ∙ t.6 in
-    heard_line c.in-Err-hear_packet.stop bytes (g.S.Source.left c.next.new.self.source) (packets_in (room c.loop-number.packets) t.2) (packets_in (room c.next.new.self) given.0) t.0 packet c.in-Ok-Some.number
+    heard_line c.in-Err-hear_packet.stop bytes (g.S.Source.left c.next.new.self.source) c.hear_packet.new.receiver (packets_in (room c.loop-number.packets) t.2) (packets_in (room c.next.new.self) given.0) t.0 packet c.in-Ok-Some.number
     (g.R.Sink.written c.args.report.now) (g.R.Sink.written c.loop-number.report) (g.R.Sink.written c.hear_packet.new.report) (parted_recording bytes t.1 t.2 t.0 (room c.loop-number.packets) t.4) given.2 number t.7
     (subst (λ (p : List ℕ). ReportsLines (g.R.Sink.written c.loop-number.report) (g.R.Sink.written c.hear_packet.new.report) (done_lines (map (at_packet c.in-Ok-Some.number) (dones_by t.0 p))) (Err c.in-Err-hear_packet.stop))
     c.packet.ensures (c.in-Err-hear_packet.ensures.reports t.0 t.5))
@@ -64,14 +65,14 @@ pub returns-in-Ok-None-clause-heard : goal.returns-in-Ok-None-clause-heard
 returns-in-Ok-None-clause-heard g c = λ bytes tells.
     let i = c.loop-number.invariant in
     let t = i.told bytes tells in
-    heard_end g.S.Source.left c.loop-number.packets c.next.new.self bytes (packets_in (room c.loop-number.packets) t.2) t.0 (g.R.Sink.written c.args.report.now) (g.R.Sink.written c.loop-number.report)
-    (parted_recording bytes t.1 t.2 t.0 (room c.loop-number.packets) t.4) ((rw c.in-Ok-None.field-0-is at c.in-Ok-None.ensures.packets) i.going t.2 t.3) t.7
+    heard_end g.S.Source.left c.loop-number.packets c.next.new.self bytes (packets_in (room c.loop-number.packets) t.2) t.0 c.loop-number.receiver (g.R.Sink.written c.args.report.now) (g.R.Sink.written c.loop-number.report)
+    (parted_recording bytes t.1 t.2 t.0 (room c.loop-number.packets) t.4) ((rw c.in-Ok-None.field-0-is at c.in-Ok-None.ensures.packets) i.going t.2 t.3) t.7 t.5
 
 pub returns-in-Err-clause-heard : goal.returns-in-Err-clause-heard
 returns-in-Err-clause-heard g c = λ bytes tells.
     let i = c.loop-number.invariant in
     let t = i.told bytes tells in
-    heard_stop g.S.Source.left c.loop-number.packets c.next.new.self c.in-Err.stop bytes t.1 t.2 t.0 (g.R.Sink.written c.args.report.now) (g.R.Sink.written c.loop-number.report)
+    heard_stop g.S.Source.left c.loop-number.packets c.next.new.self c.in-Err.stop bytes t.1 t.2 t.0 c.loop-number.receiver (g.R.Sink.written c.args.report.now) (g.R.Sink.written c.loop-number.report)
     t.3 t.4 t.6 (c.in-Err.ensures.packets i.going t.2 t.3) (c.in-Err.ensures.takes i.going) (c.in-Err.ensures.counts i.going) t.7
 
 pub returns-in-Err-hear_packet-clause-read_cause : goal.returns-in-Err-hear_packet-clause-read_cause

@@ -1,6 +1,6 @@
 use Rattle.std.proofs.Common.{◌≡◌, map, take}
-use Rattle.guide_receiver.specs.Heard.{at_packet}
-use Rattle.guide_receiver.specs.Texts.{done_lines}
+use Rattle.heard_completions.specs.Dones.{at_packet}
+use Rattle.heard_completions.specs.Texts.{done_lines}
 use Rattle.epg_cli.proofs.listen.lines_of.Given as goal
 
 abbrev pub invariant-loop-done : goal.invariant-loop-done

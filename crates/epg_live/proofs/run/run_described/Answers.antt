@@ -24,11 +24,11 @@ returns-in-Err-clause-met g c = λ text tells files known.
     let air = g.A.Sink.written c.args.air.now in
     let faults = g.O.Opener.read_faults c.args.opener.now in
     let journal = entries_of c.args.run.now.desk in
-    let met = not_described g.S.Source.left g.S.Source.faults old mid old.source text air air journal c.args.run.now.dones c.in-Err.stop unread tells
-    (c.in-Err.ensures.block going text (unread_told g.S.Source.left g.S.Source.faults old old.source text unread tells)) (c.in-Err.ensures.came going) (ap entries_of c.requires.blank.desk) c.requires.blank.dones refl in
-    subst (λ (s : Status). HasMet paths c.args.words.now.cycles c.args.words.now.join text files (g.S.Source.left c.close.result) faults faults air air journal c.args.run.now.dones s) (sym c.mux_status-run.ensures.value)
-    (subst (λ s. HasMet paths c.args.words.now.cycles c.args.words.now.join text files (g.S.Source.left s) faults faults air air journal c.args.run.now.dones (mux_status c.in-Err.stop)) (sym c.close.ensures)
-    (as_met paths c.args.words.now.cycles c.args.words.now.join text files (g.S.Source.left mid.source) faults faults air air journal c.args.run.now.dones (mux_status c.in-Err.stop) met))
+    let met = not_described g.S.Source.left g.S.Source.faults old mid old.source text air air journal c.args.run.now.heard c.in-Err.stop unread tells
+    (c.in-Err.ensures.block going text (unread_told g.S.Source.left g.S.Source.faults old old.source text unread tells)) (c.in-Err.ensures.came going) (ap entries_of c.requires.blank.desk) c.requires.blank.heard refl in
+    subst (λ (s : Status). HasMet paths c.args.words.now.cycles c.args.words.now.join text files (g.S.Source.left c.close.result) faults faults air air journal c.args.run.now.heard s) (sym c.mux_status-run.ensures.value)
+    (subst (λ s. HasMet paths c.args.words.now.cycles c.args.words.now.join text files (g.S.Source.left s) faults faults air air journal c.args.run.now.heard (mux_status c.in-Err.stop)) (sym c.close.ensures)
+    (as_met paths c.args.words.now.cycles c.args.words.now.join text files (g.S.Source.left mid.source) faults faults air air journal c.args.run.now.heard (mux_status c.in-Err.stop) met))
 
 pub returns-in-Err-clause-cause : goal.returns-in-Err-clause-cause
 returns-in-Err-clause-cause g c =
@@ -67,9 +67,9 @@ returns-in-Err-open_feeds-clause-met g c = λ text tells files known.
     let air = g.A.Sink.written c.args.air.now in
     let journal = entries_of c.args.run.now.desk in
     let d = is_described g.S.Source.left g.S.Source.faults old mid old.source text c.in-Ok.mux unread (c.in-Ok.ensures.block going text (unread_told g.S.Source.left g.S.Source.faults old old.source text unread tells)) in
-    subst (λ (s : Status). HasMet paths c.args.words.now.cycles c.args.words.now.join text files (g.S.Source.left c.close-in-Err-open_feeds.result) (g.O.Opener.read_faults c.args.opener.now) (g.O.Opener.read_faults c.open_feeds.new.opener) air air journal c.args.run.now.dones s) (sym c.open_status-run.ensures.value)
-    (as_met paths c.args.words.now.cycles c.args.words.now.join text files (g.S.Source.left c.close-in-Err-open_feeds.result) (g.O.Opener.read_faults c.args.opener.now) (g.O.Opener.read_faults c.open_feeds.new.opener) air air journal c.args.run.now.dones (open_status c.in-Err-open_feeds.stop)
-    (not_opened text (g.S.Source.left c.close-in-Err-open_feeds.result) air air journal c.args.run.now.dones c.in-Err-open_feeds.stop c.in-Ok.mux d.2.0 d.2.1 (ap entries_of c.requires.blank.desk) c.requires.blank.dones refl))
+    subst (λ (s : Status). HasMet paths c.args.words.now.cycles c.args.words.now.join text files (g.S.Source.left c.close-in-Err-open_feeds.result) (g.O.Opener.read_faults c.args.opener.now) (g.O.Opener.read_faults c.open_feeds.new.opener) air air journal c.args.run.now.heard s) (sym c.open_status-run.ensures.value)
+    (as_met paths c.args.words.now.cycles c.args.words.now.join text files (g.S.Source.left c.close-in-Err-open_feeds.result) (g.O.Opener.read_faults c.args.opener.now) (g.O.Opener.read_faults c.open_feeds.new.opener) air air journal c.args.run.now.heard (open_status c.in-Err-open_feeds.stop)
+    (not_opened text (g.S.Source.left c.close-in-Err-open_feeds.result) air air journal c.args.run.now.heard c.in-Err-open_feeds.stop c.in-Ok.mux d.2.0 d.2.1 (ap entries_of c.requires.blank.desk) c.requires.blank.heard refl))
 
 -- ---- jobs ran
 
@@ -96,7 +96,7 @@ returns-clause-met g c = λ text tells files known.
     subst (λ (o : Option Files). AreOpened g.O.From.Source.left g.O.From.Source.faults o (texts items) feeds) (sym c.open_feeds.ensures.files)
     (subst (λ l. AreOpened g.O.From.Source.left g.O.From.Source.faults (g.O.Opener.files c.args.opener.now) (texts l) feeds) c.deref.ensures.value c.in-Ok-open_feeds.ensures.opened) in
     ran_met g.S.Source.left c.run_jobs.result (texts items) c.args.words.now.cycles c.args.words.now.join text files (g.O.Opener.read_faults c.args.opener.now) (g.O.Opener.read_faults c.open_feeds.new.opener) (g.O.Opener.read_faults c.run_jobs.new.opener)
-    (g.A.Sink.written c.args.air.now) (g.A.Sink.written c.run_jobs.new.air) (entries_of c.run_jobs.new.run.desk) c.run_jobs.new.run.dones c.run_jobs.new.run.met c.open_feeds.ensures.read_faults
+    (g.A.Sink.written c.args.air.now) (g.A.Sink.written c.run_jobs.new.air) (entries_of c.run_jobs.new.run.desk) c.run_jobs.new.run.heard c.run_jobs.new.run.met c.open_feeds.ensures.read_faults
     (c.run_jobs.ensures.ran (texts items) opened text read files (c.open_feeds.ensures.files ∙ known))
 
 pub returns-clause-asked : goal.returns-clause-asked

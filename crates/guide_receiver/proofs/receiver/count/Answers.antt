@@ -5,10 +5,10 @@ use Rattle.sub_collect.specs.Runs.{Counted, counted}
 use Rattle.sub_collect.specs.Completions.{dones}
 use Rattle.sub_collect.specs.Collectors.{CollectorStandsFor}
 use Rattle.sub_collect.specs.declared.completed.Completed.{Completed}
-use Rattle.guide_receiver.specs.Counting.{counted_in}
-use Rattle.guide_receiver.specs.Heard.{done_key}
-use Rattle.guide_receiver.specs.declared.counting.CountedSection.{CountedSection}
-use Rattle.guide_receiver.proofs.Shown.{one_shown}
+use Rattle.heard_completions.specs.Counting.{counted_in}
+use Rattle.heard_completions.specs.Dones.{done_key}
+use Rattle.heard_completions.specs.declared.counting.CountedSection.{CountedSection}
+use Rattle.heard_completions.proofs.Shown.{one_shown}
 use Rattle.guide_receiver.proofs.receiver.count.Goals as goal
 
 pub returns-then-is_held-clause-done : goal.returns-then-is_held-clause-done

@@ -4,11 +4,11 @@ use Rattle.std.proofs.lemmas.List.{take_all}
 use Rattle.ts_demux.specs.declared.section.RawSection.{RawSection}
 use Rattle.sub_collect.specs.Completions.{dones}
 use Rattle.sub_collect.specs.Collectors.{CollectorStandsFor}
-use Rattle.guide_receiver.specs.Counting.{counted_in, counted_among}
-use Rattle.guide_receiver.specs.declared.done.DoneKey.{DoneKey}
+use Rattle.heard_completions.specs.Counting.{counted_in, counted_among}
+use Rattle.heard_completions.specs.declared.done.DoneKey.{DoneKey}
 use Rattle.guide_receiver.specs.Latest.{keys_shown, kept_keys, AreLatest}
-use Rattle.guide_receiver.specs.Heard.{done_key}
-use Rattle.guide_receiver.proofs.Shown.{among-next, more_shown}
+use Rattle.heard_completions.specs.Dones.{done_key}
+use Rattle.heard_completions.proofs.Shown.{among-next, more_shown}
 use Rattle.guide_receiver.proofs.Latest.{keys-more}
 use Rattle.guide_receiver.proofs.receiver.count_all.Goals as goal
 

@@ -2,9 +2,9 @@ use Rattle.std.proofs.Common.{◌≡◌, ◌++◌, List, map, take}
 use Rattle.sub_collect.specs.Runs.{Counted}
 use Rattle.sub_collect.specs.Completions.{dones}
 use Rattle.sub_collect.specs.Collectors.{CollectorStandsFor}
-use Rattle.guide_receiver.specs.Counting.{counted_among}
+use Rattle.heard_completions.specs.Counting.{counted_among}
 use Rattle.guide_receiver.specs.Latest.{keys_shown, kept_keys, AreLatest}
-use Rattle.guide_receiver.specs.Heard.{done_key}
+use Rattle.heard_completions.specs.Dones.{done_key}
 use Rattle.guide_receiver.proofs.receiver.count_all.Given as goal
 
 abbrev pub invariant-loop-section : goal.invariant-loop-section

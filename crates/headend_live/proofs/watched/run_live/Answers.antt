@@ -1,9 +1,10 @@
-use Rattle.std.proofs.Common.{◌∙◌, ap}
+use Rattle.std.proofs.Common.{◌≡◌, ℕ, List, ◌∙◌, ap}
+use Rattle.std.specs.Prelude.{Some}
 use Rattle.headend_live.specs.Live.{run_stop}
-use Rattle.headend_live.specs.Watched.{watched_stop}
+use Rattle.headend_live.specs.Watched.{HeardOfAir, watched_stop}
 use Rattle.headend_live.proofs.CarryFacts.{airings_heard}
 use Rattle.headend_live.proofs.Coherent.{air_coherent}
-use Rattle.headend_live.proofs.Watching.{heard_of_air, heard_whole}
+use Rattle.headend_live.proofs.Watching.{heard_of_air, heard_whole, or_wanting}
 use Rattle.headend_live.proofs.watched.run_live.Goals as goal
 
 pub returns-in-Ok-clause-ran : goal.returns-in-Ok-clause-ran
@@ -12,6 +13,10 @@ returns-in-Ok-clause-ran g c =
     let end = c.in-Ok.end in
     let did = rw c.in-Ok.is at ran.ensures.did in
     let stop = rw c.in-Ok.is at ran.ensures.stop in
+    let stopped = c.guide_and_stop-guide.ensures.stop in
+    let heard : (bytes : List ℕ) → g.A.Sink.written c.args.air.now ≡ Some bytes → HeardOfAir c.args.plan.join (g.A.Sink.written c.args.air.now) (g.A.Sink.written ran.new.air) stopped.0 ran.result.heard.receiver ran.result.heard.dones =
+    (λ bytes told. or_wanting c.args.plan.join (g.A.Sink.written c.args.air.now) (g.A.Sink.written ran.new.air) ran.result.heard.wanting stopped.0 ran.result.heard.receiver ran.result.heard.dones stopped.1
+    (heard_of_air c.args.mux end.desk.entries c.args.plan.join (g.A.Sink.written c.args.air.now) (g.A.Sink.written ran.new.air) end.sent ran.result.heard.wanting ran.result.heard.receiver ran.result.heard.dones bytes told did.2.air ran.ensures.heard)) in
     record {
       mux_is = rw c.in-Ok.is at ran.ensures.mux;
       turns = did.0;
@@ -22,13 +27,13 @@ returns-in-Ok-clause-ran g c =
       feeds_are = did.4;
       control_is = did.5;
       cause = rw c.in-Ok.is at ran.ensures.cause;
-      wanting = ran.result.heard.wanting;
+      wanting = stopped.0;
       receiver = ran.result.heard.receiver;
-      stop_is = c.watched_stop-stop.ensures ∙ ap (watched_stop ran.result.heard.wanting) (stop ∙ ap (λ o. run_stop end.sent o end.feed) did.6 ∙ ap (run_stop end.sent did.2.control.stop) did.7);
-      heard = λ bytes told. heard_of_air c.args.mux end.desk.entries c.args.plan.join (g.A.Sink.written c.args.air.now) (g.A.Sink.written ran.new.air) end.sent ran.result.heard.wanting ran.result.heard.receiver ran.result.heard.dones bytes told did.2.air ran.ensures.heard;
-      whole = λ bytes told other. heard_whole c.args.plan.join (g.A.Sink.written c.args.air.now) (g.A.Sink.written ran.new.air) ran.result.heard.wanting ran.result.heard.receiver ran.result.heard.dones end.stop
-          (heard_of_air c.args.mux end.desk.entries c.args.plan.join (g.A.Sink.written c.args.air.now) (g.A.Sink.written ran.new.air) end.sent ran.result.heard.wanting ran.result.heard.receiver ran.result.heard.dones bytes told did.2.air ran.ensures.heard)
-          (λ is. other (c.watched_stop-stop.ensures ∙ is));
+      stop_is = stopped.2 ∙ ap (watched_stop stopped.0) (stop ∙ ap (λ o. run_stop end.sent o end.feed) did.6 ∙ ap (run_stop end.sent did.2.control.stop) did.7);
+      heard = λ bytes told. heard bytes told;
+      whole = λ bytes told other. heard_whole c.args.plan.join (g.A.Sink.written c.args.air.now) (g.A.Sink.written ran.new.air) stopped.0 ran.result.heard.receiver ran.result.heard.dones _ end.stop
+          (heard bytes told) c.guide_and_stop-guide.ensures.guide (λ is. other (stopped.2 ∙ is));
+      told = c.guide_and_stop-guide.ensures.there;
     }
 
 pub returns-in-Ok-clause-coherent : goal.returns-in-Ok-clause-coherent

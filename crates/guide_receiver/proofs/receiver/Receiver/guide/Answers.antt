@@ -1,5 +1,6 @@
 use Rattle.std.proofs.Common.{refl, subst, sym}
-use Rattle.guide_receiver.specs.Heard.{ReceiverStandsFor, counted_heard}
+use Rattle.guide_receiver.specs.Heard.{ReceiverStandsFor}
+use Rattle.heard_completions.specs.Dones.{counted_heard}
 use Rattle.guide_receiver.specs.Guides.{view_of}
 use Rattle.guide_receiver.proofs.Latest.{sdt-kept}
 use Rattle.guide_receiver.proofs.receiver.Receiver.guide.Goals as goal

@@ -4,10 +4,11 @@ use Rattle.ts_demux.specs.Sections.{ended_by, heard_all}
 use Rattle.sub_collect.specs.Runs.{Counted}
 use Rattle.sub_collect.specs.Completions.{dones}
 use Rattle.sub_collect.specs.Collectors.{CollectorStandsFor}
-use Rattle.guide_receiver.specs.Counting.{counted_among}
+use Rattle.heard_completions.specs.Counting.{counted_among}
 use Rattle.guide_receiver.specs.Latest.{keys_shown, kept_keys, AreLatest, IsClock}
-use Rattle.guide_receiver.specs.Heard.{ReceiverStandsFor, counted_heard, done_key}
-use Rattle.guide_receiver.proofs.Shown.{counted-push, heard-push}
+use Rattle.guide_receiver.specs.Heard.{ReceiverStandsFor}
+use Rattle.heard_completions.specs.Dones.{counted_heard, done_key}
+use Rattle.heard_completions.proofs.Shown.{counted-push, heard-push}
 use Rattle.guide_receiver.proofs.receiver.Receiver.hear.Goals as goal
 
 pub returns-clause-dones : goal.returns-clause-dones

@@ -1,4 +1,5 @@
-use Rattle.std.proofs.Common.{◌≡◌, List, Option, map, option_map, ap, sym, ◌∙◌}
+use Rattle.std.proofs.Common.{◌≡◌, List, Option, map, option_map, length, ap, sym, ◌∙◌}
+use Rattle.std.proofs.lemmas.List.{length-map}
 use Rattle.section_codec.specs.declared.table.Key.{Key}
 use Rattle.section_codec.specs.declared.table.SubTable.{SubTable}
 use Rattle.version_book.specs.Airings.{carried}
@@ -8,6 +9,11 @@ use Rattle.version_book.specs.declared.key_version.KeyVersion.{KeyVersion}
 use Rattle.version_book.proofs.SlotFacts.{kept_in-shown}
 use Rattle.version_book.proofs.Airs.{versions-airing, given_after-airing, kept_after-airing}
 use Rattle.version_book.proofs.book.VersionBook.assign.Goals as goal
+
+pub returns-clause-each : goal.returns-clause-each
+returns-clause-each c =
+    let slots = c.self.inside.slots in
+    ap length (c.of.ensures ∙ c.in_ok-versions.ensures.versions) ∙ length-map _ (version_given slots) ∙ ap length c.as_slice-tables.ensures
 
 pub returns-clause-versions : goal.returns-clause-versions
 returns-clause-versions c = λ past moment form stands.

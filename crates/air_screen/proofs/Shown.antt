@@ -1,0 +1,143 @@
+-- What is published is shown.
+use Rattle.std.proofs.Common.{◌≡◌, ℕ, ◌<◌, List, [], ◌∷◌, ◌++◌, true, false, Option, Some, None, length, map, refl, sym, ap, ◌∙◌, subst, append_assoc, eq-eqb}
+use Rattle.std.specs.Prelude.{◌*◌, slice_range, IsSome}
+use Rattle.std.specs.List.{AllByRecursion}
+use Rattle.si_lists.proofs.Lists.{all_two}
+use Rattle.guide_model.specs.declared.guide.Guide.{Guide}
+use Rattle.mux_model.specs.declared.mux.Mux.{Mux}
+use Rattle.mux_model.specs.Sound.{IsSoundWithIds}
+use Rattle.section_codec.specs.declared.table.Key.{Key}
+use Rattle.section_codec.specs.declared.table.SubTable.{SubTable}
+use Rattle.section_codec.specs.Contents.{Content}
+use Rattle.version_book.specs.Airings.{Airing, content_at, content_in}
+use Rattle.version_book.proofs.Airs.{AreOwn-all}
+use Rattle.ts_packets.specs.Bytes.{bytes_of_packet}
+use Rattle.ts_demux.specs.Sections.{heard_all}
+use Rattle.ts_demux.proofs.Windows.{all-behind}
+use Rattle.nit_sdt.specs.Nit.{NitReadsBack}
+use Rattle.nit_sdt.specs.Sdt.{SdtReadsBack}
+use Rattle.guide_screen.specs.View.{View}
+use Rattle.heard_completions.specs.Counting.{is_counted}
+use Rattle.guide_receiver.specs.Latest.{is_pat_key, is_nit_key, is_sdt_key, clock_of}
+use Rattle.guide_receiver.specs.Guides.{view_of}
+use Rattle.air_model.specs.Air.{Aired, air, airings_of}
+use Rattle.air_model.specs.Repeating.{IsRepeatingAirOf}
+use Rattle.air_hearing.specs.Counting.{CanBeHeard}
+use Rattle.air_joins.specs.Joining.{HasPacketIn}
+use Rattle.air_exact.specs.Exact.{StaysOnAir, HaveOneEach, HasOnAir}
+use Rattle.air_exact.proofs.Views.{on_air_heard}
+use Rattle.publication.specs.Network.{nit_key, nit_table}
+use Rattle.publication.specs.Programs.{pat_key, pat_table, pmt_tables}
+use Rattle.publication.specs.Tables.{sdt_key, sdt_table, present_tables, all_near_tables, all_far_tables, tables_of}
+use Rattle.publication_screen.specs.Shown.{HasPublication}
+use Rattle.publication_screen.proofs.Whole.{publication_is_shown}
+use Rattle.air_screen.specs.Published.{CanBePublished, ArePublished, number_at, StaysPublished, AreShown}
+use Rattle.air_screen.specs.Laws.{PublishedIsShown}
+use Rattle.air_screen.proofs.Keys.{published_counted, only_pat, only_nit, only_sdt}
+use Rattle.air_exact.proofs.Contents.{can_at}
+
+-- ---- the publication of an airing
+
+abbrev Tables : Airing → List SubTable
+Tables a = a.tables
+
+-- the tables of the airing with this place
+tables_at : (mux : Mux) (guides : ℕ → Guide) (numbers : List ℕ) (before : List Aired) (x : Aired) (after : List Aired)
+    → ArePublished mux guides numbers (airings_of (before ++ x ∷ after)) → x.airing.tables ≡ tables_of mux (guides (number_at numbers (length before)))
+tables_at mux guides [] [] x after e = cc
+tables_at mux guides (n ∷ numbers) [] x after e = (let first : x.airing.tables ≡ tables_of mux (guides n) = cc in first)
+tables_at mux guides [] (y ∷ before) x after e = cc
+tables_at mux guides (n ∷ numbers) (y ∷ before) x after e =
+    let rest : map Tables (airings_of (before ++ x ∷ after)) ≡ map (λ (m : ℕ). tables_of mux (guides m)) numbers = cc in
+    tables_at mux guides numbers before x after rest
+
+-- what holds of the tables of each publication holds of each airing
+each_published : (P : List SubTable → Type 0) (mux : Mux) (guides : ℕ → Guide) → ((n : ℕ) → P (tables_of mux (guides n))) → (numbers : List ℕ) (airings : List Airing)
+    → ArePublished mux guides numbers airings → AllByRecursion (λ (a : Airing). P a.tables) airings
+each_published P mux guides holds numbers [] e = tt
+each_published P mux guides holds [] (a ∷ airings) e = cc
+each_published P mux guides holds (n ∷ numbers) (a ∷ airings) e =
+    let first : a.tables ≡ tables_of mux (guides n) = cc in
+    let rest : map Tables airings ≡ map (λ (m : ℕ). tables_of mux (guides m)) numbers = cc in
+    (subst P (sym first) (holds n), each_published P mux guides holds numbers airings rest)
+
+some_clock : (o : Option ℕ) → IsSome o → (clock : ℕ) × (o ≡ Some clock)
+some_clock None some = (let no : false ≡ true = some in cc)
+some_clock (Some at) some = (at, refl)
+
+-- ---- what is shown
+
+module _ (nit_back : NitReadsBack) (sdt_back : SdtReadsBack) (mux : Mux) (guides : ℕ → Guide) (numbers : List ℕ) (airings : List Airing) (sound : IsSoundWithIds mux)
+    (can_publish : (n : ℕ) → CanBePublished mux (guides n)) (are : ArePublished mux guides numbers airings) (can : AllByRecursion CanBeHeard airings)
+    (before : List Aired) (x : Aired) (after : List Aired) (is : IsRepeatingAirOf airings (before ++ x ∷ after)) where
+  abbrev guide : Guide
+  guide = guides (number_at numbers (length before))
+
+  published : ArePublished mux guides numbers (airings_of (before ++ x ∷ after))
+  published = subst (ArePublished mux guides numbers) (sym is.airings_are) are
+
+  own : x.airing.tables ≡ tables_of mux guide
+  own = tables_at mux guides numbers before x after published
+
+  stays_on_air : (join end : ℕ) → StaysPublished numbers join end before x after → StaysOnAir join end before x after
+  stays_on_air join end stays = record { joined = stays.joined; whole = stays.whole; same = same }
+    where
+      same : (one two : List Aired) (y : Aired) → after ≡ one ++ y ∷ two → HasPacketIn join end (length (air (before ++ x ∷ one))) y → y.airing.tables ≡ x.airing.tables
+      same one two y e there =
+          let cut : before ++ x ∷ after ≡ (before ++ x ∷ one) ++ y ∷ two =
+          ap (λ (l : List Aired). before ++ x ∷ l) e ∙ sym (append_assoc before (x ∷ one) (y ∷ two)) in
+          tables_at mux guides numbers (before ++ x ∷ one) y two (subst (λ (l : List Aired). ArePublished mux guides numbers (airings_of l)) cut published)
+          ∙ ap (λ (n : ℕ). tables_of mux (guides n)) (stays.same one two y e there) ∙ sym own
+
+  -- its tables are found by their keys
+  found : AllByRecursion (λ (t : SubTable). content_in t.key x.airing.tables ≡ Some t.sections) (tables_of mux guide)
+  found =
+      subst (AllByRecursion (λ (t : SubTable). content_in t.key x.airing.tables ≡ Some t.sections)) own
+      (AreOwn-all x.airing.tables (can_at before x after (subst (AllByRecursion CanBeHeard) (sym is.airings_are) can)).differ)
+
+  some_of : (k : Key) (c : Content) → content_at k x.airing ≡ Some c → IsSome (content_at k x.airing)
+  some_of k c e = subst IsSome (sym e) refl
+
+  abbrev Found : SubTable → Type 0
+  Found t = content_in t.key x.airing.tables ≡ Some t.sections
+
+  others_found : AllByRecursion Found (nit_table mux ∷ sdt_table mux guide ∷ (present_tables mux guide ++ (all_near_tables mux guide ++ all_far_tables mux guide)))
+  others_found =
+      all-behind Found (pmt_tables mux) (nit_table mux ∷ sdt_table mux guide ∷ (present_tables mux guide ++ (all_near_tables mux guide ++ all_far_tables mux guide))) found.1
+
+  once : HaveOneEach airings x.airing (pat_key mux) (nit_key mux) (sdt_key mux)
+  once = record {
+    pats = each_published (AllByRecursion (λ (t : SubTable). is_pat_key t.key ≡ true → t.key ≡ pat_key mux)) mux guides (λ n. only_pat mux (guides n) sound.sound) numbers airings are;
+    nits = each_published (AllByRecursion (λ (t : SubTable). is_nit_key t.key ≡ true → t.key ≡ nit_key mux)) mux guides (λ n. only_nit mux (guides n) sound.sound) numbers airings are;
+    sdts = each_published (AllByRecursion (λ (t : SubTable). is_sdt_key mux.stream t.key ≡ true → t.key ≡ sdt_key mux)) mux guides (λ n. only_sdt mux (guides n) sound.sound) numbers airings are;
+    pat_is = record { passes = refl; counted = refl; some = some_of (pat_key mux) (pat_table mux).sections found.0 };
+    nit_is = record { passes = refl; counted = refl; some = some_of (nit_key mux) (nit_table mux).sections others_found.0 };
+    sdt_is = record { passes = eq-eqb mux.stream mux.stream refl; counted = refl; some = some_of (sdt_key mux) (sdt_table mux guide).sections others_found.1.0 };
+  }
+
+  has_publication : (clock : ℕ) (V : View) → HasOnAir x.airing (pat_key mux) (nit_key mux) (sdt_key mux) V → V.clock ≡ Some clock → HasPublication mux guide clock V
+  has_publication clock V on told = record {
+    contents = all_two (λ (t : SubTable). is_counted t.key.pid t.key.table ≡ true) Found (λ (t : SubTable). V.content t.key ≡ Some t.sections)
+        (λ t counted found. on.content t.key t.sections counted found) (tables_of mux guide) (published_counted mux guide sound.sound) found;
+    pat = on.pat_is;
+    nit = on.nit_is;
+    sdt = on.sdt_is;
+    clock_is = told;
+  }
+
+  pub shown_of : x.airing.moment < 65536 * 86400 → (join end : ℕ) → StaysPublished numbers join end before x after
+      → AreShown mux guide (map bytes_of_packet (slice_range (air (before ++ x ∷ after)) join end))
+  shown_of moment join end stays =
+      let packets : List (List ℕ) = map bytes_of_packet (slice_range (air (before ++ x ∷ after)) join end) in
+      let on = on_air_heard airings before x after is can join end (stays_on_air join end stays) moment (pat_key mux) (nit_key mux) (sdt_key mux) once in
+      let at = some_clock (clock_of (heard_all [] packets)) on.clock in
+      let p = can_publish (number_at numbers (length before)) in
+      record {
+        clock = at.0;
+        told = at.1;
+        shown = publication_is_shown nit_back sdt_back mux guide at.0 (view_of packets) sound p.services p.within p.typed p.names (has_publication at.0 (view_of packets) on at.1);
+      }
+
+pub published_is_shown : NitReadsBack → SdtReadsBack → PublishedIsShown
+published_is_shown nit_back sdt_back mux guides numbers airings sound can_publish are can before x after is moment join end stays =
+    shown_of nit_back sdt_back mux guides numbers airings sound can_publish are can before x after is moment join end stays

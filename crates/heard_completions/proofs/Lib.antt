@@ -1,0 +1,4 @@
+pub mod Shown
+pub mod Reading
+pub mod Dones
+pub mod Tables

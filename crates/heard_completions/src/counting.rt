@@ -1,0 +1,125 @@
+// The sections that count.
+ghost use Rattle.std.specs.Prelude.{◌≡◌, ◌&&◌, IfOk, IfSome, option_map};
+ghost use Rattle.section_codec.specs.Tables.{is_pat, is_pmt, is_nit, is_sdt, is_events};
+ghost use Rattle.section_codec.specs.Section.{long_body};
+ghost use Rattle.section_codec.specs.Segments.{segment_last_in};
+ghost use Rattle.sub_collect.specs.Runs.{counted};
+ghost use Rattle.heard_completions.specs.Counting.{is_counted, is_last_within, is_event_body, is_body_of_table, counted_in};
+
+use eit_codec::is_eit_body;
+use nit_sdt::{is_nit_body, is_sdt_body};
+use pat_pmt::{is_pat_body, is_pmt_body};
+use section_codec::{
+    BadSection, Key, LongHeader, Section, is_eit, key_of, read_section, segment_last,
+};
+use si_base::Bytes;
+use std::alloc::{AllocError, Global};
+use ts_demux::RawSection;
+
+/// A section that counts: its key, its header, and what stands between the header and the CRC.
+#[derive(Drop)]
+pub struct CountedSection {
+    pub key: Key,
+    pub header: LongHeader,
+    pub body: Bytes,
+}
+
+/// The section that counts, or `None` exactly where this one does not: it is no section in the long form that is in force, its table is
+/// none of those that count on its PID, or its body is none of its table (EN 300 468, 5.1.1 and 5.1.3).
+pub fn counted_section(
+    alloc: Global,
+    raw: &RawSection,
+) -> Result<Option<CountedSection>, AllocError>
+    ensures counts { IfOk result (λ found. option_map (λ s. counted s.key s.header s.body) found ≡ counted_in raw.now) }
+    ensures body { IfOk result (λ found. IfSome found (λ s. s.body ≡ long_body raw.now.bytes)) }
+{
+    let (header, body) = match read_section(alloc, raw.bytes.as_slice()) {
+        Ok(Section::Long(header, body)) => (header, body),
+        Err(BadSection::Memory) => return Err(AllocError),
+        _ => return Ok(None),
+    };
+    if !header.current
+        || !is_counted(raw.pid, header.table)
+        || !is_body_of_table(&header, body.as_slice())
+    {
+        return Ok(None);
+    }
+    match key_of(raw.pid, &header, body.as_slice()) {
+        Some(key) => Ok(Some(CountedSection { key, header, body })),
+        None => Ok(None),
+    }
+}
+
+// Whether sections of this table on this PID count: the PAT, a PMT, the NIT of the actual network, the SDT of the actual stream, and
+// event information of this multiplex.
+fn is_counted(pid: u16, table: u8) -> bool
+    ensures { result ≡ is_counted pid table }
+{
+    is_pat(pid, table)
+        || is_pmt(pid, table)
+        || is_nit(pid, table)
+        || is_sdt(pid, table)
+        || is_events(pid, table)
+}
+
+fn is_pat(pid: u16, table: u8) -> bool
+    ensures { result ≡ is_pat pid table }
+{
+    pid == 0x0000 && table == 0x00
+}
+
+fn is_pmt(pid: u16, table: u8) -> bool
+    ensures { result ≡ is_pmt pid table }
+{
+    0x0020 <= pid && pid <= 0x1FFE && table == 0x02
+}
+
+fn is_nit(pid: u16, table: u8) -> bool
+    ensures { result ≡ is_nit pid table }
+{
+    pid == 0x0010 && table == 0x40
+}
+
+fn is_sdt(pid: u16, table: u8) -> bool
+    ensures { result ≡ is_sdt pid table }
+{
+    pid == 0x0011 && table == 0x42
+}
+
+fn is_events(pid: u16, table: u8) -> bool
+    ensures { result ≡ is_events pid table }
+{
+    pid == 0x0012 && (table == 0x4E || 0x50 <= table && table <= 0x5F)
+}
+
+// Whether the body is one of its table. It is looked at and not read, which takes no memory.
+fn is_body_of_table(header: &LongHeader, body: &[u8]) -> bool
+    ensures { result ≡ is_body_of_table header.now body.now }
+{
+    if is_eit(header.table) {
+        return is_event_body(header, body);
+    }
+    match header.table {
+        0x00 => is_pat_body(body),
+        0x02 => is_pmt_body(body),
+        0x40 => is_nit_body(body),
+        0x42 => is_sdt_body(body),
+        _ => false,
+    }
+}
+
+// Whether the body is one of event information, and its numbers are of the section's segment and table.
+fn is_event_body(header: &LongHeader, body: &[u8]) -> bool
+    ensures { result ≡ is_event_body header.now body.now }
+{
+    is_eit_body(body) && is_last_within(segment_last(header, body), header.last)
+}
+
+fn is_last_within(segment_last: Option<u8>, last: u8) -> bool
+    ensures { result ≡ is_last_within segment_last last }
+{
+    match segment_last {
+        Some(number) => number <= last,
+        None => false,
+    }
+}

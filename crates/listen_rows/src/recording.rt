@@ -1,0 +1,93 @@
+// The recording of a row.
+use crate::run::{WHOLE, run_word};
+use std::alloc::{AllocError, Global};
+use std::marker::Sync;
+use std::sync::Wait;
+use std::thread::Threads;
+
+/// The bytes that a text spells: each word is a byte in hex, and behind a star how often it stands.
+fn spelled(alloc: Global, text: &str) -> Result<Vec<u8>, AllocError> {
+    let mut bytes = Vec::new(alloc);
+    for word in text.split_whitespace() {
+        let (byte, count) = word.split_once('*').unwrap_or((word, "1"));
+        let byte = u8::from_str_radix(byte, 16).unwrap_or(0);
+        for _ in 0..count.parse::<usize>().unwrap_or(0) {
+            bytes.push(byte)?;
+        }
+    }
+    Ok(bytes)
+}
+
+// So many bytes of these, again and again.
+fn again(alloc: Global, len: usize, bytes: &[u8]) -> Result<Vec<u8>, AllocError> {
+    let mut all = Vec::new(alloc);
+    for _ in 0..len.div_ceil(bytes.len().max(1)) {
+        all.extend_from_slice(bytes)?;
+    }
+    all.truncate(len);
+    Ok(all)
+}
+
+// The air that `play` leaves of a script, in which a slash stands for LF.
+fn air_of<W: Threads + Wait + Sync>(
+    rt: &W,
+    alloc: Global,
+    script: &str,
+) -> Result<Vec<u8>, AllocError> {
+    let mut bytes = Vec::new(alloc);
+    for b in script.as_bytes() {
+        bytes.push(if *b == b'/' { b'\n' } else { *b })?;
+    }
+    let left = run_word(rt, alloc, "play", &bytes, WHOLE)?;
+    Vec::from_slice(alloc, left.air.taken())
+}
+
+// A script of so many swaps, each of a publication with a new name.
+fn names(alloc: Global, count: u64) -> Result<String, AllocError> {
+    let mut script = String::from_str(
+        alloc,
+        "network,40,Demo/stream,1,1/service,101,1,1,256,257,Acme,One/end/",
+    )?;
+    for i in 0..count {
+        write!(script, "feed,1,name,101,Acme,News {i}/publish/swap/")?;
+    }
+    Ok(script)
+}
+
+fn number(word: &str) -> u64 {
+    word.parse::<u64>().unwrap_or(0)
+}
+
+// The packets of a recording from one on, up to another.
+fn part(alloc: Global, bytes: &[u8], range: &str) -> Result<Vec<u8>, AllocError> {
+    let (from, to) = range.split_once('-').unwrap_or((range, range));
+    let from = (number(from) as usize).saturating_mul(188);
+    let to = (number(to) as usize).saturating_mul(188);
+    Vec::from_slice(alloc, bytes.get(from..to).unwrap_or(&[]))
+}
+
+/// The recording that this text tells.
+pub fn recording_of<W: Threads + Wait + Sync>(
+    rt: &W,
+    alloc: Global,
+    text: &str,
+) -> Result<Vec<u8>, AllocError> {
+    let (form, text) = text.split_once(' ').unwrap_or((text, ""));
+    match form {
+        "hex" => spelled(alloc, text),
+        "play" => air_of(rt, alloc, text),
+        "names" => {
+            let script = names(alloc, number(text))?;
+            air_of(rt, alloc, script.as_str())
+        }
+        "bytes" => {
+            let (len, text) = text.split_once(' ').unwrap_or((text, ""));
+            let bytes = spelled(alloc, text)?;
+            again(alloc, number(len) as usize, &bytes)
+        }
+        _ => {
+            let air = air_of(rt, alloc, text)?;
+            part(alloc, &air, form)
+        }
+    }
+}

@@ -1,0 +1,51 @@
+// What a run left, as text.
+use crate::run::Left;
+use std::alloc::AllocError;
+
+// Appends lines of a report: a slash for LF, a bar for a tab.
+fn put_lines(out: &mut String, lines: &str) -> Result<(), AllocError> {
+    for c in lines.chars() {
+        match c {
+            '\n' => out.push('/')?,
+            '\t' => out.push('|')?,
+            c => out.push(c)?,
+        }
+    }
+    Ok(())
+}
+
+fn report_of(left: &Left) -> &str {
+    str::from_utf8(left.report.taken()).unwrap_or("no UTF-8")
+}
+
+fn is_done(line: &str) -> bool {
+    line.starts_with("done\t")
+}
+
+// How many bytes the lines of completions have.
+fn done_len(report: &str) -> usize {
+    let dones = report.lines().filter(|line| is_done(line));
+    dones.map(|line| line.len().saturating_add(1)).sum()
+}
+
+/// Appends the exit status and the whole report.
+pub fn put_whole(out: &mut String, left: &Left) -> Result<(), AllocError> {
+    let code = left.status.code();
+    write!(out, "{code}, ")?;
+    put_lines(out, report_of(left))
+}
+
+/// Appends the exit status, how many completions are reported, and what stands behind them.
+pub fn put_guide(out: &mut String, left: &Left) -> Result<(), AllocError> {
+    let report = report_of(left);
+    let code = left.status.code();
+    let dones = report.lines().filter(|line| is_done(line)).count();
+    write!(out, "{code}, {dones} done, ")?;
+    put_lines(out, report.get(done_len(report)..).unwrap_or(""))
+}
+
+/// Appends the exit status, and how many bytes the report has.
+pub fn put_size(out: &mut String, left: &Left) -> Result<(), AllocError> {
+    let (code, size) = (left.status.code(), left.report.taken().len());
+    write!(out, "{code} {size}")
+}

@@ -1,0 +1,84 @@
+// A row and its answer.
+use crate::recording::recording_of;
+use crate::report::{put_guide, put_size, put_whole};
+use crate::run::{Ends, Left, WHOLE, run_word};
+use std::alloc::{AllocError, Global};
+use std::marker::Sync;
+use std::sync::Wait;
+use std::thread::Threads;
+
+// The most runs of a row.
+const MOST: u64 = 256;
+
+// The first word of a row, and what is behind it.
+fn cut(row: &str) -> (&str, &str) {
+    row.split_once(' ').unwrap_or((row, ""))
+}
+
+fn left_of<W: Threads + Wait + Sync>(rt: &W, alloc: Global, row: &str) -> Result<Left, AllocError> {
+    let recording = recording_of(rt, alloc, row)?;
+    run_word(rt, alloc, "listen", &recording, WHOLE)
+}
+
+fn ends_of(kind: &str, piece: usize, call: u64) -> Ends {
+    let is_read = kind == "read";
+    Ends {
+        piece,
+        read: is_read.then_some(call),
+        write: (!is_read).then_some(call),
+    }
+}
+
+// Runs in which each call of a kind fails in turn, up to one that is done: `KIND PIECE RECORDING`
+fn tell_each<W: Threads + Wait + Sync>(
+    rt: &W,
+    alloc: Global,
+    row: &str,
+    out: &mut String,
+) -> Result<(), AllocError> {
+    let (kind, row) = cut(row);
+    let (piece, row) = cut(row);
+    let piece = piece.parse::<usize>().unwrap_or(1);
+    let recording = recording_of(rt, alloc, row)?;
+    for call in 0..MOST {
+        let left = run_word(rt, alloc, "listen", &recording, ends_of(kind, piece, call))?;
+        out.push_str(if call == 0 { "" } else { ", " })?;
+        put_size(out, &left)?;
+        if left.status.code() == 0 {
+            break;
+        }
+    }
+    Ok(())
+}
+
+// Appends what a row gives.
+fn tell<W: Threads + Wait + Sync>(
+    rt: &W,
+    alloc: Global,
+    call: &str,
+    row: &str,
+    out: &mut String,
+) -> Result<(), AllocError> {
+    match call {
+        "reports" => put_whole(out, &left_of(rt, alloc, row)?),
+        "guide" => put_guide(out, &left_of(rt, alloc, row)?),
+        "each" => tell_each(rt, alloc, row, out),
+        _ => out.push_str("no row"),
+    }
+}
+
+/// The line with its answer; an empty line and one that begins with `#` as they are.
+pub fn told<W: Threads + Wait + Sync>(
+    rt: &W,
+    alloc: Global,
+    line: &str,
+) -> Result<String, AllocError> {
+    let mut out = String::from_str(alloc, line)?;
+    if line.is_empty() || line.starts_with('#') {
+        return Ok(out);
+    }
+    let (call, row) = cut(line);
+    out.push_str(" = ")?;
+    tell(rt, alloc, call, row, &mut out)?;
+    Ok(out)
+}

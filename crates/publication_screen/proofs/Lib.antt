@@ -1,0 +1,5 @@
+pub mod Own
+pub mod Events
+pub mod Scheduled
+pub mod Schedules
+pub mod Whole

@@ -1,0 +1,384 @@
+-- A view that has a publication shows its screen.
+use Rattle.std.proofs.Common.{◌≡◌, ℕ, ◌+◌, ◌-◌, ◌%◌, ◌≤◌, List, [], ◌∷◌, ◌++◌, Bool, true, false, ◌==◌, ◌&&◌, Option, Some, None, map, refl, sym, ap, ap₂, ◌∙◌}
+use Rattle.std.proofs.Common.{subst, arith, append-nil}
+use Rattle.std.specs.Prelude.{suc, flat_map, filter, if◌then◌else◌, is_some, option_map, unwrap_or}
+use Rattle.std.specs.List.{All, AllByRecursion}
+use Rattle.std.proofs.lemmas.Bool.Decides.{nat_tests}
+use Rattle.std.proofs.lemmas.List.Elements.{All-from_recursion}
+use Rattle.si_lists.proofs.Lists.{all_append}
+use Rattle.ts_demux.proofs.Windows.{all-front, all-behind}
+use Rattle.si_text.specs.declared.shown.Shown.{Shown}
+use Rattle.si_text.specs.declared.shown.Shown.TheVariants.{Text}
+use Rattle.guide_model.specs.declared.stream.Cable.{Cable}
+use Rattle.guide_model.specs.declared.guide.Guide.{Guide}
+use Rattle.guide_model.specs.declared.guide.ServiceGuide.{ServiceGuide}
+use Rattle.guide_model.specs.declared.screen.ScreenEvent.{ScreenEvent}
+use Rattle.guide_model.specs.declared.screen.ScreenService.{ScreenService}
+use Rattle.guide_model.specs.declared.screen.Screen.{Screen}
+use Rattle.mux_model.specs.declared.mux.MuxService.{MuxService}
+use Rattle.mux_model.specs.declared.mux.Mux.{Mux}
+use Rattle.mux_model.specs.Sound.{IsSoundService, IsSoundWithIds}
+use Rattle.guide_limits.specs.Events.{midnight}
+use Rattle.guide_limits.specs.Limits.{IsServiceWithin, IsGuideWithin}
+use Rattle.section_codec.specs.declared.table.Key.{Key}
+use Rattle.section_codec.specs.declared.table.SubTable.{SubTable}
+use Rattle.section_codec.specs.Contents.{Content, numbers_from}
+use Rattle.pat_pmt.specs.declared.pat.PatEntry.{PatEntry}
+use Rattle.pat_pmt.specs.declared.pmt.Pmt.{Pmt}
+use Rattle.nit_sdt.specs.declared.nit.Nit.{Nit}
+use Rattle.nit_sdt.specs.declared.sdt.SdtService.{SdtService}
+use Rattle.nit_sdt.specs.Nit.{nit_body, NitReadsBack}
+use Rattle.nit_sdt.specs.Sdt.{SdtReadsBack}
+use Rattle.eit_codec.specs.Eit.{IsCodable, IsTyped, shown_event}
+use Rattle.eit_segments.specs.Schedule.{CanBePlaced}
+use Rattle.eit_segments.specs.Laws.{at_of}
+use Rattle.eit_segments.proofs.Few.{events_can_be_placed}
+use Rattle.eit_tables.specs.Eit.{eit_key}
+use Rattle.eit_tables.specs.Laws.{HasTypedEvents, AreSmallEntries}
+use Rattle.eit_tables.specs.Present.{present_table, present_sections, present_event, following_event}
+use Rattle.eit_tables.specs.Schedule.{last_table_of, near_tables, far_tables}
+use Rattle.eit_tables.proofs.EntryFacts.{typed_small}
+use Rattle.eit_tables.proofs.EventFacts.{all_codable}
+use Rattle.guide_screen.specs.declared.need.Need.{Need}
+use Rattle.guide_screen.specs.declared.need.Need.TheVariants.{Pat, Nit as NeedNit, Sdt, Clock, Pmt as NeedPmt}
+use Rattle.guide_screen.specs.declared.need.Heard.TheVariants.{Whole}
+use Rattle.guide_screen.specs.View.{View, sections, sections_at, sdt_behind, sdt_of, table_at, pmt_key as guide_pmt_key}
+use Rattle.guide_screen.specs.Reading.{programs_in, services_in, streams_in, nit_in, pmt_in, told}
+use Rattle.guide_screen.specs.Needs.{Want, by_service, last_table, needs, programs_of, schedule_tables, services_of, tables_to, unless, unmet_of, want_pmt, want_service, want_services, want_table, wants}
+use Rattle.guide_screen.specs.Screen.{cable_in, event_at, heard_by, heard_of, network_name, pid_in, pmt_of, pmt_pid, schedule_of, screen, screen_service}
+use Rattle.publication.specs.Network.{nit_key, nit_of, nit_table}
+use Rattle.publication.specs.Programs.{network_entry, program_entry, pat_of, pat_key, pat_table, pmt_tables}
+use Rattle.publication.specs.Programs as programs
+use Rattle.publication.specs.Sdt.{sdt_service, sdt_services}
+use Rattle.publication.specs.Tables.{HasServicesOf, sdt_key, sdt_table, present_tables, all_near_tables, all_far_tables}
+use Rattle.publication_screen.specs.Screen.{first_shown, is_scheduled, service_shown, services_shown, screen_of}
+use Rattle.publication_screen.specs.Shown.{HasPublication, HasKeptNames}
+use Rattle.publication_screen.specs.Laws.{PublicationIsShown}
+use Rattle.publication_screen.proofs.Own.{pat_said, pmt_said, pids_said, nit_said, sdt_said, services_in_order}
+use Rattle.publication_screen.proofs.Events.{HasIds, now_said, next_said}
+use Rattle.publication_screen.proofs.Schedules.{HasTable, has_tables, last_is, schedule_said}
+use Rattle.eit_tables.proofs.EitFacts.{all_of_map}
+
+abbrev Held : (Key → Option Content) → SubTable → Type 0
+Held content t = content t.key ≡ Some t.sections
+
+of_flat : {X Y : Type 0} (P : Y → Type 0) (f : X → List Y) (xs : List X) → AllByRecursion P (flat_map f xs) → AllByRecursion (λ (x : X). AllByRecursion P (f x)) xs
+of_flat P f [] all = tt
+of_flat P f (x ∷ xs) all = (all-front P (f x) (flat_map f xs) all, of_flat P f xs (all-behind P (f x) (flat_map f xs) all))
+
+-- ---- what is held of each service
+
+-- its PMT, its present and following events, and its schedule
+record HasService (mux : Mux) (moment : ℕ) (content : Key → Option Content) (s : MuxService) (g : ServiceGuide) : Type 0 where
+  same : g.service ≡ s.service
+  sound : IsSoundService s
+  within : IsServiceWithin g
+  typed : AllByRecursion IsTyped g.events
+  placed : CanBePlaced (map at_of g.events)
+  pmt : Held content (programs.pmt_table s)
+  present : Held content (present_table mux moment g)
+  tables : AllByRecursion (HasTable mux (midnight moment) g content) (tables_to 0x50 (last_table_of (midnight moment) g.events))
+
+module _ (mux : Mux) (ids : HasIds mux) (moment : ℕ) (content : Key → Option Content) where
+  abbrev Services : List MuxService → List ServiceGuide → Type 0
+  Services [] [] = Unit {0}
+  Services [] (g ∷ gs) = Prim.⊥
+  Services (s ∷ ss) [] = Prim.⊥
+  Services (s ∷ ss) (g ∷ gs) = HasService mux moment content s g × Services ss gs
+
+  abbrev AreHeld : List SubTable → Type 0
+  AreHeld ts = AllByRecursion (Held content) ts
+
+  all_services : (ss : List MuxService) (gs : List ServiceGuide) → map (λ (g : ServiceGuide). g.service) gs ≡ map (λ (s : MuxService). s.service) ss
+      → AllByRecursion IsSoundService ss → AllByRecursion IsServiceWithin gs → AllByRecursion (λ (g : ServiceGuide). AllByRecursion IsTyped g.events) gs
+      → AllByRecursion (λ (g : ServiceGuide). AreSmallEntries g.events) gs
+      → AllByRecursion (λ (s : MuxService). Held content (programs.pmt_table s)) ss → AllByRecursion (λ (g : ServiceGuide). Held content (present_table mux moment g)) gs
+      → AllByRecursion (λ (g : ServiceGuide). AreHeld (near_tables mux (midnight moment) g)) gs → AllByRecursion (λ (g : ServiceGuide). AreHeld (far_tables mux (midnight moment) g)) gs
+      → Services ss gs
+  all_services [] [] e sound within typed small pmts presents near far = tt
+  all_services [] (g ∷ gs) e sound within typed small pmts presents near far = cc
+  all_services (s ∷ ss) [] e sound within typed small pmts presents near far = cc
+  all_services (s ∷ ss) (g ∷ gs) e sound within typed small pmts presents near far =
+      let first : g.service ≡ s.service = cc in
+      let rest : map (λ (x : ServiceGuide). x.service) gs ≡ map (λ (x : MuxService). x.service) ss = cc in
+      let one : HasService mux moment content s g = record {
+        same = first;
+        sound = sound.0;
+        within = within.0;
+        typed = typed.0;
+        placed = events_can_be_placed g.events within.0.events small.0;
+        pmt = pmts.0;
+        present = presents.0;
+        tables = has_tables mux ids (midnight moment) g content near.0 far.0;
+      } in
+      (one, all_services ss gs rest sound.1 within.1 typed.1 small.1 pmts.1 presents.1 near.1 far.1)
+
+  -- ---- one service
+
+  abbrev sdt : Key
+  sdt = sdt_key mux
+
+  zeroth : (moment : ℕ) → midnight moment % 86400 ≡ 0
+  zeroth moment = omega arith
+
+  module _ (s : MuxService) (g : ServiceGuide) (has : HasService mux moment content s g) where
+    abbrev made : Option ℕ → Option Pmt → Option ScreenEvent → Option ScreenEvent → List ScreenEvent → ScreenService
+    made pid pmt now next events = record {
+      service = s.service;
+      kind = s.kind;
+      provider = Text g.provider;
+      name = Text g.name;
+      pmt_pid = pid;
+      pcr_pid = option_map (λ p. p.pcr_pid) pmt;
+      components = unwrap_or (option_map (λ p. p.components) pmt) [];
+      now = now;
+      next = next;
+      events = events;
+    }
+
+    codable : All IsCodable g.events
+    codable = all_codable g.events has.within.events.each
+
+    types : All IsTyped g.events
+    types = All-from_recursion IsTyped g.events has.typed
+
+    pmt_is : pmt_of content s.service (Some s.pmt_pid) ≡ Some (programs.pmt_of s)
+    pmt_is = ap (λ (o : Option Content). told pmt_in 0 (sections o)) has.pmt ∙ pmt_said s has.sound
+
+    present_is : content (eit_key mux 0x4E s.service) ≡ Some (present_sections mux moment g.events)
+    present_is = ap (λ (n : ℕ). content (eit_key mux 0x4E n)) (sym has.same) ∙ has.present
+
+    now_is : event_at 0 (table_at content sdt s.service 0x4E) ≡ first_shown (present_event moment g.events)
+    now_is = ap (λ (o : Option Content). event_at 0 (sections o)) present_is ∙ now_said mux ids g.events codable types moment
+
+    next_is : event_at 1 (table_at content sdt s.service 0x4E) ≡ first_shown (following_event moment g.events)
+    next_is = ap (λ (o : Option Content). event_at 1 (sections o)) present_is ∙ next_said mux ids g.events codable types moment
+
+    abbrev last : ℕ
+    last = last_table_of (midnight moment) g.events
+
+    -- the first table is one of them
+    first_table : HasTable mux (midnight moment) g content 0x50
+    first_table =
+        (subst (λ (n : ℕ). AllByRecursion (HasTable mux (midnight moment) g content) (numbers_from 0x50 n))
+        (let size : 1 + last - 0x50 ≡ suc (1 + last - 0x51) = omega arith in size) has.tables).0
+
+    last_own : last_table (table_at content sdt g.service 0x50) ≡ last
+    last_own = last_is mux ids (midnight moment) g content has.placed.fit first_table
+
+    events_are : schedule_of content sdt s.service ≡ map shown_event (filter (is_scheduled (midnight moment)) g.events)
+    events_are =
+        ap (λ (n : ℕ). schedule_of content sdt n) (sym has.same)
+        ∙ schedule_said mux ids (midnight moment) g content codable types has.within has.placed (zeroth moment) has.tables last_own
+
+    service_is : (es : List PatEntry) → pmt_pid es s.service ≡ Some s.pmt_pid → screen_service content es sdt (sdt_service s g) ≡ service_shown moment s g
+    service_is es pid =
+        let now = event_at 0 (table_at content sdt s.service 0x4E) in
+        let next = event_at 1 (table_at content sdt s.service 0x4E) in
+        let events = schedule_of content sdt s.service in
+        ap (λ (o : Option ℕ). made o (pmt_of content s.service o) now next events) pid
+        ∙ ap (λ (o : Option Pmt). made (Some s.pmt_pid) o now next events) pmt_is
+        ∙ ap (λ (o : Option ScreenEvent). made (Some s.pmt_pid) (Some (programs.pmt_of s)) o next events) now_is
+        ∙ ap (λ (o : Option ScreenEvent). made (Some s.pmt_pid) (Some (programs.pmt_of s)) (first_shown (present_event moment g.events)) o events) next_is
+        ∙ ap (λ (l : List ScreenEvent). made (Some s.pmt_pid) (Some (programs.pmt_of s)) (first_shown (present_event moment g.events)) (first_shown (following_event moment g.events)) l) events_are
+
+    -- its wants are met
+    abbrev Met : Want → Type 0
+    Met w = is_some (content w.key) ≡ true
+
+    tables_met : (ts : List ℕ) → AllByRecursion (HasTable mux (midnight moment) g content) ts → AllByRecursion Met (map (want_table sdt s.service) ts)
+    tables_met [] all = tt
+    tables_met (t ∷ ts) all = (ap is_some (ap (λ (n : ℕ). content (eit_key mux t n)) (sym has.same) ∙ all.0), tables_met ts all.1)
+
+    schedule_met : AllByRecursion Met (map (want_table sdt s.service) (schedule_tables content sdt s.service))
+    schedule_met =
+        let told : last_table (table_at content sdt s.service 0x50) ≡ last = ap (λ (n : ℕ). last_table (table_at content sdt n 0x50)) (sym has.same) ∙ last_own in
+        subst (λ (n : ℕ). AllByRecursion Met (map (want_table sdt s.service) (0x50 ∷ tables_to 0x51 n))) (sym told)
+        (tables_met (0x50 ∷ tables_to 0x51 last)
+        (subst (λ (n : ℕ). AllByRecursion (HasTable mux (midnight moment) g content) (numbers_from 0x50 n))
+        (let size : 1 + last - 0x50 ≡ suc (1 + last - 0x51) = omega arith in size) has.tables))
+
+    service_met : AllByRecursion Met (want_service content sdt (sdt_service s g))
+    service_met = (ap is_some present_is, schedule_met)
+
+    pmt_met : AllByRecursion Met (want_pmt (program_entry s))
+    pmt_met = go (s.service == 0)
+      where
+        go : (b : Bool) → AllByRecursion Met (if b then [] else (let w : Want = record { need = NeedPmt s.pmt_pid s.service; key = guide_pmt_key s.pmt_pid s.service } in w) ∷ [])
+        go true = tt
+        go false = (ap is_some has.pmt, tt)
+
+  -- ---- all services
+
+  services_are : (es : List PatEntry) (ss : List MuxService) (gs : List ServiceGuide) → Services ss gs → AllByRecursion (λ (s : MuxService). pmt_pid es s.service ≡ Some s.pmt_pid) ss
+      → map (screen_service content es sdt) (sdt_services ss gs) ≡ services_shown moment ss gs
+  services_are es [] [] has pids = refl
+  services_are es [] (g ∷ gs) has pids = absurd has
+  services_are es (s ∷ ss) [] has pids = absurd has
+  services_are es (s ∷ ss) (g ∷ gs) has pids =
+      ap₂ (λ (x : ScreenService) (l : List ScreenService). x ∷ l) (service_is s g has.0 es pids.0) (services_are es ss gs has.1 pids.1)
+
+  pmts_met : (ss : List MuxService) (gs : List ServiceGuide) → Services ss gs → AllByRecursion (λ (w : Want). is_some (content w.key) ≡ true) (flat_map want_pmt (map program_entry ss))
+  pmts_met [] [] has = tt
+  pmts_met [] (g ∷ gs) has = absurd has
+  pmts_met (s ∷ ss) [] has = absurd has
+  pmts_met (s ∷ ss) (g ∷ gs) has =
+      all_append (λ (w : Want). is_some (content w.key) ≡ true) (want_pmt (program_entry s)) (flat_map want_pmt (map program_entry ss)) (pmt_met s g has.0) (pmts_met ss gs has.1)
+
+  services_met : (ss : List MuxService) (gs : List ServiceGuide) → Services ss gs
+      → AllByRecursion (λ (w : Want). is_some (content w.key) ≡ true) (flat_map (want_service content sdt) (sdt_services ss gs))
+  services_met [] [] has = tt
+  services_met [] (g ∷ gs) has = absurd has
+  services_met (s ∷ ss) [] has = absurd has
+  services_met (s ∷ ss) (g ∷ gs) has =
+      all_append (λ (w : Want). is_some (content w.key) ≡ true) (want_service content sdt (sdt_service s g)) (flat_map (want_service content sdt) (sdt_services ss gs))
+      (service_met s g has.0) (services_met ss gs has.1)
+
+none_unmet : (content : Key → Option Content) (ws : List Want) → AllByRecursion (λ (w : Want). is_some (content w.key) ≡ true) ws → unmet_of content ws ≡ []
+none_unmet content [] all = refl
+none_unmet content (w ∷ ws) all = ap₂ (λ (b : Bool) (l : List Need). unless w.need b ++ l) all.0 (none_unmet content ws all.1)
+
+-- each PMT has the PID that the PAT tells
+pids_found : (ss all : List MuxService) → AllByRecursion IsSoundService ss → AllByRecursion (λ (s : MuxService). pid_in s.service (map program_entry all) ≡ Some s.pmt_pid) ss
+    → AllByRecursion (λ (s : MuxService). pmt_pid (network_entry ∷ map program_entry all) s.service ≡ Some s.pmt_pid) ss
+pids_found [] all sound said = tt
+pids_found (s ∷ ss) all sound said = (one s.service sound.0.service.0 said.0, pids_found ss all sound.1 said.1)
+  where
+    none : (n : ℕ) → 1 ≤ n → (n == 0) ≡ false
+    none n le = grind (arith, nat_tests)
+
+    other : (n : ℕ) → 1 ≤ n → (0 == n) ≡ false
+    other n le = grind (arith, nat_tests)
+
+    one : (n : ℕ) → 1 ≤ n → pid_in n (map program_entry all) ≡ Some s.pmt_pid → pmt_pid (network_entry ∷ map program_entry all) n ≡ Some s.pmt_pid
+    one n le is =
+        ap (λ (b : Bool). if b then None else pid_in n (network_entry ∷ map program_entry all)) (none n le)
+        ∙ ap (λ (b : Bool). if b then Some 0x0010 else pid_in n (map program_entry all)) (other n le) ∙ is
+
+-- ---- the view
+
+module _ (nit_back : NitReadsBack) (sdt_back : SdtReadsBack) (mux : Mux) (guide : Guide) (clock : ℕ) (V : View) (sound : IsSoundWithIds mux) (same : HasServicesOf mux guide)
+    (within : IsGuideWithin guide) (typed : HasTypedEvents guide) (kept : HasKeptNames mux guide) (has : HasPublication mux guide clock V) where
+  abbrev moment : ℕ
+  moment = guide.moment.0
+
+  ids : HasIds mux
+  ids = record { stream = sound.stream; original = sound.original }
+
+  abbrev events : List SubTable
+  events = present_tables mux guide ++ (all_near_tables mux guide ++ all_far_tables mux guide)
+
+  pat_has : Held V.content (pat_table mux)
+  pat_has = has.contents.0
+
+  pmts_have : AllByRecursion (Held V.content) (pmt_tables mux)
+  pmts_have = all-front (Held V.content) (pmt_tables mux) (nit_table mux ∷ sdt_table mux guide ∷ events) has.contents.1
+
+  others_have : AllByRecursion (Held V.content) (nit_table mux ∷ sdt_table mux guide ∷ events)
+  others_have = all-behind (Held V.content) (pmt_tables mux) (nit_table mux ∷ sdt_table mux guide ∷ events) has.contents.1
+
+  schedules_have : AllByRecursion (Held V.content) (all_near_tables mux guide ++ all_far_tables mux guide)
+  schedules_have = all-behind (Held V.content) (present_tables mux guide) (all_near_tables mux guide ++ all_far_tables mux guide) others_have.1.1
+
+  services_have : Services mux ids moment V.content mux.services guide.services
+  services_have =
+      all_services mux ids moment V.content mux.services guide.services same sound.sound.services within.services typed (typed_small guide within typed)
+      (all_of_map (Held V.content) programs.pmt_table mux.services pmts_have)
+      (all_of_map (Held V.content) (present_table mux moment) guide.services
+      (all-front (Held V.content) (present_tables mux guide) (all_near_tables mux guide ++ all_far_tables mux guide) others_have.1.1))
+      (of_flat (Held V.content) (near_tables mux (midnight moment)) guide.services
+      (all-front (Held V.content) (all_near_tables mux guide) (all_far_tables mux guide) schedules_have))
+      (of_flat (Held V.content) (far_tables mux (midnight moment)) guide.services
+      (all-behind (Held V.content) (all_near_tables mux guide) (all_far_tables mux guide) schedules_have))
+
+  sdt_is : sdt_of V ≡ Some (sdt_key mux)
+  sdt_is = ap (λ (o : Option Key). sdt_behind V o) has.pat ∙ has.sdt
+
+  programs_are : programs_of V ≡ pat_of mux
+  programs_are =
+      ap (λ (o : Option Key). programs_in (sections_at V.content o)) has.pat ∙ ap (λ (o : Option Content). programs_in (sections o)) pat_has
+      ∙ ap (λ (o : Option (List PatEntry)). unwrap_or o [] ++ []) (pat_said mux sound.sound) ∙ append-nil (pat_of mux)
+
+  services_sorted : services_of V ≡ sdt_services mux.services guide.services
+  services_sorted =
+      ap (λ (o : Option Key). by_service (services_in (sections_at V.content o))) sdt_is
+      ∙ ap (λ (o : Option Content). by_service (services_in (sections o))) others_have.1.0
+      ∙ ap by_service (sdt_said sdt_back mux guide sound within.services kept.services)
+      ∙ services_in_order mux.services guide.services sound.sound.ascend
+
+  all_met : AllByRecursion (λ (w : Want). is_some (V.content w.key) ≡ true) (wants V)
+  all_met =
+      subst (λ (es : List PatEntry). AllByRecursion (λ (w : Want). is_some (V.content w.key) ≡ true) (flat_map want_pmt es ++ want_services V.content (sdt_of V) (services_of V))) (sym programs_are)
+      (subst (λ (o : Option Key). AllByRecursion (λ (w : Want). is_some (V.content w.key) ≡ true) (flat_map want_pmt (pat_of mux) ++ want_services V.content o (services_of V))) (sym sdt_is)
+      (subst (λ (ss : List SdtService). AllByRecursion (λ (w : Want). is_some (V.content w.key) ≡ true) (flat_map want_pmt (pat_of mux) ++ flat_map (want_service V.content (sdt_key mux)) ss)) (sym services_sorted)
+      (all_append (λ (w : Want). is_some (V.content w.key) ≡ true) (flat_map want_pmt (pat_of mux)) (flat_map (want_service V.content (sdt_key mux)) (sdt_services mux.services guide.services))
+      (pmts_met mux ids moment V.content mux.services guide.services services_have)
+      (services_met mux ids moment V.content mux.services guide.services services_have))))
+
+  abbrev needs_by : Option Key → Option Key → Option Key → Option ℕ → List Need → List Need
+  needs_by pat nit sdt at rest = unless Pat (is_some pat) ++ unless NeedNit (is_some nit) ++ unless Sdt (is_some sdt) ++ unless Clock (is_some at) ++ rest
+
+  none_needed : needs V ≡ []
+  none_needed =
+      ap (λ (o : Option Key). needs_by o V.nit (sdt_of V) V.clock (unmet_of V.content (wants V))) has.pat
+      ∙ ap (λ (o : Option Key). needs_by (Some (pat_key mux)) o (sdt_of V) V.clock (unmet_of V.content (wants V))) has.nit
+      ∙ ap (λ (o : Option Key). needs_by (Some (pat_key mux)) (Some (nit_key mux)) o V.clock (unmet_of V.content (wants V))) sdt_is
+      ∙ ap (λ (o : Option ℕ). needs_by (Some (pat_key mux)) (Some (nit_key mux)) (Some (sdt_key mux)) o (unmet_of V.content (wants V))) has.clock_is
+      ∙ none_unmet V.content (wants V) all_met
+
+  -- ---- the screen
+
+  nit_is : nit_in (nit_body (nit_of mux)) ≡ Some (nit_of mux)
+  nit_is = nit_said nit_back mux sound kept.network
+
+  name_is : network_name (sections (V.content (nit_key mux))) ≡ Text mux.network_name
+  name_is =
+      ap (λ (o : Option Content). network_name (sections o)) others_have.0
+      ∙ ap (λ (o : Option Nit). unwrap_or (option_map (λ (nit : Nit). nit.name) o) (Text [])) nit_is
+
+  cable_is : cable_in mux.stream mux.original (streams_in (sections (V.content (nit_key mux)))) ≡ mux.cable
+  cable_is =
+      ap (λ (o : Option Content). cable_in mux.stream mux.original (streams_in (sections o))) others_have.0
+      ∙ ap (λ (o : Option Nit). cable_in mux.stream mux.original (unwrap_or (option_map (λ (nit : Nit). nit.streams) o) [] ++ [])) nit_is
+      ∙ ap (λ (b : Bool). if b then mux.cable else None) (own mux.stream mux.original)
+    where
+      own : (a b : ℕ) → (a == a && b == b) ≡ true
+      own a b = grind (arith, nat_tests)
+
+  services_are_shown : map (screen_service V.content (programs_of V) (sdt_key mux)) (services_of V) ≡ services_shown moment mux.services guide.services
+  services_are_shown =
+      ap (λ (es : List PatEntry). map (screen_service V.content es (sdt_key mux)) (services_of V)) programs_are
+      ∙ ap (map (screen_service V.content (pat_of mux) (sdt_key mux))) services_sorted
+      ∙ services_are mux ids moment V.content (pat_of mux) mux.services guide.services services_have
+      (pids_found mux.services mux.services sound.sound.services (pids_said mux.services sound.sound.ascend))
+
+  abbrev screen_with : Shown → Option Cable → List ScreenService → Screen
+  screen_with name cable services = record {
+    clock = record { 0 = clock };
+    network = mux.network;
+    network_name = name;
+    stream = mux.stream;
+    original = mux.original;
+    cable = cable;
+    services = services;
+  }
+
+  screen_is : screen V (pat_key mux) (nit_key mux) (sdt_key mux) clock ≡ screen_of mux guide clock
+  screen_is =
+      let c = sections (V.content (nit_key mux)) in
+      let services = map (screen_service V.content (programs_of V) (sdt_key mux)) (services_of V) in
+      ap (λ (x : Shown). screen_with x (cable_in mux.stream mux.original (streams_in c)) services) name_is
+      ∙ ap (λ (x : Option Cable). screen_with (Text mux.network_name) x services) cable_is
+      ∙ ap (λ (l : List ScreenService). screen_with (Text mux.network_name) mux.cable l) services_are_shown
+
+  pub shown : heard_of V ≡ Whole (screen_of mux guide clock)
+  shown =
+      ap (λ (o : Option Key). heard_by V o V.nit (sdt_of V) V.clock (needs V)) has.pat
+      ∙ ap (λ (o : Option Key). heard_by V (Some (pat_key mux)) o (sdt_of V) V.clock (needs V)) has.nit
+      ∙ ap (λ (o : Option Key). heard_by V (Some (pat_key mux)) (Some (nit_key mux)) o V.clock (needs V)) sdt_is
+      ∙ ap (λ (o : Option ℕ). heard_by V (Some (pat_key mux)) (Some (nit_key mux)) (Some (sdt_key mux)) o (needs V)) has.clock_is
+      ∙ ap (λ (ns : List Need). heard_by V (Some (pat_key mux)) (Some (nit_key mux)) (Some (sdt_key mux)) (Some clock) ns) none_needed
+      ∙ ap Whole screen_is
+
+pub publication_is_shown : NitReadsBack → SdtReadsBack → PublicationIsShown
+publication_is_shown nit_back sdt_back mux guide clock V sound same within typed kept has = shown nit_back sdt_back mux guide clock V sound same within typed kept has

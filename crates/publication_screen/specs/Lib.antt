@@ -1,0 +1,3 @@
+pub mod Screen
+pub mod Shown
+pub mod Laws
