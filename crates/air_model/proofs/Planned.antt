@@ -16,7 +16,7 @@ use Rattle.air_model.proofs.Elements.{first_of, around}
 
 -- ---- what stands at places
 
-all_got : {X : Type 0} (P : X → Type 0) (xs : List X) (i : ℕ) (x : X) → AllByRecursion P xs → slice_get xs i ≡ Some x → P x
+pub all_got : {X : Type 0} (P : X → Type 0) (xs : List X) (i : ℕ) (x : X) → AllByRecursion P xs → slice_get xs i ≡ Some x → P x
 all_got P [] i x all e = cc
 all_got P (y ∷ xs) zero x all e = let f : y ≡ x = cc in subst P f all.0
 all_got P (y ∷ xs) (suc i) x all e = all_got P xs i x all.1 e

@@ -35,7 +35,7 @@ record IsSendable (s : Sent) : Type 0 where
   some : 1 ≤ length s.bytes
   most : length s.bytes ≤ 4096
 
-longest : (b : Bool) → cond b 4084 1012 ≤ 4084
+pub longest : (b : Bool) → cond b 4084 1012 ≤ 4084
 longest true = omega arith
 longest false = omega arith
 
