@@ -17,7 +17,7 @@ use Rattle.section_codec.proofs.ReadBack.{length-section_bytes}
 use Rattle.cycle_plan.specs.Cutting.{packets_in}
 use Rattle.cycle_plan.specs.Cycle.{Planned, cycle_of}
 use Rattle.cycle_plan.specs.Sections.{planned}
-use Rattle.cycle_plan.specs.Spacing.{Start, starts_alone, AreSpaced, IsWithinLimits}
+use Rattle.cycle_plan.specs.Spacing.{Start, starts_alone, Spaced, fast_bound, near_bound, AreSpaced, IsWithinLimits}
 use Rattle.cycle_plan.proofs.Cursors.{planned_all}
 use Rattle.cycle_plan.proofs.Order.{cycles_are_whole}
 use Rattle.cycle_plan.proofs.Gaps.{cycles_are_spaced}
@@ -31,7 +31,7 @@ use Rattle.air_model.proofs.Counted.{counted-append, length-counted}
 use Rattle.air_model.proofs.Airs.{air-push}
 use Rattle.air_model.proofs.Planned.{all_got, weights_each}
 use Rattle.carousel_player.specs.Planning.{weights_in, weights_of, weights_under}
-use Rattle.carousel_player.specs.Spacing.{plan_of, starts_of, AreStarts, AreSpacedIn, MadeAirsAreSpaced}
+use Rattle.carousel_player.specs.Spacing.{plan_of, starts_of, starts_of_two, AreStarts, MadeCyclesAreSpaced, MadeNeighboursAreSpaced}
 use Rattle.section_codec.specs.Section.{longest_body}
 use Rattle.section_codec.specs.Tables.{is_eit}
 use Rattle.carousel_player.proofs.Begun.{longest}
@@ -202,26 +202,38 @@ cycle_along before x after made =
     along (air (before ++ x ∷ after)) (sections_once past x.airing) (plan_of past x.airing).size (are_sizes past x.airing) (cycle_of (plan_of past x.airing)) (within_once past x.airing) (air before) (air after)
     (flat_map-append (λ (z : Aired). z.packets) before (x ∷ after) ∙ ap (λ (l : List Packet). air before ++ (l ++ air after)) (made_at [] before x after made))
 
-pub made_airs_are_spaced : MadeAirsAreSpaced
-made_airs_are_spaced before x y after made fit quota tables form =
+-- what holds of two cycles holds of the first
+spaced-front : (bound x : ℕ) (a b : List Start) → Spaced bound x (a ++ b) → Spaced bound x a
+spaced-front bound x a b h before between after one two e =
+    h before between (after ++ b) one two (ap (λ (t : List Start). t ++ b) e ∙ append_assoc before (one ∷ (between ++ two ∷ after)) b ∙ ap (λ (t : List Start). before ++ one ∷ t) (append_assoc between (two ∷ after) b))
+
+pub made_cycles_are_spaced : MadeCyclesAreSpaced
+made_cycles_are_spaced before x after made fit quota =
+    let p = plan_of (airings_of before) x.airing in
+    let order = cycle_of p in
+    let n = length (air before) in
+    let first = starts_alone p.size n order in
+    let second = starts_alone p.size (n + packets_in p.size order) order in
+    let two = subst (AreSpaced p) (starts-append p.size n order order) (cycles_are_spaced p (within_limits (airings_of before) x.airing fit quota) n) in
+    record {
+      starts = (cycle_along before x after made).starts;
+      spaced = record { fast = λ i l. spaced-front (fast_bound p) i first second (two.fast i l); near = λ i l m. spaced-front (near_bound p) i first second (two.near i l m) };
+    }
+
+pub made_neighbours_are_spaced : MadeNeighboursAreSpaced
+made_neighbours_are_spaced before x y after made fit quota tables form =
     let past = airings_of before in
     let later = airings_of (before ++ x ∷ []) in
     let p = plan_of past x.airing in
     let order = cycle_of p in
     let n = length (air before) in
     let m = length (air (before ++ x ∷ [])) in
-    let both : before ++ x ∷ y ∷ after ≡ (before ++ x ∷ []) ++ y ∷ after = sym (append_assoc before (x ∷ []) (y ∷ after)) in
-    let one = cycle_along before x (y ∷ after) made in
-    let two = cycle_along (before ++ x ∷ []) y after (subst (AreMade []) both made) in
+    let many = (cycle_along before x (y ∷ after) made).many in
     let packets : x.packets ≡ cycle_alone past (air before) x.airing = made_at [] before x (y ∷ after) made in
-    let size : length x.packets ≡ packets_in p.size order = ap length packets ∙ length-counted (air before) (each_alone (at_places (sections_once past x.airing) order)) ∙ one.many in
+    let size : length x.packets ≡ packets_in p.size order = ap length packets ∙ length-counted (air before) (each_alone (at_places (sections_once past x.airing) order)) ∙ many in
     let end : n + packets_in p.size order ≡ m = omega (arith, size, ap length (air-push before x), length-append (air before) x.packets) in
     let same = same_plan past later x.airing y.airing tables form in
-    let starts : starts_alone p.size n (order ++ order) ≡ starts_of n past x.airing ++ starts_of m later y.airing =
+    let starts : starts_alone p.size n (order ++ order) ≡ starts_of_two before x y =
     starts-append p.size n order order ∙ ap (λ (k : ℕ). starts_alone p.size n order ++ starts_alone p.size k order) end
     ∙ ap (λ (q : Planned). starts_alone p.size n order ++ starts_alone q.size m (cycle_of q)) (sym same) in
-    record {
-      first = one.starts;
-      second = subst (λ (l : List Aired). AreStarts (air l) (sections_once later y.airing) (starts_of m later y.airing)) (sym both) two.starts;
-      spaced = subst (AreSpaced p) starts (cycles_are_spaced p (within_limits past x.airing fit quota) n);
-    }
+    subst (AreSpaced p) starts (cycles_are_spaced p (within_limits past x.airing fit quota) n)

@@ -29,15 +29,23 @@ pub record BeginsAt (packets : List Packet) (n : ℕ) (s : Sent) : Type 0 where
 abbrev pub AreStarts : List Packet → List Sent → List Start → Type 0
 AreStarts packets sections starts = AllByRecursion (λ (start : Start). (s : Sent) × (slice_get sections start.section ≡ Some s) × BeginsAt packets start.packet s) starts
 
--- Two cycles next to each other in an air: their sections begin at these starts, and these are spaced.
-pub record AreSpacedIn (before : List Aired) (x y : Aired) (after : List Aired) : Type 0 where
-  pub first : AreStarts (air (before ++ x ∷ y ∷ after)) (sections_once (airings_of before) x.airing) (starts_of (length (air before)) (airings_of before) x.airing)
-  pub second : AreStarts (air (before ++ x ∷ y ∷ after)) (sections_once (airings_of (before ++ x ∷ [])) y.airing) (starts_of (length (air (before ++ x ∷ []))) (airings_of (before ++ x ∷ [])) y.airing)
-  pub spaced : AreSpaced (plan_of (airings_of before) x.airing)
-      (starts_of (length (air before)) (airings_of before) x.airing ++ starts_of (length (air (before ++ x ∷ []))) (airings_of (before ++ x ∷ [])) y.airing)
+-- A cycle within an air: its sections begin at these starts, and these are spaced.
+pub record IsSpacedIn (before : List Aired) (x : Aired) (after : List Aired) : Type 0 where
+  pub starts : AreStarts (air (before ++ x ∷ after)) (sections_once (airings_of before) x.airing) (starts_of (length (air before)) (airings_of before) x.airing)
+  pub spaced : AreSpaced (plan_of (airings_of before) x.airing) (starts_of (length (air before)) (airings_of before) x.airing)
 
--- So it is in each air that is made, where two neighbours have equal sub-tables and one form.
-abbrev pub MadeAirsAreSpaced : Type 0
-MadeAirsAreSpaced =
+-- So is each cycle of an air that is made,
+abbrev pub MadeCyclesAreSpaced : Type 0
+MadeCyclesAreSpaced =
+    (before : List Aired) (x : Aired) (after : List Aired) → AreMade [] (before ++ x ∷ after) → AreFit x.airing.tables → 1 ≤ x.airing.form.quota → IsSpacedIn before x after
+
+-- the starts of a cycle within an air, and of the one behind it
+abbrev pub starts_of_two : List Aired → Aired → Aired → List Start
+starts_of_two before x y =
+    starts_of (length (air before)) (airings_of before) x.airing ++ starts_of (length (air (before ++ x ∷ []))) (airings_of (before ++ x ∷ [])) y.airing
+
+-- and from its end into the one behind it, where that has equal sub-tables and the same form.
+abbrev pub MadeNeighboursAreSpaced : Type 0
+MadeNeighboursAreSpaced =
     (before : List Aired) (x y : Aired) (after : List Aired) → AreMade [] (before ++ x ∷ y ∷ after) → AreFit x.airing.tables → 1 ≤ x.airing.form.quota
-    → y.airing.tables ≡ x.airing.tables → y.airing.form ≡ x.airing.form → AreSpacedIn before x y after
+    → y.airing.tables ≡ x.airing.tables → y.airing.form ≡ x.airing.form → AreSpaced (plan_of (airings_of before) x.airing) (starts_of_two before x y)

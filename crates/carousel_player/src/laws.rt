@@ -1,9 +1,10 @@
 // Laws of the air that a player makes.
-ghost use Rattle.carousel_player.specs.Spacing.{MadeAirsAreSpaced};
+ghost use Rattle.carousel_player.specs.Spacing.{MadeCyclesAreSpaced, MadeNeighboursAreSpaced};
 
-/// Where two cycles next to each other in an air have equal sub-tables and one quota, each of their sections begins in the packet that
-/// the plan says, and sections of tier Fast and Near repeat within the bounds of `cycle_plan`: within a cycle, and from the end of
-/// the first into the second. This is of each air whose sections begin in packets of their own (`AreMade`).
+/// Of an air whose sections begin in packets of their own (`AreMade`): the sections of each cycle begin in the packets that the plan
+/// says, and those of tier Fast and Near repeat within the bounds of `cycle_plan`. They do so too from the end of a cycle into the
+/// one behind it, where that has equal sub-tables and one quota.
 pub fn made_airs_are_spaced()
-    ensures { MadeAirsAreSpaced }
+    ensures cycles { MadeCyclesAreSpaced }
+    ensures neighbours { MadeNeighboursAreSpaced }
 {}
