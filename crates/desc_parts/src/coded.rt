@@ -1,12 +1,14 @@
 // The coded form of a text, without a copy of it.
-ghost use Rattle.std.specs.Prelude.{◌≡◌, ◌+◌, ◌<◌, length};
+ghost use Rattle.std.specs.Prelude.{◌≡◌, ◌+◌, ◌<◌, [], length, IfOk};
 ghost use Rattle.si_base.specs.Room.{Appended, HasRoom};
 ghost use Rattle.si_text.specs.Coding.{coded_text};
 ghost use Rattle.si_text.specs.Decoding.{shown_bytes};
+ghost use Rattle.si_text.specs.declared.shown.Shown.TheVariants.{Text};
 ghost use Rattle.desc_parts.specs.Lengths.{with_length};
 
 use si_base::put;
-use si_text::{Shown, coded_len};
+use si_text::{Shown, Txt, coded_len};
+use std::alloc::{AllocError, Global};
 use std::marker::Model;
 
 /// The first byte of a text in UTF-8 (EN 300 468, annex A, table A.3).
@@ -89,4 +91,11 @@ impl<'a> Coded<'a> {
         put(out, &[self.len() as u8]);
         self.put(out);
     }
+}
+
+/// The empty text, for a text that no descriptor tells.
+pub fn no_text(alloc: Global) -> Result<Shown, AllocError>
+    ensures { IfOk result (λ shown. shown ≡ Text []) }
+{
+    Ok(Shown::Text(Txt::of_kept(alloc, "")?))
 }

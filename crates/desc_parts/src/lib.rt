@@ -3,7 +3,8 @@
 //!
 //! The layers above use: [`read_descriptors`] gives the descriptors of a loop, of which there is one list at most
 //! (`descriptors_are_unique`); [`Coded`] writes a text, alone or behind its length, into room that was taken before, and
-//! [`split_length`] and [`behind_length`] read what stands behind a length back (`lengths_read_back`).
+//! [`split_length`] and [`behind_length`] read what stands behind a length back (`lengths_read_back`); [`no_text`] is the text that
+//! no descriptor tells.
 #![tactic(auto)]
 
 mod coded;
@@ -11,7 +12,7 @@ mod descriptors;
 mod laws;
 mod lengths;
 
-pub use coded::Coded;
+pub use coded::{Coded, no_text};
 pub use descriptors::{RawDesc, RawDescs, read_descriptors};
 pub use laws::{descriptors_are_unique, lengths_read_back};
 pub use lengths::{behind_length, split_length};

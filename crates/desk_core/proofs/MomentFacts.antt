@@ -19,7 +19,7 @@ use Rattle.desk_core.specs.Publications.{aired_by}
 use Rattle.desk_core.specs.declared.airing.Airing.{Airing}
 use Rattle.desk_core.specs.declared.derived.Derived.{Derived}
 use Rattle.desk_core.specs.Holding.{IsDerived}
-use Rattle.desk_core.proofs.HeldFacts.{not_aired}
+use Rattle.desk_core.proofs.DerivedFacts.{not_aired}
 
 abbrev pub InRange : Moment → Type 0
 InRange at = at.0 < 65536 * 86400

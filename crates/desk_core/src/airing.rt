@@ -13,9 +13,9 @@ pub struct Airing {
 }
 
 impl Model for Airing {
-    ghost use Rattle.desk_core.specs.Aired.{Aired};
+    ghost use Rattle.desk_core.specs.AiringView.{AiringView};
 
-    ghost Value = { Aired };
+    ghost Value = { AiringView };
 
     ghost view = { λ a. record { number = a.number; moment = a.moment; guide = a.guide.guide } };
 }

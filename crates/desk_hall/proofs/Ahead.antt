@@ -5,7 +5,7 @@ use Rattle.input_lines.specs.Fields.{record_of}
 use Rattle.journal_model.specs.declared.edit.Edit.{Edit}
 use Rattle.feed_edits.specs.Ahead.{Ahead, Row, Tail, Found, Came, Stopped, Stop}
 use Rattle.feed_edits.specs.Edits.{and_edits, edits_ahead, first_edit, on_line}
-use Rattle.feed_edits.proofs.Fewer.{edits_go_on}
+use Rattle.feed_edits.proofs.LinesLeft.{edits_go_on}
 use Rattle.journal_model.specs.declared.control.Control.{Control}
 use Rattle.control_lines.specs.Controls.{first_control, control_of}
 use Rattle.desk_hall.specs.Reads.{and_control, controls_in, controls_ahead}

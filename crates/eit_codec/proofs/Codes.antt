@@ -3,7 +3,7 @@ use Rattle.std.proofs.Common.{◌≡◌, ◌∙◌, ◌==◌, ℕ, true, List, [
 use Rattle.std.proofs.lemmas.Bool.Decides.{nat_tests}
 use Rattle.std.proofs.lemmas.Bool.{eqb-true}
 use Rattle.si_lists.proofs.Truths.{first_true, second_true}
-use Rattle.eit_codec.specs.Shows.{same_code, CodesAreCompared}
+use Rattle.eit_codec.specs.ShownEvent.{same_code, CodesAreCompared}
 
 number_same : (n : ℕ) → (n == n) ≡ true
 number_same n = grind (arith, nat_tests)

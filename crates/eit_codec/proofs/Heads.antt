@@ -9,7 +9,7 @@ use Rattle.desc_parts.proofs.Loops.{descriptors-unique}
 use Rattle.eit_codec.specs.declared.eit.EitHead.{EitHead}
 use Rattle.eit_codec.specs.declared.eit.Eit.{Eit}
 use Rattle.eit_codec.specs.Entries.{Entry, entry_bytes}
-use Rattle.eit_codec.specs.Shows.{event_of}
+use Rattle.eit_codec.specs.ShownEvent.{event_of}
 use Rattle.eit_codec.specs.Eit.{head_bytes, IsEvent, AreEvents, AreEntries, FitsHead, IsEit, EitIsUnique}
 use Rattle.table_entries.proofs.Same.{same_two}
 use Rattle.eit_codec.proofs.Same.{same_entry, not_nothing}

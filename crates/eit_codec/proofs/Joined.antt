@@ -5,7 +5,7 @@ use Rattle.std.specs.List.{concat}
 use Rattle.si_text.specs.Decoding.{decoded}
 use Rattle.si_text.specs.declared.shown.Shown.{Shown}
 use Rattle.si_text.specs.declared.shown.Shown.TheVariants.{Text}
-use Rattle.eit_codec.specs.Shows.{with_text, texts_of}
+use Rattle.eit_codec.specs.ShownEvent.{with_text, texts_of}
 
 -- the texts that are left, behind the text so far
 abbrev pub text_behind : List ℕ → Option (List (List ℕ)) → Option (List ℕ)

@@ -11,7 +11,7 @@ use Rattle.table_entries.proofs.Looks.{bytes_behind, bytes_before, descriptors_o
 use Rattle.guide_model.specs.declared.screen.ScreenEvent.{ScreenEvent}
 use Rattle.eit_codec.specs.declared.eit.Eit.{Eit}
 use Rattle.eit_codec.specs.Entries.{Entry, entry_bytes}
-use Rattle.eit_codec.specs.Shows.{event_of}
+use Rattle.eit_codec.specs.ShownEvent.{event_of}
 use Rattle.eit_codec.specs.Eit.{IsEvent, AreEntries, IsEit}
 use Rattle.eit_codec.specs.Bodies.{loop_length, loop_of, entry_length, time_of, duration_of, begins_with_entry, are_entries, BodiesCanBeRead}
 

@@ -27,7 +27,7 @@ use Rattle.desc_event.proofs.Entries.{content-reads_back, parental_rating-reads_
 use Rattle.desc_event.proofs.Fields.{short_event-reads_back, extended_event-reads_back}
 use Rattle.desc_event.proofs.Pieces.{length-coded_text, few_pieces}
 use Rattle.table_entries.specs.First.{first_in}
-use Rattle.eit_codec.specs.Shows as shows
+use Rattle.eit_codec.specs.ShownEvent as shows
 use Rattle.eit_codec.specs.Eit.{IsTyped, IsCodable, shown_event}
 
 -- ---- the descriptors of an event

@@ -15,7 +15,7 @@ use Rattle.desc_event.specs.ParentalRating.{HasThreeLetters}
 use Rattle.eit_codec.specs.declared.eit.EitHead.{EitHead}
 use Rattle.eit_codec.specs.declared.eit.Eit.{Eit}
 use Rattle.eit_codec.specs.Entries.{Entry, entry_bytes, FitsEntry}
-use Rattle.eit_codec.specs.Shows.{event_of}
+use Rattle.eit_codec.specs.ShownEvent.{event_of}
 
 -- ---- written
 

@@ -1,5 +1,5 @@
 pub mod Entries
-pub mod Shows
+pub mod ShownEvent
 pub mod Eit
 pub mod Bodies
 pub mod Rows

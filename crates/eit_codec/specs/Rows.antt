@@ -11,7 +11,7 @@ use Rattle.guide_model.specs.declared.screen.ScreenEvent.{ScreenEvent}
 use Rattle.desc_parts.specs.declared.descriptors.RawDesc.{RawDesc}
 use Rattle.eit_codec.specs.declared.eit.EitHead.{EitHead}
 use Rattle.eit_codec.specs.Entries.{Entry, entry_bytes}
-use Rattle.eit_codec.specs.Shows.{short_of, genres_of, rating_of, pieces_in, joined, event_of}
+use Rattle.eit_codec.specs.ShownEvent.{short_of, genres_of, rating_of, pieces_in, joined, event_of}
 use Rattle.eit_codec.specs.Eit.{eit_body, written_bytes, shown_event, IsEit}
 
 -- ---- event 7 at 13:00:00 of day 0xC079, of half an hour, with the name News

@@ -1,6 +1,6 @@
 // Laws of the written and the read bodies.
 ghost use Rattle.std.specs.Prelude.{◌≡◌, ◌<◌, length};
-ghost use Rattle.eit_codec.specs.Shows.{CodesAreCompared};
+ghost use Rattle.eit_codec.specs.ShownEvent.{CodesAreCompared};
 ghost use Rattle.eit_codec.specs.Bodies.{ReadBodiesAreBodies, BodiesCanBeRead};
 ghost use Rattle.eit_codec.specs.Eit.{EitIsUnique, EntryHasItsSize, EitReadsBack, IsTyped};
 

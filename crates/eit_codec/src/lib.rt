@@ -4,7 +4,7 @@
 //! where it has none; reading what was written of events gives those events back, all texts as `Text`
 //! (`written_events_read_back`). `is_eit_body` tells whether a body is one, and makes no event.
 //!
-//! `specs/Entries.antt` has the bytes of an entry, `specs/Shows.antt` what the descriptors of an event show, and
+//! `specs/Entries.antt` has the bytes of an entry, `specs/ShownEvent.antt` what the descriptors of an event show, and
 //! `specs/Eit.antt` the body, written and read, with the laws; `specs/Bodies.antt` says by computing whether bytes are one.
 #![tactic(auto)]
 
@@ -12,7 +12,7 @@ mod bodies;
 mod eit;
 mod laws;
 mod reading;
-mod shows;
+mod shown_event;
 mod writing;
 
 pub use bodies::is_eit_body;

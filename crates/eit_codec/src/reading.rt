@@ -3,11 +3,11 @@ ghost use Rattle.std.specs.Prelude.{◌≡◌, ◌<◌, ◌++◌, List, ℕ, len
 ghost use Rattle.eit_codec.specs.declared.eit.Eit.{Eit};
 ghost use Rattle.guide_model.specs.declared.screen.ScreenEvent.{ScreenEvent};
 ghost use Rattle.eit_codec.specs.Entries.{Entry, entry_bytes, FitsEntry};
-ghost use Rattle.eit_codec.specs.Shows.{event_of};
+ghost use Rattle.eit_codec.specs.ShownEvent.{event_of};
 ghost use Rattle.eit_codec.specs.Eit.{head_bytes, IsEvent, AreEntries, IsEit};
 
 use crate::eit::{Eit, EitHead};
-use crate::shows::{extended_of, genres_of, rating_of, short_of};
+use crate::shown_event::{extended_of, genres_of, rating_of, short_of};
 use desc_event::{RawDesc, read_descriptors};
 use guide_model::{ScreenEvent, ScreenEvents};
 use si_base::Items;

@@ -13,7 +13,7 @@ use Rattle.journal_model.specs.declared.edit.Item.{Item}
 use Rattle.journal_model.specs.declared.edit.Edit.{Edit}
 use Rattle.journal_model.specs.declared.edit.Edit.TheVariants.{Put, Withdraw, Clear, Name, Day}
 use Rattle.journal_model.specs.Edits.{IsTypedItem, IsTypedEdit}
-use Rattle.guide_limits.specs.Kept.{Kept}
+use Rattle.guide_limits.specs.KeptService.{KeptService}
 use Rattle.guide_limits.specs.Guides.{kept_after}
 use Rattle.guide_limits.specs.Readings.{event_of}
 use Rattle.guide_limits.specs.Standing.{standing}
@@ -59,8 +59,8 @@ all_typed [] given within = tt
 all_typed (e ∷ es) given within = (typed e given.0 within.0, all_typed es given.1 within.1)
 
 services_typed : (past : List Edit) → AllByRecursion (OfEachItem IsGiven) past → (services : List MuxService)
-    → AllByRecursion IsServiceWithin (map (λ (kept : Kept). kept.guide) (map (kept_after past) services))
-    → AllByRecursion (λ (s : ServiceGuide). AllByRecursion IsTyped s.events) (map (λ (kept : Kept). kept.guide) (map (kept_after past) services))
+    → AllByRecursion IsServiceWithin (map (λ (kept : KeptService). kept.guide) (map (kept_after past) services))
+    → AllByRecursion (λ (s : ServiceGuide). AllByRecursion IsTyped s.events) (map (λ (kept : KeptService). kept.guide) (map (kept_after past) services))
 services_typed past given [] within = tt
 services_typed past given (s ∷ services) within =
     (all_typed (standing s.service past) (standing_all IsGiven s.service past given) within.0.events.each, services_typed past given services within.1)

@@ -14,7 +14,7 @@ use Rattle.csv.specs.Writing.{fields_text}
 use Rattle.journal_text.specs.Entries.{journal_text}
 use Rattle.mux_model.specs.Rows.{row_mux}
 use Rattle.journal_model.specs.Rows.{row_commands, row_journal}
-use Rattle.journal_text.specs.Kept.{outcome_of_fields, reply_of}
+use Rattle.journal_text.specs.KeptOutcomes.{outcome_of_fields, reply_of}
 use Rattle.journal_text.specs.Script.{items_ahead}
 use Rattle.epg_cli.specs.Script.{Ended, NoMux, NoCommand, Disagreed, Unread, no_mux, script_in, script_taken}
 

@@ -6,11 +6,11 @@ ghost use Rattle.guide_limits.specs.Sound.{AreApart};
 ghost use Rattle.guide_limits.specs.Readings.{event_of as event_given};
 ghost use Rattle.feed_book.specs.Accepted.{is_done};
 ghost use Rattle.feed_book.specs.Replies.{item_fault, put_reply};
-ghost use Rattle.feed_book.specs.Slots.{slot_of as slot_of_event, AreIndexed};
+ghost use Rattle.feed_book.specs.Index.{slot_of as slot_of_event, AreIndexed};
 ghost use Rattle.std.specs.Prelude.{IfOk, OnOk, OnErr, Some, None, [], if◌then◌else◌};
 
+use crate::index::{IndexedEvent, place_fault, place_of_id, place_of_start, slot_of};
 use crate::reading::{event_of, field_fault};
-use crate::slots::{IndexedEvent, place_fault, place_of_id, place_of_start, slot_of};
 use guide_model::Event;
 use journal_model::{DayFault, Item, Reply};
 use page_share::Page;

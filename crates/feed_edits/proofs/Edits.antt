@@ -23,7 +23,7 @@ use Rattle.feed_edits.specs.Items.{item_line}
 use Rattle.feed_edits.specs.Heads.{edit_head}
 use Rattle.feed_edits.specs.Edits.{first_item, items_of, on_line, with_items, edit_from, first_edit, read_edit}
 use Rattle.feed_edits.specs.Reads.{Leaves, Gives, Passes, Takes, Says, ahead_with, none_ahead, stopped_by, ReadsStopped}
-use Rattle.feed_edits.proofs.Turns.{Known, passes_step, leaves_step, row_passes, row_refused, row_leaves, row_stop_takes, row_stop_gives, row_none, takes_stop, gives_stop, says_takes, says_gives, looked_none, passes_same, leaves_same, passes_join, leaves_join, takes_join, gives_join, gives_same, stuck_on}
+use Rattle.feed_edits.proofs.LineSteps.{Known, passes_step, leaves_step, row_passes, row_refused, row_leaves, row_stop_takes, row_stop_gives, row_none, takes_stop, gives_stop, says_takes, says_gives, looked_none, passes_same, leaves_same, passes_join, leaves_join, takes_join, gives_join, gives_same, stuck_on}
 
 abbrev pub item_in : List ℕ → Option Item
 item_in line = option_and_then item_line (record_of line)

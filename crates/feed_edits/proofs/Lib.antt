@@ -1,8 +1,8 @@
 pub mod Genres
-pub mod Ten
+pub mod EventFields
 pub mod Shapes
-pub mod Turns
+pub mod LineSteps
 pub mod Edits
-pub mod Fewer
+pub mod LinesLeft
 pub mod Back
 pub mod Typed

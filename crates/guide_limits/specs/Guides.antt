@@ -5,18 +5,18 @@ use Rattle.si_time.specs.declared.moment.Moment.{Moment}
 use Rattle.mux_model.specs.declared.mux.MuxService.{MuxService}
 use Rattle.journal_model.specs.declared.edit.Edit.{Edit}
 use Rattle.guide_limits.specs.Standing.{standing, names_of}
-use Rattle.guide_limits.specs.Kept.{Kept}
+use Rattle.guide_limits.specs.KeptService.{KeptService}
 
 -- a service with its names and its standing events
-abbrev pub kept_after : List Edit → MuxService → Kept
+abbrev pub kept_after : List Edit → MuxService → KeptService
 kept_after past service =
     let names = names_of service.service (service.provider, service.name) past in
     record { feed = service.feed; guide = record { service = service.service; provider = names.0; name = names.1; events = standing service.service past } }
 
 -- what a book of these services keeps after these accepted edits
-abbrev pub book_after : List MuxService → List Edit → List Kept
+abbrev pub book_after : List MuxService → List Edit → List KeptService
 book_after services past = map (kept_after past) services
 
 -- what a book gives at a moment
-abbrev pub guide_of : List Kept → Moment → Guide
-guide_of book moment = record { moment = moment; services = map (λ (kept : Kept). kept.guide) book }
+abbrev pub guide_of : List KeptService → Moment → Guide
+guide_of book moment = record { moment = moment; services = map (λ (kept : KeptService). kept.guide) book }

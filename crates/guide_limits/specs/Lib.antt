@@ -3,6 +3,6 @@ pub mod Sound
 pub mod Limits
 pub mod Readings
 pub mod Standing
-pub mod Kept
+pub mod KeptService
 pub mod Guides
 pub mod Runs

@@ -1,3 +1,4 @@
 pub mod Shown
+pub mod Reading
 pub mod Latest
 pub mod Dones

@@ -1,14 +1,15 @@
 -- What a receiver hears of a packet list: the completions that are shown, each with the packet that ended its last section.
-use Rattle.std.specs.Prelude.{ℕ, List, [], ◌∷◌, ◌++◌, length, map, Option}
+use Rattle.std.specs.Prelude.{ℕ, List, [], ◌∷◌, ◌++◌, length, map, Option, Some, ◌≡◌}
+use Rattle.ts_demux.specs.declared.section.RawSection.{RawSection}
 use Rattle.ts_demux.specs.Keeping.{PidState, DemuxStandsFor}
 use Rattle.ts_demux.specs.Sections.{ended_by, heard_all}
 use Rattle.sub_collect.specs.Runs.{Counted}
 use Rattle.sub_collect.specs.Completions.{dones}
-use Rattle.sub_collect.specs.Collectors.{KeysHeard, CollectorStandsFor}
+use Rattle.sub_collect.specs.Collectors.{KeysHeard, CollectorStandsFor, IsRepeated}
 use Rattle.sub_collect.specs.declared.completed.Completed.{Completed}
 use Rattle.si_time.specs.declared.moment.Moment.{Moment}
 use Rattle.guide_receiver.specs.declared.done.DoneKey.{DoneKey}
-use Rattle.guide_receiver.specs.Counting.{counted_among}
+use Rattle.guide_receiver.specs.Counting.{counted_in, counted_among}
 use Rattle.guide_receiver.specs.Latest.{LatestKept, keys_shown, AreLatest, IsClock}
 
 -- the sections of a packet list that count, in the order in which they end
@@ -58,3 +59,9 @@ pub record ReceiverStandsFor (past : List (List ℕ)) (receiver : Hearing) : Typ
   pub completions : CollectorStandsFor (counted_heard past) receiver.collector
   pub latest : AreLatest (keys_shown (counted_heard past)) receiver.latest
   pub clock : IsClock (heard_all [] past) receiver.clock
+
+-- A section counts that the collector holds already: it shows nothing, and the collector stands for it too.
+pub record CountsAgain (collector : KeysHeard) (section : RawSection) : Type 0 where
+  pub counts : Counted
+  pub is : counted_in section ≡ Some counts
+  pub repeats : IsRepeated collector counts

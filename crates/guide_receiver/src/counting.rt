@@ -1,6 +1,7 @@
 // The sections that count.
-ghost use Rattle.std.specs.Prelude.{◌≡◌, ◌&&◌, IfOk, option_map};
+ghost use Rattle.std.specs.Prelude.{◌≡◌, ◌&&◌, IfOk, IfSome, option_map};
 ghost use Rattle.section_codec.specs.Tables.{is_pat, is_pmt, is_nit, is_sdt, is_events};
+ghost use Rattle.section_codec.specs.Section.{long_body};
 ghost use Rattle.section_codec.specs.Segments.{segment_last_in};
 ghost use Rattle.sub_collect.specs.Runs.{counted};
 ghost use Rattle.guide_receiver.specs.Counting.{is_counted, is_last_within, is_event_body, is_body_of_table, counted_in};
@@ -28,7 +29,8 @@ pub(crate) fn counted_section(
     alloc: Global,
     raw: &RawSection,
 ) -> Result<Option<CountedSection>, AllocError>
-    ensures { IfOk result (λ found. option_map (λ s. counted s.key s.header s.body) found ≡ counted_in raw.now) }
+    ensures counts { IfOk result (λ found. option_map (λ s. counted s.key s.header s.body) found ≡ counted_in raw.now) }
+    ensures body { IfOk result (λ found. IfSome found (λ s. s.body ≡ long_body raw.now.bytes)) }
 {
     let (header, body) = match read_section(alloc, raw.bytes.as_slice()) {
         Ok(Section::Long(header, body)) => (header, body),

@@ -11,6 +11,7 @@
 mod clock;
 mod counting;
 mod done;
+mod known;
 mod latest_keys;
 mod receiver;
 

@@ -1,5 +1,5 @@
 // The receiver.
-ghost use Rattle.std.specs.Prelude.{◌≡◌, ◌≢◌, ◌↔◌, ◌++◌, ◌∷◌, [], List, ℕ, Option, Err, IfOk, OnOk, map, option_map, option_to_list, slice_index};
+ghost use Rattle.std.specs.Prelude.{◌≡◌, ◌≢◌, ◌↔◌, ◌++◌, ◌∷◌, [], List, ℕ, Option, Err, IfOk, OnOk, map, option_map, option_to_list, slice_index, true};
 ghost use Rattle.section_codec.specs.declared.table.Key.{Key};
 ghost use Rattle.sub_collect.specs.Runs.{Counted};
 ghost use Rattle.sub_collect.specs.Completions.{dones};
@@ -7,12 +7,13 @@ ghost use Rattle.sub_collect.specs.Collectors.{CollectorStandsFor};
 ghost use Rattle.guide_receiver.specs.declared.done.DoneKey.{DoneKey};
 ghost use Rattle.guide_receiver.specs.Counting.{counted_in, counted_among};
 ghost use Rattle.guide_receiver.specs.Latest.{keys_shown, kept_keys, AreLatest};
-ghost use Rattle.guide_receiver.specs.Heard.{ReceiverStandsFor, done_key, dones_by};
+ghost use Rattle.guide_receiver.specs.Heard.{CountsAgain, ReceiverStandsFor, done_key, dones_by};
 ghost use Rattle.guide_receiver.specs.Guides.{guide_of};
 
 use crate::clock::clock_behind;
 use crate::counting::{CountedSection, counted_section};
 use crate::done::{DoneKey, Dones};
+use crate::known::KnownSections;
 use crate::latest_keys::LatestKeys;
 use guide_screen::{Heard, Latest, heard_guide};
 use si_base::Items;
@@ -37,6 +38,7 @@ pub enum HearStop {
 pub struct Receiver {
     alloc: Global,
     demux: Demux,
+    known: KnownSections,
     collector: Collector,
     latest: LatestKeys,
     clock: Option<Moment>,
@@ -59,6 +61,7 @@ impl Receiver {
         Receiver {
             alloc,
             demux: Demux::open(alloc),
+            known: KnownSections::none(alloc),
             collector: Collector::open(alloc),
             latest: LatestKeys::open(alloc),
             clock: None,
@@ -87,6 +90,7 @@ impl Receiver {
         let mut dones = Items::new(self.alloc);
         let Ok(()) = count_all(
             self.alloc,
+            &mut self.known,
             &mut self.collector,
             &mut self.latest,
             sections.as_slice(),
@@ -115,6 +119,7 @@ impl Receiver {
 // Counts these sections, keeps the keys that they complete, and appends the completions that they show.
 fn count_all(
     alloc: Global,
+    known: &mut KnownSections,
     collector: &mut Collector,
     latest: &mut LatestKeys,
     sections: &[RawSection],
@@ -126,29 +131,46 @@ fn count_all(
         → OnOk result (AreLatest (keys_shown (past ++ counted_among sections.now)) (kept_keys latest.new)) }
 {
     for section in sections {
-        let done = count(alloc, collector, section)?;
+        let done = count(alloc, known, collector, section)?;
         keep_shown(latest, shown, done)?;
     }
     Ok(())
 }
 
-// Counts a section, and gives the completion that it shows.
+// Counts a section, and gives the completion that it shows. A carousel repeats its sections for ever: what is held already is
+// compared, and not read again.
 fn count(
     alloc: Global,
+    known: &mut KnownSections,
     collector: &mut Collector,
     section: &RawSection,
 ) -> Result<Option<DoneKey>, AllocError>
     ensures done { (past : List Counted) → CollectorStandsFor past collector.old → IfOk result (λ done. option_to_list done ≡ map done_key (dones past (option_to_list (counted_in section.now)))) }
     ensures stands { (past : List Counted) → CollectorStandsFor past collector.old → OnOk result (CollectorStandsFor (past ++ option_to_list (counted_in section.now)) collector.new) }
 {
-    let Some(CountedSection { key, header, body }) = counted_section(alloc, section)? else {
+    if is_held(known, collector, section) {
+        return Ok(None);
+    }
+    let Some(counts) = counted_section(alloc, section)? else {
         return Ok(None);
     };
+    known.keep(alloc, section, &counts)?;
+    let CountedSection { key, header, body } = counts;
     let shown = collector.take(key, &header, body)?;
     Ok(match shown {
         Some(version) => Some(DoneKey { key, version }),
         None => None,
     })
+}
+
+// Whether a section counted last under its name, and is held already.
+fn is_held(known: &KnownSections, collector: &Collector, section: &RawSection) -> bool
+    ensures { result ≡ true → CountsAgain collector.now section.now }
+{
+    match known.find(section) {
+        Some(same) => collector.repeats(same.key, &same.header, same.body()),
+        None => false,
+    }
 }
 
 // Appends a completion, where there is one, and keeps its key.

@@ -28,7 +28,7 @@ use Rattle.nit_sdt.specs.Sdt.{service_of, IsSdt}
 use Rattle.nit_sdt.specs.Bodies.{is_loop, is_stream_loop, is_nit_body, is_sdt_body}
 use Rattle.nit_sdt.proofs.Bodies.{loop_at, nit_bodies, sdt_bodies}
 use Rattle.eit_codec.specs.Entries as eit
-use Rattle.eit_codec.specs.Shows.{event_of}
+use Rattle.eit_codec.specs.ShownEvent.{event_of}
 use Rattle.eit_codec.specs.declared.eit.EitHead.{EitHead}
 use Rattle.eit_codec.specs.declared.eit.Eit.{Eit}
 use Rattle.eit_codec.specs.Eit.{head_bytes, IsEvent, AreEvents, IsEit}

@@ -25,7 +25,7 @@ use Rattle.nit_sdt.specs.Sdt.{service_of, IsSdt}
 use Rattle.nit_sdt.specs.Bodies.{is_loop, is_nit_body, is_sdt_body}
 use Rattle.eit_codec.specs.declared.eit.EitHead.{EitHead}
 use Rattle.eit_codec.specs.declared.eit.Eit.{Eit}
-use Rattle.eit_codec.specs.Shows.{event_of}
+use Rattle.eit_codec.specs.ShownEvent.{event_of}
 use Rattle.eit_codec.specs.Eit.{IsEit}
 use Rattle.eit_codec.specs.Bodies.{time_of, duration_of, is_eit_body}
 

@@ -13,7 +13,7 @@ use Rattle.journal_model.specs.declared.step.Step.TheVariants.{Edit as edit, Tic
 use Rattle.journal_model.specs.declared.step.Entry.{Entry}
 use Rattle.desk_core.specs.Journal.{Legal, LegalAfter, moment_of, outcome_of}
 use Rattle.desk_core.specs.Publications.{aired_by}
-use Rattle.desk_core.proofs.HeldFacts.{not_aired}
+use Rattle.desk_core.proofs.DerivedFacts.{not_aired}
 use Rattle.headend_live.specs.Air.{airings_by}
 use Rattle.headend_live.specs.OnAir.{is_swap}
 use Rattle.turn_lock.specs.declared.known.Caller.{Caller}

@@ -9,7 +9,7 @@ use si_causes::{OpenGate, write_all};
 use std::env::{self, Env};
 use std::io;
 use std::process::ExitCode;
-use std_streams::{Opening, Reading, Writing};
+use std_streams::{Opening, ReaderSource, WriterSink};
 
 // The words behind the program's name.
 fn words(rt: &(impl Env + AllocGlobal)) -> io::Result<Vec<String>> {
@@ -19,9 +19,9 @@ fn words(rt: &(impl Env + AllocGlobal)) -> io::Result<Vec<String>> {
 }
 
 fn main(rt: HostRuntime) -> ExitCode {
-    let mut input = Reading::open(rt.stdin());
-    let mut air = Writing::open(rt.stdout());
-    let mut report = Writing::open(rt.stderr());
+    let mut input = ReaderSource::open(rt.stdin());
+    let mut air = WriterSink::open(rt.stdout());
+    let mut report = WriterSink::open(rt.stderr());
     let words = match words(&rt) {
         Ok(words) => words,
         Err(error) if error.kind() == io::ErrorKind::OutOfMemory => {

@@ -1,7 +1,7 @@
 -- The items ahead, one by one: which items come, that what is ahead gets fewer lines with each, and how they go on.
 use Rattle.std.proofs.Common.{◌≡◌, ◌≤◌, ◌<◌, ◌-◌, ℕ, zero, suc, Bool, true, false, List, [], ◌∷◌, length, drop, refl, ap, sym, subst, ◌∙◌, arith}
 use Rattle.std.specs.Prelude.{Option, Some, None, option_map, option_and_then, if◌then◌else◌, codes}
-use Rattle.feed_edits.proofs.Fewer.{then_within, row_within, line_within, items_within}
+use Rattle.feed_edits.proofs.LinesLeft.{then_within, row_within, line_within, items_within}
 use Rattle.input_lines.specs.Fields.{record_of}
 use Rattle.input_lines.specs.Numbers.{is_word, number_in}
 use Rattle.journal_model.specs.declared.edit.DayText.{DayText}
@@ -16,7 +16,7 @@ use Rattle.journal_model.specs.declared.step.Outcome.{Outcome}
 use Rattle.journal_model.specs.Steps.{Command}
 use Rattle.journal_text.specs.declared.script.ScriptItem.{ScriptItem}
 use Rattle.journal_text.specs.declared.script.ScriptItem.TheVariants.{Step as step, Kept, End}
-use Rattle.journal_text.specs.Kept.{outcome_of_fields}
+use Rattle.journal_text.specs.KeptOutcomes.{outcome_of_fields}
 use Rattle.journal_text.specs.Script.{feed_of, feed_command, short_step, command_with, caller_of, command_by, read_command, is_outcome_line, kept_in, kept_item, step_item, read_item, item_on, first_script_item, is_command, and_items, items_upto, items_ahead}
 use Rattle.journal_text.specs.ScriptLaws.{ItemsGoOn}
 

@@ -37,7 +37,7 @@ use Rattle.control_lines.specs.Controls.{moment_at}
 use Rattle.journal_text.specs.Edits.{line_text, item_text, item_row, items_of}
 use Rattle.journal_text.specs.Entries.{step_fields, step_items, entry_text, journal_text}
 use Rattle.journal_text.specs.Outcomes.{field_fields, day_fault_fields, outcome_fields}
-use Rattle.journal_text.specs.Kept.{event_word, other_word, or_else}
+use Rattle.journal_text.specs.KeptOutcomes.{event_word, other_word, or_else}
 use Rattle.journal_text.specs.Script.{short_step, feed_of, IsShapedStep}
 use Rattle.journal_text.specs.Back.{IsFronted, IsWritableOutcome, IsOfLines, command_row, outcome_row, row_line, field_numbers, day_fault_numbers, BeginsNoEntry, JournalsDiffer, JournalsEnd}
 use Rattle.journal_text.proofs.CleanRows.{row_clean, all_clean, clean_inner, line_first}

@@ -19,7 +19,7 @@ use Rattle.journal_model.specs.declared.step.Outcome.{Outcome}
 use Rattle.journal_model.specs.declared.step.Outcome.TheVariants.{Edited, Ticked, Late, Published, Swapped}
 use Rattle.control_lines.specs.Controls.{moment_at}
 use Rattle.journal_text.specs.Outcomes.{field_text, field_fields, day_fault_text, day_fault_fields, outcome_fields, with_commas}
-use Rattle.journal_text.specs.Kept.{field_of, day_fault_of, reply_of, outcome_of_fields}
+use Rattle.journal_text.specs.KeptOutcomes.{field_of, day_fault_of, reply_of, outcome_of_fields}
 use Rattle.journal_text.specs.Back.{IsNumeralNumber, HasFieldNumber, HasDayFaultNumbers, IsReadableOutcome, OutcomesAreFields}
 
 -- ---- numbers and moments

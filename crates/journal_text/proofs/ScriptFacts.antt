@@ -14,7 +14,7 @@ use Rattle.feed_edits.specs.declared.stop.EditStop.TheVariants.{NoCommand as Ref
 use Rattle.feed_edits.specs.Ahead.{Ahead, Row, Found, Came, Stopped, Stop, End as end, NoCommand, and_then, first_row, stop_at, ahead, Tail}
 use Rattle.feed_edits.specs.Edits.{on_line, read_edit}
 use Rattle.feed_edits.specs.Reads.{Leaves, Gives, Passes, Takes, Says, Looked, ahead_with}
-use Rattle.feed_edits.proofs.Turns.{Known, looked_none, passes_step, leaves_step, row_passes, row_leaves, row_stop_takes, row_stop_gives, row_none, takes_stop, gives_stop, takes_join, gives_join, gives_same, passes_same, leaves_same}
+use Rattle.feed_edits.proofs.LineSteps.{Known, looked_none, passes_step, leaves_step, row_passes, row_leaves, row_stop_takes, row_stop_gives, row_none, takes_stop, gives_stop, takes_join, gives_join, gives_same, passes_same, leaves_same}
 use Rattle.journal_model.specs.declared.step.Step.{Step}
 use Rattle.journal_model.specs.declared.step.Step.TheVariants.{Edit as edit}
 use Rattle.journal_model.specs.declared.step.Outcome.{Outcome}

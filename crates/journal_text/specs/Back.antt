@@ -25,7 +25,7 @@ use Rattle.journal_text.specs.Edits.{line_text, item_row}
 use Rattle.journal_text.specs.Entries.{step_fields, step_items, entry_text, journal_text}
 use Rattle.journal_text.specs.Script.{first_script_item, IsShapedStep}
 use Rattle.journal_text.specs.Outcomes.{outcome_text, outcome_fields, with_commas}
-use Rattle.journal_text.specs.Kept.{outcome_of_fields}
+use Rattle.journal_text.specs.KeptOutcomes.{outcome_of_fields}
 
 -- ---- rows
 

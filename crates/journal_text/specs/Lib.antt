@@ -1,7 +1,7 @@
 pub mod Edits
 pub mod Outcomes
 pub mod Entries
-pub mod Kept
+pub mod KeptOutcomes
 pub mod Script
 pub mod ScriptReads
 pub mod ScriptLaws

@@ -14,7 +14,7 @@ use Rattle.journal_model.specs.declared.step.Step.TheVariants.{Edit as edit, Pub
 use Rattle.journal_model.specs.declared.step.Outcome.TheVariants.{Edited, Published}
 use Rattle.control_lines.specs.Controls.{control_of}
 use Rattle.journal_text.specs.declared.script.ScriptItem.TheVariants.{Step as step, Kept}
-use Rattle.journal_text.specs.Kept.{field_of, day_fault_of, reply_of, outcome_of_fields}
+use Rattle.journal_text.specs.KeptOutcomes.{field_of, day_fault_of, reply_of, outcome_of_fields}
 use Rattle.journal_text.specs.Script.{items_ahead, script_of}
 use Rattle.journal_model.specs.Rows.{row_journal}
 use Rattle.journal_text.specs.Entries.{journal_text}

@@ -16,7 +16,7 @@ use Rattle.journal_model.specs.Steps.{IsStepWithin, Command, IsInWindow}
 use Rattle.control_lines.specs.Controls.{control_of}
 use Rattle.journal_text.specs.declared.script.ScriptItem.{ScriptItem}
 use Rattle.journal_text.specs.declared.script.ScriptItem.TheVariants.{Step as step, Kept, End}
-use Rattle.journal_text.specs.Kept.{outcome_of_fields}
+use Rattle.journal_text.specs.KeptOutcomes.{outcome_of_fields}
 
 -- `swap`
 abbrev pub is_swap : List (List ℕ) → Bool
@@ -148,7 +148,7 @@ IsItemWithin (step who s) = IsStepWithin s
 IsItemWithin (Kept n outcome) = IsInWindow outcome
 IsItemWithin End = Unit {0}
 
-abbrev pub IsShapedItem : ScriptItem → Type 0
-IsShapedItem (step who s) = IsShapedStep s
-IsShapedItem (Kept n outcome) = Unit {0}
-IsShapedItem End = Unit {0}
+abbrev pub IsShapedScriptItem : ScriptItem → Type 0
+IsShapedScriptItem (step who s) = IsShapedStep s
+IsShapedScriptItem (Kept n outcome) = Unit {0}
+IsShapedScriptItem End = Unit {0}

@@ -3,7 +3,7 @@ ghost use Rattle.std.specs.Prelude.{◌≡◌, ◌++◌, ◌∷◌, OnOk, IfOk, 
 ghost use Rattle.feed_edits.specs.Back.{country_field, edit_fields, genre_field, genres_field, item_fields, rating_field};
 ghost use Rattle.journal_text.specs.Edits.{and_field, and_fields, item_text, items_of, IsOpenFor};
 
-use crate::line::Row;
+use crate::line::LineWriter;
 use crate::outcome::put_number;
 use guide_model::Genre;
 use journal_model::{Edit, Item, RawRating};
@@ -46,7 +46,11 @@ fn country_of(rating: &Option<RawRating>) -> &[u8]
 }
 
 // Adds the value of a rating, or an empty field.
-fn add_value(alloc: Global, row: &mut Row, rating: &Option<RawRating>) -> Result<(), AllocError>
+fn add_value(
+    alloc: Global,
+    row: &mut LineWriter,
+    rating: &Option<RawRating>,
+) -> Result<(), AllocError>
     requires { IsOpenFor 0 row.old }
     ensures { OnOk result (row.new ≡ and_field row.old (rating_field rating.now)) }
 {
@@ -57,7 +61,7 @@ fn add_value(alloc: Global, row: &mut Row, rating: &Option<RawRating>) -> Result
 }
 
 // Adds the fields of an item.
-fn add_item(alloc: Global, row: &mut Row, item: &Item) -> Result<(), AllocError>
+fn add_item(alloc: Global, row: &mut LineWriter, item: &Item) -> Result<(), AllocError>
     requires { IsOpenFor 12 row.old }
     ensures { OnOk result (row.new ≡ and_fields row.old (item_fields item.now)) }
 {
@@ -78,7 +82,7 @@ fn add_item(alloc: Global, row: &mut Row, item: &Item) -> Result<(), AllocError>
 fn put_item(alloc: Global, out: &mut Vec<u8>, item: &Item) -> Result<(), AllocError>
     ensures { OnOk result (out.new.items ≡ out.old.items ++ item_text item.now) }
 {
-    let mut row = Row::open(alloc);
+    let mut row = LineWriter::open(alloc);
     row.field(b"item")?;
     add_item(alloc, &mut row, item)?;
     row.end(out)
@@ -105,7 +109,7 @@ pub(crate) fn items_of(edit: &Edit) -> &[Item]
 }
 
 // Adds the fields of a put.
-fn add_put(alloc: Global, row: &mut Row, service: u16, item: &Item) -> Result<(), AllocError>
+fn add_put(alloc: Global, row: &mut LineWriter, service: u16, item: &Item) -> Result<(), AllocError>
     requires { IsOpenFor 20 row.old }
     ensures { OnOk result (row.new ≡ and_fields row.old (codes "put" ∷ decimal service ∷ item_fields item.now)) }
 {
@@ -115,7 +119,7 @@ fn add_put(alloc: Global, row: &mut Row, service: u16, item: &Item) -> Result<()
 }
 
 /// Adds the fields of an edit.
-pub(crate) fn add_edit(alloc: Global, row: &mut Row, edit: &Edit) -> Result<(), AllocError>
+pub(crate) fn add_edit(alloc: Global, row: &mut LineWriter, edit: &Edit) -> Result<(), AllocError>
     requires { IsOpenFor 20 row.old }
     ensures { OnOk result (row.new ≡ and_fields row.old (edit_fields edit.now)) }
 {

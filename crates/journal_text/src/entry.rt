@@ -6,14 +6,14 @@ ghost use Rattle.journal_model.specs.Steps.{IsInWindow, IsEntryInWindow, IsStepI
 ghost use Rattle.journal_text.specs.Entries.{step_fields, step_items, command_text, entry_text};
 
 use crate::edit::{add_edit, items_of, put_items};
-use crate::line::Row;
+use crate::line::LineWriter;
 use crate::outcome::put_outcome;
 use journal_model::{Entry, Item, Outcome, Step};
 use si_time::write_moment;
 use std::alloc::{AllocError, Global};
 
 // Adds the fields of a step.
-fn add_step(alloc: Global, row: &mut Row, step: &Step) -> Result<(), AllocError>
+fn add_step(alloc: Global, row: &mut LineWriter, step: &Step) -> Result<(), AllocError>
     requires open { IsOpenFor 40 row.old }
     requires window { IsStepInWindow step.now }
     ensures { OnOk result (row.new ≡ and_fields row.old (step_fields step.now)) }
@@ -53,7 +53,7 @@ pub(crate) fn put_command(
     requires { IsStepInWindow step.now }
     ensures { OnOk result (out.new.items ≡ out.old.items ++ command_text who step.now) }
 {
-    let mut row = Row::open(alloc);
+    let mut row = LineWriter::open(alloc);
     row.number(alloc, who as u64)?;
     add_step(alloc, &mut row, step)?;
     row.end(out)?;

@@ -7,14 +7,14 @@
 
 mod edit;
 mod entry;
-mod kept;
+mod kept_outcome;
 mod laws;
 mod line;
 mod outcome;
 mod script;
 
 pub use entry::write_entry;
-pub use kept::read_outcome;
+pub use kept_outcome::read_outcome;
 pub use laws::{
     entries_read_back, items_go_on, journals_differ_in_their_texts, outcomes_read_back,
     rows_read_back,

@@ -5,11 +5,11 @@ use std::marker::Model;
 
 /// A line in the making: fields, as csv writes those of a record. It parts them by commas, and quotes those that call for it.
 #[derive(Drop)]
-pub(crate) struct Row {
+pub(crate) struct LineWriter {
     writer: Writer<Vec<u8>>,
 }
 
-impl Model for Row {
+impl Model for LineWriter {
     ghost use Rattle.journal_text.specs.Edits.{Line, line_in};
 
     ghost Value = { Line };
@@ -17,15 +17,15 @@ impl Model for Row {
     ghost view = { λ r. line_in r.writer };
 }
 
-impl Row {
+impl LineWriter {
     ghost use Rattle.std.specs.Prelude.{◌≡◌, ◌++◌, OnOk, decimal};
     ghost use Rattle.journal_text.specs.Edits.{no_fields, and_field, ended, IsOpen};
 
     /// A line without a field.
-    pub(crate) fn open(alloc: Global) -> Row
+    pub(crate) fn open(alloc: Global) -> LineWriter
         ensures { result ≡ no_fields }
     {
-        Row {
+        LineWriter {
             writer: WriterBuilder::new().from_writer(Vec::new(alloc)),
         }
     }

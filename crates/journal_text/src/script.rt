@@ -6,11 +6,11 @@ ghost use Rattle.input_lines.specs.Fields.{record_of};
 ghost use Rattle.feed_edits.specs.declared.stop.EditStop.TheVariants.{Read};
 ghost use Rattle.feed_edits.specs.Reads.{Gives, Says, Takes};
 ghost use Rattle.journal_model.specs.Steps.{IsStepWithin, IsInWindow};
-ghost use Rattle.journal_text.specs.Script.{IsItemWithin, IsShapedItem, IsShapedStep, caller_of, command_of_caller, control_step, feed_of, is_outcome_line, is_swap, kept_in, read_command as command_at, read_item, short_step};
+ghost use Rattle.journal_text.specs.Script.{IsItemWithin, IsShapedScriptItem, IsShapedStep, caller_of, command_of_caller, control_step, feed_of, is_outcome_line, is_swap, kept_in, read_command as command_at, read_item, short_step};
 ghost use Rattle.journal_text.specs.ScriptReads.{GivesItem, IsRead, TakesItem, Falls};
 ghost use Rattle.journal_text.specs.declared.script.ScriptItem.TheVariants.{End};
 
-use crate::kept::read_outcome;
+use crate::kept_outcome::read_outcome;
 use control_lines::read_control;
 use feed_edits::{EditStop, read_edit};
 use input_lines::{LineFields, fields, is_word, next_record_line, number, numeral};
@@ -158,7 +158,7 @@ fn starts_outcome(fields: &[Txt]) -> bool
 }
 
 // The outcome that outcome line `at` keeps, where it may stand.
-#[tactic(auto, unfolding(crate::specs::Kept::outcome_of_fields))]
+#[tactic(auto, unfolding(crate::specs::KeptOutcomes::outcome_of_fields))]
 fn kept_on(at: u64, fields: &[Txt], after: bool) -> Result<Outcome, EditStop>
     ensures says { Says at (kept_in after fields.now) result }
     ensures window { IfOk result IsInWindow }
@@ -199,7 +199,7 @@ fn item_on<S: Source>(
         → Takes S.left S.faults (read_item after at fields.now) lines.old lines.new result }
     ensures read { IfOk result IsRead }
     ensures within { IfOk result IsItemWithin }
-    ensures shaped { IfOk result IsShapedItem }
+    ensures shaped { IfOk result IsShapedScriptItem }
     ensures sticky { IfSome lines.old.stop (λ stop. lines.new ≡ lines.old) }
     ensures goes_on { OnOk result (room lines.new ≤ room lines.old) }
     ensures later { S.faults lines.old.source ≤ S.faults lines.new.source }
@@ -236,7 +236,7 @@ pub fn next_item<S: Source>(
         → GivesItem S.left after lines.old lines.new text result }
     ensures takes { lines.old.stop ≡ None → TakesItem S.left S.faults after lines.old lines.new result }
     ensures within { IfOk result IsItemWithin }
-    ensures shaped { IfOk result IsShapedItem }
+    ensures shaped { IfOk result IsShapedScriptItem }
     ensures sticky { IfSome lines.old.stop (λ stop. (result ≡ Err (Read stop)) × (lines.new ≡ lines.old)) }
     ensures falls { IfOk result (λ item. Falls item lines.old lines.new) }
     ensures end { result ≡ Ok End → IsAtEnd (S.left lines.new.source) }

@@ -1,4 +1,4 @@
-pub mod Eight
+pub mod ServiceFields
 pub mod IndexFacts
 pub mod Ordering
 pub mod Reading

@@ -11,7 +11,6 @@
 mod laws;
 mod nit;
 mod sdt;
-mod texts;
 
 pub use laws::{
     bodies_have_their_sizes, read_networks_are_bodies, written_networks_are_bodies,

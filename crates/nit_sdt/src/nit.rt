@@ -1,6 +1,7 @@
 // The network information table.
 ghost use Rattle.std.specs.Prelude.{◌≡◌, ◌<◌, ◌≤◌, ◌++◌, true, false, List, ℕ, drop, length, sum_by, IfOk, IfSome, IfNone, OnOk};
 ghost use Rattle.std.specs.List.{All, flat_map};
+ghost use Rattle.std.proofs.Common.{lit<};
 ghost use Rattle.si_text.specs.Decoding.{shown_bytes};
 ghost use Rattle.desc_service.specs.CableDelivery.{FitsCable};
 ghost use Rattle.desc_service.specs.NetworkName.{network_name};
@@ -10,7 +11,7 @@ ghost use Rattle.nit_sdt.specs.declared.nit.Nit.{Nit};
 ghost use Rattle.nit_sdt.specs.Nit.{FitsStream, IsLoop, IsNit, bare_entry, cable_descriptors, cable_of, cable_size, name_of, nit_body, services_of, stream_bytes, stream_of, stream_size};
 ghost use Rattle.nit_sdt.specs.Bodies.{is_loop, is_nit_body};
 
-use crate::texts::no_text;
+use desc_parts::no_text;
 use desc_service::{
     RawDesc, ServiceKinds, read_cable_delivery_system, read_network_name, read_service_list,
     write_cable_delivery_system, write_network_name, write_service_list,
@@ -19,7 +20,7 @@ use guide_model::Cable;
 use si_base::{Bytes, Items};
 use si_text::Shown;
 use std::alloc::{AllocError, Global};
-use table_entries::{RawEntry, are_entries, behind_entry, split_entry};
+use table_entries::{EntryKind, RawEntry, are_entries, behind_entry, read_entries, split_entry};
 
 /// A transport stream of a network: transport_stream_id and original_network_id, how it is sent by cable where that is told, and its
 /// services.
@@ -135,7 +136,7 @@ pub fn read_nit(alloc: Global, body: &[u8]) -> Result<Option<Nit>, AllocError>
     let Some(entries) = split_loop(behind) else {
         return Ok(None);
     };
-    let Some(streams) = read_streams(alloc, entries)? else {
+    let Some(streams) = read_entries::<StreamEntries>(alloc, entries)? else {
         return Ok(None);
     };
     let name = name_of(alloc, descs.as_slice())?;
@@ -174,38 +175,29 @@ fn split_loop(bytes: &[u8]) -> Option<&[u8]>
     Some(entries)
 }
 
-// The streams of the entries that these bytes are.
-fn read_streams(alloc: Global, bytes: &[u8]) -> Result<Option<NitStreams>, AllocError>
-    ensures some { IfOk result (λ read. IfSome read (λ streams. AreEntries 4 stream_of bytes.now streams)) }
-    ensures none { IfOk result (λ read. IfNone read ((streams : List NitStream) → ¬ AreEntries 4 stream_of bytes.now streams)) }
-{
-    let mut streams = Vec::new(alloc);
-    let mut rest = bytes;
-    while !rest.is_empty() {
-        let Some((entry, behind)) = split_entry(4, rest) else {
-            return Ok(None);
-        };
-        let Some(descs) = entry.descriptors(alloc)? else {
-            return Ok(None);
-        };
-        streams.push(stream_of(alloc, &entry, descs.as_slice())?)?;
-        rest = behind;
-    }
-    Ok(Some(Items::of(streams)))
-}
+// The entries of streams.
+struct StreamEntries;
 
-// What an entry with these descriptors says of a stream.
-fn stream_of(alloc: Global, entry: &RawEntry, descs: &[RawDesc]) -> Result<NitStream, AllocError>
-    requires { length entry.now.fields ≡ 4 }
-    ensures { IfOk result (λ stream. stream ≡ stream_of entry.now.fields entry.now.bits descs.now) }
-{
-    let services = services_of(alloc, descs)?;
-    Ok(NitStream {
-        stream: entry.two(0),
-        original: entry.two(2),
-        cable: cable_of(descs)?,
-        services,
-    })
+impl EntryKind for StreamEntries {
+    type Value = NitStream;
+
+    const SIZE: usize = 4;
+
+    ghost SIZE = { 4 };
+
+    ghost value_of = { stream_of };
+
+    fn read(alloc: Global, entry: &RawEntry, descs: &[RawDesc]) -> Result<NitStream, AllocError> {
+        let services = services_of(alloc, descs)?;
+        Ok(NitStream {
+            stream: entry.two(0),
+            original: entry.two(2),
+            cable: cable_of(descs)?,
+            services,
+        })
+    }
+
+    ghost is_narrow = { lit< tt };
 }
 
 // The first name.

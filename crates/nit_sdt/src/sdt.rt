@@ -1,18 +1,19 @@
 // The service description table.
 ghost use Rattle.std.specs.Prelude.{◌≡◌, ◌++◌, List, length, IfOk, IfSome, IfNone, OnOk};
 ghost use Rattle.std.specs.List.{All, flat_map};
+ghost use Rattle.std.proofs.Common.{lit<};
 ghost use Rattle.table_entries.specs.Entries.{AreEntries};
 ghost use Rattle.nit_sdt.specs.declared.sdt.SdtService.{SdtService};
 ghost use Rattle.nit_sdt.specs.declared.sdt.Sdt.{Sdt};
 ghost use Rattle.nit_sdt.specs.Sdt.{FitsService, IsSdt, flag_bit, sdt_body, service_bytes, service_of, text_in};
 ghost use Rattle.nit_sdt.specs.Bodies.{is_sdt_body};
 
-use crate::texts::no_text;
+use desc_parts::no_text;
 use desc_service::{RawDesc, ServiceText, read_service, write_service_fields};
 use si_base::{Bytes, Items};
 use si_text::Shown;
 use std::alloc::{AllocError, Global};
-use table_entries::{RawEntry, are_entries, split_entry};
+use table_entries::{EntryKind, RawEntry, are_entries, read_entries};
 
 /// A service as it is described: service_id, whether event information of its schedule and of its present and following events is
 /// sent, service_type (`kind`), the provider of the service and its name (EN 300 468, 5.2.3 and 6.2.33).
@@ -102,7 +103,7 @@ pub fn read_sdt(alloc: Global, body: &[u8]) -> Result<Option<Sdt>, AllocError>
     let [high, low, _reserved, entries @ ..] = body else {
         return Ok(None);
     };
-    let Some(services) = read_services(alloc, entries)? else {
+    let Some(services) = read_entries::<ServiceEntries>(alloc, entries)? else {
         return Ok(None);
     };
     Ok(Some(Sdt {
@@ -119,41 +120,32 @@ pub fn is_sdt_body(body: &[u8]) -> bool
     3 <= body.len() && are_entries(3, &body[3..])
 }
 
-// The services of the entries that these bytes are.
-fn read_services(alloc: Global, bytes: &[u8]) -> Result<Option<SdtServices>, AllocError>
-    ensures some { IfOk result (λ read. IfSome read (λ services. AreEntries 3 service_of bytes.now services)) }
-    ensures none { IfOk result (λ read. IfNone read ((services : List SdtService) → ¬ AreEntries 3 service_of bytes.now services)) }
-{
-    let mut services = Vec::new(alloc);
-    let mut rest = bytes;
-    while !rest.is_empty() {
-        let Some((entry, behind)) = split_entry(3, rest) else {
-            return Ok(None);
-        };
-        let Some(descs) = entry.descriptors(alloc)? else {
-            return Ok(None);
-        };
-        services.push(service_of(alloc, &entry, descs.as_slice())?)?;
-        rest = behind;
-    }
-    Ok(Some(Items::of(services)))
-}
+// The entries of services.
+struct ServiceEntries;
 
-// What an entry with these descriptors says of a service.
-fn service_of(alloc: Global, entry: &RawEntry, descs: &[RawDesc]) -> Result<SdtService, AllocError>
-    requires { length entry.now.fields ≡ 3 }
-    ensures { IfOk result (λ service. service ≡ service_of entry.now.fields entry.now.bits descs.now) }
-{
-    let flags = entry.byte(2);
-    let text = text_in(alloc, descs)?;
-    Ok(SdtService {
-        service: entry.two(0),
-        schedule: flags / 2 % 2 == 1,
-        present: flags % 2 == 1,
-        kind: text.kind,
-        provider: text.provider,
-        name: text.name,
-    })
+impl EntryKind for ServiceEntries {
+    type Value = SdtService;
+
+    const SIZE: usize = 3;
+
+    ghost SIZE = { 3 };
+
+    ghost value_of = { service_of };
+
+    fn read(alloc: Global, entry: &RawEntry, descs: &[RawDesc]) -> Result<SdtService, AllocError> {
+        let flags = entry.byte(2);
+        let text = text_in(alloc, descs)?;
+        Ok(SdtService {
+            service: entry.two(0),
+            schedule: flags / 2 % 2 == 1,
+            present: flags % 2 == 1,
+            kind: text.kind,
+            provider: text.provider,
+            name: text.name,
+        })
+    }
+
+    ghost is_narrow = { lit< tt };
 }
 
 // The type and the texts of the first service_descriptor that fits.

@@ -1,6 +1,7 @@
 // The program map table.
 ghost use Rattle.std.specs.Prelude.{◌≡◌, ◌<◌, ◌++◌, List, ℕ, Option, length, IfOk, IfSome, IfNone, OnOk};
 ghost use Rattle.std.specs.List.{All, flat_map};
+ghost use Rattle.std.proofs.Common.{lit<};
 ghost use Rattle.guide_model.specs.declared.stream.Component.{Component};
 ghost use Rattle.table_entries.specs.Entries.{AreEntries};
 ghost use Rattle.pat_pmt.specs.declared.pmt.Pmt.{Pmt};
@@ -11,7 +12,7 @@ use desc_service::{RawDesc, read_iso_639_language, write_iso_639_language};
 use guide_model::{Component, Components};
 use si_base::{Bytes, Items};
 use std::alloc::{AllocError, Global};
-use table_entries::{RawEntry, are_entries, behind_entry, split_entry};
+use table_entries::{EntryKind, RawEntry, are_entries, behind_entry, read_entries, split_entry};
 
 /// What a program map table holds: the PID of the program's clock reference (13 bits) and its components.
 #[derive(Drop)]
@@ -76,7 +77,7 @@ pub fn read_pmt(alloc: Global, body: &[u8]) -> Result<Option<Pmt>, AllocError>
     let Some(_descs) = program.descriptors(alloc)? else {
         return Ok(None);
     };
-    let Some(components) = read_components(alloc, behind)? else {
+    let Some(components) = read_entries::<ComponentEntries>(alloc, behind)? else {
         return Ok(None);
     };
     Ok(Some(Pmt {
@@ -85,36 +86,27 @@ pub fn read_pmt(alloc: Global, body: &[u8]) -> Result<Option<Pmt>, AllocError>
     }))
 }
 
-// The components of the entries that these bytes are.
-fn read_components(alloc: Global, bytes: &[u8]) -> Result<Option<Components>, AllocError>
-    ensures some { IfOk result (λ read. IfSome read (λ components. AreEntries 3 component_of bytes.now components)) }
-    ensures none { IfOk result (λ read. IfNone read ((components : List Component) → ¬ AreEntries 3 component_of bytes.now components)) }
-{
-    let mut components = Vec::new(alloc);
-    let mut rest = bytes;
-    while !rest.is_empty() {
-        let Some((entry, behind)) = split_entry(3, rest) else {
-            return Ok(None);
-        };
-        let Some(descs) = entry.descriptors(alloc)? else {
-            return Ok(None);
-        };
-        components.push(component_of(alloc, &entry, descs.as_slice())?)?;
-        rest = behind;
-    }
-    Ok(Some(Items::of(components)))
-}
+// The entries of components.
+struct ComponentEntries;
 
-// What an entry with these descriptors says of a component.
-fn component_of(alloc: Global, entry: &RawEntry, descs: &[RawDesc]) -> Result<Component, AllocError>
-    requires { length entry.now.fields ≡ 3 }
-    ensures { IfOk result (λ component. component ≡ component_of entry.now.fields entry.now.bits descs.now) }
-{
-    Ok(Component {
-        stream_type: entry.byte(0),
-        pid: entry.two(1) % 8192,
-        language: language_of(alloc, descs)?,
-    })
+impl EntryKind for ComponentEntries {
+    type Value = Component;
+
+    const SIZE: usize = 3;
+
+    ghost SIZE = { 3 };
+
+    ghost value_of = { component_of };
+
+    fn read(alloc: Global, entry: &RawEntry, descs: &[RawDesc]) -> Result<Component, AllocError> {
+        Ok(Component {
+            stream_type: entry.byte(0),
+            pid: entry.two(1) % 8192,
+            language: language_of(alloc, descs)?,
+        })
+    }
+
+    ghost is_narrow = { lit< tt };
 }
 
 // The first language of the first descriptor of languages that fits.

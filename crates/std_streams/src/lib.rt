@@ -10,4 +10,4 @@ mod opening;
 mod streams;
 
 pub use opening::Opening;
-pub use streams::{Reading, Writing};
+pub use streams::{ReaderSource, WriterSink};

@@ -1,7 +1,7 @@
 // The files of the host as an opener.
 ghost use Rattle.std.specs.Prelude.{◌≡◌, List, ℕ, None, Option};
 
-use crate::streams::Reading;
+use crate::streams::ReaderSource;
 use si_causes::{Failed, Opener};
 use std::fs;
 use std::io::Read;
@@ -32,7 +32,7 @@ impl<'a, R: Files> Opener for Opening<'a, R>
 where
     R::File: Read + Drop + Send,
 {
-    type From = Reading<R::File>;
+    type From = ReaderSource<R::File>;
 
     ghost faults = { λ o. o.faults };
 
@@ -42,9 +42,9 @@ where
 
     ghost files = { λ _. None };
 
-    fn open(&mut self, path: &str) -> Result<Reading<R::File>, Failed> {
+    fn open(&mut self, path: &str) -> Result<ReaderSource<R::File>, Failed> {
         match fs::open(self.rt, path) {
-            Ok(file) => Ok(Reading::open(file)),
+            Ok(file) => Ok(ReaderSource::open(file)),
             Err(_) => {
                 self.faults = self.faults.saturating_add(1);
                 Err(Failed)
@@ -52,7 +52,7 @@ where
         }
     }
 
-    fn close(&mut self, from: Reading<R::File>) {
+    fn close(&mut self, from: ReaderSource<R::File>) {
         if from.has_failed() {
             self.read_faults = self.read_faults.saturating_add(1);
         }

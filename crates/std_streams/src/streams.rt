@@ -6,17 +6,17 @@ use std::io::{Read, Write};
 
 /// A source over a reader: each error of the reader is a fault, which is counted and answered.
 #[derive(Drop)]
-pub struct Reading<R: Read> {
+pub struct ReaderSource<R: Read> {
     inner: R,
     faults: u64,
 }
 
-impl<R: Read> Reading<R> {
+impl<R: Read> ReaderSource<R> {
     /// A source that has had no fault.
-    pub fn open(inner: R) -> Reading<R>
+    pub fn open(inner: R) -> ReaderSource<R>
         ensures { result.faults ≡ 0 }
     {
-        Reading { inner, faults: 0 }
+        ReaderSource { inner, faults: 0 }
     }
 
     // Whether a read has failed.
@@ -27,7 +27,7 @@ impl<R: Read> Reading<R> {
     }
 }
 
-impl<R: Read + Drop> Source for Reading<R> {
+impl<R: Read + Drop> Source for ReaderSource<R> {
     ghost left = { λ s. R.remaining s.inner };
 
     ghost faults = { λ s. s.faults };
@@ -52,19 +52,19 @@ impl<R: Read + Drop> Source for Reading<R> {
 /// A sink over a writer: each error of the writer, and each piece of which it takes nothing, is a fault, which is counted and
 /// answered.
 #[derive(Drop)]
-pub struct Writing<W: Write> {
+pub struct WriterSink<W: Write> {
     inner: W,
     faults: u64,
 }
 
-impl<W: Write> Writing<W> {
+impl<W: Write> WriterSink<W> {
     /// A sink that has had no fault.
-    pub fn open(inner: W) -> Writing<W> {
-        Writing { inner, faults: 0 }
+    pub fn open(inner: W) -> WriterSink<W> {
+        WriterSink { inner, faults: 0 }
     }
 }
 
-impl<W: Write> Sink for Writing<W> {
+impl<W: Write> Sink for WriterSink<W> {
     ghost written = { λ s. W.contents s.inner };
 
     ghost faults = { λ s. s.faults };

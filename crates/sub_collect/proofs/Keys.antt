@@ -80,6 +80,14 @@ kept-put k slot old new updates q =
     go true e = refl
     go false e = sym e
 
+-- what is kept of a key that is put again
+pub kept-same : (k : Key) (kept : KeyHeard) (es : KeysHeard) → kept_in k es ≡ Some kept → (q : Key) → kept_in q es ≡ (if is_key k q then Some kept else kept_in q es)
+kept-same k kept es found q = go (is_key k q) refl
+  where
+    go : (b : Bool) → is_key k q ≡ b → kept_in q es ≡ (if b then Some kept else kept_in q es)
+    go true e = ap (λ (x : Key). kept_in x es) (sym (is_key-same k q e)) ∙ found
+    go false e = refl
+
 -- what a section shows, by the sections of its key alone
 pub shown-by : (past : List Counted) (s : Counted) → shown_after (latest_done (completions [] (of_key s.key past))) (completion (of_key s.key past ++ s ∷ [])) ≡ shown_at past s
 shown-by past s = sym (shown_at-is past s)

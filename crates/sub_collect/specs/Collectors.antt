@@ -1,9 +1,10 @@
 -- What a collector keeps, and the counted sections that it stands for.
-use Rattle.std.specs.Prelude.{◌≡◌, ◌≢◌, ℕ, ◌<◌, List, [], ◌∷◌, true, ◌==◌, if◌then◌else◌, Option, Some, None, option_map, is_some, slice_index_or}
+use Rattle.std.specs.Prelude.{◌≡◌, ◌≢◌, ℕ, ◌<◌, List, [], ◌∷◌, ◌++◌, true, ◌==◌, if◌then◌else◌, Option, Some, None, option_map, is_some, slice_index_or}
+use Rattle.std.specs.List.{AllByRecursion}
 use Rattle.section_codec.specs.declared.table.Key.{Key}
 use Rattle.section_codec.specs.KeyOrder.{is_key}
 use Rattle.sub_collect.specs.Runs.{Counted, all_of_version, run_of, latest_section, latest_with, last_told}
-use Rattle.sub_collect.specs.Completions.{of_key, completions, latest_done}
+use Rattle.sub_collect.specs.Completions.{IsOfKey, of_key, completion, completions, latest_done, shown_after, shown_at}
 use Rattle.sub_collect.specs.declared.completed.Completed.{Completed}
 
 -- what is kept of a run: its version, the last_section_number of its latest section, the latest body of each number that it holds, how many numbers it holds from 0 on, and of each of
@@ -67,3 +68,16 @@ StandsFor heard (Some kept) = (heard ≢ []) × IsKeptOf heard kept
 -- The collector stands for these counted sections, in the order in which they ended.
 abbrev pub CollectorStandsFor : List Counted → KeysHeard → Type 0
 CollectorStandsFor past collector = (k : Key) → StandsFor (of_key k past) (kept_in k collector)
+
+-- ---- a section that is held already
+
+-- One section more of a key of which this is kept shows nothing, and the same is kept of it.
+pub record IsRepeatedOf (kept : KeyHeard) (s : Counted) : Type 0 where
+  pub quiet : (heard : List Counted) → IsKeptOf heard kept → AllByRecursion (IsOfKey s.key) heard
+      → shown_after (latest_done (completions [] heard)) (completion (heard ++ s ∷ [])) ≡ None
+  pub stands : (heard : List Counted) → IsKeptOf heard kept → AllByRecursion (IsOfKey s.key) heard → IsKeptOf (heard ++ s ∷ []) kept
+
+-- One section more shows nothing, and the collector stands for it too.
+pub record IsRepeated (collector : KeysHeard) (s : Counted) : Type 0 where
+  pub quiet : (past : List Counted) → CollectorStandsFor past collector → shown_at past s ≡ None
+  pub stands : (past : List Counted) → CollectorStandsFor past collector → CollectorStandsFor (past ++ s ∷ []) collector

@@ -1,10 +1,10 @@
 // Completions, kept by key.
-ghost use Rattle.std.specs.Prelude.{◌≡◌, ◌≤◌, ◌<◌, ◌+◌, ◌++◌, ◌∷◌, ℕ, [], List, map, Option, Some, None, option_map, option_copied, IfOk, OnOk, OnErr, if◌then◌else◌};
+ghost use Rattle.std.specs.Prelude.{◌≡◌, ◌≤◌, ◌<◌, ◌+◌, ◌++◌, ◌∷◌, ℕ, [], List, map, Option, Some, None, option_map, option_copied, IfOk, OnOk, OnErr, if◌then◌else◌, true};
 ghost use Rattle.std.specs.List.{AllByRecursion};
 ghost use Rattle.section_codec.specs.declared.table.Key.{Key};
 ghost use Rattle.sub_collect.specs.Runs.{Counted, counted};
 ghost use Rattle.sub_collect.specs.Completions.{IsOfKey, completion, completions, latest_done, latest_of, shown_after, shown_at};
-ghost use Rattle.sub_collect.specs.Collectors.{CollectorStandsFor, IsKeptOf};
+ghost use Rattle.sub_collect.specs.Collectors.{CollectorStandsFor, IsKeptOf, IsRepeated, IsRepeatedOf};
 ghost use Rattle.sub_collect.specs.Slots.{kept_by, shown, latest_with_done};
 ghost use Rattle.sub_collect.specs.declared.completed.Completed.{Completed};
 
@@ -88,6 +88,18 @@ impl Collector {
         }
     }
 
+    /// Whether a section of a key is held already: the run of the key has its version_number, its last_section_number
+    /// and its body under its number. To count it once more shows nothing, and the collector stands for it too. It takes no
+    /// memory.
+    pub fn repeats(&self, key: Key, header: &LongHeader, body: &[u8]) -> bool
+        ensures { result ≡ true → IsRepeated self.now (counted key header.now body.now) }
+    {
+        match self.slots.get(&key) {
+            Some(slot) => slot.repeats(key, header, body),
+            None => false,
+        }
+    }
+
     /// The latest completion of a key, or None where it never had one.
     pub fn latest(&self, key: Key) -> Option<&Completed>
         ensures latest { (past : List Counted) → CollectorStandsFor past self.now → option_copied result ≡ latest_of key past }
@@ -125,17 +137,24 @@ impl KeySlot {
             → IsKeptOf (heard ++ counted key header.now body ∷ []) (kept_by self.new)) }
         ensures memory { OnErr result (kept_by self.new ≡ kept_by self.old) }
     {
+        if self.repeats(key, header, body.as_slice()) {
+            return Ok(None);
+        }
         if self.run.version != header.version {
             let mut run = Run::open(alloc, header.version);
             let done = run.put(alloc, key, header, body)?;
             self.run = run;
             return Ok(show(&mut self.latest, done));
         }
-        if self.run.repeats(key, header, &body) {
-            return Ok(None);
-        }
         let done = self.run.put(alloc, key, header, body)?;
         Ok(show(&mut self.latest, done))
+    }
+
+    // Whether a section of the key is held already.
+    fn repeats(&self, key: Key, header: &LongHeader, body: &[u8]) -> bool
+        ensures { result ≡ true → IsRepeatedOf (kept_by self.now) (counted key header.now body.now) }
+    {
+        self.run.version == header.version && self.run.repeats(key, header, body)
     }
 }
 

@@ -76,16 +76,16 @@ impl Run {
 
     // Whether a section of the version of the run has the last_section_number and the body that are kept, and tells
     // the last number of its segment that is kept.
-    pub fn repeats(&self, key: Key, header: &LongHeader, body: &Bytes) -> bool
+    pub fn repeats(&self, key: Key, header: &LongHeader, body: &[u8]) -> bool
         ensures { result ≡ (self.now.last == header.now.last && same_last (last_in self.now.lasts (segment_of header.now.number)) (segment_last_of (counted key header.now body.now))
             && is_body (body_in header.now.number self.now.held.entries) body.now) }
     {
         self.last == header.last
             && same_last(
                 self.lasts[usize::from(header.number / 8)],
-                last_told_by(key, header, body.as_slice()),
+                last_told_by(key, header, body),
             )
-            && self.has_body(header.number, body.as_slice())
+            && self.has_body(header.number, body)
     }
 
     // Whether this body is held of a number.

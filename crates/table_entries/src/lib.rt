@@ -2,13 +2,16 @@
 //! 2.4.4.8), the NIT, the SDT and the EIT (EN 300 468, 5.2.1, 5.2.3 and 5.2.4) are lists of such entries; they differ in how many
 //! bytes their fields have.
 //!
-//! The layers above use: [`split_entry`] cuts an entry off the front of bytes. Bytes are the entries of one list of values at most
-//! (`AreEntries`, in `specs/`; the lemmas of reading one by one are in `proofs/Reading.antt`). [`are_entries`] and [`behind_entry`] look
-//! at entries without reading them, by the words of `specs/Loops.antt`; the lemmas that tie both are in `proofs/Looks.antt`.
+//! The layers above use: [`split_entry`] cuts an entry off the front of bytes, and [`read_entries`] reads a whole loop of a kind of
+//! entries ([`EntryKind`]). Bytes are the entries of one list of values at most (`AreEntries`, in `specs/`). [`are_entries`] and
+//! [`behind_entry`] look at entries without reading them, by the words of `specs/Loops.antt`; the lemmas that tie both are in
+//! `proofs/Looks.antt`.
 #![tactic(auto)]
 
 mod entry;
 mod loops;
+mod read;
 
 pub use entry::{RawEntry, split_entry};
 pub use loops::{are_descriptors, are_entries, behind_entry};
+pub use read::{EntryKind, read_entries};

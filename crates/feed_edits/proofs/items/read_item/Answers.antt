@@ -3,7 +3,7 @@ use Rattle.std.proofs.lemmas.Grind.{common_steps}
 use Rattle.std.specs.Prelude.{None, Some}
 use Rattle.input_lines.specs.Numbers.{number_in}
 use Rattle.feed_edits.specs.Items.{stamp_of, length_of, rating_of, genres_of, item_of}
-use Rattle.feed_edits.proofs.Ten.{ten, item_of_ten, no_start, no_length, no_rating, no_genres}
+use Rattle.feed_edits.proofs.EventFields.{ten, item_of_ten, no_start, no_length, no_rating, no_genres}
 use Rattle.feed_edits.proofs.Shapes.{item_shaped}
 use Rattle.feed_edits.proofs.items.read_item.Goals as goal
 

@@ -1,4 +1,4 @@
-use Rattle.feed_edits.proofs.Fewer.{edits_go_on}
+use Rattle.feed_edits.proofs.LinesLeft.{edits_go_on}
 use Rattle.feed_edits.proofs.laws.edits_go_on.Goals as goal
 
 pub returns : goal.returns

@@ -1,7 +1,7 @@
 use Rattle.std.proofs.Common.{arith}
 use Rattle.std.proofs.lemmas.Grind.{common_steps}
 use Rattle.std.specs.Prelude.{Ok, Err}
-use Rattle.feed_edits.proofs.Turns.{never_line}
+use Rattle.feed_edits.proofs.LineSteps.{never_line}
 use Rattle.feed_edits.proofs.Edits.{edit_gives, edit_takes, edit_stop_takes, line_refused_takes}
 use Rattle.feed_edits.proofs.reading.next_edit.Goals as goal
 

@@ -1,6 +1,6 @@
 use Rattle.std.proofs.Common.{arith}
 use Rattle.std.proofs.lemmas.Grind.{common_steps}
-use Rattle.feed_edits.proofs.Turns.{never_line}
+use Rattle.feed_edits.proofs.LineSteps.{never_line}
 use Rattle.feed_edits.proofs.Edits.{item_takes, item_missing, item_stop_takes}
 use Rattle.feed_edits.proofs.reading.next_item.Goals as goal
 

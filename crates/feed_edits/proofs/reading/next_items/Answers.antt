@@ -3,7 +3,7 @@ use Rattle.std.proofs.lemmas.List.Elements.{All-push, All-nil}
 use Rattle.feed_edits.specs.Edits.{items_of}
 use Rattle.journal_model.specs.Edits.{IsShapedItem}
 use Rattle.feed_edits.proofs.Edits.{made_none, made_more, made_all, made_stop, made_kept, unread_none, never_item, stopped_items, stopped_none, stopped_memory}
-use Rattle.feed_edits.proofs.Turns.{stuck_on}
+use Rattle.feed_edits.proofs.LineSteps.{stuck_on}
 use Rattle.feed_edits.proofs.reading.next_items.Goals as goal
 
 pub items-init : goal.items-init

@@ -8,7 +8,7 @@ use Rattle.feed_edits.specs.Ahead.{Came}
 use Rattle.feed_edits.specs.Edits.{with_items}
 use Rattle.feed_edits.specs.Reads.{Takes, ReadsStopped}
 use Rattle.feed_edits.proofs.Edits.{day_takes, day_stop_takes, stopped_whole, stopped_day, stopped_day_stop}
-use Rattle.feed_edits.proofs.Turns.{passes_same}
+use Rattle.feed_edits.proofs.LineSteps.{passes_same}
 use Rattle.feed_edits.proofs.reading.with_items.Goals as goal
 
 pub returns-in-Whole-clause-takes : goal.returns-in-Whole-clause-takes

@@ -1,4 +1,4 @@
-use Rattle.feed_edits.proofs.Turns.{never_line}
+use Rattle.feed_edits.proofs.LineSteps.{never_line}
 use Rattle.journal_text.proofs.ScriptFacts.{item_gives, item_takes, item_stop_takes, no_fields_takes}
 use Rattle.journal_text.proofs.script.next_item.Goals as goal
 

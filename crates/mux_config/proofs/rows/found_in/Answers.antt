@@ -1,7 +1,7 @@
 use Rattle.std.proofs.Common.{◌≡◌, subst}
 use Rattle.std.specs.Prelude.{IfOk}
 use Rattle.mux_config.specs.declared.record.RecordFound.{RecordFound}
-use Rattle.mux_config.proofs.Eight.{of_eight}
+use Rattle.mux_config.proofs.ServiceFields.{of_eight}
 use Rattle.mux_config.proofs.rows.found_in.Goals as goal
 
 pub returns-in-len8-clause-value : goal.returns-in-len8-clause-value

@@ -1,12 +1,11 @@
-use Rattle.std.proofs.Common.{ℕ, ◌++◌, ◌∷◌, [], Option, option_map, ap, sym, refl, subst, ◌∙◌}
-use Rattle.section_codec.specs.Segments.{segment_of}
-use Rattle.sub_collect.specs.Runs.{all_of_version, counted, run_of, segment_last_of}
-use Rattle.sub_collect.specs.Completions.{completion, shown_after}
-use Rattle.sub_collect.specs.Collectors.{IsKeptOf, body_in, last_in}
+use Rattle.std.proofs.Common.{◌≡◌, ℕ, List, ◌++◌, ◌∷◌, [], Option, None, option_map, ap, sym, refl, subst, ◌∙◌}
+use Rattle.sub_collect.specs.Runs.{Counted, all_of_version, counted, run_of}
+use Rattle.sub_collect.specs.Completions.{completion, completions, latest_done, shown_after}
+use Rattle.sub_collect.specs.Collectors.{IsKeptOf}
 use Rattle.sub_collect.specs.Slots.{kept_run, kept_by, latest_with_done}
 use Rattle.sub_collect.specs.declared.completed.Completed.{Completed}
 use Rattle.sub_collect.proofs.Runs.{run_of-push, run_of-other}
-use Rattle.sub_collect.proofs.Taking.{put-done, put-kept, repeat-kept, repeat-shows, repeat-test}
+use Rattle.sub_collect.proofs.Taking.{put-done, put-kept}
 use Rattle.sub_collect.proofs.collector.KeySlot.take.Goals as goal
 
 pub returns-then-self-header-clause-shown : goal.returns-then-self-header-clause-shown
@@ -30,17 +29,17 @@ returns-then-self-header-clause-stands c = λ heard is all.
 
 pub returns-then-repeats-clause-shown : goal.returns-then-repeats-clause-shown
 returns-then-repeats-clause-shown c = λ heard is all.
+    let again = c.repeats.ensures c.if-repeats.true in
     let s = counted c.args.key c.args.header.now c.args.body in
-    let kept = kept_by c.args.self.now in
-    let test = repeat-test kept.run.last s.last (last_in kept.run.lasts (segment_of s.number)) (segment_last_of s) (body_in s.number kept.run.held) s.body (sym c.repeats.ensures ∙ c.if-repeats.true) in
-    ap (option_map (λ (d : Completed). d.version)) (sym (repeat-shows c.args.key heard all s refl kept is (sym c.if-self-header.false) test.0 test.1 test.2))
+    let same = ap (λ (b : List ℕ). counted c.args.key c.args.header.now b) c.as_slice.ensures in
+    ap (option_map (λ (d : Completed). d.version))
+    (sym (subst (λ (t : Counted). shown_after (latest_done (completions [] heard)) (completion (heard ++ t ∷ [])) ≡ None) same (again.quiet heard is all)))
 
 pub returns-then-repeats-clause-stands : goal.returns-then-repeats-clause-stands
 returns-then-repeats-clause-stands c = λ heard is all.
-    let s = counted c.args.key c.args.header.now c.args.body in
-    let kept = kept_by c.args.self.now in
-    let test = repeat-test kept.run.last s.last (last_in kept.run.lasts (segment_of s.number)) (segment_last_of s) (body_in s.number kept.run.held) s.body (sym c.repeats.ensures ∙ c.if-repeats.true) in
-    repeat-kept c.args.key heard all s refl kept is (sym c.if-self-header.false) test.0 test.1 test.2
+    let again = c.repeats.ensures c.if-repeats.true in
+    let same = ap (λ (b : List ℕ). counted c.args.key c.args.header.now b) c.as_slice.ensures in
+    subst (λ (t : Counted). IsKeptOf (heard ++ t ∷ []) (kept_by c.args.self.now)) same (again.stands heard is all)
 
 pub returns-clause-shown : goal.returns-clause-shown
 returns-clause-shown c = λ heard is all.

@@ -1,0 +1,183 @@
+// The index of a service's events: of each event what the rules look at.
+ghost use Rattle.std.specs.Prelude.{◌≡◌, ℕ, ◌+◌, ◌*◌, ◌<◌, ◌≤◌, ◌^◌, Bool, not, ◌==◌, nat_le, nat_lt, length, find, count_by, sum_by, position};
+ghost use Rattle.std.specs.List.{All, position_or_len};
+ghost use Rattle.std.specs.List.Sorted.{IsNonDecreasingBy};
+ghost use Rattle.std.specs.Prelude.{◌/◌, slice_index_or};
+ghost use Rattle.guide_limits.specs.Events.{block_of};
+ghost use Rattle.feed_book.specs.declared.index.IndexedEvent.{IndexedEvent as Shape};
+ghost use Rattle.guide_limits.specs.Limits.{IsEventWithin};
+ghost use Rattle.feed_book.specs.Index.{slot_of as slot_of_event, is_in_the_way, other_ids, share_of, slot_fault};
+
+use desc_event::event_len;
+use guide_model::Event;
+use journal_model::{DayFault, Field};
+
+/// Of an event its id, its start and length in seconds, and the size of its entry.
+#[derive(Clone, Copy, PartialEq, Eq)]
+pub(crate) struct IndexedEvent {
+    pub(crate) id: u16,
+    pub(crate) start: u64,
+    pub(crate) seconds: u32,
+    pub(crate) size: u32,
+}
+
+// Slots that start early enough for their ends to fit.
+fn blocks(slot: &IndexedEvent, other: &IndexedEvent) -> bool
+    requires slot { slot.now.start < 2 ^ 63 }
+    requires other { other.now.start < 2 ^ 63 }
+    ensures { result ≡ is_in_the_way slot.now other.now }
+{
+    other.id != slot.id
+        && other.start < slot.start + u64::from(slot.seconds)
+        && slot.start < other.start + u64::from(other.seconds)
+}
+
+fn ends_by(slot: &IndexedEvent, at: u64) -> bool
+    ensures { result ≡ nat_le (slot.now.start + slot.now.seconds) at }
+{
+    slot.start <= at && u64::from(slot.seconds) <= at - slot.start
+}
+
+// The place of the first slot that ends after a moment, or the length.
+fn first_after(slots: &[IndexedEvent], at: u64) -> usize
+    requires { IsNonDecreasingBy (λ (s : Shape). s.start + s.seconds) slots.now }
+    ensures bound { result ≤ length slots.now }
+    ensures below { (k : ℕ) (d : Shape) → k < result → (slice_index_or slots.now k d).start + (slice_index_or slots.now k d).seconds ≤ at }
+{
+    slots.partition_point(|s| ends_by(s, at))
+}
+
+// The place of the first slot in this block or a later one, or the length.
+fn first_in_block(slots: &[IndexedEvent], block: u64) -> usize
+    requires { IsNonDecreasingBy (λ (s : Shape). s.start) slots.now }
+    ensures bound { result ≤ length slots.now }
+    ensures below { (k : ℕ) (d : Shape) → k < result → block_of (slice_index_or slots.now k d).start < block }
+{
+    slots.partition_point(|s| s.start / 10_800 < block)
+}
+
+// The first slot in the way: those before end too early, and those behind start too late.
+fn first_in_the_way(slots: &[IndexedEvent], slot: &IndexedEvent) -> Option<IndexedEvent>
+    requires slot { slot.now.start < 2 ^ 63 }
+    requires others { All (λ (other : Shape). other.start < 2 ^ 63) slots.now }
+    requires starts { IsNonDecreasingBy (λ (s : Shape). s.start) slots.now }
+    requires ends { IsNonDecreasingBy (λ (s : Shape). s.start + s.seconds) slots.now }
+    ensures { result ≡ find (is_in_the_way slot.now) slots.now }
+{
+    let end = slot.start + u64::from(slot.seconds);
+    for i in first_after(slots, slot.start)..slots.len() {
+        let other = &slots[i];
+        if end <= other.start {
+            break;
+        }
+        if blocks(slot, other) {
+            return Some(*other);
+        }
+    }
+    None
+}
+
+fn is_other(slot: &IndexedEvent, id: u16) -> bool
+    ensures { result ≡ other_ids id slot.now }
+{
+    slot.id != id
+}
+
+// How many slots have another id.
+fn count_others(slots: &[IndexedEvent], id: u16) -> usize
+    ensures count { result ≡ count_by (other_ids id) slots.now }
+    ensures bound { result ≤ length slots.now }
+{
+    slots.iter().filter(|slot| is_other(slot, id)).count()
+}
+
+fn share(slot: &IndexedEvent, other: &IndexedEvent) -> u32
+    ensures { result ≡ share_of slot.now other.now }
+{
+    if other.id != slot.id && other.start / 10_800 == slot.start / 10_800 {
+        other.size
+    } else {
+        0
+    }
+}
+
+// The sizes of the other slots in the slot's block, added up.
+fn block_size(slots: &[IndexedEvent], slot: &IndexedEvent) -> u32
+    requires few { length slots.now ≤ 2000 }
+    requires small { All (λ (other : Shape). other.size ≤ 1338) slots.now }
+    requires starts { IsNonDecreasingBy (λ (s : Shape). s.start) slots.now }
+    ensures size { result ≡ sum_by (share_of slot.now) slots.now }
+    ensures bound { result ≤ 2676000 }
+{
+    let block = slot.start / 10_800;
+    let mut total = 0;
+    for i in first_in_block(slots, block)..slots.len() {
+        let other = &slots[i];
+        if block < other.start / 10_800 {
+            break;
+        }
+        total += share(slot, other);
+    }
+    total
+}
+
+/// What the slot breaks among the others.
+pub(crate) fn place_fault(slots: &[IndexedEvent], slot: &IndexedEvent) -> Option<DayFault>
+    requires early { slot.now.start < 2 ^ 63 }
+    requires others_early { All (λ (other : Shape). other.start < 2 ^ 63) slots.now }
+    requires few { length slots.now ≤ 2000 }
+    requires tiny { slot.now.size ≤ 1338 }
+    requires small { All (λ (other : Shape). other.size ≤ 1338) slots.now }
+    requires starts { IsNonDecreasingBy (λ (s : Shape). s.start) slots.now }
+    requires ends { IsNonDecreasingBy (λ (s : Shape). s.start + s.seconds) slots.now }
+    ensures { result ≡ slot_fault slots.now slot.now }
+{
+    if let Some(other) = first_in_the_way(slots, slot) {
+        return Some(DayFault::Overlap(other.id));
+    }
+    let count = 1 + count_others(slots, slot.id) as u32;
+    if 2000 < count {
+        return Some(DayFault::Range(Field::Count(count)));
+    }
+    let size = slot.size + block_size(slots, slot);
+    if 20_000 < size {
+        return Some(DayFault::Range(Field::Segment(size)));
+    }
+    None
+}
+
+/// The place of the first slot with this id, or the length.
+pub(crate) fn place_of_id(slots: &[IndexedEvent], id: u16) -> usize
+    ensures place { result ≡ position_or_len (λ (slot : Shape). slot.id == id) slots.now }
+    ensures bound { result ≤ length slots.now }
+{
+    for (i, slot) in slots.iter().enumerate() {
+        if slot.id == id {
+            return i;
+        }
+    }
+    slots.len()
+}
+
+/// The place of the first slot that starts at this moment or later, or the length.
+pub(crate) fn place_of_start(slots: &[IndexedEvent], start: u64) -> usize
+    ensures place { IsNonDecreasingBy (λ (s : Shape). s.start) slots.now → result ≡ position_or_len (λ (slot : Shape). nat_le start slot.start) slots.now }
+    ensures bound { result ≤ length slots.now }
+{
+    slots.partition_point(|s| s.start < start)
+}
+
+/// The slot of an event.
+pub(crate) fn slot_of(event: &Event) -> IndexedEvent
+    requires { IsEventWithin event.now }
+    ensures slot { result ≡ slot_of_event event.now }
+    ensures early { result.start < 2 ^ 63 }
+    ensures small { result.size ≤ 1338 }
+{
+    IndexedEvent {
+        id: event.id,
+        start: event.start.0,
+        seconds: event.seconds,
+        size: event_len(event),
+    }
+}

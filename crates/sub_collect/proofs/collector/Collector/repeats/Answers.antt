@@ -1,0 +1,23 @@
+use Rattle.std.proofs.Common.{◌≡◌, Some, option_map, ap, sym, ◌∙◌}
+use Rattle.sub_collect.specs.Runs.{counted}
+use Rattle.sub_collect.specs.Completions.{of_key}
+use Rattle.sub_collect.specs.Collectors.{KeysHeard, kept_in}
+use Rattle.sub_collect.specs.Slots.{kept_by}
+use Rattle.sub_collect.proofs.Done.{of_key-all}
+use Rattle.sub_collect.proofs.Keys.{kept_in-shown, kept-same, of-kept, stands-put, shown-by}
+use Rattle.sub_collect.proofs.collector.Collector.repeats.Goals as goal
+
+pub returns-in-Some : goal.returns-in-Some
+returns-in-Some c = λ held.
+    let k = c.args.key in
+    let s = counted k c.args.header.now c.args.body.now in
+    let again = c.repeats.ensures held in
+    let found : kept_in k c.args.self.now ≡ Some (kept_by c.in-Some.slot.now) =
+    ap (λ (b : KeysHeard). kept_in k b) (sym c.self.view_is) ∙ kept_in-shown k c.self.inside.slots.entries ∙ ap (option_map kept_by) (sym c.in-Some.ensures.value) in
+    record {
+      quiet = λ past stands.
+          sym (shown-by past s) ∙ again.quiet (of_key k past) (of-kept k past (kept_in k c.args.self.now) (kept_by c.in-Some.slot.now) (stands k) found) (of_key-all k past);
+      stands = λ past stands.
+          stands-put past s c.args.self.now c.args.self.now (kept_by c.in-Some.slot.now) stands (kept-same k (kept_by c.in-Some.slot.now) c.args.self.now found)
+          (again.stands (of_key k past) (of-kept k past (kept_in k c.args.self.now) (kept_by c.in-Some.slot.now) (stands k) found) (of_key-all k past));
+    }
