@@ -18,6 +18,7 @@ use Rattle.cycle_plan.specs.Cutting.{packets_in}
 use Rattle.cycle_plan.specs.Cycle.{Planned, cycle_of}
 use Rattle.cycle_plan.specs.Sections.{planned}
 use Rattle.cycle_plan.specs.Spacing.{Start, starts_alone, Spaced, fast_bound, near_bound, AreSpaced, IsWithinLimits}
+use Rattle.cycle_plan.proofs.Lists.{all_at}
 use Rattle.cycle_plan.proofs.Cursors.{planned_all}
 use Rattle.cycle_plan.proofs.Order.{cycles_are_whole}
 use Rattle.cycle_plan.proofs.Gaps.{cycles_are_spaced}
@@ -31,7 +32,7 @@ use Rattle.air_model.proofs.Counted.{counted-append, length-counted}
 use Rattle.air_model.proofs.Airs.{air-push}
 use Rattle.air_model.proofs.Planned.{all_got, weights_each}
 use Rattle.carousel_player.specs.Planning.{weights_in, weights_of, weights_under}
-use Rattle.carousel_player.specs.Spacing.{plan_of, starts_of, starts_of_two, AreStarts, MadeCyclesAreSpaced, MadeNeighboursAreSpaced}
+use Rattle.carousel_player.specs.Spacing.{plan_of, starts_of, starts_of_two, AreStarts, MadeAirsAreSpaced, MadeCyclesAreSpaced, MadeNeighboursAreSpaced}
 use Rattle.section_codec.specs.Section.{longest_body}
 use Rattle.section_codec.specs.Tables.{is_eit}
 use Rattle.carousel_player.proofs.Begun.{longest}
@@ -237,3 +238,16 @@ made_neighbours_are_spaced before x y after made fit quota tables form =
     starts-append p.size n order order ∙ ap (λ (k : ℕ). starts_alone p.size n order ++ starts_alone p.size k order) end
     ∙ ap (λ (q : Planned). starts_alone p.size n order ++ starts_alone q.size m (cycle_of q)) (sym same) in
     subst (AreSpaced p) starts (cycles_are_spaced p (within_limits past x.airing fit quota) n)
+
+pub made_airs_are_spaced : MadeAirsAreSpaced
+made_airs_are_spaced form xs made all quota = record {
+  cycles = λ before x after e. (
+      let here = all_at (λ (z : Aired). AreFit z.airing.tables × (z.airing.form ≡ form)) before x after (subst (AllByRecursion (λ (z : Aired). AreFit z.airing.tables × (z.airing.form ≡ form))) e all) in
+      made_cycles_are_spaced before x after (subst (AreMade []) e made) here.0 (subst (λ (f : CycleForm). 1 ≤ f.quota) (sym here.1) quota));
+  neighbours = λ before x y after e tables. (
+      let each = subst (AllByRecursion (λ (z : Aired). AreFit z.airing.tables × (z.airing.form ≡ form))) e all in
+      let here = all_at (λ (z : Aired). AreFit z.airing.tables × (z.airing.form ≡ form)) before x (y ∷ after) each in
+      let next = all_at (λ (z : Aired). AreFit z.airing.tables × (z.airing.form ≡ form)) (before ++ x ∷ []) y after
+      (subst (AllByRecursion (λ (z : Aired). AreFit z.airing.tables × (z.airing.form ≡ form))) (sym (append_assoc before (x ∷ []) (y ∷ after))) each) in
+      made_neighbours_are_spaced before x y after (subst (AreMade []) e made) here.0 (subst (λ (f : CycleForm). 1 ≤ f.quota) (sym here.1) quota) tables (next.1 ∙ sym here.1));
+}

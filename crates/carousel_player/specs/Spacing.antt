@@ -5,7 +5,7 @@ use Rattle.section_codec.specs.SubTables.{AreFit}
 use Rattle.cycle_plan.specs.Cycle.{Planned, cycle_of}
 use Rattle.cycle_plan.specs.Sections.{planned}
 use Rattle.cycle_plan.specs.Spacing.{Start, starts_alone, AreSpaced}
-use Rattle.version_book.specs.Airings.{Airing}
+use Rattle.version_book.specs.Airings.{Airing, CycleForm}
 use Rattle.ts_packets.specs.Bytes.{Packet, packets_alone}
 use Rattle.air_model.specs.Air.{Sent, Aired, sections_once, weights_once, air, airings_of}
 use Rattle.air_model.specs.Making.{counted, AreMade}
@@ -49,3 +49,15 @@ abbrev pub MadeNeighboursAreSpaced : Type 0
 MadeNeighboursAreSpaced =
     (before : List Aired) (x y : Aired) (after : List Aired) → AreMade [] (before ++ x ∷ y ∷ after) → AreFit x.airing.tables → 1 ≤ x.airing.form.quota
     → y.airing.tables ≡ x.airing.tables → y.airing.form ≡ x.airing.form → AreSpaced (plan_of (airings_of before) x.airing) (starts_of_two before x y)
+
+-- Of an air all cycles are spaced, and all neighbours that have equal sub-tables.
+pub record IsSpacedAir (xs : List Aired) : Type 0 where
+  pub cycles : (before : List Aired) (x : Aired) (after : List Aired) → xs ≡ before ++ x ∷ after → IsSpacedIn before x after
+  pub neighbours : (before : List Aired) (x y : Aired) (after : List Aired) → xs ≡ before ++ x ∷ y ∷ after → y.airing.tables ≡ x.airing.tables
+      → AreSpaced (plan_of (airings_of before) x.airing) (starts_of_two before x y)
+
+-- So is an air that is made, all of whose airings have one form and sub-tables that can be sent.
+abbrev pub MadeAirsAreSpaced : Type 0
+MadeAirsAreSpaced =
+    (form : CycleForm) (xs : List Aired) → AreMade [] xs → AllByRecursion (λ (x : Aired). AreFit x.airing.tables × (x.airing.form ≡ form)) xs → 1 ≤ form.quota
+    → IsSpacedAir xs
