@@ -1,6 +1,6 @@
 -- Sections of an air that is made begin where the plan says, and are spaced.
 use Rattle.std.proofs.Common.{◌≡◌, ℕ, ◌+◌, ◌<◌, ◌≤◌, ◌⊎◌, inl, inr, List, [], ◌∷◌, ◌++◌, Option, Some, None, length, map, get_or, refl, sym, ap, ap₂, ◌∙◌, subst, arith, append_assoc, append-nil, length-append}
-use Rattle.std.specs.Prelude.{flat_map, slice_get, slice_index, option_map}
+use Rattle.std.specs.Prelude.{slice_get, slice_index, option_map}
 use Rattle.std.specs.List.{All, AllByRecursion, prefix_len, cons_option}
 use Rattle.std.proofs.lemmas.Option.{slice_get-map, slice_get_cases, get_or_from_slice_get}
 use Rattle.std.proofs.lemmas.List.{length-map, get_or-map}
@@ -32,7 +32,7 @@ use Rattle.air_model.proofs.Counted.{counted-append, length-counted}
 use Rattle.air_model.proofs.Airs.{air-push}
 use Rattle.air_model.proofs.Planned.{all_got, weights_each}
 use Rattle.carousel_player.specs.Planning.{weights_in, weights_of, weights_under}
-use Rattle.carousel_player.specs.Spacing.{plan_of, starts_of, starts_of_two, AreStarts, MadeAirsAreSpaced, MadeCyclesAreSpaced, MadeNeighboursAreSpaced}
+use Rattle.carousel_player.specs.Spacing.{plan_of, starts_of_two, AreStarts, MadeAirsAreSpaced, MadeCyclesAreSpaced, MadeNeighboursAreSpaced}
 use Rattle.section_codec.specs.Section.{longest_body}
 use Rattle.section_codec.specs.Tables.{is_eit}
 use Rattle.carousel_player.proofs.Begun.{longest}

@@ -1,5 +1,5 @@
 -- How far apart an air repeats a section, where each begins in packets of its own.
-use Rattle.std.specs.Prelude.{◌≡◌, ℕ, ◌+◌, ◌≤◌, List, [], ◌∷◌, ◌++◌, length, Some, slice_get}
+use Rattle.std.specs.Prelude.{◌≡◌, ℕ, ◌≤◌, List, [], ◌∷◌, ◌++◌, length, Some, slice_get}
 use Rattle.std.specs.List.{AllByRecursion}
 use Rattle.section_codec.specs.SubTables.{AreFit}
 use Rattle.cycle_plan.specs.Cycle.{Planned, cycle_of}

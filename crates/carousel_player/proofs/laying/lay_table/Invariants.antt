@@ -1,4 +1,4 @@
-use Rattle.std.proofs.Common.{◌≡◌, ◌+◌, ◌≤◌, ◌++◌, List, vec_len, vec_capacity, take, drop, map}
+use Rattle.std.proofs.Common.{◌+◌, ◌≤◌, ◌++◌, List, vec_len, vec_capacity, take, drop, map}
 use Rattle.air_model.specs.Air.{Sent, sent_section}
 use Rattle.carousel_player.specs.Laying.{AreLaid, room_of}
 use Rattle.carousel_player.proofs.laying.lay_table.Given as goal
