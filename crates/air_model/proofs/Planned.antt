@@ -1,6 +1,6 @@
 -- A planned cycle has each section of its airing, and no other.
-use Rattle.std.proofs.Common.{◌≡◌, ℕ, zero, suc, ◌+◌, ◌<◌, List, [], ◌∷◌, ◌++◌, Option, Some, None, length, map, refl, sym, ap, ap₂, ◌∙◌, subst, arith, length-append}
-use Rattle.std.specs.Prelude.{flat_map, filter_map, slice_get}
+use Rattle.std.proofs.Common.{◌≡◌, ℕ, zero, suc, ◌<◌, List, [], ◌∷◌, ◌++◌, Option, Some, None, length, map, refl, sym, ap, ◌∙◌, subst, arith, length-append}
+use Rattle.std.specs.Prelude.{slice_get}
 use Rattle.std.specs.List.{AllByRecursion, Contains, cons_option}
 use Rattle.std.proofs.lemmas.List.{length-map}
 use Rattle.std.proofs.lemmas.List.Elements.{Contains-append_right, filter_map-append}
@@ -11,12 +11,12 @@ use Rattle.cycle_plan.specs.Sections.{planned}
 use Rattle.cycle_plan.proofs.Cursors.{planned_all}
 use Rattle.cycle_plan.proofs.Order.{cycles_are_whole}
 use Rattle.version_book.specs.Airings.{Airing, version_at}
-use Rattle.air_model.specs.Air.{Sent, sections_of, table_sections, tdt, before_tdt, behind_tdt, sections_once, weight, table_weights, weights_once, at_places}
+use Rattle.air_model.specs.Air.{sections_of, table_sections, tdt, before_tdt, behind_tdt, sections_once, weight, table_weights, weights_once, at_places}
 use Rattle.air_model.proofs.Elements.{first_of, around}
 
 -- ---- what stands at places
 
-all_got : {X : Type 0} (P : X → Type 0) (xs : List X) (i : ℕ) (x : X) → AllByRecursion P xs → slice_get xs i ≡ Some x → P x
+pub all_got : {X : Type 0} (P : X → Type 0) (xs : List X) (i : ℕ) (x : X) → AllByRecursion P xs → slice_get xs i ≡ Some x → P x
 all_got P [] i x all e = cc
 all_got P (y ∷ xs) zero x all e = let f : y ≡ x = cc in subst P f all.0
 all_got P (y ∷ xs) (suc i) x all e = all_got P xs i x all.1 e

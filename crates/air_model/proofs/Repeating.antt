@@ -1,10 +1,9 @@
 -- A cycle that is sent in the order of its plan is one that repeats as it likes.
-use Rattle.std.proofs.Common.{◌≡◌, ℕ, ◌<◌, ◌⊎◌, inl, inr, List, [], ◌∷◌, ◌++◌, length, take, drop, map, refl, sym, ap, subst, arith}
-use Rattle.std.specs.Prelude.{flat_map}
+use Rattle.std.proofs.Common.{ℕ, ◌⊎◌, inl, inr, List, [], ◌∷◌, ◌++◌, take, drop, map, refl, sym, subst}
 use Rattle.std.specs.List.{AllByRecursion, Contains, prefix_len}
 use Rattle.std.proofs.lemmas.List.{take-append-drop}
-use Rattle.std.proofs.lemmas.List.Elements.{All-contains, All-contains_itself, All-from_recursion, All-take, All-drop, recursion_from_All, Contains-append_left, Contains-append_right, Contains-append_cases}
-use Rattle.si_lists.proofs.Lists.{all_map, all_append}
+use Rattle.std.proofs.lemmas.List.Elements.{All-contains_itself, All-take, All-drop, recursion_from_All, Contains-append_left, Contains-append_right, Contains-append_cases}
+use Rattle.si_lists.proofs.Lists.{all_append}
 use Rattle.section_codec.specs.declared.table.NumberedBody.{NumberedBody}
 use Rattle.section_codec.specs.declared.table.SubTable.{SubTable}
 use Rattle.cycle_plan.specs.Cycle.{cycle_of}

@@ -1,5 +1,5 @@
 -- Cycles of airings, and the air of an airing list.
-use Rattle.std.specs.Prelude.{◌≡◌, ℕ, List, [], ◌∷◌, ◌++◌, Bool, true, false, not, ◌&&◌, Option, Some, None, ◌==◌, if◌then◌else◌, length, drop, map, flat_map, filter_map, slice_get}
+use Rattle.std.specs.Prelude.{◌≡◌, ℕ, List, [], ◌∷◌, ◌++◌, Bool, not, ◌&&◌, Option, Some, None, ◌==◌, if◌then◌else◌, length, drop, map, flat_map, filter_map, slice_get}
 use Rattle.std.specs.List.{AllByRecursion, prefix_len, take_while}
 use Rattle.section_codec.specs.SubTables.{header_of}
 use Rattle.section_codec.specs.declared.table.NumberedBody.{NumberedBody}

@@ -5,8 +5,6 @@ use Rattle.std.specs.List.{AllByRecursion, All, prefix_len, cons_option}
 use Rattle.std.proofs.lemmas.List.{take-map, drop-map}
 use Rattle.std.proofs.lemmas.Option.{slice_get-map}
 use Rattle.std.proofs.lemmas.List.Elements.{recursion_from_All, All-take, All-drop}
-use Rattle.si_time.specs.Moments.{moment_bcd}
-use Rattle.time_tables.specs.Tdt.{tdt_section}
 use Rattle.section_codec.specs.declared.table.NumberedBody.{NumberedBody}
 use Rattle.section_codec.specs.declared.table.SubTable.{SubTable}
 use Rattle.section_codec.specs.Section.{longest_body}
@@ -35,7 +33,7 @@ record IsSendable (s : Sent) : Type 0 where
   some : 1 ≤ length s.bytes
   most : length s.bytes ≤ 4096
 
-longest : (b : Bool) → cond b 4084 1012 ≤ 4084
+pub longest : (b : Bool) → cond b 4084 1012 ≤ 4084
 longest true = omega arith
 longest false = omega arith
 

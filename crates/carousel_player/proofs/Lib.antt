@@ -4,3 +4,4 @@ pub mod Begun
 pub mod Sendings
 pub mod Plays
 pub mod Weights
+pub mod Spaced

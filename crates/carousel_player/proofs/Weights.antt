@@ -1,6 +1,6 @@
 -- What a cycle is planned of: one weight for each section that is laid, in the order of the tiers.
-use Rattle.std.proofs.Common.{◌≡◌, ℕ, zero, suc, ◌+◌, ◌<◌, ◌≤◌, ◌⊎◌, inl, inr, Bool, true, false, List, [], ◌∷◌, ◌++◌, length, refl, sym, ap, ap₂, ◌∙◌, subst, arith, map, min, ◌-◌, cond, append_assoc, length-append, length-drop}
-use Rattle.std.specs.Prelude.{take, drop, flat_map, ◌&&◌, not}
+use Rattle.std.proofs.Common.{◌≡◌, ℕ, zero, suc, ◌+◌, ◌<◌, ◌≤◌, Bool, true, false, List, [], ◌∷◌, ◌++◌, length, refl, sym, ap, ap₂, ◌∙◌, subst, arith, map, min, ◌-◌, cond, append_assoc, length-append, length-drop}
+use Rattle.std.specs.Prelude.{take, drop, ◌&&◌, not}
 use Rattle.std.specs.List.{AllByRecursion, prefix_len}
 use Rattle.std.proofs.lemmas.List.{length-map, length-take}
 use Rattle.section_codec.specs.declared.table.NumberedBody.{NumberedBody}
@@ -20,7 +20,7 @@ use Rattle.version_book.specs.Book.{aired}
 use Rattle.ts_packets.specs.Packets.{packets_of}
 use Rattle.time_tables.specs.Tdt.{tdt_section}
 use Rattle.si_time.specs.Moments.{moment_bcd}
-use Rattle.air_model.specs.Air.{Sent, sent_section, sections_of, tdt, leads, before_tdt, behind_tdt, weight, table_weights, weights_once}
+use Rattle.air_model.specs.Air.{sent_section, tdt, leads, before_tdt, behind_tdt, weight, table_weights, weights_once}
 use Rattle.carousel_player.specs.Laying.{sections_under, cycle_under}
 use Rattle.carousel_player.specs.Planning.{weights_in, weights_of, weights_under}
 

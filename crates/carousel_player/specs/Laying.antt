@@ -1,5 +1,5 @@
 -- Sections laid end to end, and the packets of them that are still to come.
-use Rattle.std.specs.Prelude.{◌≡◌, ℕ, ◌+◌, ◌<◌, ◌≤◌, List, [], ◌∷◌, ◌++◌, Option, Some, None, length, take, drop, map, flat_map}
+use Rattle.std.specs.Prelude.{◌≡◌, ℕ, ◌+◌, ◌<◌, ◌≤◌, List, [], ◌∷◌, ◌++◌, Option, Some, None, length, take, drop, map, flat_map, Vec, vec_len, vec_capacity}
 use Rattle.std.specs.List.{AllByRecursion, prefix_len}
 use Rattle.ts_packets.specs.Packets.{packets_of}
 use Rattle.ts_packets.specs.Bytes.{Packet}
@@ -45,6 +45,11 @@ pub record IsUnderWay (size : ℕ) (placed : List Placed) (order : List ℕ) (in
 abbrev pub places_from : ℕ → List Sent → List Placed
 places_from start [] = []
 places_from start (s ∷ ss) = record { pid = s.pid; start = start; len = length s.bytes } ∷ places_from (start + length s.bytes) ss
+
+-- a buffer has at most so many elements more, in no less memory
+pub record Grew {T Z : Type 0} (old new : Vec T Z) (most : ℕ) : Type 0 where
+  pub len : vec_len new ≤ vec_len old + most
+  pub capacity : vec_capacity old ≤ vec_capacity new
 
 -- These sections are laid end to end.
 pub record AreLaid (ss : List Sent) (bytes : List ℕ) (placed : List Placed) : Type 0 where

@@ -4,7 +4,7 @@ ghost use Rattle.std.specs.List.{All, prefix_len};
 ghost use Rattle.section_codec.specs.Section.{section_bytes, longest_body};
 ghost use Rattle.section_codec.specs.Contents.{last_number};
 ghost use Rattle.air_model.specs.Air.{Sent, sent_section, sections_of, tdt, leads};
-ghost use Rattle.carousel_player.specs.Laying.{AreLaid, sections_under, cycle_under, room_of, room_for, places_for};
+ghost use Rattle.carousel_player.specs.Laying.{AreLaid, Grew, sections_under, cycle_under, room_of, room_for, places_for};
 ghost use Rattle.section_codec.specs.SubTables.{IsFit, header_of};
 
 use crate::cycle::Placed;
@@ -87,10 +87,8 @@ fn lay_tdt(bytes: &mut Vec<u8>, placed: &mut Vec<Placed>, moment: Moment)
     requires place { vec_len placed.old < vec_capacity placed.old }
     ensures laid { (ss : List Sent) → AreLaid ss bytes.old.items placed.old.items
         → AreLaid (ss ++ tdt moment.0 ∷ []) bytes.new.items placed.new.items }
-    ensures bytes_len { vec_len bytes.new ≡ vec_len bytes.old + 8 }
-    ensures bytes_capacity { vec_capacity bytes.old ≤ vec_capacity bytes.new }
-    ensures placed_len { vec_len placed.new ≡ vec_len placed.old + 1 }
-    ensures placed_capacity { vec_capacity placed.old ≤ vec_capacity placed.new }
+    ensures bytes { Grew bytes.old bytes.new 8 }
+    ensures placed { Grew placed.old placed.new 1 }
 {
     let start = bytes.len();
     let section = write_tdt(moment);
@@ -112,10 +110,8 @@ fn lay_tables(bytes: &mut Vec<u8>, placed: &mut Vec<Placed>, tables: &[SubTable]
     requires places { vec_len placed.old + places_for tables.now ≤ vec_capacity placed.old }
     ensures laid { (ss : List Sent) → AreLaid ss bytes.old.items placed.old.items
         → AreLaid (ss ++ sections_under versions.now tables.now) bytes.new.items placed.new.items }
-    ensures bytes_len { vec_len bytes.new ≤ vec_len bytes.old + room_for tables.now }
-    ensures bytes_capacity { vec_capacity bytes.old ≤ vec_capacity bytes.new }
-    ensures placed_len { vec_len placed.new ≤ vec_len placed.old + places_for tables.now }
-    ensures placed_capacity { vec_capacity placed.old ≤ vec_capacity placed.new }
+    ensures bytes { Grew bytes.old bytes.new (room_for tables.now) }
+    ensures placed { Grew placed.old placed.new (places_for tables.now) }
 {
     for (table, version) in tables.iter().zip(versions) {
         lay_table(bytes, placed, table, *version);
@@ -128,10 +124,8 @@ fn lay_table(bytes: &mut Vec<u8>, placed: &mut Vec<Placed>, table: &SubTable, ve
     requires room { vec_len bytes.old + room_of table.now.sections ≤ vec_capacity bytes.old }
     requires places { vec_len placed.old + length table.now.sections ≤ vec_capacity placed.old }
     ensures laid { (ss : List Sent) → AreLaid ss bytes.old.items placed.old.items → AreLaid (ss ++ sections_of version table.now) bytes.new.items placed.new.items }
-    ensures bytes_len { vec_len bytes.new ≡ vec_len bytes.old + room_of table.now.sections }
-    ensures bytes_capacity { vec_capacity bytes.old ≤ vec_capacity bytes.new }
-    ensures placed_len { vec_len placed.new ≡ vec_len placed.old + length table.now.sections }
-    ensures placed_capacity { vec_capacity placed.old ≤ vec_capacity placed.new }
+    ensures bytes { Grew bytes.old bytes.new (room_of table.now.sections) }
+    ensures placed { Grew placed.old placed.new (length table.now.sections) }
 {
     let sections = table.sections.as_slice();
     let last = last_number(sections);
@@ -175,10 +169,8 @@ fn lay_section(
     requires room { vec_len bytes.old + (12 + length body.now) ≤ vec_capacity bytes.old }
     requires place { vec_len placed.old < vec_capacity placed.old }
     ensures laid { (ss : List Sent) → AreLaid ss bytes.old.items placed.old.items → AreLaid (ss ++ record { pid = pid; bytes = section_bytes header.now body.now } ∷ []) bytes.new.items placed.new.items }
-    ensures bytes_len { vec_len bytes.new ≡ vec_len bytes.old + (12 + length body.now) }
-    ensures bytes_capacity { vec_capacity bytes.old ≤ vec_capacity bytes.new }
-    ensures placed_len { vec_len placed.new ≡ vec_len placed.old + 1 }
-    ensures placed_capacity { vec_capacity placed.old ≤ vec_capacity placed.new }
+    ensures bytes { Grew bytes.old bytes.new (12 + length body.now) }
+    ensures placed { Grew placed.old placed.new 1 }
 {
     let start = bytes.len();
     put_section(bytes, header, body);

@@ -3,13 +3,16 @@
 //!
 //! A layer above relies on this contract: a player stands for the air that it has handed out; `swap` begins the cycle
 //! of one airing more and names its packets, `next_packet` gives its next packet, and `play_cycle` appends the rest of it to the sink.
-//! Sections are laid once for a cycle and sent in the order that `cycle_plan` gives.
+//! Sections are laid once for a cycle and sent in the order that `cycle_plan` gives. So they are repeated within its bounds
+//! (`made_airs_are_spaced`).
 #![tactic(auto)]
 
 mod cycle;
+mod laws;
 mod laying;
 mod planning;
 mod player;
 mod sending;
 
+pub use laws::made_airs_are_spaced;
 pub use player::Player;

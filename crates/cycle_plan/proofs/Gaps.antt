@@ -1,5 +1,5 @@
 -- What stands between two sendings of a section, and how many packets that has.
-use Rattle.std.proofs.Common.{◌≡◌, ℕ, zero, suc, ◌+◌, ◌*◌, ◌/◌, ◌<◌, ◌≤◌, ◌⊎◌, inl, inr, List, [], ◌∷◌, ◌++◌, Bool, true, false, cond, sym, ap, ◌∙◌, subst, arith}
+use Rattle.std.proofs.Common.{◌≡◌, ℕ, zero, suc, ◌+◌, ◌*◌, ◌/◌, ◌<◌, ◌≤◌, inl, inr, List, [], ◌∷◌, ◌++◌, Bool, true, false, cond, sym, ap, ◌∙◌, subst, arith}
 use Rattle.std.specs.Prelude.{nat_le}
 use Rattle.std.specs.List.{AllByRecursion, filter}
 use Rattle.std.proofs.lemmas.List.Elements.{filter-append}
@@ -10,11 +10,11 @@ use Rattle.cycle_plan.specs.Cutting.{packets_in, cut}
 use Rattle.cycle_plan.specs.Cycle.{Planned, led, fast_of, near_of, chunks_of, body_of, runs_of, cycle_of}
 use Rattle.cycle_plan.specs.Spacing.{Lacks, fast_bound, near_span, near_bound, IsWithinLimits, CyclesAreSpaced}
 use Rattle.cycle_plan.proofs.Lists.{all_at, packets-append, all-numbers, numbers-lack, once}
-use Rattle.cycle_plan.proofs.Leads.{AllAre, Between, between, led-append, all-parts, filter-led, filter-all}
+use Rattle.cycle_plan.proofs.Leads.{AllAre, between, led-append, all-parts, filter-led, filter-all}
 use Rattle.std.proofs.lemmas.Bool.{le-leb, lt-leb}
 use Rattle.cycle_plan.proofs.Cuts.{is_cut}
 use Rattle.cycle_plan.proofs.Tiers.{tiers, small_runs, small_chunks, chunks_joined, runs_joined}
-use Rattle.cycle_plan.proofs.Counts.{failing, packets-split, shorts, shorts-append, shorts-one, few-behind}
+use Rattle.cycle_plan.proofs.Counts.{packets-split, shorts, shorts-append, shorts-one, few-behind}
 use Rattle.cycle_plan.proofs.Places.{spaced_by}
 
 two_cycles : (p : Planned) → cycle_of p ++ cycle_of p ≡ led (fast_of p) (runs_of p ++ runs_of p)

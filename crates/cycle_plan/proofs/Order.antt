@@ -1,7 +1,7 @@
 -- What the order of a cycle keeps.
 use Rattle.std.proofs.Common.{◌≡◌, ℕ, ◌+◌, ◌<◌, ◌≤◌, ◌⊎◌, inl, inr, List, [], ◌∷◌, ◌++◌, Bool, true, false, length, refl, sym, ap, ◌∙◌, subst, arith}
 use Rattle.std.specs.Prelude.{nat_le}
-use Rattle.std.specs.List.{AllByRecursion, Contains, filter}
+use Rattle.std.specs.List.{Contains, filter}
 use Rattle.std.proofs.lemmas.List.Elements.{Contains-append_left, Contains-append_right, Contains-append_cases}
 use Rattle.section_codec.specs.Contents.{numbers_from}
 use Rattle.cycle_plan.specs.Cutting.{joined, cut}

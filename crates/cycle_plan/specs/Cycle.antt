@@ -30,7 +30,7 @@ at_least_one (part ∷ parts) = part ∷ parts
 abbrev pub led : List ℕ → List (List ℕ) → List ℕ
 led lead parts = flat_map (λ (part : List ℕ). lead ++ part) parts
 
--- 1. Far is cut from its front into chunks, each with the packets of Near or more; without Far there is one empty chunk.
+-- 1. Far is cut from its front into chunks, each but the last with the packets of Near or more; without Far there is one empty chunk.
 abbrev pub chunks_of : Planned → List (List ℕ)
 chunks_of p = at_least_one (cut p.size (packets_in p.size (near_of p)) (far_of p))
 
@@ -38,7 +38,8 @@ chunks_of p = at_least_one (cut p.size (packets_in p.size (near_of p)) (far_of p
 abbrev pub body_of : Planned → List ℕ
 body_of p = led (near_of p) (chunks_of p)
 
--- 3. The body is cut from its front into runs, each with the packets of the quota or more; without a body there is one empty run.
+-- 3. The body is cut from its front into runs, each but the last with the packets of the quota or more; without a body there is one
+-- empty run.
 abbrev pub runs_of : Planned → List (List ℕ)
 runs_of p = at_least_one (cut p.size p.quota (body_of p))
 

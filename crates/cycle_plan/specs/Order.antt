@@ -1,8 +1,7 @@
 -- Laws of the order of a cycle, in other words than its rules.
-use Rattle.std.specs.Prelude.{◌≡◌, ℕ, ◌+◌, ◌<◌, ◌≤◌, List, ◌++◌, nat_le}
+use Rattle.std.specs.Prelude.{◌≡◌, ℕ, ◌+◌, ◌<◌, nat_le}
 use Rattle.std.specs.List.{AllByRecursion, Contains, filter}
-use Rattle.cycle_plan.specs.Cutting.{packets_in, cut, IsCut}
-use Rattle.cycle_plan.specs.Cycle.{Planned, near_of, far_of, chunks_of, body_of, runs_of, cycle_of}
+use Rattle.cycle_plan.specs.Cycle.{Planned, far_of, body_of, cycle_of}
 
 pub record IsWhole (p : Planned) : Type 0 where
   -- each section that is planned stands in the cycle,

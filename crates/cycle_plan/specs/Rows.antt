@@ -1,6 +1,5 @@
 -- Worked cycles.
-use Rattle.std.specs.Prelude.{◌≡◌, ℕ, List, [], ◌∷◌, ◌++◌, refl}
-use Rattle.section_codec.specs.declared.table.Tier3.{Tier3}
+use Rattle.std.specs.Prelude.{◌≡◌, ℕ, [], ◌∷◌, ◌++◌, refl}
 use Rattle.section_codec.specs.declared.table.Tier3.TheVariants.{Fast, Near, Far}
 use Rattle.cycle_plan.specs.Cutting.{packets_in}
 use Rattle.cycle_plan.specs.Cycle.{Planned, cycle_of, chunks_of, runs_of}

@@ -22,22 +22,22 @@ lay_tables-requires-clause-places c =
 pub lay_tdt-requires-clause-room : goal.lay_tdt-requires-clause-room
 lay_tdt-requires-clause-room c =
     let cut = room-parts c.lead_count-count.result c.args.tables.now c.split_at.result.0.now c.split_at.result.1.now c.split_at.ensures.front c.split_at.ensures.back in
-    omega (arith, cut.0, c.requires.room, c.lay_tables.ensures.bytes_len, c.lay_tables.ensures.bytes_capacity)
+    omega (arith, cut.0, c.requires.room, c.lay_tables.ensures.bytes.len, c.lay_tables.ensures.bytes.capacity)
 
 pub lay_tdt-requires-clause-place : goal.lay_tdt-requires-clause-place
 lay_tdt-requires-clause-place c =
     let cut = room-parts c.lead_count-count.result c.args.tables.now c.split_at.result.0.now c.split_at.result.1.now c.split_at.ensures.front c.split_at.ensures.back in
-    omega (arith, cut.1, c.requires.places, c.lay_tables.ensures.placed_len, c.lay_tables.ensures.placed_capacity)
+    omega (arith, cut.1, c.requires.places, c.lay_tables.ensures.placed.len, c.lay_tables.ensures.placed.capacity)
 
 pub lay_tables-requires-2-clause-room : goal.lay_tables-requires-2-clause-room
 lay_tables-requires-2-clause-room c =
     let cut = room-parts c.lead_count-count.result c.args.tables.now c.split_at.result.0.now c.split_at.result.1.now c.split_at.ensures.front c.split_at.ensures.back in
-    omega (arith, cut.0, c.requires.room, c.lay_tables.ensures.bytes_len, c.lay_tables.ensures.bytes_capacity, c.lay_tdt.ensures.bytes_len, c.lay_tdt.ensures.bytes_capacity)
+    omega (arith, cut.0, c.requires.room, c.lay_tables.ensures.bytes.len, c.lay_tables.ensures.bytes.capacity, c.lay_tdt.ensures.bytes.len, c.lay_tdt.ensures.bytes.capacity)
 
 pub lay_tables-requires-2-clause-places : goal.lay_tables-requires-2-clause-places
 lay_tables-requires-2-clause-places c =
     let cut = room-parts c.lead_count-count.result c.args.tables.now c.split_at.result.0.now c.split_at.result.1.now c.split_at.ensures.front c.split_at.ensures.back in
-    omega (arith, cut.1, c.requires.places, c.lay_tables.ensures.placed_len, c.lay_tables.ensures.placed_capacity, c.lay_tdt.ensures.placed_len, c.lay_tdt.ensures.placed_capacity)
+    omega (arith, cut.1, c.requires.places, c.lay_tables.ensures.placed.len, c.lay_tables.ensures.placed.capacity, c.lay_tdt.ensures.placed.len, c.lay_tdt.ensures.placed.capacity)
 
 pub returns : goal.returns
 returns c ss h =

@@ -23,10 +23,10 @@ loop-table-preserved c =
           (append_assoc ss (sections_under (take n versions) (take n tables)) (sections_of version table)
           ∙ ap (λ (l : List Sent). ss ++ l) (sym more ∙ ap (λ (k : ℕ). sections_under (take k versions) (take k tables)) (sym next)))
           (c.lay_table.ensures.laid (ss ++ sections_under (take n versions) (take n tables)) (c.loop-table.invariant.laid ss h));
-      bytes_len = subst (λ (k : ℕ). vec_len c.lay_table.new.bytes + room_for (drop k tables) ≤ vec_len c.args.bytes.now + room_for tables) (sym next) (omega (arith, behind.0));
-      bytes_capacity = omega arith;
-      placed_len = subst (λ (k : ℕ). vec_len c.lay_table.new.placed + places_for (drop k tables) ≤ vec_len c.args.placed.now + places_for tables) (sym next) (omega (arith, behind.1));
-      placed_capacity = omega arith;
+      bytes_len = subst (λ (k : ℕ). vec_len c.lay_table.new.bytes + room_for (drop k tables) ≤ vec_len c.args.bytes.now + room_for tables) (sym next) (omega (arith, behind.0, c.lay_table.ensures.bytes.len, c.loop-table.invariant.bytes_len));
+      bytes_capacity = omega (arith, c.lay_table.ensures.bytes.capacity, c.loop-table.invariant.bytes_capacity);
+      placed_len = subst (λ (k : ℕ). vec_len c.lay_table.new.placed + places_for (drop k tables) ≤ vec_len c.args.placed.now + places_for tables) (sym next) (omega (arith, behind.1, c.lay_table.ensures.placed.len, c.loop-table.invariant.placed_len));
+      placed_capacity = omega (arith, c.lay_table.ensures.placed.capacity, c.loop-table.invariant.placed_capacity);
     }
 
 pub returns-clause-laid : goal.returns-clause-laid

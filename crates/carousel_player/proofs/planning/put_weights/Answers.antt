@@ -1,5 +1,4 @@
-use Rattle.std.proofs.Common.{◌≡◌, ℕ, List, [], ◌∷◌, ◌++◌, ap, ap₂, ◌∙◌, take, drop, arith, append_assoc}
-use Rattle.std.specs.List.{prefix_len}
+use Rattle.std.proofs.Common.{arith}
 use Rattle.std.proofs.lemmas.List.Sums.{prefix_len-le-length}
 use Rattle.air_model.specs.Air.{leads}
 use Rattle.carousel_player.proofs.planning.put_weights.Goals as goal

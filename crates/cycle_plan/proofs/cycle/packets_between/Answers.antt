@@ -1,4 +1,4 @@
-use Rattle.std.proofs.Common.{ℕ, ◌≡◌, ◌≤◌, ◌+◌, ◌-◌, ap, arith}
+use Rattle.std.proofs.Common.{ℕ, ◌≡◌, ◌+◌, ◌-◌, ap, arith}
 use Rattle.std.specs.Prelude.{slice_index}
 use Rattle.section_codec.specs.Contents.{numbers_from}
 use Rattle.cycle_plan.specs.Cutting.{packets_in}

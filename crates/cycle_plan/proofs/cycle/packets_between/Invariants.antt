@@ -1,4 +1,4 @@
-use Rattle.std.proofs.Common.{◌≡◌, ◌-◌, ◌*◌, ◌≤◌, ◌^◌}
+use Rattle.std.proofs.Common.{◌≡◌, ◌-◌, ◌*◌, ◌≤◌}
 use Rattle.std.specs.Prelude.{slice_index}
 use Rattle.section_codec.specs.Contents.{numbers_from}
 use Rattle.cycle_plan.specs.Cutting.{packets_in}

@@ -1,6 +1,5 @@
 use Rattle.std.proofs.Common.{◌≡◌, ℕ, List, [], length, map, sym, ap, ◌∙◌, subst}
 use Rattle.section_codec.specs.declared.table.SubTable.{SubTable}
-use Rattle.ts_packets.specs.Bytes.{Packet}
 use Rattle.cycle_plan.specs.Cycle.{cycle_of}
 use Rattle.cycle_plan.specs.Sections.{planned}
 use Rattle.air_model.specs.Air.{at_places}
