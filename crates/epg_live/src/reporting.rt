@@ -4,7 +4,8 @@ ghost use Rattle.guide_text.specs.Fields.{optional};
 ghost use Rattle.guide_text.specs.Guides.{guide_text};
 ghost use Rattle.epg_report.specs.Texts.{CanBeSaid, fault_lines};
 ghost use Rattle.epg_report.specs.Told.{told};
-ghost use Rattle.epg_live.specs.Ends.{ReportEnds, done_text, ended_by, entries_of, heard_text, line_done, nothing_heard, run_text};
+ghost use Rattle.epg_live.specs.Ends.{ReportEnds, done_text, ended_by, entries_of, heard_text, line_done, run_text};
+ghost use Rattle.epg_live.specs.Runs.{nothing_heard};
 
 use desk_core::Desk;
 use epg_report::{Outlet, Status, journal_of, out_of_memory, put_fault_line};
