@@ -201,6 +201,13 @@ heard_line stop.Report bytes left receiver y x heard p n a b c e t number done r
 
 -- ---- the run is over
 
+-- the guide was reported by a text that is the guide's, or a proper front of it
+pub guide_told : (packets : List (List ℕ)) (old new : Option (List ℕ)) (text : List ℕ) → text ≡ heard_guide packets → Appends old new text → Appends old new (heard_guide packets)
+guide_told packets old new text e told = subst (Appends old new) e told
+
+pub guide_front : (packets : List (List ℕ)) (old new : Option (List ℕ)) (text : List ℕ) → text ≡ heard_guide packets → AppendsFront old new text → AppendsFront old new (heard_guide packets)
+guide_front packets old new text e told = subst (AppendsFront old new) e told
+
 -- what is reported behind something that was written
 behind : (a b c : Option (List ℕ)) (f g h : ℕ) (xs ys : List ℕ) → f ≤ g → Appends a b xs → Reported (record { old = b; new = c; faults_old = g; faults_new = h }) ys
     → Reported (record { old = a; new = c; faults_old = f; faults_new = h }) (xs ++ ys)

@@ -139,6 +139,7 @@ fn guide_of(alloc: Global, receiver: &Receiver) -> Result<Vec<u8>, AllocError>
 }
 
 // Reports the guide of what was heard.
+#[tactic(auto, using(crate::proofs::ListenFacts::guide_told, crate::proofs::ListenFacts::guide_front))]
 fn report_guide<R: Sink>(alloc: Global, receiver: &Receiver, report: &mut R) -> Status
     ensures ends { EndsHeard receiver.now (Ok tt) (told R.written R.faults report.old report.new) result }
     ensures later { R.faults report.old ≤ R.faults report.new }
