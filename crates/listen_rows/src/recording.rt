@@ -1,5 +1,6 @@
 // The recording of a row.
 use crate::run::{WHOLE, run_word};
+use row_lines::written_out;
 use std::alloc::{AllocError, Global};
 use std::marker::Sync;
 use std::sync::Wait;
@@ -54,6 +55,18 @@ fn names(alloc: Global, count: u64) -> Result<String, AllocError> {
     Ok(script)
 }
 
+// The air of a script with counts.
+fn counted<W: Threads + Wait + Sync>(
+    rt: &W,
+    alloc: Global,
+    text: &str,
+) -> Result<Vec<u8>, AllocError> {
+    match written_out(alloc, text)? {
+        Some(script) => air_of(rt, alloc, script.as_str()),
+        None => Ok(Vec::new(alloc)),
+    }
+}
+
 fn number(word: &str) -> u64 {
     word.parse::<u64>().unwrap_or(0)
 }
@@ -76,6 +89,7 @@ pub fn recording_of<W: Threads + Wait + Sync>(
     match form {
         "hex" => spelled(alloc, text),
         "play" => air_of(rt, alloc, text),
+        "counted" => counted(rt, alloc, text),
         "names" => {
             let script = names(alloc, number(text))?;
             air_of(rt, alloc, script.as_str())

@@ -44,6 +44,25 @@ pub fn put_guide(out: &mut String, left: &Left) -> Result<(), AllocError> {
     put_lines(out, report.get(done_len(report)..).unwrap_or(""))
 }
 
+// Whether a line is a completion of this table, or one of the guide.
+fn is_told(line: &str, table: &str) -> bool {
+    let mut fields = line.split('\t').skip(3);
+    !is_done(line) || fields.next().is_some_and(|field| field == table)
+}
+
+/// Appends the exit status, the completions of this table, and what stands behind the completions.
+pub fn put_table(out: &mut String, left: &Left, table: &str) -> Result<(), AllocError> {
+    let code = left.status.code();
+    write!(out, "{code}, ")?;
+    for line in report_of(left).lines() {
+        if is_told(line, table) {
+            put_lines(out, line)?;
+            out.push('/')?;
+        }
+    }
+    Ok(())
+}
+
 /// Appends the exit status, and how many bytes the report has.
 pub fn put_size(out: &mut String, left: &Left) -> Result<(), AllocError> {
     let (code, size) = (left.status.code(), left.report.taken().len());

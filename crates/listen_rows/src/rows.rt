@@ -1,6 +1,6 @@
 // A row and its answer.
 use crate::recording::recording_of;
-use crate::report::{put_guide, put_size, put_whole};
+use crate::report::{put_guide, put_size, put_table, put_whole};
 use crate::run::{Ends, Left, WHOLE, run_word};
 use std::alloc::{AllocError, Global};
 use std::marker::Sync;
@@ -51,6 +51,17 @@ fn tell_each<W: Threads + Wait + Sync>(
     Ok(())
 }
 
+// `TABLE RECORDING`
+fn tell_table<W: Threads + Wait + Sync>(
+    rt: &W,
+    alloc: Global,
+    row: &str,
+    out: &mut String,
+) -> Result<(), AllocError> {
+    let (table, row) = cut(row);
+    put_table(out, &left_of(rt, alloc, row)?, table)
+}
+
 // Appends what a row gives.
 fn tell<W: Threads + Wait + Sync>(
     rt: &W,
@@ -62,6 +73,7 @@ fn tell<W: Threads + Wait + Sync>(
     match call {
         "reports" => put_whole(out, &left_of(rt, alloc, row)?),
         "guide" => put_guide(out, &left_of(rt, alloc, row)?),
+        "table" => tell_table(rt, alloc, row, out),
         "each" => tell_each(rt, alloc, row, out),
         _ => out.push_str("no row"),
     }
