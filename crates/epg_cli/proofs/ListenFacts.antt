@@ -217,8 +217,8 @@ behind a b c f g h xs ys le done (inr (rose, front)) = inr (Rose-from f g h le r
 
 pub leaves_heard : (heard : Result (Unit {0}) ListenStop) (bytes : List ℕ) (left : Option (List ℕ)) (receiver : Hearing) (old mid new : Option (List ℕ)) (f g h : ℕ) (status : Status) → f ≤ g → HasHeard bytes left receiver old mid heard
     → EndsHeard receiver heard (record { old = mid; new = new; faults_old = g; faults_new = h }) status → LeavesHeard bytes left (record { old = old; new = new; faults_old = f; faults_new = h }) status
-leaves_heard (Ok u) bytes left receiver old mid new f g h Done le (ended, (done, stands)) ends = record { ended = ended; report_is = Appends-trans old mid new (heard_text (recording bytes).0) (heard_guide (recording bytes).0) done (ends (recording bytes).0 stands) }
-leaves_heard (Ok u) bytes left receiver old mid new f g h (WriteFault Report) le (ended, (done, stands)) ends = inr (ended, front_behind old mid new (heard_text (recording bytes).0) (heard_guide (recording bytes).0) done (ends.0 (recording bytes).0 stands))
+leaves_heard (Ok u) bytes left receiver old mid new f g h Done le (ended, done, stands) ends = record { ended = ended; report_is = Appends-trans old mid new (heard_text (recording bytes).0) (heard_guide (recording bytes).0) done (ends (recording bytes).0 stands) }
+leaves_heard (Ok u) bytes left receiver old mid new f g h (WriteFault Report) le (ended, done, stands) ends = inr (ended, front_behind old mid new (heard_text (recording bytes).0) (heard_guide (recording bytes).0) done (ends.0 (recording bytes).0 stands))
 leaves_heard (Ok u) bytes left receiver old mid new f g h (WriteFault Air) le has ends = absurd ends
 leaves_heard (Ok u) bytes left receiver old mid new f g h Usage le has ends = absurd ends
 leaves_heard (Ok u) bytes left receiver old mid new f g h (BadScript n) le has ends = absurd ends

@@ -134,6 +134,10 @@ abbrev pub HasReportCause : ℕ → ℕ → Result (Unit {0}) ListenStop → Typ
 HasReportCause before now (Err stop.Report) = Rose before now
 HasReportCause before now result = Unit {0}
 
+-- how the report ends where a stop of the input was met: by its line
+abbrev pub EndsRead : PacketStop → ReportTaken → Status → Type 0
+EndsRead s report status = (status ≡ Memory) ⊎ ((status ≡ packet_stop_status s) × Reported report (fault_line (packet_stop_text s)))
+
 -- How the report ends, by why the recording was not heard on, and the status. Where it was heard to its end, the guide of what the
 -- receiver stands for was reported, or a proper front of it.
 abbrev pub EndsHeard : Hearing → Result (Unit {0}) ListenStop → ReportTaken → Status → Type 0
@@ -143,6 +147,6 @@ EndsHeard receiver (Ok u) report (WriteFault Report) =
     × Rose report.faults_old report.faults_new
 EndsHeard receiver (Ok u) report Memory = Unit {0}
 EndsHeard receiver (Ok u) report status = ⊥
-EndsHeard receiver (Err (stop.Read s)) report status = (status ≡ Memory) ⊎ ((status ≡ packet_stop_status s) × Reported report (fault_line (packet_stop_text s)))
+EndsHeard receiver (Err (stop.Read s)) report status = EndsRead s report status
 EndsHeard receiver (Err stop.Report) report status = (status ≡ WriteFault Report) × (report.old ≡ report.new)
 EndsHeard receiver (Err stop.Memory) report status = status ≡ Memory

@@ -1,13 +1,13 @@
 // A recording, heard packet by packet.
-ghost use Rattle.std.specs.Prelude.{◌≡◌, ◌≤◌, ◌++◌, ◌∷◌, [], List, ℕ, None, Some, Ok, Err, IfOk, OnOk, map, slice_index};
+ghost use Rattle.std.specs.Prelude.{◌≡◌, ◌≤◌, ◌++◌, ◌∷◌, [], List, ℕ, None, Some, Ok, IfOk, OnOk, map, slice_index};
 ghost use Rattle.std.specs.Io.KnownBytes.{IsAtEnd};
 ghost use Rattle.packet_reader.specs.Reading.{bytes_left};
-ghost use Rattle.guide_receiver.specs.Heard.{Hearing, ReceiverStandsFor};
+ghost use Rattle.guide_receiver.specs.Heard.{ReceiverStandsFor};
 ghost use Rattle.heard_completions.specs.Dones.{at_packet, dones_by};
 ghost use Rattle.heard_completions.specs.Texts.{done_lines};
 ghost use Rattle.epg_report.specs.Texts.{fault_line};
 ghost use Rattle.epg_report.specs.Told.{told};
-ghost use Rattle.epg_cli.specs.Listen.{ReportsLines, HasHeard, HasReadCause, HasReportCause, IsNoReadStop, EndsHeard, heard_guide, packet_stop_text, packet_stop_status};
+ghost use Rattle.epg_cli.specs.Listen.{ReportsLines, HasHeard, HasReadCause, HasReportCause, IsNoReadStop, EndsHeard, EndsRead, heard_guide, packet_stop_text, packet_stop_status};
 
 use epg_report::{Origin, Outlet, Status, out_of_memory, put_fault_line};
 use guide_receiver::{DoneKey, HearStop, Receiver, write_done};
@@ -56,9 +56,6 @@ fn hear_packet<R: Sink>(
         Err(HearStop::Sync) => unreachable!(),
         Err(HearStop::Memory) => return Err(ListenStop::Memory),
     };
-    if dones.is_empty() {
-        return Ok(());
-    }
     let Ok(text) = lines_of(alloc, number, dones.as_slice()) else {
         return Err(ListenStop::Memory);
     };
@@ -119,7 +116,7 @@ fn fault_of(alloc: Global, stop: PacketStop) -> Result<Vec<u8>, AllocError>
 
 // Reports why no further packet comes.
 fn report_stop<R: Sink>(alloc: Global, stop: PacketStop, report: &mut R) -> Status
-    ensures ends { (receiver : Hearing) → EndsHeard receiver (Err (ListenStop.Read stop)) (told R.written R.faults report.old report.new) result }
+    ensures ends { EndsRead stop (told R.written R.faults report.old report.new) result }
     ensures later { R.faults report.old ≤ R.faults report.new }
 {
     let Ok(text) = fault_of(alloc, stop) else {

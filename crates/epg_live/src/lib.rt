@@ -11,4 +11,5 @@ mod reporting;
 mod run;
 mod top;
 
+pub use reporting::HeardAir;
 pub use top::run_live_files;

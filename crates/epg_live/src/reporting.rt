@@ -17,9 +17,9 @@ use std::alloc::{AllocError, Global};
 
 /// What was heard of the air: the completions, and where no fault was met the guide.
 #[derive(Drop)]
-pub(crate) struct HeardAir {
-    pub(crate) dones: DoneLines,
-    pub(crate) guide: Option<Heard>,
+pub struct HeardAir {
+    pub dones: DoneLines,
+    pub guide: Option<Heard>,
 }
 
 impl HeardAir {

@@ -20,18 +20,6 @@ returns-in-Err-Memory-clause-no_read g c = grind (arith, common_steps)
 pub returns-in-Err-Memory-clause-later : goal.returns-in-Err-Memory-clause-later
 returns-in-Err-Memory-clause-later g c = grind (arith, common_steps)
 
-pub returns-then-is_empty-clause-reports : goal.returns-then-is_empty-clause-reports
-returns-then-is_empty-clause-reports g c = grind (arith, common_steps)
-
-pub returns-then-is_empty-clause-cause : goal.returns-then-is_empty-clause-cause
-returns-then-is_empty-clause-cause g c = grind (arith, common_steps)
-
-pub returns-then-is_empty-clause-no_read : goal.returns-then-is_empty-clause-no_read
-returns-then-is_empty-clause-no_read g c = grind (arith, common_steps)
-
-pub returns-then-is_empty-clause-later : goal.returns-then-is_empty-clause-later
-returns-then-is_empty-clause-later g c = grind (arith, common_steps)
-
 pub returns-in_default-clause-reports : goal.returns-in_default-clause-reports
 returns-in_default-clause-reports g c = grind (arith, common_steps)
 
