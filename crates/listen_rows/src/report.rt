@@ -24,8 +24,13 @@ fn is_done(line: &str) -> bool {
 
 // How many bytes the lines of completions have.
 fn done_len(report: &str) -> usize {
-    let dones = report.lines().filter(|line| is_done(line));
-    dones.map(|line| line.len().saturating_add(1)).sum()
+    let mut len = 0usize;
+    for line in report.lines() {
+        if is_done(line) {
+            len = len.saturating_add(line.len()).saturating_add(1);
+        }
+    }
+    len
 }
 
 /// Appends the exit status and the whole report.
