@@ -17,7 +17,7 @@ use Rattle.section_codec.proofs.ContentFacts.{own_parts, below_last}
 use Rattle.section_codec.specs.KeyOrder.{is_key}
 use Rattle.section_codec.proofs.KeyOrderFacts.{is_key-same, is_key-itself}
 use Rattle.si_time.specs.Moments.{moment_bcd}
-use Rattle.version_book.specs.Airings.{Airing, content_in, content_at, version_at}
+use Rattle.version_book.specs.Airings.{AiredTables, content_in, content_at, version_at}
 use Rattle.version_book.proofs.Airs.{AreOwn-all}
 use Rattle.sub_collect.specs.Runs.{Counted, counted, latest_section, has_number, latest_with}
 use Rattle.sub_collect.specs.Completions.{is_of, of_key}
@@ -31,7 +31,7 @@ use Rattle.air_model.proofs.Repeating.{elements, of_element, around}
 use Rattle.air_hearing.specs.Counting.{raw_of, IsReadable, CanBeHeard}
 use Rattle.air_hearing.specs.Laws.{TableCounts}
 
-pub version_at-lt : (k : Key) (airings : List Airing) → version_at k airings < 32
+pub version_at-lt : (k : Key) (airings : List AiredTables) → version_at k airings < 32
 version_at-lt k airings = omega arith
 
 -- ---- one section
@@ -135,7 +135,7 @@ some_latest n before after s e =
     some (x ∷ []) s ys = first s ys
     some (x ∷ y ∷ xs) s ys = some (y ∷ xs) s ys
 
-module _ (past : List Airing) (a : Airing) (can : CanBeHeard a) (k : Key) where
+module _ (past : List AiredTables) (a : AiredTables) (can : CanBeHeard a) (k : Key) where
   abbrev version : SubTable → ℕ
   version t = version_at t.key (past ++ a ∷ [])
 

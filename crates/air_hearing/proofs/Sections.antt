@@ -10,7 +10,7 @@ use Rattle.section_codec.specs.Section.{long_flags, section_bytes, longest_body}
 use Rattle.section_codec.proofs.ReadBack.{length-section_bytes, within}
 use Rattle.si_time.specs.Moments.{moment_bcd}
 use Rattle.time_tables.specs.Tdt.{tdt_section}
-use Rattle.version_book.specs.Airings.{Airing, version_at}
+use Rattle.version_book.specs.Airings.{AiredTables, version_at}
 use Rattle.ts_packets.specs.Packets.{Carries}
 use Rattle.ts_packets.specs.Bytes.{bytes_of_packet}
 use Rattle.ts_packets.specs.Counting.{of_pid}
@@ -60,7 +60,7 @@ IsSection-tdt moment = record {
 
 -- ---- each section that is sent
 
-pub each_section : (past : List Airing) (a : Airing) (ss : List Sent) → All IsFit a.tables → AllByRecursion (IsSentOf past a) ss → AllByRecursion (λ (x : Sent). IsSection x.bytes) ss
+pub each_section : (past : List AiredTables) (a : AiredTables) (ss : List Sent) → All IsFit a.tables → AllByRecursion (IsSentOf past a) ss → AllByRecursion (λ (x : Sent). IsSection x.bytes) ss
 each_section past a ss fit each = all_map (IsSentOf past a) (λ (x : Sent). IsSection x.bytes) one ss each
   where
     one : (x : Sent) → IsSentOf past a x → IsSection x.bytes
@@ -70,7 +70,7 @@ each_section past a ss fit each = all_map (IsSentOf past a) (λ (x : Sent). IsSe
         let le = All-contains (λ (s : NumberedBody). length s.body ≤ longest_body t.key.table) t.sections p f.bodies has_p in
         subst (λ (s : Sent). IsSection s.bytes) (sym e) (IsSection-section_bytes (header_of (version_at t.key (past ++ a ∷ [])) t p) p.body f.no_fill le)
 
-each_sent : (past airings : List Airing) → CanBeSent airings → AllByRecursion (λ (x : Sent). IsSection x.bytes) (sections_sent past airings)
+each_sent : (past airings : List AiredTables) → CanBeSent airings → AllByRecursion (λ (x : Sent). IsSection x.bytes) (sections_sent past airings)
 each_sent past [] fit = tt
 each_sent past (a ∷ airings) fit =
     all_append (λ (x : Sent). IsSection x.bytes) (cycle_sections past a) (sections_sent (past ++ a ∷ []) airings)
@@ -84,12 +84,12 @@ each_on pid (s ∷ ss) all = go (s.pid == pid) (each_on pid ss all.1)
     go true rest = (all.0, rest)
     go false rest = rest
 
-pub sections-each : (pid : ℕ) (past airings : List Airing) → CanBeSent airings → AllByRecursion IsSection (filter_map (sent_on pid) (sections_sent past airings))
+pub sections-each : (pid : ℕ) (past airings : List AiredTables) → CanBeSent airings → AllByRecursion IsSection (filter_map (sent_on pid) (sections_sent past airings))
 sections-each pid past airings fit = each_on pid (sections_sent past airings) (each_sent past airings fit)
 
 -- ---- the cycles, joined
 
-pub Carries-cycles : (pid : ℕ) (past : List Airing) (xs : List Aired) → Cycles past xs → Carries (of_pid pid (air xs)) (filter_map (sent_on pid) (sections_sent past (airings_of xs)))
+pub Carries-cycles : (pid : ℕ) (past : List AiredTables) (xs : List Aired) → Cycles past xs → Carries (of_pid pid (air xs)) (filter_map (sent_on pid) (sections_sent past (airings_of xs)))
 Carries-cycles pid past [] h = Carries-none
 Carries-cycles pid past (x ∷ xs) h =
     let cycle = filter_map (sent_on pid) (cycle_sections past x.airing) in
@@ -97,11 +97,11 @@ Carries-cycles pid past (x ∷ xs) h =
     subst₂ Carries (sym (of_pid-append pid x.packets (air xs))) (sym (filter_map-append (sent_on pid) (cycle_sections past x.airing) (sections_sent (past ++ x.airing ∷ []) (airings_of xs))))
     (Carries-append (of_pid pid x.packets) (of_pid pid (air xs)) cycle later (h.0 pid) (Carries-cycles pid (past ++ x.airing ∷ []) xs h.1))
 
-pub Carries-air : (airings : List Airing) (xs : List Aired) → IsAirOf airings xs → (pid : ℕ) → Carries (of_pid pid (air xs)) (filter_map (sent_on pid) (sections_sent [] airings))
+pub Carries-air : (airings : List AiredTables) (xs : List Aired) → IsAirOf airings xs → (pid : ℕ) → Carries (of_pid pid (air xs)) (filter_map (sent_on pid) (sections_sent [] airings))
 Carries-air airings xs is pid =
-    subst (λ (l : List Airing). Carries (of_pid pid (air xs)) (filter_map (sent_on pid) (sections_sent [] l))) is.airings_are (Carries-cycles pid [] xs is.cycles)
+    subst (λ (l : List AiredTables). Carries (of_pid pid (air xs)) (filter_map (sent_on pid) (sections_sent [] l))) is.airings_are (Carries-cycles pid [] xs is.cycles)
 
-pub GoOn-air : (airings : List Airing) (xs : List Aired) → IsAirOf airings xs → (pid : ℕ) → GoOn pid (air xs)
+pub GoOn-air : (airings : List AiredTables) (xs : List Aired) → IsAirOf airings xs → (pid : ℕ) → GoOn pid (air xs)
 GoOn-air airings xs is pid = record { fields = is.fields; counted = (0, is.counted pid) }
 
 pub air-heard : AirIsHeard
@@ -111,25 +111,25 @@ air-heard airings xs is fit pid lt =
 -- ---- cycles that repeat sections
 
 -- all sections that they send
-abbrev pub all_sent : (past : List Airing) (xs : List Aired) → RepeatingCycles past xs → List Sent
+abbrev pub all_sent : (past : List AiredTables) (xs : List Aired) → RepeatingCycles past xs → List Sent
 all_sent past [] h = []
 all_sent past (x ∷ xs) h = h.0.sections ++ all_sent (past ++ x.airing ∷ []) xs h.1
 
-all_carried : (pid : ℕ) (past : List Airing) (xs : List Aired) (h : RepeatingCycles past xs) → Carries (of_pid pid (air xs)) (filter_map (sent_on pid) (all_sent past xs h))
+all_carried : (pid : ℕ) (past : List AiredTables) (xs : List Aired) (h : RepeatingCycles past xs) → Carries (of_pid pid (air xs)) (filter_map (sent_on pid) (all_sent past xs h))
 all_carried pid past [] h = Carries-none
 all_carried pid past (x ∷ xs) h =
     let later = all_sent (past ++ x.airing ∷ []) xs h.1 in
     subst₂ Carries (sym (of_pid-append pid x.packets (air xs))) (sym (filter_map-append (sent_on pid) h.0.sections later))
     (Carries-append (of_pid pid x.packets) (of_pid pid (air xs)) (filter_map (sent_on pid) h.0.sections) (filter_map (sent_on pid) later) (h.0.carried pid) (all_carried pid (past ++ x.airing ∷ []) xs h.1))
 
-all_each : (past : List Airing) (xs : List Aired) (h : RepeatingCycles past xs) → CanBeSent (airings_of xs) → AllByRecursion (λ (x : Sent). IsSection x.bytes) (all_sent past xs h)
+all_each : (past : List AiredTables) (xs : List Aired) (h : RepeatingCycles past xs) → CanBeSent (airings_of xs) → AllByRecursion (λ (x : Sent). IsSection x.bytes) (all_sent past xs h)
 all_each past [] h fit = tt
 all_each past (x ∷ xs) h fit =
     all_append (λ (s : Sent). IsSection s.bytes) h.0.sections (all_sent (past ++ x.airing ∷ []) xs h.1)
     (each_section past x.airing h.0.sections fit.0 h.0.are.each) (all_each (past ++ x.airing ∷ []) xs h.1 fit.1)
 
 -- they are heard
-pub all_heard : (airings : List Airing) (xs : List Aired) (is : IsRepeatingAirOf airings xs) → CanBeSent airings → (pid : ℕ) → pid < 8191
+pub all_heard : (airings : List AiredTables) (xs : List Aired) (is : IsRepeatingAirOf airings xs) → CanBeSent airings → (pid : ℕ) → pid < 8191
     → sections_on pid (map bytes_of_packet (air xs)) ≡ filter_map (sent_on pid) (all_sent [] xs is.cycles)
 all_heard airings xs is fit pid lt =
     carried_is_heard pid lt (air xs) (filter_map (sent_on pid) (all_sent [] xs is.cycles)) (all_carried pid [] xs is.cycles)

@@ -7,7 +7,7 @@ use Rattle.si_lists.proofs.Lists.{all_map}
 use Rattle.section_codec.specs.declared.table.Key.{Key}
 use Rattle.section_codec.specs.KeyOrder.{is_key}
 use Rattle.section_codec.specs.Contents.{Content, is_content}
-use Rattle.version_book.specs.Airings.{Airing, content_at, carried, changes_after, changes, version_at}
+use Rattle.version_book.specs.Airings.{AiredTables, content_at, carried, changes_after, changes, version_at}
 use Rattle.section_codec.proofs.SameContent.{is_content-same}
 use Rattle.version_book.specs.Book.{GivenVersion, last_of, kept_after}
 use Rattle.version_book.specs.Slots.{next_version}
@@ -117,13 +117,13 @@ told-new k (d ∷ cs) c = go (changes_after d cs % 32) (is_content (last_of d cs
     go v false = refl
 
 module _ (k : Key) (counted : is_counted k.pid k.table ≡ true) where
-  changes_told : (past : List Airing) (xs : List Aired) (h : RepeatingCycles past xs) → AllByRecursion CanBeHeard (airings_of xs) → (heard : List Counted) → Heard k (kept_after (carried k past)) heard
+  changes_told : (past : List AiredTables) (xs : List Aired) (h : RepeatingCycles past xs) → AllByRecursion CanBeHeard (airings_of xs) → (heard : List Counted) → Heard k (kept_after (carried k past)) heard
       → map done_key (dones heard (block k (all_sent past xs h))) ≡ changes_of k past (airings_of xs)
   changes_told past [] h can heard is = refl
   changes_told past (x ∷ xs) h can heard is =
       go (content_at k x.airing) refl (λ now is. changes_told (past ++ x.airing ∷ []) xs h.1 can.1 now is)
     where
-      a : Airing
+      a : AiredTables
       a = x.airing
 
       ss : List Counted
@@ -162,15 +162,15 @@ module _ (k : Key) (counted : is_counted k.pid k.table ≡ true) where
           ∙ ap (λ (o : Option Content). (if is_new_at (carried k past) o then version_with k past a ∷ [] else []) ++ changes_of k (past ++ a ∷ []) (airings_of xs)) (sym e)
 
 -- a key that does not count
-uncounted : (k : Key) → is_counted k.pid k.table ≡ false → (past : List Airing) (xs : List Aired) (h : RepeatingCycles past xs) → AllByRecursion CanBeHeard (airings_of xs) → block k (all_sent past xs h) ≡ []
+uncounted : (k : Key) → is_counted k.pid k.table ≡ false → (past : List AiredTables) (xs : List Aired) (h : RepeatingCycles past xs) → AllByRecursion CanBeHeard (airings_of xs) → block k (all_sent past xs h) ≡ []
 uncounted k other past [] h can = refl
 uncounted k other past (x ∷ xs) h can =
     block-append k h.0.sections (all_sent (past ++ x.airing ∷ []) xs h.1)
     ∙ ap₂ (λ (l m : List Counted). l ++ m) (block-uncounted past x.airing can.0 k other h.0.sections h.0.are.each) (uncounted k other (past ++ x.airing ∷ []) xs h.1 can.1)
 
 -- what can be heard can be sent
-pub sent_of : (airings : List Airing) → AllByRecursion CanBeHeard airings → CanBeSent airings
-sent_of airings can = all_map CanBeHeard (λ (a : Airing). All IsFit a.tables) (λ a h. h.fit) airings can
+pub sent_of : (airings : List AiredTables) → AllByRecursion CanBeHeard airings → CanBeSent airings
+sent_of airings can = all_map CanBeHeard (λ (a : AiredTables). All IsFit a.tables) (λ a h. h.fit) airings can
 
 pub changes_heard : ChangesAreHeard
 changes_heard airings xs is can k lt = key_told k ps ∙ ap (λ (l : List Counted). map done_key (dones [] l)) heard ∙ go (is_counted k.pid k.table) refl

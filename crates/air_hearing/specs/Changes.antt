@@ -3,7 +3,7 @@ use Rattle.std.specs.Prelude.{List, [], ◌∷◌, ◌++◌, Bool, true, false, 
 use Rattle.section_codec.specs.declared.table.Key.{Key}
 use Rattle.section_codec.specs.KeyOrder.{is_key}
 use Rattle.section_codec.specs.Contents.{Content, is_content}
-use Rattle.version_book.specs.Airings.{Airing, carried, content_at, version_at}
+use Rattle.version_book.specs.Airings.{AiredTables, carried, content_at, version_at}
 use Rattle.version_book.specs.Book.{last_of}
 use Rattle.heard_completions.specs.declared.done.DoneKey.{DoneKey}
 
@@ -17,15 +17,15 @@ is_new_at before None = false
 is_new_at before (Some content) = is_new before content
 
 -- the version of a key changes with an airing behind others: it carries a new content of the key
-abbrev pub is_change : Key → List Airing → Airing → Bool
+abbrev pub is_change : Key → List AiredTables → AiredTables → Bool
 is_change k past a = is_new_at (carried k past) (content_at k a)
 
 -- a key, and its version at an airing behind others
-abbrev pub version_with : Key → List Airing → Airing → DoneKey
+abbrev pub version_with : Key → List AiredTables → AiredTables → DoneKey
 version_with k past a = record { key = k; version = version_at k (past ++ a ∷ []) }
 
 -- the version changes of a key with these airings behind others, in order
-abbrev pub changes_of : Key → List Airing → List Airing → List DoneKey
+abbrev pub changes_of : Key → List AiredTables → List AiredTables → List DoneKey
 changes_of k past [] = []
 changes_of k past (a ∷ airings) = (if is_change k past a then version_with k past a ∷ [] else []) ++ changes_of k (past ++ a ∷ []) airings
 

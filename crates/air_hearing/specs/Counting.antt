@@ -5,7 +5,7 @@ use Rattle.section_codec.specs.declared.table.NumberedBody.{NumberedBody}
 use Rattle.section_codec.specs.declared.table.SubTable.{SubTable}
 use Rattle.section_codec.specs.Contents.{last_number}
 use Rattle.section_codec.specs.Keys.{key_in}
-use Rattle.version_book.specs.Airings.{Airing}
+use Rattle.version_book.specs.Airings.{AiredTables}
 use Rattle.section_codec.specs.SubTables.{KeysDiffer, IsFit, header_of}
 use Rattle.ts_demux.specs.declared.section.RawSection.{RawSection}
 use Rattle.sub_collect.specs.Laws.{IsNumbered}
@@ -26,7 +26,7 @@ pub record IsReadable (t : SubTable) : Type 0 where
   pub numbered : IsNumbered t.key t.sections
 
 -- The sub-tables of an airing can be sent, and be heard; no two have one key.
-pub record CanBeHeard (a : Airing) : Type 0 where
+pub record CanBeHeard (a : AiredTables) : Type 0 where
   pub differ : KeysDiffer a.tables
   pub fit : All IsFit a.tables
   pub readable : AllByRecursion IsReadable a.tables

@@ -3,7 +3,7 @@ use Rattle.std.specs.Prelude.{◌≡◌, ℕ, ◌<◌, List, [], if◌then◌els
 use Rattle.std.specs.List.{AllByRecursion}
 use Rattle.section_codec.specs.declared.table.Key.{Key}
 use Rattle.section_codec.specs.declared.table.SubTable.{SubTable}
-use Rattle.version_book.specs.Airings.{Airing}
+use Rattle.version_book.specs.Airings.{AiredTables}
 use Rattle.ts_packets.specs.Bytes.{bytes_of_packet}
 use Rattle.ts_demux.specs.Sections.{sections_on}
 use Rattle.sub_collect.specs.Completions.{of_key}
@@ -20,13 +20,13 @@ use Rattle.air_hearing.specs.Changes.{changes_of, is_done_key}
 -- Of an air just the sections of the cycles are heard, on each PID those that are sent on it.
 abbrev pub AirIsHeard : Type 0
 AirIsHeard =
-    (airings : List Airing) (xs : List Aired) → IsAirOf airings xs → CanBeSent airings
+    (airings : List AiredTables) (xs : List Aired) → IsAirOf airings xs → CanBeSent airings
     → (pid : ℕ) → pid < 8191 → sections_on pid (map bytes_of_packet (air xs)) ≡ filter_map (sent_on pid) (sections_sent [] airings)
 
 -- Of each key just those of its sections count that are sent and count, in the order in which they are sent.
 abbrev pub KeyIsHeard : Type 0
 KeyIsHeard =
-    (airings : List Airing) (xs : List Aired) → IsAirOf airings xs → CanBeSent airings
+    (airings : List AiredTables) (xs : List Aired) → IsAirOf airings xs → CanBeSent airings
     → (k : Key) → k.pid < 8191 → of_key k (counted_heard (map bytes_of_packet (air xs))) ≡ of_key k (counted_among (map raw_of (sections_sent [] airings)))
 
 -- Where the receiver counts sections of this table, each section of the sub-table counts, with its key, version, number and body.
@@ -39,6 +39,6 @@ TableCounts =
 -- completions that are shown of a key are the version changes of this key, where the receiver counts it.
 abbrev pub ChangesAreHeard : Type 0
 ChangesAreHeard =
-    (airings : List Airing) (xs : List Aired) → IsRepeatingAirOf airings xs → AllByRecursion CanBeHeard airings → (k : Key) → k.pid < 8191
+    (airings : List AiredTables) (xs : List Aired) → IsRepeatingAirOf airings xs → AllByRecursion CanBeHeard airings → (k : Key) → k.pid < 8191
     → filter (is_done_key k) (map (λ (d : DoneAt). d.done) (dones_of (map bytes_of_packet (air xs))))
     ≡ (if is_counted k.pid k.table then changes_of k [] airings else [])

@@ -5,7 +5,7 @@ use Rattle.si_time.specs.Moments.{moments_compute}
 use Rattle.section_codec.specs.declared.table.Key.{Key}
 use Rattle.section_codec.specs.declared.table.SubTable.{SubTable}
 use Rattle.section_codec.specs.declared.table.Tier3.TheVariants.{Fast}
-use Rattle.version_book.specs.Airings.{Airing}
+use Rattle.version_book.specs.Airings.{AiredTables}
 use Rattle.heard_completions.specs.Counting.{counted_among}
 use Rattle.air_model.specs.Air.{sent_on}
 use Rattle.air_hearing.specs.Sending.{sections_sent}
@@ -18,10 +18,10 @@ sdt = record { pid = 17; table = 66; ext = 1; stream = 0; network = 1 }
 abbrev sdt_with : ℕ → SubTable
 sdt_with service = record { key = sdt; tier = Fast; sections = record { number = 0; body = 0x00 ∷ 0x01 ∷ 0xFF ∷ 0x00 ∷ service ∷ 0xFF ∷ 0x80 ∷ 0x00 ∷ [] } ∷ [] }
 
-abbrev airing_of : ℕ → ℕ → Airing
+abbrev airing_of : ℕ → ℕ → AiredTables
 airing_of service moment = record { tables = sdt_with service ∷ []; moment = moment; form = record { quota = 200 } }
 
-abbrev airings : List Airing
+abbrev airings : List AiredTables
 airings = airing_of 101 5 ∷ airing_of 101 9 ∷ airing_of 102 12 ∷ airing_of 101 30 ∷ []
 
 -- the first airing, and each that carries another content than the one before, also where a content returns

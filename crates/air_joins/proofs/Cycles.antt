@@ -6,7 +6,7 @@ use Rattle.std.specs.List.{AllByRecursion, Contains, cons_option}
 use Rattle.std.proofs.lemmas.List.{length-append}
 use Rattle.std.proofs.lemmas.List.Elements.{filter_map-append, Contains-append_left, Contains-append_right}
 use Rattle.si_lists.proofs.Lists.{all_map}
-use Rattle.version_book.specs.Airings.{Airing}
+use Rattle.version_book.specs.Airings.{AiredTables}
 use Rattle.ts_packets.specs.Packets.{Piece, all_of, Carries}
 use Rattle.ts_packets.specs.Bytes.{Packet}
 use Rattle.ts_packets.specs.Counting.{of_pid}
@@ -60,7 +60,7 @@ contains-sent ss s has =
 
 -- ---- the cycle of a section, by the packets of its PID
 
-pub record IsOfCycle (pid join end : ℕ) (past : List Airing) (xs : List Aired) (bytes : List ℕ) : Type 0 where
+pub record IsOfCycle (pid join end : ℕ) (past : List AiredTables) (xs : List Aired) (bytes : List ℕ) : Type 0 where
   pub before : List Aired
   pub cycle : Aired
   pub after : List Aired
@@ -75,7 +75,7 @@ pub record IsOfCycle (pid join end : ℕ) (past : List Airing) (xs : List Aired)
   pub order : join < end
 
 -- the first cycle
-own_part : (pid : ℕ) (past : List Airing) (x : Aired) (xs : List Aired) (ss : List Sent) → AllByRecursion (IsSentOf past x.airing) ss
+own_part : (pid : ℕ) (past : List AiredTables) (x : Aired) (xs : List Aired) (ss : List Sent) → AllByRecursion (IsSentOf past x.airing) ss
     → (c : Carries (of_pid pid x.packets) (filter_map (sent_on pid) ss)) (join end : ℕ)
     → AllByRecursion (IsOfCycle pid join end past (x ∷ xs)) (within join end c.groups)
 own_part pid past x xs ss each c join end = all-part (IsOfCycle pid join end past (x ∷ xs)) join end c.groups all
@@ -90,7 +90,7 @@ own_part pid past x xs ss each c join end = all-part (IsOfCycle pid join end pas
           after = xs;
           section = s.section;
           cut = refl;
-          sent = subst (λ (l : List Airing). IsSentOf l x.airing s.section) (sym (append-nil past)) s.is;
+          sent = subst (λ (l : List AiredTables). IsSentOf l x.airing s.section) (sym (append-nil past)) s.is;
           on_pid = s.on_pid;
           has_bytes = s.has_bytes;
           reaches = omega (arith, lt, size);
@@ -114,7 +114,7 @@ shift-begins end n a b e lt = omega (arith, e, lt)
 shift-order : (join end n : ℕ) → join - n < end - n → join < end
 shift-order join end n lt = omega (arith, lt)
 
-behind_first : (pid : ℕ) (past : List Airing) (x : Aired) (xs : List Aired) (join end n : ℕ) → n ≡ length (of_pid pid x.packets)
+behind_first : (pid : ℕ) (past : List AiredTables) (x : Aired) (xs : List Aired) (join end n : ℕ) → n ≡ length (of_pid pid x.packets)
     → (bytes : List ℕ) → IsOfCycle pid (join - n) (end - n) (past ++ x.airing ∷ []) xs bytes → IsOfCycle pid join end past (x ∷ xs) bytes
 behind_first pid past x xs join end n size bytes r =
     let both : length (of_pid pid (x.packets ++ air r.before)) ≡ n + length (of_pid pid (air r.before)) =
@@ -125,7 +125,7 @@ behind_first pid past x xs join end n size bytes r =
       after = r.after;
       section = r.section;
       cut = ap (λ (l : List Aired). x ∷ l) r.cut;
-      sent = subst (λ (l : List Airing). IsSentOf l r.cycle.airing r.section)
+      sent = subst (λ (l : List AiredTables). IsSentOf l r.cycle.airing r.section)
           (append_assoc past (x.airing ∷ []) (airings_of r.before)) r.sent;
       on_pid = r.on_pid;
       has_bytes = r.has_bytes;
@@ -136,7 +136,7 @@ behind_first pid past x xs join end n size bytes r =
       order = shift-order join end n r.order;
     }
 
-pub each_of_cycle : (pid : ℕ) (past : List Airing) (xs : List Aired) (h : RepeatingCycles past xs) (join end : ℕ)
+pub each_of_cycle : (pid : ℕ) (past : List AiredTables) (xs : List Aired) (h : RepeatingCycles past xs) (join end : ℕ)
     → AllByRecursion (IsOfCycle pid join end past xs) (within join end (groups_by pid past xs h))
 each_of_cycle pid past [] h join end =
     subst (AllByRecursion (IsOfCycle pid join end past [])) (sym (within-none join end [] (inr (omega arith)))) tt

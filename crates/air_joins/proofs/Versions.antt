@@ -7,7 +7,7 @@ use Rattle.std.proofs.lemmas.List.Elements.{filter_map-append}
 use Rattle.section_codec.specs.declared.table.Key.{Key}
 use Rattle.section_codec.specs.Contents.{Content, is_content}
 use Rattle.section_codec.proofs.SameContent.{is_content-same}
-use Rattle.version_book.specs.Airings.{Airing, content_at, carried, changes_after, changes}
+use Rattle.version_book.specs.Airings.{AiredTables, content_at, carried, changes_after, changes}
 use Rattle.version_book.specs.Book.{last_of}
 use Rattle.version_book.proofs.Versions.{last_of-push, between, carried-push}
 use Rattle.air_joins.specs.Versions.{version_behind, changes_behind}
@@ -66,15 +66,15 @@ far_apart n m some same = go m some same
 -- ---- the airings that carry contents
 
 -- the airing that carries this one of the contents, between the others
-record Carrier (k : Key) (airings : List Airing) (before : List Content) (c : Content) : Type 0 where
-  one : List Airing
-  two : List Airing
-  carrier : Airing
+record Carrier (k : Key) (airings : List AiredTables) (before : List Content) (c : Content) : Type 0 where
+  one : List AiredTables
+  two : List AiredTables
+  carrier : AiredTables
   whole : airings ≡ one ++ carrier ∷ two
   carries : content_at k carrier ≡ Some c
   others : carried k one ≡ before
 
-carrier_of : (k : Key) (airings : List Airing) (before after : List Content) (c : Content) → carried k airings ≡ before ++ c ∷ after
+carrier_of : (k : Key) (airings : List AiredTables) (before after : List Content) (c : Content) → carried k airings ≡ before ++ c ∷ after
     → Carrier k airings before c
 carrier_of k [] [] after c e = cc
 carrier_of k [] (x ∷ before) after c e = cc
@@ -88,7 +88,7 @@ carrier_of k (a ∷ airings) before after c e = go (content_at k a) refl before 
           one = a ∷ r.one;
           two = r.two;
           carrier = r.carrier;
-          whole = ap (λ (l : List Airing). a ∷ l) r.whole;
+          whole = ap (λ (l : List AiredTables). a ∷ l) r.whole;
           carries = r.carries;
           others = ap (λ (o : Option Content). cons_option o (carried k r.one)) f ∙ r.others;
         }
@@ -103,13 +103,13 @@ carrier_of k (a ∷ airings) before after c e = go (content_at k a) refl before 
           one = a ∷ r.one;
           two = r.two;
           carrier = r.carrier;
-          whole = ap (λ (l : List Airing). a ∷ l) r.whole;
+          whole = ap (λ (l : List AiredTables). a ∷ l) r.whole;
           carries = r.carries;
           others = ap (λ (o : Option Content). cons_option o (carried k r.one)) f ∙ ap (λ (l : List Content). d ∷ l) r.others
               ∙ ap (λ (x : Content). x ∷ bs) same;
         }
 
-module _ (k : Key) (past : List Airing) (a : Airing) (c : Content) (carries : content_at k a ≡ Some c) where
+module _ (k : Key) (past : List AiredTables) (a : AiredTables) (c : Content) (carries : content_at k a ≡ Some c) where
   abbrev start : EndsWith (carried k past) c
   start = ends_with (carried k past) c
 
@@ -118,7 +118,7 @@ module _ (k : Key) (past : List Airing) (a : Airing) (c : Content) (carries : co
       ap changes (carried-push k past a ∙ ap (λ (o : Option Content). carried k past ++ option_to_list o) carries ∙ start.whole [])
       ∙ ap (λ (l : List Content). changes_after start.first l) (append-nil start.others)
 
-  changes_later : (between : List Airing) (b : Airing) (d : Content) → content_at k b ≡ Some d
+  changes_later : (between : List AiredTables) (b : AiredTables) (d : Content) → content_at k b ≡ Some d
       → changes_behind k (past ++ a ∷ between) b ≡ changes_after start.first ((start.others ++ carried k between) ++ d ∷ [])
   changes_later between b d is =
       let all : carried k (past ++ a ∷ between) ≡ start.first ∷ start.others ++ carried k between =

@@ -4,7 +4,7 @@ use Rattle.section_codec.specs.declared.table.Key.{Key}
 use Rattle.section_codec.specs.declared.table.SubTable.{SubTable}
 use Rattle.section_codec.specs.declared.table.Tier3.TheVariants.{Fast}
 use Rattle.section_codec.specs.Contents.{Content}
-use Rattle.version_book.specs.Airings.{Airing}
+use Rattle.version_book.specs.Airings.{AiredTables}
 use Rattle.ts_packets.specs.Packets.{Piece, piece_of}
 use Rattle.ts_packets.specs.Bytes.{Packet}
 use Rattle.air_joins.specs.Versions.{version_behind, changes_behind, ShareVersion}
@@ -18,11 +18,11 @@ sdt = record { pid = 17; table = 66; ext = 1; stream = 0; network = 1 }
 abbrev of : ℕ → SubTable
 of b = record { key = sdt; tier = Fast; sections = record { number = 0; body = b ∷ [] } ∷ [] }
 
-abbrev airs : ℕ → Airing
+abbrev airs : ℕ → AiredTables
 airs b = record { tables = of b ∷ []; moment = 0; form = record { quota = 200 } }
 
 -- n airings, each with another content than the one before
-abbrev turns : ℕ → List Airing
+abbrev turns : ℕ → List AiredTables
 turns zero = []
 turns (suc n) = turns n ++ airs (n % 2) ∷ []
 

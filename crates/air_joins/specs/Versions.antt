@@ -2,18 +2,18 @@
 use Rattle.std.specs.Prelude.{◌≡◌, ◌≢◌, ℕ, List, [], ◌∷◌, ◌++◌, Some}
 use Rattle.section_codec.specs.declared.table.Key.{Key}
 use Rattle.section_codec.specs.Contents.{Content}
-use Rattle.version_book.specs.Airings.{Airing, content_at, carried, changes, version_at}
+use Rattle.version_book.specs.Airings.{AiredTables, content_at, carried, changes, version_at}
 
 -- the version of a key at an airing behind others
-abbrev pub version_behind : Key → List Airing → Airing → ℕ
+abbrev pub version_behind : Key → List AiredTables → AiredTables → ℕ
 version_behind k past a = version_at k (past ++ a ∷ [])
 
 -- how often the content of a key has changed at an airing behind others
-abbrev pub changes_behind : Key → List Airing → Airing → ℕ
+abbrev pub changes_behind : Key → List AiredTables → AiredTables → ℕ
 changes_behind k past a = changes (carried k (past ++ a ∷ []))
 
 -- Two airings, others between them, carry a key with different contents under one version.
-pub record ShareVersion (k : Key) (past : List Airing) (a : Airing) (between : List Airing) (b : Airing) : Type 0 where
+pub record ShareVersion (k : Key) (past : List AiredTables) (a : AiredTables) (between : List AiredTables) (b : AiredTables) : Type 0 where
   pub one : Content
   pub other : Content
   pub first : content_at k a ≡ Some one

@@ -3,7 +3,7 @@ use Rattle.std.proofs.Common.{◌≡◌, ℕ, List, [], ◌∷◌, ◌++◌, Boo
 use Rattle.std.specs.Prelude.{◌==◌, if◌then◌else◌, flat_map, filter_map}
 use Rattle.std.specs.List.{AllByRecursion, cons_option}
 use Rattle.std.proofs.lemmas.List.Concat.{flat_map-append}
-use Rattle.version_book.specs.Airings.{Airing}
+use Rattle.version_book.specs.Airings.{AiredTables}
 use Rattle.ts_packets.specs.Packets.{Piece, IsWhole, Carries}
 use Rattle.ts_packets.specs.Bytes.{Packet, HasFields, bytes_of_packet}
 use Rattle.ts_packets.specs.Counting.{of_pid, loads_on, Count}
@@ -19,7 +19,7 @@ pub IsAirOf-none : IsAirOf [] []
 IsAirOf-none = record { airings_are = refl; cycles = tt; counted = λ pid. tt; fields = tt }
 
 -- sections one after the other, each alone in its packets, are a cycle
-pub IsCycle-alone : (past : List Airing) (sent : List Packet) (a : Airing) → IsCycle past (record { airing = a; packets = cycle_alone past sent a })
+pub IsCycle-alone : (past : List AiredTables) (sent : List Packet) (a : AiredTables) → IsCycle past (record { airing = a; packets = cycle_alone past sent a })
 IsCycle-alone past sent a pid =
     subst (λ (x : List Piece). Carries x (filter_map (sent_on pid) (cycle_sections past a))) (sym (of_pid-counted pid sent (each_alone (cycle_sections past a)))) (Carries-each_alone pid (cycle_sections past a))
 
@@ -31,22 +31,22 @@ air_bytes-push xs x = ap (flat_map bytes_of_packet) (air-push xs x) ∙ flat_map
 
 pub airings_of-push : (xs : List Aired) (x : Aired) → airings_of (xs ++ x ∷ []) ≡ airings_of xs ++ x.airing ∷ []
 airings_of-push [] x = refl
-airings_of-push (y ∷ ys) x = ap (λ (l : List Airing). y.airing ∷ l) (airings_of-push ys x)
+airings_of-push (y ∷ ys) x = ap (λ (l : List AiredTables). y.airing ∷ l) (airings_of-push ys x)
 
-Cycles-push : (past : List Airing) (xs : List Aired) (x : Aired) → Cycles past xs → IsCycle (past ++ airings_of xs) x → Cycles past (xs ++ x ∷ [])
-Cycles-push past [] x h c = (subst (λ (l : List Airing). IsCycle l x) (append-nil past) c, tt)
-Cycles-push past (y ∷ ys) x h c = (h.0, Cycles-push (past ++ y.airing ∷ []) ys x h.1 (subst (λ (l : List Airing). IsCycle l x) (sym (append_assoc past (y.airing ∷ []) (airings_of ys))) c))
+Cycles-push : (past : List AiredTables) (xs : List Aired) (x : Aired) → Cycles past xs → IsCycle (past ++ airings_of xs) x → Cycles past (xs ++ x ∷ [])
+Cycles-push past [] x h c = (subst (λ (l : List AiredTables). IsCycle l x) (append-nil past) c, tt)
+Cycles-push past (y ∷ ys) x h c = (h.0, Cycles-push (past ++ y.airing ∷ []) ys x h.1 (subst (λ (l : List AiredTables). IsCycle l x) (sym (append_assoc past (y.airing ∷ []) (airings_of ys))) c))
 
 all-both : (P : Packet → Type 0) (xs ys : List Packet) → AllByRecursion P xs → AllByRecursion P ys → AllByRecursion P (xs ++ ys)
 all-both P [] ys p q = q
 all-both P (x ∷ xs) ys p q = (p.0, all-both P xs ys p.1 q)
 
 -- one airing more, with a cycle of it whose counters go on, makes a longer air
-pub air_more : (airings : List Airing) (xs : List Aired) (x : Aired) → IsAirOf airings xs → IsCycle airings x → ((pid : ℕ) → Count 0 (loads_on pid (air xs ++ x.packets))) → AllByRecursion HasFields x.packets
+pub air_more : (airings : List AiredTables) (xs : List Aired) (x : Aired) → IsAirOf airings xs → IsCycle airings x → ((pid : ℕ) → Count 0 (loads_on pid (air xs ++ x.packets))) → AllByRecursion HasFields x.packets
     → IsAirOf (airings ++ x.airing ∷ []) (xs ++ x ∷ [])
 air_more airings xs x h cycle counts fields = record {
-  airings_are = airings_of-push xs x ∙ ap (λ (l : List Airing). l ++ x.airing ∷ []) h.airings_are;
-  cycles = Cycles-push [] xs x h.cycles (subst (λ (l : List Airing). IsCycle l x) (sym h.airings_are) cycle);
+  airings_are = airings_of-push xs x ∙ ap (λ (l : List AiredTables). l ++ x.airing ∷ []) h.airings_are;
+  cycles = Cycles-push [] xs x h.cycles (subst (λ (l : List AiredTables). IsCycle l x) (sym h.airings_are) cycle);
   counted = λ pid. subst (λ (l : List Packet). Count 0 (loads_on pid l)) (sym (air-push xs x)) (counts pid);
   fields = subst (λ (l : List Packet). AllByRecursion HasFields l) (sym (air-push xs x)) (all-both HasFields (air xs) x.packets h.fields fields);
 }
@@ -58,7 +58,7 @@ AreMade-push before (y ∷ ys) x made is =
     (made.0, AreMade-push (before ++ y ∷ []) ys x made.1 (subst (λ (l : List Aired). x.packets ≡ cycle_alone (airings_of l) (air l) x.airing) (sym (append_assoc before (y ∷ []) ys)) is))
 
 -- the cycle that is made behind an air makes a longer air
-pub air_more-alone : (airings : List Airing) (xs : List Aired) (a : Airing) → IsAirOf airings xs → PidsFit (each_alone (cycle_sections airings a))
+pub air_more-alone : (airings : List AiredTables) (xs : List Aired) (a : AiredTables) → IsAirOf airings xs → PidsFit (each_alone (cycle_sections airings a))
     → IsAirOf (airings ++ a ∷ []) (xs ++ record { airing = a; packets = cycle_alone airings (air xs) a } ∷ [])
 air_more-alone airings xs a h fit =
     let units = each_alone (cycle_sections airings a) in
@@ -82,7 +82,7 @@ whole_packets (p ∷ ps) h = (first, whole_packets ps others)
         go true all = all.1
         go false all = all
 
-whole_cycles : (past : List Airing) (xs : List Aired) → RepeatingCycles past xs → AllByRecursion (λ (p : Packet). IsWhole p.piece) (air xs)
+whole_cycles : (past : List AiredTables) (xs : List Aired) → RepeatingCycles past xs → AllByRecursion (λ (p : Packet). IsWhole p.piece) (air xs)
 whole_cycles past [] h = tt
 whole_cycles past (x ∷ xs) h =
     all-both (λ (p : Packet). IsWhole p.piece) x.packets (air xs)
@@ -94,8 +94,8 @@ bytes_whole [] h = tt
 bytes_whole (p ∷ ps) h = (omega (arith, h.0), bytes_whole ps h.1)
 
 -- each packet of an air has 188 bytes
-pub repeating-whole : (airings : List Airing) (xs : List Aired) → IsRepeatingAirOf airings xs → AllByRecursion (λ (p : Packet). length (bytes_of_packet p) ≡ 188) (air xs)
+pub repeating-whole : (airings : List AiredTables) (xs : List Aired) → IsRepeatingAirOf airings xs → AllByRecursion (λ (p : Packet). length (bytes_of_packet p) ≡ 188) (air xs)
 repeating-whole airings xs h = bytes_whole (air xs) (whole_cycles [] xs h.cycles)
 
-pub air-whole : (airings : List Airing) (xs : List Aired) → IsAirOf airings xs → AllByRecursion (λ (p : Packet). length (bytes_of_packet p) ≡ 188) (air xs)
+pub air-whole : (airings : List AiredTables) (xs : List Aired) → IsAirOf airings xs → AllByRecursion (λ (p : Packet). length (bytes_of_packet p) ≡ 188) (air xs)
 air-whole airings xs h = repeating-whole airings xs (airs_repeat airings xs h)

@@ -10,7 +10,7 @@ use Rattle.cycle_plan.specs.Cycle.{cycle_of}
 use Rattle.cycle_plan.specs.Sections.{planned}
 use Rattle.cycle_plan.proofs.Cursors.{planned_all}
 use Rattle.cycle_plan.proofs.Order.{cycles_are_whole}
-use Rattle.version_book.specs.Airings.{Airing, version_at}
+use Rattle.version_book.specs.Airings.{AiredTables, version_at}
 use Rattle.air_model.specs.Air.{sections_of, table_sections, tdt, before_tdt, behind_tdt, sections_once, weight, table_weights, weights_once, at_places}
 use Rattle.air_model.proofs.Elements.{first_of, around}
 
@@ -48,7 +48,7 @@ at_contains xs places x each has =
 
 -- ---- the sections of an airing
 
-weights_tables : (airings : List Airing) (ts : List SubTable) → length (table_weights airings ts) ≡ length (table_sections airings ts)
+weights_tables : (airings : List AiredTables) (ts : List SubTable) → length (table_weights airings ts) ≡ length (table_sections airings ts)
 weights_tables airings [] = refl
 weights_tables airings (t ∷ ts) =
     let sections = sections_of (version_at t.key airings) t in
@@ -59,7 +59,7 @@ weights_tables airings (t ∷ ts) =
     omega arith
 
 -- one weight for each
-pub weights_each : (past : List Airing) (a : Airing) → length (weights_once past a) ≡ length (sections_once past a)
+pub weights_each : (past : List AiredTables) (a : AiredTables) → length (weights_once past a) ≡ length (sections_once past a)
 weights_each past a =
     let all = past ++ a ∷ [] in
     let x = length-append (table_weights all (before_tdt a.tables)) (weight Fast (tdt a.moment) ∷ table_weights all (behind_tdt a.tables)) in
@@ -69,7 +69,7 @@ weights_each past a =
     omega arith
 
 -- each place of a section stands in the plan
-pub places_planned : (past : List Airing) (a : Airing) (i : ℕ) → i < length (sections_once past a) → Contains (cycle_of (planned (weights_once past a) a.form.quota)) i
+pub places_planned : (past : List AiredTables) (a : AiredTables) (i : ℕ) → i < length (sections_once past a) → Contains (cycle_of (planned (weights_once past a) a.form.quota)) i
 places_planned past a i l =
     let e = weights_each past a in
     let f = planned_all (weights_once past a) a.form.quota in

@@ -8,7 +8,7 @@ use Rattle.section_codec.specs.declared.table.NumberedBody.{NumberedBody}
 use Rattle.section_codec.specs.declared.table.SubTable.{SubTable}
 use Rattle.cycle_plan.specs.Cycle.{cycle_of}
 use Rattle.cycle_plan.specs.Sections.{planned}
-use Rattle.version_book.specs.Airings.{Airing, version_at}
+use Rattle.version_book.specs.Airings.{AiredTables, version_at}
 use Rattle.air_model.specs.Air.{Aired, sent_section, sections_of, table_sections, tdt, leads, before_tdt, behind_tdt, sections_once, weights_once, cycle_sections, Cycles}
 use Rattle.air_model.specs.Repeating.{IsSentOf, AreSentOf, RepeatingCycles, AirsRepeat}
 pub use Rattle.air_model.proofs.Elements.{elements, of_element, first_of, rest_of, around, mapped, joined}
@@ -16,7 +16,7 @@ use Rattle.air_model.proofs.Planned.{all_at, at_contains, places_planned}
 
 -- ---- the sections of a cycle
 
-once_is_sent : (past : List Airing) (a : Airing) → AreSentOf past a (sections_once past a)
+once_is_sent : (past : List AiredTables) (a : AiredTables) → AreSentOf past a (sections_once past a)
 once_is_sent past a = record {
   each =
       all_append (IsSentOf past a) (table_sections (past ++ a ∷ []) (before_tdt a.tables)) (tdt a.moment ∷ table_sections (past ++ a ∷ []) (behind_tdt a.tables))
@@ -53,7 +53,7 @@ once_is_sent past a = record {
         Contains-append_right (table_sections (past ++ a ∷ []) (before_tdt a.tables)) (tdt a.moment ∷ table_sections (past ++ a ∷ []) (behind_tdt a.tables)) (sent_section (version_at t.key (past ++ a ∷ [])) t p)
         (rest_of (tdt a.moment) (table_sections (past ++ a ∷ []) (behind_tdt a.tables)) (sent_section (version_at t.key (past ++ a ∷ [])) t p) (in_tables (behind_tdt a.tables) t p has has_p))
 
-pub cycle_is_sent : (past : List Airing) (a : Airing) → AreSentOf past a (cycle_sections past a)
+pub cycle_is_sent : (past : List AiredTables) (a : AiredTables) → AreSentOf past a (cycle_sections past a)
 cycle_is_sent past a =
     let once = once_is_sent past a in
     let sections = sections_once past a in
@@ -64,7 +64,7 @@ cycle_is_sent past a =
       time = at_contains sections order (tdt a.moment) (places_planned past a) once.time;
     }
 
-cycles_repeat : (past : List Airing) (xs : List Aired) → Cycles past xs → RepeatingCycles past xs
+cycles_repeat : (past : List AiredTables) (xs : List Aired) → Cycles past xs → RepeatingCycles past xs
 cycles_repeat past [] h = tt
 cycles_repeat past (x ∷ xs) h =
     (record { sections = cycle_sections past x.airing; are = cycle_is_sent past x.airing; carried = h.0 }, cycles_repeat (past ++ x.airing ∷ []) xs h.1)

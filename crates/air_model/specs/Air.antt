@@ -9,7 +9,7 @@ use Rattle.section_codec.specs.declared.table.Tier3.TheVariants.{Fast}
 use Rattle.section_codec.specs.Section.{section_bytes}
 use Rattle.section_codec.specs.Tables.{is_eit}
 use Rattle.time_tables.specs.Tdt.{tdt_section}
-use Rattle.version_book.specs.Airings.{Airing, version_at}
+use Rattle.version_book.specs.Airings.{AiredTables, version_at}
 use Rattle.cycle_plan.specs.Cycle.{cycle_of}
 use Rattle.cycle_plan.specs.Sections.{is_fast, planned}
 use Rattle.ts_packets.specs.Packets.{Carries, packets_of}
@@ -30,7 +30,7 @@ abbrev pub sections_of : ℕ → SubTable → List Sent
 sections_of version t = map (sent_section version t) t.sections
 
 -- the sections of these sub-tables, each with its version in the last of these airings
-abbrev pub table_sections : List Airing → List SubTable → List Sent
+abbrev pub table_sections : List AiredTables → List SubTable → List Sent
 table_sections airings tables = flat_map (λ (t : SubTable). sections_of (version_at t.key airings) t) tables
 
 -- the time and date table of a moment: one section, on a PID of its own (EN 300 468, 5.1.3 and 5.2.5)
@@ -50,7 +50,7 @@ behind_tdt tables = drop (prefix_len leads tables) tables
 
 -- Each section of an airing behind others once: those of each sub-table, and the TDT of the airing's moment behind PAT, PMT, NIT and
 -- SDT, before all event information.
-abbrev pub sections_once : List Airing → Airing → List Sent
+abbrev pub sections_once : List AiredTables → AiredTables → List Sent
 sections_once past a =
     table_sections (past ++ a ∷ []) (before_tdt a.tables) ++ tdt a.moment ∷ table_sections (past ++ a ∷ []) (behind_tdt a.tables)
 
@@ -61,11 +61,11 @@ abbrev pub weight : Tier3 → Sent → Tier3 × ℕ
 weight tier s = (tier, packets_of (length s.bytes))
 
 -- of the sections of these sub-tables, with their versions in the last of these airings
-abbrev pub table_weights : List Airing → List SubTable → List (Tier3 × ℕ)
+abbrev pub table_weights : List AiredTables → List SubTable → List (Tier3 × ℕ)
 table_weights airings tables = flat_map (λ (t : SubTable). map (weight t.tier) (sections_of (version_at t.key airings) t)) tables
 
 -- of each section of an airing behind others, in the order of `sections_once`
-abbrev pub weights_once : List Airing → Airing → List (Tier3 × ℕ)
+abbrev pub weights_once : List AiredTables → AiredTables → List (Tier3 × ℕ)
 weights_once past a =
     table_weights (past ++ a ∷ []) (before_tdt a.tables) ++ weight Fast (tdt a.moment) ∷ table_weights (past ++ a ∷ []) (behind_tdt a.tables)
 
@@ -75,14 +75,14 @@ at_places xs places = filter_map (slice_get xs) places
 
 -- The sections of the cycle of an airing behind others, in the order in which they are sent: those of the airing, each once or more
 -- often, by the tiers and the quota.
-abbrev pub cycle_sections : List Airing → Airing → List Sent
+abbrev pub cycle_sections : List AiredTables → AiredTables → List Sent
 cycle_sections past a = at_places (sections_once past a) (cycle_of (planned (weights_once past a) a.form.quota))
 
 -- ---- a cycle and an air
 
 -- an airing and the packets of its cycle
 pub record Aired : Type 0 where
-  pub airing : Airing
+  pub airing : AiredTables
   pub packets : List Packet
 
 abbrev pub sent_on : ℕ → Sent → Option (List ℕ)
@@ -90,23 +90,23 @@ sent_on pid s = if s.pid == pid then Some s.bytes else None
 
 -- The packets are a cycle of the airing behind these: on each PID they carry the cycle's sections with that PID, in
 -- their order, and there are no others. How densely sections share packets is left open.
-abbrev pub IsCycle : List Airing → Aired → Type 0
+abbrev pub IsCycle : List AiredTables → Aired → Type 0
 IsCycle past x = (pid : ℕ) → Carries (of_pid pid x.packets) (filter_map (sent_on pid) (cycle_sections past x.airing))
 
 -- one cycle for each airing
-abbrev pub Cycles : List Airing → List Aired → Type 0
+abbrev pub Cycles : List AiredTables → List Aired → Type 0
 Cycles past [] = Unit {0}
 Cycles past (x ∷ xs) = IsCycle past x × Cycles (past ++ x.airing ∷ []) xs
 
 abbrev pub air : List Aired → List Packet
 air xs = flat_map (λ (x : Aired). x.packets) xs
 
-abbrev pub airings_of : List Aired → List Airing
+abbrev pub airings_of : List Aired → List AiredTables
 airings_of xs = map (λ (x : Aired). x.airing) xs
 
 -- These are an air of the airing list: one cycle for each airing, joined in order, and on each PID the
 -- continuity_counters count 0, 1, .. modulo 16 from the first packet on.
-pub record IsAirOf (airings : List Airing) (xs : List Aired) : Type 0 where
+pub record IsAirOf (airings : List AiredTables) (xs : List Aired) : Type 0 where
   pub airings_are : airings_of xs ≡ airings
   pub cycles : Cycles [] xs
   pub counted : (pid : ℕ) → Count 0 (loads_on pid (air xs))

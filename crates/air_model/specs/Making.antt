@@ -2,7 +2,7 @@
 use Rattle.std.specs.Prelude.{◌≡◌, ◌%◌, List, [], ◌∷◌, ◌++◌, length, flat_map}
 use Rattle.ts_packets.specs.Bytes.{Packet, packets_alone}
 use Rattle.ts_packets.specs.Counting.{loads_on}
-use Rattle.version_book.specs.Airings.{Airing}
+use Rattle.version_book.specs.Airings.{AiredTables}
 use Rattle.air_model.specs.Air.{Sent, Aired, cycle_sections, air, airings_of}
 
 abbrev pub each_alone : List Sent → List Packet
@@ -18,7 +18,7 @@ counted past [] = []
 counted past (p ∷ ps) = count_behind past p ∷ counted (past ++ count_behind past p ∷ []) ps
 
 -- the packets of an airing's cycle behind other airings and their packets
-abbrev pub cycle_alone : List Airing → List Packet → Airing → List Packet
+abbrev pub cycle_alone : List AiredTables → List Packet → AiredTables → List Packet
 cycle_alone past sent a = counted sent (each_alone (cycle_sections past a))
 
 -- each of these cycles, behind others, has just these packets

@@ -8,7 +8,7 @@ use Rattle.section_codec.specs.declared.table.Tier3.TheVariants.{Fast, Near, Far
 use Rattle.si_base.specs.Crc.{crc_of, crc_from}
 use Rattle.cycle_plan.specs.Cycle.{cycle_of}
 use Rattle.cycle_plan.specs.Sections.{planned}
-use Rattle.version_book.specs.Airings.{Airing}
+use Rattle.version_book.specs.Airings.{AiredTables}
 use Rattle.ts_packets.specs.Bytes.{bytes_of_packet}
 use Rattle.air_model.specs.Air.{Sent, Aired, weights_once, before_tdt, behind_tdt, cycle_sections, air_bytes}
 use Rattle.air_model.specs.Making.{cycle_alone}
@@ -19,7 +19,7 @@ sdt_body = 0x00 ∷ 0x01 ∷ 0xFF ∷ 0x00 ∷ 0x65 ∷ 0xFF ∷ 0x80 ∷ 0x0D �
 abbrev sdt_of : List ℕ → SubTable
 sdt_of body = record { key = record { pid = 17; table = 66; ext = 1; stream = 0; network = 1 }; tier = Fast; sections = record { number = 0; body = body } ∷ [] }
 
-abbrev airing_of : List ℕ → ℕ → Airing
+abbrev airing_of : List ℕ → ℕ → AiredTables
 airing_of body moment = record { tables = sdt_of body ∷ []; moment = moment; form = record { quota = 200 } }
 
 abbrev sdt_section : List ℕ
@@ -92,7 +92,7 @@ abbrev of_bodies : ℕ → Tier3 → List NumberedBody → SubTable
 of_bodies table tier sections = record { key = record { pid = 18; table = table; ext = 1; stream = 1; network = 1 }; tier = tier; sections = sections }
 
 -- a Near section and two Far ones, each of one packet, and a quota of three packets
-abbrev with_far : Airing
+abbrev with_far : AiredTables
 with_far = record {
   tables = of_bodies 0x50 Near (record { number = 0; body = [] } ∷ []) ∷ of_bodies 0x58 Far (record { number = 0; body = [] } ∷ record { number = 8; body = [] } ∷ []) ∷ [];
   moment = annex;

@@ -8,7 +8,7 @@ use Rattle.desc_parts.specs.declared.descriptors.RawDesc.{RawDesc}
 use Rattle.desc_parts.proofs.Loops.{descriptors-unique}
 use Rattle.eit_codec.specs.declared.eit.EitHead.{EitHead}
 use Rattle.eit_codec.specs.declared.eit.Eit.{Eit}
-use Rattle.eit_codec.specs.Entries.{Entry, entry_bytes}
+use Rattle.eit_codec.specs.Entries.{EventEntry, entry_bytes}
 use Rattle.eit_codec.specs.ShownEvent.{event_of}
 use Rattle.eit_codec.specs.Eit.{head_bytes, IsEvent, AreEvents, AreEntries, FitsHead, IsEit, EitIsUnique}
 use Rattle.table_entries.proofs.Same.{same_two}
@@ -44,7 +44,7 @@ same_head a b x y p q e =
 
 -- ---- events
 
-same_event : (entry : Entry) (v w : ScreenEvent) → IsEvent entry v → IsEvent entry w → v ≡ w
+same_event : (entry : EventEntry) (v w : ScreenEvent) → IsEvent entry v → IsEvent entry w → v ≡ w
 same_event entry v w p q =
     let starts : v.start.0 ≡ w.start.0 = cc (p.start, q.start) in
     let seconds : v.seconds ≡ w.seconds = cc (p.seconds, q.seconds) in
@@ -54,7 +54,7 @@ same_event entry v w p q =
     ∙ ap (λ (ds : List RawDesc). event_of entry.id w.start.0 w.seconds ds) (descriptors-unique entry.descriptors p.descs q.descs p.loop q.loop)
     ∙ sym q.shows
 
-same_events : (a b : List Entry) (v w : List ScreenEvent) → AreEvents a v → AreEvents b w → flat_map entry_bytes a ≡ flat_map entry_bytes b → v ≡ w
+same_events : (a b : List EventEntry) (v w : List ScreenEvent) → AreEvents a v → AreEvents b w → flat_map entry_bytes a ≡ flat_map entry_bytes b → v ≡ w
 same_events [] [] [] [] p q e = refl
 same_events [] b (x ∷ v) w p q e = absurd p
 same_events a [] v (y ∷ w) p q e = absurd q
@@ -64,7 +64,7 @@ same_events [] (g ∷ b) [] (y ∷ w) p q e = absurd (not_nothing g (flat_map en
 same_events (f ∷ a) [] (x ∷ v) [] p q e = absurd (not_nothing f (flat_map entry_bytes a) p.0.fits e)
 same_events (f ∷ a) (g ∷ b) (x ∷ v) (y ∷ w) p q e =
     let same = same_entry f g (flat_map entry_bytes a) (flat_map entry_bytes b) p.0.fits q.0.fits e in
-    let first : x ≡ y = same_event g x y (subst (λ (entry : Entry). IsEvent entry x) same.0 p.0) q.0 in
+    let first : x ≡ y = same_event g x y (subst (λ (entry : EventEntry). IsEvent entry x) same.0 p.0) q.0 in
     ap (λ (z : ScreenEvent). z ∷ v) first ∙ ap (λ (zs : List ScreenEvent). y ∷ zs) (same_events a b v w p.1 q.1 same.1)
 
 pub eit-unique : EitIsUnique

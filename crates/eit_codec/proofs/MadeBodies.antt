@@ -10,7 +10,7 @@ use Rattle.table_entries.specs.Loops.{are_descriptors, AreBytes}
 use Rattle.table_entries.proofs.Looks.{bytes_behind, bytes_before, descriptors_of}
 use Rattle.guide_model.specs.declared.screen.ScreenEvent.{ScreenEvent}
 use Rattle.eit_codec.specs.declared.eit.Eit.{Eit}
-use Rattle.eit_codec.specs.Entries.{Entry, entry_bytes}
+use Rattle.eit_codec.specs.Entries.{EventEntry, entry_bytes}
 use Rattle.eit_codec.specs.ShownEvent.{event_of}
 use Rattle.eit_codec.specs.Eit.{IsEvent, AreEntries, IsEit}
 use Rattle.eit_codec.specs.Bodies.{loop_length, loop_of, entry_length, time_of, duration_of, begins_with_entry, are_entries, BodiesCanBeRead}
@@ -47,7 +47,7 @@ past_twelve n = omega arith
 
 -- the entry at the front of bytes, its event, and what stands behind it
 record First (bytes : List ℕ) : Type 0 where
-  entry : Entry
+  entry : EventEntry
   event : ScreenEvent
   is : IsEvent entry event
   whole : bytes ≡ entry_bytes entry ++ drop (entry_length bytes) bytes
@@ -67,7 +67,7 @@ first_by i j a b c d f x y z l m more all e =
     let seconds = value (duration_from_bcd (x ∷ y ∷ z ∷ [])) q.1 in
     let descs = descriptors_of size (take size more) (bytes_before size more all.1.1.1.1.1.1.1.1.1.1.1.1) p.1 in
     let its : length (take size more) ≡ size = length-take-le size more (omega (arith, fits)) in
-    let entry : Entry = record { id = 256 * i + j; time = a ∷ b ∷ c ∷ d ∷ f ∷ []; duration = x ∷ y ∷ z ∷ []; flags = flags; descriptors = take size more } in
+    let entry : EventEntry = record { id = 256 * i + j; time = a ∷ b ∷ c ∷ d ∷ f ∷ []; duration = x ∷ y ∷ z ∷ []; flags = flags; descriptors = take size more } in
     let i_is : i ≡ (256 * i + j) / 256 % 256 = omega (arith, all.0, all.1.0) in
     let j_is : j ≡ (256 * i + j) % 256 = omega (arith, all.1.0) in
     let field : 4096 * flags + length (take size more) ≡ 256 * l + m = omega (arith, its) in

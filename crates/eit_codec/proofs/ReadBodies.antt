@@ -12,7 +12,7 @@ use Rattle.desc_parts.specs.Descriptors.{descriptor_bytes}
 use Rattle.table_entries.specs.Loops.{are_descriptors}
 use Rattle.table_entries.proofs.Looks.{descriptors_within}
 use Rattle.guide_model.specs.declared.screen.ScreenEvent.{ScreenEvent}
-use Rattle.eit_codec.specs.Entries.{Entry, entry_bytes}
+use Rattle.eit_codec.specs.Entries.{EventEntry, entry_bytes}
 use Rattle.eit_codec.specs.Eit.{head_bytes, IsEvent, AreEvents}
 use Rattle.eit_codec.specs.Bodies.{entry_length, begins_with_entry, are_entries, is_eit_body, ReadBodiesAreBodies}
 
@@ -36,7 +36,7 @@ by_bytes i j a b c d f x y z size start seconds ds rest small told is_start is_s
           ∙ drop_at (i ∷ j ∷ a ∷ b ∷ c ∷ d ∷ f ∷ x ∷ y ∷ z ∷ (size / 256 % 256) ∷ (size % 256) ∷ ds) rest (12 + length ds) (omega arith),
     )
 
-one_entry : (e : Entry) (event : ScreenEvent) (rest : List ℕ) → IsEvent e event → Begins (entry_bytes e ++ rest) rest
+one_entry : (e : EventEntry) (event : ScreenEvent) (rest : List ℕ) → IsEvent e event → Begins (entry_bytes e ++ rest) rest
 one_entry e event rest is =
     let t = five_of e.time is.fits.time in
     let d = three_of e.duration is.fits.duration in
@@ -50,7 +50,7 @@ one_entry e event rest is =
 
 -- ---- entries, and a body
 
-entries_are : (n : ℕ) (es : List Entry) (events : List ScreenEvent) → AreEvents es events → length (flat_map entry_bytes es) ≤ n → are_entries n (flat_map entry_bytes es) ≡ true
+entries_are : (n : ℕ) (es : List EventEntry) (events : List ScreenEvent) → AreEvents es events → length (flat_map entry_bytes es) ≤ n → are_entries n (flat_map entry_bytes es) ≡ true
 entries_are n [] [] is le = refl
 entries_are n [] (v ∷ events) is le = absurd is
 entries_are n (e ∷ es) [] is le = absurd is

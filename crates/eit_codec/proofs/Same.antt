@@ -6,10 +6,10 @@ use Rattle.si_lists.proofs.Lists.{flat_map-next, same_parts}
 use Rattle.si_base.specs.Fields.{two}
 use Rattle.table_entries.proofs.Same.{same_two}
 use Rattle.guide_model.specs.declared.screen.ScreenEvent.{ScreenEvent}
-use Rattle.eit_codec.specs.Entries.{Entry, entry_bytes, FitsEntry}
+use Rattle.eit_codec.specs.Entries.{EventEntry, entry_bytes, FitsEntry}
 use Rattle.eit_codec.specs.Eit.{IsEvent, AreEvents, AreEntries}
 
-same_fields : (a b : Entry) → a.id ≡ b.id → a.time ≡ b.time → a.duration ≡ b.duration → a.flags ≡ b.flags → a.descriptors ≡ b.descriptors → a ≡ b
+same_fields : (a b : EventEntry) → a.id ≡ b.id → a.time ≡ b.time → a.duration ≡ b.duration → a.flags ≡ b.flags → a.descriptors ≡ b.descriptors → a ≡ b
 same_fields a b i t d f s =
     ap (λ (n : ℕ). record { id = n; time = a.time; duration = a.duration; flags = a.flags; descriptors = a.descriptors }) i
     ∙ ap (λ (xs : List ℕ). record { id = b.id; time = xs; duration = a.duration; flags = a.flags; descriptors = a.descriptors }) t
@@ -17,7 +17,7 @@ same_fields a b i t d f s =
     ∙ ap (λ (n : ℕ). record { id = b.id; time = b.time; duration = b.duration; flags = n; descriptors = a.descriptors }) f
     ∙ ap (λ (xs : List ℕ). record { id = b.id; time = b.time; duration = b.duration; flags = b.flags; descriptors = xs }) s
 
-fields_apart : (a : Entry) (x : List ℕ) → entry_bytes a ++ x ≡ two a.id ++ (a.time ++ (a.duration ++ (two (4096 * a.flags + length a.descriptors) ++ (a.descriptors ++ x))))
+fields_apart : (a : EventEntry) (x : List ℕ) → entry_bytes a ++ x ≡ two a.id ++ (a.time ++ (a.duration ++ (two (4096 * a.flags + length a.descriptors) ++ (a.descriptors ++ x))))
 fields_apart a x =
     let flags = two (4096 * a.flags + length a.descriptors) in
     append_assoc (two a.id ++ a.time ++ a.duration ++ flags) a.descriptors x
@@ -26,7 +26,7 @@ fields_apart a x =
     ∙ append_assoc (two a.id) a.time (a.duration ++ (flags ++ (a.descriptors ++ x)))
 
 -- equal bytes begin with the same entry
-pub same_entry : (a b : Entry) (x y : List ℕ) → FitsEntry a → FitsEntry b → entry_bytes a ++ x ≡ entry_bytes b ++ y → (a ≡ b) × (x ≡ y)
+pub same_entry : (a b : EventEntry) (x y : List ℕ) → FitsEntry a → FitsEntry b → entry_bytes a ++ x ≡ entry_bytes b ++ y → (a ≡ b) × (x ≡ y)
 same_entry a b x y p q e =
     let flags_a = 4096 * a.flags + length a.descriptors in
     let flags_b = 4096 * b.flags + length b.descriptors in
@@ -43,12 +43,12 @@ same_entry a b x y p q e =
 
 -- where the first entries of bytes are known, the events of the bytes are more than theirs by those of the rest
 pub record Behind (rest : List ℕ) : Type 0 where
-  pub tail : List Entry
+  pub tail : List EventEntry
   pub later : List ScreenEvent
   pub whole : rest ≡ flat_map entry_bytes tail
   pub shown : AreEvents tail later
 
-behind_front : (front entries : List Entry) (before events : List ScreenEvent) (rest : List ℕ) → AreEvents front before → AreEvents entries events
+behind_front : (front entries : List EventEntry) (before events : List ScreenEvent) (rest : List ℕ) → AreEvents front before → AreEvents entries events
     → flat_map entry_bytes front ++ rest ≡ flat_map entry_bytes entries → Behind rest
 behind_front [] entries [] events rest p q e = record { tail = entries; later = events; whole = e; shown = q }
 behind_front [] entries (v ∷ before) events rest p q e = absurd p
@@ -62,20 +62,20 @@ behind_front (f ∷ front) (g ∷ entries) (v ∷ before) (w ∷ events) rest p 
 
 -- the events so far are those of the first entries
 pub record AreSoFar (bytes rest : List ℕ) (events : List ScreenEvent) : Type 0 where
-  pub front : List Entry
+  pub front : List EventEntry
   pub whole : bytes ≡ flat_map entry_bytes front ++ rest
   pub shown : AreEvents front events
 
 pub none_so_far : (bytes : List ℕ) → AreSoFar bytes bytes []
 none_so_far bytes = record { front = []; whole = refl; shown = tt }
 
-AreEvents-append : (front : List Entry) (events : List ScreenEvent) (entry : Entry) (event : ScreenEvent) → AreEvents front events → IsEvent entry event → AreEvents (front ++ entry ∷ []) (events ++ event ∷ [])
+AreEvents-append : (front : List EventEntry) (events : List ScreenEvent) (entry : EventEntry) (event : ScreenEvent) → AreEvents front events → IsEvent entry event → AreEvents (front ++ entry ∷ []) (events ++ event ∷ [])
 AreEvents-append [] [] entry event p q = (q, tt)
 AreEvents-append [] (v ∷ events) entry event p q = absurd p
 AreEvents-append (f ∷ front) [] entry event p q = absurd p
 AreEvents-append (f ∷ front) (v ∷ events) entry event p q = (p.0, AreEvents-append front events entry event p.1 q)
 
-pub next_so_far : (bytes rest behind : List ℕ) (events : List ScreenEvent) (entry : Entry) (event : ScreenEvent) → AreSoFar bytes rest events → rest ≡ entry_bytes entry ++ behind → IsEvent entry event
+pub next_so_far : (bytes rest behind : List ℕ) (events : List ScreenEvent) (entry : EventEntry) (event : ScreenEvent) → AreSoFar bytes rest events → rest ≡ entry_bytes entry ++ behind → IsEvent entry event
     → AreSoFar bytes behind (events ++ event ∷ [])
 next_so_far bytes rest behind events entry event so_far e is = record {
   front = so_far.front ++ entry ∷ [];
@@ -95,30 +95,30 @@ behind_so_far bytes rest events all so_far p = behind_front so_far.front p.entri
 
 -- ---- bytes that are no list of entries
 
-no_entry : (rest : List ℕ) → 0 < length rest → Behind rest → ((entry : Entry) (more : List ℕ) → FitsEntry entry → rest ≡ entry_bytes entry ++ more → ⊥) → ⊥
+no_entry : (rest : List ℕ) → 0 < length rest → Behind rest → ((entry : EventEntry) (more : List ℕ) → FitsEntry entry → rest ≡ entry_bytes entry ++ more → ⊥) → ⊥
 no_entry rest some b none = go b.tail b.later b.whole b.shown
   where
-    go : (tail : List Entry) (later : List ScreenEvent) → rest ≡ flat_map entry_bytes tail → AreEvents tail later → ⊥
+    go : (tail : List EventEntry) (later : List ScreenEvent) → rest ≡ flat_map entry_bytes tail → AreEvents tail later → ⊥
     go [] later e p = omega (arith, some, ap length e)
     go (f ∷ tail) [] e p = p
     go (f ∷ tail) (v ∷ later) e p = none f (flat_map entry_bytes tail) p.0.fits e
 
 pub cut_entry : (bytes rest : List ℕ) (events all : List ScreenEvent) → AreSoFar bytes rest events → 0 < length rest
-    → ((entry : Entry) (more : List ℕ) → FitsEntry entry → rest ≡ entry_bytes entry ++ more → ⊥) → AreEntries bytes all → ⊥
+    → ((entry : EventEntry) (more : List ℕ) → FitsEntry entry → rest ≡ entry_bytes entry ++ more → ⊥) → AreEntries bytes all → ⊥
 cut_entry bytes rest events all so_far some none p = no_entry rest some (behind_so_far bytes rest events all so_far p) none
 
-pub not_nothing : (entry : Entry) (behind : List ℕ) → FitsEntry entry → entry_bytes entry ++ behind ≡ [] → ⊥
+pub not_nothing : (entry : EventEntry) (behind : List ℕ) → FitsEntry entry → entry_bytes entry ++ behind ≡ [] → ⊥
 not_nothing entry behind fits e = omega (arith, ap length (sym (fields_apart entry behind) ∙ e))
 
-pub no_event : (bytes rest behind : List ℕ) (events all : List ScreenEvent) (entry : Entry) → AreSoFar bytes rest events → rest ≡ entry_bytes entry ++ behind → FitsEntry entry
+pub no_event : (bytes rest behind : List ℕ) (events all : List ScreenEvent) (entry : EventEntry) → AreSoFar bytes rest events → rest ≡ entry_bytes entry ++ behind → FitsEntry entry
     → ((event : ScreenEvent) → IsEvent entry event → ⊥) → AreEntries bytes all → ⊥
 no_event bytes rest behind events all entry so_far e fits none p =
     let b = behind_so_far bytes rest events all so_far p in
     go b.tail b.later b.whole b.shown
   where
-    go : (tail : List Entry) (later : List ScreenEvent) → rest ≡ flat_map entry_bytes tail → AreEvents tail later → ⊥
+    go : (tail : List EventEntry) (later : List ScreenEvent) → rest ≡ flat_map entry_bytes tail → AreEvents tail later → ⊥
     go [] later w q = absurd (not_nothing entry behind fits (sym e ∙ w))
     go (f ∷ tail) [] w q = q
     go (f ∷ tail) (v ∷ later) w q =
         let same = same_entry f entry (flat_map entry_bytes tail) behind q.0.fits fits (sym w ∙ e) in
-        none v (subst (λ (x : Entry). IsEvent x v) same.0 q.0)
+        none v (subst (λ (x : EventEntry). IsEvent x v) same.0 q.0)

@@ -4,6 +4,7 @@ use Rattle.std.specs.Option.{option_or}
 use Rattle.std.specs.List.{flat_map, AllByRecursion}
 use Rattle.std.proofs.lemmas.Grind.{flat_map-append}
 use Rattle.std.proofs.lemmas.List.{append-nil}
+use Rattle.si_lists.proofs.Lists.{all_append}
 use Rattle.si_text.specs.Coding.{coded_text, coded_size}
 use Rattle.si_text.specs.Cutting.{pieces, ArePieces}
 use Rattle.si_text.specs.Decoding.{IsKept}
@@ -92,10 +93,6 @@ desc-bytes e =
 abbrev IsShort : RawDesc → Type 0
 IsShort d = length d.body < 256
 
-all-append : (xs ys : List RawDesc) → AllByRecursion IsShort xs → AllByRecursion IsShort ys → AllByRecursion IsShort (xs ++ ys)
-all-append [] ys p q = q
-all-append (x ∷ xs) ys p q = (p.0, all-append xs ys p.1 q)
-
 small : (text : List ℕ) (ps : List (List ℕ)) → ArePieces text ps → AllByRecursion (λ piece. coded_size piece ≤ 249) ps
 small text [] p = tt
 small text (piece ∷ ps) (rest, whole, cut, behind) =
@@ -138,9 +135,9 @@ descs-are e p q = record {
   whole = desc-bytes e;
   lengths = (
     short-short e p q,
-    all-append (all_pieces e) (genre_descs e.genres ++ rating_descs e.rating)
+    all_append IsShort (all_pieces e) (genre_descs e.genres ++ rating_descs e.rating)
         (piece-short 0 (length (pieces e.extended) - 1) e.language (pieces e.extended) q.language (small e.extended (pieces e.extended) (pieces-longest e.extended q.extended.utf8)))
-        (all-append (genre_descs e.genres) (rating_descs e.rating) (genre-short e.genres p.limits.genres) (rating-short e.rating q.rating)),
+        (all_append IsShort (genre_descs e.genres) (rating_descs e.rating) (genre-short e.genres p.limits.genres) (rating-short e.rating q.rating)),
   );
 }
 

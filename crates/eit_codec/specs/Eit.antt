@@ -14,7 +14,7 @@ use Rattle.desc_event.specs.EventDescriptors.{event_descriptors, entry_size, IsW
 use Rattle.desc_event.specs.ParentalRating.{HasThreeLetters}
 use Rattle.eit_codec.specs.declared.eit.EitHead.{EitHead}
 use Rattle.eit_codec.specs.declared.eit.Eit.{Eit}
-use Rattle.eit_codec.specs.Entries.{Entry, entry_bytes, FitsEntry}
+use Rattle.eit_codec.specs.Entries.{EventEntry, entry_bytes, FitsEntry}
 use Rattle.eit_codec.specs.ShownEvent.{event_of}
 
 -- ---- written
@@ -24,7 +24,7 @@ abbrev pub head_bytes : EitHead → List ℕ
 head_bytes h = two h.stream ++ two h.original ++ h.segment_last ∷ h.last_table ∷ []
 
 -- the entry of an event with this running_status; free_CA_mode is 0
-abbrev pub written_entry : ℕ → Event → Entry
+abbrev pub written_entry : ℕ → Event → EventEntry
 written_entry status e = record {
   id = e.id;
   time = moment_bcd e.start.0;
@@ -48,7 +48,7 @@ pub record IsCodable (e : Event) : Type 0 where
 -- ---- read
 
 -- An entry whose times are decimal and exist, and whose descriptors show this event; its flags may have any value.
-pub record IsEvent (entry : Entry) (event : ScreenEvent) : Type 0 where
+pub record IsEvent (entry : EventEntry) (event : ScreenEvent) : Type 0 where
   pub fits : FitsEntry entry
   pub start : moment_from_bcd entry.time ≡ Some event.start.0
   pub seconds : duration_from_bcd entry.duration ≡ Some event.seconds
@@ -57,7 +57,7 @@ pub record IsEvent (entry : Entry) (event : ScreenEvent) : Type 0 where
   pub shows : event ≡ event_of entry.id event.start.0 event.seconds descs
 
 -- entry by entry
-abbrev pub AreEvents : List Entry → List ScreenEvent → Type 0
+abbrev pub AreEvents : List EventEntry → List ScreenEvent → Type 0
 AreEvents [] [] = Unit {0}
 AreEvents [] (event ∷ events) = ⊥
 AreEvents (entry ∷ entries) [] = ⊥
@@ -65,7 +65,7 @@ AreEvents (entry ∷ entries) (event ∷ events) = IsEvent entry event × AreEve
 
 -- The bytes are just the entries of these events.
 pub record AreEntries (bytes : List ℕ) (events : List ScreenEvent) : Type 0 where
-  pub entries : List Entry
+  pub entries : List EventEntry
   pub whole : bytes ≡ flat_map entry_bytes entries
   pub shown : AreEvents entries events
 

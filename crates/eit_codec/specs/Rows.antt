@@ -10,7 +10,7 @@ use Rattle.guide_model.specs.declared.event.Event.{Event}
 use Rattle.guide_model.specs.declared.screen.ScreenEvent.{ScreenEvent}
 use Rattle.desc_parts.specs.declared.descriptors.RawDesc.{RawDesc}
 use Rattle.eit_codec.specs.declared.eit.EitHead.{EitHead}
-use Rattle.eit_codec.specs.Entries.{Entry, entry_bytes}
+use Rattle.eit_codec.specs.Entries.{EventEntry, entry_bytes}
 use Rattle.eit_codec.specs.ShownEvent.{short_of, genres_of, rating_of, pieces_in, joined, event_of}
 use Rattle.eit_codec.specs.Eit.{eit_body, written_bytes, shown_event, IsEit}
 
@@ -55,7 +55,7 @@ row_body = refl
 abbrev news_desc : RawDesc
 news_desc = record { tag = 0x4D; body = 0x65 ∷ 0x6E ∷ 0x67 ∷ 0x04 ∷ 0x4E ∷ 0x65 ∷ 0x77 ∷ 0x73 ∷ 0x00 ∷ [] }
 
-abbrev news_entry : Entry
+abbrev news_entry : EventEntry
 news_entry = record {
   id = 7;
   time = 0xC0 ∷ 0x79 ∷ 0x13 ∷ 0x00 ∷ 0x00 ∷ [];
@@ -64,7 +64,7 @@ news_entry = record {
   descriptors = 0x4D ∷ 0x09 ∷ 0x65 ∷ 0x6E ∷ 0x67 ∷ 0x04 ∷ 0x4E ∷ 0x65 ∷ 0x77 ∷ 0x73 ∷ 0x00 ∷ [];
 }
 
-abbrev bare_entry : Entry
+abbrev bare_entry : EventEntry
 bare_entry = record { id = 7; time = 0xC0 ∷ 0x79 ∷ 0x13 ∷ 0x00 ∷ 0x00 ∷ []; duration = 0x00 ∷ 0x30 ∷ 0x00 ∷ []; flags = 15; descriptors = [] }
 
 abbrev bare : ScreenEvent

@@ -2,7 +2,7 @@
 ghost use Rattle.std.specs.Prelude.{◌≡◌, ◌<◌, ◌++◌, List, ℕ, length, IfOk, IfSome, IfNone};
 ghost use Rattle.eit_codec.specs.declared.eit.Eit.{Eit};
 ghost use Rattle.guide_model.specs.declared.screen.ScreenEvent.{ScreenEvent};
-ghost use Rattle.eit_codec.specs.Entries.{Entry, entry_bytes, FitsEntry};
+ghost use Rattle.eit_codec.specs.Entries.{EventEntry, entry_bytes, FitsEntry};
 ghost use Rattle.eit_codec.specs.ShownEvent.{event_of};
 ghost use Rattle.eit_codec.specs.Eit.{head_bytes, IsEvent, AreEntries, IsEit};
 
@@ -74,7 +74,7 @@ fn read_events(alloc: Global, bytes: &[u8]) -> Result<Option<ScreenEvents>, Allo
     Ok(Some(Items::of(events)))
 }
 
-/// An entry of an event as it stands in a body, its descriptors not read yet. Contracts see it as an `Entry`.
+/// An entry of an event as it stands in a body, its descriptors not read yet. Contracts see it as an `EventEntry`.
 #[derive(Drop)]
 pub(crate) struct RawEntry<'a> {
     pub(crate) id: u16,
@@ -85,9 +85,9 @@ pub(crate) struct RawEntry<'a> {
 }
 
 impl<'a> Model for RawEntry<'a> {
-    ghost use Rattle.eit_codec.specs.Entries.{Entry};
+    ghost use Rattle.eit_codec.specs.Entries.{EventEntry};
 
-    ghost Value = { Entry };
+    ghost Value = { EventEntry };
 
     ghost view = { λ e. record { id = e.id; time = e.time; duration = e.duration; flags = e.flags; descriptors = e.descriptors.now } };
 }
@@ -97,7 +97,7 @@ fn split_entry(bytes: &[u8]) -> Option<(RawEntry<'_>, &[u8])>
     ensures parts { IfSome result (λ parts. bytes.now ≡ entry_bytes parts.0 ++ parts.1.now) }
     ensures fits { IfSome result (λ parts. FitsEntry parts.0) }
     ensures less { IfSome result (λ parts. length parts.1.now < length bytes.now) }
-    ensures none { IfNone result ((entry : Entry) (rest : List ℕ) → FitsEntry entry → bytes.now ≡ entry_bytes entry ++ rest → ⊥) }
+    ensures none { IfNone result ((entry : EventEntry) (rest : List ℕ) → FitsEntry entry → bytes.now ≡ entry_bytes entry ++ rest → ⊥) }
 {
     if bytes.len() < 12 {
         return None;

@@ -1,6 +1,6 @@
 -- Parts of lists that pass a test, and the highest number that does.
-use Rattle.std.proofs.Common.{◌≡◌, ℕ, zero, suc, ◌+◌, ◌<◌, ◌≤◌, Bool, true, false, inl, inr, List, [], ◌∷◌, ◌++◌, length, take, drop, get_or, Some, None, refl, sym, ap, ◌∙◌, arith, ltb, append-nil, append_assoc, flat_map}
-use Rattle.std.specs.List.{filter, position, position_or_len, range_with_len}
+use Rattle.std.proofs.Common.{◌≡◌, ℕ, zero, suc, ◌+◌, ◌<◌, ◌≤◌, Bool, true, false, inl, inr, List, [], ◌∷◌, ◌++◌, length, take, drop, get_or, Some, None, refl, sym, ap, ◌∙◌, arith, ltb}
+use Rattle.std.specs.List.{filter, position, position_or_len}
 use Rattle.std.proofs.lemmas.Bool.{cond-true, cond-false, lt-ltb, le-ltb, cases_lt, cases_Bool}
 use Rattle.std.proofs.lemmas.List.Sums.{position_or_len_is}
 use Rattle.eit_segments.specs.Schedule.{highest}
@@ -63,10 +63,3 @@ highest_less test (suc n) some = elim (cases_Bool (test n)) [
       | inl h ↦ rw h (omega arith)
       | inr h ↦ rw h (omega (arith, below n))
     ]
-
--- one number more
-pub range_more : {X : Type 0} (f : ℕ → List X) (a n j : ℕ) → a + n ≡ j → flat_map f (range_with_len a (n + 1)) ≡ flat_map f (range_with_len a n) ++ f j
-range_more f a zero j e = append-nil (f a) ∙ ap f (let s : a ≡ j = omega arith in s)
-range_more f a (suc n) j e =
-    ap (λ (m : ℕ). flat_map f (range_with_len a m)) (let s : suc n + 1 ≡ suc (n + 1) = omega arith in s)
-    ∙ ap (λ l. f a ++ l) (range_more f (a + 1) n j (omega arith)) ∙ sym (append_assoc (f a) (flat_map f (range_with_len (a + 1) n)) (f j))

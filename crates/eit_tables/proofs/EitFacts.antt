@@ -5,7 +5,7 @@ use Rattle.std.specs.List.{AllByRecursion, All, range_with_len, take-map, drop-m
 use Rattle.std.proofs.lemmas.List.Elements.{All-from_recursion, All-take, All-drop}
 use Rattle.std.proofs.lemmas.List.{length-map}
 use Rattle.std.proofs.lemmas.List.Sums.{sum_by-cons}
-use Rattle.si_lists.proofs.Lists.{all_append, all_map, all_two}
+use Rattle.si_lists.proofs.Lists.{all_append, all_map, all_two, range_more}
 use Rattle.si_base.specs.Fields.{two, two_at}
 use Rattle.guide_model.specs.declared.event.Event.{Event}
 use Rattle.desc_event.specs.EventDescriptors.{entry_size}
@@ -25,7 +25,6 @@ use Rattle.eit_segments.specs.Placement.{in_block, start_block, block_place, pre
 use Rattle.eit_segments.specs.Schedule.{CanBePlaced, block_runs, sections_from, segment_sections, last_used, table_sections, sections_in_table, section_events, last_number as last_in_table}
 use Rattle.eit_segments.specs.Laws.{at_of, events_of, told_last}
 use Rattle.eit_segments.proofs.Few.{filter_all, sum_map, events_can_be_placed}
-use Rattle.eit_segments.proofs.Lists.{range_more}
 use Rattle.eit_segments.proofs.Order.{runs_few, used_less}
 use Rattle.eit_segments.proofs.Numbers.{Rise, IsInSegment, table_rises, table_below, table_in_segments, tables_are_whole}
 use Rattle.eit_segments.proofs.EventsOf.{segments_have_runs}

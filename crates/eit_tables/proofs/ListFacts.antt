@@ -1,23 +1,18 @@
 -- Lists that grow by one element, and answers.
-use Rattle.std.proofs.Common.{◌≡◌, ℕ, zero, suc, ◌+◌, ◌-◌, ◌<◌, ◌≤◌, List, [], ◌∷◌, ◌++◌, length, map, take, flat_map, sym, ap, ◌∙◌, subst, arith, append_assoc, append-nil}
+use Rattle.std.proofs.Common.{◌≡◌, ℕ, ◌+◌, ◌-◌, ◌<◌, ◌≤◌, List, [], ◌∷◌, ◌++◌, length, map, take, flat_map, sym, ap, ◌∙◌, subst, arith, append_assoc, append-nil}
 use Rattle.std.specs.Prelude.{Result, Ok, Err, OnOk, Some, slice_get}
 use Rattle.std.specs.List.{AllByRecursion, range_with_len}
 use Rattle.std.proofs.lemmas.Grind.{flat_map-append}
 use Rattle.std.proofs.lemmas.List.{map-append, take_more}
+use Rattle.std.proofs.lemmas.List.FromFn.{map-range_with_len_more}
 use Rattle.std.proofs.lemmas.Option.{get_or_from_slice_get}
 use Rattle.si_lists.proofs.Lists.{all_append}
-
--- one number more
-range_next : {X : Type 0} (f : ℕ → X) (a n j : ℕ) → a + n ≡ j → map f (range_with_len a (n + 1)) ≡ map f (range_with_len a n) ++ f j ∷ []
-range_next f a zero j e = ap (λ (m : ℕ). f m ∷ []) (let s : a ≡ j = omega arith in s)
-range_next f a (suc n) j e =
-    ap (λ (m : ℕ). map f (range_with_len a m)) (let s : suc n + 1 ≡ suc (n + 1) = omega arith in s) ∙ ap (λ l. f a ∷ l) (range_next f (a + 1) n j (omega arith))
 
 pub range_more : {X : Type 0} (f : ℕ → X) (from n : ℕ) (x : X) (first list new : List X) → from ≤ n → list ≡ first ++ map f (range_with_len from (n - from)) → new ≡ list ++ x ∷ [] → x ≡ f n
     → new ≡ first ++ map f (range_with_len from (n + 1 - from))
 range_more f from n x first list new le so_far is here =
     is ∙ ap (λ l. l ++ x ∷ []) so_far ∙ append_assoc first (map f (range_with_len from (n - from))) (x ∷ [])
-    ∙ ap (λ l. first ++ l) (ap (λ y. map f (range_with_len from (n - from)) ++ y ∷ []) here ∙ sym (range_next f from (n - from) n (omega (arith, le))))
+    ∙ ap (λ l. first ++ l) (ap (λ y. map f (range_with_len from (n - from)) ++ y ∷ []) here ∙ sym (map-range_with_len_more f from (n - from) n (omega (arith, le))))
     ∙ ap (λ k. first ++ map f (range_with_len from k)) (let s : n - from + 1 ≡ n + 1 - from = omega (arith, le) in s)
 
 -- one element more

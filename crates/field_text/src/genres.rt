@@ -2,8 +2,8 @@
 ghost use Rattle.std.specs.Prelude.{◌≡◌, ◌++◌, OnOk};
 ghost use Rattle.field_text.specs.Genres.{genre_text, genres_text};
 
-use crate::number::put_number;
 use guide_model::Genre;
+use si_base::put_number;
 use std::alloc::{AllocError, Global};
 
 // Appends a genre: its two levels and its user byte, with points between.

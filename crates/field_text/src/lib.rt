@@ -1,11 +1,9 @@
-//! Texts of fields that stand both in a journal and in a printed guide: numbers and genres.
+//! Texts of fields that stand both in a journal and in a printed guide: genres.
 //!
 //! The layers above use one fact of each call: what it appends is the text that the definitions say. After want of memory a part of it
 //! may have been appended.
 #![tactic(auto)]
 
 mod genres;
-mod number;
 
 pub use genres::put_genres;
-pub use number::put_number;

@@ -10,7 +10,7 @@ use Rattle.si_lists.proofs.Outcomes.{mapped}
 use Rattle.si_base.specs.Fields.{two}
 use Rattle.desc_parts.specs.declared.descriptors.RawDesc.{RawDesc}
 use Rattle.desc_parts.specs.Descriptors.{descriptor_bytes, AreDescriptors}
-use Rattle.table_entries.specs.Entries.{Entry, entry_bytes, FitsEntry, AreReadAs, AreEntries}
+use Rattle.table_entries.specs.Entries.{TableEntry, entry_bytes, FitsEntry, AreReadAs, AreEntries}
 use Rattle.table_entries.specs.Loops.{are_descriptors, loop_length, entry_length, loop_of, behind_entry, begins_with_entry}
 use Rattle.table_entries.specs.Loops.{are_entries_within, are_entries}
 use Rattle.table_entries.proofs.Reading.{Reads}
@@ -111,7 +111,7 @@ front size told fields ds rest bytes its small tells whole =
           ));
     }
 
-pub front_of : (size : ℕ) (e : Entry) (rest : List ℕ) → FitsEntry size e → Front size (entry_bytes e ++ rest) e.fields e.descriptors rest
+pub front_of : (size : ℕ) (e : TableEntry) (rest : List ℕ) → FitsEntry size e → Front size (entry_bytes e ++ rest) e.fields e.descriptors rest
 front_of size e rest fits =
     front size (4096 * e.bits + length e.descriptors) e.fields e.descriptors rest (entry_bytes e ++ rest) fits.fields (omega
     (arith, fits.bits, fits.descriptors)) (omega (arith, fits.descriptors)) refl
@@ -128,12 +128,12 @@ entry_said size says bytes fields ds rest descs at are =
 -- ---- entries
 
 -- an entry says this value
-pub record IsSaid {X : Type 0} (says : Says X) (e : Entry) (value : X) : Type 0 where
+pub record IsSaid {X : Type 0} (says : Says X) (e : TableEntry) (value : X) : Type 0 where
   pub descs : List RawDesc
   pub loop : AreDescriptors e.descriptors descs
   pub says_it : says e.fields descs ≡ Some value
 
-abbrev pub AreSaid : {X : Type 0} → Says X → List Entry → List X → Type 0
+abbrev pub AreSaid : {X : Type 0} → Says X → List TableEntry → List X → Type 0
 AreSaid says [] [] = Unit {0}
 AreSaid says [] (v ∷ values) = ⊥
 AreSaid says (e ∷ entries) [] = ⊥
@@ -146,7 +146,7 @@ first_said : {X : Type 0} (size : ℕ) (says : Says X) (n : ℕ) (bytes : List �
 first_said size says n [] some = absurd (omega arith)
 first_said size says n (b ∷ bytes) some = refl
 
-pub entries_said : {X : Type 0} (size : ℕ) (says : Says X) (n : ℕ) (es : List Entry) (values : List X) → AllByRecursion (FitsEntry size) es
+pub entries_said : {X : Type 0} (size : ℕ) (says : Says X) (n : ℕ) (es : List TableEntry) (values : List X) → AllByRecursion (FitsEntry size) es
     → AreSaid says es values → length (flat_map entry_bytes es) ≤ n → entries_within size says n (flat_map entry_bytes es) ≡ Some values
 entries_said size says n [] [] fits are le = refl
 entries_said size says n [] (v ∷ values) fits are le = absurd are
@@ -164,7 +164,7 @@ entries_said {X} size says (suc n) (e ∷ es) (v ∷ values) fits are le =
 -- what is read as values says them
 are_said : {X : Type 0} (value_of : Reads X) (says : Says X)
     → ((fields : List ℕ) (bits : ℕ) (descs : List RawDesc) → says fields descs ≡ Some (value_of fields bits descs))
-    → (es : List Entry) (values : List X) → AreReadAs value_of es values → AreSaid says es values
+    → (es : List TableEntry) (values : List X) → AreReadAs value_of es values → AreSaid says es values
 are_said value_of says same [] [] read = tt
 are_said value_of says same [] (v ∷ values) read = absurd read
 are_said value_of says same (e ∷ es) [] read = absurd read

@@ -12,7 +12,7 @@ use Rattle.si_text.specs.declared.shown.Shown.{Shown}
 use Rattle.guide_model.specs.declared.stream.Component.{Component}
 use Rattle.guide_model.specs.declared.screen.ScreenEvent.{ScreenEvent}
 use Rattle.desc_parts.specs.declared.descriptors.RawDesc.{RawDesc}
-use Rattle.table_entries.specs.Entries.{Entry, entry_bytes, FitsEntry}
+use Rattle.table_entries.specs.Entries.{TableEntry, entry_bytes, FitsEntry}
 use Rattle.table_entries.specs.Loops.{are_descriptors, loop_length, loop_of, entry_length, behind_entry, are_entries, AreBytes}
 use Rattle.pat_pmt.specs.declared.pmt.Pmt.{Pmt}
 use Rattle.pat_pmt.specs.Pmt.{component_of, IsPmt}
@@ -123,28 +123,28 @@ sdt_read body sdt all e = as_said (IsSdt body) (sdt_in body) (sdt_said body) (sd
 -- ---- an event information section
 
 -- an entry of an event, whose fields are its id, its start and its duration
-abbrev as_entry : eit.Entry → Entry
+abbrev as_entry : eit.EventEntry → TableEntry
 as_entry e = record { fields = two e.id ++ e.time ++ e.duration; bits = e.flags; descriptors = e.descriptors }
 
-as_fits : (e : eit.Entry) → eit.FitsEntry e → FitsEntry 10 (as_entry e)
+as_fits : (e : eit.EventEntry) → eit.FitsEntry e → FitsEntry 10 (as_entry e)
 as_fits e fits = record {
   fields = omega (arith, length-append (two e.id ++ e.time) e.duration, length-append (two e.id) e.time, fits.time, fits.duration);
   bits = fits.flags;
   descriptors = fits.descriptors;
 }
 
-time_back : (e : eit.Entry) → eit.FitsEntry e → looks.time_of (as_entry e).fields ≡ e.time
+time_back : (e : eit.EventEntry) → eit.FitsEntry e → looks.time_of (as_entry e).fields ≡ e.time
 time_back e fits =
     let t = five_of e.time fits.time in
     ap (λ (time : List ℕ). looks.time_of (two e.id ++ time ++ e.duration)) t.5 ∙ sym t.5
 
-duration_back : (e : eit.Entry) → eit.FitsEntry e → looks.duration_of (as_entry e).fields ≡ e.duration
+duration_back : (e : eit.EventEntry) → eit.FitsEntry e → looks.duration_of (as_entry e).fields ≡ e.duration
 duration_back e fits =
     let t = five_of e.time fits.time in
     let d = three_of e.duration fits.duration in
     ap₂ (λ (time duration : List ℕ). looks.duration_of (two e.id ++ time ++ duration)) t.5 d.3 ∙ sym d.3
 
-event_said : (e : eit.Entry) (event : ScreenEvent) → IsEvent e event → IsSaid event_in (as_entry e) event
+event_said : (e : eit.EventEntry) (event : ScreenEvent) → IsEvent e event → IsSaid event_in (as_entry e) event
 event_said e event is = record {
   descs = is.descs;
   loop = is.loop;
@@ -155,18 +155,18 @@ event_said e event is = record {
       ∙ ap (λ x. Some x) (sym is.shows);
 }
 
-events_said : (es : List eit.Entry) (events : List ScreenEvent) → AreEvents es events → AreSaid event_in (map as_entry es) events
+events_said : (es : List eit.EventEntry) (events : List ScreenEvent) → AreEvents es events → AreSaid event_in (map as_entry es) events
 events_said [] [] are = tt
 events_said [] (v ∷ events) are = absurd are
 events_said (e ∷ es) [] are = absurd are
 events_said (e ∷ es) (v ∷ events) are = (event_said e v are.0, events_said es events are.1)
 
-events_fit : (es : List eit.Entry) (events : List ScreenEvent) → AreEvents es events → AllByRecursion (FitsEntry 10) (map as_entry es)
+events_fit : (es : List eit.EventEntry) (events : List ScreenEvent) → AreEvents es events → AllByRecursion (FitsEntry 10) (map as_entry es)
 events_fit [] events are = tt
 events_fit (e ∷ es) [] are = absurd are
 events_fit (e ∷ es) (v ∷ events) are = (as_fits e are.0.fits, events_fit es events are.1)
 
-events_whole : (es : List eit.Entry) → flat_map eit.entry_bytes es ≡ flat_map entry_bytes (map as_entry es)
+events_whole : (es : List eit.EventEntry) → flat_map eit.entry_bytes es ≡ flat_map entry_bytes (map as_entry es)
 events_whole [] = refl
 events_whole (e ∷ es) = ap (λ (l : List ℕ). eit.entry_bytes e ++ l) (events_whole es)
 

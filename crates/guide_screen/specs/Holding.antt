@@ -16,14 +16,14 @@ abbrev pub content_in : List Counted → Key → Option Content
 content_in past k = option_map (λ (d : Completed). d.sections) (latest_of k past)
 
 -- A collector keeps these contents.
-pub record Keeps (collector : KeysHeard) (content : Key → Option Content) : Type 0 where
+pub record KeepsContents (collector : KeysHeard) (content : Key → Option Content) : Type 0 where
   pub past : List Counted
   pub stands : CollectorStandsFor past collector
   pub each : (k : Key) → content k ≡ content_in past k
 
 -- A collector and what was completed last are what a view has.
 pub record Holds (collector : KeysHeard) (latest : Latest) (V : View) : Type 0 where
-  pub keeps : Keeps collector V.content
+  pub keeps : KeepsContents collector V.content
   pub pat : V.pat ≡ latest.pat
   pub nit : V.nit ≡ latest.nit
   pub sdt : sdt_of V ≡ latest.sdt

@@ -9,7 +9,7 @@ use Rattle.nit_sdt.specs.declared.sdt.SdtService.{SdtService}
 use Rattle.guide_screen.specs.declared.need.Need.{Need}
 use Rattle.guide_screen.specs.declared.need.Need.TheVariants.{Pat, Nit, Sdt, Clock, Pmt, Present, Schedule}
 use Rattle.guide_screen.specs.View.{View, sections_at, sdt_of, pmt_key, eit_key, table_at}
-use Rattle.guide_screen.specs.Reading.{programs_in, services_in, told}
+use Rattle.guide_screen.specs.Reading.{programs_in, services_in, value_in}
 
 -- ---- programs and services
 
@@ -41,7 +41,7 @@ last_beside None = 0
 last_beside (Some told) = min 0x5F told.1
 
 abbrev pub last_table : Content → ℕ
-last_table c = last_beside (told eit_numbers_in 0 c)
+last_table c = last_beside (value_in eit_numbers_in 0 c)
 
 -- the tables from a first one to a last one
 abbrev pub tables_to : ℕ → ℕ → List ℕ

@@ -150,8 +150,8 @@ abbrev pub events_in : Content → List ScreenEvent
 events_in c = listed (λ body. option_map (λ eit. eit.events) (eit_in body)) c
 
 -- what the body of the section with this number says
-abbrev pub told : {X : Type 0} → (List ℕ → Option X) → ℕ → Content → Option X
-told says number c = option_and_then says (part_in number c)
+abbrev pub value_in : {X : Type 0} → (List ℕ → Option X) → ℕ → Content → Option X
+value_in says number c = option_and_then says (part_in number c)
 
 -- ---- laws
 

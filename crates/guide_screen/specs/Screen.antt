@@ -19,7 +19,7 @@ use Rattle.guide_screen.specs.declared.need.Need.{Need}
 use Rattle.guide_screen.specs.declared.need.Heard.{Heard}
 use Rattle.guide_screen.specs.declared.need.Heard.TheVariants.{Whole, Wanting}
 use Rattle.guide_screen.specs.View.{View, sections, sdt_of, pmt_key, table_at}
-use Rattle.guide_screen.specs.Reading.{pmt_in, nit_in, eit_in, streams_in, events_in, told}
+use Rattle.guide_screen.specs.Reading.{pmt_in, nit_in, eit_in, streams_in, events_in, value_in}
 use Rattle.guide_screen.specs.Needs.{programs_of, services_of, last_table, tables_to, needs}
 
 -- ---- a service
@@ -34,7 +34,7 @@ pmt_pid es service = if service == 0 then None else pid_in service es
 
 -- the PMT of a service on this PID, by its section 0
 abbrev pub pmt_at : (Key → Option Content) → ℕ → ℕ → Option Pmt
-pmt_at content service pid = told pmt_in 0 (sections (content (pmt_key pid service)))
+pmt_at content service pid = value_in pmt_in 0 (sections (content (pmt_key pid service)))
 
 abbrev pub pmt_of : (Key → Option Content) → ℕ → Option ℕ → Option Pmt
 pmt_of content service pid = option_and_then (pmt_at content service) pid
@@ -45,7 +45,7 @@ first_of [] = None
 first_of (e ∷ es) = Some e
 
 abbrev pub event_at : ℕ → Content → Option ScreenEvent
-event_at number c = option_and_then (λ (eit : Eit). first_of eit.events) (told eit_in number c)
+event_at number c = option_and_then (λ (eit : Eit). first_of eit.events) (value_in eit_in number c)
 
 -- the events of a table
 abbrev pub events_at : (Key → Option Content) → Key → ℕ → ℕ → List ScreenEvent
@@ -81,7 +81,7 @@ screen_service content es sdt s = service_on content sdt s (pmt_pid es s.service
 
 -- the name of the network, by section 0 of the NIT
 abbrev pub network_name : Content → Shown
-network_name c = unwrap_or (option_map (λ nit. nit.name) (told nit_in 0 c)) (Text [])
+network_name c = unwrap_or (option_map (λ nit. nit.name) (value_in nit_in 0 c)) (Text [])
 
 -- the cable of the first entry of this stream and network
 abbrev pub cable_in : ℕ → ℕ → List NitStream → Option Cable

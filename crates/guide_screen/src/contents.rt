@@ -3,7 +3,7 @@ ghost use Rattle.std.specs.Prelude.{◌≡◌, ℕ, Option, is_some};
 ghost use Rattle.section_codec.specs.declared.table.Key.{Key};
 ghost use Rattle.section_codec.specs.Contents.{Content};
 ghost use Rattle.guide_screen.specs.View.{sections, sections_at, pmt_key, eit_key};
-ghost use Rattle.guide_screen.specs.Holding.{Keeps};
+ghost use Rattle.guide_screen.specs.Holding.{KeepsContents};
 
 use section_codec::{Key, NumberedBody};
 use si_time::Moment;
@@ -21,7 +21,7 @@ pub struct Latest {
 
 // Whether a key was completed.
 pub(crate) fn is_completed(contents: &Collector, key: Key) -> bool
-    ensures { (content : Key → Option Content) → Keeps contents.now content
+    ensures { (content : Key → Option Content) → KeepsContents contents.now content
         → result ≡ is_some (content key) }
 {
     contents.latest(key).is_some()
@@ -29,7 +29,7 @@ pub(crate) fn is_completed(contents: &Collector, key: Key) -> bool
 
 // The sections of a key; none where it was not completed.
 pub(crate) fn sections_of(contents: &Collector, key: Key) -> &[NumberedBody]
-    ensures { (content : Key → Option Content) → Keeps contents.now content
+    ensures { (content : Key → Option Content) → KeepsContents contents.now content
         → result.now ≡ sections (content key) }
 {
     match contents.latest(key) {
@@ -40,7 +40,7 @@ pub(crate) fn sections_of(contents: &Collector, key: Key) -> &[NumberedBody]
 
 // The sections of a key, where there is one.
 pub(crate) fn sections_at(contents: &Collector, key: Option<Key>) -> &[NumberedBody]
-    ensures { (content : Key → Option Content) → Keeps contents.now content
+    ensures { (content : Key → Option Content) → KeepsContents contents.now content
         → result.now ≡ sections_at content key }
 {
     match key {

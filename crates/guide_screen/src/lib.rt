@@ -10,6 +10,7 @@
 #![tactic(auto)]
 
 mod bodies;
+mod content_values;
 mod contents;
 mod heard;
 mod laws;
@@ -17,7 +18,6 @@ mod need;
 mod needs;
 mod screen;
 mod services;
-mod told;
 
 pub use contents::Latest;
 pub use heard::heard_guide;

@@ -2,14 +2,14 @@
 ghost use Rattle.std.specs.Prelude.{◌≡◌, ◌++◌, ◌∷◌, [], Option, map, flat_map, IfOk, OnOk};
 ghost use Rattle.section_codec.specs.declared.table.Key.{Key};
 ghost use Rattle.section_codec.specs.Contents.{Content};
-ghost use Rattle.guide_screen.specs.Holding.{Holds, Keeps};
+ghost use Rattle.guide_screen.specs.Holding.{Holds, KeepsContents};
 ghost use Rattle.guide_screen.specs.View.{View};
 ghost use Rattle.guide_screen.specs.Needs.{programs_of, services_of, needs, unless, unmet_of, tables_to};
 ghost use Rattle.guide_screen.specs.Needs.{want_pmt, want_present, want_schedule, want_service, want_services, want_table};
 
+use crate::content_values::last_table;
 use crate::contents::{Latest, eit_key, is_completed, pmt_key, sections_of};
 use crate::need::Need;
-use crate::told::last_table;
 use nit_sdt::SdtService;
 use pat_pmt::PatEntry;
 use section_codec::Key;
@@ -39,7 +39,7 @@ pub(crate) fn tables_to(alloc: Global, first: u8, last: u8) -> Result<Vec<u8>, A
 
 // Appends the need of a program's PMT.
 fn put_pmt(contents: &Collector, entry: &PatEntry, needs: &mut Vec<Need>) -> Result<(), AllocError>
-    ensures { (content : Key → Option Content) → Keeps contents.now content
+    ensures { (content : Key → Option Content) → KeepsContents contents.now content
         → OnOk result (needs.new.items ≡ needs.old.items ++ unmet_of content (want_pmt entry.now)) }
 {
     if entry.program == 0 {
@@ -57,7 +57,7 @@ fn put_table(
     table: u8,
     needs: &mut Vec<Need>,
 ) -> Result<(), AllocError>
-    ensures { (content : Key → Option Content) → Keeps contents.now content
+    ensures { (content : Key → Option Content) → KeepsContents contents.now content
         → OnOk result (needs.new.items ≡ needs.old.items ++ unmet_of content (want_table sdt service table ∷ [])) }
 {
     let met = is_completed(contents, eit_key(sdt, table, service));
@@ -71,7 +71,7 @@ fn put_present(
     service: &SdtService,
     needs: &mut Vec<Need>,
 ) -> Result<(), AllocError>
-    ensures { (content : Key → Option Content) → Keeps contents.now content
+    ensures { (content : Key → Option Content) → KeepsContents contents.now content
         → OnOk result (needs.new.items ≡ needs.old.items ++ unmet_of content (want_present sdt service.now)) }
 {
     if !service.present {
@@ -89,7 +89,7 @@ fn put_schedule(
     service: &SdtService,
     needs: &mut Vec<Need>,
 ) -> Result<(), AllocError>
-    ensures { (content : Key → Option Content) → Keeps contents.now content
+    ensures { (content : Key → Option Content) → KeepsContents contents.now content
         → OnOk result (needs.new.items ≡ needs.old.items ++ unmet_of content (want_schedule content sdt service.now)) }
 {
     if !service.schedule {
@@ -109,7 +109,7 @@ fn put_tables(
     tables: &[u8],
     needs: &mut Vec<Need>,
 ) -> Result<(), AllocError>
-    ensures { (content : Key → Option Content) → Keeps contents.now content
+    ensures { (content : Key → Option Content) → KeepsContents contents.now content
         → OnOk result (needs.new.items ≡ needs.old.items ++ unmet_of content (map (want_table sdt service) tables.now)) }
 {
     for table in tables {
@@ -124,7 +124,7 @@ fn put_pmts(
     programs: &[PatEntry],
     needs: &mut Vec<Need>,
 ) -> Result<(), AllocError>
-    ensures { (content : Key → Option Content) → Keeps contents.now content
+    ensures { (content : Key → Option Content) → KeepsContents contents.now content
         → OnOk result (needs.new.items ≡ needs.old.items ++ unmet_of content (flat_map want_pmt programs.now)) }
 {
     for entry in programs {
@@ -141,7 +141,7 @@ fn put_service(
     service: &SdtService,
     needs: &mut Vec<Need>,
 ) -> Result<(), AllocError>
-    ensures { (content : Key → Option Content) → Keeps contents.now content
+    ensures { (content : Key → Option Content) → KeepsContents contents.now content
         → OnOk result (needs.new.items ≡ needs.old.items ++ unmet_of content (want_service content sdt service.now)) }
 {
     put_present(contents, sdt, service, needs)?;
@@ -156,7 +156,7 @@ fn put_services(
     services: &[SdtService],
     needs: &mut Vec<Need>,
 ) -> Result<(), AllocError>
-    ensures { (content : Key → Option Content) → Keeps contents.now content
+    ensures { (content : Key → Option Content) → KeepsContents contents.now content
         → OnOk result (needs.new.items ≡ needs.old.items ++ unmet_of content (want_services content sdt services.now)) }
 {
     let Some(sdt) = sdt else {

@@ -6,13 +6,13 @@ ghost use Rattle.section_codec.specs.declared.table.Key.{Key};
 ghost use Rattle.section_codec.specs.Contents.{Content};
 ghost use Rattle.pat_pmt.specs.declared.pat.PatEntry.{PatEntry};
 ghost use Rattle.guide_screen.specs.View.{View};
-ghost use Rattle.guide_screen.specs.Holding.{Keeps};
+ghost use Rattle.guide_screen.specs.Holding.{KeepsContents};
 ghost use Rattle.guide_screen.specs.Needs.{programs_of, services_of};
 ghost use Rattle.guide_screen.specs.Screen.{pid_in, pmt_pid, pmt_of, events_at, schedule_of, service_on, screen_service, cable_in, screen};
 
+use crate::content_values::{event_at, last_table, network_name, pmt_told, put_events, streams_in};
 use crate::contents::{eit_key, pmt_key, sections_of};
 use crate::needs::tables_to;
-use crate::told::{event_at, last_table, network_name, pmt_told, put_events, streams_in};
 use guide_model::{
     Cable, Components, Screen, ScreenEvent, ScreenEvents, ScreenService, ScreenServices,
 };
@@ -57,7 +57,7 @@ fn pmt_of(
     service: u16,
     pid: Option<u16>,
 ) -> Result<Option<Pmt>, AllocError>
-    ensures { (content : Key → Option Content) → Keeps contents.now content
+    ensures { (content : Key → Option Content) → KeepsContents contents.now content
         → IfOk result (λ pmt. pmt ≡ pmt_of content service pid) }
 {
     match pid {
@@ -85,7 +85,7 @@ fn schedule_of(
     sdt: Key,
     service: u16,
 ) -> Result<ScreenEvents, AllocError>
-    ensures { (content : Key → Option Content) → Keeps contents.now content
+    ensures { (content : Key → Option Content) → KeepsContents contents.now content
         → IfOk result (λ events. events ≡ schedule_of content sdt service) }
 {
     let first = sections_of(contents, eit_key(sdt, 0x50, service));
@@ -104,7 +104,7 @@ fn put_tables(
     tables: &[u8],
     events: &mut Vec<ScreenEvent>,
 ) -> Result<(), AllocError>
-    ensures { (content : Key → Option Content) → Keeps contents.now content
+    ensures { (content : Key → Option Content) → KeepsContents contents.now content
         → OnOk result (events.new.items ≡ events.old.items ++ flat_map (events_at content sdt service) tables.now) }
 {
     for table in tables {
@@ -122,7 +122,7 @@ fn service_on(
     service: SdtService,
     pid: Option<u16>,
 ) -> Result<ScreenService, AllocError>
-    ensures { (content : Key → Option Content) → Keeps contents.now content
+    ensures { (content : Key → Option Content) → KeepsContents contents.now content
         → IfOk result (λ shown. shown ≡ service_on content sdt service pid) }
 {
     let id = service.service;
@@ -164,7 +164,7 @@ fn screen_services(
     sdt: Key,
     services: Vec<SdtService>,
 ) -> Result<ScreenServices, AllocError>
-    ensures { (content : Key → Option Content) → Keeps contents.now content
+    ensures { (content : Key → Option Content) → KeepsContents contents.now content
         → IfOk result (λ shown. shown ≡ map (screen_service content programs.now sdt) services.items) }
 {
     let pids = pids_of(alloc, programs)?;
@@ -193,7 +193,7 @@ pub(crate) fn screen_of(
     programs: &[PatEntry],
     services: Vec<SdtService>,
 ) -> Result<Screen, AllocError>
-    ensures { (V : View) → Keeps contents.now V.content
+    ensures { (V : View) → KeepsContents contents.now V.content
         → programs.now ≡ programs_of V → services.items ≡ services_of V
         → IfOk result (λ shown. shown ≡ screen V of.pat of.nit of.sdt of.clock.0) }
 {

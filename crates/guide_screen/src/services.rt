@@ -7,10 +7,10 @@ ghost use Rattle.section_codec.specs.Contents.{Content};
 ghost use Rattle.guide_screen.specs.View.{sections_at};
 ghost use Rattle.guide_screen.specs.Reading.{programs_in, services_in};
 ghost use Rattle.guide_screen.specs.Needs.{by_service};
-ghost use Rattle.guide_screen.specs.Holding.{Keeps};
+ghost use Rattle.guide_screen.specs.Holding.{KeepsContents};
 
+use crate::content_values::{programs_in, services_in};
 use crate::contents::sections_at;
-use crate::told::{programs_in, services_in};
 use nit_sdt::SdtService;
 use pat_pmt::PatEntry;
 use section_codec::Key;
@@ -24,7 +24,7 @@ pub(crate) fn programs_of(
     contents: &Collector,
     pat: Option<Key>,
 ) -> Result<Vec<PatEntry>, AllocError>
-    ensures { (content : Key → Option Content) → Keeps contents.now content
+    ensures { (content : Key → Option Content) → KeepsContents contents.now content
         → IfOk result (λ programs. programs.items ≡ programs_in (sections_at content pat)) }
 {
     programs_in(alloc, sections_at(contents, pat))
@@ -36,7 +36,7 @@ pub(crate) fn services_of(
     contents: &Collector,
     sdt: Option<Key>,
 ) -> Result<Vec<SdtService>, AllocError>
-    ensures { (content : Key → Option Content) → Keeps contents.now content
+    ensures { (content : Key → Option Content) → KeepsContents contents.now content
         → IfOk result (λ services. services.items ≡ by_service (services_in (sections_at content sdt))) }
 {
     by_service(alloc, services_in(alloc, sections_at(contents, sdt))?)

@@ -5,8 +5,8 @@ ghost use Rattle.std.specs.List.{list_all};
 ghost use Rattle.field_text.specs.Genres.{genres_text};
 ghost use Rattle.guide_text.specs.Fields.{hex_text, shown_text, code_text, moment_field, duration_field, optional};
 
-use field_text::put_number;
 use guide_model::Genre;
+use si_base::put_number;
 use si_text::Shown;
 use si_time::{Moment, write_duration, write_moment};
 use std::alloc::{AllocError, Global};

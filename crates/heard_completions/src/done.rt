@@ -4,7 +4,7 @@ ghost use Rattle.heard_completions.specs.Dones.{at_packet};
 ghost use Rattle.heard_completions.specs.Texts.{field_text, done_line};
 
 use section_codec::Key;
-use si_base::Items;
+use si_base::{Items, put_number};
 use std::alloc::{AllocError, Global};
 
 /// A completion that is shown: the key of the sub-table, and the version_number that was heard whole.
@@ -21,9 +21,8 @@ pub type Dones = Items<DoneKey>;
 fn put_field(alloc: Global, out: &mut Vec<u8>, n: u64) -> Result<(), AllocError>
     ensures { OnOk result (out.new.items ≡ out.old.items ++ field_text n) }
 {
-    let text = n.to_string(alloc)?;
     out.extend_from_slice(b"\t")?;
-    out.extend_from_slice(text.as_bytes())
+    put_number(alloc, out, n)
 }
 
 // Appends these numbers, each behind a tab.

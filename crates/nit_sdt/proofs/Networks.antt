@@ -16,7 +16,7 @@ use Rattle.desc_service.specs.CableDelivery.{cable_body, cable_delivery_system, 
 use Rattle.desc_service.specs.NetworkName.{network_name}
 use Rattle.desc_service.specs.ServiceList.{service_list, service_list_body}
 use Rattle.desc_service.proofs.Entries.{length-service_list_body, service_list-reads_back}
-use Rattle.table_entries.specs.Entries.{Entry, entry_bytes, FitsEntry, IsReadAs, AreReadAs, AreEntries}
+use Rattle.table_entries.specs.Entries.{TableEntry, entry_bytes, FitsEntry, IsReadAs, AreReadAs, AreEntries}
 use Rattle.table_entries.proofs.Same.{same_two, same_entry}
 use Rattle.table_entries.proofs.Reading.{entries-unique}
 use Rattle.nit_sdt.proofs.Words.{word_back}
@@ -52,19 +52,19 @@ loop-unique bytes a b p q =
 
 -- ---- a body of no value
 
-pub no_network_descriptors : (body behind : List ℕ) (network : Entry) (nit : Nit) → body ≡ entry_bytes network ++ behind → FitsEntry 0 network
+pub no_network_descriptors : (body behind : List ℕ) (network : TableEntry) (nit : Nit) → body ≡ entry_bytes network ++ behind → FitsEntry 0 network
     → ((descs : List RawDesc) → AreDescriptors network.descriptors descs → ⊥) → IsNit body nit → ⊥
 no_network_descriptors body behind network nit e fits none p =
     let same = same_entry 0 p.network network p.behind behind p.fits fits (sym p.whole ∙ e) in
-    none p.descs (subst (λ (x : Entry). AreDescriptors x.descriptors p.descs) same.0 p.network_descriptors)
+    none p.descs (subst (λ (x : TableEntry). AreDescriptors x.descriptors p.descs) same.0 p.network_descriptors)
 
-pub no_stream_loop : (body behind : List ℕ) (network : Entry) (nit : Nit) → body ≡ entry_bytes network ++ behind → FitsEntry 0 network
+pub no_stream_loop : (body behind : List ℕ) (network : TableEntry) (nit : Nit) → body ≡ entry_bytes network ++ behind → FitsEntry 0 network
     → ((loop : List ℕ) → IsLoop behind loop → ⊥) → IsNit body nit → ⊥
 no_stream_loop body behind network nit e fits none p =
     let same = same_entry 0 p.network network p.behind behind p.fits fits (sym p.whole ∙ e) in
     none p.loop (subst (λ (bytes : List ℕ). IsLoop bytes p.loop) same.1 p.stream_loop)
 
-pub no_streams : (body behind loop : List ℕ) (network : Entry) (nit : Nit) → body ≡ entry_bytes network ++ behind → FitsEntry 0 network → IsLoop behind loop
+pub no_streams : (body behind loop : List ℕ) (network : TableEntry) (nit : Nit) → body ≡ entry_bytes network ++ behind → FitsEntry 0 network → IsLoop behind loop
     → ((streams : List NitStream) → AreEntries 4 stream_of loop streams → ⊥) → IsNit body nit → ⊥
 no_streams body behind loop network nit e fits is none p =
     let same = same_entry 0 p.network network p.behind behind p.fits fits (sym p.whole ∙ e) in
@@ -79,7 +79,7 @@ same_nit a b n s = ap (λ (x : Shown). record { name = x; streams = a.streams })
 pub nit-unique : NitIsUnique
 nit-unique body a b p q =
     let same = same_entry 0 p.network q.network p.behind q.behind p.fits q.fits (sym p.whole ∙ q.whole) in
-    let info = subst (λ (x : Entry). AreDescriptors x.descriptors p.descs) same.0 p.network_descriptors in
+    let info = subst (λ (x : TableEntry). AreDescriptors x.descriptors p.descs) same.0 p.network_descriptors in
     let names : a.name ≡ b.name = p.name ∙ ap name_of (descriptors-unique q.network.descriptors p.descs q.descs info q.network_descriptors) ∙ sym q.name in
     let loops = loop-unique q.behind p.loop q.loop (subst (λ (bytes : List ℕ). IsLoop bytes p.loop) same.1 p.stream_loop) q.stream_loop in
     let streams : a.streams ≡ b.streams =
@@ -117,7 +117,7 @@ same_stream : (s t o p : ℕ) (c d : Option Cable) (ks ls : List ServiceKind) �
     → (let a : NitStream = record { stream = s; original = o; cable = c; services = ks } in let b : NitStream = record { stream = t; original = p; cable = d; services = ls } in a ≡ b)
 same_stream s t o p c d ks ls e f g h = λ i. record { stream = e i; original = f i; cable = g i; services = h i }
 
-abbrev entry_with : ℕ → ℕ → Option Cable → List ServiceKind → Entry
+abbrev entry_with : ℕ → ℕ → Option Cable → List ServiceKind → TableEntry
 entry_with s o c ks = record { fields = two s ++ two o; bits = 15; descriptors = cable_descriptors c ++ service_list ks }
 
 abbrev list_desc : List ServiceKind → RawDesc

@@ -13,7 +13,7 @@ use Rattle.desc_service.specs.declared.service_list.ServiceKind.{ServiceKind}
 use Rattle.desc_service.specs.CableDelivery.{cable_delivery_system, cable_in, FitsCable}
 use Rattle.desc_service.specs.NetworkName.{network_name, network_name_in}
 use Rattle.desc_service.specs.ServiceList.{service_list, service_list_in}
-use Rattle.table_entries.specs.Entries.{Entry, entry_bytes, FitsEntry, AreEntries}
+use Rattle.table_entries.specs.Entries.{TableEntry, entry_bytes, FitsEntry, AreEntries}
 use Rattle.table_entries.specs.First.{first_in}
 use Rattle.nit_sdt.specs.declared.nit.NitStream.{NitStream}
 use Rattle.nit_sdt.specs.declared.nit.Nit.{Nit}
@@ -26,14 +26,14 @@ cable_descriptors None = []
 cable_descriptors (Some cable) = cable_delivery_system cable
 
 -- transport_stream_id 16, original_network_id 16, reserved 4, all 1; its cable where it has one, and its services
-abbrev pub stream_entry : NitStream → Entry
+abbrev pub stream_entry : NitStream → TableEntry
 stream_entry s = record { fields = two s.stream ++ two s.original; bits = 15; descriptors = cable_descriptors s.cable ++ service_list s.services }
 
 abbrev pub stream_bytes : NitStream → List ℕ
 stream_bytes s = entry_bytes (stream_entry s)
 
 -- reserved 4, all 1, and bytes behind their length of 12 bits
-abbrev pub bare_entry : List ℕ → Entry
+abbrev pub bare_entry : List ℕ → TableEntry
 bare_entry bytes = record { fields = []; bits = 15; descriptors = bytes }
 
 -- the name behind network_descriptors_length, and the streams behind transport_stream_loop_length
@@ -80,7 +80,7 @@ pub record IsLoop (bytes loop : List ℕ) : Type 0 where
 
 -- The body is just an entry of the network and a loop of entries of these streams.
 pub record IsNit (body : List ℕ) (nit : Nit) : Type 0 where
-  pub network : Entry
+  pub network : TableEntry
   pub behind : List ℕ
   pub whole : body ≡ entry_bytes network ++ behind
   pub fits : FitsEntry 0 network

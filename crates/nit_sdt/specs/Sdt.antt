@@ -8,7 +8,7 @@ use Rattle.si_text.specs.declared.shown.Shown.TheVariants.{Text}
 use Rattle.desc_parts.specs.declared.descriptors.RawDesc.{RawDesc}
 use Rattle.desc_service.specs.declared.service.ServiceText.{ServiceText}
 use Rattle.desc_service.specs.Service.{service_descriptor, service_in, HasShownNames}
-use Rattle.table_entries.specs.Entries.{Entry, entry_bytes, AreEntries}
+use Rattle.table_entries.specs.Entries.{TableEntry, entry_bytes, AreEntries}
 use Rattle.table_entries.specs.First.{first_in}
 use Rattle.nit_sdt.specs.declared.sdt.SdtService.{SdtService}
 use Rattle.nit_sdt.specs.declared.sdt.Sdt.{Sdt}
@@ -24,7 +24,7 @@ text_of s = record { kind = s.kind; provider = s.provider; name = s.name }
 
 -- service_id 16, reserved 6, all 1, EIT_schedule_flag 1, EIT_present_following_flag 1; running_status 3, which is 4, running,
 -- and free_CA_mode 1, which is 0; its service_descriptor
-abbrev pub service_entry : SdtService → Entry
+abbrev pub service_entry : SdtService → TableEntry
 service_entry s = record {
   fields = two s.service ++ (0xFC + 2 * flag_bit s.schedule + flag_bit s.present) ∷ [];
   bits = 8;

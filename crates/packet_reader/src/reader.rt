@@ -3,7 +3,7 @@ ghost use Rattle.std.specs.Prelude.{◌≡◌, ◌≤◌, ◌<◌, true, [], ℕ
 ghost use Rattle.std.specs.Io.KnownBytes.{IsAtEnd};
 ghost use Rattle.si_causes.specs.Causes.{HasCause as Faulted};
 ghost use Rattle.packet_reader.specs.Recordings.{is_packet, packets_in};
-ghost use Rattle.packet_reader.specs.Reading.{GivesPacket, TakesPacket, Counts, HasCause, Gathers, fresh, room, bytes_left};
+ghost use Rattle.packet_reader.specs.Reading.{GivesPacket, TakesPacket, Counts, HasCause, Gathers, fresh, packets_to_come, bytes_left};
 
 use crate::stop::PacketStop;
 use si_causes::{Failed, ReadBuffer, Source};
@@ -20,7 +20,7 @@ const BUFFER: usize = 65_424;
 /// A reader of the packets of a recording (ISO/IEC 13818-1, 2.4.3): of pieces of 188 bytes from the source's first byte on, of which
 /// each begins with the sync byte 0x47. A recording may have 4,294,967,295 packets.
 ///
-/// Contracts see a reader as the record `Reading`: the source, the bytes that it gave and that stand in no packet yet, how many
+/// Contracts see a reader as the record `PacketReading`: the source, the bytes that it gave and that stand in no packet yet, how many
 /// packets were handed out, the last of them, whether the source told its end, and why there are no more packets.
 #[derive(Drop)]
 pub struct PacketReader<S: Source> {
@@ -36,9 +36,9 @@ pub struct PacketReader<S: Source> {
 impl<S: Source> Model for PacketReader<S> {
     ghost use Rattle.std.specs.Prelude.{◌≡◌, ◌≤◌, true, [], length, take, drop};
     ghost use Rattle.std.specs.Io.KnownBytes.{IsAtEnd};
-    ghost use Rattle.packet_reader.specs.Reading.{Reading};
+    ghost use Rattle.packet_reader.specs.Reading.{PacketReading};
 
-    ghost Value = { Reading S };
+    ghost Value = { PacketReading S };
 
     ghost view = { λ r. record {
       source = r.source;
@@ -101,7 +101,7 @@ impl<S: Source> PacketReader<S> {
     /// takes no memory.
     pub fn next(&mut self) -> Result<Option<u64>, PacketStop>
         ensures packets { self.old.stop ≡ None → (bytes : List ℕ) → bytes_left S.left self.old ≡ Some bytes
-            → GivesPacket S.left self.old self.new (packets_in (room self.old) bytes) result }
+            → GivesPacket S.left self.old self.new (packets_in (packets_to_come self.old) bytes) result }
         ensures takes { self.old.stop ≡ None → TakesPacket S.left self.old self.new result }
         ensures counts { self.old.stop ≡ None → Counts self.old self.new result }
         ensures end { result ≡ Ok None → IsAtEnd (S.left self.new.source) }

@@ -9,7 +9,7 @@ use Rattle.desc_parts.specs.declared.descriptors.RawDesc.{RawDesc}
 use Rattle.desc_parts.specs.Descriptors.{AreDescriptors}
 use Rattle.desc_service.specs.Languages.{languages_body, iso_639_language}
 use Rattle.desc_service.proofs.Entries.{languages-read_back, length-languages_body}
-use Rattle.table_entries.specs.Entries.{Entry, entry_bytes, FitsEntry, IsReadAs, AreReadAs, AreEntries}
+use Rattle.table_entries.specs.Entries.{TableEntry, entry_bytes, FitsEntry, IsReadAs, AreReadAs, AreEntries}
 use Rattle.table_entries.proofs.Same.{same_entry}
 use Rattle.table_entries.proofs.Reading.{entries-unique}
 use Rattle.pat_pmt.specs.declared.pmt.Pmt.{Pmt}
@@ -31,13 +31,13 @@ pat-reads_back (e ∷ entries) fit =
 
 -- ---- a body of no value
 
-pub no_program_info : (body behind : List ℕ) (program : Entry) (pmt : Pmt) → body ≡ entry_bytes program ++ behind → FitsEntry 2 program
+pub no_program_info : (body behind : List ℕ) (program : TableEntry) (pmt : Pmt) → body ≡ entry_bytes program ++ behind → FitsEntry 2 program
     → ((descs : List RawDesc) → AreDescriptors program.descriptors descs → ⊥) → IsPmt body pmt → ⊥
 no_program_info body behind program pmt e fits none p =
     let same = same_entry 2 p.program program p.loop behind p.fits fits (sym p.whole ∙ e) in
-    none p.descs (subst (λ (x : Entry). AreDescriptors x.descriptors p.descs) same.0 p.program_info)
+    none p.descs (subst (λ (x : TableEntry). AreDescriptors x.descriptors p.descs) same.0 p.program_info)
 
-pub no_components : (body behind : List ℕ) (program : Entry) (pmt : Pmt) → body ≡ entry_bytes program ++ behind → FitsEntry 2 program
+pub no_components : (body behind : List ℕ) (program : TableEntry) (pmt : Pmt) → body ≡ entry_bytes program ++ behind → FitsEntry 2 program
     → ((components : List Component) → AreEntries 3 component_of behind components → ⊥) → IsPmt body pmt → ⊥
 no_components body behind program pmt e fits none p =
     let same = same_entry 2 p.program program p.loop behind p.fits fits (sym p.whole ∙ e) in
@@ -51,7 +51,7 @@ same_pmt a b p c = ap (λ (n : ℕ). record { pcr_pid = n; components = a.compon
 pub pmt-unique : PmtIsUnique
 pmt-unique body a b p q =
     let same = same_entry 2 p.program q.program p.loop q.loop p.fits q.fits (sym p.whole ∙ q.whole) in
-    let pids : a.pcr_pid ≡ b.pcr_pid = p.pcr_pid ∙ ap (λ (e : Entry). two_at 0 e.fields % 8192) same.0 ∙ sym q.pcr_pid in
+    let pids : a.pcr_pid ≡ b.pcr_pid = p.pcr_pid ∙ ap (λ (e : TableEntry). two_at 0 e.fields % 8192) same.0 ∙ sym q.pcr_pid in
     let components : a.components ≡ b.components =
     entries-unique 3 component_of q.loop a.components b.components (subst (λ (bytes : List ℕ). AreEntries 3 component_of bytes a.components) same.1 p.components) q.components in
     same_pmt a b pids components
@@ -67,7 +67,7 @@ same_component s p q l m e f =
     ap (λ (n : ℕ). let c : Component = record { stream_type = s; pid = n; language = l } in c) e
     ∙ ap (λ (x : Option (List ℕ)). let c : Component = record { stream_type = s; pid = q; language = x } in c) f
 
-abbrev entry_with : ℕ → ℕ → Option (List ℕ) → Entry
+abbrev entry_with : ℕ → ℕ → Option (List ℕ) → TableEntry
 entry_with s p l = record { fields = s ∷ two (0xE000 + p); bits = 15; descriptors = language_descriptors l }
 
 component_read : (s p : ℕ) (l : Option (List ℕ)) → p < 8192 → IfSome l (λ language. length language ≡ 3)

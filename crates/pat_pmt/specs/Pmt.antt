@@ -6,7 +6,7 @@ use Rattle.guide_model.specs.declared.stream.Component.{Component}
 use Rattle.desc_parts.specs.declared.descriptors.RawDesc.{RawDesc}
 use Rattle.desc_parts.specs.Descriptors.{AreDescriptors}
 use Rattle.desc_service.specs.Languages.{iso_639_language, languages_in}
-use Rattle.table_entries.specs.Entries.{Entry, entry_bytes, FitsEntry, AreEntries}
+use Rattle.table_entries.specs.Entries.{TableEntry, entry_bytes, FitsEntry, AreEntries}
 use Rattle.table_entries.specs.First.{first_in}
 use Rattle.pat_pmt.specs.declared.pmt.Pmt.{Pmt}
 
@@ -18,7 +18,7 @@ language_descriptors None = []
 language_descriptors (Some language) = iso_639_language (language ∷ [])
 
 -- stream_type 8, reserved 3, elementary_PID 13; reserved 4; all reserved bits are 1
-abbrev pub component_entry : Component → Entry
+abbrev pub component_entry : Component → TableEntry
 component_entry c = record { fields = c.stream_type ∷ two (0xE000 + c.pid); bits = 15; descriptors = language_descriptors c.language }
 
 abbrev pub component_bytes : Component → List ℕ
@@ -29,7 +29,7 @@ abbrev pub HasPid : Component → Type 0
 HasPid c = c.pid < 8192
 
 -- reserved 3, PCR_PID 13, reserved 4, program_info_length 12, which is 0
-abbrev pub program_entry : ℕ → Entry
+abbrev pub program_entry : ℕ → TableEntry
 program_entry pcr_pid = record { fields = two (0xE000 + pcr_pid); bits = 15; descriptors = [] }
 
 abbrev pub pmt_body : Pmt → List ℕ
@@ -52,7 +52,7 @@ component_of fields bits descs = record { stream_type = slice_index fields 0; pi
 
 -- The body is just an entry of the program, with descriptors that are passed over, and entries of these components.
 pub record IsPmt (body : List ℕ) (pmt : Pmt) : Type 0 where
-  pub program : Entry
+  pub program : TableEntry
   pub loop : List ℕ
   pub whole : body ≡ entry_bytes program ++ loop
   pub fits : FitsEntry 2 program

@@ -26,7 +26,7 @@ file_at path [] = None
 file_at path (file ∷ files) = if bytes_eq file.0 path then Some file.1 else file_at path files
 
 -- an opener that tells its files gives, for a path, a source that tells just this file's bytes
-abbrev pub Holds : Option Files → List ℕ → Option (List ℕ) → Type 0
-Holds None path left = Unit {0}
-Holds (Some files) path None = ⊥
-Holds (Some files) path (Some bytes) = file_at path files ≡ Some bytes
+abbrev pub GivesFile : Option Files → List ℕ → Option (List ℕ) → Type 0
+GivesFile None path left = Unit {0}
+GivesFile (Some files) path None = ⊥
+GivesFile (Some files) path (Some bytes) = file_at path files ≡ Some bytes

@@ -4,8 +4,8 @@ ghost use Rattle.std.specs.Str.{bytes_eq};
 ghost use Rattle.std.specs.declared.alloc.Global.{Global};
 ghost use Rattle.si_causes.specs.Causes.{HasCause};
 ghost use Rattle.si_causes.specs.Memory.{no_calls, fails_next, fails_in, source_over, opened, after_call};
-ghost use Rattle.si_causes.specs.Opening.{Holds, Tries, TakesBack, file_at};
-ghost use Rattle.si_causes.specs.Files.{told, paths_of};
+ghost use Rattle.si_causes.specs.Opening.{GivesFile, Tries, TakesBack, file_at};
+ghost use Rattle.si_causes.specs.Files.{files_of, paths_of};
 
 use crate::causes::Failed;
 use crate::memory::{Counts, MemSource};
@@ -28,12 +28,12 @@ pub struct MemOpener {
 
 impl Model for MemOpener {
     ghost use Rattle.si_causes.specs.Memory.{Archive};
-    ghost use Rattle.si_causes.specs.Files.{told, paths_of};
+    ghost use Rattle.si_causes.specs.Files.{files_of, paths_of};
 
     ghost Value = { Archive };
 
     ghost view = { λ o. record {
-      files = told o.files.items;
+      files = files_of o.files.items;
       tried = paths_of o.tried;
       read_fail = o.read_fail;
       calls = o.calls;
@@ -50,7 +50,7 @@ impl MemOpener {
         read_fail: Option<(u64, u64)>,
     ) -> MemOpener
         ensures { result ≡ record {
-          files = told files.items;
+          files = files_of files.items;
           tried = Some [];
           read_fail = read_fail;
           calls = no_calls fail_at.items;
@@ -85,7 +85,7 @@ impl Opener for MemOpener {
         ensures cause { HasCause self.old.calls.faults self.new.calls.faults result }
         ensures tried { Tries self.old.tried self.new.tried path.now }
         ensures fresh { IfOk result (λ from. from.calls.faults ≡ 0) }
-        ensures content { IfOk result (λ from. Holds (Some self.old.files) path.now (Some from.left)) }
+        ensures content { IfOk result (λ from. GivesFile (Some self.old.files) path.now (Some from.left)) }
         ensures opened { IfOk result (λ from. opened self.old path.now ≡ Some from) }
         ensures fails { fails_next self.old.calls ≡ true → IsErr result }
         ensures after { self.new ≡ record self.old { tried = self.new.tried; calls = after_call self.old.calls result } }
@@ -142,7 +142,7 @@ fn supply(
     read_fail: Option<(u64, u64)>,
     call: u64,
 ) -> Option<MemSource>
-    ensures { IfSome result (λ source. option_map (source_over (fails_in read_fail call)) (file_at path.now (told files.now)) ≡ Some source) }
+    ensures { IfSome result (λ source. option_map (source_over (fails_in read_fail call)) (file_at path.now (files_of files.now)) ≡ Some source) }
 {
     let bytes = bytes_at(files, path)?;
     let bytes = Vec::from_slice(alloc, bytes).ok()?;
@@ -163,7 +163,7 @@ fn file_of<'a>(files: &'a [(String, Vec<u8>)], path: &str) -> Option<&'a (String
 
 // The bytes of the first file with this path.
 fn bytes_at<'a>(files: &'a [(String, Vec<u8>)], path: &str) -> Option<&'a [u8]>
-    ensures { option_copied result ≡ file_at path.now (told files.now) }
+    ensures { option_copied result ≡ file_at path.now (files_of files.now) }
 {
     match file_of(files, path) {
         Some(file) => Some(&file.1),

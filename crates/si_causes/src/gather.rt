@@ -18,7 +18,7 @@ const TEXT: u64 = 67108864;
 const BUFFER: usize = 65536;
 
 // What was read of a text and stands in no line yet.
-pub(crate) type Held = ReadBuffer<BUFFER>;
+pub(crate) type LineBuffer = ReadBuffer<BUFFER>;
 
 // What collecting a line met: a whole line, the last one, which has no LF, or the end.
 #[derive(Clone, Copy)]
@@ -37,7 +37,7 @@ fn line_end(bytes: &[u8]) -> Option<usize>
 }
 
 // Moves what is held into the line, up to the first LF, and says whether there was one.
-fn take_line(held: &mut Held, line: &mut Line) -> bool
+fn take_line(held: &mut LineBuffer, line: &mut Line) -> bool
     ensures line { line.new ≡ take 16386 (line.old ++ first_line held.old) }
     ensures held { held.new ≡ after_line held.old }
     ensures found { result ≡ has_end held.old }
@@ -60,7 +60,7 @@ fn take_line(held: &mut Held, line: &mut Line) -> bool
 }
 
 // Reads the next piece of the text, of at most `room` bytes, where nothing is held.
-fn read_piece<S: Source>(source: &mut S, held: &mut Held, room: u64) -> Result<usize, Failed>
+fn read_piece<S: Source>(source: &mut S, held: &mut LineBuffer, room: u64) -> Result<usize, Failed>
     requires empty { held.old ≡ [] }
     requires some { 1 ≤ room }
     ensures ok { IfOk result (λ n. (n ≡ length held.new) × (n ≤ room)
@@ -76,7 +76,7 @@ fn read_piece<S: Source>(source: &mut S, held: &mut Held, room: u64) -> Result<u
 // Collects the next line, reading only where what is held has no LF.
 pub(crate) fn gather<S: Source>(
     source: &mut S,
-    held: &mut Held,
+    held: &mut LineBuffer,
     line: &mut Line,
     taken: &mut u64,
 ) -> Result<LineFound, ReadStop>

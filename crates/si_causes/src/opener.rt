@@ -1,7 +1,7 @@
 // What opens paths.
 ghost use Rattle.std.specs.Prelude.{◌≡◌, List, ℕ, IfOk, Option};
 ghost use Rattle.si_causes.specs.Causes.{HasCause};
-ghost use Rattle.si_causes.specs.Opening.{Files, Holds, Tries, TakesBack};
+ghost use Rattle.si_causes.specs.Opening.{Files, GivesFile, Tries, TakesBack};
 
 use crate::causes::{Failed, Source};
 use std::marker::Send;
@@ -34,7 +34,7 @@ pub trait Opener {
         ensures tried { Tries (tried self.old) (tried self.new) path.now }
         ensures files { files self.new ≡ files self.old }
         ensures fresh { IfOk result (λ from. Self.From.faults from ≡ 0) }
-        ensures content { IfOk result (λ from. Holds (files self.old) path.now (Self.From.left from)) };
+        ensures content { IfOk result (λ from. GivesFile (files self.old) path.now (Self.From.left from)) };
 
     /// Takes a source back. The count of read faults rises exactly where the source has failed.
     fn close(&mut self, from: Self::From)

@@ -6,7 +6,7 @@ ghost use Rattle.si_causes.specs.Reading.{NextCame, GivesLine, Falls, fresh, roo
 ghost use Rattle.si_causes.specs.Text.{lines_left};
 
 use crate::causes::Source;
-use crate::gather::{Held, LineFound, gather};
+use crate::gather::{LineBuffer, LineFound, gather};
 use crate::line::Line;
 use crate::read_buffer::ReadBuffer;
 use crate::stop::ReadStop;
@@ -25,7 +25,7 @@ use std::marker::Model;
 #[derive(Drop)]
 pub struct LineReader<S: Source> {
     source: S,
-    held: Held,
+    held: LineBuffer,
     passed: u64,
     number: u64,
     line: Line,

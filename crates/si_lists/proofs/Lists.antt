@@ -1,6 +1,6 @@
 -- Lists, and what holds of each of their elements.
-use Rattle.std.proofs.Common.{◌≡◌, ◌∙◌, ◌+◌, ◌-◌, ◌≤◌, ◌++◌, ℕ, List, [], ◌∷◌, Option, Some, None, refl, sym, ap, append_assoc, append-nil, arith}
-use Rattle.std.specs.List.{AllByRecursion, flat_map}
+use Rattle.std.proofs.Common.{◌≡◌, ◌∙◌, ◌⊎◌, inl, inr, ◌+◌, ◌-◌, ◌≤◌, ◌++◌, ℕ, zero, suc, List, [], ◌∷◌, Option, Some, None, refl, sym, ap, ap₂, append_assoc, append-nil, arith}
+use Rattle.std.specs.List.{AllByRecursion, flat_map, range_with_len}
 use Rattle.std.specs.Prelude.{length, take, drop, slice_range, option_map}
 use Rattle.std.proofs.lemmas.List.{drop-take, drop-drop, length-take, length-drop}
 
@@ -11,6 +11,17 @@ all_push P (y ∷ ys) x h p = (h.0, all_push P ys x h.1 p)
 pub all_append : {X : Type 0} (P : X → Type 0) (xs ys : List X) → AllByRecursion P xs → AllByRecursion P ys → AllByRecursion P (xs ++ ys)
 all_append P [] ys a b = b
 all_append P (x ∷ xs) ys a b = (a.0, all_append P xs ys a.1 b)
+
+pub all_front : {X : Type 0} (P : X → Type 0) (xs ys : List X) → AllByRecursion P (xs ++ ys) → AllByRecursion P xs
+all_front P [] ys p = tt
+all_front P (x ∷ xs) ys p = (p.0, all_front P xs ys p.1)
+
+pub all_behind : {X : Type 0} (P : X → Type 0) (xs ys : List X) → AllByRecursion P (xs ++ ys) → AllByRecursion P ys
+all_behind P [] ys p = p
+all_behind P (x ∷ xs) ys p = all_behind P xs ys p.1
+
+pub all_at : {X : Type 0} (P : X → Type 0) (xs : List X) (x : X) (ys : List X) → AllByRecursion P (xs ++ x ∷ ys) → P x
+all_at P xs x ys p = (all_behind P xs (x ∷ ys) p).0
 
 pub all_map : {X : Type 0} (P Q : X → Type 0) → ((x : X) → P x → Q x) → (xs : List X) → AllByRecursion P xs → AllByRecursion Q xs
 all_map P Q f [] h = tt
@@ -33,6 +44,18 @@ same_parts (x ∷ xs) (u ∷ us) ys vs l e =
     let t : xs ++ ys ≡ us ++ vs = cc in
     let r = same_parts xs us ys vs (omega arith) t in
     (let f : x ∷ xs ≡ u ∷ us = cc (h, r.0) in f, r.1)
+
+-- either of two fronts of one list is a front of the other
+pub two_fronts : {X : Type 0} (a b c d : List X) → a ++ b ≡ c ++ d
+    → ((e : List X) × (a ≡ c ++ e) × (d ≡ e ++ b)) ⊎ ((e : List X) × (c ≡ a ++ e) × (b ≡ e ++ d))
+two_fronts [] b c d h = inr (c, refl, h)
+two_fronts (x ∷ a) b [] d h = inl (x ∷ a, refl, sym h)
+two_fronts {X = X} (x ∷ a) b (y ∷ c) d h = go (two_fronts a b c d (let t : a ++ b ≡ c ++ d = cc in t)) (let s : x ≡ y = cc in s)
+  where
+    go : ((e : List X) × (a ≡ c ++ e) × (d ≡ e ++ b)) ⊎ ((e : List X) × (c ≡ a ++ e) × (b ≡ e ++ d)) → x ≡ y →
+        ((e : List X) × (x ∷ a ≡ (y ∷ c) ++ e) × (d ≡ e ++ b)) ⊎ ((e : List X) × (y ∷ c ≡ (x ∷ a) ++ e) × (b ≡ e ++ d))
+    go (inl (e, p, q)) s = inl (e, ap₂ (λ (m : X) (ms : List X). m ∷ ms) s p, q)
+    go (inr (e, p, q)) s = inr (e, ap₂ (λ (m : X) (ms : List X). m ∷ ms) (sym s) p, q)
 
 -- a part of a list from one place to another
 pub range_drop : (xs : List ℕ) (start count end : ℕ) → start + count ≤ end → slice_range xs (start + count) end ≡ drop count (slice_range xs start end)
@@ -58,6 +81,13 @@ five_of (a ∷ b ∷ c ∷ []) e = absurd (omega arith)
 five_of (a ∷ b ∷ c ∷ d ∷ []) e = absurd (omega arith)
 five_of (a ∷ b ∷ c ∷ d ∷ f ∷ []) e = (a, b, c, d, f, refl)
 five_of (a ∷ b ∷ c ∷ d ∷ f ∷ g ∷ xs) e = absurd (omega arith)
+
+-- a list of numbers one longer
+pub range_more : {X : Type 0} (f : ℕ → List X) (a n j : ℕ) → a + n ≡ j → flat_map f (range_with_len a (n + 1)) ≡ flat_map f (range_with_len a n) ++ f j
+range_more f a zero j e = append-nil (f a) ∙ ap f (let s : a ≡ j = omega arith in s)
+range_more f a (suc n) j e =
+    ap (λ (m : ℕ). flat_map f (range_with_len a m)) (let s : suc n + 1 ≡ suc (n + 1) = omega arith in s)
+    ∙ ap (λ l. f a ++ l) (range_more f (a + 1) n j (omega arith)) ∙ sym (append_assoc (f a) (flat_map f (range_with_len (a + 1) n)) (f j))
 
 -- what one element more adds, before what is left
 pub flat_map-next : {X Y : Type 0} (f : X → List Y) (front : List X) (x : X) (rest : List Y) → flat_map f (front ++ x ∷ []) ++ rest ≡ flat_map f front ++ (f x ++ rest)

@@ -9,7 +9,7 @@ use Rattle.si_lists.proofs.Truths.{first_true, second_true}
 use Rattle.si_base.specs.Fields.{two, two_at}
 use Rattle.desc_parts.specs.declared.descriptors.RawDesc.{RawDesc}
 use Rattle.desc_parts.specs.Descriptors.{descriptor_bytes, AreDescriptors}
-use Rattle.table_entries.specs.Entries.{Entry, entry_bytes, FitsEntry, AreReadAs, AreEntries}
+use Rattle.table_entries.specs.Entries.{TableEntry, entry_bytes, FitsEntry, AreReadAs, AreEntries}
 use Rattle.table_entries.specs.Loops.{are_descriptors, loop_length, entry_length, loop_of, behind_entry, begins_with_entry, are_entries_within, are_entries, AreBytes}
 use Rattle.table_entries.proofs.Same.{parts_apart}
 use Rattle.table_entries.proofs.Reading.{Reads}
@@ -81,7 +81,7 @@ begins size told fields ds rest bytes its small tells are whole =
           )),
     )
 
-pub begins_with : (size : ℕ) (e : Entry) (rest : List ℕ) → FitsEntry size e → HasDescriptors e.descriptors
+pub begins_with : (size : ℕ) (e : TableEntry) (rest : List ℕ) → FitsEntry size e → HasDescriptors e.descriptors
     → Begins size (entry_bytes e ++ rest) rest
 begins_with size e rest fits are =
     begins size (4096 * e.bits + length e.descriptors) e.fields e.descriptors rest (entry_bytes e ++ rest) fits.fields (omega
@@ -89,15 +89,15 @@ begins_with size e rest fits are =
 
 -- ---- entries
 
-abbrev pub HaveDescriptors : List Entry → Type 0
-HaveDescriptors es = AllByRecursion (λ (e : Entry). HasDescriptors e.descriptors) es
+abbrev pub HaveDescriptors : List TableEntry → Type 0
+HaveDescriptors es = AllByRecursion (λ (e : TableEntry). HasDescriptors e.descriptors) es
 
-pub entry_size : (e : Entry) (rest : List ℕ) → 2 + length rest ≤ length (entry_bytes e ++ rest)
+pub entry_size : (e : TableEntry) (rest : List ℕ) → 2 + length rest ≤ length (entry_bytes e ++ rest)
 entry_size e rest =
     let told = two (4096 * e.bits + length e.descriptors) in
     omega (arith, length-append (entry_bytes e) rest, length-append (e.fields ++ told) e.descriptors, length-append e.fields told)
 
-within : (size n : ℕ) (es : List Entry) → AllByRecursion (FitsEntry size) es → HaveDescriptors es
+within : (size n : ℕ) (es : List TableEntry) → AllByRecursion (FitsEntry size) es → HaveDescriptors es
     → length (flat_map entry_bytes es) ≤ n → are_entries_within size n (flat_map entry_bytes es) ≡ true
 within size n [] fits are le = refl
 within size zero (e ∷ es) fits are le = absurd (omega (arith, le, entry_size e (flat_map entry_bytes es)))
@@ -109,11 +109,11 @@ within size (suc n) (e ∷ es) fits are le =
     ∙ within size n es fits.1 are.1 (omega (arith, le, some)))
 
 -- the bytes of entries are entries
-pub entries_are : (size : ℕ) (es : List Entry) → AllByRecursion (FitsEntry size) es → HaveDescriptors es
+pub entries_are : (size : ℕ) (es : List TableEntry) → AllByRecursion (FitsEntry size) es → HaveDescriptors es
     → are_entries size (flat_map entry_bytes es) ≡ true
 entries_are size es fits are = within size (length (flat_map entry_bytes es)) es fits are (omega arith)
 
-have_descriptors : {X : Type 0} (value_of : Reads X) (es : List Entry) (values : List X) → AreReadAs value_of es values → HaveDescriptors es
+have_descriptors : {X : Type 0} (value_of : Reads X) (es : List TableEntry) (values : List X) → AreReadAs value_of es values → HaveDescriptors es
 have_descriptors value_of [] values read = tt
 have_descriptors value_of (e ∷ es) [] read = absurd read
 have_descriptors value_of (e ∷ es) (v ∷ values) read =
@@ -163,7 +163,7 @@ descriptors_of (suc n) (tag ∷ len ∷ behind) all e =
 
 -- the entry at the front of bytes, its descriptors, and that it stands there
 pub record First (size : ℕ) (bytes : List ℕ) : Type 0 where
-  pub entry : Entry
+  pub entry : TableEntry
   pub fits : FitsEntry size entry
   pub descs : List RawDesc
   pub loop : AreDescriptors entry.descriptors descs
@@ -194,7 +194,7 @@ first_entry size bytes all e =
     ∙ ap (λ (n : ℕ). low ∷ drop n bytes) two_more in
     let first : drop size bytes ≡ high ∷ low ∷ inside = drop_more bytes size 0 (omega (arith, enough))
     ∙ ap (λ (l : List ℕ). high ∷ l) second in
-    let entry : Entry = record { fields = fields; bits = field / 4096; descriptors = take len inside } in
+    let entry : TableEntry = record { fields = fields; bits = field / 4096; descriptors = take len inside } in
     let behind : drop len inside ≡ behind_entry size bytes = drop-drop len (size + 2) bytes in
     let apart : bytes ≡ fields ++ (high ∷ low ∷ (take len inside ++ drop len inside)) =
     sym (take-append-drop size bytes) ∙ ap (λ (l : List ℕ). fields ++ l) (first

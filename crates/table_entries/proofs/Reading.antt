@@ -6,7 +6,7 @@ use Rattle.si_lists.proofs.Lists.{flat_map-next, all_push}
 use Rattle.desc_parts.specs.declared.descriptors.RawDesc.{RawDesc}
 use Rattle.desc_parts.specs.Descriptors.{AreDescriptors}
 use Rattle.desc_parts.proofs.Loops.{descriptors-unique}
-use Rattle.table_entries.specs.Entries.{Entry, entry_bytes, FitsEntry, IsReadAs, AreReadAs, AreEntries}
+use Rattle.table_entries.specs.Entries.{TableEntry, entry_bytes, FitsEntry, IsReadAs, AreReadAs, AreEntries}
 use Rattle.table_entries.proofs.Same.{same_entry, not_nothing}
 
 -- how an entry is read
@@ -15,13 +15,13 @@ Reads X = List ℕ → ℕ → List RawDesc → X
 
 -- where the first entries of bytes are known, the others are those of the rest
 pub record Behind {X : Type 0} (size : ℕ) (value_of : Reads X) (rest : List ℕ) : Type 0 where
-  pub tail : List Entry
+  pub tail : List TableEntry
   pub later : List X
   pub whole : rest ≡ flat_map entry_bytes tail
   pub fits : AllByRecursion (FitsEntry size) tail
   pub read : AreReadAs value_of tail later
 
-behind_front : {X : Type 0} (size : ℕ) (value_of : Reads X) (front entries : List Entry) (values : List X) (rest : List ℕ)
+behind_front : {X : Type 0} (size : ℕ) (value_of : Reads X) (front entries : List TableEntry) (values : List X) (rest : List ℕ)
     → AllByRecursion (FitsEntry size) front → AllByRecursion (FitsEntry size) entries → AreReadAs value_of entries values
     → flat_map entry_bytes front ++ rest ≡ flat_map entry_bytes entries → Behind size value_of rest
 behind_front size value_of [] entries values rest p f q e = record { tail = entries; later = values; whole = e; fits = f; read = q }
@@ -34,7 +34,7 @@ behind_front size value_of (a ∷ front) (b ∷ entries) (v ∷ values) rest p f
 
 -- the values so far are those of the first entries
 pub record AreSoFar {X : Type 0} (size : ℕ) (value_of : Reads X) (bytes rest : List ℕ) (values : List X) : Type 0 where
-  pub front : List Entry
+  pub front : List TableEntry
   pub whole : bytes ≡ flat_map entry_bytes front ++ rest
   pub fits : AllByRecursion (FitsEntry size) front
   pub read : AreReadAs value_of front values
@@ -42,14 +42,14 @@ pub record AreSoFar {X : Type 0} (size : ℕ) (value_of : Reads X) (bytes rest :
 pub none_so_far : {X : Type 0} (size : ℕ) (value_of : Reads X) (bytes : List ℕ) → AreSoFar size value_of bytes bytes []
 none_so_far size value_of bytes = record { front = []; whole = refl; fits = tt; read = tt }
 
-AreReadAs-push : {X : Type 0} (value_of : Reads X) (front : List Entry) (values : List X) (entry : Entry) (value : X) → AreReadAs value_of front values → IsReadAs value_of entry value
+AreReadAs-push : {X : Type 0} (value_of : Reads X) (front : List TableEntry) (values : List X) (entry : TableEntry) (value : X) → AreReadAs value_of front values → IsReadAs value_of entry value
     → AreReadAs value_of (front ++ entry ∷ []) (values ++ value ∷ [])
 AreReadAs-push value_of [] [] entry value p q = (q, tt)
 AreReadAs-push value_of [] (v ∷ values) entry value p q = absurd p
 AreReadAs-push value_of (f ∷ front) [] entry value p q = absurd p
 AreReadAs-push value_of (f ∷ front) (v ∷ values) entry value p q = (p.0, AreReadAs-push value_of front values entry value p.1 q)
 
-pub next_so_far : {X : Type 0} (size : ℕ) (value_of : Reads X) (bytes rest behind : List ℕ) (values : List X) (entry : Entry) (descs : List RawDesc)
+pub next_so_far : {X : Type 0} (size : ℕ) (value_of : Reads X) (bytes rest behind : List ℕ) (values : List X) (entry : TableEntry) (descs : List RawDesc)
     → AreSoFar size value_of bytes rest values → rest ≡ entry_bytes entry ++ behind → FitsEntry size entry → AreDescriptors entry.descriptors descs
     → AreSoFar size value_of bytes behind (values ++ value_of entry.fields entry.bits descs ∷ [])
 next_so_far size value_of bytes rest behind values entry descs so_far e fits loop = record {
@@ -74,37 +74,37 @@ behind_so_far size value_of bytes rest values all so_far p = behind_front size v
 
 -- the rest ends within an entry
 pub cut_entry : {X : Type 0} (size : ℕ) (value_of : Reads X) (bytes rest : List ℕ) (values all : List X) → AreSoFar size value_of bytes rest values → 0 < length rest
-    → ((entry : Entry) (more : List ℕ) → FitsEntry size entry → rest ≡ entry_bytes entry ++ more → ⊥) → AreEntries size value_of bytes all → ⊥
+    → ((entry : TableEntry) (more : List ℕ) → FitsEntry size entry → rest ≡ entry_bytes entry ++ more → ⊥) → AreEntries size value_of bytes all → ⊥
 cut_entry {X} size value_of bytes rest values all so_far some none p =
     let b = behind_so_far size value_of bytes rest values all so_far p in
     go b.tail b.whole b.fits
   where
-    go : (tail : List Entry) → rest ≡ flat_map entry_bytes tail → AllByRecursion (FitsEntry size) tail → ⊥
+    go : (tail : List TableEntry) → rest ≡ flat_map entry_bytes tail → AllByRecursion (FitsEntry size) tail → ⊥
     go [] e f = omega (arith, some, ap length e)
     go (a ∷ tail) e f = none a (flat_map entry_bytes tail) f.0 e
 
 -- the descriptors of the next entry are no list
-pub no_loop : {X : Type 0} (size : ℕ) (value_of : Reads X) (bytes rest behind : List ℕ) (values all : List X) (entry : Entry)
+pub no_loop : {X : Type 0} (size : ℕ) (value_of : Reads X) (bytes rest behind : List ℕ) (values all : List X) (entry : TableEntry)
     → AreSoFar size value_of bytes rest values → rest ≡ entry_bytes entry ++ behind → FitsEntry size entry
     → ((descs : List RawDesc) → AreDescriptors entry.descriptors descs → ⊥) → AreEntries size value_of bytes all → ⊥
 no_loop {X} size value_of bytes rest behind values all entry so_far e fits none p =
     let b = behind_so_far size value_of bytes rest values all so_far p in
     go b.tail b.later b.whole b.fits b.read
   where
-    go : (tail : List Entry) (later : List X) → rest ≡ flat_map entry_bytes tail → AllByRecursion (FitsEntry size) tail → AreReadAs value_of tail later → ⊥
+    go : (tail : List TableEntry) (later : List X) → rest ≡ flat_map entry_bytes tail → AllByRecursion (FitsEntry size) tail → AreReadAs value_of tail later → ⊥
     go [] later w f q = not_nothing entry behind (sym e ∙ w)
     go (a ∷ tail) [] w f q = q
     go (a ∷ tail) (v ∷ later) w f q =
         let same = same_entry size a entry (flat_map entry_bytes tail) behind f.0 fits (sym w ∙ e) in
-        none q.0.descs (subst (λ (x : Entry). AreDescriptors x.descriptors q.0.descs) same.0 q.0.loop)
+        none q.0.descs (subst (λ (x : TableEntry). AreDescriptors x.descriptors q.0.descs) same.0 q.0.loop)
 
 -- ---- one list at most
 
-same_value : {X : Type 0} (value_of : Reads X) (entry : Entry) (v w : X) → IsReadAs value_of entry v → IsReadAs value_of entry w → v ≡ w
+same_value : {X : Type 0} (value_of : Reads X) (entry : TableEntry) (v w : X) → IsReadAs value_of entry v → IsReadAs value_of entry w → v ≡ w
 same_value value_of entry v w p q =
     p.shows ∙ ap (λ (ds : List RawDesc). value_of entry.fields entry.bits ds) (descriptors-unique entry.descriptors p.descs q.descs p.loop q.loop) ∙ sym q.shows
 
-same_values : {X : Type 0} (size : ℕ) (value_of : Reads X) (a b : List Entry) (v w : List X) → AllByRecursion (FitsEntry size) a → AllByRecursion (FitsEntry size) b
+same_values : {X : Type 0} (size : ℕ) (value_of : Reads X) (a b : List TableEntry) (v w : List X) → AllByRecursion (FitsEntry size) a → AllByRecursion (FitsEntry size) b
     → AreReadAs value_of a v → AreReadAs value_of b w → flat_map entry_bytes a ≡ flat_map entry_bytes b → v ≡ w
 same_values size value_of [] [] [] [] f g p q e = refl
 same_values size value_of [] b (x ∷ v) w f g p q e = absurd p
@@ -115,7 +115,7 @@ same_values size value_of [] (n ∷ b) [] (y ∷ w) f g p q e = absurd (not_noth
 same_values size value_of (m ∷ a) [] (x ∷ v) [] f g p q e = absurd (not_nothing m (flat_map entry_bytes a) e)
 same_values size value_of (m ∷ a) (n ∷ b) (x ∷ v) (y ∷ w) f g p q e =
     let same = same_entry size m n (flat_map entry_bytes a) (flat_map entry_bytes b) f.0 g.0 e in
-    let first : x ≡ y = same_value value_of n x y (subst (λ (entry : Entry). IsReadAs value_of entry x) same.0 p.0) q.0 in
+    let first : x ≡ y = same_value value_of n x y (subst (λ (entry : TableEntry). IsReadAs value_of entry x) same.0 p.0) q.0 in
     cc (first, same_values size value_of a b v w f.1 g.1 p.1 q.1 same.1)
 
 pub entries-unique : {X : Type 0} (size : ℕ) (value_of : Reads X) (bytes : List ℕ) (v w : List X) → AreEntries size value_of bytes v → AreEntries size value_of bytes w → v ≡ w

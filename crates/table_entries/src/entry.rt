@@ -3,14 +3,14 @@ ghost use Rattle.std.specs.Prelude.{◌≡◌, ◌+◌, ◌<◌, ◌++◌, List,
 ghost use Rattle.si_base.specs.Fields.{two_at};
 ghost use Rattle.desc_parts.specs.Descriptors.{AreDescriptors};
 ghost use Rattle.desc_parts.specs.declared.descriptors.RawDesc.{RawDesc};
-ghost use Rattle.table_entries.specs.Entries.{Entry, FitsEntry, entry_bytes};
+ghost use Rattle.table_entries.specs.Entries.{TableEntry, FitsEntry, entry_bytes};
 
 use desc_parts::{RawDescs, read_descriptors};
 use std::alloc::{AllocError, Global};
 use std::marker::Model;
 
 /// An entry as it stands in a loop: its fields, the four bits before its length, and its descriptors, which are not read yet.
-/// Contracts see it as an `Entry`.
+/// Contracts see it as an `TableEntry`.
 #[derive(Drop)]
 pub struct RawEntry<'a> {
     fields: &'a [u8],
@@ -19,9 +19,9 @@ pub struct RawEntry<'a> {
 }
 
 impl<'a> Model for RawEntry<'a> {
-    ghost use Rattle.table_entries.specs.Entries.{Entry};
+    ghost use Rattle.table_entries.specs.Entries.{TableEntry};
 
-    ghost Value = { Entry };
+    ghost Value = { TableEntry };
 
     ghost view = { λ e. record { fields = e.fields.now; bits = e.bits; descriptors = e.descriptors.now } };
 }
@@ -66,7 +66,7 @@ pub fn split_entry(size: usize, bytes: &[u8]) -> Option<(RawEntry<'_>, &[u8])>
     ensures parts { IfSome result (λ parts. bytes.now ≡ entry_bytes parts.0 ++ parts.1.now) }
     ensures fits { IfSome result (λ parts. FitsEntry size parts.0) }
     ensures less { IfSome result (λ parts. length parts.1.now < length bytes.now) }
-    ensures none { IfNone result ((entry : Entry) (rest : List ℕ) → FitsEntry size entry → bytes.now ≡ entry_bytes entry ++ rest → ⊥) }
+    ensures none { IfNone result ((entry : TableEntry) (rest : List ℕ) → FitsEntry size entry → bytes.now ≡ entry_bytes entry ++ rest → ⊥) }
 {
     if bytes.len() < size + 2 {
         return None;

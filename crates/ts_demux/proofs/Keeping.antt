@@ -6,7 +6,7 @@ use Rattle.std.proofs.lemmas.Bool.{and_parts, eqb-true}
 use Rattle.ts_packets.specs.Packets.{Piece}
 use Rattle.ts_packets.specs.Counting.{Load}
 use Rattle.ts_demux.specs.Arrivals.{Arrival, is_repeat, without_repeats, Arrival.Gap, Arrival.Came}
-use Rattle.ts_demux.specs.Keeping.{Seen, seen, PidState, nothing, seen_in, last_load, is_one_stretch, pieces_of, last_stretch, open_section, Keeps}
+use Rattle.ts_demux.specs.Keeping.{Seen, seen, PidState, nothing, seen_in, last_load, is_one_stretch, pieces_of, last_stretch, open_section, PidStateStandsFor}
 use Rattle.ts_demux.specs.Steps.{is_again, is_next, still_open, open_behind, kept_after, kept_behind}
 use Rattle.ts_demux.proofs.Open.{open_section-push}
 
@@ -199,10 +199,10 @@ steps ys [] = ap kept_by_all (sym (append-nil ys))
 steps ys (x ∷ xs) = ap (λ (k : PidState). kept_behind k xs) (step ys x) ∙ steps (ys ++ x ∷ []) xs ∙ ap kept_by_all (append_assoc ys (x ∷ []) xs)
 
 -- What is kept by the definition is what is kept step by step.
-pub keeps_told : (xs : List Arrival) (k : PidState) → Keeps xs k → k ≡ kept_behind nothing xs
+pub keeps_told : (xs : List Arrival) (k : PidState) → PidStateStandsFor xs k → k ≡ kept_behind nothing xs
 keeps_told xs k h = ap₂ (λ (o : Option Seen) (s : Option (List ℕ)). let j : PidState = record { last = o; section = s } in j) h.last h.section ∙ sym (steps [] xs)
 
-pub keeps_is : (xs : List Arrival) (k : PidState) → k ≡ kept_behind nothing xs → Keeps xs k
+pub keeps_is : (xs : List Arrival) (k : PidState) → k ≡ kept_behind nothing xs → PidStateStandsFor xs k
 keeps_is xs k e =
     let f : k ≡ kept_by_all xs = e ∙ steps [] xs in
     record { last = ap (λ (j : PidState). j.last) f; section = ap (λ (j : PidState). j.section) f }

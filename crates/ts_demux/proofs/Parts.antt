@@ -8,8 +8,7 @@ use Rattle.std.proofs.lemmas.List.Concat.{flat_map-append}
 use Rattle.ts_packets.specs.Packets.{left, all_of}
 use Rattle.ts_packets.proofs.Carrying.{left-append}
 use Rattle.ts_demux.specs.Laws.{but_last, ended, within}
-use Rattle.ts_demux.proofs.Windows.{all-front, all-behind}
-use Rattle.si_lists.proofs.Lists.{all_append}
+use Rattle.si_lists.proofs.Lists.{all_append, all_front, all_behind}
 use Rattle.si_lists.proofs.Parts.{le_either, lt_or, drop-both}
 
 abbrev Groups : Type 0
@@ -112,7 +111,7 @@ of_groups : (P : List ℕ → Type 0) (gs hs : Groups) → AllByRecursion P (all
     → AllByRecursion P (all_of gs) × AllByRecursion P (all_of hs)
 of_groups P gs hs all =
     let both = subst (AllByRecursion P) (flat_map-append (λ (g : List (List ℕ)). g) gs hs) all in
-    (all-front P (all_of gs) (all_of hs) both, all-behind P (all_of gs) (all_of hs) both)
+    (all_front P (all_of gs) (all_of hs) both, all_behind P (all_of gs) (all_of hs) both)
 
 pub all-within : (P : List ℕ → Type 0) (join end : ℕ) (groups : Groups) → AllByRecursion P (all_of groups)
     → AllByRecursion P (within join end groups)

@@ -1,7 +1,7 @@
 -- Packets and sections, cut into parts.
 use Rattle.std.proofs.Common.{◌≡◌, ℕ, suc, List, [], ◌∷◌, ◌++◌, length, refl, sym, ap, ◌∙◌}
 use Rattle.std.specs.List.{AllByRecursion}
-use Rattle.si_lists.proofs.Lists.{same_parts}
+use Rattle.si_lists.proofs.Lists.{same_parts, all_front, all_behind}
 use Rattle.ts_demux.specs.Laws.{ended}
 use Rattle.ts_packets.specs.Packets.{Piece, piece_of, left_by, pieces, left, HaveSectionBytes, all_of}
 use Rattle.ts_demux.specs.Hearing.{IsSection, heard}
@@ -27,14 +27,6 @@ pub length-pieces : (rest : List ℕ) (gs : List (List (List ℕ))) → length (
 length-pieces rest [] = refl
 length-pieces rest (g ∷ gs) = ap suc (length-pieces (left_by rest g) gs)
 
-pub all-front : {X : Type 0} (P : X → Type 0) (xs ys : List X) → AllByRecursion P (xs ++ ys) → AllByRecursion P xs
-all-front P [] ys p = tt
-all-front P (x ∷ xs) ys p = (p.0, all-front P xs ys p.1)
-
-pub all-behind : {X : Type 0} (P : X → Type 0) (xs ys : List X) → AllByRecursion P (xs ++ ys) → AllByRecursion P ys
-all-behind P [] ys p = p
-all-behind P (x ∷ xs) ys p = all-behind P xs ys p.1
-
 -- What is heard of any part of the packets: the sections that begin in this part, without the last where it goes on behind it.
 pub heard_part : (before part after : List (List (List ℕ))) (ps qs rs : List Piece)
     → HaveSectionBytes [] (before ++ (part ++ after)) → AllSections (before ++ (part ++ after))
@@ -46,5 +38,5 @@ heard_part before part after ps qs rs room all e l m =
     let one = same_parts ps (pieces [] before) (qs ++ rs) (pieces (left [] before) part ++ pieces (left (left [] before) part) after) (l ∙ sym (length-pieces [] before)) cut in
     let two = same_parts qs (pieces (left [] before) part) rs (pieces (left (left [] before) part) after) (m ∙ sym (length-pieces (left [] before) part)) one.1 in
     let here = HaveRoom-front (left [] before) part after (HaveRoom-behind [] before (part ++ after) room) in
-    let each = all-front (λ (g : List (List ℕ)). AllByRecursion IsSection g) part after (all-behind (λ (g : List (List ℕ)). AllByRecursion IsSection g) before (part ++ after) all) in
+    let each = all_front (λ (g : List (List ℕ)). AllByRecursion IsSection g) part after (all_behind (λ (g : List (List ℕ)). AllByRecursion IsSection g) before (part ++ after) all) in
     (left (left [] before) part, ap heard two.0 ∙ heard-pieces (left [] before) part here each, refl)

@@ -4,6 +4,7 @@ use Rattle.std.specs.Prelude.{if◌then◌else◌, option_map}
 use Rattle.std.specs.List.{cons_option, AllByRecursion}
 use Rattle.std.proofs.lemmas.List.Elements.{filter_map-append}
 use Rattle.std.proofs.lemmas.Bool.{eqb-true}
+use Rattle.si_lists.proofs.Lists.{all_front, all_behind}
 use Rattle.ts_packets.specs.Packets.{Piece, pieces, left, HaveSectionBytes, all_of}
 use Rattle.ts_packets.specs.Bytes.{Packet, HasFields, bytes_of_packet}
 use Rattle.ts_packets.specs.Counting.{Load, load_on, loads_on, of_pid, Count}
@@ -14,7 +15,7 @@ use Rattle.ts_demux.specs.Sections.{sections_on}
 use Rattle.ts_demux.specs.Laws.{ended, GoOn, PartGoesOn, PartIsHeard, CarriedIsHeard}
 use Rattle.ts_demux.proofs.Hear.{heard_of-counting}
 use Rattle.ts_demux.proofs.Heard.{AllSections, heard-pieces}
-use Rattle.ts_demux.proofs.Windows.{all-front, all-behind, length-pieces, left-append, heard_part}
+use Rattle.ts_demux.proofs.Windows.{length-pieces, left-append, heard_part}
 use Rattle.ts_demux.proofs.Adding.{elsewhere}
 
 -- a written packet arrives on its PID
@@ -59,7 +60,7 @@ heard_written pid small ps h =
 
 each_group : (groups : List (List (List ℕ))) → AllByRecursion IsSection (all_of groups) → AllSections groups
 each_group [] h = tt
-each_group (g ∷ groups) h = (all-front IsSection g (all_of groups) h, each_group groups (all-behind IsSection g (all_of groups) h))
+each_group (g ∷ groups) h = (all_front IsSection g (all_of groups) h, each_group groups (all_behind IsSection g (all_of groups) h))
 
 pub carried_is_heard : CarriedIsHeard
 carried_is_heard pid small packets sections carries each on =
@@ -81,7 +82,7 @@ part_goes_on pid before part after h =
     filter_map-append (load_on pid) before (part ++ after) ∙ ap (λ (x : List Load). loads_on pid before ++ x) (filter_map-append (load_on pid) part after) in
     let behind = Count-behind h.counted.0 (loads_on pid before) (loads_on pid part ++ loads_on pid after) (subst (Count h.counted.0) cut h.counted.1) in
     record {
-      fields = all-front HasFields part after (all-behind HasFields before (part ++ after) h.fields);
+      fields = all_front HasFields part after (all_behind HasFields before (part ++ after) h.fields);
       counted = (behind.0, Count-front behind.0 (loads_on pid part) (loads_on pid after) behind.1);
     }
 

@@ -87,7 +87,7 @@ open_section [] = None
 open_section (p ∷ ps) = if has_start ps then open_section ps else unended_in p (goes_on ps)
 
 -- This is kept of a PID behind these arrivals.
-pub record Keeps (xs : List Arrival) (kept : PidState) : Type 0 where
+pub record PidStateStandsFor (xs : List Arrival) (kept : PidState) : Type 0 where
   pub last : kept.last ≡ last_load xs
   pub section : kept.section ≡ open_section (last_stretch (without_repeats None xs))
 
@@ -104,4 +104,4 @@ kept_on pid slots = kept_in (slice_get slots pid)
 
 -- A demux stands for these packets, each by its bytes: of each PID it keeps what is kept behind them.
 abbrev pub DemuxStandsFor : List (List ℕ) → List (Option PidState) → Type 0
-DemuxStandsFor past slots = (pid : ℕ) → pid < 8192 → Keeps (arrivals_on pid past) (kept_on pid slots)
+DemuxStandsFor past slots = (pid : ℕ) → pid < 8192 → PidStateStandsFor (arrivals_on pid past) (kept_on pid slots)

@@ -56,8 +56,8 @@ abbrev pub joined : {E G : Type 0} → Knowledge E G → Knowledge E G → Knowl
 joined v w = record v { seen = longer v.seen w.seen; finished = v.finished ++ w.own ∷ w.finished }
 
 -- learn: the pass has seen the longer list
-abbrev pub told : {E G : Type 0} → Knowledge E G → ReceiptTells E G → Knowledge E G
-told v w = record v { seen = longer v.seen w.seen }
+abbrev pub having_learnt : {E G : Type 0} → Knowledge E G → ReceiptTells E G → Knowledge E G
+having_learnt v w = record v { seen = longer v.seen w.seen }
 
 -- k is a number of the caller
 abbrev pub Has : {E : Type 0} → Caller E → ℕ → Type 0

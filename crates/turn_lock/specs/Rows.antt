@@ -3,7 +3,7 @@ use Rattle.std.specs.Prelude.{◌≡◌, ℕ, List, [], ◌∷◌, Some, refl}
 use Rattle.std.proofs.Common.{inl, inr}
 use Rattle.atomic_table.specs.Seated.{TableId}
 use Rattle.turn_lock.specs.Journal.{entries_of, Grows}
-use Rattle.turn_lock.specs.Knowledge.{Knowledge, first_pass, lower_part, upper_part, token, longer, joined, told, made_by}
+use Rattle.turn_lock.specs.Knowledge.{Knowledge, first_pass, lower_part, upper_part, token, longer, joined, having_learnt, made_by}
 
 abbrev pub row_journal : List (ℕ × ℕ)
 row_journal = (0, 0) ∷ (2, 0) ∷ (0, 1) ∷ (2, 1) ∷ (0, 2) ∷ []
@@ -50,7 +50,7 @@ module _ (turns : TableId) where
   taken_in : joined one two ≡ record one { seen = row_journal; finished = record { low = 2; span = 2; made = (2, 0) ∷ (2, 1) ∷ [] } ∷ [] }
   taken_in = refl
 
-  learnt : told one (token two) ≡ record one { seen = row_journal }
+  learnt : having_learnt one (token two) ≡ record one { seen = row_journal }
   learnt = refl
 
   -- what was made under its lowest number, and under another

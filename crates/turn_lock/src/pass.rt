@@ -68,7 +68,7 @@ fn cut<S: Chronicle, N: Span>(shared: &Steps<S>, seat: &mut Here<S>, span: u32) 
 }
 
 impl<S: Chronicle> Pass<S> {
-    ghost use Rattle.turn_lock.specs.Knowledge.{lower_part, upper_part, token, joined, told, numbers, HasAny};
+    ghost use Rattle.turn_lock.specs.Knowledge.{lower_part, upper_part, token, joined, having_learnt, numbers, HasAny};
 
     /// The number that the pass acts under: its lowest.
     pub fn who(&self) -> u32
@@ -135,7 +135,7 @@ impl<S: Chronicle> Pass<S> {
     /// Sees what the receipt tells too: the longer of both lists, which both of them begin.
     pub fn learn(&mut self, turns: &Turns<S>, receipt: Receipt<S>)
         requires turns { (self.old.turns ≡ turns.now.turns) × (receipt.turns ≡ turns.now.turns) }
-        ensures told { self.new ≡ told self.old receipt }
+        ensures told { self.new ≡ having_learnt self.old receipt }
         ensures own { IsPrefix self.old.seen self.new.seen }
         ensures learnt { IsPrefix receipt.seen self.new.seen }
     {

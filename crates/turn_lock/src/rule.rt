@@ -10,7 +10,7 @@ use std::snapshot::Snapshot;
 
 /// What the rule reads of the opening: how many numbers there are, and the state that was taken.
 #[derive(Drop)]
-pub struct Key<S> {
+pub struct TurnKey<S> {
     pub callers: u32,
     pub first: Snapshot<S>,
 }
@@ -18,7 +18,7 @@ pub struct Key<S> {
 /// The rule itself.
 pub struct Turning;
 
-impl<S: Chronicle> TableRule<Option<S>, Known<S::Entry, S::Ground>, Key<S>> for Turning {
+impl<S: Chronicle> TableRule<Option<S>, Known<S::Entry, S::Ground>, TurnKey<S>> for Turning {
     ghost holds = { λ key. Kept S.entries S.stands_on S.caller key.callers (S.stands_on key.first.value) };
 
     ghost first = { λ key. first_view key.callers (S.stands_on key.first.value) };

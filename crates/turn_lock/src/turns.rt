@@ -8,7 +8,7 @@ ghost use Rattle.turn_lock.specs.Rule.{all_of, holding, counted_view, let_go_vie
 use crate::chronicle::{Chronicle, Job};
 use crate::known::Known;
 use crate::pass::Pass;
-use crate::rule::{Acquiring, Counting, Key, Releasing, Said, Turning};
+use crate::rule::{Acquiring, Counting, Releasing, Said, TurnKey, Turning};
 use atomic_table::{Seat, Shared, Table};
 use std::alloc::{AllocError, Global};
 use std::marker::{Brand, Model};
@@ -20,7 +20,7 @@ pub(crate) type Here<S> = Seat<Option<S>, Known<<S as Chronicle>::Entry, <S as C
 pub(crate) type Steps<S> = Shared<
     Option<S>,
     Known<<S as Chronicle>::Entry, <S as Chronicle>::Ground>,
-    Key<S>,
+    TurnKey<S>,
     Turning,
 >;
 
@@ -29,7 +29,7 @@ pub(crate) type Steps<S> = Shared<
 /// Contracts see it as `Lock`: which turns they are, and how many numbers there are for callers.
 #[derive(Drop)]
 pub struct Turns<S: Chronicle> {
-    pub(crate) table: Table<Option<S>, Known<S::Entry, S::Ground>, Key<S>, Turning, Global>,
+    pub(crate) table: Table<Option<S>, Known<S::Entry, S::Ground>, TurnKey<S>, Turning, Global>,
 }
 
 impl<S: Chronicle> Model for Turns<S> {
@@ -97,7 +97,7 @@ impl<S: Chronicle> Turns<S> {
         requires empty { S.entries state ≡ [] }
         ensures { IfOk result (λ t. (t.0.callers ≡ callers) × (t.1 ≡ first_pass t.0.turns callers (S.stands_on state))) }
     {
-        let key = Key {
+        let key = TurnKey {
             callers,
             first: Snapshot::of(&state),
         };

@@ -8,7 +8,7 @@ use Rattle.section_codec.specs.KeyOrder.{is_key}
 use Rattle.section_codec.specs.SubTables.{Lacks, KeysDiffer}
 use Rattle.section_codec.specs.Contents.{Content, is_content}
 use Rattle.section_codec.proofs.KeyOrderFacts.{is_key-same, is_key-itself, is_key-apart}
-use Rattle.version_book.specs.Airings.{CycleForm, Airing, content_in, carried, changes_after, changes, version_at}
+use Rattle.version_book.specs.Airings.{CycleForm, AiredTables, content_in, carried, changes_after, changes, version_at}
 use Rattle.version_book.specs.Book.{GivenVersion, last_of, kept_after, aired, versions_of}
 use Rattle.version_book.specs.Slots.{next_version, given_after}
 use Rattle.version_book.proofs.Versions.{changes_after-push, last_of-push, carried-push}
@@ -37,7 +37,7 @@ kept_after-push (b ∷ bs) c =
 -- ---- what is kept of each key
 
 -- Given to what the airings before leave, these sub-tables leave what one airing more leaves.
-pub given_after-airing : (past : List Airing) (f : Key → Option GivenVersion) → ((k : Key) → f k ≡ kept_after (carried k past)) → (ts : List SubTable) (q : Key)
+pub given_after-airing : (past : List AiredTables) (f : Key → Option GivenVersion) → ((k : Key) → f k ≡ kept_after (carried k past)) → (ts : List SubTable) (q : Key)
     → given_after f ts q ≡ kept_after (carried q past ++ option_to_list (content_in q ts))
 given_after-airing past f before [] q = before q ∙ ap kept_after (sym (append-nil (carried q past)))
 given_after-airing past f before (t ∷ ts) q = go (is_key q t.key) refl (given_after-airing past f before ts q)
@@ -51,7 +51,7 @@ given_after-airing past f before (t ∷ ts) q = go (is_key q t.key) refl (given_
         ∙ sym (kept_after-push (carried q past) t.sections)
     go false other rec = rec
 
-pub kept_after-airing : (past : List Airing) (ts : List SubTable) (moment : ℕ) (form : CycleForm) (q : Key)
+pub kept_after-airing : (past : List AiredTables) (ts : List SubTable) (moment : ℕ) (form : CycleForm) (q : Key)
     → kept_after (carried q (past ++ aired ts moment form ∷ [])) ≡ kept_after (carried q past ++ option_to_list (content_in q ts))
 kept_after-airing past ts moment form q = ap kept_after (carried-push q past (aired ts moment form))
 
@@ -71,7 +71,7 @@ AreOwn-all [] differ = tt
 AreOwn-all (t ∷ ts) differ =
     (ap (λ (b : Bool). if b then Some t.sections else content_in t.key ts) (is_key-itself t.key), own_behind t ts ts differ.0 (AreOwn-all ts differ.1))
 
-each_version : (past : List Airing) (f : Key → Option GivenVersion) → ((k : Key) → f k ≡ kept_after (carried k past)) → (all : List SubTable) (moment : ℕ) (form : CycleForm) (ts : List SubTable) → AreOwn all ts
+each_version : (past : List AiredTables) (f : Key → Option GivenVersion) → ((k : Key) → f k ≡ kept_after (carried k past)) → (all : List SubTable) (moment : ℕ) (form : CycleForm) (ts : List SubTable) → AreOwn all ts
     → map (λ (t : SubTable). next_version (f t.key) t.sections) ts ≡ map (λ (t : SubTable). version_at t.key (past ++ aired all moment form ∷ [])) ts
 each_version past f before all moment form [] own = refl
 each_version past f before all moment form (t ∷ ts) own =
@@ -83,6 +83,6 @@ each_version past f before all moment form (t ∷ ts) own =
     ∙ ap (λ (ns : List ℕ). version_at t.key (past ++ aired all moment form ∷ []) ∷ ns) rest
 
 -- what is given are the versions of the airing list
-pub versions-airing : (past : List Airing) (f : Key → Option GivenVersion) → ((k : Key) → f k ≡ kept_after (carried k past)) → (ts : List SubTable) (moment : ℕ) (form : CycleForm) → KeysDiffer ts
+pub versions-airing : (past : List AiredTables) (f : Key → Option GivenVersion) → ((k : Key) → f k ≡ kept_after (carried k past)) → (ts : List SubTable) (moment : ℕ) (form : CycleForm) → KeysDiffer ts
     → map (λ (t : SubTable). next_version (f t.key) t.sections) ts ≡ versions_of past ts moment form
 versions-airing past f before ts moment form differ = each_version past f before ts moment form ts (AreOwn-all ts differ)

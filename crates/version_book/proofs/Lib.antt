@@ -1,4 +1,3 @@
 pub mod Versions
-pub mod Popped
 pub mod SlotFacts
 pub mod Airs

@@ -6,7 +6,7 @@ use Rattle.std.proofs.lemmas.List.Elements.{filter_map-append}
 use Rattle.section_codec.specs.declared.table.Key.{Key}
 use Rattle.section_codec.specs.Contents.{Content, is_content}
 use Rattle.section_codec.proofs.SameContent.{is_content-same}
-use Rattle.version_book.specs.Airings.{Airing, content_at, carried, changes_after}
+use Rattle.version_book.specs.Airings.{AiredTables, content_at, carried, changes_after}
 use Rattle.version_book.specs.Book.{last_of}
 use Rattle.version_book.specs.Laws.{NeighboursAgree, AnotherBetween}
 
@@ -76,5 +76,5 @@ none_behind None = refl
 none_behind (Some c) = refl
 
 -- what the airings carry of a key, with one airing more
-pub carried-push : (k : Key) (past : List Airing) (a : Airing) → carried k (past ++ a ∷ []) ≡ carried k past ++ option_to_list (content_at k a)
+pub carried-push : (k : Key) (past : List AiredTables) (a : AiredTables) → carried k (past ++ a ∷ []) ≡ carried k past ++ option_to_list (content_at k a)
 carried-push k past a = filter_map-append (content_at k) past (a ∷ []) ∙ ap (λ (xs : List Content). carried k past ++ xs) (none_behind (content_at k a))

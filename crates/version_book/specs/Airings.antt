@@ -1,4 +1,4 @@
--- Airing lists, and the version of a key at an airing.
+-- AiredTables lists, and the version of a key at an airing.
 use Rattle.std.specs.Prelude.{ℕ, ◌+◌, ◌%◌, List, [], ◌∷◌, if◌then◌else◌, Option, Some, None, filter_map}
 use Rattle.section_codec.specs.declared.table.Key.{Key}
 use Rattle.section_codec.specs.Contents.{Content, is_content}
@@ -11,7 +11,7 @@ pub record CycleForm : Type 0 where
   pub quota : ℕ
 
 -- one airing: the sub-tables of the publication that goes on air, the moment of its swap in seconds, and the form of its cycle
-pub record Airing : Type 0 where
+pub record AiredTables : Type 0 where
   pub tables : List SubTable
   pub moment : ℕ
   pub form : CycleForm
@@ -22,11 +22,11 @@ content_in k [] = None
 content_in k (t ∷ ts) = if is_key k t.key then Some t.sections else content_in k ts
 
 -- the content of a key at an airing, where the airing carries the key
-abbrev pub content_at : Key → Airing → Option Content
+abbrev pub content_at : Key → AiredTables → Option Content
 content_at k a = content_in k a.tables
 
 -- what the airings that carry the key carry, in order
-abbrev pub carried : Key → List Airing → List Content
+abbrev pub carried : Key → List AiredTables → List Content
 carried k airings = filter_map (content_at k) airings
 
 -- how many of these contents differ from the one before
@@ -39,5 +39,5 @@ changes [] = 0
 changes (c ∷ cs) = changes_after c cs
 
 -- the version of a key at the last of these airings: its changes up to there, modulo 32
-abbrev pub version_at : Key → List Airing → ℕ
+abbrev pub version_at : Key → List AiredTables → ℕ
 version_at k airings = changes (carried k airings) % 32

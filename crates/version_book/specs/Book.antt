@@ -4,7 +4,7 @@ use Rattle.section_codec.specs.declared.table.Key.{Key}
 use Rattle.section_codec.specs.declared.table.SubTable.{SubTable}
 use Rattle.section_codec.specs.KeyOrder.{is_key}
 use Rattle.section_codec.specs.Contents.{Content}
-use Rattle.version_book.specs.Airings.{CycleForm, Airing, carried, changes_after, version_at}
+use Rattle.version_book.specs.Airings.{CycleForm, AiredTables, carried, changes_after, version_at}
 
 -- the version and the content that a key was last given
 pub record GivenVersion : Type 0 where
@@ -31,13 +31,13 @@ kept_after [] = None
 kept_after (c ∷ cs) = Some (record { version = changes_after c cs % 32; content = last_of c cs })
 
 -- The book stands for these airings: it keeps of each key what they carried last.
-abbrev pub BookStandsFor : List Airing → GivenVersions → Type 0
+abbrev pub BookStandsFor : List AiredTables → GivenVersions → Type 0
 BookStandsFor past book = (k : Key) → given_in k book ≡ kept_after (carried k past)
 
 -- these sub-tables, aired at a moment in a cycle of this form
-abbrev pub aired : List SubTable → ℕ → CycleForm → Airing
+abbrev pub aired : List SubTable → ℕ → CycleForm → AiredTables
 aired tables moment form = record { tables = tables; moment = moment; form = form }
 
 -- the version of each of these sub-tables where they are aired behind the past
-abbrev pub versions_of : List Airing → List SubTable → ℕ → CycleForm → List ℕ
+abbrev pub versions_of : List AiredTables → List SubTable → ℕ → CycleForm → List ℕ
 versions_of past tables moment form = map (λ (t : SubTable). version_at t.key (past ++ aired tables moment form ∷ [])) tables

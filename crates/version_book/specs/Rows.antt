@@ -4,7 +4,7 @@ use Rattle.section_codec.specs.declared.table.Key.{Key}
 use Rattle.section_codec.specs.declared.table.SubTable.{SubTable}
 use Rattle.section_codec.specs.declared.table.Tier3.TheVariants.{Fast}
 use Rattle.section_codec.specs.Contents.{Content}
-use Rattle.version_book.specs.Airings.{Airing, version_at, carried}
+use Rattle.version_book.specs.Airings.{AiredTables, version_at, carried}
 use Rattle.version_book.specs.Book.{kept_after, versions_of}
 
 abbrev sdt : Key
@@ -20,7 +20,7 @@ one b = record { number = 0; body = b ∷ [] } ∷ []
 abbrev of : Key → ℕ → SubTable
 of k b = record { key = k; tier = Fast; sections = one b }
 
-abbrev airs : List SubTable → Airing
+abbrev airs : List SubTable → AiredTables
 airs tables = record { tables = tables; moment = 0; form = record { quota = 200 } }
 
 -- contents A, B, A have the versions 0, 1, 2
@@ -38,7 +38,7 @@ again : version_at sdt (airs (of sdt 1 ∷ []) ∷ airs (of sdt 1 ∷ []) ∷ ai
 again = refl
 
 -- two contents in turn, n airings behind the first
-abbrev turns : ℕ → List Airing
+abbrev turns : ℕ → List AiredTables
 turns zero = airs (of sdt 0 ∷ []) ∷ []
 turns (suc n) = turns n ++ airs (of sdt (suc n % 2) ∷ []) ∷ []
 
@@ -50,7 +50,7 @@ wrapped : version_at sdt (turns 32) ≡ 0
 wrapped = refl
 
 -- a key that is missing for 33 airings keeps its version where it returns with the same content, and else goes on
-abbrev without : ℕ → List Airing
+abbrev without : ℕ → List AiredTables
 without zero = []
 without (suc n) = airs (of sdt (n % 2) ∷ []) ∷ without n
 

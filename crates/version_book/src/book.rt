@@ -2,7 +2,7 @@
 ghost use Rattle.std.specs.Prelude.{◌≡◌, ◌≢◌, ◌<◌, ◌+◌, ◌%◌, ◌++◌, ◌∷◌, ℕ, [], List, map, length, Option, Some, None, option_map, option_copied, IsSome, IfOk, OnOk, OnErr, All, if◌then◌else◌};
 ghost use Rattle.std.specs.BTreeMap.{get, IsOrdered};
 ghost use Rattle.section_codec.specs.KeyOrder.{is_key, key_cmp};
-ghost use Rattle.version_book.specs.Airings.{Airing, CycleForm};
+ghost use Rattle.version_book.specs.Airings.{AiredTables, CycleForm};
 ghost use Rattle.section_codec.specs.SubTables.{KeysDiffer};
 ghost use Rattle.section_codec.specs.declared.table.Key.{Key};
 ghost use Rattle.version_book.specs.Book.{BookStandsFor, aired, versions_of};
@@ -58,9 +58,9 @@ impl VersionBook {
     /// memory is wanting, the book stays as it was.
     pub fn assign(&mut self, tables: &Tables) -> Result<Bytes, AllocError>
         requires { KeysDiffer tables.now.list }
-        ensures versions { IfOk result (λ versions. (past : List Airing) (moment : ℕ) (form : CycleForm) → BookStandsFor past self.old
+        ensures versions { IfOk result (λ versions. (past : List AiredTables) (moment : ℕ) (form : CycleForm) → BookStandsFor past self.old
             → versions ≡ versions_of past tables.now.list moment form) }
-        ensures stands { OnOk result ((past : List Airing) (moment : ℕ) (form : CycleForm) → BookStandsFor past self.old
+        ensures stands { OnOk result ((past : List AiredTables) (moment : ℕ) (form : CycleForm) → BookStandsFor past self.old
             → BookStandsFor (past ++ aired tables.now.list moment form ∷ []) self.new) }
         ensures small { IfOk result (λ versions. All (λ v. v < 32) versions) }
         ensures each { IfOk result (λ versions. length versions ≡ length tables.now.list) }

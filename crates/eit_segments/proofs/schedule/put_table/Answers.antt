@@ -3,7 +3,7 @@ use Rattle.std.specs.List.{range_with_len}
 use Rattle.eit_segments.specs.declared.piece.Piece.{Piece}
 use Rattle.eit_segments.specs.Placement.{block_place}
 use Rattle.eit_segments.specs.Schedule.{last_used, last_number, sections_from, segment_sections}
-use Rattle.eit_segments.proofs.Lists.{range_more}
+use Rattle.si_lists.proofs.Lists.{range_more}
 use Rattle.eit_segments.proofs.Order.{runs_between, runs_few, used_less}
 use Rattle.eit_segments.proofs.schedule.put_table.Goals as goal
 

@@ -2,7 +2,7 @@ use Rattle.std.proofs.Common.{◌≡◌, ℕ, ◌+◌, ◌*◌, ◌/◌, ◌++�
 use Rattle.std.specs.List.{range_with_len}
 use Rattle.eit_segments.specs.declared.piece.Piece.{Piece}
 use Rattle.eit_segments.specs.Schedule.{last_used, table_sections}
-use Rattle.eit_segments.proofs.Lists.{range_more}
+use Rattle.si_lists.proofs.Lists.{range_more}
 use Rattle.eit_segments.proofs.schedule.segments.Goals as goal
 
 pub loop-t-preserved : goal.loop-t-preserved

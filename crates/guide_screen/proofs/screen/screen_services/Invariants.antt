@@ -2,13 +2,13 @@ use Rattle.std.proofs.Common.{◌≡◌, ◌++◌, Option, map}
 use Rattle.std.specs.Vec.Iter.{into_iter_items}
 use Rattle.section_codec.specs.declared.table.Key.{Key}
 use Rattle.section_codec.specs.Contents.{Content}
-use Rattle.guide_screen.specs.Holding.{Keeps}
+use Rattle.guide_screen.specs.Holding.{KeepsContents}
 use Rattle.guide_screen.specs.Screen.{screen_service}
 use Rattle.guide_screen.proofs.screen.screen_services.Given as goal
 
 -- those that are shown so far and those that follow are all
 abbrev pub invariant-loop-service : goal.invariant-loop-service
 invariant-loop-service l =
-    (content : Key → Option Content) → Keeps l.contents content
+    (content : Key → Option Content) → KeepsContents l.contents content
     → l.shown.items ++ map (screen_service content l.programs l.sdt) (into_iter_items l.service-iterator)
     ≡ map (screen_service content l.programs l.sdt) l.fn.services.items

@@ -2,7 +2,7 @@ use Rattle.std.proofs.Common.{◌≡◌, ℕ, ◌<◌, ◌∙◌, ◌++◌, [], 
 use Rattle.std.proofs.lemmas.Bool.{eqb-false}
 use Rattle.desc_parts.specs.declared.descriptors.RawDesc.{RawDesc}
 use Rattle.desc_parts.specs.Descriptors.{AreDescriptors}
-use Rattle.table_entries.specs.Entries.{Entry, FitsEntry, entry_bytes}
+use Rattle.table_entries.specs.Entries.{TableEntry, FitsEntry, entry_bytes}
 use Rattle.table_entries.proofs.Reading.{AreSoFar, cut_entry, no_loop, next_so_far}
 use Rattle.table_entries.proofs.read.read_entries.Goals as goal
 
@@ -10,7 +10,7 @@ pub returns-in_default-clause-none : goal.returns-in_default-clause-none
 returns-in_default-clause-none g c values p =
     let rest = c.loop-rest.rest.now in
     let some : 0 < length rest = omega (arith, eqb-false _ _ (sym c.loop-rest-test.ensures)) in
-    let cut = subst (λ (n : ℕ). (entry : Entry) (more : List ℕ) → FitsEntry n entry → rest ≡ entry_bytes entry ++ more → ⊥) c.SIZE.ensures c.in_default.ensures.none in
+    let cut = subst (λ (n : ℕ). (entry : TableEntry) (more : List ℕ) → FitsEntry n entry → rest ≡ entry_bytes entry ++ more → ⊥) c.SIZE.ensures c.in_default.ensures.none in
     cut_entry g.K.EntryKind.SIZE g.K.EntryKind.value_of c.args.bytes.now rest c.loop-rest.values.items values c.loop-rest.invariant some cut p
 
 pub returns-in_default-2-clause-none : goal.returns-in_default-2-clause-none

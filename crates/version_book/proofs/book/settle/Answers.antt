@@ -3,7 +3,7 @@ use Rattle.std.proofs.lemmas.List.{get_or-map, length-map}
 use Rattle.section_codec.specs.declared.table.SubTable.{SubTable}
 use Rattle.section_codec.specs.Contents.{Content}
 use Rattle.version_book.specs.Slots.{kept_at, next_version, version_given, content_given, given_after}
-use Rattle.version_book.proofs.Popped.{popped}
+use Rattle.si_lists.proofs.Parts.{popped}
 use Rattle.version_book.proofs.SlotFacts.{at_place, given_turn, put_kept, filled_by}
 use Rattle.version_book.proofs.book.settle.Goals as goal
 

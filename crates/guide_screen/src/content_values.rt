@@ -1,7 +1,7 @@
 // What contents say: a section by its number, and all sections in order.
 ghost use Rattle.std.specs.Prelude.{◌≡◌, ◌++◌, [], option_map, unwrap_or, IfOk, OnOk};
 ghost use Rattle.section_codec.specs.Contents.{part_in};
-ghost use Rattle.guide_screen.specs.Reading.{pmt_in, nit_in, sdt_in, eit_in, programs_in, streams_in, services_in, events_in, told};
+ghost use Rattle.guide_screen.specs.Reading.{pmt_in, nit_in, sdt_in, eit_in, programs_in, streams_in, services_in, events_in, value_in};
 ghost use Rattle.guide_screen.specs.Needs.{last_table};
 ghost use Rattle.guide_screen.specs.Screen.{first_of, event_at, network_name};
 
@@ -28,7 +28,7 @@ fn part_in(content: &[NumberedBody], number: u8) -> Option<&[u8]>
 
 // What section 0 of a program map table says.
 pub(crate) fn pmt_told(alloc: Global, content: &[NumberedBody]) -> Result<Option<Pmt>, AllocError>
-    ensures { IfOk result (λ pmt. pmt ≡ told pmt_in 0 content.now) }
+    ensures { IfOk result (λ pmt. pmt ≡ value_in pmt_in 0 content.now) }
 {
     match part_in(content, 0) {
         Some(body) => pmt_in(alloc, body),

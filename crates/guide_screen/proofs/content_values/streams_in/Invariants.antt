@@ -1,6 +1,6 @@
 use Rattle.std.proofs.Common.{◌≡◌, take}
 use Rattle.guide_screen.specs.Reading.{streams_in}
-use Rattle.guide_screen.proofs.told.streams_in.Given as goal
+use Rattle.guide_screen.proofs.content_values.streams_in.Given as goal
 
 -- those of the sections so far
 abbrev pub invariant-loop-section : goal.invariant-loop-section

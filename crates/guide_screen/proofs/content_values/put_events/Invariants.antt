@@ -1,6 +1,6 @@
 use Rattle.std.proofs.Common.{◌≡◌, ◌++◌, take}
 use Rattle.guide_screen.specs.Reading.{events_in}
-use Rattle.guide_screen.proofs.told.put_events.Given as goal
+use Rattle.guide_screen.proofs.content_values.put_events.Given as goal
 
 -- those of the sections so far stand behind what was there
 abbrev pub invariant-loop-section : goal.invariant-loop-section
