@@ -1,10 +1,10 @@
 // The sections that counted last.
-ghost use Rattle.std.specs.Prelude.{◌≡◌, ◌≤◌, Some, IfSome, length};
+ghost use Rattle.std.specs.Prelude.{◌≡◌, ◌≤◌, Some, IfOk, IfSome, length, option_map};
 ghost use Rattle.section_codec.specs.Section.{long_body};
 ghost use Rattle.sub_collect.specs.Runs.{counted};
 ghost use Rattle.heard_completions.specs.Counting.{counted_in};
 
-use heard_completions::CountedSection;
+use heard_completions::{CountedSection, counted_section};
 use section_codec::{Key, LongHeader};
 use si_base::Items;
 use std::alloc::{AllocError, Global};
@@ -57,8 +57,26 @@ impl KnownSections {
         }
     }
 
+    // The section that counts: where one with the same bytes counted last under its name, a copy of that; or else as it is read, and kept.
+    pub(crate) fn counted_section(
+        &mut self,
+        alloc: Global,
+        section: &RawSection,
+    ) -> Result<Option<CountedSection>, AllocError>
+        ensures counts { IfOk result (λ found. option_map (λ s. counted s.key s.header s.body) found ≡ counted_in section.now) }
+    {
+        if let Some(same) = self.find(section) {
+            return Ok(Some(same.copy(alloc)?));
+        }
+        let Some(counts) = counted_section(alloc, section)? else {
+            return Ok(None);
+        };
+        self.keep(alloc, section, &counts)?;
+        Ok(Some(counts))
+    }
+
     // Keeps a section that counted.
-    pub(crate) fn keep(
+    fn keep(
         &mut self,
         alloc: Global,
         section: &RawSection,
@@ -87,6 +105,19 @@ impl KnownSections {
 }
 
 impl KnownSection {
+    // The section that counted. It is not read again.
+    fn copy(&self, alloc: Global) -> Result<CountedSection, AllocError>
+        requires { 12 ≤ length self.now.raw.bytes }
+        ensures { IfOk result (λ s. counted_in self.now.raw ≡ Some (counted s.key s.header s.body)) }
+    {
+        let body = Items::of(Vec::from_slice(alloc, self.body())?);
+        Ok(CountedSection {
+            key: self.key,
+            header: self.header,
+            body,
+        })
+    }
+
     // What stands between the header and the CRC.
     pub(crate) fn body(&self) -> &[u8]
         requires { 12 ≤ length self.now.raw.bytes }

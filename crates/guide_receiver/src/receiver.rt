@@ -15,7 +15,7 @@ use crate::clock::clock_behind;
 use crate::known::KnownSections;
 use crate::latest_keys::LatestKeys;
 use guide_screen::{Heard, Latest, heard_guide};
-use heard_completions::{CountedSection, DoneKey, Dones, counted_section};
+use heard_completions::{CountedSection, DoneKey, Dones};
 use si_base::Items;
 use si_time::Moment;
 use std::alloc::{AllocError, Global};
@@ -137,8 +137,8 @@ fn count_all(
     Ok(())
 }
 
-// Counts a section, and gives the completion that it shows. A carousel repeats its sections for ever: what is held already is
-// compared, and not read again.
+// Counts a section, and gives the completion that it shows. A carousel repeats its sections for ever: what counted last is compared, and
+// not read again.
 fn count(
     alloc: Global,
     known: &mut KnownSections,
@@ -151,10 +151,9 @@ fn count(
     if is_held(known, collector, section) {
         return Ok(None);
     }
-    let Some(counts) = counted_section(alloc, section)? else {
+    let Some(counts) = known.counted_section(alloc, section)? else {
         return Ok(None);
     };
-    known.keep(alloc, section, &counts)?;
     let CountedSection { key, header, body } = counts;
     let shown = collector.take(key, &header, body)?;
     Ok(match shown {
