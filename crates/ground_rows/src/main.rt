@@ -12,6 +12,7 @@ mod fields;
 mod guides;
 #[cfg(test)]
 mod lines;
+mod loads;
 mod moments;
 mod notation;
 #[cfg(test)]
@@ -45,6 +46,8 @@ fn answer(alloc: Global, call: &str, arguments: &str) -> Result<String, NoAnswer
         texts::answer(alloc, call, arguments)
     } else if is_among(call, fields::CALLS) {
         fields::answer(alloc, call, arguments)
+    } else if is_among(call, loads::CALLS) {
+        loads::answer(alloc, call, arguments)
     } else {
         Err(NoAnswer::NoRow)
     }

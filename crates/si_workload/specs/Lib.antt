@@ -1,0 +1,3 @@
+pub mod Shows
+pub mod Texts
+pub mod Going
