@@ -1,14 +1,14 @@
 -- The limits of what the words of `live` say.
-use Rattle.std.proofs.Common.{◌≡◌, ◌≤◌, ℕ, true, false, List, [], ◌∷◌, length, Option, Some, None, refl, sym, ap, ◌∙◌, subst, arith}
-use Rattle.std.specs.Prelude.{Bool, ◌&&◌, nat_le, filter_map, option_map, option_and_then, bytes_eq, codes, string_bytes, String, if◌then◌else◌}
+use Rattle.std.proofs.Common.{◌≡◌, ◌≤◌, ℕ, true, false, List, [], ◌∷◌, length, Option, Some, None, refl, subst, arith}
+use Rattle.std.specs.Prelude.{Bool, nat_le, filter_map, option_map, option_and_then, bytes_eq, codes, string_bytes, if◌then◌else◌}
 use Rattle.std.specs.List.{AllByRecursion, list_any, before_first, after_first}
 use Rattle.std.proofs.lemmas.Bool.{and_parts}
 use Rattle.std.proofs.lemmas.Bool.Decides.{nat_tests}
 use Rattle.std.proofs.lemmas.List.{length-map}
 use Rattle.input_lines.specs.Numbers.{in_range, is_numeral, number_in, value_from}
-use Rattle.command_words.specs.Commands.{texts}
-use Rattle.command_words.specs.Drafts.{AreOptions}
-use Rattle.command_words.specs.Grammar.{CommandLine, Play, Listen, Live, Setting, Feed, Cycles, Join, and_setting, cycles_of, feed_of, join_of, is_dashed, is_equals, is_empty, live_of, live_with, path_of, setting_in, setting_in_two, setting_of, settings_of}
+use Rattle.command_words.specs.declared.command.LiveWords.{LiveWords}
+use Rattle.command_words.specs.Commands.{said_live}
+use Rattle.command_words.specs.Grammar.{CommandLine, Play, Listen, Live, Setting, Feed, Cycles, Join, and_setting, cycles_of, feed_of, join_of, is_dashed, is_equals, live_of, live_with, path_of, setting_in, setting_in_two, setting_of, settings_of}
 
 -- a number of cycles is at most 1,000
 abbrev IsSettingWithin : Setting → Type 0
@@ -114,10 +114,7 @@ line_within None all = tt
 line_within (Some settings) all = with_within (filter_map feed_of settings) (filter_map cycles_of settings) (filter_map join_of settings) (cycles_all settings all)
 
 -- what options say is within its limits
-pub options_within : {Y : Type 0} (words : List (List ℕ)) (cycles join : ℕ) (paths : List (String Y)) (o : AreOptions words cycles join) → texts paths ≡ filter_map feed_of o.settings → (length paths ≤ 16) × (cycles ≤ 1000)
-options_within words cycles join paths o are =
-    let line : IfLine (option_and_then live_of (settings_of words)) = line_within (settings_of words) (settings_within words) in
-    let spelled : option_and_then live_of (settings_of words) ≡ Some (Live (filter_map feed_of o.settings) cycles join) = ap (option_and_then live_of) o.spelled ∙ o.live in
-    let both : IsLineWithin (Live (filter_map feed_of o.settings) cycles join) = subst IfLine spelled line in
-    let count : length paths ≡ length (filter_map feed_of o.settings) = sym (length-map paths string_bytes) ∙ ap length are in
-    (omega (arith, both.0, count), both.1)
+pub live_within : (words : List (List ℕ)) (live : LiveWords) → option_and_then live_of (settings_of words) ≡ Some (said_live live) → (length live.feeds.items ≤ 16) × (live.cycles ≤ 1000)
+live_within words live is =
+    let both : IsLineWithin (said_live live) = subst IfLine is (line_within (settings_of words) (settings_within words)) in
+    (omega (arith, both.0, length-map live.feeds.items string_bytes), both.1)

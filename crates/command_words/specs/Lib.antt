@@ -1,4 +1,5 @@
 pub mod Grammar
 pub mod Commands
-pub mod Drafts
+pub mod Counts
+pub mod Matches
 mod Rows

@@ -4,7 +4,8 @@ ghost use Rattle.command_words.specs.declared.command.WordsStop.TheVariants.{Usa
 ghost use Rattle.command_words.specs.Commands.{IsWithin, said, texts};
 ghost use Rattle.command_words.specs.Grammar.{alone as alone_in, command_of, live_of, settings_of};
 
-use crate::live::{live_numbers, live_paths};
+use crate::matches::live_words;
+use crate::uses::are_live;
 use std::alloc::Global;
 
 /// Paths of files, in the order in which they stood.
@@ -78,15 +79,11 @@ fn live(alloc: Global, options: &[String]) -> Result<Command, WordsStop>
     ensures within { IfOk result IsWithin }
     ensures usage { result ≡ Err Usage ↔ (option_and_then live_of (settings_of (texts options.now)) ≡ None) }
 {
-    let Some(numbers) = live_numbers(options) else {
+    if !are_live(options) {
         return Err(WordsStop::Usage);
-    };
-    let Ok(feeds) = live_paths(alloc, options) else {
-        return Err(WordsStop::Memory);
-    };
-    Ok(Command::Live(LiveWords {
-        feeds,
-        cycles: numbers.cycles,
-        join: numbers.join,
-    }))
+    }
+    match live_words(alloc, options) {
+        Ok(live) => Ok(Command::Live(live)),
+        Err(_) => Err(WordsStop::Memory),
+    }
 }

@@ -1,39 +1,41 @@
 // Options of `live`.
 ghost use Rattle.std.specs.Prelude.{◌≡◌, ◌<◌, IfNone, IfSome, None, Some, length, option_map};
 ghost use Rattle.std.specs.List.{list_any};
-ghost use Rattle.command_words.specs.Commands.{said_setting, texts};
+ghost use Rattle.command_words.specs.Commands.{option_of as option_in, texts};
 ghost use Rattle.command_words.specs.Grammar.{and_setting, is_dashed as is_a_dashed, is_equals, path_of as path_in, setting_of as setting_named, settings_of};
 
 use input_lines::number;
 
-// An option and its value.
+// An option, whatever its value.
 #[derive(Clone, Copy)]
-pub(crate) enum Setting<'a> {
-    Feed(&'a str),
-    Cycles(u64),
-    Join(u64),
+pub(crate) enum LiveOption {
+    Feed,
+    Cycles,
+    Join,
 }
 
-fn path_of(value: &str) -> Option<Setting<'_>>
-    ensures { option_map said_setting result ≡ path_in value.now }
+fn feed_of(path: &str) -> Option<LiveOption>
+    ensures { result ≡ option_map option_in (path_in path.now) }
 {
-    if value.is_empty() || value == "-" {
+    if path.is_empty() || path == "-" {
         None
     } else {
-        Some(Setting::Feed(value))
+        Some(LiveOption::Feed)
     }
 }
 
-// The option of this name with this value.
-pub(crate) fn setting_of<'a>(name: &str, value: &'a str) -> Option<Setting<'a>>
-    ensures { option_map said_setting result ≡ setting_named name.now value.now }
+// The option of this name, where it may have this value.
+pub(crate) fn option_of(name: &str, value: &str) -> Option<LiveOption>
+    ensures { result ≡ option_map option_in (setting_named name.now value.now) }
 {
     if name == "--feed" {
-        path_of(value)
+        feed_of(value)
     } else if name == "--cycles" {
-        Some(Setting::Cycles(u64::from(number(value, 1, 1000)?)))
+        number(value, 1, 1000)?;
+        Some(LiveOption::Cycles)
     } else if name == "--join" {
-        Some(Setting::Join(u64::from(number(value, 0, 999_999_999)?)))
+        number(value, 0, 999_999_999)?;
+        Some(LiveOption::Join)
     } else {
         None
     }

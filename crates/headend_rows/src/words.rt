@@ -40,6 +40,13 @@ fn words_that_are_no_command(rt: HostRuntime) -> Result<(), Fail> {
         (0, ""),
         (1, "live"),
         (2, "live|--feed=x"),
+        (7, "live|--feed|a|--cycles|0|--join|0"),
+        (5, "live|-f|a|--cycles=1|--join=0"),
+        (6, "live|--feed|-a|--cycles|1|--join=0"),
+        (5, "live|--feed=a|--cycles=1|--cycles=1|--join=0"),
+        (5, "live|--|--feed=a|--cycles=1|--join=0"),
+        (5, "live|--feed=a|--cycles=1|--join=0|--"),
+        (3, "live|-f|a"),
         (2, "play|play"),
         (2, "listen|--join=0"),
         (1, "Play"),
@@ -58,9 +65,11 @@ fn words_that_are_no_command(rt: HostRuntime) -> Result<(), Fail> {
 #[test]
 fn the_words_listen_and_live(rt: HostRuntime) -> Result<(), Fail> {
     let live = "live|--feed|x|--cycles=1|--join|0";
+    let mixed = "live|--join=0|--feed|a|--cycles|3|--feed=b";
     for (count, words, status, report) in [
         (1, "listen", Status::BadStream(0), "fault: packet 0\n"),
         (6, live, Status::OpenFault(1), "fault: feed 1 not opened\n"),
+        (7, mixed, Status::OpenFault(1), "fault: feed 1 not opened\n"),
     ] {
         let is_so = ends_so(&rt, rt.alloc(), count, words, status, report)?;
         assert!(rt; is_so, "{words}");
