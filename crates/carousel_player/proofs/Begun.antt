@@ -5,13 +5,14 @@ use Rattle.std.specs.List.{AllByRecursion, All, prefix_len, cons_option}
 use Rattle.std.proofs.lemmas.List.{take-map, drop-map}
 use Rattle.std.proofs.lemmas.Option.{slice_get-map}
 use Rattle.std.proofs.lemmas.List.Elements.{recursion_from_All, All-take, All-drop}
+use Rattle.si_lists.proofs.Lists.{all_append}
 use Rattle.section_codec.specs.declared.table.NumberedBody.{NumberedBody}
 use Rattle.section_codec.specs.declared.table.SubTable.{SubTable}
 use Rattle.section_codec.specs.Section.{longest_body}
 use Rattle.section_codec.proofs.ReadBack.{length-section_bytes}
 use Rattle.section_codec.specs.Tables.{is_eit}
 use Rattle.section_codec.specs.Contents.{Content}
-use Rattle.version_book.specs.Airings.{CycleForm, Airing, version_at}
+use Rattle.version_book.specs.Airings.{CycleForm, AiredTables, version_at}
 use Rattle.version_book.specs.Book.{aired, versions_of}
 use Rattle.section_codec.specs.declared.table.Tier3.{Tier3}
 use Rattle.cycle_plan.specs.Cycle.{cycle_of}
@@ -45,20 +46,16 @@ sendable_sections v t (s ∷ ss) pid fit =
     let top : longest_body t.key.table ≤ 4084 = longest (is_eit t.key.table) in
     (record { pid = pid; some = omega (arith, size); most = omega (arith, size) }, sendable_sections v t ss pid fit.1)
 
-all-append : (xs ys : List Sent) → AllByRecursion IsSendable xs → AllByRecursion IsSendable ys → AllByRecursion IsSendable (xs ++ ys)
-all-append [] ys p q = q
-all-append (x ∷ xs) ys p q = (p.0, all-append xs ys p.1 q)
-
 sendable : (vs : List ℕ) (ts : List SubTable) → AllByRecursion IsFit ts → AllByRecursion IsSendable (sections_under vs ts)
 sendable [] ts fit = tt
 sendable (v ∷ vs) [] fit = tt
 sendable (v ∷ vs) (t ∷ ts) fit =
-    all-append (sections_of v t) (sections_under vs ts) (sendable_sections v t t.sections (let lt : t.key.pid < 8191 = fit.0.pid in omega (arith, lt)) (recursion_from_All _ t.sections fit.0.bodies)) (sendable vs ts fit.1)
+    all_append IsSendable (sections_of v t) (sections_under vs ts) (sendable_sections v t t.sections (let lt : t.key.pid < 8191 = fit.0.pid in omega (arith, lt)) (recursion_from_All _ t.sections fit.0.bodies)) (sendable vs ts fit.1)
 
 sendable_cycle : (vs : List ℕ) (ts : List SubTable) (moment : ℕ) → All IsFit ts → AllByRecursion IsSendable (cycle_under vs ts moment)
 sendable_cycle vs ts moment fit =
     let n = prefix_len leads ts in
-    all-append (sections_under (take n vs) (before_tdt ts)) (tdt moment ∷ sections_under (drop n vs) (behind_tdt ts))
+    all_append IsSendable (sections_under (take n vs) (before_tdt ts)) (tdt moment ∷ sections_under (drop n vs) (behind_tdt ts))
     (sendable (take n vs) (before_tdt ts) (recursion_from_All IsFit (before_tdt ts) (All-take IsFit n ts fit))) (
       record { pid = omega arith; some = omega (arith, eight moment); most = omega (arith, eight moment) },
       sendable (drop n vs) (behind_tdt ts) (recursion_from_All IsFit (behind_tdt ts) (All-drop IsFit n ts fit)),
@@ -90,7 +87,7 @@ versions_given f [] = refl
 versions_given f (t ∷ ts) = ap (λ (l : List Sent). sections_of (f t) t ++ l) (versions_given f ts)
 
 -- with the versions of the airing they are its sections
-sections_given : (past : List Airing) (moment : ℕ) (form : CycleForm) (ts : List SubTable) → cycle_under (versions_of past ts moment form) ts moment ≡ sections_once past (aired ts moment form)
+sections_given : (past : List AiredTables) (moment : ℕ) (form : CycleForm) (ts : List SubTable) → cycle_under (versions_of past ts moment form) ts moment ≡ sections_once past (aired ts moment form)
 sections_given past moment form ts =
     ap₂ (λ (x y : List Sent). x ++ tdt moment ∷ y)
     (ap (λ (vs : List ℕ). sections_under vs (before_tdt ts)) (take-map version n ts) ∙ versions_given version (before_tdt ts))
@@ -111,7 +108,7 @@ map-at_places f xs (i ∷ order) = go (slice_get xs i) (map-at_places f xs order
     go (Some x) e = ap (λ (l : List _). f x ∷ l) e
 
 -- in the order of the plan they are the cycle
-pub cycle_begun : (past : List Airing) (moment quota : ℕ) (vs : List ℕ) (ts : List SubTable) (bytes : List ℕ) (placed : List Placed) → AreLaid (cycle_under vs ts moment) bytes placed
+pub cycle_begun : (past : List AiredTables) (moment quota : ℕ) (vs : List ℕ) (ts : List SubTable) (bytes : List ℕ) (placed : List Placed) → AreLaid (cycle_under vs ts moment) bytes placed
     → vs ≡ versions_of past ts moment (record { quota = quota })
     → each_alone (map (sent_at bytes) (at_places placed (cycle_of (planned (weights_under ts) quota)))) ≡ each_alone (cycle_sections past (aired ts moment (record { quota = quota })))
 cycle_begun past moment quota vs ts bytes placed h is =

@@ -5,3 +5,4 @@ pub mod Sendings
 pub mod Plays
 pub mod Weights
 pub mod Spaced
+pub mod SentSpaced

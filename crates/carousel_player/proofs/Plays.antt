@@ -9,10 +9,10 @@ use Rattle.std.proofs.lemmas.List.Concat.{flat_map-append}
 use Rattle.si_causes.specs.Causes.{AppendsFront}
 use Rattle.si_causes.proofs.CauseFacts.{front_behind}
 use Rattle.std.proofs.lemmas.List.Elements.{recursion_from_All, All-take, All-drop}
-use Rattle.si_lists.proofs.Lists.{all_append}
+use Rattle.si_lists.proofs.Lists.{all_append, all_front}
 use Rattle.section_codec.specs.declared.table.SubTable.{SubTable}
 use Rattle.section_codec.specs.Contents.{Content}
-use Rattle.version_book.specs.Airings.{CycleForm, Airing, version_at}
+use Rattle.version_book.specs.Airings.{CycleForm, AiredTables, version_at}
 use Rattle.version_book.specs.Book.{BookStandsFor, aired}
 use Rattle.ts_packets.specs.Packets.{Piece, pieces, alone}
 use Rattle.ts_packets.specs.Bytes.{Packet, HasFields, bytes_of_packet, packet_on, packets_alone}
@@ -27,7 +27,6 @@ use Rattle.air_model.proofs.Airs.{air-push, air_bytes-push, airings_of-push, air
 use Rattle.section_codec.specs.SubTables.{IsFit}
 use Rattle.carousel_player.specs.Sending.{Sends}
 use Rattle.carousel_player.specs.Playing.{Playing, AtEnd, Within, Begins, GaveUp}
-use Rattle.carousel_player.proofs.Sendings.{all-append, all-front}
 
 -- ---- a cycle begins
 
@@ -40,7 +39,7 @@ pids_on pid (p ∷ ps) lt = (lt, pids_on pid ps lt)
 
 pids_alone : (ss : List Sent) → AllByRecursion (λ (s : Sent). s.pid < 8192) ss → PidsFit (each_alone ss)
 pids_alone [] h = tt
-pids_alone (s ∷ ss) h = all-append PidFits (packets_alone s.pid s.bytes) (each_alone ss) (pids_on s.pid (pieces [] (alone s.bytes)) h.0) (pids_alone ss h.1)
+pids_alone (s ∷ ss) h = all_append PidFits (packets_alone s.pid s.bytes) (each_alone ss) (pids_on s.pid (pieces [] (alone s.bytes)) h.0) (pids_alone ss h.1)
 
 pids_of : (v : ℕ) (t : SubTable) (ss : Content) (more : List Sent) → t.key.pid < 8192 → AllByRecursion (λ (s : Sent). s.pid < 8192) more → AllByRecursion (λ (s : Sent). s.pid < 8192) (map (sent_section v t) ss ++ more)
 pids_of v t [] more lt h = h
@@ -50,7 +49,7 @@ pids_sent : (f : SubTable → ℕ) (ts : List SubTable) → AllByRecursion IsFit
 pids_sent f [] fit = tt
 pids_sent f (t ∷ ts) fit = pids_of (f t) t t.sections (flat_map (λ (u : SubTable). sections_of (f u) u) ts) (let lt : t.key.pid < 8191 = fit.0.pid in omega (arith, lt)) (pids_sent f ts fit.1)
 
-pids_cycle : (past : List Airing) (a : Airing) → All IsFit a.tables → AllByRecursion (λ (s : Sent). s.pid < 8192) (cycle_sections past a)
+pids_cycle : (past : List AiredTables) (a : AiredTables) → All IsFit a.tables → AllByRecursion (λ (s : Sent). s.pid < 8192) (cycle_sections past a)
 pids_cycle past a fit =
     let n = prefix_len leads a.tables in
     let version : SubTable → ℕ = λ t. version_at t.key (past ++ a ∷ []) in
@@ -72,11 +71,11 @@ begins xs ts moment form old new end fit same stands left =
       refl,
       refl,
       record {
-        is_air = subst (λ (l : List Airing). IsAirOf l (xs ++ x ∷ [])) (sym longer) (air_more-alone (airings_of xs) xs a end.is_air pids);
+        is_air = subst (λ (l : List AiredTables). IsAirOf l (xs ++ x ∷ [])) (sym longer) (air_more-alone (airings_of xs) xs a end.is_air pids);
         handed = [];
         parts = refl;
         sent = record {
-          versions = subst (λ (l : List Airing). BookStandsFor l new.book) (sym longer) stands;
+          versions = subst (λ (l : List AiredTables). BookStandsFor l new.book) (sym longer) stands;
           counters = subst (λ (l : List Packet). StandFor (map bytes_of_packet l) new.counters) (sym (append-nil (air xs))) (subst (λ (c : List (Option ℕ)). StandFor (map bytes_of_packet (air xs)) c) (sym same) end.sent.counters);
         };
         rest_is = ap₂ counted (sym (append-nil (air xs))) (sym left);
@@ -88,7 +87,7 @@ begins xs ts moment form old new end fit same stands left =
 fields_before : (xs : List Aired) (x : Aired) (rest : List Packet) (p : Playing) (w : Within xs x rest p) → AllByRecursion HasFields (air xs ++ w.handed)
 fields_before xs x rest p w =
     let whole : air (xs ++ x ∷ []) ≡ (air xs ++ w.handed) ++ rest = air-push xs x ∙ ap (λ (l : List Packet). air xs ++ l) w.parts ∙ sym (append_assoc (air xs) w.handed rest) in
-    all-front HasFields (air xs ++ w.handed) rest (subst (AllByRecursion HasFields) whole w.is_air.fields)
+    all_front HasFields (air xs ++ w.handed) rest (subst (AllByRecursion HasFields) whole w.is_air.fields)
 
 -- a front of the rest was handed out
 pub record HandsOut (xs : List Aired) (x : Aired) (rest : List Packet) (new : Playing) (bytes : List ℕ) (front left : List Packet) : Type 0 where

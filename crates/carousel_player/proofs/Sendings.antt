@@ -5,6 +5,7 @@ use Rattle.std.specs.List.{AllByRecursion}
 use Rattle.std.proofs.lemmas.List.{map-append}
 use Rattle.std.proofs.Math.Seq.{take-append-add, take-append_seam}
 use Rattle.std.proofs.lemmas.List.Concat.{flat_map-append}
+use Rattle.si_lists.proofs.Lists.{all_append, all_front}
 use Rattle.ts_packets.specs.Bytes.{Packet, HasFields, bytes_of_packet, pid_in, with_counter}
 use Rattle.ts_packets.specs.Counting.{StandFor, count_on, loads_on}
 use Rattle.ts_packets.proofs.Headers.{pid_in-bytes}
@@ -12,14 +13,6 @@ use Rattle.ts_packets.proofs.Stamps.{count_on-written}
 use Rattle.air_model.specs.Making.{count_behind, counted}
 use Rattle.air_model.proofs.Counted.{PidsFit, counted-append, fields-counted}
 use Rattle.carousel_player.specs.Sending.{IsUncounted, PutsFirst, Sends}
-
-pub all-append : (P : Packet → Type 0) (xs ys : List Packet) → AllByRecursion P xs → AllByRecursion P ys → AllByRecursion P (xs ++ ys)
-all-append P [] ys p q = q
-all-append P (x ∷ xs) ys p q = (p.0, all-append P xs ys p.1 q)
-
-pub all-front : (P : Packet → Type 0) (xs ys : List Packet) → AllByRecursion P (xs ++ ys) → AllByRecursion P xs
-all-front P [] ys p = tt
-all-front P (x ∷ xs) ys p = (p.0, all-front P xs ys p.1)
 
 pids_fit : (ps : List Packet) → AllByRecursion IsUncounted ps → PidsFit ps
 pids_fit [] h = tt
@@ -75,7 +68,7 @@ pub Sends-trans : (a b c : List Packet) (one two three : List (Option ℕ)) (fir
 Sends-trans a b c one two three first second s t = record {
   front = s.front ++ t.front;
   cut = s.cut ∙ ap (λ (l : List Packet). s.front ++ l) t.cut ∙ sym (append_assoc s.front t.front c);
-  fit = all-append IsUncounted s.front t.front s.fit t.fit;
+  fit = all_append IsUncounted s.front t.front s.fit t.fit;
   bytes_are = λ past fields stand.
       ap₂ (λ (x y : List ℕ). x ++ y) (s.bytes_are past fields stand) (t.bytes_are (past ++ counted past s.front) (behind past fields) (s.count past fields stand))
       ∙ sym (flat_map-append bytes_of_packet (counted past s.front) (counted (past ++ counted past s.front) t.front))
@@ -86,7 +79,7 @@ Sends-trans a b c one two three first second s t = record {
 }
   where
     behind : (past : List Packet) → AllByRecursion HasFields past → AllByRecursion HasFields (past ++ counted past s.front)
-    behind past fields = all-append HasFields past (counted past s.front) fields (fields-counted past s.front (pids_fit s.front s.fit))
+    behind past fields = all_append HasFields past (counted past s.front) fields (fields-counted past s.front (pids_fit s.front s.fit))
 
 -- one more packet in the buffer
 pub take_packet : (n : ℕ) (front packet rest : List ℕ) → length front ≡ n → length packet ≡ 188 → take (n + 188) (front ++ (packet ++ rest)) ≡ front ++ packet

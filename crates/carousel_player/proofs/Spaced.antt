@@ -6,7 +6,7 @@ use Rattle.std.proofs.lemmas.Option.{slice_get-map, slice_get_cases, get_or_from
 use Rattle.std.proofs.lemmas.List.{length-map, get_or-map}
 use Rattle.std.proofs.lemmas.List.Concat.{flat_map-append}
 use Rattle.std.proofs.lemmas.List.Elements.{recursion_from_All, All-from_recursion, All-take, All-drop}
-use Rattle.si_lists.proofs.Lists.{all_append}
+use Rattle.si_lists.proofs.Lists.{all_append, all_at}
 use Rattle.section_codec.specs.declared.table.NumberedBody.{NumberedBody}
 use Rattle.section_codec.specs.declared.table.SubTable.{SubTable}
 use Rattle.section_codec.specs.declared.table.Tier3.{Tier3}
@@ -16,13 +16,12 @@ use Rattle.section_codec.specs.SubTables.{IsFit, AreFit, header_of}
 use Rattle.section_codec.proofs.ReadBack.{length-section_bytes}
 use Rattle.cycle_plan.specs.Cutting.{packets_in}
 use Rattle.cycle_plan.specs.Cycle.{Planned, cycle_of}
-use Rattle.cycle_plan.specs.Sections.{planned}
+use Rattle.cycle_plan.specs.Sections.{AreInTiers, planned}
 use Rattle.cycle_plan.specs.Spacing.{Start, starts_alone, Spaced, fast_bound, near_bound, AreSpaced, IsWithinLimits}
-use Rattle.cycle_plan.proofs.Lists.{all_at}
 use Rattle.cycle_plan.proofs.Cursors.{planned_all}
 use Rattle.cycle_plan.proofs.Order.{cycles_are_whole}
 use Rattle.cycle_plan.proofs.Gaps.{cycles_are_spaced}
-use Rattle.version_book.specs.Airings.{CycleForm, Airing, version_at}
+use Rattle.version_book.specs.Airings.{CycleForm, AiredTables, version_at}
 use Rattle.ts_packets.specs.Packets.{pieces, alone, packets_of}
 use Rattle.ts_packets.specs.Bytes.{Packet, packet_on, packets_alone}
 use Rattle.ts_packets.proofs.Carrying.{length-pieces, length-alone}
@@ -36,7 +35,7 @@ use Rattle.carousel_player.specs.Spacing.{plan_of, starts_of_two, AreStarts, Mad
 use Rattle.section_codec.specs.Section.{longest_body}
 use Rattle.section_codec.specs.Tables.{is_eit}
 use Rattle.carousel_player.proofs.Begun.{longest}
-use Rattle.carousel_player.proofs.Weights.{eight, weights_given}
+use Rattle.carousel_player.proofs.Weights.{eight, in_tiers, weights_given}
 
 -- ---- starts of some sections and then of others
 
@@ -92,12 +91,12 @@ some_sections : (v : ℕ) (t : SubTable) (ss : Content) → AllByRecursion (λ (
 some_sections v t [] = tt
 some_sections v t (s ∷ ss) = let size = length-section_bytes (header_of v t s) s.body in (omega (arith, size), some_sections v t ss)
 
-some_tables : (airings : List Airing) (ts : List SubTable) → AllByRecursion (λ (s : Sent). 0 < length s.bytes) (table_sections airings ts)
+some_tables : (airings : List AiredTables) (ts : List SubTable) → AllByRecursion (λ (s : Sent). 0 < length s.bytes) (table_sections airings ts)
 some_tables airings [] = tt
 some_tables airings (t ∷ ts) =
     all_append (λ (s : Sent). 0 < length s.bytes) (sections_of (version_at t.key airings) t) (table_sections airings ts) (some_sections (version_at t.key airings) t t.sections) (some_tables airings ts)
 
-some_once : (past : List Airing) (a : Airing) → AllByRecursion (λ (s : Sent). 0 < length s.bytes) (sections_once past a)
+some_once : (past : List AiredTables) (a : AiredTables) → AllByRecursion (λ (s : Sent). 0 < length s.bytes) (sections_once past a)
 some_once past a =
     let all = past ++ a ∷ [] in
     all_append (λ (s : Sent). 0 < length s.bytes) (table_sections all (before_tdt a.tables)) (tdt a.moment ∷ table_sections all (behind_tdt a.tables)) (some_tables all (before_tdt a.tables))
@@ -116,14 +115,14 @@ map-both : {X Y : Type 0} (f : X → Y) (xs ys : List X) → map f (xs ++ ys) �
 map-both f [] ys = refl
 map-both f (x ∷ xs) ys = ap (λ (l : List _). f x ∷ l) (map-both f xs ys)
 
-sizes_tables : (airings : List Airing) (ts : List SubTable) → map (λ (w : Tier3 × ℕ). w.1) (table_weights airings ts) ≡ map size_of (table_sections airings ts)
+sizes_tables : (airings : List AiredTables) (ts : List SubTable) → map (λ (w : Tier3 × ℕ). w.1) (table_weights airings ts) ≡ map size_of (table_sections airings ts)
 sizes_tables airings [] = refl
 sizes_tables airings (t ∷ ts) =
     let ss = sections_of (version_at t.key airings) t in
     map-both (λ (w : Tier3 × ℕ). w.1) (map (weight t.tier) ss) (table_weights airings ts) ∙ ap₂ (λ (x y : List ℕ). x ++ y) (sizes_weighed t.tier ss) (sizes_tables airings ts)
     ∙ sym (map-both size_of ss (table_sections airings ts))
 
-sizes_once : (past : List Airing) (a : Airing) → map (λ (w : Tier3 × ℕ). w.1) (weights_once past a) ≡ map size_of (sections_once past a)
+sizes_once : (past : List AiredTables) (a : AiredTables) → map (λ (w : Tier3 × ℕ). w.1) (weights_once past a) ≡ map size_of (sections_once past a)
 unfolding size_of
 sizes_once past a =
     let all = past ++ a ∷ [] in
@@ -131,7 +130,7 @@ sizes_once past a =
     ∙ ap₂ (λ (x y : List ℕ). x ++ size_of (tdt a.moment) ∷ y) (sizes_tables all (before_tdt a.tables)) (sizes_tables all (behind_tdt a.tables))
     ∙ sym (map-both size_of (table_sections all (before_tdt a.tables)) (tdt a.moment ∷ table_sections all (behind_tdt a.tables)))
 
-are_sizes : (past : List Airing) (a : Airing) → AreSizes (sections_once past a) (plan_of past a).size
+are_sizes : (past : List AiredTables) (a : AiredTables) → AreSizes (sections_once past a) (plan_of past a).size
 unfolding size_of
 are_sizes past a i s e =
     let ss = sections_once past a in
@@ -140,7 +139,7 @@ are_sizes past a i s e =
     let at : slice_get (map size_of ss) i ≡ Some (size_of s) = slice_get-map size_of ss i ∙ ap (λ (o : Option Sent). option_map size_of o) e in
     ap (λ (l : List ℕ). slice_index l i) (sizes_once past a) ∙ get_or_from_slice_get (map size_of ss) i (size_of s) 0 at ∙ sym own
 
-within_once : (past : List Airing) (a : Airing) → AllByRecursion (λ (i : ℕ). i < length (sections_once past a)) (cycle_of (plan_of past a))
+within_once : (past : List AiredTables) (a : AiredTables) → AllByRecursion (λ (i : ℕ). i < length (sections_once past a)) (cycle_of (plan_of past a))
 within_once past a =
     let many = planned_all (weights_once past a) a.form.quota ∙ weights_each past a in
     subst (λ (n : ℕ). AllByRecursion (λ (i : ℕ). i < n) (cycle_of (plan_of past a))) many (cycles_are_whole (plan_of past a)).known
@@ -166,7 +165,7 @@ small_under ts fit =
     (small_tables (before_tdt ts) (recursion_from_All IsFit (before_tdt ts) (All-take IsFit n ts fit)))
     ((omega arith, omega arith), small_tables (behind_tdt ts) (recursion_from_All IsFit (behind_tdt ts) (All-drop IsFit n ts fit)))
 
-within_limits : (past : List Airing) (a : Airing) → AreFit a.tables → 1 ≤ a.form.quota → IsWithinLimits (plan_of past a)
+within_limits : (past : List AiredTables) (a : AiredTables) → AreFit a.tables → 1 ≤ a.form.quota → IsWithinLimits (plan_of past a)
 within_limits past a fit quota =
     let ws = weights_once past a in
     let small : AllByRecursion (λ (w : Tier3 × ℕ). (1 ≤ w.1) × (w.1 ≤ 23)) ws =
@@ -182,9 +181,12 @@ within_limits past a fit quota =
           (omega arith, omega arith));
     }
 
+tiers_once : (past : List AiredTables) (a : AiredTables) → AreFit a.tables → AreInTiers (weights_once past a)
+tiers_once past a fit = subst AreInTiers (weights_given past a.moment a.form a.tables) (in_tiers a.tables fit.ordered)
+
 -- ---- two cycles
 
-same_plan : (past later : List Airing) (a b : Airing) → b.tables ≡ a.tables → b.form ≡ a.form → plan_of later b ≡ plan_of past a
+same_plan : (past later : List AiredTables) (a b : AiredTables) → b.tables ≡ a.tables → b.form ≡ a.form → plan_of later b ≡ plan_of past a
 same_plan past later a b tables form =
     ap₂ planned
     (sym (weights_given later b.moment b.form b.tables) ∙ ap weights_under tables ∙ weights_given past a.moment a.form a.tables)
@@ -217,6 +219,7 @@ made_cycles_are_spaced before x after made fit quota =
     let second = starts_alone p.size (n + packets_in p.size order) order in
     let two = subst (AreSpaced p) (starts-append p.size n order order) (cycles_are_spaced p (within_limits (airings_of before) x.airing fit quota) n) in
     record {
+      tiers = tiers_once (airings_of before) x.airing fit;
       starts = (cycle_along before x after made).starts;
       spaced = record { fast = λ i l. spaced-front (fast_bound p) i first second (two.fast i l); near = λ i l m. spaced-front (near_bound p) i first second (two.near i l m) };
     }

@@ -15,7 +15,7 @@ use Rattle.cycle_plan.specs.Cycle.{cycle_of}
 use Rattle.cycle_plan.specs.Sections.{is_fast, AreInTiers, planned}
 use Rattle.cycle_plan.proofs.Cursors.{planned_all}
 use Rattle.cycle_plan.proofs.Order.{cycles_are_whole}
-use Rattle.version_book.specs.Airings.{CycleForm, Airing, version_at}
+use Rattle.version_book.specs.Airings.{CycleForm, AiredTables, version_at}
 use Rattle.version_book.specs.Book.{aired}
 use Rattle.ts_packets.specs.Packets.{packets_of}
 use Rattle.time_tables.specs.Tdt.{tdt_section}
@@ -34,11 +34,11 @@ weights_section : (v : ℕ) (t : SubTable) (ss : Content) → map (weight t.tier
 weights_section v t [] = refl
 weights_section v t (s ∷ ss) = ap₂ (λ (n : ℕ) (ws : List (Tier3 × ℕ)). (t.tier, packets_of n) ∷ ws) (length-section_bytes (header_of v t s) s.body) (weights_section v t ss)
 
-weights_tables : (airings : List Airing) (ts : List SubTable) → table_weights airings ts ≡ weights_of ts
+weights_tables : (airings : List AiredTables) (ts : List SubTable) → table_weights airings ts ≡ weights_of ts
 weights_tables airings [] = refl
 weights_tables airings (t ∷ ts) = ap₂ (λ (x y : List (Tier3 × ℕ)). x ++ y) (weights_section (version_at t.key airings) t t.sections) (weights_tables airings ts)
 
-pub weights_given : (past : List Airing) (moment : ℕ) (form : CycleForm) (ts : List SubTable) → weights_under ts ≡ weights_once past (aired ts moment form)
+pub weights_given : (past : List AiredTables) (moment : ℕ) (form : CycleForm) (ts : List SubTable) → weights_under ts ≡ weights_once past (aired ts moment form)
 weights_given past moment form ts =
     let all = past ++ aired ts moment form ∷ [] in
     ap₂ (λ (x y : List (Tier3 × ℕ)). x ++ (Fast, 1) ∷ y) (sym (weights_tables all (before_tdt ts))) (sym (weights_tables all (behind_tdt ts)))

@@ -1,5 +1,7 @@
 pub mod Laying
 pub mod Planning
 pub mod Spacing
+pub mod Spaced
 pub mod Sending
 pub mod Playing
+pub mod Rows

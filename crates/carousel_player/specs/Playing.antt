@@ -1,6 +1,6 @@
 -- What a player stands for: the airings whose cycles it has sent, and how far it has come in the last.
 use Rattle.std.specs.Prelude.{◌≡◌, ℕ, List, [], ◌∷◌, ◌++◌, map, flat_map, Option}
-use Rattle.version_book.specs.Airings.{CycleForm, Airing}
+use Rattle.version_book.specs.Airings.{CycleForm, AiredTables}
 use Rattle.version_book.specs.Book.{GivenVersions, BookStandsFor}
 use Rattle.ts_packets.specs.Bytes.{Packet, bytes_of_packet}
 use Rattle.ts_packets.specs.Counting.{StandFor}
@@ -41,7 +41,7 @@ pub record Within (xs : List Aired) (x : Aired) (rest : List Packet) (player : P
 
 -- The cycle of an airing begins. Its packets are those of its sections one after the other, each section beginning in a packet of
 -- its own, and their counters go on.
-abbrev pub Begins : List Aired → Airing → Playing → Type 0
+abbrev pub Begins : List Aired → AiredTables → Playing → Type 0
 Begins xs a player = (x : Aired) × (x.airing ≡ a) × (x.packets ≡ cycle_alone (airings_of xs) (air xs) a) × Within xs x x.packets player
 
 -- A sink failed: some of the packets were handed out, and it took a front of their bytes.

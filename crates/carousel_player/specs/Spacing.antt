@@ -3,19 +3,19 @@ use Rattle.std.specs.Prelude.{◌≡◌, ℕ, ◌≤◌, List, [], ◌∷◌, �
 use Rattle.std.specs.List.{AllByRecursion}
 use Rattle.section_codec.specs.SubTables.{AreFit}
 use Rattle.cycle_plan.specs.Cycle.{Planned, cycle_of}
-use Rattle.cycle_plan.specs.Sections.{planned}
+use Rattle.cycle_plan.specs.Sections.{AreInTiers, planned}
 use Rattle.cycle_plan.specs.Spacing.{Start, starts_alone, AreSpaced}
-use Rattle.version_book.specs.Airings.{Airing, CycleForm}
+use Rattle.version_book.specs.Airings.{AiredTables, CycleForm}
 use Rattle.ts_packets.specs.Bytes.{Packet, packets_alone}
 use Rattle.air_model.specs.Air.{Sent, Aired, sections_once, weights_once, air, airings_of}
 use Rattle.air_model.specs.Making.{counted, AreMade}
 
 -- what is planned of an airing behind others
-abbrev pub plan_of : List Airing → Airing → Planned
+abbrev pub plan_of : List AiredTables → AiredTables → Planned
 plan_of past a = planned (weights_once past a) a.form.quota
 
 -- the starts of the sections of its cycle, each named by its place among those of the airing, where the first begins in packet n
-abbrev pub starts_of : ℕ → List Airing → Airing → List Start
+abbrev pub starts_of : ℕ → List AiredTables → AiredTables → List Start
 starts_of n past a = starts_alone (plan_of past a).size n (cycle_of (plan_of past a))
 
 -- From packet n on stand the packets of a section that begins in a packet of its own, counted behind those before.
@@ -29,8 +29,9 @@ pub record BeginsAt (packets : List Packet) (n : ℕ) (s : Sent) : Type 0 where
 abbrev pub AreStarts : List Packet → List Sent → List Start → Type 0
 AreStarts packets sections starts = AllByRecursion (λ (start : Start). (s : Sent) × (slice_get sections start.section ≡ Some s) × BeginsAt packets start.packet s) starts
 
--- A cycle within an air: its sections begin at these starts, and these are spaced.
+-- A cycle within an air: its sections, numbered from 0 on in the order Fast, Near, Far, begin at these starts, and these are spaced.
 pub record IsSpacedIn (before : List Aired) (x : Aired) (after : List Aired) : Type 0 where
+  pub tiers : AreInTiers (weights_once (airings_of before) x.airing)
   pub starts : AreStarts (air (before ++ x ∷ after)) (sections_once (airings_of before) x.airing) (starts_of (length (air before)) (airings_of before) x.airing)
   pub spaced : AreSpaced (plan_of (airings_of before) x.airing) (starts_of (length (air before)) (airings_of before) x.airing)
 

@@ -3,7 +3,7 @@ ghost use Rattle.std.specs.Prelude.{◌≡◌, ◌+◌, ◌*◌, ◌≤◌, ◌<
 ghost use Rattle.ts_packets.specs.Packets.{packets_of};
 ghost use Rattle.ts_packets.specs.Bytes.{bytes_of_packet, packets_alone};
 ghost use Rattle.section_codec.specs.declared.table.SubTable.{SubTable};
-ghost use Rattle.version_book.specs.Airings.{Airing, CycleForm};
+ghost use Rattle.version_book.specs.Airings.{AiredTables, CycleForm};
 ghost use Rattle.version_book.specs.Book.{BookStandsFor, aired};
 ghost use Rattle.air_model.specs.Air.{cycle_sections};
 ghost use Rattle.air_model.specs.Making.{each_alone};
@@ -87,9 +87,9 @@ impl Cycle {
         requires ended { self.old ≡ [] }
         requires fit { AreFit tables.now.list }
         requires moment { moment.0 < 65536 * 86400 }
-        ensures versions { OnOk result ((past : List Airing) (form : CycleForm) → BookStandsFor past book.old
+        ensures versions { OnOk result ((past : List AiredTables) (form : CycleForm) → BookStandsFor past book.old
             → BookStandsFor (past ++ aired tables.now.list moment.0 form ∷ []) book.new) }
-        ensures begun { OnOk result ((past : List Airing) → BookStandsFor past book.old
+        ensures begun { OnOk result ((past : List AiredTables) → BookStandsFor past book.old
             → self.new ≡ each_alone (cycle_sections past (aired tables.now.list moment.0 (record { quota = quota })))) }
         ensures ended { OnErr result (self.new ≡ self.old) }
         ensures kept { OnErr result (book.new ≡ book.old) }

@@ -8,9 +8,10 @@ use Rattle.std.proofs.Math.Nat.{mul-le-mul_right}
 use Rattle.cycle_plan.specs.Cutting.{packets_in, AreParts}
 use Rattle.cycle_plan.specs.Cycle.{led, at_least_one}
 use Rattle.cycle_plan.specs.Spacing.{Lacks}
-use Rattle.cycle_plan.proofs.Lists.{all_front, all_behind, none, packets-append, two_fronts, pass_over}
+use Rattle.cycle_plan.proofs.Lists.{none, packets-append, pass_over}
 use Rattle.cycle_plan.proofs.Leads.{AllAre, filter-all, filter-none}
 use Rattle.std.proofs.lemmas.Bool.{le-leb}
+use Rattle.si_lists.proofs.Lists.{all_front, all_behind, two_fronts}
 
 -- the packets of the sections that fail a test
 abbrev pub failing : (ℕ → Bool) → (ℕ → ℕ) → List ℕ → ℕ

@@ -5,11 +5,11 @@ use Rattle.std.specs.List.{AllByRecursion, filter}
 use Rattle.std.proofs.lemmas.List.Elements.{filter-append}
 use Rattle.std.proofs.lemmas.Nat.{le-div}
 use Rattle.std.proofs.Math.Nat.{mul-le-mul_right}
-use Rattle.si_lists.proofs.Lists.{all_append}
+use Rattle.si_lists.proofs.Lists.{all_append, all_at}
 use Rattle.cycle_plan.specs.Cutting.{packets_in, cut}
 use Rattle.cycle_plan.specs.Cycle.{Planned, led, fast_of, near_of, chunks_of, body_of, runs_of, cycle_of}
 use Rattle.cycle_plan.specs.Spacing.{Lacks, fast_bound, near_span, near_bound, IsWithinLimits, CyclesAreSpaced}
-use Rattle.cycle_plan.proofs.Lists.{all_at, packets-append, all-numbers, numbers-lack, once}
+use Rattle.cycle_plan.proofs.Lists.{packets-append, all-numbers, numbers-lack, once}
 use Rattle.cycle_plan.proofs.Leads.{AllAre, between, led-append, all-parts, filter-led, filter-all}
 use Rattle.std.proofs.lemmas.Bool.{le-leb, lt-leb}
 use Rattle.cycle_plan.proofs.Cuts.{is_cut}

@@ -2,11 +2,11 @@
 use Rattle.std.proofs.Common.{◌≡◌, ℕ, ◌⊎◌, inl, inr, List, [], ◌∷◌, ◌++◌, Bool, true, false, cond, refl, sym, ap, ap₂, ◌∙◌, subst, append_assoc}
 use Rattle.std.specs.List.{AllByRecursion, filter}
 use Rattle.std.proofs.lemmas.List.Elements.{filter-append}
-use Rattle.si_lists.proofs.Lists.{all_append}
+use Rattle.si_lists.proofs.Lists.{all_append, all_front, all_behind}
 use Rattle.cycle_plan.specs.Cutting.{joined}
 use Rattle.cycle_plan.specs.Cycle.{led}
 use Rattle.cycle_plan.specs.Spacing.{Lacks}
-use Rattle.cycle_plan.proofs.Lists.{all_front, all_behind, first_same, pass_over, FirstIn, has_or_lacks, none}
+use Rattle.cycle_plan.proofs.Lists.{first_same, pass_over, FirstIn, has_or_lacks, none}
 
 pub led-append : (lead : List ℕ) (a b : List (List ℕ)) → led lead (a ++ b) ≡ led lead a ++ led lead b
 led-append lead [] b = refl

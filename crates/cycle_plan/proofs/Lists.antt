@@ -5,19 +5,6 @@ use Rattle.section_codec.specs.Contents.{numbers_from}
 use Rattle.cycle_plan.specs.Cutting.{packets_in}
 use Rattle.cycle_plan.specs.Spacing.{Lacks}
 
--- ---- what holds of each element
-
-pub all_front : {X : Type 0} (P : X → Type 0) (a b : List X) → AllByRecursion P (a ++ b) → AllByRecursion P a
-all_front P [] b h = tt
-all_front P (x ∷ a) b h = (h.0, all_front P a b h.1)
-
-pub all_behind : {X : Type 0} (P : X → Type 0) (a b : List X) → AllByRecursion P (a ++ b) → AllByRecursion P b
-all_behind P [] b h = h
-all_behind P (x ∷ a) b h = all_behind P a b h.1
-
-pub all_at : {X : Type 0} (P : X → Type 0) (a : List X) (c : X) (b : List X) → AllByRecursion P (a ++ c ∷ b) → P c
-all_at P a c b h = (all_behind P a (c ∷ b) h).0
-
 -- ---- the first of a list that is x
 
 -- two equal lists agree up to their first x
@@ -62,17 +49,6 @@ has_or_lacks x (y ∷ xs) = go (same_or_not x y) (has_or_lacks x xs)
 pub none : (x : ℕ) (u v : List ℕ) → [] ≡ u ++ x ∷ v → Prim.⊥
 none x [] v e = cc
 none x (y ∷ u) v e = cc
-
--- either of two fronts of one list is a front of the other
-pub two_fronts : (a b c d : List ℕ) → a ++ b ≡ c ++ d → ((e : List ℕ) × (a ≡ c ++ e) × (d ≡ e ++ b)) ⊎ ((e : List ℕ) × (c ≡ a ++ e) × (b ≡ e ++ d))
-two_fronts [] b c d h = inr (c, refl, h)
-two_fronts (x ∷ a) b [] d h = inl (x ∷ a, refl, sym h)
-two_fronts (x ∷ a) b (y ∷ c) d h = go (two_fronts a b c d (let t : a ++ b ≡ c ++ d = cc in t)) (let s : x ≡ y = cc in s)
-  where
-    go : ((e : List ℕ) × (a ≡ c ++ e) × (d ≡ e ++ b)) ⊎ ((e : List ℕ) × (c ≡ a ++ e) × (b ≡ e ++ d)) → x ≡ y →
-        ((e : List ℕ) × (x ∷ a ≡ (y ∷ c) ++ e) × (d ≡ e ++ b)) ⊎ ((e : List ℕ) × (y ∷ c ≡ (x ∷ a) ++ e) × (b ≡ e ++ d))
-    go (inl (e, p, q)) s = inl (e, ap₂ (λ (m : ℕ) (ms : List ℕ). m ∷ ms) s p, q)
-    go (inr (e, p, q)) s = inr (e, ap₂ (λ (m : ℕ) (ms : List ℕ). m ∷ ms) (sym s) p, q)
 
 -- ---- packets
 

@@ -1,11 +1,12 @@
 -- What stands in the chunks, the body and the runs of a cycle.
 use Rattle.std.proofs.Common.{◌≡◌, ℕ, zero, suc, ◌+◌, ◌<◌, ◌≤◌, List, [], ◌∷◌, refl, sym, ap, ◌∙◌, subst, arith}
 use Rattle.std.specs.List.{AllByRecursion}
+use Rattle.si_lists.proofs.Lists.{all_behind}
 use Rattle.section_codec.specs.Contents.{numbers_from}
 use Rattle.cycle_plan.specs.Cutting.{packets_in, cut, joined, IsPart, AreParts}
 use Rattle.cycle_plan.specs.Cycle.{Planned, at_least_one, near_of, far_of, chunks_of, body_of, runs_of}
 use Rattle.cycle_plan.specs.Spacing.{IsWithinLimits}
-use Rattle.cycle_plan.proofs.Lists.{all_behind, packets-append, all-numbers}
+use Rattle.cycle_plan.proofs.Lists.{packets-append, all-numbers}
 use Rattle.cycle_plan.proofs.Leads.{all-parts, all-led}
 use Rattle.cycle_plan.proofs.Cuts.{joined-cut_from, is_cut}
 

@@ -33,6 +33,7 @@ fn answer(row: &mut Row) {
         "assign" => versions::assign(row),
         "take" => completions::take(row),
         "plan" => plans::order(row),
+        "spacing" => plans::spacing(row),
         "play" => playing::play(row),
         "play_into" => playing::play_into(row),
         call => answer_of_section(row, call),

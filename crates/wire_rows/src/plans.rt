@@ -1,4 +1,6 @@
-// The order of a cycle.
+// The order of a cycle, and how far apart it repeats its sections.
+ghost use Rattle.std.specs.Prelude.{◌<◌};
+
 use cycle_plan::{CyclePlan, plan};
 use row_lines::{MOST, Row};
 use section_codec::Tier3;
@@ -32,4 +34,106 @@ fn put_order(row: &mut Row, order: &mut CyclePlan) {
         };
         row.put_number(" ", section as u64);
     }
+}
+
+/// `spacing QUOTA FAST FAST FAST NEAR NEAR FAR FAR FAR FAR`: of sections with so many packets two cycles, one behind the other; how many
+/// packets a start of a Fast section is behind its last one at most, and of a Near section, each with its bound.
+pub fn spacing(row: &mut Row) {
+    let Ok(quota) = u32::try_from(row.number()) else {
+        return row.refuse();
+    };
+    let sections = [
+        (Tier3::Fast, size(row)),
+        (Tier3::Fast, size(row)),
+        (Tier3::Fast, size(row)),
+        (Tier3::Near, size(row)),
+        (Tier3::Near, size(row)),
+        (Tier3::Far, size(row)),
+        (Tier3::Far, size(row)),
+        (Tier3::Far, size(row)),
+        (Tier3::Far, size(row)),
+    ];
+    let mut starts = Starts {
+        packets: 0,
+        last: [None; 9],
+        fast: 0,
+        near: 0,
+    };
+    for _ in 0..2 {
+        match plan(row.alloc(), &sections, quota) {
+            Ok(mut order) => starts.pass(&mut order, &sections),
+            Err(_) => row.lack_memory(),
+        }
+    }
+    put_distances(row, &starts, &sections, quota);
+}
+
+fn size(row: &mut Row) -> u32 {
+    let word = row.word();
+    u32::from(row.small_in(word))
+}
+
+// The packets of all sections so far, and in which of them each section began last; the largest distances of two starts of one section.
+#[derive(Drop)]
+struct Starts {
+    packets: u64,
+    last: [Option<u64>; 9],
+    fast: u64,
+    near: u64,
+}
+
+impl Starts {
+    // The sections of a cycle.
+    fn pass(&mut self, order: &mut CyclePlan, sections: &[(Tier3, u32); 9]) {
+        for _ in 0..MOST {
+            let Some(section) = order.next() else {
+                return;
+            };
+            if section < 9 {
+                let (tier, size) = sections[section];
+                self.begin(section, tier);
+                self.packets = self.packets.saturating_add(u64::from(size));
+            }
+        }
+    }
+
+    fn begin(&mut self, section: usize, tier: Tier3)
+        requires { section < 9 }
+    {
+        if let Some(last) = self.last[section] {
+            let distance = self.packets.saturating_sub(last);
+            match tier {
+                Tier3::Fast => self.fast = self.fast.max(distance),
+                Tier3::Near => self.near = self.near.max(distance),
+                Tier3::Far => {}
+            }
+        }
+        self.last[section] = Some(self.packets);
+    }
+}
+
+fn put_distances(row: &mut Row, starts: &Starts, sections: &[(Tier3, u32); 9], quota: u32) {
+    if quota == 0 {
+        return row.refuse();
+    }
+    let quota = u64::from(quota);
+    let fast = packets_of_tier(sections, Tier3::Fast);
+    let span = packets_of_tier(sections, Tier3::Near)
+        .saturating_mul(2)
+        .saturating_add(23);
+    let runs = (span / quota).saturating_add(2);
+    row.put_number(" fast ", starts.fast);
+    row.put_number(" of ", fast.saturating_add(quota).saturating_add(22));
+    row.put_number(" near ", starts.near);
+    row.put_number(" of ", span.saturating_add(runs.saturating_mul(fast)));
+}
+
+fn packets_of_tier(sections: &[(Tier3, u32); 9], tier: Tier3) -> u64 {
+    let mut packets = 0u64;
+    for section in sections.iter() {
+        if section.0 == tier {
+            packets = packets.saturating_add(u64::from(section.1));
+        }
+    }
+    packets
 }
