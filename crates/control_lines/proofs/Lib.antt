@@ -1,1 +1,1 @@
-pub mod ControlFacts
+pub mod WindowFacts

@@ -4,7 +4,7 @@ use Rattle.std.specs.Prelude.{nat_lt}
 use Rattle.std.specs.List.{AllByRecursion}
 use Rattle.std.proofs.lemmas.Bool.{cases_Bool}
 use Rattle.si_lists.proofs.Lists.{all_push}
-use Rattle.desk_core.proofs.MomentFacts.{InRange, moment_range}
+use Rattle.desk_core.proofs.MomentFacts.{InRange, moment_range, written_steps}
 use Rattle.si_time.specs.declared.moment.Moment.{Moment}
 use Rattle.mux_model.specs.declared.mux.Mux.{Mux}
 use Rattle.mux_model.specs.Sound.{IsSound}
@@ -27,22 +27,16 @@ step_window mux before (Tick at) range = ticked_range (moment_of mux before) at 
 step_window mux before Publish range = tt
 step_window mux before Swap range = range
 
-written_step : (step : Step) → IsStepWithin step → IsStepInWindow step
-written_step (edit feed e) h = tt
-written_step (Tick at) h = h
-written_step Publish h = tt
-written_step Swap h = tt
-
-after_window : (mux : Mux) (before entries : List Entry) → IsSound mux → AllByRecursion (λ (entry : Entry). IsStepWithin entry.step) before
-    → AllByRecursion (λ (entry : Entry). IsStepWithin entry.step) entries → LegalAfter mux before entries → AreInWindow entries
+after_window : (mux : Mux) (before entries : List Entry) → IsSound mux → AllByRecursion (λ (entry : Entry). IsStepInWindow entry.step) before
+    → AllByRecursion (λ (entry : Entry). IsStepInWindow entry.step) entries → LegalAfter mux before entries → AreInWindow entries
 after_window mux before [] sound old within legal = tt
 after_window mux before (e ∷ es) sound old within legal = (
   record {
-    step = written_step e.step within.0;
+    step = within.0;
     outcome = subst (λ (o : Outcome). IsInWindow o) (sym legal.0) (step_window mux before e.step (moment_range mux before sound old));
   },
-  after_window mux (before ++ e ∷ []) es sound (all_push (λ (entry : Entry). IsStepWithin entry.step) before e old within.0) within.1 legal.1,
+  after_window mux (before ++ e ∷ []) es sound (all_push (λ (entry : Entry). IsStepInWindow entry.step) before e old within.0) within.1 legal.1,
 )
 
 pub legal_window : (mux : Mux) (journal : List Entry) → IsSound mux → AllByRecursion (λ (entry : Entry). IsStepWithin entry.step) journal → Legal mux journal → AreInWindow journal
-legal_window mux journal sound within legal = after_window mux [] journal sound tt within legal
+legal_window mux journal sound within legal = after_window mux [] journal sound tt (written_steps journal within) legal

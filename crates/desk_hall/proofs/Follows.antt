@@ -6,33 +6,28 @@ use Rattle.si_causes.specs.Reading.{Reading, text_left}
 use Rattle.si_causes.specs.declared.stop.ReadStop.TheVariants.{Failed, TooLong as Overlong}
 use Rattle.input_lines.specs.Going.{HandedOut}
 use Rattle.input_lines.proofs.Steps.{handed_none, handed_more, whole_more}
-use Rattle.feed_edits.specs.declared.stop.EditStop.{EditStop}
-use Rattle.feed_edits.specs.declared.stop.EditStop.TheVariants.{NoCommand as Refused, Read, Memory}
-use Rattle.feed_edits.specs.Ahead.{Ahead, Tail, Breaks, Found, Came, Stopped, Stop, End, NoCommand, TooLong, Unread, ahead}
-use Rattle.feed_edits.specs.Reads.{Gives, Takes, Passes, Leaves, Faulted, ahead_with}
+use Rattle.input_lines.specs.declared.stop.EditStop.{EditStop}
+use Rattle.input_lines.specs.declared.stop.EditStop.TheVariants.{NoCommand as Refused, Read, Memory}
+use Rattle.input_lines.specs.Ahead.{Ahead, Tail, Breaks, Found, Came, Stopped, Stop, End, NoCommand, TooLong, Unread, ahead, and_all}
+use Rattle.input_lines.specs.Reads.{Gives, Takes, Passes, Leaves, Faulted, ahead_with}
 use Rattle.desk_hall.specs.Reads.{ToldDid, WholeDid, TakenDid}
 
 abbrev Known : Type 0
 Known = Option (List ℕ)
 
--- a value before those of what is ahead behind it, and their stop
-abbrev pub and_all : {T : Type 0} → Found T → (Ahead → List T × Stop) → List T × Stop
-and_all (Came value behind) others = (value ∷ (others behind).0, (others behind).1)
-and_all (Stopped stop) others = ([], stop)
-
-module _ {S T : Type 0} (left : S → Known) (first : Ahead → Found T) (all : Ahead → List T × Stop) (go_on : (lines : Ahead) → all lines ≡ and_all (first lines) all) where
+module _ {S T : Type 0} (left : S → Known) (first : Ahead → Found T) (all : Ahead → List T × Stop) (go_on : (lines : Ahead) → all lines ≡ and_all (first lines) (λ (value : T). all)) where
   -- of what was ahead these values were read, and this is ahead behind them
   abbrev pub Splits : Ahead → Ahead → List T → Type 0
   Splits lines behind done = all lines ≡ (done ++ (all behind).0, (all behind).1)
 
   splits_more : (lines now behind : Ahead) (done : List T) (value : T) → Splits lines now done → first now ≡ Came value behind → Splits lines behind (done ++ value ∷ [])
   splits_more lines now behind done value d e =
-      d ∙ ap (λ (p : List T × Stop). let q : List T × Stop = (done ++ p.0, p.1) in q) (go_on now ∙ ap (λ (r : Found T). and_all r all) e)
+      d ∙ ap (λ (p : List T × Stop). let q : List T × Stop = (done ++ p.0, p.1) in q) (go_on now ∙ ap (λ (r : Found T). and_all r (λ (v : T). all)) e)
       ∙ ap (λ (l : List T). let q : List T × Stop = (l, (all behind).1) in q) (sym (append_assoc done (value ∷ []) (all behind).0))
 
   splits_last : (lines now : Ahead) (done : List T) (stop : Stop) → Splits lines now done → first now ≡ Stopped stop → all lines ≡ (done, stop)
   splits_last lines now done stop d e =
-      d ∙ ap (λ (p : List T × Stop). let q : List T × Stop = (done ++ p.0, p.1) in q) (go_on now ∙ ap (λ (r : Found T). and_all r all) e)
+      d ∙ ap (λ (p : List T × Stop). let q : List T × Stop = (done ++ p.0, p.1) in q) (go_on now ∙ ap (λ (r : Found T). and_all r (λ (v : T). all)) e)
       ∙ ap (λ (l : List T). let q : List T × Stop = (l, stop) in q) (append-nil done)
 
   -- From old to now these values were read.

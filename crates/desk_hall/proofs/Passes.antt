@@ -8,7 +8,7 @@ use Rattle.journal_model.specs.declared.step.Outcome.{Outcome}
 use Rattle.journal_model.specs.declared.step.Entry.{Entry}
 use Rattle.journal_model.specs.Steps.{Command, command_of}
 use Rattle.turn_lock.proofs.Lists.{prefix_self, prefix_trans}
-use Rattle.desk_hall.specs.Turn.{View, caller_of, entry_of, with_entries, Made, Idle, Keeps, Knows, Did}
+use Rattle.desk_hall.specs.Turn.{View, caller_of, entry_of, with_entries, Made, Idle, KeepsNumbers, Knows, Did}
 use Rattle.desk_hall.specs.Reads.{DidEach, commands_by}
 
 -- what is seen of a pass that made an entry begins with what it had seen
@@ -69,25 +69,25 @@ did_as commands others v w d e = record { added = d.added; commands_are = d.comm
 
 -- ---- what stays
 
-keeps_with : (v : View) (seen added : List Entry) → Keeps v (with_entries v seen added)
+keeps_with : (v : View) (seen added : List Entry) → KeepsNumbers v (with_entries v seen added)
 keeps_with v seen added = record { turns = refl; low = refl; span = refl; finished = refl; on = refl }
 
-pub keeps_gained : (v w : View) (seen added : List Entry) → w ≡ with_entries v seen added → Keeps v w
-keeps_gained v w seen added is = subst (λ (z : View). Keeps v z) (sym is) (keeps_with v seen added)
+pub keeps_gained : (v w : View) (seen added : List Entry) → w ≡ with_entries v seen added → KeepsNumbers v w
+keeps_gained v w seen added is = subst (λ (z : View). KeepsNumbers v z) (sym is) (keeps_with v seen added)
 
-keeps_seen : (v : View) (seen : List Entry) → Keeps v (record v { seen = seen })
+keeps_seen : (v : View) (seen : List Entry) → KeepsNumbers v (record v { seen = seen })
 keeps_seen v seen = record { turns = refl; low = refl; span = refl; finished = refl; on = refl }
 
-pub idle_keeps : (v w : View) → Idle v w → Keeps v w
-idle_keeps v w i = subst (λ (z : View). Keeps v z) (sym i.same) (keeps_seen v w.seen)
+pub idle_keeps : (v w : View) → Idle v w → KeepsNumbers v w
+idle_keeps v w i = subst (λ (z : View). KeepsNumbers v z) (sym i.same) (keeps_seen v w.seen)
 
-pub made_keeps : (step : Step) (outcome : Outcome) (v w : View) → Made step outcome v w → Keeps v w
+pub made_keeps : (step : Step) (outcome : Outcome) (v w : View) → Made step outcome v w → KeepsNumbers v w
 made_keeps step outcome v w m = keeps_gained v w w.seen (entry_of v.own.low step outcome ∷ []) m.gained
 
-pub did_keeps : (commands : List Command) (v w : View) → Did commands v w → Keeps v w
+pub did_keeps : (commands : List Command) (v w : View) → Did commands v w → KeepsNumbers v w
 did_keeps commands v w d = keeps_gained v w w.seen d.added d.gained
 
 -- behind a turn that made an entry or none
-pub turn_keeps : {T E : Type 0} (v w : View) (step : Step) (outcome_of : T → Outcome) (r : Result T E) → IfOk r (λ x. Made step (outcome_of x) v w) → OnErr r (Idle v w) → Keeps v w
+pub turn_keeps : {T E : Type 0} (v w : View) (step : Step) (outcome_of : T → Outcome) (r : Result T E) → IfOk r (λ x. Made step (outcome_of x) v w) → OnErr r (Idle v w) → KeepsNumbers v w
 turn_keeps v w step outcome_of (Ok x) made idle = made_keeps step (outcome_of x) v w made
 turn_keeps v w step outcome_of (Err e) made idle = idle_keeps v w idle

@@ -6,16 +6,16 @@ use Rattle.si_causes.specs.Reading.{Reading, text_left}
 use Rattle.si_causes.specs.Causes.{Rose}
 use Rattle.si_causes.specs.declared.stop.ReadStop.{ReadStop}
 use Rattle.si_causes.specs.declared.stop.ReadStop.TheVariants.{Failed, TooLong as Overlong}
-use Rattle.feed_edits.specs.declared.stop.EditStop.{EditStop}
-use Rattle.feed_edits.specs.declared.stop.EditStop.TheVariants.{NoCommand as Refused, Read, Memory}
-use Rattle.feed_edits.specs.Ahead.{Ahead, Found, Came, Stopped, Stop, End, ahead}
-use Rattle.feed_edits.specs.Reads.{Gives, Leaves, Passes, Takes}
+use Rattle.input_lines.specs.declared.stop.EditStop.{EditStop}
+use Rattle.input_lines.specs.declared.stop.EditStop.TheVariants.{NoCommand as Refused, Read, Memory}
+use Rattle.input_lines.specs.Ahead.{Ahead, Found, Came, Stopped, Stop, End, ahead, and_all}
+use Rattle.input_lines.specs.Reads.{Gives, Leaves, Passes, Takes}
 use Rattle.journal_model.specs.declared.step.Step.{Step}
 use Rattle.journal_model.specs.declared.step.Outcome.{Outcome}
 use Rattle.desk_hall.specs.Turn.{View, Made, Idle}
 use Rattle.desk_hall.specs.Reads.{DidEach, ToldDid, TakenDid, HasReadCause}
 use Rattle.desk_hall.proofs.Passes.{each_none, each_more, each_idle}
-use Rattle.desk_hall.proofs.Follows.{Follows, and_all, follows_none, follows_more, ended, stopped, wanting, taken}
+use Rattle.desk_hall.proofs.Follows.{Follows, follows_none, follows_more, ended, stopped, wanting, taken}
 
 abbrev Known : Type 0
 Known = Option (List ℕ)
@@ -55,7 +55,7 @@ stays_stopped {S = S} V (Some t) stop old now new v w e s h =
     let at = subst (λ (o : Option ReadStop). IfSome o (λ z. ((let r : Result V EditStop = Err stop in r) ≡ Err (Read z)) × (new ≡ now))) (ap (λ (r : Reading S). r.stop) s.0 ∙ sym e) h in
     (cc (at.0), at.1 ∙ s.0, s.1)
 
-module _ {S T : Type 0} (left : S → Known) (first : Ahead → Found T) (all : Ahead → List T × Stop) (go_on : (lines : Ahead) → all lines ≡ and_all (first lines) all) (step : T → Step) where
+module _ {S T : Type 0} (left : S → Known) (first : Ahead → Found T) (all : Ahead → List T × Stop) (go_on : (lines : Ahead) → all lines ≡ and_all (first lines) (λ (value : T). all)) (step : T → Step) where
   -- the values that were read from old to now were done in turns from v to w
   pub record Going (old now : Reading S) (v w : View) : Type 0 where
     pub done : List T

@@ -1,21 +1,20 @@
 -- What a job that reads commands from lines, and does each in a turn, leaves.
-use Rattle.std.specs.Prelude.{◌≡◌, ℕ, false, List, [], ◌∷◌, ◌++◌, map, take, Option, Some, None, option_and_then}
+use Rattle.std.specs.Prelude.{◌≡◌, ℕ, false, List, map, take, Option, Some, None}
 use Rattle.si_causes.specs.Causes.{Rose}
 use Rattle.si_causes.specs.Reading.{Reading}
 use Rattle.si_causes.specs.declared.stop.ReadStop.TheVariants.{Failed, TooLong as Overlong}
-use Rattle.input_lines.specs.Fields.{record_of}
 use Rattle.input_lines.specs.Going.{WereWhole}
 use Rattle.journal_model.specs.declared.edit.Edit.{Edit}
-use Rattle.feed_edits.specs.declared.stop.EditStop.{EditStop}
-use Rattle.feed_edits.specs.declared.stop.EditStop.TheVariants.{NoCommand as Refused, Read, Memory}
-use Rattle.feed_edits.specs.Ahead.{Ahead, Row, Tail, Breaks, Found, Came, Stopped, Stop, End, NoCommand, TooLong, Unread, stop_at}
-use Rattle.feed_edits.specs.Reads.{ahead_with}
+use Rattle.input_lines.specs.declared.stop.EditStop.{EditStop}
+use Rattle.input_lines.specs.declared.stop.EditStop.TheVariants.{NoCommand as Refused, Read, Memory}
+use Rattle.input_lines.specs.Ahead.{Ahead, Breaks, Stop, End, NoCommand, TooLong, Unread, values_ahead}
+use Rattle.input_lines.specs.Reads.{ahead_with}
 use Rattle.journal_model.specs.declared.control.Control.{Control}
 use Rattle.journal_model.specs.declared.control.Control.TheVariants.{Tick as tick, Publish as publish}
 use Rattle.journal_model.specs.declared.step.Step.{Step}
 use Rattle.journal_model.specs.declared.step.Step.TheVariants.{Edit as edit, Tick, Publish}
 use Rattle.journal_model.specs.Steps.{Command}
-use Rattle.control_lines.specs.Controls.{control_of}
+use Rattle.control_lines.specs.Controls.{first_control}
 use Rattle.desk_hall.specs.Turn.{View, Did}
 
 -- ---- what is asked for
@@ -31,18 +30,9 @@ control_step publish = Publish
 abbrev pub commands_by : {T : Type 0} → ℕ → (T → Step) → List T → List Command
 commands_by who step values = map (λ v. (who, step v)) values
 
--- a control line in front of the others; at a line that is none they stop
-abbrev pub and_control : ℕ → Option Control → List Control × Stop → List Control × Stop
-and_control n None others = ([], NoCommand n)
-and_control n (Some control) others = (control ∷ others.0, others.1)
-
-abbrev pub controls_in : List Row → Tail → List Control × Stop
-controls_in [] tail = ([], stop_at tail)
-controls_in (row ∷ rows) tail = and_control row.0 (option_and_then control_of (record_of row.1)) (controls_in rows tail)
-
 -- the control lines ahead, and why no more is read
 unfoldable pub controls_ahead : Ahead → List Control × Stop
-controls_ahead lines = controls_in lines.rows lines.tail
+controls_ahead lines = values_ahead (λ (any : Unit {0}). first_control) (λ (control : Control). tt) tt lines
 
 -- ---- what a job did of it
 

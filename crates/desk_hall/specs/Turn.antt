@@ -74,7 +74,7 @@ abbrev pub IsAiring : View → Airing → Type 0
 IsAiring w airing = (mux : Mux) → w.on ≡ Some mux → airing ≡ on_air_of (desk_with mux w.seen)
 
 -- The pass has its numbers, the callers that it took in, its turns and its multiplex as before.
-pub record Keeps (v w : View) : Type 0 where
+pub record KeepsNumbers (v w : View) : Type 0 where
   pub turns : w.turns ≡ v.turns
   pub low : w.own.low ≡ v.own.low
   pub span : w.own.span ≡ v.own.span

@@ -2,11 +2,11 @@
 ghost use Rattle.std.specs.Prelude.{◌≡◌, ◌≤◌, List, ℕ, None, Some, IfSome};
 ghost use Rattle.std.specs.Io.KnownBytes.{IsAtEnd};
 ghost use Rattle.si_causes.specs.Reading.{text_left};
-ghost use Rattle.feed_edits.specs.declared.stop.EditStop.TheVariants.{Read};
-ghost use Rattle.feed_edits.specs.Ahead.{ahead};
+ghost use Rattle.input_lines.specs.declared.stop.EditStop.TheVariants.{Read};
+ghost use Rattle.input_lines.specs.Ahead.{ahead};
 ghost use Rattle.journal_model.specs.Steps.{IsControlWithin, IsStepWithin};
 ghost use Rattle.journal_model.specs.declared.control.Control.{Control as AControl};
-ghost use Rattle.desk_hall.specs.Turn.{Keeps};
+ghost use Rattle.desk_hall.specs.Turn.{KeepsNumbers};
 ghost use Rattle.desk_hall.specs.Reads.{control_step, controls_ahead, DidEach, ToldDid, TakenDid, HasReadCause};
 
 use crate::hall::Hall;
@@ -43,7 +43,7 @@ impl Hall {
         ensures told { lines.old.stop ≡ None → (text : List ℕ) → text_left S.left lines.old ≡ Some text
             → ToldDid (DidEach control_step pass.old pass.new) (controls_ahead (ahead lines.old text)) result }
         ensures taken { lines.old.stop ≡ None → TakenDid (DidEach control_step pass.old pass.new) S.left controls_ahead lines.old lines.new result }
-        ensures keeps { Keeps pass.old pass.new }
+        ensures keeps { KeepsNumbers pass.old pass.new }
         ensures sticky { IfSome lines.old.stop (λ stop. (result ≡ Some (Read stop)) × (lines.new ≡ lines.old) × (pass.new ≡ pass.old)) }
         ensures end { result ≡ None → IsAtEnd (S.left lines.new.source) }
         ensures cause { lines.old.stop ≡ None → HasReadCause (S.faults lines.old.source) (S.faults lines.new.source) result }

@@ -3,10 +3,10 @@ ghost use Rattle.std.specs.Prelude.{◌≡◌, ◌≤◌, List, ℕ, None, Some,
 ghost use Rattle.std.specs.Io.KnownBytes.{IsAtEnd};
 ghost use Rattle.si_causes.specs.Reading.{text_left};
 ghost use Rattle.journal_model.specs.declared.edit.Edit.{Edit as AnEdit};
-ghost use Rattle.feed_edits.specs.declared.stop.EditStop.TheVariants.{Read};
-ghost use Rattle.feed_edits.specs.Ahead.{ahead};
+ghost use Rattle.input_lines.specs.declared.stop.EditStop.TheVariants.{Read};
+ghost use Rattle.input_lines.specs.Ahead.{ahead};
 ghost use Rattle.feed_edits.specs.Edits.{edits_ahead};
-ghost use Rattle.desk_hall.specs.Turn.{Keeps};
+ghost use Rattle.desk_hall.specs.Turn.{KeepsNumbers};
 ghost use Rattle.desk_hall.specs.Reads.{edit_step, DidEach, ToldDid, TakenDid, HasReadCause};
 
 use crate::hall::Hall;
@@ -32,7 +32,7 @@ impl Hall {
         ensures told { lines.old.stop ≡ None → (text : List ℕ) → text_left F.left lines.old ≡ Some text
             → ToldDid (DidEach (edit_step feed) pass.old pass.new) (edits_ahead (ahead lines.old text)) result }
         ensures taken { lines.old.stop ≡ None → TakenDid (DidEach (edit_step feed) pass.old pass.new) F.left edits_ahead lines.old lines.new result }
-        ensures keeps { Keeps pass.old pass.new }
+        ensures keeps { KeepsNumbers pass.old pass.new }
         ensures sticky { IfSome lines.old.stop (λ stop. (result ≡ Some (Read stop)) × (lines.new ≡ lines.old) × (pass.new ≡ pass.old)) }
         ensures end { result ≡ None → IsAtEnd (F.left lines.new.source) }
         ensures cause { lines.old.stop ≡ None → HasReadCause (F.faults lines.old.source) (F.faults lines.new.source) result }

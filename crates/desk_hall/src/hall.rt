@@ -8,7 +8,7 @@ ghost use Rattle.journal_model.specs.declared.step.Step.TheVariants.{Edit as edi
 ghost use Rattle.journal_model.specs.declared.step.Outcome.TheVariants.{Edited, Ticked, Late, Published, Swapped};
 ghost use Rattle.turn_lock.specs.Knowledge.{first_pass, Closes, HasAny, numbers};
 ghost use Rattle.desk_core.specs.Journal.{Legal};
-ghost use Rattle.desk_hall.specs.Turn.{Made, Idle, IsAiring, Keeps, caller_of};
+ghost use Rattle.desk_hall.specs.Turn.{Made, Idle, IsAiring, KeepsNumbers, caller_of};
 
 use crate::state::{HallPass, HallState, Stepping, Swapping};
 use desk_core::{Airing, Desk};
@@ -66,7 +66,7 @@ impl Hall {
         requires within { IsStepWithin step }
         ensures made { IfOk result (λ outcome. Made step outcome pass.old pass.new) }
         ensures memory { OnErr result (Idle pass.old pass.new) }
-        ensures keeps { Keeps pass.old pass.new }
+        ensures keeps { KeepsNumbers pass.old pass.new }
     {
         self.turns.turn(rt, pass, Stepping { step })
     }
@@ -83,7 +83,7 @@ impl Hall {
         requires within { IsDayWithin edit }
         ensures made { IfOk result (λ reply. Made (edit_of feed edit) (Edited reply) pass.old pass.new) }
         ensures memory { OnErr result (Idle pass.old pass.new) }
-        ensures keeps { Keeps pass.old pass.new }
+        ensures keeps { KeepsNumbers pass.old pass.new }
     {
         match self.step(rt, pass, Step::Edit(feed, edit)) {
             Ok(Outcome::Edited(reply)) => Ok(reply),
@@ -103,7 +103,7 @@ impl Hall {
         requires within { IsStepWithin (Tick at) }
         ensures made { IfOk result (λ outcome. Made (Tick at) outcome pass.old pass.new) }
         ensures memory { OnErr result (Idle pass.old pass.new) }
-        ensures keeps { Keeps pass.old pass.new }
+        ensures keeps { KeepsNumbers pass.old pass.new }
     {
         self.step(rt, pass, Step::Tick(at))
     }
@@ -113,7 +113,7 @@ impl Hall {
         requires turns { pass.old.turns ≡ self.now.turns }
         ensures made { IfOk result (λ number. Made Publish (Published number) pass.old pass.new) }
         ensures memory { OnErr result (Idle pass.old pass.new) }
-        ensures keeps { Keeps pass.old pass.new }
+        ensures keeps { KeepsNumbers pass.old pass.new }
     {
         match self.step(rt, pass, Step::Publish) {
             Ok(Outcome::Published(number)) => Ok(number),
@@ -130,7 +130,7 @@ impl Hall {
         ensures within { IfOk result (λ airing. IsGuideWithin airing.guide) }
         ensures moment { IfOk result (λ airing. airing.moment.0 < 65536 * 86400) }
         ensures memory { OnErr result (Idle pass.old pass.new) }
-        ensures keeps { Keeps pass.old pass.new }
+        ensures keeps { KeepsNumbers pass.old pass.new }
     {
         self.turns.turn(rt, pass, Swapping)
     }

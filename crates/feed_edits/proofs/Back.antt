@@ -20,10 +20,11 @@ use Rattle.journal_model.specs.declared.edit.Edit.TheVariants.{Put, Withdraw, Cl
 use Rattle.feed_edits.specs.declared.heads.Head.{Head}
 use Rattle.feed_edits.specs.declared.heads.Head.TheVariants.{Whole, OfDay}
 use Rattle.input_lines.specs.Fields.{record_of}
-use Rattle.feed_edits.specs.Ahead.{Ahead, Row, Tail, Found, Came, and_then}
+use Rattle.input_lines.specs.Ahead.{Ahead, Row, Tail, Found, Came, and_then}
 use Rattle.feed_edits.specs.Heads.{edit_head}
 use Rattle.feed_edits.specs.Edits.{items_of, with_items, edit_from}
-use Rattle.feed_edits.specs.Back.{genre_field, genres_field, country_field, rating_field, item_fields, edit_fields, item_rows, HaveFields, EditsReadBack}
+use Rattle.field_text.specs.Genres.{genre_text, genres_text}
+use Rattle.feed_edits.specs.Back.{country_field, rating_field, item_fields, edit_fields, item_rows, HaveFields, EditsReadBack}
 use Rattle.feed_edits.proofs.Genres.{genres_of_some}
 
 -- ---- numbers
@@ -82,20 +83,20 @@ digits_lack c (x ∷ xs) lt h =
 abbrev middle : Genre → List ℕ
 middle g = decimal g.level2 ++ 46 ∷ decimal g.user
 
-genre_parts : (g : Genre) → HasGenreNumbers g → slice_split (λ b. b == 46) (genre_field g) ≡ decimal g.level1 ∷ decimal g.level2 ∷ decimal g.user ∷ []
+genre_parts : (g : Genre) → HasGenreNumbers g → slice_split (λ b. b == 46) (genre_text g) ≡ decimal g.level1 ∷ decimal g.level2 ∷ decimal g.user ∷ []
 genre_parts g h =
     split_front 46 (decimal g.level1) (middle g) (digits_lack 46 (decimal g.level1) (lit< tt) (digits_of g.level1 255 h.level1 (omega arith)))
     ∙ ap (λ (l : List (List ℕ)). decimal g.level1 ∷ l)
     (split_front 46 (decimal g.level2) (decimal g.user) (digits_lack 46 (decimal g.level2) (lit< tt) (digits_of g.level2 255 h.level2 (omega arith)))
     ∙ ap (λ (l : List (List ℕ)). decimal g.level2 ∷ l) (split_last 46 (decimal g.user) (digits_lack 46 (decimal g.user) (lit< tt) (digits_of g.user 255 h.user (omega arith)))))
 
-pub genre_back : (g : Genre) → HasGenreNumbers g → genre_of (genre_field g) ≡ Some g
+pub genre_back : (g : Genre) → HasGenreNumbers g → genre_of (genre_text g) ≡ Some g
 genre_back g h =
     ap genre_from (genre_parts g h)
     ∙ rw (number_back g.level1 255 h.level1 (omega arith), number_back g.level2 255 h.level2 (omega arith), number_back g.user 255 h.user (omega arith)) refl
 
 -- a genre has no space
-genre_lacks : (g : Genre) → HasGenreNumbers g → list_all (λ b. not (b == 32)) (genre_field g) ≡ true
+genre_lacks : (g : Genre) → HasGenreNumbers g → list_all (λ b. not (b == 32)) (genre_text g) ≡ true
 genre_lacks g h =
     let a = digits_lack 32 (decimal g.level1) (lit< tt) (digits_of g.level1 255 h.level1 (omega arith)) in
     let b = digits_lack 32 (decimal g.level2) (lit< tt) (digits_of g.level2 255 h.level2 (omega arith)) in
@@ -103,13 +104,13 @@ genre_lacks g h =
     list_all-append (λ b. not (b == 32)) (decimal g.level1) (46 ∷ middle g)
     ∙ rw (a, list_all-append (λ b. not (b == 32)) (decimal g.level2) (46 ∷ decimal g.user), b, u) refl
 
-genres_parts : (g : Genre) (gs : List Genre) → AllByRecursion HasGenreNumbers (g ∷ gs) → slice_split (λ b. b == 32) (genres_field (g ∷ gs)) ≡ map genre_field (g ∷ gs)
-genres_parts g [] h = split_last 32 (genre_field g) (genre_lacks g h.0)
+genres_parts : (g : Genre) (gs : List Genre) → AllByRecursion HasGenreNumbers (g ∷ gs) → slice_split (λ b. b == 32) (genres_text (g ∷ gs)) ≡ map genre_text (g ∷ gs)
+genres_parts g [] h = split_last 32 (genre_text g) (genre_lacks g h.0)
 genres_parts g (k ∷ gs) h =
-    split_front 32 (genre_field g) (genres_field (k ∷ gs)) (genre_lacks g h.0)
-    ∙ ap (λ (l : List (List ℕ)). genre_field g ∷ l) (genres_parts k gs h.1)
+    split_front 32 (genre_text g) (genres_text (k ∷ gs)) (genre_lacks g h.0)
+    ∙ ap (λ (l : List (List ℕ)). genre_text g ∷ l) (genres_parts k gs h.1)
 
-each_back : (gs : List Genre) → AllByRecursion HasGenreNumbers gs → all_some (map genre_of (map genre_field gs)) ≡ Some gs
+each_back : (gs : List Genre) → AllByRecursion HasGenreNumbers gs → all_some (map genre_of (map genre_text gs)) ≡ Some gs
 each_back [] h = refl
 each_back (g ∷ gs) h = rw (genre_back g h.0, each_back gs h.1) refl
 
@@ -117,14 +118,14 @@ some_bytes : (xs ys : List ℕ) (b : ℕ) → xs ++ b ∷ ys ≢ []
 some_bytes [] ys b e = cc
 some_bytes (x ∷ xs) ys b e = cc
 
-field_some : (g : Genre) (gs : List Genre) → genres_field (g ∷ gs) ≢ []
+field_some : (g : Genre) (gs : List Genre) → genres_text (g ∷ gs) ≢ []
 field_some g [] e = some_bytes (decimal g.level1) (middle g) 46 e
-field_some g (k ∷ gs) e = some_bytes (genre_field g) (genres_field (k ∷ gs)) 32 e
+field_some g (k ∷ gs) e = some_bytes (genre_text g) (genres_text (k ∷ gs)) 32 e
 
-pub genres_back : (gs : List Genre) → AllByRecursion HasGenreNumbers gs → genres_of (genres_field gs) ≡ Some gs
+pub genres_back : (gs : List Genre) → AllByRecursion HasGenreNumbers gs → genres_of (genres_text gs) ≡ Some gs
 genres_back [] h = refl
 genres_back (g ∷ gs) h =
-    genres_of_some (genres_field (g ∷ gs)) (field_some g gs)
+    genres_of_some (genres_text (g ∷ gs)) (field_some g gs)
     ∙ ap (λ (l : List (List ℕ)). all_some (map genre_of l)) (genres_parts g gs h)
     ∙ each_back (g ∷ gs) h
 

@@ -19,12 +19,14 @@ use Rattle.journal_model.specs.declared.edit.Edit.{Edit}
 use Rattle.journal_model.specs.declared.edit.Edit.TheVariants.{Put, Withdraw, Clear, Name, Day}
 use Rattle.feed_edits.specs.declared.heads.Head.{Head}
 use Rattle.feed_edits.specs.declared.heads.Head.TheVariants.{Whole, OfDay}
-use Rattle.feed_edits.specs.Ahead.{Ahead, Row, Found, Came, Stopped, and_then, first_row, stop_at, missing_at}
+use Rattle.input_lines.specs.Ahead.{Ahead, Row, IfCame, on_line, stop_at, missing_at}
+use Rattle.input_lines.proofs.ValuesAhead.{then_came, line_came, begun_came, values_came}
 use Rattle.feed_edits.specs.Items.{stamp_of, length_of, day_of, genre_from, genre_of, genres_of, all_some, rating_of, item_with, item_of, item_line}
 use Rattle.feed_edits.specs.Heads.{put_of, withdraw_of, clear_of, name_of, day_head_of, edit_head}
-use Rattle.feed_edits.specs.Edits.{on_line, first_item, items_of, with_items, edit_from, first_edit, and_edits, edits_upto, edits_ahead}
+use Rattle.feed_edits.specs.Edits.{first_item, items_of, with_items, edit_from, edits_ahead}
 use Rattle.journal_model.specs.Edits.{HasGenreNumbers, HasItemNumbers, HasNumbers, IsTypedItem, IsTypedEdit}
-use Rattle.feed_edits.specs.Typed.{IfCame, ReadEditsAreTyped, EditsAheadAreTyped}
+use Rattle.feed_edits.proofs.Edits.{head_in}
+use Rattle.feed_edits.specs.Typed.{ReadEditsAreTyped, EditsAheadAreTyped}
 
 -- ---- numbers
 
@@ -38,14 +40,11 @@ number_within high field = go (is_numeral field) (value_from 0 field) (in_range 
     go true n true e = leb-true n high (second_true (nat_le 0 n) (nat_le n high) e)
 
 genre_from-typed : (parts : List (List ℕ)) → IfSome (genre_from parts) HasGenreNumbers
-genre_from-typed [] = tt
-genre_from-typed (a ∷ []) = tt
-genre_from-typed (a ∷ b ∷ []) = tt
 genre_from-typed (a ∷ b ∷ u ∷ []) =
     then_some (λ (x : ℕ). x ≤ 255) HasGenreNumbers _ (number_in 0 255 a) (number_within 255 a)
     (λ x hx. then_some (λ (y : ℕ). y ≤ 255) HasGenreNumbers _ (number_in 0 255 b) (number_within 255 b)
     (λ y hy. map_some (λ (z : ℕ). z ≤ 255) HasGenreNumbers _ (number_in 0 255 u) (number_within 255 u) (λ z hz. record { level1 = hx; level2 = hy; user = hz })))
-genre_from-typed (a ∷ b ∷ u ∷ more ∷ parts) = tt
+genre_from-typed other = tt
 
 all_genres : (groups : List (List ℕ)) → IfSome (all_some (map genre_of groups)) (AllByRecursion HasGenreNumbers)
 all_genres [] = tt
@@ -99,22 +98,12 @@ with_typed language name short extended l n s e (Some id) (Some start) (Some len
 
 item_typed : (fields : List (List ℕ)) → AllByRecursion IsKept fields → IfSome (item_of fields) IsTypedItem
 unfolding item_of
-item_typed [] kept = tt
-item_typed (a ∷ []) kept = tt
-item_typed (a ∷ b ∷ []) kept = tt
-item_typed (a ∷ b ∷ c ∷ []) kept = tt
-item_typed (a ∷ b ∷ c ∷ d ∷ []) kept = tt
-item_typed (a ∷ b ∷ c ∷ d ∷ e ∷ []) kept = tt
-item_typed (a ∷ b ∷ c ∷ d ∷ e ∷ f ∷ []) kept = tt
-item_typed (a ∷ b ∷ c ∷ d ∷ e ∷ f ∷ g ∷ []) kept = tt
-item_typed (a ∷ b ∷ c ∷ d ∷ e ∷ f ∷ g ∷ h ∷ []) kept = tt
-item_typed (a ∷ b ∷ c ∷ d ∷ e ∷ f ∷ g ∷ h ∷ i ∷ []) kept = tt
 item_typed (event ∷ start ∷ length ∷ language ∷ name ∷ short ∷ extended ∷ country ∷ rating ∷ genres ∷ []) kept =
     let texts = kept.1.1.1 in
     with_typed language name short extended texts.0 texts.1.0 texts.1.1.0 texts.1.1.1.0
     (number_in 0 65535 event) (stamp_of start) (length_of length) (rating_of country rating) (genres_of genres)
     (number_within 65535 event) (rating_typed country rating texts.1.1.1.1.0) (genres_typed genres)
-item_typed (a ∷ b ∷ c ∷ d ∷ e ∷ f ∷ g ∷ h ∷ i ∷ j ∷ k ∷ fields) kept = tt
+item_typed other kept = tt
 
 item_line-typed : (fields : List (List ℕ)) → AllByRecursion IsKept fields → IfSome (item_line fields) IsTypedItem
 unfolding item_line
@@ -145,12 +134,10 @@ put_typed (service ∷ item) kept =
     (λ s le. map_some IsTypedItem IsTypedHead _ (item_of item) (item_typed item kept.1) (λ i typed. (le, typed)))
 
 withdraw_typed : (fields : List (List ℕ)) → IfSome (withdraw_of fields) IsTypedHead
-withdraw_typed [] = tt
-withdraw_typed (service ∷ []) = tt
 withdraw_typed (service ∷ event ∷ []) =
     then_some IsService IsTypedHead _ (number_in 0 65535 service) (number_within 65535 service)
     (λ s le. map_some IsService IsTypedHead _ (number_in 0 65535 event) (number_within 65535 event) (λ e ge. (le, ge)))
-withdraw_typed (service ∷ event ∷ more ∷ fields) = tt
+withdraw_typed other = tt
 
 clear_typed : (fields : List (List ℕ)) → IfSome (clear_of fields) IsTypedHead
 clear_typed [] = tt
@@ -158,22 +145,16 @@ clear_typed (service ∷ []) = map_some IsService IsTypedHead _ (number_in 0 655
 clear_typed (service ∷ more ∷ fields) = tt
 
 name_typed : (fields : List (List ℕ)) → AllByRecursion IsKept fields → IfSome (name_of fields) IsTypedHead
-name_typed [] kept = tt
-name_typed (service ∷ []) kept = tt
-name_typed (service ∷ provider ∷ []) kept = tt
 name_typed (service ∷ provider ∷ name ∷ []) kept =
     map_some IsService IsTypedHead _ (number_in 0 65535 service) (number_within 65535 service) (λ s le. (le, kept.1.0, kept.1.1.0))
-name_typed (service ∷ provider ∷ name ∷ more ∷ fields) kept = tt
+name_typed other kept = tt
 
 day_typed : (fields : List (List ℕ)) → IfSome (day_head_of fields) IsTypedHead
-day_typed [] = tt
-day_typed (service ∷ []) = tt
-day_typed (service ∷ date ∷ []) = tt
 day_typed (service ∷ date ∷ count ∷ []) =
     then_some IsService IsTypedHead _ (number_in 0 65535 service) (number_within 65535 service)
     (λ s le. then_some (λ (d : DayText). Unit {0}) IsTypedHead _ (day_of date) (any_some (day_of date))
     (λ d any. map_some (λ (n : ℕ). n ≤ 2000) IsTypedHead _ (number_in 0 2000 count) (number_within 2000 count) (λ n few. le)))
-day_typed (service ∷ date ∷ count ∷ more ∷ fields) = tt
+day_typed other = tt
 
 head_typed : (fields : List (List ℕ)) → AllByRecursion IsKept fields → IfSome (edit_head fields) IsTypedHead
 unfolding edit_head
@@ -195,22 +176,10 @@ record_kept line = go (is_line line) refl
     go false e = tt
     go true e = line_kept line (is_line_back line e).kept
 
-pub then_came : {T U : Type 0} (P : T → Type 0) (Q : U → Type 0) (found : Found T) (f : T → Ahead → Found U) → IfCame P found → ((value : T) (behind : Ahead) → P value → IfCame Q (f value behind)) → IfCame Q (and_then found f)
-then_came P Q (Came value behind) f h g = g value behind h
-then_came P Q (Stopped stop) f h g = tt
-
-pub any_came : {T : Type 0} (found : Found T) → IfCame (λ (value : T). Unit {0}) found
-any_came (Came value behind) = tt
-any_came (Stopped stop) = tt
-
-pub line_came : {T : Type 0} (P : T → Type 0) (n : ℕ) (found : Option T) (behind : Ahead) → IfSome found P → IfCame P (on_line n found behind)
-line_came P n None behind h = tt
-line_came P n (Some value) behind h = h
-
 item_came : (lines : Ahead) → IfCame IsTypedItem (first_item lines)
 item_came lines =
-    then_came (λ (row : Row). Unit {0}) IsTypedItem (first_row missing_at lines) _ (any_came (first_row missing_at lines))
-    (λ row behind any. line_came IsTypedItem row.0 _ behind (then_some (AllByRecursion IsKept) IsTypedItem item_line (record_of row.1) (record_kept row.1) item_line-typed))
+    begun_came IsTypedItem missing_at _
+    (λ row behind. line_came IsTypedItem row.0 _ behind (then_some (AllByRecursion IsKept) IsTypedItem item_line (record_of row.1) (record_kept row.1) item_line-typed)) lines
 
 items_came : (n : ℕ) (lines : Ahead) → IfCame (AllByRecursion IsTypedItem) (items_of n lines)
 unfolding items_of
@@ -230,19 +199,12 @@ edit_came n head behind typed = then_came IsTypedHead IsTypedEdit (on_line n hea
 pub read_typed : ReadEditsAreTyped
 read_typed at fields behind kept = edit_came at (edit_head fields) behind (head_typed fields kept)
 
-pub first_typed : (lines : Ahead) → IfCame IsTypedEdit (first_edit lines)
-first_typed lines =
-    then_came (λ (row : Row). Unit {0}) IsTypedEdit (first_row stop_at lines) _ (any_came (first_row stop_at lines))
-    (λ row behind any. edit_came row.0 _ behind (then_some (AllByRecursion IsKept) IsTypedHead edit_head (record_of row.1) (record_kept row.1) head_typed))
-
-upto_typed : (n : ℕ) (lines : Ahead) → AllByRecursion IsTypedEdit (edits_upto n lines).0
-upto_typed zero lines = tt
-upto_typed (suc n) lines = go (λ behind. upto_typed n behind) (first_edit lines) (first_typed lines)
-  where
-    go : ((behind : Ahead) → AllByRecursion IsTypedEdit (edits_upto n behind).0) → (found : Found Edit) → IfCame IsTypedEdit found → AllByRecursion IsTypedEdit (and_edits found (edits_upto n)).0
-    go others (Came edit behind) typed = (typed, others behind)
-    go others (Stopped stop) typed = tt
+row_typed : (row : Row) (behind : Ahead) → IfCame IsTypedEdit (edit_from row.0 (head_in row.1) behind)
+row_typed row behind = edit_came row.0 _ behind (then_some (AllByRecursion IsKept) IsTypedHead edit_head (record_of row.1) (record_kept row.1) head_typed)
 
 pub ahead_typed : EditsAheadAreTyped
 unfolding edits_ahead
-ahead_typed lines = (first_typed lines, upto_typed (length lines.rows) lines)
+ahead_typed lines = (
+  begun_came IsTypedEdit stop_at (λ row behind. edit_from row.0 (head_in row.1) behind) row_typed lines,
+  values_came (λ (any : Unit {0}) (row : Row) (behind : Ahead). edit_from row.0 (head_in row.1) behind) (λ (edit : Edit). tt) IsTypedEdit (λ any. row_typed) tt lines,
+)

@@ -1,23 +1,14 @@
 -- The fields of an edit's lines, which read back as the edit.
 use Rattle.std.specs.Prelude.{◌≡◌, ℕ, List, [], ◌∷◌, ◌++◌, length, map, Option, Some, None, codes, decimal}
-use Rattle.std.specs.List.{join_with_byte}
-use Rattle.guide_model.specs.declared.event.Genre.{Genre}
+use Rattle.field_text.specs.Genres.{genres_text}
 use Rattle.input_lines.specs.Fields.{record_of}
 use Rattle.journal_model.specs.declared.edit.RawRating.{RawRating}
 use Rattle.journal_model.specs.declared.edit.Item.{Item}
 use Rattle.journal_model.specs.declared.edit.Edit.{Edit}
 use Rattle.journal_model.specs.declared.edit.Edit.TheVariants.{Put, Withdraw, Clear, Name, Day}
-use Rattle.feed_edits.specs.Ahead.{Ahead, Row, Tail, Came}
+use Rattle.input_lines.specs.Ahead.{Ahead, Row, Tail, Came, and_all}
 use Rattle.journal_model.specs.Edits.{IsShaped, HasNumbers}
-use Rattle.feed_edits.specs.Edits.{read_edit, first_edit, and_edits, edits_ahead}
-
--- `a.b.u`, with points (46)
-abbrev pub genre_field : Genre → List ℕ
-genre_field g = decimal g.level1 ++ 46 ∷ (decimal g.level2 ++ 46 ∷ decimal g.user)
-
--- GENRES, with single spaces (32) between
-abbrev pub genres_field : List Genre → List ℕ
-genres_field genres = join_with_byte 32 (map genre_field genres)
+use Rattle.feed_edits.specs.Edits.{read_edit, first_edit, edits_ahead}
 
 abbrev pub country_field : Option RawRating → List ℕ
 country_field None = []
@@ -31,7 +22,7 @@ rating_field (Some rating) = decimal rating.value
 abbrev pub item_fields : Item → List (List ℕ)
 item_fields item =
     decimal item.id ∷ item.start.0 ∷ item.length.0 ∷ item.language ∷ item.name ∷ item.short ∷ item.extended
-    ∷ country_field item.rating ∷ rating_field item.rating ∷ genres_field item.genres ∷ []
+    ∷ country_field item.rating ∷ rating_field item.rating ∷ genres_text item.genres ∷ []
 
 -- the fields of an edit's line
 abbrev pub edit_fields : Edit → List (List ℕ)
@@ -43,11 +34,8 @@ edit_fields (Day service date items) = codes "day" ∷ decimal service ∷ date.
 
 -- the fields of a day's item lines, a list for each line
 abbrev pub item_rows : Edit → List (List (List ℕ))
-item_rows (Put service item) = []
-item_rows (Withdraw service event) = []
-item_rows (Clear service) = []
-item_rows (Name service provider name) = []
 item_rows (Day service date items) = map (λ item. codes "item" ∷ item_fields item) items
+item_rows other = []
 
 -- these are the fields of these lines
 abbrev pub HaveFields : List Row → List (List (List ℕ)) → Type 0
@@ -60,4 +48,4 @@ EditsReadBack = (edit : Edit) → IsShaped edit → HasNumbers edit → (at : �
 
 -- The edits ahead are the first of them and those of what is ahead behind it.
 abbrev pub EditsGoOn : Type 0
-EditsGoOn = (lines : Ahead) → edits_ahead lines ≡ and_edits (first_edit lines) edits_ahead
+EditsGoOn = (lines : Ahead) → edits_ahead lines ≡ and_all (first_edit lines) (λ (edit : Edit). edits_ahead)

@@ -1,5 +1,5 @@
 -- The edits of a feed's text.
-use Rattle.std.specs.Prelude.{ℕ, zero, suc, List, [], ◌∷◌, length, Option, Some, None, option_and_then}
+use Rattle.std.specs.Prelude.{ℕ, zero, suc, List, [], ◌∷◌, Option, Some, None, option_and_then}
 use Rattle.si_causes.specs.Text.{text_lines}
 use Rattle.input_lines.specs.Fields.{record_of}
 use Rattle.journal_model.specs.declared.edit.Item.{Item}
@@ -7,14 +7,9 @@ use Rattle.journal_model.specs.declared.edit.Edit.{Edit}
 use Rattle.journal_model.specs.declared.edit.Edit.TheVariants.{Day}
 use Rattle.feed_edits.specs.declared.heads.Head.{Head}
 use Rattle.feed_edits.specs.declared.heads.Head.TheVariants.{Whole, OfDay}
-use Rattle.feed_edits.specs.Ahead.{Ahead, Found, Came, Stopped, Stop, NoCommand, and_then, first_row, stop_at, missing_at, ahead_in}
+use Rattle.input_lines.specs.Ahead.{Ahead, Found, Came, Stopped, Stop, and_then, first_row, on_line, stop_at, missing_at, ahead_in, values_ahead}
 use Rattle.feed_edits.specs.Items.{item_line}
 use Rattle.feed_edits.specs.Heads.{edit_head}
-
--- what line n is; it is no command where it is nothing
-abbrev pub on_line : {T : Type 0} → ℕ → Option T → Ahead → Found T
-on_line n None behind = Stopped (NoCommand n)
-on_line n (Some value) behind = Came value behind
 
 -- the item that the first line ahead is
 abbrev pub first_item : Ahead → Found Item
@@ -42,19 +37,9 @@ read_edit n fields behind = edit_from n (edit_head fields) behind
 abbrev pub first_edit : Ahead → Found Edit
 first_edit lines = and_then (first_row stop_at lines) (λ row behind. edit_from row.0 (option_and_then edit_head (record_of row.1)) behind)
 
--- an edit before those of what is ahead behind it, and their stop
-abbrev pub and_edits : Found Edit → (Ahead → List Edit × Stop) → List Edit × Stop
-and_edits (Came edit behind) others = (edit ∷ (others behind).0, (others behind).1)
-and_edits (Stopped stop) others = ([], stop)
-
--- the edits ahead, so many at most, and why no more is read
-abbrev pub edits_upto : ℕ → Ahead → List Edit × Stop
-edits_upto zero lines = ([], stop_at lines.tail)
-edits_upto (suc n) lines = and_edits (first_edit lines) (edits_upto n)
-
--- the edits ahead, which are no more than the lines, and why no more is read
+-- the edits ahead, and why no more is read
 unfoldable pub edits_ahead : Ahead → List Edit × Stop
-edits_ahead lines = edits_upto (length lines.rows) lines
+edits_ahead lines = values_ahead (λ (any : Unit {0}). first_edit) (λ (edit : Edit). tt) tt lines
 
 -- the edits of a text, and their stop: the end, the first line that is no edit there, or the limit of a text
 abbrev pub edits_of : List ℕ → List Edit × Stop

@@ -6,11 +6,12 @@ use Rattle.input_lines.specs.Fields.{next_record, strip_bom}
 use Rattle.journal_model.specs.declared.edit.Item.{Item}
 use Rattle.journal_model.specs.declared.edit.Edit.TheVariants.{Put, Withdraw, Clear, Day}
 use Rattle.feed_edits.specs.declared.heads.Head.TheVariants.{Whole, OfDay}
-use Rattle.feed_edits.specs.Ahead.{End, NoCommand}
+use Rattle.input_lines.specs.Ahead.{End, NoCommand}
 use Rattle.feed_edits.specs.Items.{genre_of, genres_of, rating_of, item_of, item_line}
 use Rattle.feed_edits.specs.Heads.{edit_head}
 use Rattle.feed_edits.specs.Edits.{items_of, edits_ahead, edits_of}
-use Rattle.feed_edits.specs.Back.{edit_fields, genres_field}
+use Rattle.field_text.specs.Genres.{genres_text}
+use Rattle.feed_edits.specs.Back.{edit_fields}
 
 -- single spaces part genres, and points their numbers
 two_genres : genres_of (codes "1.2.255 03.0.0") ≡ Some (record { level1 = 1; level2 = 2; user = 255 } ∷ record { level1 = 3; level2 = 0; user = 0 } ∷ [])
@@ -117,6 +118,6 @@ put_fields : edit_fields (Put 101 news) ≡ codes "put" ∷ codes "101" ∷ code
 unfolding digits
 put_fields = refl
 
-genres_back : genres_field (record { level1 = 1; level2 = 2; user = 255 } ∷ record { level1 = 3; level2 = 0; user = 0 } ∷ []) ≡ codes "1.2.255 3.0.0"
+genres_back : genres_text (record { level1 = 1; level2 = 2; user = 255 } ∷ record { level1 = 3; level2 = 0; user = 0 } ∷ []) ≡ codes "1.2.255 3.0.0"
 unfolding digits
 genres_back = refl

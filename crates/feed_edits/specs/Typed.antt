@@ -2,14 +2,9 @@
 use Rattle.std.specs.Prelude.{ℕ, List}
 use Rattle.std.specs.List.{AllByRecursion}
 use Rattle.si_text.specs.Decoding.{IsKept}
-use Rattle.feed_edits.specs.Ahead.{Ahead, Found, Came, Stopped}
+use Rattle.input_lines.specs.Ahead.{Ahead, IfCame}
 use Rattle.feed_edits.specs.Edits.{read_edit, first_edit, edits_ahead}
 use Rattle.journal_model.specs.Edits.{IsTypedEdit}
-
--- what holds of the value that is read, if one is
-abbrev pub IfCame : {T : Type 0} → (T → Type 0) → Found T → Type 0
-IfCame P (Came value behind) = P value
-IfCame P (Stopped stop) = Unit {0}
 
 -- The edit of fields that may be kept is such, whatever lines are behind it; so is each edit of the lines ahead.
 abbrev pub ReadEditsAreTyped : Type 0

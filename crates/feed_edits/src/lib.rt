@@ -8,9 +8,8 @@ mod heads;
 mod items;
 mod laws;
 mod reading;
-mod stop;
 
+pub use input_lines::EditStop;
 pub use journal_model::{DayItems, DayText, Edit, Item, Length, RawRating, Stamp};
 pub use laws::{edits_go_on, edits_read_back, read_edits_are_typed};
 pub use reading::{next_edit, read_edit};
-pub use stop::EditStop;

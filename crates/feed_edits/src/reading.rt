@@ -1,20 +1,17 @@
 // Edits on the lines of a reader.
-ghost use Rattle.std.specs.Prelude.{◌≡◌, ◌≤◌, ◌<◌, ◌∷◌, ◌++◌, [], List, ℕ, None, Some, Ok, Err, IfErr, IfOk, IfSome, OnOk, option_and_then, drop, length};
+ghost use Rattle.std.specs.Prelude.{◌≡◌, ◌∷◌, ◌++◌, [], IfErr, IfOk, IfSome, OnOk, option_and_then, drop, length};
 ghost use Rattle.std.specs.List.{All};
-ghost use Rattle.std.specs.Io.KnownBytes.{IsAtEnd};
-ghost use Rattle.si_causes.specs.Reading.{room, text_left};
 ghost use Rattle.input_lines.specs.Fields.{record_of};
-ghost use Rattle.feed_edits.specs.declared.stop.EditStop.TheVariants.{Memory, Read};
+ghost use Rattle.input_lines.specs.declared.stop.EditStop.TheVariants.{Memory};
+ghost use Rattle.input_lines.specs.Reads.{NextOf, ReadOf, Says};
 ghost use Rattle.feed_edits.specs.Items.{item_line};
 ghost use Rattle.journal_model.specs.Edits.{IsShapedItem, IsShaped};
 ghost use Rattle.feed_edits.specs.Heads.{IsShapedHead, edit_head};
-ghost use Rattle.feed_edits.specs.Edits.{first_item, items_of, read_edit as edit_at, with_items as edit_with};
-ghost use Rattle.feed_edits.specs.Reads.{Gives, GivesNext, ReadsStopped, Says, Takes, TakesNext};
+ghost use Rattle.feed_edits.specs.Edits.{first_edit, first_item, items_of, read_edit as edit_at, with_items as edit_with};
 
 use crate::heads::{Head, read_head};
 use crate::items::read_item_line;
-use crate::stop::EditStop;
-use input_lines::{LineFields, fields, next_record_line};
+use input_lines::{EditStop, LineFields, fields, next_record_line};
 use journal_model::{DayItems, Edit, Item};
 use si_causes::{LineReader, Source};
 use si_text::Txt;
@@ -58,14 +55,8 @@ fn head_on(alloc: Global, at: u64, line: &[u8]) -> Result<Head, EditStop>
 
 // The item on the next line.
 fn next_item<S: Source>(alloc: Global, lines: &mut LineReader<S>) -> Result<Item, EditStop>
-    ensures gives { lines.old.stop ≡ None → (text : List ℕ) → text_left S.left lines.old ≡ Some text
-        → Gives S.left first_item lines.old lines.new text result }
-    ensures takes { lines.old.stop ≡ None → Takes S.left S.faults first_item lines.old lines.new result }
+    ensures reads { ReadOf S.left S.faults S.same first_item lines.old lines.new result }
     ensures shaped { IfOk result IsShapedItem }
-    ensures sticky { IfSome lines.old.stop (λ stop. (result ≡ Err (Read stop)) × (lines.new ≡ lines.old)) }
-    ensures falls { OnOk result (room lines.new < room lines.old) }
-    ensures later { S.faults lines.old.source ≤ S.faults lines.new.source }
-    ensures same { S.same lines.old.source lines.new.source }
 {
     match next_record_line(lines) {
         Ok(Some(at)) => item_on(alloc, at, lines.line()),
@@ -91,16 +82,9 @@ fn next_items<S: Source>(
     count: u32,
     lines: &mut LineReader<S>,
 ) -> Result<DayItems, EditStop>
-    ensures gives { lines.old.stop ≡ None → (text : List ℕ) → text_left S.left lines.old ≡ Some text
-        → Gives S.left (items_of count) lines.old lines.new text result }
-    ensures takes { lines.old.stop ≡ None → Takes S.left S.faults (items_of count) lines.old lines.new result }
+    ensures reads { ReadOf S.left S.faults S.same (items_of count) lines.old lines.new result }
     ensures shaped { IfOk result (All IsShapedItem) }
     ensures counted { IfOk result (λ items. length items ≡ count) }
-    ensures stopped { IfSome lines.old.stop (λ stop. ReadsStopped (items_of count) stop result) }
-    ensures sticky { IfSome lines.old.stop (λ stop. lines.new ≡ lines.old) }
-    ensures goes_on { OnOk result (room lines.new ≤ room lines.old) }
-    ensures later { S.faults lines.old.source ≤ S.faults lines.new.source }
-    ensures same { S.same lines.old.source lines.new.source }
 {
     let mut items = DayItems::new(alloc);
     'items: for _ in 0..count {
@@ -122,15 +106,8 @@ fn with_items<S: Source>(
     lines: &mut LineReader<S>,
 ) -> Result<Edit, EditStop>
     requires { IsShapedHead head }
-    ensures gives { lines.old.stop ≡ None → (text : List ℕ) → text_left S.left lines.old ≡ Some text
-        → Gives S.left (edit_with head) lines.old lines.new text result }
-    ensures takes { lines.old.stop ≡ None → Takes S.left S.faults (edit_with head) lines.old lines.new result }
+    ensures reads { ReadOf S.left S.faults S.same (edit_with head) lines.old lines.new result }
     ensures shaped { IfOk result IsShaped }
-    ensures stopped { IfSome lines.old.stop (λ stop. ReadsStopped (edit_with head) stop result) }
-    ensures sticky { IfSome lines.old.stop (λ stop. lines.new ≡ lines.old) }
-    ensures goes_on { OnOk result (room lines.new ≤ room lines.old) }
-    ensures later { S.faults lines.old.source ≤ S.faults lines.new.source }
-    ensures same { S.same lines.old.source lines.new.source }
 {
     match head {
         Head::Whole(edit) => Ok(edit),
@@ -157,16 +134,8 @@ pub fn read_edit<S: Source>(
     at: u64,
     lines: &mut LineReader<S>,
 ) -> Result<Edit, EditStop>
-    ensures gives { lines.old.stop ≡ None → (text : List ℕ) → text_left S.left lines.old ≡ Some text
-        → Gives S.left (edit_at at (drop from fields.now)) lines.old lines.new text result }
-    ensures takes { lines.old.stop ≡ None
-        → Takes S.left S.faults (edit_at at (drop from fields.now)) lines.old lines.new result }
+    ensures reads { ReadOf S.left S.faults S.same (edit_at at (drop from fields.now)) lines.old lines.new result }
     ensures shaped { IfOk result IsShaped }
-    ensures stopped { IfSome lines.old.stop (λ stop. ReadsStopped (edit_at at (drop from fields.now)) stop result) }
-    ensures sticky { IfSome lines.old.stop (λ stop. lines.new ≡ lines.old) }
-    ensures goes_on { OnOk result (room lines.new ≤ room lines.old) }
-    ensures later { S.faults lines.old.source ≤ S.faults lines.new.source }
-    ensures same { S.same lines.old.source lines.new.source }
 {
     let Some(fields) = fields.as_slice().get(from..) else {
         return Err(EditStop::NoCommand(at));
@@ -185,15 +154,8 @@ pub fn next_edit<S: Source>(
     alloc: Global,
     lines: &mut LineReader<S>,
 ) -> Result<Option<Edit>, EditStop>
-    ensures gives { lines.old.stop ≡ None → (text : List ℕ) → text_left S.left lines.old ≡ Some text
-        → GivesNext S.left lines.old lines.new text result }
-    ensures takes { lines.old.stop ≡ None → TakesNext S.left S.faults lines.old lines.new result }
+    ensures reads { NextOf S.left S.faults S.same first_edit lines.old lines.new result }
     ensures shaped { IfOk result (λ found. IfSome found IsShaped) }
-    ensures sticky { IfSome lines.old.stop (λ stop. (result ≡ Err (Read stop)) × (lines.new ≡ lines.old)) }
-    ensures falls { IfOk result (λ found. IfSome found (λ edit. room lines.new < room lines.old)) }
-    ensures end { result ≡ Ok None → IsAtEnd (S.left lines.new.source) }
-    ensures later { S.faults lines.old.source ≤ S.faults lines.new.source }
-    ensures same { S.same lines.old.source lines.new.source }
 {
     let at = match next_record_line(lines) {
         Ok(Some(at)) => at,

@@ -43,14 +43,9 @@ quoted-runs (b ∷ bs) h = (high-quoted b h.0, quoted-runs bs h.1)
 
 -- a state that the default reader comes to
 abbrev good : State → Bool
-good st.StartRecord = true
-good st.StartField = true
-good st.InField = true
-good st.InQuoted = true
-good st.AfterQuote = true
 good st.InEscape = false
 good st.InComment = false
-good st.AfterCr = true
+good other = true
 
 good-field : (c : ℕ) → good (in_field default_config c).0 ≡ true
 good-field c = elim (cases_Bool (c == 44)) [
@@ -178,13 +173,8 @@ first-copy s s2 b fields field tail e = rw e refl
 at-end : (s : State) (fields : List (List ℕ)) (field : List ℕ) → AllClean fields → IsClean field → RecordClean (next_record default_config s fields field [])
 unfolding next_record
 at-end st.StartRecord fields field cf f = tt
-at-end st.StartField fields field cf f = clean-snoc fields field cf f
-at-end st.InField fields field cf f = clean-snoc fields field cf f
-at-end st.InQuoted fields field cf f = clean-snoc fields field cf f
-at-end st.AfterQuote fields field cf f = clean-snoc fields field cf f
-at-end st.InEscape fields field cf f = clean-snoc fields field cf f
-at-end st.InComment fields field cf f = clean-snoc fields field cf f
 at-end st.AfterCr fields field cf f = tt
+at-end other fields field cf f = clean-snoc fields field cf f
 
 -- a high character joins the field at hand
 high-run : (s s2 : State) (b : ℕ) (bs tail : List ℕ) (fields : List (List ℕ)) (field : List ℕ) → step default_config s b ≡ (s2, act.Copy) → Runs default_config s2 bs

@@ -68,9 +68,6 @@ mark_is a b c rest e =
 
 pub strip_clean : (bs : List ℕ) → IsClean bs → IsClean (strip_bom bs)
 unfolding strip_bom
-strip_clean [] h = h
-strip_clean (a ∷ []) h = h
-strip_clean (a ∷ b ∷ []) h = h
 strip_clean (a ∷ b ∷ c ∷ rest) (cs, ok, e) = elim (cases_Bool (is_bom a b c)) [
   | inl mark ↦
       let (es, is, back) = cons_from_encodes cs rest 65279 (e ∙ mark_is a b c rest mark) in
@@ -78,6 +75,7 @@ strip_clean (a ∷ b ∷ c ∷ rest) (cs, ok, e) = elim (cases_Bool (is_bom a b 
       rw mark (es, parts.1, back)
   | inr none ↦ rw none (cs, ok, e)
 ]
+strip_clean other h = h
 
 none_clean : (o : Option Read) → RecordClean o → AllClean (fields_or_none o)
 none_clean None h = tt

@@ -4,3 +4,5 @@ pub mod CleanLines
 pub mod Numerals
 pub mod Steps
 pub mod LastLines
+pub mod LineReads
+pub mod ValuesAhead

@@ -313,13 +313,29 @@ pub stuck_at : {S : Type 0} (o : Option ReadStop) (reader : Reading S) → IfSom
 stuck_at None reader = tt
 stuck_at (Some stop) reader = refl
 
--- a reader that stands stopped gives no line
-pub stays_stuck : {S : Type 0} (o : Option ReadStop) (old now new : Reading S) (n : ℕ) → o ≡ old.stop → IfSome o (λ stop. now ≡ old) → IfSome now.stop (λ stop. Says (Ok (Some n)) (Err stop) × (new ≡ now)) → IfSome o (λ stop. new ≡ old)
-stays_stuck None old now new n e h sticky = tt
-stays_stuck {S = S} (Some stop) old now new n e h sticky =
+pub if_none : {X : Type 0} (P : X → Type 0) (o : Option X) → o ≡ None → IfSome o P
+if_none P None e = tt
+if_none P (Some x) e = cc e
+
+-- a reader that stands stopped gives no line, and no end
+pub no_stop : {S : Type 0} (o : Option ReadStop) (found : Option ℕ) (old new : Reading S) → IfSome o (λ stop. ((let r : Result (Option ℕ) ReadStop = Ok found in r) ≡ Err stop) × (new ≡ old)) → o ≡ None
+no_stop None found old new h = refl
+no_stop (Some stop) found old new h = absurd (let e = h.0 in cc e)
+
+-- what a reader that stands stopped answers
+pub sticky_on : {S : Type 0} (o : Option ReadStop) (P : ReadStop → Type 0) (old now new : Reading S) → o ≡ old.stop → IfSome o (λ stop. now ≡ old) → IfSome now.stop (λ stop. P stop × (new ≡ now)) → IfSome o (λ stop. P stop × (new ≡ old))
+sticky_on None P old now new e h sticky = tt
+sticky_on {S = S} (Some stop) P old now new e h sticky =
     let at : now.stop ≡ Some stop = ap (λ (r : Reading S). r.stop) h ∙ sym e in
-    let never = subst (λ (s : Option ReadStop). IfSome s (λ stop. Says (Ok (Some n)) (Err stop) × (new ≡ now))) at sticky in
-    cc never.0
+    let stays = subst (λ (s : Option ReadStop). IfSome s (λ stop. P stop × (new ≡ now))) at sticky in
+    (stays.0, stays.1 ∙ h)
+
+pub no_stop_on : {S : Type 0} (o : Option ReadStop) (found : Option ℕ) (old now new : Reading S) → o ≡ old.stop → IfSome o (λ stop. now ≡ old)
+    → IfSome now.stop (λ stop. ((let r : Result (Option ℕ) ReadStop = Ok found in r) ≡ Err stop) × (new ≡ now)) → o ≡ None
+no_stop_on o found old now new e h sticky = no_stop o found old new (sticky_on o (λ stop. (let r : Result (Option ℕ) ReadStop = Ok found in r) ≡ Err stop) old now new e h sticky)
+
+pub stays_stuck : {S : Type 0} (o : Option ReadStop) (old now new : Reading S) (n : ℕ) → o ≡ old.stop → IfSome o (λ stop. now ≡ old) → IfSome now.stop (λ stop. Says (Ok (Some n)) (Err stop) × (new ≡ now)) → IfSome o (λ stop. new ≡ old)
+stays_stuck o old now new n e h sticky = if_none (λ stop. new ≡ old) o (no_stop_on o (Some n) old now new e h sticky)
 
 -- a stop behind lines that were passed over
 pub over_stop : {S : Type 0} (left : S → Known) (faults : S → ℕ) (old now new : Reading S) (stop : ReadStop) → Over left old now → now.ended ≡ false → StopCame left faults now new stop → faults old.source ≤ faults now.source

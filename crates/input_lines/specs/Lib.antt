@@ -3,4 +3,6 @@ pub mod Numbers
 pub mod Lines
 pub mod Going
 pub mod Records
+pub mod Ahead
+pub mod Reads
 mod Rows

@@ -1,10 +1,7 @@
 // The next line that is a record.
-ghost use Rattle.std.specs.Prelude.{◌≡◌, ◌≤◌, List, ℕ, Some, None, Ok, Err, IfSome};
-ghost use Rattle.std.specs.Io.KnownBytes.{IsAtEnd};
-ghost use Rattle.si_causes.specs.Reading.{Falls, text_left};
-ghost use Rattle.input_lines.specs.Lines.{is_passed, lines_of};
-ghost use Rattle.input_lines.specs.Going.{RecordCame};
-ghost use Rattle.input_lines.specs.Records.{GivesRecord};
+ghost use Rattle.std.specs.Prelude.{◌≡◌};
+ghost use Rattle.input_lines.specs.Lines.{is_passed};
+ghost use Rattle.input_lines.specs.Records.{NextRecord};
 
 use si_causes::{LineReader, ReadStop, Source};
 
@@ -24,14 +21,7 @@ pub fn passes_over(line: &[u8]) -> bool
 /// `TooLong` and `Failed` come as from [`LineReader::next`]: `Failed` only where a read of the source failed in this
 /// call, and then each line that was whole in the bytes taken was passed over.
 pub fn next_record_line<S: Source>(lines: &mut LineReader<S>) -> Result<Option<u64>, ReadStop>
-    ensures records { lines.old.stop ≡ None → (text : List ℕ) → text_left S.left lines.old ≡ Some text
-        → GivesRecord S.left lines.old lines.new (lines_of lines.old text) result }
-    ensures came { lines.old.stop ≡ None → RecordCame S.left S.faults lines.old lines.new result }
-    ensures falls { Falls lines.old lines.new result }
-    ensures end { result ≡ Ok None → IsAtEnd (S.left lines.new.source) }
-    ensures sticky { IfSome lines.old.stop (λ stop. (result ≡ Err stop) × (lines.new ≡ lines.old)) }
-    ensures later { S.faults lines.old.source ≤ S.faults lines.new.source }
-    ensures same { S.same lines.old.source lines.new.source }
+    ensures { NextRecord S.left S.faults S.same lines.old lines.new result }
 {
     'lines: loop {
         match lines.next() {

@@ -14,8 +14,8 @@ use Rattle.input_lines.specs.Numbers.{is_word, is_digit}
 use Rattle.journal_model.specs.declared.edit.Item.{Item}
 use Rattle.journal_model.specs.declared.edit.Edit.{Edit}
 use Rattle.journal_model.specs.declared.edit.Edit.TheVariants.{Put, Withdraw, Clear, Name, Day}
-use Rattle.feed_edits.specs.Ahead.{Ahead, Row, Tail, Came, and_then}
-use Rattle.feed_edits.specs.Edits.{on_line, read_edit}
+use Rattle.input_lines.specs.Ahead.{Ahead, Row, Tail, Came, and_then, on_line}
+use Rattle.feed_edits.specs.Edits.{read_edit}
 use Rattle.journal_model.specs.Edits.{IsShapedItem, IsShaped, IsTypedItem, IsTypedEdit}
 use Rattle.feed_edits.specs.Back.{HaveFields, edit_fields, item_rows}
 use Rattle.feed_edits.proofs.Back.{edits_read_back, number_back}
@@ -75,11 +75,8 @@ items_have (item ∷ items) n h =
 
 -- the items of an edit are those that it reads back from
 rows_have : (e : Edit) (n : ℕ) → AreRows (items_of e) → HaveFields (numbered n (items_of e)) (item_rows e)
-rows_have (Put service item) n h = refl
-rows_have (Withdraw service event) n h = refl
-rows_have (Clear service) n h = refl
-rows_have (Name service provider name) n h = refl
 rows_have (Day service day items) n h = items_have items n h
+rows_have other n h = refl
 
 abbrev behind_rows : List Row → List Row → Tail → Ahead
 behind_rows rows more tail = record { rows = rows ++ more; tail = tail }

@@ -13,7 +13,8 @@ use Rattle.journal_model.specs.declared.edit.Item.{Item}
 use Rattle.journal_model.specs.declared.edit.Edit.{Edit}
 use Rattle.journal_model.specs.declared.edit.Edit.TheVariants.{Put, Withdraw, Clear, Name, Day}
 use Rattle.journal_model.specs.Edits.{IsShapedItem, IsShaped, HasGenreNumbers, IsTypedItem, IsTypedEdit}
-use Rattle.feed_edits.specs.Back.{genre_field, genres_field, rating_field, item_fields, edit_fields, country_field}
+use Rattle.field_text.specs.Genres.{genre_text, genres_text}
+use Rattle.feed_edits.specs.Back.{rating_field, item_fields, edit_fields, country_field}
 use Rattle.journal_model.specs.declared.step.Step.{Step}
 use Rattle.journal_model.specs.declared.step.Step.TheVariants.{Edit as edit, Tick, Publish, Swap}
 use Rattle.journal_model.specs.Steps.{IsStepWithin, IsTypedStep}
@@ -26,7 +27,7 @@ use Rattle.journal_text.proofs.EntryRows.{is_printing, is_written, printing_kept
 
 -- ---- the fields of an edit are texts
 
-genre_printing : (g : Genre) → HasGenreNumbers g → list_all is_printing (genre_field g) ≡ true
+genre_printing : (g : Genre) → HasGenreNumbers g → list_all is_printing (genre_text g) ≡ true
 genre_printing g h =
     let a = digits_printing (decimal g.level1) (digits_of g.level1 (let k = h.level1 in omega arith)) in
     let b = digits_printing (decimal g.level2) (digits_of g.level2 (let k = h.level2 in omega arith)) in
@@ -34,14 +35,14 @@ genre_printing g h =
     list_all-append is_printing (decimal g.level1) (46 ∷ (decimal g.level2 ++ 46 ∷ decimal g.user))
     ∙ rw (a, list_all-append is_printing (decimal g.level2) (46 ∷ decimal g.user), b, u) refl
 
-genres_printing : (gs : List Genre) → AllByRecursion HasGenreNumbers gs → list_all is_printing (genres_field gs) ≡ true
+genres_printing : (gs : List Genre) → AllByRecursion HasGenreNumbers gs → list_all is_printing (genres_text gs) ≡ true
 genres_printing [] h = refl
 genres_printing (g ∷ []) h = genre_printing g h.0
 genres_printing (g ∷ k ∷ gs) h =
-    list_all-append is_printing (genre_field g) (32 ∷ genres_field (k ∷ gs)) ∙ rw (genre_printing g h.0, genres_printing (k ∷ gs) h.1) refl
+    list_all-append is_printing (genre_text g) (32 ∷ genres_text (k ∷ gs)) ∙ rw (genre_printing g h.0, genres_printing (k ∷ gs) h.1) refl
 
-genres_kept : (gs : List Genre) → AllByRecursion HasGenreNumbers gs → IsKept (genres_field gs)
-genres_kept gs h = printing_kept (genres_field gs) (genres_printing gs h)
+genres_kept : (gs : List Genre) → AllByRecursion HasGenreNumbers gs → IsKept (genres_text gs)
+genres_kept gs h = printing_kept (genres_text gs) (genres_printing gs h)
 
 small_kept : (n high : ℕ) → n ≤ high → high ≤ 65535 → IsKept (decimal n)
 small_kept n high le most = number_kept n (small n (omega arith))

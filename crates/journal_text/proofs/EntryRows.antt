@@ -134,20 +134,9 @@ plain_fields f (g ∷ fs) h =
     ap (λ (l : List ℕ). 44 ∷ (l ++ fields_text default_writer (g ∷ fs))) (plain_field f p) ∙ ap (λ (l : List ℕ). 44 ∷ (f ++ l)) (plain_fields g fs q)
 
 field_written : (f : Field) → AllByRecursion (λ n. n < 2 ^ 64) (field_numbers f) → all_written (field_fields f) ≡ true
-field_written Start h = refl
-field_written Duration h = refl
-field_written Window h = refl
-field_written Language h = refl
-field_written Name h = refl
-field_written Short h = refl
-field_written Extended h = refl
-field_written Country h = refl
-field_written Rating h = refl
-field_written Genre h = refl
-field_written Provider h = refl
-field_written ServiceName h = refl
 field_written (Count n) h = rw (number_written n h.0) refl
 field_written (Segment n) h = rw (number_written n h.0) refl
+field_written other h = refl
 
 fault_written : (fault : DayFault) → AllByRecursion (λ n. n < 2 ^ 64) (day_fault_numbers fault) → all_written (day_fault_fields fault) ≡ true
 fault_written (BadField f) h = field_written f h
@@ -174,10 +163,7 @@ outcome_some (Edited (Foreign s)) = λ e. cc
 outcome_some (Edited (Range f)) = λ e. cc
 outcome_some (Edited (Overlap x)) = λ e. cc
 outcome_some (Edited (Member i fault)) = λ e. cc
-outcome_some Ticked = λ e. cc
-outcome_some (Late at) = λ e. cc
-outcome_some (Published n) = λ e. cc
-outcome_some (Swapped n at) = λ e. cc
+outcome_some other = λ e. cc
 
 -- the line of an outcome is the text of the row
 pub outcome_line : (o : Outcome) → IsWritableOutcome o → codes "=," ++ outcome_text o ++ codes "\n" ≡ line_text (outcome_row o)
@@ -204,18 +190,7 @@ outcome_front o = fronted (outcome_fields o) (outcome_some o)
 field_low : (f : Field) → HasFieldNumber f → AllByRecursion (λ n. n < 2 ^ 64) (field_numbers f)
 field_low (Count n) h = (low n h, tt)
 field_low (Segment n) h = (low n h, tt)
-field_low Start h = tt
-field_low Duration h = tt
-field_low Window h = tt
-field_low Language h = tt
-field_low Name h = tt
-field_low Short h = tt
-field_low Extended h = tt
-field_low Country h = tt
-field_low Rating h = tt
-field_low Genre h = tt
-field_low Provider h = tt
-field_low ServiceName h = tt
+field_low other h = tt
 
 fault_low : (fault : DayFault) → HasDayFaultNumbers fault → AllByRecursion (λ n. n < 2 ^ 64) (day_fault_numbers fault)
 fault_low (BadField f) h = field_low f h

@@ -165,11 +165,8 @@ rows_behind (word ∷ fields) = if is_word (codes "day") word then day_count fie
 rows_behind [] = 0
 
 count_of : (e : Edit) → IsShaped e → rows_behind (edit_fields e) ≡ length (items_of e)
-count_of (Put service item) h = refl
-count_of (Withdraw service event) h = refl
-count_of (Clear service) h = refl
-count_of (Name service provider name) h = refl
 count_of (Day service day items) h = value_back (length items) (small (length items) (let n : length items ≤ 2000 = h.count in omega arith))
+count_of other h = refl
 
 abbrev pub step_with : Option Step → Option ℕ → Option Edit → Option Step
 step_with (Some s) feed e = Some s
@@ -243,20 +240,9 @@ outcome_from (word ∷ fields) =
     else option_map Edited (reply_from word fields))))
 
 field_again : (f : Field) → AllByRecursion (λ n. n < 2 ^ 64) (field_numbers f) → field_from (field_fields f) ≡ Some f
-field_again Start h = refl
-field_again Duration h = refl
-field_again Window h = refl
-field_again Language h = refl
-field_again NameField h = refl
-field_again Short h = refl
-field_again Extended h = refl
-field_again Country h = refl
-field_again Rating h = refl
-field_again Genre h = refl
-field_again Provider h = refl
-field_again ServiceName h = refl
 field_again (Count n) h = rw (value_back n h.0) refl
 field_again (Segment n) h = rw (value_back n h.0) refl
+field_again other h = refl
 
 fault_again : (fault : DayFault) → AllByRecursion (λ n. n < 2 ^ 64) (day_fault_numbers fault) → fault_from (day_fault_fields fault) ≡ Some fault
 fault_again (BadField f) h = rw (field_again f h) refl

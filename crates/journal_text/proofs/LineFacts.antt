@@ -1,11 +1,8 @@
--- The text of a line, field by field, and that of genres, one by one.
-use Rattle.std.proofs.Common.{◌≡◌, ℕ, ◌<◌, ◌≤◌, take, length, List, [], ◌∷◌, ◌++◌, refl, sym, ap, ◌∙◌, arith, append-nil, append_assoc, false}
-use Rattle.std.specs.Prelude.{◌==◌, Result, Ok, Err, OnOk, codes, flat_map}
+-- The text of a line, field by field.
+use Rattle.std.proofs.Common.{◌≡◌, ℕ, ◌<◌, List, [], ◌∷◌, ◌++◌, refl, sym, ap, ◌∙◌, arith, append-nil, append_assoc, false}
+use Rattle.std.specs.Prelude.{◌==◌, Result, Ok, Err, OnOk}
 use Rattle.std.proofs.lemmas.Bool.Decides.{nat_tests}
-use Rattle.std.proofs.lemmas.List.{take_all}
 use Rattle.csv.specs.Writing.{default_writer, row_body, field_text, fields_text}
-use Rattle.guide_model.specs.declared.event.Genre.{Genre}
-use Rattle.feed_edits.specs.Back.{genre_field, genres_field}
 use Rattle.journal_text.specs.Edits.{Line, and_field, and_fields, no_fields, ended, line_text}
 
 rest_text : (line : Line) (fields : List (List ℕ)) → 0 < line.fields → (and_fields line fields).text ≡ line.text ++ fields_text default_writer fields
@@ -34,15 +31,3 @@ pub behind : {E : Type 0} (r : Result (Unit {0}) E) (old line more more' middle 
 behind (Ok u) old line more more' middle new at same is =
     is ∙ ap (λ (m : List ℕ). m ++ more') at ∙ append_assoc old line more' ∙ ap (λ (m : List ℕ). old ++ (line ++ m)) same
 behind (Err e) old line more more' middle new at same is = tt
-
--- genres are the first, and each other behind a space
-genres_join : (g : Genre) (gs : List Genre) → genre_field g ++ flat_map (λ k. codes " " ++ genre_field k) gs ≡ genres_field (g ∷ gs)
-genres_join g [] = append-nil (genre_field g)
-genres_join g (k ∷ gs) = ap (λ (l : List ℕ). genre_field g ++ 32 ∷ l) (genres_join k gs)
-
-pub genres_whole : (genres rest : List Genre) (g : Genre) (n : ℕ) (before text : List ℕ) → genres ≡ g ∷ rest → before ≡ genre_field g → length rest ≤ n
-    → text ≡ before ++ flat_map (λ k. codes " " ++ genre_field k) (take n rest) → text ≡ genres_field genres
-genres_whole genres rest g n before text is first most e =
-    e ∙ ap (λ (l : List ℕ). l ++ flat_map (λ k. codes " " ++ genre_field k) (take n rest)) first
-    ∙ ap (λ (gs : List Genre). genre_field g ++ flat_map (λ k. codes " " ++ genre_field k) gs) (take_all n rest most)
-    ∙ genres_join g rest ∙ ap genres_field (sym is)

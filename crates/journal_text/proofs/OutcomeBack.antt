@@ -59,20 +59,9 @@ moment_back at h = rw (moment_in-moment_text at.0 h) refl
 
 field_back : (f : Field) → HasFieldNumber f → field_of (field_fields f) ≡ Some f
 unfolding field_of
-field_back Start h = refl
-field_back Duration h = refl
-field_back Window h = refl
-field_back Language h = refl
-field_back Name h = refl
-field_back Short h = refl
-field_back Extended h = refl
-field_back Country h = refl
-field_back Rating h = refl
-field_back Genre h = refl
-field_back Provider h = refl
-field_back ServiceName h = refl
 field_back (Count n) h = rw (numeral_back n h) refl
 field_back (Segment n) h = rw (numeral_back n h) refl
+field_back other h = refl
 
 day_fault_back : (fault : DayFault) → HasDayFaultNumbers fault → day_fault_of (day_fault_fields fault) ≡ Some fault
 unfolding day_fault_of
@@ -95,19 +84,7 @@ outcome_back (Swapped n at) h = rw (numeral_back n h.numbers, moment_back at h.w
 
 behind_word : (x : List ℕ) (f : Field) → x ++ 44 ∷ field_text f ≡ with_commas (x ∷ field_fields f)
 behind_word x Start = refl
-behind_word x Duration = refl
-behind_word x Window = refl
-behind_word x Language = refl
-behind_word x Name = refl
-behind_word x Short = refl
-behind_word x Extended = refl
-behind_word x Country = refl
-behind_word x Rating = refl
-behind_word x Genre = refl
-behind_word x Provider = refl
-behind_word x ServiceName = refl
-behind_word x (Count n) = refl
-behind_word x (Segment n) = refl
+behind_word x other = refl
 
 behind_place : (x : List ℕ) (fault : DayFault) → x ++ 44 ∷ day_fault_text fault ≡ with_commas (x ∷ day_fault_fields fault)
 behind_place x (BadField f) = ap (λ (l : List ℕ). x ++ 44 ∷ l) (behind_word (codes "range") f)
@@ -123,7 +100,5 @@ outcome_is (Edited (Foreign s)) = refl
 outcome_is (Edited (Range f)) = behind_word (codes "range") f
 outcome_is (Edited (Overlap e)) = refl
 outcome_is (Edited (Member i fault)) = three (codes "member,") (decimal i) (day_fault_text fault) ∙ ap (λ (l : List ℕ). codes "member," ++ l) (behind_place (decimal i) fault)
-outcome_is Ticked = refl
-outcome_is (Late at) = refl
-outcome_is (Published n) = refl
 outcome_is (Swapped n at) = three (codes "swapped,") (decimal n) (moment_text at.0)
+outcome_is other = refl

@@ -32,10 +32,8 @@ no_mark a b c e = rw e refl
 
 front_strips : (line : List ℕ) → IsFront line → strip_bom line ≡ line
 unfolding strip_bom
-front_strips [] h = refl
-front_strips (a ∷ []) h = refl
-front_strips (a ∷ b ∷ []) h = refl
 front_strips (a ∷ b ∷ c ∷ rest) h = rw (no_mark a b c h.1) refl
+front_strips other h = refl
 
 front_passed : (line : List ℕ) → IsFront line → is_passed line ≡ false
 front_passed [] h = absurd h

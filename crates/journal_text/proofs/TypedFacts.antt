@@ -6,11 +6,11 @@ use Rattle.si_lists.proofs.Outcomes.{map_some, if_some, any_some}
 use Rattle.si_text.specs.Decoding.{IsKept}
 use Rattle.input_lines.specs.Fields.{record_of}
 use Rattle.input_lines.specs.Numbers.{is_word, number_in}
-use Rattle.feed_edits.specs.Ahead.{Ahead, Row, Found, Came, Stopped, first_row, stop_at}
-use Rattle.feed_edits.specs.Edits.{on_line, read_edit}
-use Rattle.feed_edits.specs.Typed.{IfCame}
+use Rattle.input_lines.specs.Ahead.{Ahead, Row, Found, Came, Stopped, IfCame, on_line}
+use Rattle.input_lines.proofs.ValuesAhead.{then_came, line_came, values_came}
+use Rattle.feed_edits.specs.Edits.{read_edit}
 use Rattle.journal_model.specs.Edits.{IsTypedEdit}
-use Rattle.feed_edits.proofs.Typed.{number_within, record_kept, read_typed, then_came, any_came, line_came}
+use Rattle.feed_edits.proofs.Typed.{number_within, record_kept, read_typed}
 use Rattle.journal_model.specs.declared.control.Control.{Control}
 use Rattle.journal_model.specs.declared.control.Control.TheVariants.{Tick as tick, Publish as publish}
 use Rattle.journal_model.specs.declared.step.Step.{Step}
@@ -19,7 +19,7 @@ use Rattle.journal_model.specs.declared.step.Outcome.{Outcome}
 use Rattle.journal_model.specs.Steps.{Command, IsTypedStep}
 use Rattle.control_lines.specs.Controls.{control_of}
 use Rattle.journal_text.specs.declared.script.ScriptItem.{ScriptItem}
-use Rattle.journal_text.specs.Script.{is_swap, control_step, short_step, feed_of, command_with, caller_of, command_by, read_command, is_outcome_line, kept_in, kept_item, step_item, read_item, first_script_item, is_command, and_items, items_upto, items_ahead}
+use Rattle.journal_text.specs.Script.{is_swap, control_step, short_step, feed_of, command_with, caller_of, command_by, read_command, is_outcome_line, kept_in, kept_item, step_item, read_item, item_on, is_command, items_ahead}
 use Rattle.journal_text.specs.ScriptLaws.{IsTypedScriptItem, ItemsAreTyped}
 
 abbrev IsTypedCommand : Command → Type 0
@@ -72,22 +72,11 @@ line_typed after n fields behind kept = go (is_outcome_line fields)
     go false =
         then_came IsTypedCommand IsTypedScriptItem (read_command n fields behind) _ (caller_typed (caller_of fields) n fields behind kept) (λ command rest typed. typed)
 
-first_typed : (after : Bool) (lines : Ahead) → IfCame IsTypedScriptItem (first_script_item after lines)
-first_typed after lines =
-    then_came (λ (row : Row). Unit {0}) IsTypedScriptItem (first_row stop_at lines) _ (any_came (first_row stop_at lines))
-    (λ row behind any.
+row_typed : (after : Bool) (row : Row) (behind : Ahead) → IfCame IsTypedScriptItem (item_on after row.0 (record_of row.1) behind)
+row_typed after row behind =
     then_came (AllByRecursion IsKept) IsTypedScriptItem (on_line row.0 (record_of row.1) behind) _ (line_came (AllByRecursion IsKept) row.0 (record_of row.1) behind (record_kept row.1))
-    (λ fields rest kept. line_typed after row.0 fields rest kept))
-
-upto_typed : (n : ℕ) (after : Bool) (lines : Ahead) → AllByRecursion IsTypedScriptItem (items_upto n after lines).0
-upto_typed zero after lines = tt
-upto_typed (suc n) after lines = go (λ next behind. upto_typed n next behind) (first_script_item after lines) (first_typed after lines)
-  where
-    go : ((next : Bool) (behind : Ahead) → AllByRecursion IsTypedScriptItem (items_upto n next behind).0) → (found : Found ScriptItem) → IfCame IsTypedScriptItem found
-        → AllByRecursion IsTypedScriptItem (and_items found (items_upto n)).0
-    go others (Came item behind) typed = (typed, others (is_command item) behind)
-    go others (Stopped stop) typed = tt
+    (λ fields rest kept. line_typed after row.0 fields rest kept)
 
 pub items_typed : ItemsAreTyped
 unfolding items_ahead
-items_typed after lines = upto_typed (length lines.rows) after lines
+items_typed after lines = values_came (λ (after : Bool) (row : Row) (behind : Ahead). item_on after row.0 (record_of row.1) behind) is_command IsTypedScriptItem row_typed after lines

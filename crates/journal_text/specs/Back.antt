@@ -16,7 +16,7 @@ use Rattle.journal_model.specs.declared.reply.Reply.TheVariants.{Done, Foreign, 
 use Rattle.journal_model.specs.declared.step.Outcome.{Outcome}
 use Rattle.journal_model.specs.declared.step.Outcome.TheVariants.{Edited, Ticked, Late, Published, Swapped}
 use Rattle.journal_model.specs.declared.edit.Item.{Item}
-use Rattle.feed_edits.specs.Ahead.{Ahead, Tail, Came}
+use Rattle.input_lines.specs.Ahead.{Ahead, Tail, Came}
 use Rattle.journal_model.specs.declared.step.Step.{Step}
 use Rattle.journal_model.specs.declared.step.Entry.{Entry}
 use Rattle.journal_model.specs.Steps.{IsStepWithin, IsTypedStep, IsInWindow}
@@ -72,18 +72,7 @@ IsNumeralNumber n = n ≤ 999999999
 abbrev pub HasFieldNumber : Field → Type 0
 HasFieldNumber (Count n) = IsNumeralNumber n
 HasFieldNumber (Segment n) = IsNumeralNumber n
-HasFieldNumber Start = Unit {0}
-HasFieldNumber Duration = Unit {0}
-HasFieldNumber Window = Unit {0}
-HasFieldNumber Language = Unit {0}
-HasFieldNumber Name = Unit {0}
-HasFieldNumber Short = Unit {0}
-HasFieldNumber Extended = Unit {0}
-HasFieldNumber Country = Unit {0}
-HasFieldNumber Rating = Unit {0}
-HasFieldNumber Genre = Unit {0}
-HasFieldNumber Provider = Unit {0}
-HasFieldNumber ServiceName = Unit {0}
+HasFieldNumber other = Unit {0}
 
 -- ids and places are numbers of 16 bits
 abbrev pub HasDayFaultNumbers : DayFault → Type 0
@@ -164,18 +153,7 @@ EntriesReadBack = (entry : Entry) → IsReadable entry → (n : ℕ) (rest : Lis
 abbrev pub field_numbers : Field → List ℕ
 field_numbers (Count n) = n ∷ []
 field_numbers (Segment n) = n ∷ []
-field_numbers Start = []
-field_numbers Duration = []
-field_numbers Window = []
-field_numbers Language = []
-field_numbers Name = []
-field_numbers Short = []
-field_numbers Extended = []
-field_numbers Country = []
-field_numbers Rating = []
-field_numbers Genre = []
-field_numbers Provider = []
-field_numbers ServiceName = []
+field_numbers other = []
 
 abbrev pub day_fault_numbers : DayFault → List ℕ
 day_fault_numbers (BadField field) = field_numbers field

@@ -11,11 +11,8 @@ use Rattle.feed_edits.specs.Back.{item_fields}
 
 -- the items of a day
 abbrev pub items_of : Edit → List Item
-items_of (Put service item) = []
-items_of (Withdraw service event) = []
-items_of (Clear service) = []
-items_of (Name service provider name) = []
 items_of (Day service day items) = items
+items_of other = []
 
 -- a line in the making: its text, how many fields it has, and how they are written
 pub record Line : Type 0 where

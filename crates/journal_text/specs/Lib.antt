@@ -5,5 +5,6 @@ pub mod KeptOutcomes
 pub mod Script
 pub mod ScriptReads
 pub mod ScriptLaws
+pub mod Windows
 pub mod Back
 mod Rows

@@ -4,7 +4,7 @@ use Rattle.std.specs.Fmt.{digits}
 use Rattle.csv.specs.Writing.{fields_text}
 use Rattle.si_time.specs.Moments.{moments_compute}
 use Rattle.input_lines.specs.Fields.{fields_compute}
-use Rattle.feed_edits.specs.Ahead.{End, NoCommand, Ends, Breaks, Unread}
+use Rattle.input_lines.specs.Ahead.{End, NoCommand, Ends, Breaks, Unread}
 use Rattle.feed_edits.specs.Heads.{edit_head}
 use Rattle.journal_model.specs.declared.edit.Edit.TheVariants.{Clear}
 use Rattle.journal_model.specs.declared.reply.Field.TheVariants.{Segment}

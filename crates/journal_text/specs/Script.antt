@@ -1,12 +1,12 @@
 -- Script lines: commands, each with its caller, and the outcome that a line behind a command keeps.
-use Rattle.std.specs.Prelude.{ℕ, zero, suc, Bool, true, false, List, [], ◌∷◌, length, drop, Option, Some, None, option_map, if◌then◌else◌, codes}
+use Rattle.std.specs.Prelude.{ℕ, Bool, true, false, List, [], ◌∷◌, drop, Option, Some, None, option_map, if◌then◌else◌, codes}
 use Rattle.si_causes.specs.Text.{text_lines}
 use Rattle.input_lines.specs.Fields.{record_of}
 use Rattle.input_lines.specs.Numbers.{is_word, number_in, numeral_of}
 use Rattle.journal_model.specs.declared.edit.Edit.{Edit}
 use Rattle.journal_model.specs.Edits.{IsShaped}
-use Rattle.feed_edits.specs.Ahead.{Ahead, Found, Came, Stopped, Stop, and_then, first_row, stop_at, ahead_in}
-use Rattle.feed_edits.specs.Edits.{on_line, read_edit}
+use Rattle.input_lines.specs.Ahead.{Ahead, Found, Came, Stop, and_then, first_row, on_line, stop_at, ahead_in, values_ahead}
+use Rattle.feed_edits.specs.Edits.{read_edit}
 use Rattle.journal_model.specs.declared.control.Control.{Control}
 use Rattle.journal_model.specs.declared.control.Control.TheVariants.{Tick as tick, Publish as publish}
 use Rattle.journal_model.specs.declared.step.Step.{Step}
@@ -96,19 +96,9 @@ is_command (step who s) = true
 is_command (Kept n outcome) = false
 is_command End = false
 
--- an item before those of what is ahead behind it, and their stop
-abbrev pub and_items : Found ScriptItem → (Bool → Ahead → List ScriptItem × Stop) → List ScriptItem × Stop
-and_items (Came item behind) others = (item ∷ (others (is_command item) behind).0, (others (is_command item) behind).1)
-and_items (Stopped stop) others = ([], stop)
-
--- the items ahead, so many at most, and why no more is read
-abbrev pub items_upto : ℕ → Bool → Ahead → List ScriptItem × Stop
-items_upto zero after lines = ([], stop_at lines.tail)
-items_upto (suc n) after lines = and_items (first_script_item after lines) (items_upto n)
-
--- the items ahead of a reader, which are no more than the lines, and why no more is read
+-- the items ahead of a reader, and why no more is read
 unfoldable pub items_ahead : Bool → Ahead → List ScriptItem × Stop
-items_ahead after lines = items_upto (length lines.rows) after lines
+items_ahead after lines = values_ahead first_script_item is_command after lines
 
 -- the items of a script, and its stop: the end, the first line that is no command or outcome there, or the limit of a text
 abbrev pub script_items : List ℕ → List ScriptItem × Stop
@@ -120,10 +110,8 @@ Asked = Command × Option (ℕ × Outcome)
 
 -- the outcome that is kept first
 abbrev pub kept_first : List ScriptItem → Option (ℕ × Outcome)
-kept_first [] = None
 kept_first (Kept n outcome ∷ items) = Some (n, outcome)
-kept_first (step who s ∷ items) = None
-kept_first (End ∷ items) = None
+kept_first other = None
 
 abbrev pub asked_by : List ScriptItem → List Asked
 asked_by [] = []

@@ -1,38 +1,21 @@
 // The lines of an edit.
 ghost use Rattle.std.specs.Prelude.{◌≡◌, ◌++◌, ◌∷◌, OnOk, IfOk, codes, decimal, flat_map};
-ghost use Rattle.feed_edits.specs.Back.{country_field, edit_fields, genre_field, genres_field, item_fields, rating_field};
+ghost use Rattle.field_text.specs.Genres.{genres_text};
+ghost use Rattle.feed_edits.specs.Back.{country_field, edit_fields, item_fields, rating_field};
 ghost use Rattle.journal_text.specs.Edits.{and_field, and_fields, item_text, items_of, IsOpenFor};
 
 use crate::line::LineWriter;
-use crate::outcome::put_number;
+use field_text::put_genres;
 use guide_model::Genre;
 use journal_model::{Edit, Item, RawRating};
 use std::alloc::{AllocError, Global};
 
-// Appends a genre: its two levels and its user byte, with points between.
-fn put_genre(alloc: Global, out: &mut Vec<u8>, genre: Genre) -> Result<(), AllocError>
-    ensures { OnOk result (out.new.items ≡ out.old.items ++ genre_field genre) }
-{
-    put_number(alloc, out, u64::from(genre.level1))?;
-    out.extend_from_slice(b".")?;
-    put_number(alloc, out, u64::from(genre.level2))?;
-    out.extend_from_slice(b".")?;
-    put_number(alloc, out, u64::from(genre.user))
-}
-
 // Genres with a space between.
 fn text_of_genres(alloc: Global, genres: &[Genre]) -> Result<Vec<u8>, AllocError>
-    ensures { IfOk result (λ text. text.items ≡ genres_field genres.now) }
+    ensures { IfOk result (λ text. text.items ≡ genres_text genres.now) }
 {
     let mut text = Vec::new(alloc);
-    let Some((first, rest)) = genres.split_first() else {
-        return Ok(text);
-    };
-    put_genre(alloc, &mut text, *first)?;
-    for genre in rest {
-        text.extend_from_slice(b" ")?;
-        put_genre(alloc, &mut text, *genre)?;
-    }
+    put_genres(alloc, &mut text, genres)?;
     Ok(text)
 }
 

@@ -5,16 +5,9 @@ ghost use Rattle.journal_text.specs.Outcomes.{field_text, day_fault_text, reply_
 ghost use Rattle.journal_model.specs.Steps.{IsInWindow};
 
 use journal_model::{DayFault, Field, Outcome, Reply};
+use si_base::put_number;
 use si_time::{Moment, write_moment};
 use std::alloc::{AllocError, Global};
-
-/// Appends a number in decimal digits.
-pub(crate) fn put_number(alloc: Global, out: &mut Vec<u8>, n: u64) -> Result<(), AllocError>
-    ensures { OnOk result (out.new.items ≡ out.old.items ++ decimal n) }
-{
-    let text = n.to_string(alloc)?;
-    out.extend_from_slice(text.as_bytes())
-}
 
 fn put_moment(out: &mut Vec<u8>, at: Moment) -> Result<(), AllocError>
     requires { at.0 < 65536 * 86400 }

@@ -1,19 +1,15 @@
 // The items of a script.
-ghost use Rattle.std.specs.Prelude.{◌≡◌, ◌≤◌, List, ℕ, Some, None, Ok, Err, IfOk, IfSome, OnOk, drop, option_map};
-ghost use Rattle.std.specs.Io.KnownBytes.{IsAtEnd};
-ghost use Rattle.si_causes.specs.Reading.{room, text_left};
+ghost use Rattle.std.specs.Prelude.{◌≡◌, ◌≤◌, IfOk, IfSome, drop};
 ghost use Rattle.input_lines.specs.Fields.{record_of};
-ghost use Rattle.feed_edits.specs.declared.stop.EditStop.TheVariants.{Read};
-ghost use Rattle.feed_edits.specs.Reads.{Gives, Says, Takes};
+ghost use Rattle.input_lines.specs.Reads.{NextOf, ReadOf, Says};
 ghost use Rattle.journal_model.specs.Steps.{IsStepWithin, IsInWindow};
-ghost use Rattle.journal_text.specs.Script.{IsItemWithin, IsShapedScriptItem, IsShapedStep, caller_of, command_of_caller, control_step, feed_of, is_outcome_line, is_swap, kept_in, read_command as command_at, read_item, short_step};
-ghost use Rattle.journal_text.specs.ScriptReads.{GivesItem, IsRead, TakesItem, Falls};
-ghost use Rattle.journal_text.specs.declared.script.ScriptItem.TheVariants.{End};
+ghost use Rattle.journal_text.specs.Script.{IsItemWithin, IsShapedScriptItem, IsShapedStep, caller_of, command_of_caller, control_step, feed_of, first_script_item, is_outcome_line, is_swap, kept_in, read_command as command_at, read_item, short_step};
+ghost use Rattle.journal_text.specs.ScriptReads.{IsRead, next_of};
 
 use crate::kept_outcome::read_outcome;
 use control_lines::read_control;
-use feed_edits::{EditStop, read_edit};
-use input_lines::{LineFields, fields, is_word, next_record_line, number, numeral};
+use feed_edits::read_edit;
+use input_lines::{EditStop, LineFields, fields, is_word, next_record_line, number, numeral};
 use journal_model::{Control, Outcome, Step};
 use si_causes::{LineReader, Source};
 use si_text::Txt;
@@ -95,16 +91,9 @@ fn command_from<S: Source>(
 ) -> Result<(u32, Step), EditStop>
     requires few { from ≤ 1 }
     requires words { words.now ≡ drop from fields.now }
-    ensures gives { lines.old.stop ≡ None → (text : List ℕ) → text_left S.left lines.old ≡ Some text
-        → Gives S.left (command_of_caller who at words.now) lines.old lines.new text result }
-    ensures takes { lines.old.stop ≡ None
-        → Takes S.left S.faults (command_of_caller who at words.now) lines.old lines.new result }
+    ensures reads { ReadOf S.left S.faults S.same (command_of_caller who at words.now) lines.old lines.new result }
     ensures within { IfOk result (λ command. IsStepWithin command.1) }
     ensures shaped { IfOk result (λ command. IsShapedStep command.1) }
-    ensures sticky { IfSome lines.old.stop (λ stop. lines.new ≡ lines.old) }
-    ensures goes_on { OnOk result (room lines.new ≤ room lines.old) }
-    ensures later { S.faults lines.old.source ≤ S.faults lines.new.source }
-    ensures same { S.same lines.old.source lines.new.source }
 {
     if let Some(step) = read_short(words) {
         return Ok((who, step));
@@ -125,16 +114,9 @@ fn read_command<S: Source>(
     fields: &LineFields,
     lines: &mut LineReader<S>,
 ) -> Result<(u32, Step), EditStop>
-    ensures gives { lines.old.stop ≡ None → (text : List ℕ) → text_left S.left lines.old ≡ Some text
-        → Gives S.left (command_at at fields.now) lines.old lines.new text result }
-    ensures takes { lines.old.stop ≡ None
-        → Takes S.left S.faults (command_at at fields.now) lines.old lines.new result }
+    ensures reads { ReadOf S.left S.faults S.same (command_at at fields.now) lines.old lines.new result }
     ensures within { IfOk result (λ command. IsStepWithin command.1) }
     ensures shaped { IfOk result (λ command. IsShapedStep command.1) }
-    ensures sticky { IfSome lines.old.stop (λ stop. lines.new ≡ lines.old) }
-    ensures goes_on { OnOk result (room lines.new ≤ room lines.old) }
-    ensures later { S.faults lines.old.source ≤ S.faults lines.new.source }
-    ensures same { S.same lines.old.source lines.new.source }
 {
     let words = fields.as_slice();
     match read_caller(words) {
@@ -193,17 +175,10 @@ fn item_on<S: Source>(
     after: bool,
     lines: &mut LineReader<S>,
 ) -> Result<ScriptItem, EditStop>
-    ensures gives { lines.old.stop ≡ None → (text : List ℕ) → text_left S.left lines.old ≡ Some text
-        → Gives S.left (read_item after at fields.now) lines.old lines.new text result }
-    ensures takes { lines.old.stop ≡ None
-        → Takes S.left S.faults (read_item after at fields.now) lines.old lines.new result }
+    ensures reads { ReadOf S.left S.faults S.same (read_item after at fields.now) lines.old lines.new result }
     ensures read { IfOk result IsRead }
     ensures within { IfOk result IsItemWithin }
     ensures shaped { IfOk result IsShapedScriptItem }
-    ensures sticky { IfSome lines.old.stop (λ stop. lines.new ≡ lines.old) }
-    ensures goes_on { OnOk result (room lines.new ≤ room lines.old) }
-    ensures later { S.faults lines.old.source ≤ S.faults lines.new.source }
-    ensures same { S.same lines.old.source lines.new.source }
 {
     if starts_outcome(fields.as_slice()) {
         return match kept_on(at, fields.as_slice(), after) {
@@ -232,16 +207,9 @@ pub fn next_item<S: Source>(
     lines: &mut LineReader<S>,
     after: bool,
 ) -> Result<ScriptItem, EditStop>
-    ensures gives { lines.old.stop ≡ None → (text : List ℕ) → text_left S.left lines.old ≡ Some text
-        → GivesItem S.left after lines.old lines.new text result }
-    ensures takes { lines.old.stop ≡ None → TakesItem S.left S.faults after lines.old lines.new result }
+    ensures reads { NextOf S.left S.faults S.same (first_script_item after) lines.old lines.new (next_of result) }
     ensures within { IfOk result IsItemWithin }
     ensures shaped { IfOk result IsShapedScriptItem }
-    ensures sticky { IfSome lines.old.stop (λ stop. (result ≡ Err (Read stop)) × (lines.new ≡ lines.old)) }
-    ensures falls { IfOk result (λ item. Falls item lines.old lines.new) }
-    ensures end { result ≡ Ok End → IsAtEnd (S.left lines.new.source) }
-    ensures later { S.faults lines.old.source ≤ S.faults lines.new.source }
-    ensures same { S.same lines.old.source lines.new.source }
 {
     let at = match next_record_line(lines) {
         Ok(Some(at)) => at,

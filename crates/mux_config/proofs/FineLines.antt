@@ -1,17 +1,20 @@
 -- A line says only what is in its range, so that a whole description is sound.
-use Rattle.std.proofs.Common.{◌≡◌, ℕ, ◌*◌, ◌<◌, Bool, true, false, cond, List, [], ◌∷◌, Option, Some, None, refl, arith}
-use Rattle.std.specs.Prelude.{◌&&◌, nat_le, codes, if◌then◌else◌, option_map}
+use Rattle.std.proofs.Common.{◌≡◌, ℕ, ◌*◌, ◌+◌, ◌<◌, Bool, true, false, cond, List, [], ◌∷◌, ◌++◌, Option, Some, None, refl, arith}
+use Rattle.std.specs.Prelude.{◌&&◌, nat_le, codes, if◌then◌else◌, option_map, Ok, Err, Result, IfOk}
 use Rattle.std.proofs.lemmas.Bool.Decides.{nat_tests}
 use Rattle.si_lists.proofs.Outcomes.{none_of}
 use Rattle.si_lists.proofs.Truths.{first_true, second_true}
 use Rattle.si_text.specs.Coding.{coded_size}
 use Rattle.si_time.specs.Readings.{moment_in}
 use Rattle.si_time.proofs.TextFacts.{moment_in-is}
+use Rattle.si_causes.specs.Reading.{Reading}
 use Rattle.si_causes.specs.Text.{TextEnd, AtEnd, PastLimit}
 use Rattle.input_lines.specs.Fields.{record_of}
 use Rattle.input_lines.specs.Lines.{record_lines}
 use Rattle.input_lines.specs.Numbers.{in_range, is_word, numeral_of}
 use Rattle.mux_config.specs.declared.fault.MuxFault.{MuxFault}
+use Rattle.mux_config.specs.declared.stop.MuxStop.{MuxStop}
+use Rattle.mux_config.specs.Reads.{MuxCame}
 use Rattle.mux_model.specs.declared.mux.MuxService.{MuxService}
 use Rattle.mux_model.specs.declared.mux.Mux.{Mux}
 use Rattle.mux_config.specs.declared.rows.Numbers.{Numbers}
@@ -22,9 +25,9 @@ use Rattle.mux_config.specs.declared.record.RecordFound.TheVariants.{NoRecord, O
 use Rattle.mux_config.specs.declared.record.Numbered.{Numbered}
 use Rattle.mux_config.specs.Block.{Block, Faulty, Whole, Unended, and_found, at_text_end, block_from, ended, fault_of, has_no_place, is_end, repeated_at, unless}
 use Rattle.mux_config.specs.Fields.{cable_with, found_fields, found_in, found_line, found_with, is_language, is_letter, is_service_in_range, language_of, network_in, stream_in, cable_in, delivery_with, numbers_in, service_of, service_in, bare_service, part_in, start_with, start_in, quota_in, spelled, within}
-use Rattle.mux_config.specs.Fine.{AreFine, IsFine, IsFineFound, IsFineService}
+use Rattle.mux_config.proofs.FineRecords.{AreFine, IsFine, IsFineFound, IsFineService}
 use Rattle.mux_config.specs.Laws.{WholeDescriptionsAreSound}
-use Rattle.mux_model.specs.Sound.{IsSoundWithIds, Between, HasSoundLanguage, IsSoundCable}
+use Rattle.mux_model.specs.Sound.{IsSound, IsSoundWithIds, Between, HasSoundLanguage, IsSoundCable}
 use Rattle.mux_config.proofs.Soundness.{fine_none, fine_more, sound_end}
 
 -- ---- numbers in their ranges
@@ -111,15 +114,13 @@ fine_service (Some n) provider name =
 
 sound_language : (letters : List ℕ) → is_language letters ≡ true → HasSoundLanguage (language_of letters)
 sound_language [] e = tt
-sound_language (a ∷ []) e = cc e
-sound_language (a ∷ b ∷ []) e = cc e
 sound_language (a ∷ b ∷ c ∷ []) e =
     let behind = second_true (is_letter a) _ e in
     let one = bounds 97 122 a (first_true (is_letter a) _ e) in
     let two = bounds 97 122 b (first_true (is_letter b) _ behind) in
     let three = bounds 97 122 c (second_true (is_letter b) _ behind) in
     (refl, (one, (two, (three, tt))))
-sound_language (a ∷ b ∷ c ∷ d ∷ letters) e = cc e
+sound_language other e = cc e
 
 sound_part : (s k p : ℕ) (language : List ℕ) → ((in_range 0 65535 s && (in_range 0 255 k && in_range 32 8190 p)) && is_language language) ≡ true → IsFine (Part s (record { stream_type = k; pid = p; language = language_of language }))
 sound_part s k p language e =
@@ -143,7 +144,6 @@ fine_quota : (quota : List ℕ) → IsFineFound (quota_in quota)
 fine_quota quota = fine_spelled quota _ (λ n. fine_within (in_range 1 10000 n) (Quota n) (bounds 1 10000 n))
 
 fine_in : (fields : List (List ℕ)) → IsFineFound (found_in fields)
-fine_in [] = tt
 fine_in (word ∷ []) = fine_if (is_word (codes "end") word) (Is End) NoRecord tt tt
 fine_in (word ∷ a ∷ []) =
     fine_if (is_word (codes "start") word) (start_in a) _ (fine_start a)
@@ -151,12 +151,10 @@ fine_in (word ∷ a ∷ []) =
 fine_in (word ∷ a ∷ b ∷ []) =
     fine_if (is_word (codes "network") word) (network_in a b) _ (fine_network a b)
     (fine_if (is_word (codes "stream") word) (stream_in a b) NoRecord (fine_stream a b) tt)
-fine_in (word ∷ a ∷ b ∷ c ∷ []) = tt
 fine_in (word ∷ a ∷ b ∷ c ∷ d ∷ []) = fine_if (is_word (codes "component") word) (part_in a b c d) NoRecord (fine_part a b c d) tt
 fine_in (word ∷ a ∷ b ∷ c ∷ d ∷ e ∷ []) = fine_if (is_word (codes "cable") word) (cable_in a b c d e) NoRecord (fine_cable a b c d e) tt
-fine_in (word ∷ a ∷ b ∷ c ∷ d ∷ e ∷ f ∷ []) = tt
 fine_in (word ∷ a ∷ b ∷ c ∷ d ∷ e ∷ f ∷ g ∷ []) = fine_if (is_word (codes "service") word) (service_in a b c d e f g) NoRecord (fine_service (numbers_in a b c d e) f g) tt
-fine_in (word ∷ a ∷ b ∷ c ∷ d ∷ e ∷ f ∷ g ∷ h ∷ more) = tt
+fine_in other = tt
 
 fine_found : (o : Option (List (List ℕ))) → IsFineFound (found_fields o)
 fine_found None = tt
@@ -180,7 +178,7 @@ fine_next before n (Is r) f fine e =
     let p = placed (has_no_place before r) (repeated_at before r) _ _ e in
     fine_more before n r f fine p.0 p.1
 
-unless_whole : (o : Option MuxFault) (block : Block) (mux : Mux) (behind : List (ℕ × List ℕ)) → unless o block ≡ Whole mux behind → (o ≡ None) × (block ≡ Whole mux behind)
+pub unless_whole : (o : Option MuxFault) (block : Block) (mux : Mux) (behind : List (ℕ × List ℕ)) → unless o block ≡ Whole mux behind → (o ≡ None) × (block ≡ Whole mux behind)
 unless_whole None block mux behind e = (refl, e)
 unless_whole (Some f) block mux behind e = cc e
 
@@ -209,3 +207,8 @@ whole_before Unended PastLimit mux behind e = cc e
 
 pub whole_descriptions_are_sound : WholeDescriptionsAreSound
 whole_descriptions_are_sound n lines mux behind e = block_sound n lines.0 mux behind (whole_before (block_from [] (record_lines n lines.0)) lines.1 mux behind e)
+
+-- and so is the multiplex of a description that was read
+pub came_sound : {S : Type 0} (left : S → Option (List ℕ)) (faults : S → ℕ) (old new : Reading S) (result : Result Mux MuxStop) → MuxCame left faults old new result → IfOk result IsSound
+came_sound left faults old new (Ok mux) came = (block_sound (old.number + 1) (came.looked.lines ++ []) mux _ (came.whole [])).sound
+came_sound left faults old new (Err stop) came = tt

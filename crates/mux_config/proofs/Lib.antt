@@ -1,6 +1,8 @@
 pub mod ServiceFields
-pub mod IndexFacts
+pub mod RecordFacts
+pub mod FineRecords
 pub mod Ordering
 pub mod Reading
 pub mod Soundness
 pub mod FineLines
+pub mod Texts

@@ -11,7 +11,7 @@ use Rattle.mux_config.specs.declared.record.Record.{Record}
 use Rattle.mux_config.specs.declared.record.Numbered.{Numbered}
 use Rattle.mux_config.specs.Block.{all_of, insert, service_in, sorted, with_parts}
 use Rattle.mux_config.specs.Kinds.{put_service}
-use Rattle.mux_config.proofs.IndexFacts.{all_more}
+use Rattle.mux_config.proofs.RecordFacts.{all_more}
 
 -- ---- the place of a service
 

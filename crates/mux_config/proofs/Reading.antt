@@ -1,6 +1,6 @@
 -- The lines of a description, one after another.
 use Rattle.std.proofs.Common.{◌≡◌, ℕ, ◌+◌, ◌≤◌, true, false, List, [], ◌∷◌, ◌++◌, length, Option, Some, None, Ok, Err, refl, sym, ap, ◌∙◌, subst, arith, inl, inr, append-nil, append_assoc, length-append}
-use Rattle.std.specs.Prelude.{Result}
+use Rattle.std.specs.Prelude.{Result, IfSome}
 use Rattle.std.specs.List.{list_all}
 use Rattle.si_causes.proofs.CauseFacts.{Rose-from}
 use Rattle.si_causes.specs.Causes.{Rose}
@@ -10,9 +10,9 @@ use Rattle.si_causes.specs.declared.stop.ReadStop.{ReadStop}
 use Rattle.si_causes.specs.declared.stop.ReadStop.TheVariants.{Failed, TooLong}
 use Rattle.input_lines.specs.Lines.{is_passed, lines_of, record_lines}
 use Rattle.input_lines.specs.Going.{HandedOut, LineCame, NoneCame, RecordCame}
-use Rattle.input_lines.specs.Records.{FirstRecord, NoRecord, GivesRecord}
+use Rattle.input_lines.specs.Records.{FirstRecord, NoRecord, GivesRecord, NextRecord}
 use Rattle.input_lines.proofs.LastLines.{none_last, last_split, before_last, front_passed}
-use Rattle.input_lines.proofs.Steps.{handed_none, handed_more, whole_more, records_past, record_first}
+use Rattle.input_lines.proofs.Steps.{handed_none, handed_more, whole_more, records_past, record_first, sticky_on}
 use Rattle.mux_config.specs.declared.fault.MuxFault.{MuxFault}
 use Rattle.mux_model.specs.declared.mux.Mux.{Mux}
 use Rattle.mux_config.specs.declared.stop.MuxStop.{MuxStop}
@@ -71,6 +71,9 @@ pub record NextLine {S : Type 0} (left : S → Known) (now new : Reading S) (n :
   pub came : LineCame left now new n
   pub gives : (text : List ℕ) → text_left left now ≡ Some text → FirstRecord left now new (lines_of now text) n
   pub more_to_come : now.ended ≡ false
+
+pub next_line : {S : Type 0} (left : S → Known) (faults : S → ℕ) (alike : S → S → Type 0) (now new : Reading S) (n : ℕ) → NextRecord left faults alike now new (Ok (Some n)) → now.stop ≡ None → NextLine left now new n
+next_line left faults alike now new n e going = record { came = e.came going; gives = e.records going; more_to_come = (e.came going).unended }
 
 -- the lines up to it
 next_lines : {S : Type 0} (left : S → Known) (now new : Reading S) (n : ℕ) (next : NextLine left now new n) (more : List (List ℕ))
@@ -211,16 +214,14 @@ line_read left old now new n records after (Fault f) t next took text told =
 line_read left old now new n records after (Read stop) t next took text told = absurd took
 line_read left old now new n records after Memory t next took text told = tt
 
-pub line_came : {S : Type 0} (left : S → Known) (faults : S → ℕ) (old now new : Reading S) (n : ℕ) (shown : List ℕ) (records after : List Numbered) (stop : MuxStop) → Taken left old now records → NextLine left now new n
-    → shown ≡ new.line → TookLine records n (found_line shown) after (Err stop) → MuxCame left faults old new (Err stop)
-line_came left faults old now new n shown records after (Fault f) t next same took = inl (record {
+pub line_came : {S : Type 0} (left : S → Known) (faults : S → ℕ) (old now new : Reading S) (n : ℕ) (records after : List Numbered) (stop : MuxStop) → Taken left old now records → NextLine left now new n
+    → TookLine records n (found_line new.line) after (Err stop) → MuxCame left faults old new (Err stop)
+line_came left faults old now new n records after (Fault f) t next took = inl (record {
   looked = looked_at left old now new n records t next;
-  faulty = λ more.
-      lines_read left old now new n records t next more
-      ∙ line_fails records n new.line (record_lines (n + 1) more) f (subst (λ (l : List ℕ). TookLine records n (found_line l) after (Err (Fault f))) same took);
+  faulty = λ more. lines_read left old now new n records t next more ∙ line_fails records n new.line (record_lines (n + 1) more) f took;
 })
-line_came left faults old now new n shown records after (Read stop) t next same took = absurd took
-line_came left faults old now new n shown records after Memory t next same took = looked_at left old now new n records t next
+line_came left faults old now new n records after (Read stop) t next took = absurd took
+line_came left faults old now new n records after Memory t next took = looked_at left old now new n records t next
 
 -- the text ends
 pub end_read : {S : Type 0} (left : S → Known) (old now new : Reading S) (records : List Numbered) → Taken left old now records → ((text : List ℕ) → text_left left now ≡ Some text → NoRecord left now new (lines_of now text))
@@ -268,6 +269,15 @@ stop_came left faults old now new records Failed t came later = record {
   cause = Rose-from _ _ _ later came.cause;
 }
 stop_came left faults old now new records TooLong t came later = came
+
+-- a reader that stands stopped gives its stop
+pub read_sticky : {S : Type 0} (o : Option ReadStop) (stop : ReadStop) (old now new : Reading S) → o ≡ old.stop → IfSome o (λ s. now ≡ old) → IfSome now.stop (λ s. ((let r : Result (Option ℕ) ReadStop = Err stop in r) ≡ Err s) × (new ≡ now))
+    → IfSome o (λ s. ((let r : Result Mux MuxStop = Err (Read stop) in r) ≡ Err (Read s)) × (new ≡ old))
+read_sticky None stop old now new e h k = tt
+read_sticky {S = S} (Some s) stop old now new e h k =
+    let both = sticky_on (Some s) (λ t. (let r : Result (Option ℕ) ReadStop = Err stop in r) ≡ Err t) old now new e h k in
+    let is = both.0 in
+    (cc is, both.1)
 
 -- what taking a line told, of the line that the reader shows
 pub took_on : (before : List Numbered) (n : ℕ) (shown line : List ℕ) (after : List Numbered) → shown ≡ line → TookLine before n (found_line shown) after (Ok false)

@@ -14,14 +14,6 @@ Eight = (xs : List (List ℕ)) (w i f k m c p n : List ℕ) (numbers : Option Nu
     → numbers ≡ numbers_in i f k m c → (if is_word (codes "service") w then service_of numbers p n else NoRecord) ≡ found_in xs
 
 pub of_eight : Eight
-of_eight [] w i f k m c p n s low high a1 a2 a3 a4 a5 a6 a7 a8 e = absurd (omega arith)
-of_eight (x1 ∷ []) w i f k m c p n s low high a1 a2 a3 a4 a5 a6 a7 a8 e = absurd (omega arith)
-of_eight (x1 ∷ x2 ∷ []) w i f k m c p n s low high a1 a2 a3 a4 a5 a6 a7 a8 e = absurd (omega arith)
-of_eight (x1 ∷ x2 ∷ x3 ∷ []) w i f k m c p n s low high a1 a2 a3 a4 a5 a6 a7 a8 e = absurd (omega arith)
-of_eight (x1 ∷ x2 ∷ x3 ∷ x4 ∷ []) w i f k m c p n s low high a1 a2 a3 a4 a5 a6 a7 a8 e = absurd (omega arith)
-of_eight (x1 ∷ x2 ∷ x3 ∷ x4 ∷ x5 ∷ []) w i f k m c p n s low high a1 a2 a3 a4 a5 a6 a7 a8 e = absurd (omega arith)
-of_eight (x1 ∷ x2 ∷ x3 ∷ x4 ∷ x5 ∷ x6 ∷ []) w i f k m c p n s low high a1 a2 a3 a4 a5 a6 a7 a8 e = absurd (omega arith)
-of_eight (x1 ∷ x2 ∷ x3 ∷ x4 ∷ x5 ∷ x6 ∷ x7 ∷ []) w i f k m c p n s low high a1 a2 a3 a4 a5 a6 a7 a8 e = absurd (omega arith)
 of_eight (x1 ∷ x2 ∷ x3 ∷ x4 ∷ x5 ∷ x6 ∷ x7 ∷ x8 ∷ []) w i f k m c p n s low high a1 a2 a3 a4 a5 a6 a7 a8 e =
     ap (λ (o : Option Numbers). if is_word (codes "service") w then service_of o p n else NoRecord) e
     ∙ ap (λ (v : List ℕ). if is_word (codes "service") v then service_of (numbers_in i f k m c) p n else NoRecord) a1
@@ -32,4 +24,4 @@ of_eight (x1 ∷ x2 ∷ x3 ∷ x4 ∷ x5 ∷ x6 ∷ x7 ∷ x8 ∷ []) w i f k m 
     ∙ ap (λ (v : List ℕ). if is_word (codes "service") x1 then service_of (numbers_in x2 x3 x4 x5 v) p n else NoRecord) a6
     ∙ ap (λ (v : List ℕ). if is_word (codes "service") x1 then service_of (numbers_in x2 x3 x4 x5 x6) v n else NoRecord) a7
     ∙ ap (λ (v : List ℕ). if is_word (codes "service") x1 then service_of (numbers_in x2 x3 x4 x5 x6) x7 v else NoRecord) a8
-of_eight (x1 ∷ x2 ∷ x3 ∷ x4 ∷ x5 ∷ x6 ∷ x7 ∷ x8 ∷ x9 ∷ xs) w i f k m c p n s low high a1 a2 a3 a4 a5 a6 a7 a8 e = absurd (omega arith)
+of_eight other w i f k m c p n s low high a1 a2 a3 a4 a5 a6 a7 a8 e = absurd (omega arith)

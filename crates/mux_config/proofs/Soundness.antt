@@ -1,6 +1,6 @@
 -- What holds of records that were taken, and of their multiplex.
 use Rattle.std.proofs.Common.{◌≡◌, ◌≢◌, ℕ, ◌+◌, ◌*◌, ◌<◌, ◌≤◌, ◌==◌, Bool, true, false, cond, List, [], ◌∷◌, ◌++◌, length, map, Option, Some, None, refl, sym, ap, ◌∙◌, subst, arith, inl, inr, append-nil, length-append, eq-eqb, lit<, lit≤, ◌⊎◌}
-use Rattle.std.specs.Prelude.{◌||◌, ◌&&◌, nat_lt, nat_le, Ok, Err, Result, IfOk}
+use Rattle.std.specs.Prelude.{◌||◌, ◌&&◌, nat_lt, nat_le}
 use Rattle.std.specs.List.{AllByRecursion, cons_option, fold}
 use Rattle.std.specs.Option.{unwrap_or}
 use Rattle.std.proofs.lemmas.Bool.{cases_Bool, eqb-true, leb-true, false≢true}
@@ -15,11 +15,9 @@ use Rattle.mux_config.specs.declared.record.Record.{Record}
 use Rattle.mux_config.specs.declared.record.Record.TheVariants.{Network, Stream, Delivery, Service, Part, Start, Quota, End}
 use Rattle.mux_config.specs.declared.record.Numbered.{Numbered}
 use Rattle.mux_config.specs.Block.{Whole, all_of, delivery_in, first, first_line, has_id, has_pmt, has_pid, holds, ended, is_stream, stream_in, with_network, with_services, with_stream, has_no_place, insert, is_delivery, is_network, is_quota, is_start, mux_with, network_in, numbered, part_in, quota_in, repeated_at, said, service_in, services_of, sorted, start_in, with_parts}
-use Rattle.mux_config.specs.Fine.{AreFine, IsApart, IsFine, IsFineService, in_order, parts_in}
+use Rattle.mux_config.proofs.FineRecords.{AreFine, IsApart, IsFine, IsFineService, in_order, parts_in}
 use Rattle.mux_model.specs.Sound.{AreDifferent, Between, DoAscend, HasSoundCable, IsSound, IsSoundComponent, IsSoundService, all_component_pids, component_pids, pmt_pids, IsSoundWithIds}
-use Rattle.mux_config.specs.Reads.{Makes}
-use Rattle.mux_config.specs.declared.stop.MuxStop.{MuxStop}
-use Rattle.mux_config.proofs.IndexFacts.{all_more, first_more, or_none_left, or_none_right, first_before, all_kept}
+use Rattle.mux_config.proofs.RecordFacts.{all_more, or_none_left, or_none_right, all_kept}
 use Rattle.mux_config.proofs.Ordering.{sorted_more}
 
 -- ---- lists
@@ -34,10 +32,6 @@ all_insert P s (t ∷ ts) p h = elim (cases_Bool (nat_lt s.service t.service)) [
 pub all_imp : {X : Type 0} (P Q : X → Type 0) (xs : List X) → ((x : X) → P x → Q x) → AllByRecursion P xs → AllByRecursion Q xs
 all_imp P Q [] f h = tt
 all_imp P Q (x ∷ xs) f h = (f x h.0, all_imp P Q xs f h.1)
-
-both_all : {X : Type 0} (P Q : X → Type 0) (xs : List X) → AllByRecursion P xs → AllByRecursion Q xs → AllByRecursion (λ x. P x × Q x) xs
-both_all P Q [] h k = tt
-both_all P Q (x ∷ xs) h k = ((h.0, k.0), both_all P Q xs h.1 k.1)
 
 all_map : {X : Type 0} (f : X → ℕ) (P : ℕ → Type 0) (xs : List X) → AllByRecursion (λ x. P (f x)) xs → AllByRecursion P (map f xs)
 all_map f P [] h = tt
@@ -89,36 +83,90 @@ different_snoc (x ∷ xs) c new h = (
   different_snoc xs c new.1 h.1,
 )
 
+differs : (m n : ℕ) → (m == n) ≡ false → n ≢ m
+differs m n e same = absurd (grind (arith, nat_tests))
+
+said_here : (P : Component → Type 0) (b : Bool) (d c : Component) → P d → cond b (Some d) None ≡ Some c → P c
+said_here P true d c h e = (let same : d ≡ c = cc e in subst P same h)
+said_here P false d c h e = cc e
+
+cons_all : {X : Type 0} (P : X → Type 0) (o : Option X) (xs : List X) → ((x : X) → o ≡ Some x → P x) → AllByRecursion P xs → AllByRecursion P (cons_option o xs)
+cons_all P None xs f h = h
+cons_all P (Some x) xs f h = (f x refl, h)
+
+-- what those of a kind have whose records have something
+said_all : {X : Type 0} (kind : Record → Option X) (P : X → Type 0) (Q : Record → Type 0) (f : (r : Record) (x : X) → Q r → kind r ≡ Some x → P x) (rs : List Numbered) → AllByRecursion (λ (r : Numbered). Q r.says) rs → AllByRecursion P (all_of kind rs)
+said_all kind P Q f [] h = tt
+said_all kind P Q f (r ∷ rs) h = cons_all P (kind r.says) (all_of kind rs) (λ x e. f r.says x h.0 e) (said_all kind P Q f rs h.1)
+
+all_sorted_from : (P : MuxService → Type 0) (xs done : List MuxService) → AllByRecursion P done → AllByRecursion P xs → AllByRecursion P (fold (λ (d : List MuxService) (x : MuxService). insert x d) done xs)
+all_sorted_from P [] done d h = d
+all_sorted_from P (x ∷ xs) done d h = all_sorted_from P xs (insert x done) (all_insert P x done h.0 d) h.1
+
+-- what the services have whose records have something
+served_all : (P : MuxService → Type 0) (Q : Record → Type 0) (f : (r : Record) (s : MuxService) → Q r → service_in r ≡ Some s → P s) (rs : List Numbered) → AllByRecursion (λ (r : Numbered). Q r.says) rs → AllByRecursion P (in_order rs)
+served_all P Q f rs h = all_sorted_from P (all_of service_in rs) [] tt (said_all service_in P Q f rs h)
+
+first_not : (test : Record → Bool) (r : Numbered) (rs : List Numbered) → first_line test (r ∷ rs) ≡ None → (test r.says ≡ false) × (first_line test rs ≡ None)
+first_not test r rs e = elim (cases_Bool (test r.says)) [
+  | inl yes' ↦ cc (rw yes' at e)
+  | inr no' ↦ (no', rw no' at e)
+]
+
+none_pass : (test : Record → Bool) (rs : List Numbered) → first_line test rs ≡ None → AllByRecursion (λ (r : Numbered). test r.says ≡ false) rs
+none_pass test [] e = tt
+none_pass test (r ∷ rs) e = (let n = first_not test r rs e in (n.0, none_pass test rs n.1))
+
+-- ---- what is not found is not there
+
+id_said : (id : ℕ) (r : Record) (s : MuxService) → has_id id r ≡ false → service_in r ≡ Some s → id ≢ s.service
+id_said id (Service t) s h e = (let same : t ≡ s = cc e in subst (λ (u : MuxService). id ≢ u.service) same (differs t.service id h))
+id_said id other s h e = cc e
+
+no_ids : (rs : List Numbered) (id : ℕ) → first_line (has_id id) rs ≡ None → AllByRecursion (λ (s : MuxService). id ≢ s.service) (in_order rs)
+no_ids rs id e = served_all (λ s. id ≢ s.service) (λ r. has_id id r ≡ false) (id_said id) rs (none_pass (has_id id) rs e)
+
+pmt_said : (pid : ℕ) (r : Record) (s : MuxService) → has_pmt pid r ≡ false → service_in r ≡ Some s → pid ≢ s.pmt_pid
+pmt_said pid (Service t) s h e = (let same : t ≡ s = cc e in subst (λ (u : MuxService). pid ≢ u.pmt_pid) same (differs t.pmt_pid pid h))
+pmt_said pid other s h e = cc e
+
+no_pmts : (rs : List Numbered) (pid : ℕ) → first_line (has_pmt pid) rs ≡ None → AllByRecursion (λ (s : MuxService). pid ≢ s.pmt_pid) (in_order rs)
+no_pmts rs pid e = served_all (λ s. pid ≢ s.pmt_pid) (λ r. has_pmt pid r ≡ false) (pmt_said pid) rs (none_pass (has_pmt pid) rs e)
+
+pid_said : (pid id : ℕ) (r : Record) (c : Component) → has_pid pid r ≡ false → part_in id r ≡ Some c → pid ≢ c.pid
+pid_said pid id (Part home d) c h e = said_here (λ (x : Component). pid ≢ x.pid) (home == id) d c (differs d.pid pid h) e
+pid_said pid id other c h e = cc e
+
+no_pids : (rs : List Numbered) (pid id : ℕ) → first_line (has_pid pid) rs ≡ None → AllByRecursion (λ (c : Component). pid ≢ c.pid) (parts_in id rs)
+no_pids rs pid id e = said_all (part_in id) (λ c. pid ≢ c.pid) (λ r. has_pid pid r ≡ false) (pid_said pid id) rs (none_pass (has_pid pid) rs e)
+
+other_pid : (home id here pid : ℕ) → home ≡ id → (false || ((home == id) && (here == pid))) ≡ false → here ≢ pid
+other_pid home id here pid same e meets = false≢true (sym (rw (eq-eqb home id same, eq-eqb here pid meets) at e))
+
+own_said : (pid id : ℕ) (r : Record) (c : Component) → holds id pid r ≡ false → part_in id r ≡ Some c → c.pid ≢ pid
+own_said pid id (Part home d) c h e = elim (cases_Bool (home == id)) [
+  | inl here ↦ said_here (λ (x : Component). x.pid ≢ pid) (home == id) d c (other_pid home id d.pid pid (eqb-true home id here) h) e
+  | inr there ↦ cc (rw there at e)
+]
+own_said pid id other c h e = cc e
+
+none_own : (rs : List Numbered) (pid id : ℕ) → first_line (holds id pid) rs ≡ None → AllByRecursion (λ (c : Component). c.pid ≢ pid) (parts_in id rs)
+none_own rs pid id e = said_all (part_in id) (λ c. c.pid ≢ pid) (λ r. holds id pid r ≡ false) (own_said pid id) rs (none_pass (holds id pid) rs e)
+
+-- ---- what each record has
+
+service_said : (r : Record) (s : MuxService) → IsFine r → service_in r ≡ Some s → IsFineService s
+service_said (Service t) s h e = (let same : t ≡ s = cc e in subst IsFineService same h)
+service_said other s h e = cc e
+
+part_said : (id : ℕ) (r : Record) (c : Component) → IsFine r → part_in id r ≡ Some c → IsSoundComponent c
+part_said id (Part home d) c h e = said_here IsSoundComponent (home == id) d c h e
+part_said id other c h e = cc e
+
 -- ---- records that were taken
 
 pub fine_none : AreFine []
-fine_none = record {
-  each = tt;
-  count = omega arith;
-  services = tt;
-  ascend = tt;
-  pmts = tt;
-  few = λ id. omega arith;
-  components = λ id. tt;
-  once = λ id. tt;
-  apart = λ id. tt;
-  ids = λ id e. tt;
-  pmt_pids = λ pid e. tt;
-  pids = λ pid id e. tt;
-  own = λ pid id e. tt;
-}
-
--- the record behind is not found either
-not_last : (test : Record → Bool) (rs : List Numbered) (r : Numbered) → first_line test (rs ++ r ∷ []) ≡ None → test r.says ≡ false
-not_last test rs r e = elim (cases_Bool (test r.says)) [
-  | inl yes' ↦
-      let there : cond (test r.says) (Some r.line) None ≡ None = or_none_right (first_line test rs) _ (sym (first_more test rs r) ∙ e) in
-      cc (rw yes' at there)
-  | inr no' ↦ no'
-]
-
-differs : (m n : ℕ) → (m == n) ≡ false → n ≢ m
-differs m n e same = absurd (grind (arith, nat_tests))
+fine_none = record { each = tt; count = omega arith; ascend = tt; pmts = tt; few = λ id. omega arith; once = λ id. tt; apart = λ id. tt }
 
 -- records that keep the services and the components
 pub fine_kept : (rs : List Numbered) (line : ℕ) (says : Record) → AreFine rs → IsFine says → service_in says ≡ None → ((id : ℕ) → part_in id says ≡ None) → AreFine (rs ++ numbered line says ∷ [])
@@ -129,17 +177,11 @@ fine_kept rs line says f fine no_service no_part =
     record {
       each = all_push (λ (x : Numbered). IsFine x.says) rs r f.each fine;
       count = rw services f.count;
-      services = rw services f.services;
       ascend = rw services f.ascend;
       pmts = rw services f.pmts;
       few = λ id. rw (parts_same id) (f.few id);
-      components = λ id. rw (parts_same id) (f.components id);
       once = λ id. rw (parts_same id) (f.once id);
       apart = λ id. rw (services, parts_same id) (f.apart id);
-      ids = λ id e. rw services (f.ids id (first_before (has_id id) rs r e));
-      pmt_pids = λ pid e. rw services (f.pmt_pids pid (first_before (has_pmt pid) rs r e));
-      pids = λ pid id e. rw (parts_same id) (f.pids pid id (first_before (has_pid pid) rs r e));
-      own = λ pid id e. rw (parts_same id) (f.own pid id (first_before (holds id pid) rs r e));
     }
 
 length_insert : (s : MuxService) (ts : List MuxService) → length (insert s ts) ≡ length ts + 1
@@ -165,17 +207,11 @@ fine_service rs line s f fine place once =
     record {
       each = all_push (λ (x : Numbered). IsFine x.says) rs r f.each fine;
       count = rw services (omega (arith, room, length_insert s (in_order rs), length_sorted_from (all_of service_in rs) []));
-      services = rw services (all_insert IsFineService s (in_order rs) fine f.services);
-      ascend = rw services (ascend_insert s (in_order rs) (f.ids s.service no_id) f.ascend);
-      pmts = rw services (pmts_insert s (in_order rs) (f.pmt_pids s.pmt_pid no_pmt) f.pmts);
+      ascend = rw services (ascend_insert s (in_order rs) (no_ids rs s.service no_id) f.ascend);
+      pmts = rw services (pmts_insert s (in_order rs) (no_pmts rs s.pmt_pid no_pmt) f.pmts);
       few = λ id. rw (parts_same id) (f.few id);
-      components = λ id. rw (parts_same id) (f.components id);
       once = λ id. rw (parts_same id) (f.once id);
-      apart = λ id. rw (services, parts_same id) (all_insert (IsApart (parts_in id rs)) s (in_order rs) (f.pids s.pmt_pid id no_pid) (f.apart id));
-      ids = λ id e. rw services (all_insert (λ (t : MuxService). id ≢ t.service) s (in_order rs) (differs s.service id (not_last (has_id id) rs r e)) (f.ids id (first_before (has_id id) rs r e)));
-      pmt_pids = λ pid e. rw services (all_insert (λ (t : MuxService). pid ≢ t.pmt_pid) s (in_order rs) (differs s.pmt_pid pid (not_last (has_pmt pid) rs r e)) (f.pmt_pids pid (first_before (has_pmt pid) rs r e)));
-      pids = λ pid id e. rw (parts_same id) (f.pids pid id (first_before (has_pid pid) rs r e));
-      own = λ pid id e. rw (parts_same id) (f.own pid id (first_before (holds id pid) rs r e));
+      apart = λ id. rw (services, parts_same id) (all_insert (IsApart (parts_in id rs)) s (in_order rs) (no_pids rs s.pmt_pid id no_pid) (f.apart id));
     }
 
 or_false_left : (a b : Bool) → (a || b) ≡ false → a ≡ false
@@ -184,9 +220,6 @@ or_false_left true b e = cc e
 
 fewer : (n : ℕ) → nat_le 16 n ≡ false → n < 16
 fewer n e = grind (arith, nat_tests)
-
-other_pid : (home id here pid : ℕ) → home ≡ id → (false || ((home == id) && (here == pid))) ≡ false → here ≢ pid
-other_pid home id here pid same e meets = false≢true (sym (rw (eq-eqb home id same, eq-eqb here pid meets) at e))
 
 or_false_right : (a b : Bool) → (a || b) ≡ false → b ≡ false
 or_false_right false b e = e
@@ -211,19 +244,7 @@ parts_with P rs line home c id more kept = elim (parts_split rs line home c id) 
 
 held_pmt : (id pid : ℕ) (r : Record) → holds id pid r ≡ false → has_pmt pid r ≡ false
 held_pmt id pid (Service s) e = or_false_left (s.pmt_pid == pid) _ e
-held_pmt id pid (Network n name) e = refl
-held_pmt id pid (Stream n o) e = refl
-held_pmt id pid (Delivery cable) e = refl
-held_pmt id pid (Part service c) e = refl
-held_pmt id pid (Start moment) e = refl
-held_pmt id pid (Quota n) e = refl
-held_pmt id pid End e = refl
-
-first_not : (test : Record → Bool) (r : Numbered) (rs : List Numbered) → first_line test (r ∷ rs) ≡ None → (test r.says ≡ false) × (first_line test rs ≡ None)
-first_not test r rs e = elim (cases_Bool (test r.says)) [
-  | inl yes' ↦ cc (rw yes' at e)
-  | inr no' ↦ (no', rw no' at e)
-]
+held_pmt id pid other e = refl
 
 no_pmt_held : (id pid : ℕ) (rs : List Numbered) → first_line (holds id pid) rs ≡ None → first_line (has_pmt pid) rs ≡ None
 no_pmt_held id pid [] e = refl
@@ -240,41 +261,24 @@ fine_part rs line home c f fine place once =
     let r = numbered line (Part home c) in
     let services : in_order (rs ++ r ∷ []) ≡ in_order rs = ap sorted (all_kept service_in rs r refl) in
     let room : length (parts_in home rs) < 16 = fewer (length (parts_in home rs)) (or_false_right _ (nat_le 16 (length (parts_in home rs))) place) in
-    let no_pmt = f.pmt_pids c.pid (no_pmt_held home c.pid rs once) in
+    let no_pmt = no_pmts rs c.pid (no_pmt_held home c.pid rs once) in
     record {
       each = all_push (λ (x : Numbered). IsFine x.says) rs r f.each fine;
       count = rw services f.count;
-      services = rw services f.services;
       ascend = rw services f.ascend;
       pmts = rw services f.pmts;
       few = λ id. parts_with (λ (cs : List Component). length cs ≤ 16) rs line home c id
           (λ same. let few : length (parts_in id rs) < 16 = subst (λ (k : ℕ). length (parts_in k rs) < 16) same room in omega (arith, few, length-append (parts_in id rs) (c ∷ []))) (f.few id);
-      components = λ id. parts_with (AllByRecursion IsSoundComponent) rs line home c id (λ same. all_push IsSoundComponent (parts_in id rs) c (f.components id) fine) (f.components id);
       once = λ id. parts_with (λ (cs : List Component). AreDifferent (map (λ (x : Component). x.pid) cs)) rs line home c id
-          (λ same. different_snoc (parts_in id rs) c (f.own c.pid id (subst (λ (k : ℕ). first_line (holds k c.pid) rs ≡ None) same once)) (f.once id)) (f.once id);
+          (λ same. different_snoc (parts_in id rs) c (none_own rs c.pid id (subst (λ (k : ℕ). first_line (holds k c.pid) rs ≡ None) same once)) (f.once id)) (f.once id);
       apart = λ id. rw services (parts_with (λ (cs : List Component). AllByRecursion (IsApart cs) (in_order rs)) rs line home c id (λ same. apart_more c (parts_in id rs) (in_order rs) no_pmt (f.apart id)) (f.apart id));
-      ids = λ id e. rw services (f.ids id (first_before (has_id id) rs r e));
-      pmt_pids = λ pid e. rw services (f.pmt_pids pid (first_before (has_pmt pid) rs r e));
-      pids = λ pid id e.
-          let before = f.pids pid id (first_before (has_pid pid) rs r e) in
-          parts_with (AllByRecursion (λ (x : Component). pid ≢ x.pid)) rs line home c id
-          (λ same. all_push (λ (x : Component). pid ≢ x.pid) (parts_in id rs) c before (differs c.pid pid (not_last (has_pid pid) rs r e))) before;
-      own = λ pid id e.
-          let before = f.own pid id (first_before (holds id pid) rs r e) in
-          parts_with (AllByRecursion (λ (x : Component). x.pid ≢ pid)) rs line home c id
-          (λ same. all_push (λ (x : Component). x.pid ≢ pid) (parts_in id rs) c before (other_pid home id c.pid pid same (not_last (holds id pid) rs r e))) before;
     }
 
 -- one record more
 pub fine_more : (rs : List Numbered) (line : ℕ) (says : Record) → AreFine rs → IsFine says → has_no_place rs says ≡ false → repeated_at rs says ≡ None → AreFine (rs ++ numbered line says ∷ [])
-fine_more rs line (Network n name) f fine place once = fine_kept rs line (Network n name) f fine refl (λ id. refl)
-fine_more rs line (Stream n o) f fine place once = fine_kept rs line (Stream n o) f fine refl (λ id. refl)
-fine_more rs line (Delivery cable) f fine place once = fine_kept rs line (Delivery cable) f fine refl (λ id. refl)
 fine_more rs line (Service s) f fine place once = fine_service rs line s f fine place once
 fine_more rs line (Part id c) f fine place once = fine_part rs line id c f fine place once
-fine_more rs line (Start moment) f fine place once = fine_kept rs line (Start moment) f fine refl (λ id. refl)
-fine_more rs line (Quota n) f fine place once = fine_kept rs line (Quota n) f fine refl (λ id. refl)
-fine_more rs line End f fine place once = fine_kept rs line End f fine refl (λ id. refl)
+fine_more rs line other f fine place once = fine_kept rs line other f fine refl (λ id. refl)
 
 -- ---- the multiplex
 
@@ -294,13 +298,7 @@ IsFineNetwork n = (n.0 < 65536) × Between 1 100 (coded_size n.1)
 
 in_network : (says : Record) (n : ℕ × List ℕ) → IsFine says → network_in says ≡ Some n → IsFineNetwork n
 in_network (Network id name) n h e = let same : (id, name) ≡ n = cc e in subst IsFineNetwork same h
-in_network (Stream id o) n h e = cc e
-in_network (Delivery cable) n h e = cc e
-in_network (Service s) n h e = cc e
-in_network (Part id c) n h e = cc e
-in_network (Start moment) n h e = cc e
-in_network (Quota q) n h e = cc e
-in_network End n h e = cc e
+in_network other n h e = cc e
 
 network_fine : (o : Option Numbered) (n : ℕ × List ℕ) → FineOption o → said network_in o ≡ Some n → IsFineNetwork n
 network_fine None n h e = cc e
@@ -310,28 +308,16 @@ abbrev IsFineStream : ℕ × ℕ → Type 0
 IsFineStream s = (s.0 < 65536) × (s.1 < 65536)
 
 in_stream : (says : Record) (s : ℕ × ℕ) → IsFine says → stream_in says ≡ Some s → IsFineStream s
-in_stream (Network id name) s h e = cc e
 in_stream (Stream id o) s h e = let same : (id, o) ≡ s = cc e in subst IsFineStream same h
-in_stream (Delivery cable) s h e = cc e
-in_stream (Service t) s h e = cc e
-in_stream (Part id c) s h e = cc e
-in_stream (Start moment) s h e = cc e
-in_stream (Quota q) s h e = cc e
-in_stream End s h e = cc e
+in_stream other s h e = cc e
 
 stream_fine : (o : Option Numbered) (s : ℕ × ℕ) → FineOption o → said stream_in o ≡ Some s → IsFineStream s
 stream_fine None s h e = cc e
 stream_fine (Some r) s h e = in_stream r.says s h e
 
 in_cable : (says : Record) → IsFine says → HasSoundCable (delivery_in says)
-in_cable (Network id name) h = tt
-in_cable (Stream id o) h = tt
 in_cable (Delivery cable) h = h
-in_cable (Service s) h = tt
-in_cable (Part id c) h = tt
-in_cable (Start moment) h = tt
-in_cable (Quota q) h = tt
-in_cable End h = tt
+in_cable other h = tt
 
 cable_fine : (o : Option Numbered) → FineOption o → HasSoundCable (said delivery_in o)
 cable_fine None h = tt
@@ -341,28 +327,16 @@ abbrev first_start : Moment
 first_start = record { 0 = 3506716800 }
 
 in_start : (says : Record) → IsFine says → (unwrap_or (start_in says) first_start).0 < 65536 * 86400
-in_start (Network id name) h = lit< tt
-in_start (Stream id o) h = lit< tt
-in_start (Delivery cable) h = lit< tt
-in_start (Service s) h = lit< tt
-in_start (Part id c) h = lit< tt
 in_start (Start moment) h = h
-in_start (Quota q) h = lit< tt
-in_start End h = lit< tt
+in_start other h = lit< tt
 
 start_fine : (o : Option Numbered) → FineOption o → (unwrap_or (said start_in o) first_start).0 < 65536 * 86400
 start_fine None h = lit< tt
 start_fine (Some r) h = in_start r.says h
 
 in_quota : (says : Record) → IsFine says → Between 1 10000 (unwrap_or (quota_in says) 200)
-in_quota (Network id name) h = (lit≤ tt, lit≤ tt)
-in_quota (Stream id o) h = (lit≤ tt, lit≤ tt)
-in_quota (Delivery cable) h = (lit≤ tt, lit≤ tt)
-in_quota (Service s) h = (lit≤ tt, lit≤ tt)
-in_quota (Part id c) h = (lit≤ tt, lit≤ tt)
-in_quota (Start moment) h = (lit≤ tt, lit≤ tt)
 in_quota (Quota q) h = h
-in_quota End h = (lit≤ tt, lit≤ tt)
+in_quota other h = (lit≤ tt, lit≤ tt)
 
 quota_fine : (o : Option Numbered) → FineOption o → Between 1 10000 (unwrap_or (said quota_in o) 200)
 quota_fine None h = (lit≤ tt, lit≤ tt)
@@ -383,7 +357,7 @@ sound_services rs (s ∷ ts) f h = (
     provider = h.0.provider;
     name = h.0.name;
     count = f.few s.service;
-    components = f.components s.service;
+    components = said_all (part_in s.service) IsSoundComponent IsFine (part_said s.service) rs f.each;
     components_once = f.once s.service;
   },
   sound_services rs ts f h.1,
@@ -429,7 +403,7 @@ sound_mux rs network stream f named some = record {
   start = start_fine (first is_start rs) (first_fine is_start rs f.each);
   quota = quota_fine (first is_quota rs) (first_fine is_quota rs f.each);
   count = (some, omega (arith, f.count, length_parts rs (in_order rs)));
-  services = sound_services rs (in_order rs) f f.services;
+  services = sound_services rs (in_order rs) f (served_all IsFineService IsFine service_said rs f.each);
   ascend = ascend_parts rs (in_order rs) f.ascend;
   pmts_once = subst AreDifferent (sym (pmts_same rs (in_order rs))) f.pmts;
   apart = apart_pids rs f;
@@ -465,8 +439,3 @@ whole_network rs (Some network) made behind more f named e = whole_stream rs net
 
 pub sound_end : (rs : List Numbered) (made : Mux) (behind more : List (ℕ × List ℕ)) → AreFine rs → ended rs behind ≡ Whole made more → IsSoundWithIds made
 sound_end rs made behind more f e = whole_network rs (said network_in (first is_network rs)) made behind more f refl e
-
--- what is made of fine records is sound
-pub sound_made : (rs : List Numbered) (result : Result Mux MuxStop) → AreFine rs → ((behind : List (ℕ × List ℕ)) → Makes (ended rs behind) behind result) → IfOk result IsSound
-sound_made rs (Ok mux) f makes = (sound_end rs mux [] [] f (makes [])).sound
-sound_made rs (Err stop) f makes = tt

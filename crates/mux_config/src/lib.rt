@@ -5,7 +5,7 @@
 #![tactic(auto)]
 
 mod fault;
-mod index;
+mod kinds;
 mod laws;
 mod read;
 mod record;
@@ -15,7 +15,7 @@ mod whole;
 
 pub use fault::{MuxFault, Word};
 pub use input_lines::{LineFields, fields};
-pub use laws::whole_descriptions_are_sound;
+pub use laws::{described_texts_are_kept, whole_descriptions_are_sound};
 pub use mux_model::{Mux, MuxService, MuxServices};
 pub use read::read_mux;
 pub use stop::MuxStop;

@@ -1,19 +1,17 @@
 // Reading a description from the lines of a text.
-ghost use Rattle.std.specs.Prelude.{◌≡◌, ◌≤◌, List, ℕ, Some, None, Ok, Err, IfOk, IfSome, OnOk};
+ghost use Rattle.std.specs.Prelude.{◌≡◌, ◌≤◌, ◌∷◌, ◌++◌, [], List, ℕ, Some, None, Ok, Err, IfOk, IfSome, OnOk};
 ghost use Rattle.si_causes.specs.Reading.{text_left};
 ghost use Rattle.input_lines.specs.Lines.{lines_of};
 ghost use Rattle.mux_config.specs.declared.stop.MuxStop.TheVariants.{Read};
-ghost use Rattle.mux_config.specs.Block.{is_end as ends_here};
+ghost use Rattle.mux_config.specs.Block.{is_end as ends_here, numbered};
 ghost use Rattle.mux_config.specs.Fields.{found_line as found_there};
-ghost use Rattle.mux_config.specs.Fine.{AreFine, IsFine, IsFineFound};
 ghost use Rattle.mux_model.specs.Sound.{IsSound};
-ghost use Rattle.mux_config.specs.Index.{IsIndexed};
 ghost use Rattle.mux_config.specs.Reads.{MuxCame, ReadMux, TookLine};
 ghost use Rattle.mux_config.specs.declared.record.RecordFound.TheVariants.{Is};
 
 use crate::fault::{MuxFault, Word};
-use crate::index::Records;
-use crate::record::{Record, RecordFound};
+use crate::kinds::{has_no_place, repeated_at};
+use crate::record::{Numbered, Record, RecordFound};
 use crate::rows::found_in;
 use crate::stop::MuxStop;
 use crate::whole::multiplex;
@@ -24,8 +22,7 @@ use std::alloc::{AllocError, Global};
 
 // What a line says.
 fn found_line(alloc: Global, line: &[u8]) -> Result<RecordFound, AllocError>
-    ensures value { IfOk result (λ found. found ≡ found_there line.now) }
-    ensures fine { IfOk result IsFineFound }
+    ensures { IfOk result (λ found. found ≡ found_there line.now) }
 {
     match fields(alloc, line)? {
         Some(fields) => found_in(alloc, fields.as_slice()),
@@ -42,14 +39,11 @@ fn is_end(says: &Record) -> bool
 // Takes a line, which has this number, into the records, and tells whether it ends them.
 fn take_line(
     alloc: Global,
-    records: &mut Records,
+    records: &mut Vec<Numbered>,
     number: u64,
     line: &[u8],
 ) -> Result<bool, MuxStop>
-    requires { IsIndexed records.old.list.items records.old }
-    ensures took { TookLine records.old.list.items number (found_there line.now) records.new.list.items result }
-    ensures indexed { OnOk result (IsIndexed records.new.list.items records.new) }
-    ensures fine { OnOk result (AreFine records.old.list.items → AreFine records.new.list.items) }
+    ensures { TookLine records.old.items number (found_there line.now) records.new.items result }
 {
     let says = match found_line(alloc, line)? {
         RecordFound::NoRecord => return Err(MuxStop::Fault(MuxFault::Line(number))),
@@ -59,24 +53,29 @@ fn take_line(
     take_record(records, number, says)
 }
 
-// Takes the record of a line.
-fn take_record(records: &mut Records, number: u64, says: Record) -> Result<bool, MuxStop>
-    requires indexed { IsIndexed records.old.list.items records.old }
-    requires fine { IsFine says }
-    ensures took { TookLine records.old.list.items number (Is says) records.new.list.items result }
-    ensures indexed { OnOk result (IsIndexed records.new.list.items records.new) }
-    ensures fine { OnOk result (AreFine records.old.list.items → AreFine records.new.list.items) }
+// One record more.
+fn add(records: &mut Vec<Numbered>, line: u64, says: Record) -> Result<(), AllocError>
+    ensures { OnOk result (records.new.items ≡ records.old.items ++ numbered line says ∷ []) }
 {
-    if records.has_no_place(&says) {
+    records.push(Numbered { line, says })?;
+    Ok(())
+}
+
+// Takes the record of a line.
+fn take_record(records: &mut Vec<Numbered>, number: u64, says: Record) -> Result<bool, MuxStop>
+    ensures { TookLine records.old.items number (Is says) records.new.items result }
+{
+    let before = records.as_slice();
+    if has_no_place(before, &says) {
         return Err(MuxStop::Fault(MuxFault::Range(number)));
     }
-    if let Some(earlier) = records.repeated_at(&says) {
+    if let Some(earlier) = repeated_at(before, &says) {
         return Err(MuxStop::Fault(MuxFault::Twice(number, earlier)));
     }
     if is_end(&says) {
         return Ok(true);
     }
-    records.add(number, says)?;
+    add(records, number, says)?;
     Ok(false)
 }
 
@@ -96,12 +95,12 @@ pub fn read_mux<S: Source>(alloc: Global, lines: &mut LineReader<S>) -> Result<M
     ensures later { S.faults lines.old.source ≤ S.faults lines.new.source }
     ensures same { S.same lines.old.source lines.new.source }
 {
-    let mut records = Records::new(alloc);
+    let mut records = Vec::new(alloc);
     'lines: loop {
         match next_record_line(lines) {
             Ok(Some(number)) => {
                 match take_line(alloc, &mut records, number, lines.line()) {
-                    Ok(true) => return multiplex(alloc, &records.list),
+                    Ok(true) => return multiplex(alloc, &records),
                     Ok(false) => {}
                     Err(stop) => return Err(stop),
                 }

@@ -3,8 +3,7 @@ ghost use Rattle.std.specs.Prelude.{◌≡◌, ◌<◌, ◌∷◌, [], true, fal
 ghost use Rattle.si_text.specs.Coding.{coded_size};
 ghost use Rattle.input_lines.specs.Numbers.{in_range, is_word as is_service_word};
 ghost use Rattle.mux_config.specs.declared.record.RecordFound.TheVariants.{NoRecord};
-ghost use Rattle.mux_config.specs.Fine.{IsFineFound};
-ghost use Rattle.mux_model.specs.Sound.{Between, HasSoundLanguage};
+ghost use Rattle.mux_model.specs.Sound.{Between};
 ghost use Rattle.mux_config.specs.Fields.{network_in, stream_in, cable_in, delivery_with, numbers_in, service_with, service_of as numbers_service, bare_service, is_letter as is_small_letter, is_language as is_a_language, language_of, part_in, start_in, quota_in, found_in};
 
 use crate::record::{Record, RecordFound};
@@ -28,7 +27,6 @@ fn short(low: u32, high: u32, n: u32) -> Option<u16>
     requires { high < 65536 }
     ensures some { IfSome result (λ m. (in_range low high n ≡ true) × (m ≡ n)) }
     ensures none { IfNone result (in_range low high n ≡ false) }
-    ensures bounds { IfSome result (Between low high) }
 {
     if is_in(low, high, n) {
         Some(n as u16)
@@ -42,7 +40,6 @@ fn byte(low: u32, high: u32, n: u32) -> Option<u8>
     requires { high < 256 }
     ensures some { IfSome result (λ m. (in_range low high n ≡ true) × (m ≡ n)) }
     ensures none { IfNone result (in_range low high n ≡ false) }
-    ensures bounds { IfSome result (Between low high) }
 {
     if is_in(low, high, n) {
         Some(n as u8)
@@ -53,8 +50,7 @@ fn byte(low: u32, high: u32, n: u32) -> Option<u8>
 
 // Whether the coded form of a text has a size in a range.
 fn fits(low: usize, text: &Txt) -> bool
-    ensures value { result ≡ in_range low 100 (coded_size text.now) }
-    ensures bounds { result ≡ true → Between low 100 (coded_size text.now) }
+    ensures { result ≡ in_range low 100 (coded_size text.now) }
 {
     let size = coded_len(text.as_str());
     low <= size && size <= 100
@@ -62,8 +58,7 @@ fn fits(low: usize, text: &Txt) -> bool
 
 // `network,ID,NAME`
 fn network(id: &Txt, name: &Txt) -> Result<RecordFound, AllocError>
-    ensures value { IfOk result (λ found. found ≡ network_in id.now name.now) }
-    ensures fine { IfOk result IsFineFound }
+    ensures { IfOk result (λ found. found ≡ network_in id.now name.now) }
 {
     let Some(id) = numeral(id.as_str()) else {
         return Ok(RecordFound::NoRecord);
@@ -79,8 +74,7 @@ fn network(id: &Txt, name: &Txt) -> Result<RecordFound, AllocError>
 
 // `stream,ID,ORIGINAL`
 fn stream(id: &Txt, original: &Txt) -> RecordFound
-    ensures value { result ≡ stream_in id.now original.now }
-    ensures fine { IsFineFound result }
+    ensures { result ≡ stream_in id.now original.now }
 {
     let Some(id) = numeral(id.as_str()) else {
         return RecordFound::NoRecord;
@@ -99,8 +93,7 @@ fn stream(id: &Txt, original: &Txt) -> RecordFound
 
 // `cable,FREQUENCY,MODULATION,SYMBOLRATE,OUTER,INNER`
 fn cable(frequency: &Txt, modulation: &Txt, rate: &Txt, outer: &Txt, inner: &Txt) -> RecordFound
-    ensures value { result ≡ cable_in frequency.now modulation.now rate.now outer.now inner.now }
-    ensures fine { IsFineFound result }
+    ensures { result ≡ cable_in frequency.now modulation.now rate.now outer.now inner.now }
 {
     let Some(frequency) = numeral(frequency.as_str()) else {
         return RecordFound::NoRecord;
@@ -128,8 +121,7 @@ fn delivery(
     outer: u32,
     inner: u32,
 ) -> RecordFound
-    ensures value { result ≡ delivery_with frequency modulation symbol_rate outer inner }
-    ensures fine { IsFineFound result }
+    ensures { result ≡ delivery_with frequency modulation symbol_rate outer inner }
 {
     if !is_in(0, 99_999_999, frequency) {
         return RecordFound::OutOfRange;
@@ -172,8 +164,7 @@ fn service_of(
     provider: &Txt,
     name: &Txt,
 ) -> Result<RecordFound, AllocError>
-    ensures value { IfOk result (λ found. found ≡ service_with (bare_service numbers.service numbers.feed numbers.kind numbers.pmt_pid numbers.pcr_pid provider.now name.now)) }
-    ensures fine { IfOk result IsFineFound }
+    ensures { IfOk result (λ found. found ≡ service_with (bare_service numbers.service numbers.feed numbers.kind numbers.pmt_pid numbers.pcr_pid provider.now name.now)) }
 {
     let Some(service) = short(1, 65_535, numbers.service) else {
         return Ok(RecordFound::OutOfRange);
@@ -246,8 +237,7 @@ fn is_letter(b: u8) -> bool
 // The language that a field is.
 fn language(field: &Txt) -> Option<[u8; 3]>
     requires { is_a_language field.now ≡ true }
-    ensures value { result ≡ language_of field.now }
-    ensures sound { HasSoundLanguage result }
+    ensures { result ≡ language_of field.now }
 {
     match field.as_str().as_bytes() {
         [a, b, c] => Some([*a, *b, *c]),
@@ -257,8 +247,7 @@ fn language(field: &Txt) -> Option<[u8; 3]>
 
 // `component,SERVICE,TYPE,PID,LANGUAGE`
 fn part(service: &Txt, kind: &Txt, pid: &Txt, spoken: &Txt) -> RecordFound
-    ensures value { result ≡ part_in service.now kind.now pid.now spoken.now }
-    ensures fine { IsFineFound result }
+    ensures { result ≡ part_in service.now kind.now pid.now spoken.now }
 {
     let Some(service) = numeral(service.as_str()) else {
         return RecordFound::NoRecord;
@@ -293,8 +282,7 @@ fn part(service: &Txt, kind: &Txt, pid: &Txt, spoken: &Txt) -> RecordFound
 
 // `start,MOMENT`
 fn start(moment: &Txt) -> RecordFound
-    ensures value { result ≡ start_in moment.now }
-    ensures fine { IsFineFound result }
+    ensures { result ≡ start_in moment.now }
 {
     match read_moment(moment.as_str().as_bytes()) {
         Some(moment) => RecordFound::Is(Record::Start(moment)),
@@ -304,8 +292,7 @@ fn start(moment: &Txt) -> RecordFound
 
 // `quota,N`
 fn quota(quota: &Txt) -> RecordFound
-    ensures value { result ≡ quota_in quota.now }
-    ensures fine { IsFineFound result }
+    ensures { result ≡ quota_in quota.now }
 {
     let Some(n) = numeral(quota.as_str()) else {
         return RecordFound::NoRecord;
@@ -319,8 +306,7 @@ fn quota(quota: &Txt) -> RecordFound
 
 // The record of two fields behind its word.
 fn record_of_two(word: &Txt, a: &Txt, b: &Txt) -> Result<RecordFound, AllocError>
-    ensures value { IfOk result (λ found. found ≡ found_in (word.now ∷ a.now ∷ b.now ∷ [])) }
-    ensures fine { IfOk result IsFineFound }
+    ensures { IfOk result (λ found. found ≡ found_in (word.now ∷ a.now ∷ b.now ∷ [])) }
 {
     if is_word(word.as_str(), "network") {
         return network(a, b);
@@ -333,8 +319,7 @@ fn record_of_two(word: &Txt, a: &Txt, b: &Txt) -> Result<RecordFound, AllocError
 
 // The record of one field behind its word.
 fn record_of_one(word: &Txt, a: &Txt) -> RecordFound
-    ensures value { result ≡ found_in (word.now ∷ a.now ∷ []) }
-    ensures fine { IsFineFound result }
+    ensures { result ≡ found_in (word.now ∷ a.now ∷ []) }
 {
     if is_word(word.as_str(), "start") {
         return start(a);
@@ -353,8 +338,7 @@ fn record_of_eight(
     provider: &Txt,
     name: &Txt,
 ) -> Result<RecordFound, AllocError>
-    ensures value { IfOk result (λ found. found ≡ (if is_service_word (codes "service") word.now then numbers_service numbers provider.now name.now else NoRecord)) }
-    ensures fine { IfOk result IsFineFound }
+    ensures { IfOk result (λ found. found ≡ (if is_service_word (codes "service") word.now then numbers_service numbers provider.now name.now else NoRecord)) }
 {
     if !is_word(word.as_str(), "service") {
         return Ok(RecordFound::NoRecord);
@@ -367,8 +351,7 @@ fn record_of_eight(
 
 /// What the fields of a line say.
 pub(crate) fn found_in(alloc: Global, fields: &[Txt]) -> Result<RecordFound, AllocError>
-    ensures value { IfOk result (λ found. found ≡ found_in fields.now) }
-    ensures fine { IfOk result IsFineFound }
+    ensures { IfOk result (λ found. found ≡ found_in fields.now) }
 {
     match fields {
         [word] => {

@@ -8,7 +8,7 @@ ghost use Rattle.mux_config.specs.Reads.{Makes};
 ghost use Rattle.std.specs.List.{cons_option};
 
 use crate::fault::{MuxFault, Word};
-use crate::index::{Kind, first_of};
+use crate::kinds::{Kind, first_of};
 use crate::record::{Numbered, Record};
 use crate::stop::MuxStop;
 use guide_model::{Cable, Component, Components};
@@ -84,7 +84,7 @@ fn quota_of(records: &[Numbered]) -> u32
 }
 
 // The component of a record, where it is one of this service.
-fn part_of(service: u16, says: &Record) -> Option<Component>
+pub(crate) fn part_of(service: u16, says: &Record) -> Option<Component>
     ensures { result ≡ part_in service says.now }
 {
     match says {

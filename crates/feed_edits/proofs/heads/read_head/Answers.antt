@@ -3,58 +3,30 @@ use Rattle.std.proofs.lemmas.Grind.{common_steps}
 use Rattle.feed_edits.specs.Heads.{edit_head}
 use Rattle.feed_edits.proofs.heads.read_head.Goals as goal
 
-pub returns-in_default-clause-value : goal.returns-in_default-clause-value
+pub returns-in_default : goal.returns-in_default
 unfolding edit_head
-returns-in_default-clause-value c = grind (arith, common_steps)
+returns-in_default c = record { value = grind (arith, common_steps); shaped = grind (arith, common_steps) }
 
-pub returns-in_default-clause-shaped : goal.returns-in_default-clause-shaped
+pub returns-then-is_word : goal.returns-then-is_word
 unfolding edit_head
-returns-in_default-clause-shaped c = grind (arith, common_steps)
+returns-then-is_word c = record { value = grind (arith, common_steps); shaped = grind (arith, common_steps) }
 
-pub returns-then-is_word-clause-value : goal.returns-then-is_word-clause-value
+pub returns-then-is_word-2 : goal.returns-then-is_word-2
 unfolding edit_head
-returns-then-is_word-clause-value c = grind (arith, common_steps)
+returns-then-is_word-2 c = record { value = grind (arith, common_steps); shaped = grind (arith, common_steps) }
 
-pub returns-then-is_word-clause-shaped : goal.returns-then-is_word-clause-shaped
+pub returns-then-is_word-3 : goal.returns-then-is_word-3
 unfolding edit_head
-returns-then-is_word-clause-shaped c = grind (arith, common_steps)
+returns-then-is_word-3 c = record { value = grind (arith, common_steps); shaped = grind (arith, common_steps) }
 
-pub returns-then-is_word-2-clause-value : goal.returns-then-is_word-2-clause-value
+pub returns-then-is_word-4 : goal.returns-then-is_word-4
 unfolding edit_head
-returns-then-is_word-2-clause-value c = grind (arith, common_steps)
+returns-then-is_word-4 c = record { value = grind (arith, common_steps); shaped = grind (arith, common_steps) }
 
-pub returns-then-is_word-2-clause-shaped : goal.returns-then-is_word-2-clause-shaped
+pub returns-then-is_word-5 : goal.returns-then-is_word-5
 unfolding edit_head
-returns-then-is_word-2-clause-shaped c = grind (arith, common_steps)
+returns-then-is_word-5 c = record { value = grind (arith, common_steps); shaped = grind (arith, common_steps) }
 
-pub returns-then-is_word-3-clause-value : goal.returns-then-is_word-3-clause-value
+pub returns-else-is_word-5 : goal.returns-else-is_word-5
 unfolding edit_head
-returns-then-is_word-3-clause-value c = grind (arith, common_steps)
-
-pub returns-then-is_word-3-clause-shaped : goal.returns-then-is_word-3-clause-shaped
-unfolding edit_head
-returns-then-is_word-3-clause-shaped c = grind (arith, common_steps)
-
-pub returns-then-is_word-4-clause-value : goal.returns-then-is_word-4-clause-value
-unfolding edit_head
-returns-then-is_word-4-clause-value c = grind (arith, common_steps)
-
-pub returns-then-is_word-4-clause-shaped : goal.returns-then-is_word-4-clause-shaped
-unfolding edit_head
-returns-then-is_word-4-clause-shaped c = grind (arith, common_steps)
-
-pub returns-then-is_word-5-clause-value : goal.returns-then-is_word-5-clause-value
-unfolding edit_head
-returns-then-is_word-5-clause-value c = grind (arith, common_steps)
-
-pub returns-then-is_word-5-clause-shaped : goal.returns-then-is_word-5-clause-shaped
-unfolding edit_head
-returns-then-is_word-5-clause-shaped c = grind (arith, common_steps)
-
-pub returns-else-is_word-5-clause-value : goal.returns-else-is_word-5-clause-value
-unfolding edit_head
-returns-else-is_word-5-clause-value c = grind (arith, common_steps)
-
-pub returns-else-is_word-5-clause-shaped : goal.returns-else-is_word-5-clause-shaped
-unfolding edit_head
-returns-else-is_word-5-clause-shaped c = grind (arith, common_steps)
+returns-else-is_word-5 c = record { value = grind (arith, common_steps); shaped = grind (arith, common_steps) }

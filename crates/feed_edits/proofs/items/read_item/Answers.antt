@@ -7,40 +7,60 @@ use Rattle.feed_edits.proofs.EventFields.{ten, item_of_ten, no_start, no_length,
 use Rattle.feed_edits.proofs.Shapes.{item_shaped}
 use Rattle.feed_edits.proofs.items.read_item.Goals as goal
 
-pub returns-in_default-number-clause-value : goal.returns-in_default-number-clause-value
-returns-in_default-number-clause-value c =
-    let all = ten c.args.fields.now c.event-item.result c.start-item.result c.duration-item.result c.language-item.result c.name-item.result c.short-item.result c.extended-item.result c.country-item.result c.value-item.result c.groups-item.result
-    c.in-len10.len_at_least c.in-len10.len_below c.event-item.is c.start-item.is c.duration-item.is c.language-item.is c.name-item.is c.short-item.is c.extended-item.is c.country-item.is c.value-item.is c.groups-item.is in
-    let none : number_in 0 65535 c.event-item.result ≡ None = cc in
-    rw (all, item_of_ten, none) refl
+pub returns-in_default-number : goal.returns-in_default-number
+unfolding item_of
+returns-in_default-number c = record {
+  value =
+      let all = ten c.args.fields.now c.event-item.result c.start-item.result c.duration-item.result c.language-item.result c.name-item.result c.short-item.result c.extended-item.result c.country-item.result c.value-item.result c.groups-item.result
+      c.in-len10.len_at_least c.in-len10.len_below c.event-item.is c.start-item.is c.duration-item.is c.language-item.is c.name-item.is c.short-item.is c.extended-item.is c.country-item.is c.value-item.is c.groups-item.is in
+      let none : number_in 0 65535 c.event-item.result ≡ None = cc in
+      rw (all, item_of_ten, none) refl;
+  shaped = grind (arith, common_steps);
+}
 
-pub returns-in_default-read_stamp-clause-value : goal.returns-in_default-read_stamp-clause-value
-returns-in_default-read_stamp-clause-value c =
-    let all = ten c.args.fields.now c.event-item.result c.start-item.result c.duration-item.result c.language-item.result c.name-item.result c.short-item.result c.extended-item.result c.country-item.result c.value-item.result c.groups-item.result
-    c.in-len10.len_at_least c.in-len10.len_below c.event-item.is c.start-item.is c.duration-item.is c.language-item.is c.name-item.is c.short-item.is c.extended-item.is c.country-item.is c.value-item.is c.groups-item.is in
-    let none : stamp_of c.start-item.result ≡ None = cc in
-    rw (all, item_of_ten, none, no_start) refl
+pub returns-in_default-read_stamp : goal.returns-in_default-read_stamp
+unfolding item_of
+returns-in_default-read_stamp c = record {
+  value =
+      let all = ten c.args.fields.now c.event-item.result c.start-item.result c.duration-item.result c.language-item.result c.name-item.result c.short-item.result c.extended-item.result c.country-item.result c.value-item.result c.groups-item.result
+      c.in-len10.len_at_least c.in-len10.len_below c.event-item.is c.start-item.is c.duration-item.is c.language-item.is c.name-item.is c.short-item.is c.extended-item.is c.country-item.is c.value-item.is c.groups-item.is in
+      let none : stamp_of c.start-item.result ≡ None = cc in
+      rw (all, item_of_ten, none, no_start) refl;
+  shaped = grind (arith, common_steps);
+}
 
-pub returns-in_default-read_length-clause-value : goal.returns-in_default-read_length-clause-value
-returns-in_default-read_length-clause-value c =
-    let all = ten c.args.fields.now c.event-item.result c.start-item.result c.duration-item.result c.language-item.result c.name-item.result c.short-item.result c.extended-item.result c.country-item.result c.value-item.result c.groups-item.result
-    c.in-len10.len_at_least c.in-len10.len_below c.event-item.is c.start-item.is c.duration-item.is c.language-item.is c.name-item.is c.short-item.is c.extended-item.is c.country-item.is c.value-item.is c.groups-item.is in
-    let none : length_of c.duration-item.result ≡ None = cc in
-    rw (all, item_of_ten, none, no_length) refl
+pub returns-in_default-read_length : goal.returns-in_default-read_length
+unfolding item_of
+returns-in_default-read_length c = record {
+  value =
+      let all = ten c.args.fields.now c.event-item.result c.start-item.result c.duration-item.result c.language-item.result c.name-item.result c.short-item.result c.extended-item.result c.country-item.result c.value-item.result c.groups-item.result
+      c.in-len10.len_at_least c.in-len10.len_below c.event-item.is c.start-item.is c.duration-item.is c.language-item.is c.name-item.is c.short-item.is c.extended-item.is c.country-item.is c.value-item.is c.groups-item.is in
+      let none : length_of c.duration-item.result ≡ None = cc in
+      rw (all, item_of_ten, none, no_length) refl;
+  shaped = grind (arith, common_steps);
+}
 
-pub returns-in_default-2-clause-value : goal.returns-in_default-2-clause-value
-returns-in_default-2-clause-value c =
-    let all = ten c.args.fields.now c.event-item.result c.start-item.result c.duration-item.result c.language-item.result c.name-item.result c.short-item.result c.extended-item.result c.country-item.result c.value-item.result c.groups-item.result
-    c.in-len10.len_at_least c.in-len10.len_below c.event-item.is c.start-item.is c.duration-item.is c.language-item.is c.name-item.is c.short-item.is c.extended-item.is c.country-item.is c.value-item.is c.groups-item.is in
-    let none : rating_of c.country-item.result c.value-item.result ≡ None = sym c.in_ok-rating.ensures ∙ c.in_default-2.is in
-    rw (all, item_of_ten, none, no_rating) refl
+pub returns-in_default-2 : goal.returns-in_default-2
+unfolding item_of
+returns-in_default-2 c = record {
+  value =
+      let all = ten c.args.fields.now c.event-item.result c.start-item.result c.duration-item.result c.language-item.result c.name-item.result c.short-item.result c.extended-item.result c.country-item.result c.value-item.result c.groups-item.result
+      c.in-len10.len_at_least c.in-len10.len_below c.event-item.is c.start-item.is c.duration-item.is c.language-item.is c.name-item.is c.short-item.is c.extended-item.is c.country-item.is c.value-item.is c.groups-item.is in
+      let none : rating_of c.country-item.result c.value-item.result ≡ None = sym c.in_ok-rating.ensures ∙ c.in_default-2.is in
+      rw (all, item_of_ten, none, no_rating) refl;
+  shaped = grind (arith, common_steps);
+}
 
-pub returns-in_default-3-clause-value : goal.returns-in_default-3-clause-value
-returns-in_default-3-clause-value c =
-    let all = ten c.args.fields.now c.event-item.result c.start-item.result c.duration-item.result c.language-item.result c.name-item.result c.short-item.result c.extended-item.result c.country-item.result c.value-item.result c.groups-item.result
-    c.in-len10.len_at_least c.in-len10.len_below c.event-item.is c.start-item.is c.duration-item.is c.language-item.is c.name-item.is c.short-item.is c.extended-item.is c.country-item.is c.value-item.is c.groups-item.is in
-    let none : genres_of c.groups-item.result ≡ None = sym (ap genres_of c.as_str-4.ensures.value) ∙ sym c.in_ok-genres.ensures ∙ c.in_default-3.is in
-    rw (all, item_of_ten, none, no_genres) refl
+pub returns-in_default-3 : goal.returns-in_default-3
+unfolding item_of
+returns-in_default-3 c = record {
+  value =
+      let all = ten c.args.fields.now c.event-item.result c.start-item.result c.duration-item.result c.language-item.result c.name-item.result c.short-item.result c.extended-item.result c.country-item.result c.value-item.result c.groups-item.result
+      c.in-len10.len_at_least c.in-len10.len_below c.event-item.is c.start-item.is c.duration-item.is c.language-item.is c.name-item.is c.short-item.is c.extended-item.is c.country-item.is c.value-item.is c.groups-item.is in
+      let none : genres_of c.groups-item.result ≡ None = sym (ap genres_of c.as_str-4.ensures.value) ∙ sym c.in_ok-genres.ensures ∙ c.in_default-3.is in
+      rw (all, item_of_ten, none, no_genres) refl;
+  shaped = grind (arith, common_steps);
+}
 
 pub returns-clause-value : goal.returns-clause-value
 returns-clause-value c =
@@ -56,78 +76,30 @@ returns-clause-value c =
 pub returns-clause-shaped : goal.returns-clause-shaped
 returns-clause-shaped c = item_shaped c.args.fields.now _ (sym (returns-clause-value c))
 
-pub returns-in_default-clause-value : goal.returns-in_default-clause-value
+pub returns-in_default : goal.returns-in_default
 unfolding item_of
-returns-in_default-clause-value c = grind (arith, common_steps)
+returns-in_default c = record { value = grind (arith, common_steps); shaped = grind (arith, common_steps) }
 
-pub returns-in_default-clause-shaped : goal.returns-in_default-clause-shaped
+pub returns-in_err-rating : goal.returns-in_err-rating
 unfolding item_of
-returns-in_default-clause-shaped c = grind (arith, common_steps)
+returns-in_err-rating c = record { value = grind (arith, common_steps); shaped = grind (arith, common_steps) }
 
-pub returns-in_default-number-clause-shaped : goal.returns-in_default-number-clause-shaped
+pub returns-in_err-genres : goal.returns-in_err-genres
 unfolding item_of
-returns-in_default-number-clause-shaped c = grind (arith, common_steps)
+returns-in_err-genres c = record { value = grind (arith, common_steps); shaped = grind (arith, common_steps) }
 
-pub returns-in_default-read_stamp-clause-shaped : goal.returns-in_default-read_stamp-clause-shaped
+pub returns-in_err-copy : goal.returns-in_err-copy
 unfolding item_of
-returns-in_default-read_stamp-clause-shaped c = grind (arith, common_steps)
+returns-in_err-copy c = record { value = grind (arith, common_steps); shaped = grind (arith, common_steps) }
 
-pub returns-in_default-read_length-clause-shaped : goal.returns-in_default-read_length-clause-shaped
+pub returns-in_err-copy-2 : goal.returns-in_err-copy-2
 unfolding item_of
-returns-in_default-read_length-clause-shaped c = grind (arith, common_steps)
+returns-in_err-copy-2 c = record { value = grind (arith, common_steps); shaped = grind (arith, common_steps) }
 
-pub returns-in_err-rating-clause-value : goal.returns-in_err-rating-clause-value
+pub returns-in_err-copy-3 : goal.returns-in_err-copy-3
 unfolding item_of
-returns-in_err-rating-clause-value c = grind (arith, common_steps)
+returns-in_err-copy-3 c = record { value = grind (arith, common_steps); shaped = grind (arith, common_steps) }
 
-pub returns-in_err-rating-clause-shaped : goal.returns-in_err-rating-clause-shaped
+pub returns-in_err-copy-4 : goal.returns-in_err-copy-4
 unfolding item_of
-returns-in_err-rating-clause-shaped c = grind (arith, common_steps)
-
-pub returns-in_default-2-clause-shaped : goal.returns-in_default-2-clause-shaped
-unfolding item_of
-returns-in_default-2-clause-shaped c = grind (arith, common_steps)
-
-pub returns-in_err-genres-clause-value : goal.returns-in_err-genres-clause-value
-unfolding item_of
-returns-in_err-genres-clause-value c = grind (arith, common_steps)
-
-pub returns-in_err-genres-clause-shaped : goal.returns-in_err-genres-clause-shaped
-unfolding item_of
-returns-in_err-genres-clause-shaped c = grind (arith, common_steps)
-
-pub returns-in_default-3-clause-shaped : goal.returns-in_default-3-clause-shaped
-unfolding item_of
-returns-in_default-3-clause-shaped c = grind (arith, common_steps)
-
-pub returns-in_err-copy-clause-value : goal.returns-in_err-copy-clause-value
-unfolding item_of
-returns-in_err-copy-clause-value c = grind (arith, common_steps)
-
-pub returns-in_err-copy-clause-shaped : goal.returns-in_err-copy-clause-shaped
-unfolding item_of
-returns-in_err-copy-clause-shaped c = grind (arith, common_steps)
-
-pub returns-in_err-copy-2-clause-value : goal.returns-in_err-copy-2-clause-value
-unfolding item_of
-returns-in_err-copy-2-clause-value c = grind (arith, common_steps)
-
-pub returns-in_err-copy-2-clause-shaped : goal.returns-in_err-copy-2-clause-shaped
-unfolding item_of
-returns-in_err-copy-2-clause-shaped c = grind (arith, common_steps)
-
-pub returns-in_err-copy-3-clause-value : goal.returns-in_err-copy-3-clause-value
-unfolding item_of
-returns-in_err-copy-3-clause-value c = grind (arith, common_steps)
-
-pub returns-in_err-copy-3-clause-shaped : goal.returns-in_err-copy-3-clause-shaped
-unfolding item_of
-returns-in_err-copy-3-clause-shaped c = grind (arith, common_steps)
-
-pub returns-in_err-copy-4-clause-value : goal.returns-in_err-copy-4-clause-value
-unfolding item_of
-returns-in_err-copy-4-clause-value c = grind (arith, common_steps)
-
-pub returns-in_err-copy-4-clause-shaped : goal.returns-in_err-copy-4-clause-shaped
-unfolding item_of
-returns-in_err-copy-4-clause-shaped c = grind (arith, common_steps)
+returns-in_err-copy-4 c = record { value = grind (arith, common_steps); shaped = grind (arith, common_steps) }

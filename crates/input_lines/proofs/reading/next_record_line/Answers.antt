@@ -1,5 +1,6 @@
-use Rattle.std.proofs.Common.{refl, arith, true, false}
-use Rattle.input_lines.proofs.Steps.{NextLine, not_ended, not_ended_stop, stuck_at, stays_stuck, over_none, over_more, over_line, over_first, over_end, over_none_left, over_stop, over_stop_records, found_passed}
+use Rattle.std.proofs.Common.{◌≡◌, refl, arith, true, false}
+use Rattle.std.specs.Prelude.{None}
+use Rattle.input_lines.proofs.Steps.{NextLine, not_ended, not_ended_stop, stuck_at, stays_stuck, sticky_on, over_none, over_more, over_line, over_first, over_end, over_none_left, over_stop, over_stop_records, found_passed}
 use Rattle.input_lines.proofs.reading.next_record_line.Goals as goal
 
 pub lines-init : goal.lines-init
@@ -27,40 +28,48 @@ lines-preserved g c =
       falls = omega (arith, i.falls, e.falls.1);
     }
 
-pub returns-then-not-passes_over-clause-records : goal.returns-then-not-passes_over-clause-records
-returns-then-not-passes_over-clause-records g c = λ going.
+pub returns-then-not-passes_over : goal.returns-then-not-passes_over
+returns-then-not-passes_over g c =
+    let i = c.lines.invariant in
     let e = rw c.in-Ok-Some.field-0-is at c.in-Ok-Some.ensures in
-    let o = c.lines.invariant.over going in
-    let next : NextLine g.S.Source.left c.lines.lines c.next.new.self c.in-Ok-Some.number = record { came = e.came o.going; gives = e.lines o.going; more_to_come = not_ended c.lines.lines.ended c.in-Ok-Some.number _ (e.over o.going) } in
-    over_first g.S.Source.left c.args.lines.now c.lines.lines c.next.new.self c.in-Ok-Some.number o next
-    (found_passed c.passes_over.result false c.line.result.now c.next.new.self.line c.if-not-passes_over.true c.passes_over.ensures c.line.ensures)
+    let next : c.args.lines.now.stop ≡ None → NextLine g.S.Source.left c.lines.lines c.next.new.self c.in-Ok-Some.number =
+    λ going. record { came = e.came (i.over going).going; gives = e.lines (i.over going).going; more_to_come = not_ended c.lines.lines.ended c.in-Ok-Some.number _ (e.over (i.over going).going) } in
+    let stays = found_passed c.passes_over.result false c.line.result.now c.next.new.self.line c.if-not-passes_over.true c.passes_over.ensures c.line.ensures in
+    record {
+      records = λ going. over_first g.S.Source.left c.args.lines.now c.lines.lines c.next.new.self c.in-Ok-Some.number (i.over going) (next going) stays;
+      came = λ going. over_line g.S.Source.left c.args.lines.now c.lines.lines c.next.new.self c.in-Ok-Some.number (i.over going) (next going) stays;
+      falls = (e.falls.0, omega (arith, i.falls, e.falls.1));
+      at_end = λ is. cc is;
+      sticky = sticky_on c.args.lines.now.stop _ c.args.lines.now c.lines.lines c.next.new.self refl i.stuck e.sticky;
+      later = omega (arith, i.later, e.later);
+      same = g.met.S.Source.same_later c.args.lines.now.source c.lines.lines.source c.next.new.self.source i.same e.same;
+    }
 
-pub returns-then-not-passes_over-clause-came : goal.returns-then-not-passes_over-clause-came
-returns-then-not-passes_over-clause-came g c = λ going.
-    let e = rw c.in-Ok-Some.field-0-is at c.in-Ok-Some.ensures in
-    let o = c.lines.invariant.over going in
-    let next : NextLine g.S.Source.left c.lines.lines c.next.new.self c.in-Ok-Some.number = record { came = e.came o.going; gives = e.lines o.going; more_to_come = not_ended c.lines.lines.ended c.in-Ok-Some.number _ (e.over o.going) } in
-    over_line g.S.Source.left c.args.lines.now c.lines.lines c.next.new.self c.in-Ok-Some.number o next
-    (found_passed c.passes_over.result false c.line.result.now c.next.new.self.line c.if-not-passes_over.true c.passes_over.ensures c.line.ensures)
-
-pub returns-in-Ok-None-clause-records : goal.returns-in-Ok-None-clause-records
-returns-in-Ok-None-clause-records g c = λ going.
+pub returns-in-Ok-None : goal.returns-in-Ok-None
+returns-in-Ok-None g c =
+    let i = c.lines.invariant in
     let e = rw c.in-Ok-None.field-0-is at c.in-Ok-None.ensures in
-    let o = c.lines.invariant.over going in
-    over_end g.S.Source.left c.args.lines.now c.lines.lines c.next.new.self o (e.came o.going) (e.lines o.going)
+    record {
+      records = λ going. over_end g.S.Source.left c.args.lines.now c.lines.lines c.next.new.self (i.over going) (e.came (i.over going).going) (e.lines (i.over going).going);
+      came = λ going. over_none_left g.S.Source.left c.args.lines.now c.lines.lines c.next.new.self (i.over going) (e.came (i.over going).going);
+      falls = tt;
+      at_end = λ is. e.end refl;
+      sticky = sticky_on c.args.lines.now.stop _ c.args.lines.now c.lines.lines c.next.new.self refl i.stuck e.sticky;
+      later = omega (arith, i.later, e.later);
+      same = g.met.S.Source.same_later c.args.lines.now.source c.lines.lines.source c.next.new.self.source i.same e.same;
+    }
 
-pub returns-in-Ok-None-clause-came : goal.returns-in-Ok-None-clause-came
-returns-in-Ok-None-clause-came g c = λ going.
-    let e = rw c.in-Ok-None.field-0-is at c.in-Ok-None.ensures in
-    let o = c.lines.invariant.over going in
-    over_none_left g.S.Source.left c.args.lines.now c.lines.lines c.next.new.self o (e.came o.going)
-
-pub returns-in-Err-clause-records : goal.returns-in-Err-clause-records
-returns-in-Err-clause-records g c = λ going.
-    let o = c.lines.invariant.over going in
-    over_stop_records g.S.Source.left c.args.lines.now c.lines.lines c.next.new.self c.in-Err.stop o (c.in-Err.ensures.lines o.going)
-
-pub returns-in-Err-clause-came : goal.returns-in-Err-clause-came
-returns-in-Err-clause-came g c = λ going.
-    let o = c.lines.invariant.over going in
-    over_stop g.S.Source.left g.S.Source.faults c.args.lines.now c.lines.lines c.next.new.self c.in-Err.stop o (not_ended_stop c.lines.lines.ended c.in-Err.stop _ (c.in-Err.ensures.over o.going)) (c.in-Err.ensures.came o.going) c.lines.invariant.later
+pub returns-in-Err : goal.returns-in-Err
+returns-in-Err g c =
+    let i = c.lines.invariant in
+    let e = c.in-Err.ensures in
+    record {
+      records = λ going. over_stop_records g.S.Source.left c.args.lines.now c.lines.lines c.next.new.self c.in-Err.stop (i.over going) (e.lines (i.over going).going);
+      came = λ going.
+          over_stop g.S.Source.left g.S.Source.faults c.args.lines.now c.lines.lines c.next.new.self c.in-Err.stop (i.over going) (not_ended_stop c.lines.lines.ended c.in-Err.stop _ (e.over (i.over going).going)) (e.came (i.over going).going) i.later;
+      falls = tt;
+      at_end = λ is. cc is;
+      sticky = sticky_on c.args.lines.now.stop _ c.args.lines.now c.lines.lines c.next.new.self refl i.stuck e.sticky;
+      later = omega (arith, i.later, e.later);
+      same = g.met.S.Source.same_later c.args.lines.now.source c.lines.lines.source c.next.new.self.source i.same e.same;
+    }

@@ -1,12 +1,12 @@
-use Rattle.std.proofs.Common.{◌∙◌, List, refl, sym, subst, arith}
-use Rattle.std.proofs.lemmas.Grind.{common_steps}
-use Rattle.input_lines.proofs.Steps.{stuck_at, stays_stuck}
+use Rattle.std.proofs.Common.{◌≡◌, ◌∙◌, ℕ, List, refl, sym, subst, arith}
+use Rattle.std.specs.Prelude.{Some, None, Err}
+use Rattle.input_lines.proofs.Steps.{stuck_at, stays_stuck, if_none, no_stop_on}
 use Rattle.mux_config.specs.declared.record.Numbered.{Numbered}
 use Rattle.mux_config.specs.Block.{ended}
-use Rattle.mux_config.specs.Reads.{Makes}
-use Rattle.mux_config.proofs.Reading.{NextLine, Taken, taken_none, taken_more, ended_read, ended_came, end_came, line_came, stop_came, took_on, took_end}
-use Rattle.mux_config.specs.Fine.{AreFine}
-use Rattle.mux_config.proofs.Soundness.{fine_none, sound_made}
+use Rattle.mux_config.specs.Fields.{found_line}
+use Rattle.mux_config.specs.Reads.{Makes, MuxCame, TookLine}
+use Rattle.mux_config.proofs.Reading.{Taken, taken_none, taken_more, next_line, ended_read, ended_came, end_read, end_came, line_read, line_came, stop_read, stop_came, read_sticky, took_on, took_end}
+use Rattle.mux_config.proofs.FineLines.{came_sound}
 use Rattle.mux_config.proofs.read.read_mux.Goals as goal
 
 pub lines-init : goal.lines-init
@@ -14,9 +14,7 @@ lines-init g c = record {
   stuck = stuck_at c.args.lines.now.stop c.args.lines.now;
   same = g.met.S.Source.same_at_once c.args.lines.now.source;
   later = omega arith;
-  fine = subst AreFine (sym c.new-records.ensures.none) fine_none;
-  indexed = c.new-records.ensures.indexed;
-  taken = λ going. subst (Taken g.S.Source.left c.args.lines.now c.args.lines.now) (sym c.new-records.ensures.none) (taken_none g.S.Source.left c.args.lines.now going);
+  taken = λ going. subst (Taken g.S.Source.left c.args.lines.now c.args.lines.now) (sym c.new-records.ensures.items) (taken_none g.S.Source.left c.args.lines.now going);
 }
 
 pub lines-preserved : goal.lines-preserved
@@ -27,111 +25,79 @@ lines-preserved g c =
       stuck = stays_stuck c.args.lines.now.stop c.args.lines.now c.lines.lines c.next_record_line.new.lines c.in-Ok-Some.number refl i.stuck e.sticky;
       same = g.met.S.Source.same_later c.args.lines.now.source c.lines.lines.source c.next_record_line.new.lines.source i.same e.same;
       later = omega (arith, i.later, e.later);
-      fine = c.in-Ok-false.ensures.fine i.fine;
-      indexed = c.in-Ok-false.ensures.indexed;
       taken = λ going.
           let t = i.taken going in
-          let came = e.came t.going in
-          let next : NextLine g.S.Source.left c.lines.lines c.next_record_line.new.lines c.in-Ok-Some.number = record { came = came; gives = e.records t.going; more_to_come = came.unended } in
-          let took = took_on c.lines.records.list.items c.in-Ok-Some.number c.line.result.now c.next_record_line.new.lines.line c.take_line.new.records.list.items c.line.ensures (rw c.in-Ok-false.field-0-test at c.in-Ok-false.ensures.took) in
-          taken_more g.S.Source.left c.args.lines.now c.lines.lines c.next_record_line.new.lines c.in-Ok-Some.number c.lines.records.list.items c.take_line.new.records.list.items t next took.0 took.1 took.2;
+          let next = next_line g.S.Source.left g.S.Source.faults g.S.Source.same c.lines.lines c.next_record_line.new.lines c.in-Ok-Some.number e t.going in
+          let took = took_on c.lines.records.items c.in-Ok-Some.number c.line.result.now c.next_record_line.new.lines.line c.take_line.new.records.items c.line.ensures (rw c.in-Ok-false.field-0-test at c.in-Ok-false.ensures) in
+          taken_more g.S.Source.left c.args.lines.now c.lines.lines c.next_record_line.new.lines c.in-Ok-Some.number c.lines.records.items c.take_line.new.records.items t next took.0 took.1 took.2;
     }
 
-pub returns-in-Ok-true-clause-block : goal.returns-in-Ok-true-clause-block
-returns-in-Ok-true-clause-block g c = λ going.
-    let e = rw c.in-Ok-Some.field-0-is at c.in-Ok-Some.ensures in
-    let t = c.lines.invariant.taken going in
-    let came = e.came t.going in
-    let next : NextLine g.S.Source.left c.lines.lines c.next_record_line.new.lines c.in-Ok-Some.number = record { came = came; gives = e.records t.going; more_to_come = came.unended } in
-    let took = took_end c.lines.records.list.items c.in-Ok-Some.number c.line.result.now c.next_record_line.new.lines.line c.take_line.new.records.list.items c.line.ensures (rw c.in-Ok-true.field-0-test at c.in-Ok-true.ensures.took) in
-    ended_read g.S.Source.left c.args.lines.now c.lines.lines c.next_record_line.new.lines c.in-Ok-Some.number c.lines.records.list.items c.multiplex.result t next took.0 took.1
-    (λ behind. subst (λ (rs : List Numbered). Makes (ended rs behind) behind c.multiplex.result) (c.deref.ensures.value ∙ took.2) (c.multiplex.ensures behind))
-
-pub returns-in-Ok-true-clause-came : goal.returns-in-Ok-true-clause-came
-returns-in-Ok-true-clause-came g c = λ going.
-    let e = rw c.in-Ok-Some.field-0-is at c.in-Ok-Some.ensures in
-    let t = c.lines.invariant.taken going in
-    let came = e.came t.going in
-    let next : NextLine g.S.Source.left c.lines.lines c.next_record_line.new.lines c.in-Ok-Some.number = record { came = came; gives = e.records t.going; more_to_come = came.unended } in
-    let took = took_end c.lines.records.list.items c.in-Ok-Some.number c.line.result.now c.next_record_line.new.lines.line c.take_line.new.records.list.items c.line.ensures (rw c.in-Ok-true.field-0-test at c.in-Ok-true.ensures.took) in
-    ended_came g.S.Source.left g.S.Source.faults c.args.lines.now c.lines.lines c.next_record_line.new.lines c.in-Ok-Some.number c.lines.records.list.items c.multiplex.result t next took.0 took.1
-    (λ behind. subst (λ (rs : List Numbered). Makes (ended rs behind) behind c.multiplex.result) (c.deref.ensures.value ∙ took.2) (c.multiplex.ensures behind))
-
-pub returns-in-Err-clause-came : goal.returns-in-Err-clause-came
-returns-in-Err-clause-came g c = λ going.
+pub returns-in-Ok-true : goal.returns-in-Ok-true
+returns-in-Ok-true g c =
     let i = c.lines.invariant in
-    let t = i.taken going in
-    stop_came g.S.Source.left g.S.Source.faults c.args.lines.now c.lines.lines c.next_record_line.new.lines c.lines.records.list.items c.in-Err.stop t (c.in-Err.ensures.came t.going) i.later
-
-pub returns-in-Ok-true-clause-sound : goal.returns-in-Ok-true-clause-sound
-returns-in-Ok-true-clause-sound g c = sound_made c.deref.result.now c.multiplex.result
-    (subst AreFine (sym c.deref.ensures.value) (c.in-Ok-true.ensures.fine c.lines.invariant.fine)) c.multiplex.ensures
-
-pub returns-in-Ok-true-clause-sticky : goal.returns-in-Ok-true-clause-sticky
-returns-in-Ok-true-clause-sticky g c = grind (arith, common_steps)
-
-pub returns-in-Ok-true-clause-later : goal.returns-in-Ok-true-clause-later
-returns-in-Ok-true-clause-later g c = grind (arith, common_steps)
-
-pub returns-in-Ok-true-clause-same : goal.returns-in-Ok-true-clause-same
-returns-in-Ok-true-clause-same g c = grind (arith, common_steps)
-
-pub returns-in-Err-take_line-clause-block : goal.returns-in-Err-take_line-clause-block
-returns-in-Err-take_line-clause-block g c = grind (arith, common_steps)
-
-pub returns-in-Err-take_line-clause-came : goal.returns-in-Err-take_line-clause-came
-returns-in-Err-take_line-clause-came g c = λ going.
+    let now = c.lines.lines in
+    let new = c.next_record_line.new.lines in
+    let n = c.in-Ok-Some.number in
+    let records = c.lines.records.items in
     let e = rw c.in-Ok-Some.field-0-is at c.in-Ok-Some.ensures in
-    let t = c.lines.invariant.taken going in
-    let came = e.came t.going in
-    let next : NextLine g.S.Source.left c.lines.lines c.next_record_line.new.lines c.in-Ok-Some.number = record { came = came; gives = e.records t.going; more_to_come = came.unended } in
-    line_came g.S.Source.left g.S.Source.faults c.args.lines.now c.lines.lines c.next_record_line.new.lines c.in-Ok-Some.number c.line.result.now c.lines.records.list.items c.take_line.new.records.list.items c.in-Err-take_line.stop t next
-    c.line.ensures c.in-Err-take_line.ensures.took
+    let took = took_end records n c.line.result.now new.line c.take_line.new.records.items c.line.ensures (rw c.in-Ok-true.field-0-test at c.in-Ok-true.ensures) in
+    let makes : (behind : List (ℕ × List ℕ)) → Makes (ended records behind) behind c.multiplex.result =
+    λ behind. subst (λ (rs : List Numbered). Makes (ended rs behind) behind c.multiplex.result) (c.deref.ensures.value ∙ took.2) (c.multiplex.ensures behind) in
+    let going = no_stop_on c.args.lines.now.stop (Some n) c.args.lines.now now new refl i.stuck e.sticky in
+    let came : c.args.lines.now.stop ≡ None → MuxCame g.S.Source.left g.S.Source.faults c.args.lines.now new c.multiplex.result =
+    λ going. (let t = i.taken going in ended_came g.S.Source.left g.S.Source.faults c.args.lines.now now new n records c.multiplex.result t (next_line g.S.Source.left g.S.Source.faults g.S.Source.same now new n e t.going) took.0 took.1 makes) in
+    record {
+      block = λ going. let t = i.taken going in ended_read g.S.Source.left c.args.lines.now now new n records c.multiplex.result t (next_line g.S.Source.left g.S.Source.faults g.S.Source.same now new n e t.going) took.0 took.1 makes;
+      came = came;
+      sound = came_sound g.S.Source.left g.S.Source.faults c.args.lines.now new c.multiplex.result (came going);
+      sticky = if_none _ c.args.lines.now.stop going;
+      later = omega (arith, i.later, e.later);
+      same = g.met.S.Source.same_later c.args.lines.now.source now.source new.source i.same e.same;
+    }
 
-pub returns-in-Err-take_line-clause-sound : goal.returns-in-Err-take_line-clause-sound
-returns-in-Err-take_line-clause-sound g c = grind (arith, common_steps)
+pub returns-in-Err-take_line : goal.returns-in-Err-take_line
+returns-in-Err-take_line g c =
+    let i = c.lines.invariant in
+    let now = c.lines.lines in
+    let new = c.next_record_line.new.lines in
+    let n = c.in-Ok-Some.number in
+    let e = rw c.in-Ok-Some.field-0-is at c.in-Ok-Some.ensures in
+    let took = subst (λ (l : List ℕ). TookLine c.lines.records.items n (found_line l) c.take_line.new.records.items (Err c.in-Err-take_line.stop)) c.line.ensures c.in-Err-take_line.ensures in
+    record {
+      block = λ going. let t = i.taken going in line_read g.S.Source.left c.args.lines.now now new n c.lines.records.items c.take_line.new.records.items c.in-Err-take_line.stop t (next_line g.S.Source.left g.S.Source.faults g.S.Source.same now new n e t.going) took;
+      came = λ going. let t = i.taken going in line_came g.S.Source.left g.S.Source.faults c.args.lines.now now new n c.lines.records.items c.take_line.new.records.items c.in-Err-take_line.stop t (next_line g.S.Source.left g.S.Source.faults g.S.Source.same now new n e t.going) took;
+      sound = tt;
+      sticky = if_none _ c.args.lines.now.stop (no_stop_on c.args.lines.now.stop (Some n) c.args.lines.now now new refl i.stuck e.sticky);
+      later = omega (arith, i.later, e.later);
+      same = g.met.S.Source.same_later c.args.lines.now.source now.source new.source i.same e.same;
+    }
 
-pub returns-in-Err-take_line-clause-sticky : goal.returns-in-Err-take_line-clause-sticky
-returns-in-Err-take_line-clause-sticky g c = grind (arith, common_steps)
-
-pub returns-in-Err-take_line-clause-later : goal.returns-in-Err-take_line-clause-later
-returns-in-Err-take_line-clause-later g c = grind (arith, common_steps)
-
-pub returns-in-Err-take_line-clause-same : goal.returns-in-Err-take_line-clause-same
-returns-in-Err-take_line-clause-same g c = grind (arith, common_steps)
-
-pub returns-in-Ok-None-clause-block : goal.returns-in-Ok-None-clause-block
-returns-in-Ok-None-clause-block g c = grind (arith, common_steps)
-
-pub returns-in-Ok-None-clause-came : goal.returns-in-Ok-None-clause-came
-returns-in-Ok-None-clause-came g c = λ going.
+pub returns-in-Ok-None : goal.returns-in-Ok-None
+returns-in-Ok-None g c =
+    let i = c.lines.invariant in
+    let now = c.lines.lines in
+    let new = c.next_record_line.new.lines in
     let e = rw c.in-Ok-None.field-0-is at c.in-Ok-None.ensures in
-    let t = c.lines.invariant.taken going in
-    end_came g.S.Source.left g.S.Source.faults c.args.lines.now c.lines.lines c.next_record_line.new.lines c.lines.records.list.items _ t (e.came t.going) refl
+    record {
+      block = λ going. let t = i.taken going in end_read g.S.Source.left c.args.lines.now now new c.lines.records.items t (e.records t.going);
+      came = λ going. let t = i.taken going in end_came g.S.Source.left g.S.Source.faults c.args.lines.now now new c.lines.records.items _ t (e.came t.going) refl;
+      sound = tt;
+      sticky = if_none _ c.args.lines.now.stop (no_stop_on c.args.lines.now.stop None c.args.lines.now now new refl i.stuck e.sticky);
+      later = omega (arith, i.later, e.later);
+      same = g.met.S.Source.same_later c.args.lines.now.source now.source new.source i.same e.same;
+    }
 
-pub returns-in-Ok-None-clause-sound : goal.returns-in-Ok-None-clause-sound
-returns-in-Ok-None-clause-sound g c = grind (arith, common_steps)
-
-pub returns-in-Ok-None-clause-sticky : goal.returns-in-Ok-None-clause-sticky
-returns-in-Ok-None-clause-sticky g c = grind (arith, common_steps)
-
-pub returns-in-Ok-None-clause-later : goal.returns-in-Ok-None-clause-later
-returns-in-Ok-None-clause-later g c = grind (arith, common_steps)
-
-pub returns-in-Ok-None-clause-same : goal.returns-in-Ok-None-clause-same
-returns-in-Ok-None-clause-same g c = grind (arith, common_steps)
-
-pub returns-in-Err-clause-block : goal.returns-in-Err-clause-block
-returns-in-Err-clause-block g c = grind (arith, common_steps)
-
-pub returns-in-Err-clause-sound : goal.returns-in-Err-clause-sound
-returns-in-Err-clause-sound g c = grind (arith, common_steps)
-
-pub returns-in-Err-clause-sticky : goal.returns-in-Err-clause-sticky
-returns-in-Err-clause-sticky g c = grind (arith, common_steps)
-
-pub returns-in-Err-clause-later : goal.returns-in-Err-clause-later
-returns-in-Err-clause-later g c = grind (arith, common_steps)
-
-pub returns-in-Err-clause-same : goal.returns-in-Err-clause-same
-returns-in-Err-clause-same g c = grind (arith, common_steps)
+pub returns-in-Err : goal.returns-in-Err
+returns-in-Err g c =
+    let i = c.lines.invariant in
+    let now = c.lines.lines in
+    let new = c.next_record_line.new.lines in
+    let e = c.in-Err.ensures in
+    record {
+      block = λ going. let t = i.taken going in stop_read g.S.Source.left c.args.lines.now now new c.lines.records.items c.in-Err.stop t (e.records t.going);
+      came = λ going. let t = i.taken going in stop_came g.S.Source.left g.S.Source.faults c.args.lines.now now new c.lines.records.items c.in-Err.stop t (e.came t.going) i.later;
+      sound = tt;
+      sticky = read_sticky c.args.lines.now.stop c.in-Err.stop c.args.lines.now now new refl i.stuck e.sticky;
+      later = omega (arith, i.later, e.later);
+      same = g.met.S.Source.same_later c.args.lines.now.source now.source new.source i.same e.same;
+    }

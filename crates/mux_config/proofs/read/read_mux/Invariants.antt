@@ -1,8 +1,6 @@
 use Rattle.std.proofs.Common.{◌≡◌, ◌≤◌}
 use Rattle.std.specs.Prelude.{None, IfSome}
 use Rattle.si_causes.specs.Reading.{room}
-use Rattle.mux_config.specs.Fine.{AreFine}
-use Rattle.mux_config.specs.Index.{IsIndexed}
 use Rattle.mux_config.proofs.Reading.{Taken}
 use Rattle.mux_config.proofs.read.read_mux.Given as goal
 
@@ -12,9 +10,7 @@ invariant-lines g l =
       stuck : IfSome l.fn.lines.stop (λ stop. l.lines ≡ l.fn.lines);
       same : g.S.Source.same l.fn.lines.source l.lines.source;
       later : g.S.Source.faults l.fn.lines.source ≤ g.S.Source.faults l.lines.source;
-      fine : AreFine l.records.list.items;
-      indexed : IsIndexed l.records.list.items l.records;
-      taken : l.fn.lines.stop ≡ None → Taken g.S.Source.left l.fn.lines l.lines l.records.list.items;
+      taken : l.fn.lines.stop ≡ None → Taken g.S.Source.left l.fn.lines l.lines l.records.items;
     }
 
 abbrev pub decreases-lines : goal.decreases-lines

@@ -1,16 +1,15 @@
 -- What reading from the lines ahead tells, of a text that the source tells and of the bytes that it gave.
-use Rattle.std.specs.Prelude.{◌≡◌, ◌⊎◌, ℕ, ◌+◌, false, List, [], ◌∷◌, ◌++◌, length, Option, Some, None, Ok, Err, Result}
-use Rattle.si_causes.specs.Reading.{Reading, text_left}
+use Rattle.std.specs.Prelude.{◌≡◌, ◌⊎◌, ℕ, ◌+◌, ◌≤◌, ◌<◌, false, List, [], ◌∷◌, ◌++◌, length, Option, Some, None, Ok, Err, Result, IfOk, IfSome, OnOk}
+use Rattle.std.specs.Io.KnownBytes.{IsAtEnd}
+use Rattle.si_causes.specs.Reading.{Reading, room, text_left}
 use Rattle.si_causes.specs.Causes.{Rose}
 use Rattle.si_causes.specs.declared.stop.ReadStop.{ReadStop}
 use Rattle.si_causes.specs.declared.stop.ReadStop.TheVariants.{Failed, TooLong as Overlong}
 use Rattle.input_lines.specs.Lines.{record_lines}
 use Rattle.input_lines.specs.Going.{HandedOut, HasEnded, NoneCame, WereWhole}
-use Rattle.journal_model.specs.declared.edit.Edit.{Edit}
-use Rattle.feed_edits.specs.declared.stop.EditStop.{EditStop}
-use Rattle.feed_edits.specs.declared.stop.EditStop.TheVariants.{NoCommand as Refused, Read, Memory}
-use Rattle.feed_edits.specs.Ahead.{Ahead, Tail, Ends, Breaks, Exceeds, Found, Came, Stopped, Stop, End, NoCommand, TooLong, Unread, ahead}
-use Rattle.feed_edits.specs.Edits.{first_edit}
+use Rattle.input_lines.specs.declared.stop.EditStop.{EditStop}
+use Rattle.input_lines.specs.declared.stop.EditStop.TheVariants.{NoCommand as Refused, Read, Memory}
+use Rattle.input_lines.specs.Ahead.{Ahead, Tail, Ends, Breaks, Exceeds, Found, Came, Stopped, Stop, End, NoCommand, TooLong, Unread, ahead}
 
 -- Of a told text another is left, and what `first` reads of the one is what `next` reads of the other.
 pub record Leaves {S T : Type 0} (left : S → Option (List ℕ)) (first next : Ahead → Found T) (old new : Reading S) (text : List ℕ) : Type 0 where
@@ -25,12 +24,6 @@ Gives left first old new text (Err (Refused n)) = first (ahead old text) ≡ Sto
 Gives left first old new text (Err (Read Overlong)) = first (ahead old text) ≡ Stopped TooLong
 Gives left first old new text (Err (Read Failed)) = Unit {0}
 Gives left first old new text (Err Memory) = Unit {0}
-
--- the same of the next edit, where there may be none
-abbrev pub GivesNext : {S : Type 0} → (S → Option (List ℕ)) → Reading S → Reading S → List ℕ → Result (Option Edit) EditStop → Type 0
-GivesNext left old new text (Ok (Some edit)) = Leaves left first_edit (Came edit) old new text
-GivesNext left old new text (Ok None) = (first_edit (ahead old text) ≡ Stopped End) × (text_left left new ≡ Some [])
-GivesNext left old new text (Err stop) = Gives left first_edit old new text (Err stop)
 
 -- these lines are ahead of a reader, and then this
 abbrev pub ahead_with : {S : Type 0} → Reading S → List (List ℕ) → Tail → Ahead
@@ -83,11 +76,6 @@ Takes left faults first old new (Err (Read Overlong)) = new.stop ≡ Some Overlo
 Takes left faults first old new (Err (Read Failed)) = Faulted left faults first old new
 Takes left faults first old new (Err Memory) = Looked left first old new
 
-abbrev pub TakesNext : {S : Type 0} → (S → Option (List ℕ)) → (S → ℕ) → Reading S → Reading S → Result (Option Edit) EditStop → Type 0
-TakesNext left faults old new (Ok (Some edit)) = Passes left first_edit (Came edit) old new
-TakesNext left faults old new (Ok None) = NoneCame left old new
-TakesNext left faults old new (Err stop) = Takes left faults first_edit old new (Err stop)
-
 -- what line n is, or the refusal of it
 abbrev pub Says : {T : Type 0} → ℕ → Option T → Result T EditStop → Type 0
 Says n found (Ok value) = found ≡ Some value
@@ -112,3 +100,37 @@ ReadsStopped first stop (Ok value) = first (none_ahead stop) ≡ Came value (non
 ReadsStopped first stop (Err (Refused n)) = first (none_ahead stop) ≡ Stopped (NoCommand n)
 ReadsStopped first stop (Err (Read s)) = (s ≡ stop) × (first (none_ahead stop) ≡ Stopped (stopped_by stop))
 ReadsStopped first stop (Err Memory) = Unit {0}
+
+-- ---- what a call tells
+
+-- A call read a value as `first` reads it of the lines ahead, or it says why not.
+pub record ReadOf {S T : Type 0} (left : S → Option (List ℕ)) (faults : S → ℕ) (alike : S → S → Type 0) (first : Ahead → Found T) (old new : Reading S) (result : Result T EditStop) : Type 0 where
+  pub gives : old.stop ≡ None → (text : List ℕ) → text_left left old ≡ Some text → Gives left first old new text result
+  pub takes : old.stop ≡ None → Takes left faults first old new result
+  pub stopped : IfSome old.stop (λ stop. ReadsStopped first stop result)
+  pub sticky : IfSome old.stop (λ stop. new ≡ old)
+  pub goes_on : OnOk result (room new ≤ room old)
+  pub later : faults old.source ≤ faults new.source
+  pub same : alike old.source new.source
+
+-- the next value was read of a told text, or there is none, or exactly this stop comes
+abbrev pub GivesNext : {S T : Type 0} → (S → Option (List ℕ)) → (Ahead → Found T) → Reading S → Reading S → List ℕ → Result (Option T) EditStop → Type 0
+GivesNext left first old new text (Ok (Some value)) = Leaves left first (Came value) old new text
+GivesNext left first old new text (Ok None) = (first (ahead old text) ≡ Stopped End) × (text_left left new ≡ Some [])
+GivesNext {T = T} left first old new text (Err stop) = Gives {T = T} left first old new text (Err stop)
+
+abbrev pub TakesNext : {S T : Type 0} → (S → Option (List ℕ)) → (S → ℕ) → (Ahead → Found T) → Reading S → Reading S → Result (Option T) EditStop → Type 0
+TakesNext left faults first old new (Ok (Some value)) = Passes left first (Came value) old new
+TakesNext left faults first old new (Ok None) = NoneCame left old new
+TakesNext {T = T} left faults first old new (Err stop) = Takes {T = T} left faults first old new (Err stop)
+
+-- A call read the next value as `first` reads it of the lines ahead, or none exactly at the end, or it says why not. Behind a value
+-- less of the text is left, and a reader that has stopped gives its stop.
+pub record NextOf {S T : Type 0} (left : S → Option (List ℕ)) (faults : S → ℕ) (alike : S → S → Type 0) (first : Ahead → Found T) (old new : Reading S) (result : Result (Option T) EditStop) : Type 0 where
+  pub gives : old.stop ≡ None → (text : List ℕ) → text_left left old ≡ Some text → GivesNext left first old new text result
+  pub takes : old.stop ≡ None → TakesNext left faults first old new result
+  pub falls : IfOk result (λ found. IfSome found (λ value. room new < room old))
+  pub sticky : IfSome old.stop (λ stop. (result ≡ Err (Read stop)) × (new ≡ old))
+  pub at_end : result ≡ Ok None → IsAtEnd (left new.source)
+  pub later : faults old.source ≤ faults new.source
+  pub same : alike old.source new.source

@@ -1,5 +1,5 @@
 -- Records whose fields are in their ranges.
-use Rattle.std.specs.Prelude.{◌≡◌, ◌≢◌, ℕ, ◌*◌, ◌<◌, ◌≤◌, List, length, map, None}
+use Rattle.std.specs.Prelude.{◌≢◌, ℕ, ◌*◌, ◌<◌, ◌≤◌, List, length, map}
 use Rattle.std.specs.List.{AllByRecursion}
 use Rattle.guide_model.specs.declared.stream.Component.{Component}
 use Rattle.si_text.specs.Coding.{coded_size}
@@ -10,7 +10,7 @@ use Rattle.mux_config.specs.declared.record.RecordFound.{RecordFound}
 use Rattle.mux_config.specs.declared.record.RecordFound.TheVariants.{Is}
 use Rattle.mux_model.specs.Sound.{AreDifferent, Between, DoAscend, IsSoundCable, IsSoundComponent, pmt_pids}
 use Rattle.mux_config.specs.declared.record.Numbered.{Numbered}
-use Rattle.mux_config.specs.Block.{all_of, first_line, has_id, has_pid, has_pmt, holds, part_in, service_in, sorted}
+use Rattle.mux_config.specs.Block.{all_of, part_in, service_in, sorted}
 
 -- a service, but for its components
 pub record IsFineService (s : MuxService) : Type 0 where
@@ -50,15 +50,8 @@ IsApart cs s = AllByRecursion (λ (c : Component). s.pmt_pid ≢ c.pid) cs
 pub record AreFine (rs : List Numbered) : Type 0 where
   pub each : AllByRecursion (λ (r : Numbered). IsFine r.says) rs
   pub count : length (in_order rs) ≤ 64
-  pub services : AllByRecursion IsFineService (in_order rs)
   pub ascend : DoAscend (in_order rs)
   pub pmts : AreDifferent (pmt_pids (in_order rs))
   pub few : (id : ℕ) → length (parts_in id rs) ≤ 16
-  pub components : (id : ℕ) → AllByRecursion IsSoundComponent (parts_in id rs)
   pub once : (id : ℕ) → AreDifferent (map (λ (c : Component). c.pid) (parts_in id rs))
   pub apart : (id : ℕ) → AllByRecursion (IsApart (parts_in id rs)) (in_order rs)
-  -- what is not found is not there
-  pub ids : (id : ℕ) → first_line (has_id id) rs ≡ None → AllByRecursion (λ (s : MuxService). id ≢ s.service) (in_order rs)
-  pub pmt_pids : (pid : ℕ) → first_line (has_pmt pid) rs ≡ None → AllByRecursion (λ (s : MuxService). pid ≢ s.pmt_pid) (in_order rs)
-  pub pids : (pid id : ℕ) → first_line (has_pid pid) rs ≡ None → AllByRecursion (λ (c : Component). pid ≢ c.pid) (parts_in id rs)
-  pub own : (pid id : ℕ) → first_line (holds id pid) rs ≡ None → AllByRecursion (λ (c : Component). c.pid ≢ pid) (parts_in id rs)

@@ -1,0 +1,182 @@
+// Kinds of records, and what a record repeats of those before it. A description has at most 1,093 records, so each is held against all
+// before it.
+ghost use Rattle.std.specs.Prelude.{◌≡◌, ◌||◌, not, nat_le, length, option_copied};
+ghost use Rattle.std.specs.Option.{option_or, is_some};
+ghost use Rattle.std.specs.List.{count_by, find, list_any};
+ghost use Rattle.mux_config.specs.declared.record.Numbered.{Numbered};
+ghost use Rattle.mux_config.specs.Block.{all_of, has_no_place, repeated_at, first_line, has_id, has_pmt, has_pid, has_part, part_in, service_in};
+ghost use Rattle.mux_config.specs.Kinds.{is_of};
+
+use crate::record::{Numbered, Record};
+use crate::whole::part_of;
+
+/// The most services of a multiplex, and the most components of a service.
+const MOST_SERVICES: usize = 64;
+
+const MOST_PARTS: usize = 16;
+
+// A kind of records: those that come once; services with an id, those whose PMT has a PID, and components that have it; and those that
+// hold a PID as a PMT or in a service.
+#[derive(Clone, Copy)]
+pub(crate) enum Kind {
+    Networks,
+    Streams,
+    Deliveries,
+    Starts,
+    Quotas,
+    Ids(u16),
+    Pmts(u16),
+    Pids(u16),
+    Holders(u16, u16),
+}
+
+// Whether a record is of a kind.
+pub(crate) fn is_of_kind(kind: Kind, says: &Record) -> bool
+    ensures { result ≡ is_of kind says.now }
+{
+    match kind {
+        Kind::Networks => matches!(says, Record::Network(_, _)),
+        Kind::Streams => matches!(says, Record::Stream(_, _)),
+        Kind::Deliveries => matches!(says, Record::Delivery(_)),
+        Kind::Starts => matches!(says, Record::Start(_)),
+        Kind::Quotas => matches!(says, Record::Quota(_)),
+        Kind::Ids(id) => has_id(id, says),
+        Kind::Pmts(pid) => has_pmt(pid, says),
+        Kind::Pids(pid) => has_pid(pid, says),
+        Kind::Holders(id, pid) => has_pmt(pid, says) || has_part(id, pid, says),
+    }
+}
+
+fn has_id(id: u16, says: &Record) -> bool
+    ensures { result ≡ has_id id says.now }
+{
+    match says {
+        Record::Service(service) => service.service == id,
+        _ => false,
+    }
+}
+
+fn has_pmt(pid: u16, says: &Record) -> bool
+    ensures { result ≡ has_pmt pid says.now }
+{
+    match says {
+        Record::Service(service) => service.pmt_pid == pid,
+        _ => false,
+    }
+}
+
+fn has_pid(pid: u16, says: &Record) -> bool
+    ensures { result ≡ has_pid pid says.now }
+{
+    match says {
+        Record::Part(_, component) => component.pid == pid,
+        _ => false,
+    }
+}
+
+fn has_part(id: u16, pid: u16, says: &Record) -> bool
+    ensures { result ≡ has_part id pid says.now }
+{
+    match says {
+        Record::Part(service, component) => *service == id && component.pid == pid,
+        _ => false,
+    }
+}
+
+/// The first record of a kind.
+pub(crate) fn first_of(kind: Kind, records: &[Numbered]) -> Option<&Numbered>
+    ensures { option_copied result ≡ find (λ (r : Numbered). is_of kind r.says) records.now }
+{
+    records.iter().find(
+        |r: &&Numbered| -> bool
+            ensures { result ≡ is_of kind r.now.now.says }
+        { is_of_kind(kind, &r.says) },
+    )
+}
+
+// The line of the first record of a kind.
+fn first_line(kind: Kind, records: &[Numbered]) -> Option<u64>
+    ensures { result ≡ first_line (is_of kind) records.now }
+{
+    match first_of(kind, records) {
+        Some(found) => Some(found.line),
+        None => None,
+    }
+}
+
+// How many services there are.
+fn count_services(records: &[Numbered]) -> usize
+    ensures { result ≡ count_by (λ (r : Numbered). is_some (service_in r.says)) records.now }
+{
+    records
+        .iter()
+        .filter(|r| matches!(r.says, Record::Service(_)))
+        .count()
+}
+
+// How many components a service has.
+fn count_parts(id: u16, records: &[Numbered]) -> usize
+    ensures { result ≡ count_by (λ (r : Numbered). is_some (part_in id r.says)) records.now }
+{
+    records
+        .iter()
+        .filter(|r| part_of(id, &r.says).is_some())
+        .count()
+}
+
+fn has_service(id: u16, records: &[Numbered]) -> bool
+    ensures { result ≡ list_any (λ (r : Numbered). has_id id r.says) records.now }
+{
+    records.iter().any(|r| has_id(id, &r.says))
+}
+
+// Whether there is no service with this id, or it has as many components as it may have.
+fn lacks_room(id: u16, records: &[Numbered]) -> bool
+    ensures { result ≡ (not (list_any (λ (r : Numbered). has_id id r.says) records.now) || nat_le 16 (length (all_of (part_in id) records.now))) }
+{
+    if has_service(id, records) {
+        MOST_PARTS <= count_parts(id, records)
+    } else {
+        true
+    }
+}
+
+/// Whether a record has no place behind these.
+pub(crate) fn has_no_place(records: &[Numbered], says: &Record) -> bool
+    ensures { result ≡ has_no_place records.now says.now }
+{
+    match says {
+        Record::Service(_) => MOST_SERVICES <= count_services(records),
+        Record::Part(id, _) => lacks_room(*id, records),
+        _ => false,
+    }
+}
+
+// The first line that has what a service with this id and this PMT PID repeats.
+fn service_at(id: u16, pmt_pid: u16, records: &[Numbered]) -> Option<u64>
+    ensures { result ≡ option_or (first_line (has_id id) records.now) (option_or (first_line (has_pmt pmt_pid) records.now) (first_line (has_pid pmt_pid) records.now)) }
+{
+    if let Some(line) = first_line(Kind::Ids(id), records) {
+        return Some(line);
+    }
+    if let Some(line) = first_line(Kind::Pmts(pmt_pid), records) {
+        return Some(line);
+    }
+    first_line(Kind::Pids(pmt_pid), records)
+}
+
+/// The first line that has what a record repeats.
+pub(crate) fn repeated_at(records: &[Numbered], says: &Record) -> Option<u64>
+    ensures { result ≡ repeated_at records.now says.now }
+{
+    match says {
+        Record::Network(_, _) => first_line(Kind::Networks, records),
+        Record::Stream(_, _) => first_line(Kind::Streams, records),
+        Record::Delivery(_) => first_line(Kind::Deliveries, records),
+        Record::Start(_) => first_line(Kind::Starts, records),
+        Record::Quota(_) => first_line(Kind::Quotas, records),
+        Record::Service(service) => service_at(service.service, service.pmt_pid, records),
+        Record::Part(id, component) => first_line(Kind::Holders(*id, component.pid), records),
+        Record::End => None,
+    }
+}
