@@ -3,13 +3,13 @@ use Rattle.std.proofs.Common.{◌≡◌, ℕ, ◌+◌, ◌-◌, ◌/◌, ◌≤�
 use Rattle.std.specs.Prelude.{flat_map, slice_range}
 use Rattle.std.specs.List.{AllByRecursion, cons_option}
 use Rattle.std.proofs.lemmas.List.{map-append, take-map, drop-map, take-take, drop-take}
+use Rattle.si_lists.proofs.Lists.{all_front}
 use Rattle.si_lists.proofs.Parts.{le_either}
 use Rattle.section_codec.specs.declared.table.Key.{Key}
 use Rattle.section_codec.specs.Contents.{Content}
-use Rattle.version_book.specs.Airings.{Airing, content_at, version_at}
+use Rattle.version_book.specs.Airings.{AiredTables, content_at, version_at}
 use Rattle.ts_packets.specs.Bytes.{Packet, bytes_of_packet}
 use Rattle.ts_demux.specs.Sections.{heard_all}
-use Rattle.ts_demux.proofs.Windows.{all-front}
 use Rattle.sub_collect.specs.Runs.{Counted, completed}
 use Rattle.sub_collect.specs.Completions.{of_key, done_at, completion_at, completion, completions}
 use Rattle.sub_collect.specs.declared.completed.Completed.{Completed}
@@ -75,7 +75,7 @@ module _ (k : Key) (low high : ℕ) (all : List Aired) where
       let push : map section_of next ≡ map section_of done ++ t.section ∷ [] = map-append section_of done (t ∷ []) in
       let rest : AllByRecursion P (completions (map section_of done ++ t.section ∷ []) (map section_of ts)) =
       subst (λ (l : List Counted). AllByRecursion P (completions l (map section_of ts))) push (each_completion P holds next ts each_next steady_next) in
-      here P holds next (all-front (IsToldOf k low high all) next ts each_next) (steady_front k next ts steady_next)
+      here P holds next (all_front (IsToldOf k low high all) next ts each_next) (steady_front k next ts steady_next)
       (map section_of done ++ t.section ∷ []) push (completions (map section_of done ++ t.section ∷ []) (map section_of ts)) rest
       (completion (map section_of done ++ t.section ∷ [])) refl
     where
@@ -87,7 +87,7 @@ module _ (k : Key) (low high : ℕ) (all : List Aired) where
 
 -- ---- an air
 
-module _ (airings : List Airing) (xs : List Aired) (is : IsRepeatingAirOf airings xs) (can : AllByRecursion CanBeHeard airings) where
+module _ (airings : List AiredTables) (xs : List Aired) (is : IsRepeatingAirOf airings xs) (can : AllByRecursion CanBeHeard airings) where
   pub cans : AllByRecursion CanBeHeard (airings_of xs)
   cans = subst (AllByRecursion CanBeHeard) (sym is.airings_are) can
 
@@ -147,7 +147,7 @@ module _ (airings : List Airing) (xs : List Aired) (is : IsRepeatingAirOf airing
 
 -- ---- a front of an air
 
-front_part : {X : Type 0} (n join end : ℕ) (l : List X) → end ≤ n → slice_range (take n l) join end ≡ slice_range l join end
+pub front_part : {X : Type 0} (n join end : ℕ) (l : List X) → end ≤ n → slice_range (take n l) join end ≡ slice_range l join end
 front_part n join end l le = go (le_either join n)
   where
     go : (join ≤ n) ⊎ (n ≤ join) → slice_range (take n l) join end ≡ slice_range l join end
@@ -160,7 +160,7 @@ front_part n join end l le = go (le_either join n)
         let none : end - join ≡ 0 = omega (arith, le, more) in
         ap (λ m. take m (drop join (take n l))) none ∙ sym (ap (λ m. take m (drop join l)) none)
 
-part-map : {X Y : Type 0} (f : X → Y) (join end : ℕ) (l : List X) → slice_range (map f l) join end ≡ map f (slice_range l join end)
+pub part-map : {X Y : Type 0} (f : X → Y) (join end : ℕ) (l : List X) → slice_range (map f l) join end ≡ map f (slice_range l join end)
 part-map f join end l = ap (take (end - join)) (drop-map f join l) ∙ take-map f (end - join) (drop join l)
 
 pub air_is_coherent : AirIsCoherent
@@ -179,10 +179,10 @@ pub packets_joined : (ps : List Packet) → flat_map bytes_of_packet ps ≡ join
 packets_joined [] = refl
 packets_joined (p ∷ ps) = ap (λ (t : List ℕ). bytes_of_packet p ++ t) (packets_joined ps)
 
-pub front_is_coherent : FrontIsCoherent
-front_is_coherent airings xs is can n =
-    let l : List (List ℕ) = map bytes_of_packet (air xs) in
-    let are : whole_packets (take n (air_bytes xs)) ≡ take (n / 188) l =
+pub front_packets : (airings : List AiredTables) (xs : List Aired) → IsRepeatingAirOf airings xs → (n : ℕ) → whole_packets (take n (air_bytes xs)) ≡ take (n / 188) (map bytes_of_packet (air xs))
+front_packets airings xs is n =
     ap (λ (bytes : List ℕ). whole_packets (take n bytes)) (packets_joined (air xs))
-    ∙ whole_packets-front l n (packets_whole (air xs) (repeating-whole airings xs is)) in
-    subst (IsCoherent xs) (sym are) (air_is_coherent airings xs is can (n / 188))
+    ∙ whole_packets-front (map bytes_of_packet (air xs)) n (packets_whole (air xs) (repeating-whole airings xs is))
+
+pub front_is_coherent : FrontIsCoherent
+front_is_coherent airings xs is can n = subst (IsCoherent xs) (sym (front_packets airings xs is n)) (air_is_coherent airings xs is can (n / 188))

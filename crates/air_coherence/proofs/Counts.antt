@@ -4,7 +4,7 @@ use Rattle.std.specs.Prelude.{if◌then◌else◌, cond, filter_map, option_map,
 use Rattle.std.specs.List.{AllByRecursion, cons_option}
 use Rattle.std.proofs.lemmas.List.Elements.{filter-append, filter_map-append}
 use Rattle.std.proofs.lemmas.Bool.Decides.{nat_tests}
-use Rattle.si_lists.proofs.Lists.{all_append}
+use Rattle.si_lists.proofs.Lists.{all_append, all_front, all_behind}
 use Rattle.section_codec.specs.declared.section.Section.{Section}
 use Rattle.section_codec.specs.declared.section.Section.TheVariants.{Long, Short}
 use Rattle.section_codec.specs.declared.section.BadSection.{BadSection}
@@ -20,7 +20,6 @@ use Rattle.ts_demux.specs.Laws.{within}
 use Rattle.ts_demux.specs.Sections.{sections_on, heard_all}
 use Rattle.ts_demux.proofs.Adding.{order_kept}
 use Rattle.ts_demux.proofs.Parts.{all-within}
-use Rattle.ts_demux.proofs.Windows.{all-front, all-behind}
 use Rattle.sub_collect.specs.Runs.{Counted, counted}
 use Rattle.sub_collect.specs.Completions.{is_of, of_key}
 use Rattle.heard_completions.specs.Counting.{is_counted, is_body_of_table, counted_by, counted_in, counted_among}
@@ -54,8 +53,8 @@ apart : (k : Key) (P : Counted → Type 0) (bs : List (List ℕ)) → AllByRecur
 apart k P [] all = tt
 apart k P (b ∷ bs) all =
     let both = subst (AllByRecursion P) (key_heard-append k (b ∷ []) bs) all in (
-      all-front P (key_heard k (b ∷ [])) (key_heard k bs) both,
-      apart k P bs (all-behind P (key_heard k (b ∷ [])) (key_heard k bs) both),
+      all_front P (key_heard k (b ∷ [])) (key_heard k bs) both,
+      apart k P bs (all_behind P (key_heard k (b ∷ [])) (key_heard k bs) both),
     )
 
 together : (k : Key) (P : Counted → Type 0) (bs : List (List ℕ))

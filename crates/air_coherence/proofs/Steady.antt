@@ -8,7 +8,7 @@ use Rattle.si_lists.proofs.Truths.{first_true, second_true}
 use Rattle.section_codec.specs.declared.table.Key.{Key}
 use Rattle.section_codec.specs.Contents.{Content, is_content}
 use Rattle.section_codec.proofs.SameContent.{is_content-same}
-use Rattle.version_book.specs.Airings.{Airing, content_at, carried, changes, version_at}
+use Rattle.version_book.specs.Airings.{AiredTables, content_at, carried, changes, version_at}
 use Rattle.version_book.specs.Book.{GivenVersion, kept_after}
 use Rattle.version_book.specs.Slots.{next_version}
 use Rattle.version_book.proofs.Versions.{carried-push}
@@ -100,7 +100,7 @@ behind_cycle k (Some kept) c before x (s ∷ ss) rest is are h none = (
 
 module _ (k : Key) (counted : is_counted k.pid k.table ≡ true) where
   -- it has a section of each key that it carries
-  some_heard : (past : List Airing) (x : Aired) (xs : List Aired) (h : RepeatingCycles past (x ∷ xs)) → CanBeHeard x.airing → (c : Content) → content_at k x.airing ≡ Some c
+  some_heard : (past : List AiredTables) (x : Aired) (xs : List Aired) (h : RepeatingCycles past (x ∷ xs)) → CanBeHeard x.airing → (c : Content) → content_at k x.airing ≡ Some c
       → (low high : ℕ) → low ≡ 0 → length (h.0.carried k.pid).groups ≤ high → part_told k past x h.0 low high ≡ [] → Prim.⊥
   some_heard past x xs h can c is low high first whole none =
       let own : Carries (of_pid k.pid x.packets) (filter_map (sent_on k.pid) h.0.sections) = h.0.carried k.pid in
@@ -110,35 +110,35 @@ module _ (k : Key) (counted : is_counted k.pid k.table ≡ true) where
       (subst (HoldAll c) (sym all ∙ none) (block-complete past x.airing can k c is counted h.0.sections h.0.are))
 
   -- what is kept with one airing more
-  kept-none : (past : List Airing) (a : Airing) → content_at k a ≡ None → kept_after (carried k (past ++ a ∷ [])) ≡ kept_after (carried k past)
+  kept-none : (past : List AiredTables) (a : AiredTables) → content_at k a ≡ None → kept_after (carried k (past ++ a ∷ [])) ≡ kept_after (carried k past)
   kept-none past a e =
       ap kept_after (carried-push k past a ∙ ap (λ (o : Option Content). carried k past ++ option_to_list o) e ∙ append-nil (carried k past))
 
-  one_more : (past : List Airing) (a : Airing) (c : Content) → content_at k a ≡ Some c → carried k (past ++ a ∷ []) ≡ carried k past ++ c ∷ []
+  one_more : (past : List AiredTables) (a : AiredTables) (c : Content) → content_at k a ≡ Some c → carried k (past ++ a ∷ []) ≡ carried k past ++ c ∷ []
   one_more past a c e = carried-push k past a ∙ ap (λ (o : Option Content). carried k past ++ option_to_list o) e
 
-  pub kept-some : (past : List Airing) (a : Airing) (c : Content) → content_at k a ≡ Some c
+  pub kept-some : (past : List AiredTables) (a : AiredTables) (c : Content) → content_at k a ≡ Some c
       → kept_after (carried k (past ++ a ∷ [])) ≡ Some (record { version = next_version (kept_after (carried k past)) c; content = c })
   kept-some past a c e = ap kept_after (one_more past a c e) ∙ kept_after-push (carried k past) c
 
-  pub version-some : (past : List Airing) (a : Airing) (c : Content) → content_at k a ≡ Some c → version_at k (past ++ a ∷ []) ≡ next_version (kept_after (carried k past)) c
+  pub version-some : (past : List AiredTables) (a : AiredTables) (c : Content) → content_at k a ≡ Some c → version_at k (past ++ a ∷ []) ≡ next_version (kept_after (carried k past)) c
   version-some past a c e = ap (λ (cs : List Content). changes cs % 32) (one_more past a c e) ∙ next_version-is (carried k past) c
 
   -- what follows a cycle that carries the key
-  next_of : (past : List Airing) (x : Aired) (c : Content) → content_at k x.airing ≡ Some c → (rest : List Told)
+  next_of : (past : List AiredTables) (x : Aired) (c : Content) → content_at k x.airing ≡ Some c → (rest : List Told)
       → Behind k (kept_after (carried k (past ++ x.airing ∷ []))) rest → Follows k (next_version (kept_after (carried k past)) c) (content_at k x.airing) rest
   next_of past x c is rest next =
       subst (λ (o : Option Content). Follows k (next_version (kept_after (carried k past)) c) o rest) (sym is)
       (subst (λ (o : Option GivenVersion). Behind k o rest) (kept-some past x.airing c is) next)
 
-  versions_of : (past : List Airing) (x : Aired) (c : Content) → content_at k x.airing ≡ Some c → (ss : List Counted)
+  versions_of : (past : List AiredTables) (x : Aired) (c : Content) → content_at k x.airing ≡ Some c → (ss : List Counted)
       → AllByRecursion (IsWith k (version_at k (past ++ x.airing ∷ [])) c) ss → AreOfVersion (next_version (kept_after (carried k past)) c) ss
   versions_of past x c is ss all =
       all_map (IsWith k (version_at k (past ++ x.airing ∷ [])) c) (λ (s : Counted). s.version ≡ next_version (kept_after (carried k past)) c)
       (λ s h. h.1 ∙ version-some past x.airing c is) ss all
 
   -- a part that begins with the first of these cycles
-  from_first : (past : List Airing) (before xs : List Aired) (h : RepeatingCycles past xs) → AllByRecursion CanBeHeard (airings_of xs) → (low high : ℕ) → low ≡ 0
+  from_first : (past : List AiredTables) (before xs : List Aired) (h : RepeatingCycles past xs) → AllByRecursion CanBeHeard (airings_of xs) → (low high : ℕ) → low ≡ 0
       → Behind k (kept_after (carried k past)) (told_by k past before xs h low high)
   from_first past before [] h can low high first = behind_none k (kept_after (carried k past))
   from_first past before (x ∷ xs) h can low high first =
@@ -171,7 +171,7 @@ module _ (k : Key) (counted : is_counted k.pid k.table ≡ true) where
           (next_of past x c is rest next) (empty c is place)
 
   -- any part
-  pub steady_told : (past : List Airing) (before xs : List Aired) (h : RepeatingCycles past xs) → AllByRecursion CanBeHeard (airings_of xs) → (low high : ℕ)
+  pub steady_told : (past : List AiredTables) (before xs : List Aired) (h : RepeatingCycles past xs) → AllByRecursion CanBeHeard (airings_of xs) → (low high : ℕ)
       → IsSteady k (told_by k past before xs h low high)
   steady_told past before [] h can low high = tt
   steady_told past before (x ∷ xs) h can low high =

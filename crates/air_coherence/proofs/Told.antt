@@ -7,7 +7,7 @@ use Rattle.std.proofs.lemmas.List.{map-append}
 use Rattle.si_lists.proofs.Lists.{all_append}
 use Rattle.section_codec.specs.declared.table.Key.{Key}
 use Rattle.section_codec.specs.Contents.{Content}
-use Rattle.version_book.specs.Airings.{Airing, content_at, version_at}
+use Rattle.version_book.specs.Airings.{AiredTables, content_at, version_at}
 use Rattle.ts_packets.specs.Packets.{Carries}
 use Rattle.ts_packets.specs.Bytes.{Packet}
 use Rattle.ts_packets.specs.Counting.{of_pid}
@@ -40,10 +40,10 @@ abbrev pub told_each : List Aired → Aired → List Counted → List Told
 told_each before x ss = map (told_of before x) ss
 
 -- the sections of a key in a part of the packets of its PID, cycle by cycle
-abbrev pub part_told : Key → (past : List Airing) (x : Aired) → IsRepeatingCycle past x → ℕ → ℕ → List Counted
+abbrev pub part_told : Key → (past : List AiredTables) (x : Aired) → IsRepeatingCycle past x → ℕ → ℕ → List Counted
 part_told k past x h low high = key_heard k (within low high (h.carried k.pid).groups)
 
-abbrev pub told_by : (k : Key) (past : List Airing) (before xs : List Aired) → RepeatingCycles past xs → ℕ → ℕ → List Told
+abbrev pub told_by : (k : Key) (past : List AiredTables) (before xs : List Aired) → RepeatingCycles past xs → ℕ → ℕ → List Told
 told_by k past before [] h low high = []
 told_by k past before (x ∷ xs) h low high =
     told_each before x (part_told k past x h.0 low high)
@@ -54,7 +54,7 @@ sections_each before x [] = refl
 sections_each before x (s ∷ ss) = ap (λ (l : List Counted). s ∷ l) (sections_each before x ss)
 
 -- they are those heard
-pub sections_told : (k : Key) (past : List Airing) (before xs : List Aired) (h : RepeatingCycles past xs) (low high : ℕ)
+pub sections_told : (k : Key) (past : List AiredTables) (before xs : List Aired) (h : RepeatingCycles past xs) (low high : ℕ)
     → map section_of (told_by k past before xs h low high) ≡ key_heard k (within low high (groups_by k.pid past xs h))
 sections_told k past before [] h low high = ap (key_heard k) (sym (within-none low high [] (inr (omega arith))))
 sections_told k past before (x ∷ xs) h low high =
@@ -70,7 +70,7 @@ sections_told k past before (x ∷ xs) h low high =
     ∙ ap (key_heard k) (sym (within-append low high gs hs own.ended))
 
 -- no packet, no section
-pub none_told : (k : Key) (past : List Airing) (before xs : List Aired) (h : RepeatingCycles past xs) (low high : ℕ) → high ≤ low
+pub none_told : (k : Key) (past : List AiredTables) (before xs : List Aired) (h : RepeatingCycles past xs) (low high : ℕ) → high ≤ low
     → told_by k past before xs h low high ≡ []
 none_told k past before [] h low high le = refl
 none_told k past before (x ∷ xs) h low high le =
@@ -87,7 +87,7 @@ nothing : (ss : List Counted) → AllByRecursion (λ (s : Counted). Prim.⊥) ss
 nothing [] all = refl
 nothing (s ∷ ss) all = absurd all.0
 
-module _ (k : Key) (past : List Airing) (x : Aired) (h : IsRepeatingCycle past x) (can : CanBeHeard x.airing) where
+module _ (k : Key) (past : List AiredTables) (x : Aired) (h : IsRepeatingCycle past x) (can : CanBeHeard x.airing) where
   -- all sections of the key
   abbrev own : Carries (of_pid k.pid x.packets) (filter_map (sent_on k.pid) h.sections)
   own = h.carried k.pid
@@ -144,7 +144,7 @@ further : (low n part size m : ℕ) → part ≡ low - n → m ≡ n + size → 
 further low n part size m e f = omega (arith, e, f)
 
 module _ (k : Key) (low high : ℕ) (all : List Aired) where
-  each_part : (past : List Airing) (before : List Aired) (x : Aired) (after : List Aired) (h : IsRepeatingCycle past x) → CanBeHeard x.airing
+  each_part : (past : List AiredTables) (before : List Aired) (x : Aired) (after : List Aired) (h : IsRepeatingCycle past x) → CanBeHeard x.airing
       → airings_of before ≡ past → all ≡ before ++ x ∷ after → (part end : ℕ) → part ≡ low - before_on k before → end ≡ high - before_on k before
       → AllByRecursion (IsToldOf k low high all) (told_each before x (part_told k past x h part end))
   each_part past before x after h can are cut part end e f = go (content_at k x.airing) refl (some_part part end own.groups)
@@ -164,7 +164,7 @@ module _ (k : Key) (low high : ℕ) (all : List Aired) where
             cut = cut;
             content = c;
             carries = g;
-            is = subst (λ (l : List Airing). IsWith k (version_at k (l ++ x.airing ∷ [])) c s) (sym are) ok.0;
+            is = subst (λ (l : List AiredTables). IsWith k (version_at k (l ++ x.airing ∷ [])) c s) (sym are) ok.0;
             numbered = numbered_of past x.airing can k c g;
             reaches = reached low (before_on k before) part (length (of_pid k.pid x.packets)) e lt;
             begins = (begun low high (before_on k before) part end e f less).0;
@@ -182,7 +182,7 @@ module _ (k : Key) (low high : ℕ) (all : List Aired) where
       go (Some c) g (inr some) =
           one c g (subst (λ (n : ℕ). part < n) size some.0) some.1 (part_told k past x h part end) (part_sound k past x h can c g part end)
 
-  pub each_told : (past : List Airing) (before xs : List Aired) (h : RepeatingCycles past xs) → AllByRecursion CanBeHeard (airings_of xs)
+  pub each_told : (past : List AiredTables) (before xs : List Aired) (h : RepeatingCycles past xs) → AllByRecursion CanBeHeard (airings_of xs)
       → airings_of before ≡ past → all ≡ before ++ xs → (part end : ℕ) → part ≡ low - before_on k before → end ≡ high - before_on k before
       → AllByRecursion (IsToldOf k low high all) (told_by k past before xs h part end)
   each_told past before [] h can are cut part end e f = tt
@@ -196,7 +196,7 @@ module _ (k : Key) (low high : ℕ) (all : List Aired) where
       (told_by k (past ++ x.airing ∷ []) (before ++ x ∷ []) xs h.1 (part - n) (end - n))
       (each_part past before x xs h.0 can.0 are cut part end e f)
       (each_told (past ++ x.airing ∷ []) (before ++ x ∷ []) xs h.1 can.1
-      (airings_of-push before x ∙ ap (λ (l : List Airing). l ++ x.airing ∷ []) are)
+      (airings_of-push before x ∙ ap (λ (l : List AiredTables). l ++ x.airing ∷ []) are)
       (cut ∙ sym (append_assoc before (x ∷ []) xs)) (part - n) (end - n)
       (further low (before_on k before) part n (before_on k (before ++ x ∷ [])) e more)
       (further high (before_on k before) end n (before_on k (before ++ x ∷ [])) f more))

@@ -3,7 +3,7 @@ use Rattle.std.specs.Prelude.{◌≡◌, ℕ, ◌≤◌, List, [], ◌∷◌, �
 use Rattle.std.specs.List.{AllByRecursion}
 use Rattle.std.specs.Io.KnownBytes.{Appends}
 use Rattle.section_codec.specs.declared.table.Key.{Key}
-use Rattle.version_book.specs.Airings.{Airing, content_at}
+use Rattle.version_book.specs.Airings.{AiredTables, content_at}
 use Rattle.sub_collect.specs.Completions.{of_key, completions}
 use Rattle.sub_collect.specs.declared.completed.Completed.{Completed}
 use Rattle.heard_completions.specs.Dones.{counted_heard}
@@ -38,9 +38,9 @@ IsCoherent xs packets = (join end : ℕ) → end ≤ length packets → IsCohere
 
 -- What was sent, from before to now, are the first bytes of an air of the first of these airings, each section in packets of its own, and its
 -- whole packets are coherent.
-pub record SentCoherent (airings : List Airing) (before now : Option (List ℕ)) : Type 0 where
+pub record SentCoherent (airings : List AiredTables) (before now : Option (List ℕ)) : Type 0 where
   pub cycles : List Aired
-  pub others : List Airing
+  pub others : List AiredTables
   pub airings_are : airings ≡ airings_of cycles ++ others
   pub is_air : IsAirOf (airings_of cycles) cycles
   pub made : AreMade [] cycles

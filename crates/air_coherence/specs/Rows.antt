@@ -6,7 +6,7 @@ use Rattle.section_codec.specs.declared.table.Key.{Key}
 use Rattle.section_codec.specs.declared.table.SubTable.{SubTable}
 use Rattle.section_codec.specs.declared.table.Tier3.TheVariants.{Fast}
 use Rattle.section_codec.specs.Contents.{Content}
-use Rattle.version_book.specs.Airings.{Airing}
+use Rattle.version_book.specs.Airings.{AiredTables}
 use Rattle.ts_packets.specs.Bytes.{Packet, bytes_of_packet}
 use Rattle.sub_collect.specs.declared.completed.Completed.{Completed}
 use Rattle.air_model.specs.Making.{cycle_alone}
@@ -26,7 +26,7 @@ both first second = record { number = 0; body = of first } ∷ record { number =
 abbrev table_of : Content → SubTable
 table_of content = record { key = sdt; tier = Fast; sections = content }
 
-abbrev airing_of : Content → Airing
+abbrev airing_of : Content → AiredTables
 airing_of content = record { tables = table_of content ∷ []; moment = 4257233100; form = record { quota = 200 } }
 
 -- a cycle of three packets: the two sections, and the TDT

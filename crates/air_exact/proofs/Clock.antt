@@ -9,7 +9,7 @@ use Rattle.si_time.proofs.RoundTrips.{moment_from_bcd-moment_bcd}
 use Rattle.section_codec.specs.Section.{section_in}
 use Rattle.time_tables.specs.Tdt.{tdt_section}
 use Rattle.time_tables.proofs.Sections.{tdt-is_a_section}
-use Rattle.version_book.specs.Airings.{Airing}
+use Rattle.version_book.specs.Airings.{AiredTables}
 use Rattle.ts_packets.specs.Bytes.{bytes_of_packet}
 use Rattle.ts_demux.specs.declared.section.RawSection.{RawSection}
 use Rattle.ts_demux.specs.Sections.{heard_all, bytes_on}
@@ -75,7 +75,7 @@ some_moment before after r at told none =
     go [] e = cc
     go (x ∷ xs) e = cc
 
-pub clock_heard : (airings : List Airing) (before : List Aired) (x : Aired) (after : List Aired) → IsRepeatingAirOf airings (before ++ x ∷ after) → AllByRecursion CanBeHeard airings
+pub clock_heard : (airings : List AiredTables) (before : List Aired) (x : Aired) (after : List Aired) → IsRepeatingAirOf airings (before ++ x ∷ after) → AllByRecursion CanBeHeard airings
     → (join end : ℕ) → join ≤ length (air before) → length (air before) + length x.packets ≤ end → x.airing.moment < 65536 * 86400
     → (at : ℕ) × (clock_of (heard_all [] (map bytes_of_packet (slice_range (air (before ++ x ∷ after)) join end))) ≡ Some at)
 clock_heard airings before x after is can join end joined whole within =

@@ -7,7 +7,7 @@ use Rattle.std.proofs.lemmas.List.Concat.{flat_map-append}
 use Rattle.si_lists.proofs.Parts.{lt_or, chosen-fewer}
 use Rattle.section_codec.specs.declared.table.SubTable.{SubTable}
 use Rattle.section_codec.specs.Contents.{Content}
-use Rattle.version_book.specs.Airings.{Airing, content_in as content_among, version_at}
+use Rattle.version_book.specs.Airings.{AiredTables, content_in as content_among, version_at}
 use Rattle.ts_packets.specs.Packets.{Carries, all_of}
 use Rattle.ts_packets.specs.Bytes.{Packet}
 use Rattle.ts_packets.specs.Counting.{piece_on, of_pid}
@@ -31,7 +31,7 @@ use Rattle.air_exact.proofs.Ends.{CarryWhileHeard, ends_whole, ends_completed}
 
 -- ---- a cycle among others
 
-cycle_at : (past : List Airing) (before : List Aired) (x : Aired) (after : List Aired) → RepeatingCycles past (before ++ x ∷ after) → (p : List Airing) × IsRepeatingCycle p x
+cycle_at : (past : List AiredTables) (before : List Aired) (x : Aired) (after : List Aired) → RepeatingCycles past (before ++ x ∷ after) → (p : List AiredTables) × IsRepeatingCycle p x
 cycle_at past [] x after h = (past, h.0)
 cycle_at past (y ∷ before) x after h = cycle_at (past ++ y.airing ∷ []) before x after h.1
 
@@ -40,7 +40,7 @@ can_at [] x after can = can.0
 can_at (y ∷ before) x after can = can_at before x after can.1
 
 -- it has a packet: that of its time
-some_packet : (past : List Airing) (x : Aired) → IsRepeatingCycle past x → 0 < length x.packets
+some_packet : (past : List AiredTables) (x : Aired) → IsRepeatingCycle past x → 0 < length x.packets
 some_packet past x h =
     let own : Carries (of_pid 0x0014 x.packets) (filter_map (sent_on 0x0014) h.sections) = h.carried 0x0014 in
     let has = contains-sent h.sections (tdt x.airing.moment) h.are.time in

@@ -10,7 +10,7 @@ use Rattle.section_codec.specs.declared.table.Key.{Key}
 use Rattle.section_codec.specs.declared.table.NumberedBody.{NumberedBody}
 use Rattle.section_codec.specs.Contents.{Content}
 use Rattle.section_codec.proofs.SameContent.{is_content-itself}
-use Rattle.version_book.specs.Airings.{Airing, content_at, carried, version_at}
+use Rattle.version_book.specs.Airings.{AiredTables, content_at, carried, version_at}
 use Rattle.version_book.specs.Book.{GivenVersion, kept_after}
 use Rattle.version_book.specs.Slots.{next_version}
 use Rattle.ts_packets.specs.Packets.{Carries}
@@ -177,13 +177,13 @@ module _ (k : Key) (counted : is_counted k.pid k.table ≡ true) (c : Content) w
   late_each v before x (s ∷ ss) is all = ((is, all.0), late_each v before x ss is all.1)
 
   -- the version that the content keeps
-  same_version : (past : List Airing) (a : Airing) (v : ℕ) → kept_after (carried k past) ≡ Some (record { version = v; content = c }) → content_at k a ≡ Some c
+  same_version : (past : List AiredTables) (a : AiredTables) (v : ℕ) → kept_after (carried k past) ≡ Some (record { version = v; content = c }) → content_at k a ≡ Some c
       → version_at k (past ++ a ∷ []) ≡ v
   same_version past a v kept is =
       version-some k counted past a c is ∙ ap (λ (o : Option GivenVersion). next_version o c) kept
       ∙ ap (λ (b : Bool). if b then v else (v + 1) % 32) (is_content-itself c)
 
-  still_kept : (past : List Airing) (a : Airing) (v : ℕ) → kept_after (carried k past) ≡ Some (record { version = v; content = c }) → content_at k a ≡ Some c
+  still_kept : (past : List AiredTables) (a : AiredTables) (v : ℕ) → kept_after (carried k past) ≡ Some (record { version = v; content = c }) → content_at k a ≡ Some c
       → kept_after (carried k (past ++ a ∷ [])) ≡ Some (record { version = v; content = c })
   still_kept past a v kept is =
       kept-some k counted past a c is
@@ -191,7 +191,7 @@ module _ (k : Key) (counted : is_counted k.pid k.table ≡ true) (c : Content) w
       (ap (λ (o : Option GivenVersion). next_version o c) kept ∙ ap (λ (b : Bool). if b then v else (v + 1) % 32) (is_content-itself c))
 
   -- what is heard of later cycles
-  late_told : (v : ℕ) (past : List Airing) (before xs : List Aired) (h : RepeatingCycles past xs) → AllByRecursion CanBeHeard (airings_of xs) → (low high : ℕ) → low ≡ 0
+  late_told : (v : ℕ) (past : List AiredTables) (before xs : List Aired) (h : RepeatingCycles past xs) → AllByRecursion CanBeHeard (airings_of xs) → (low high : ℕ) → low ≡ 0
       → kept_after (carried k past) ≡ Some (record { version = v; content = c }) → CarryWhileHeard high xs → AllByRecursion (IsLate k c v) (told_by k past before xs h low high)
   late_told v past before [] h can low high first kept carry = tt
   late_told v past before (x ∷ xs) h can low high first kept carry = go (lt_or 0 high)
@@ -224,7 +224,7 @@ module _ (k : Key) (counted : is_counted k.pid k.table ≡ true) (c : Content) w
           (more is)
 
   -- what is heard of a cycle that is heard whole, behind others and before others
-  pub ends_whole : (past : List Airing) (done before : List Aired) (x : Aired) (after : List Aired) (h : RepeatingCycles past (before ++ x ∷ after))
+  pub ends_whole : (past : List AiredTables) (done before : List Aired) (x : Aired) (after : List Aired) (h : RepeatingCycles past (before ++ x ∷ after))
       → AllByRecursion CanBeHeard (airings_of (before ++ x ∷ after)) → content_at k x.airing ≡ Some c → (low high : ℕ) → low ≤ length (of_pid k.pid (air before))
       → length (of_pid k.pid (air before)) + length (of_pid k.pid x.packets) ≤ high
       → CarryWhileHeard (high - (length (of_pid k.pid (air before)) + length (of_pid k.pid x.packets))) after
@@ -251,7 +251,7 @@ module _ (k : Key) (counted : is_counted k.pid k.table ≡ true) (c : Content) w
       map-append section_of (told_each done x here) rest ∙ ap (λ (l : List Counted). l ++ map section_of rest) (sections_each done x here) in
       let holds : HoldAll c (here ++ map section_of rest) =
       hold_more c here (map section_of rest) (subst (HoldAll c) (sym all) (block-complete past x.airing can.0 k c is counted h.0.sections h.0.are)) in
-      subst (λ (l : List Airing). EndsWhole k c (version_at k (l ++ x.airing ∷ [])) (told_each done x here ++ rest)) (sym (append-nil past))
+      subst (λ (l : List AiredTables). EndsWhole k c (version_at k (l ++ x.airing ∷ [])) (told_each done x here ++ rest)) (sym (append-nil past))
       (record {
         front = [];
         last = told_each done x here ++ rest;
@@ -270,7 +270,7 @@ module _ (k : Key) (counted : is_counted k.pid k.table ≡ true) (c : Content) w
       let r = ends_whole (past ++ y.airing ∷ []) (done ++ y ∷ []) before x after h.1 can.1 is (low - n) (high - n)
       (let le : low - n ≤ a = omega (arith, size, both, under) in le) (let le : a + b ≤ high - n = omega (arith, size, both, over) in le)
       (subst (λ (m : ℕ). CarryWhileHeard m after) (sym left) carry) in
-      subst (λ (l : List Airing). EndsWhole k c (version_at k (l ++ x.airing ∷ [])) (told_by k past done (y ∷ (before ++ x ∷ after)) h low high))
+      subst (λ (l : List AiredTables). EndsWhole k c (version_at k (l ++ x.airing ∷ [])) (told_by k past done (y ∷ (before ++ x ∷ after)) h low high))
       (append_assoc past (y.airing ∷ []) (airings_of before))
       (with_front k c (version_at k (((past ++ y.airing ∷ []) ++ airings_of before) ++ x.airing ∷ [])) (told_each done y (part_told k past y h.0 low high))
       (told_by k (past ++ y.airing ∷ []) (done ++ y ∷ []) (before ++ x ∷ after) h.1 (low - n) (high - n)) r)

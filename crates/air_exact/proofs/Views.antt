@@ -8,7 +8,7 @@ use Rattle.section_codec.specs.declared.table.SubTable.{SubTable}
 use Rattle.section_codec.specs.Contents.{Content}
 use Rattle.section_codec.specs.KeyOrder.{is_key}
 use Rattle.section_codec.proofs.KeyOrderFacts.{is_key-same}
-use Rattle.version_book.specs.Airings.{Airing, content_at, content_in as content_among}
+use Rattle.version_book.specs.Airings.{AiredTables, content_at, content_in as content_among}
 use Rattle.ts_packets.specs.Bytes.{bytes_of_packet}
 use Rattle.sub_collect.specs.Completions.{latest_of, dones}
 use Rattle.sub_collect.specs.declared.completed.Completed.{Completed}
@@ -30,7 +30,7 @@ use Rattle.air_exact.proofs.Clock.{clock_heard}
 
 -- ---- keys of airings
 
-element_at : (P : Airing → Type 0) (before : List Aired) (x : Aired) (after : List Aired) → AllByRecursion P (airings_of (before ++ x ∷ after)) → P x.airing
+pub element_at : (P : AiredTables → Type 0) (before : List Aired) (x : Aired) (after : List Aired) → AllByRecursion P (airings_of (before ++ x ∷ after)) → P x.airing
 element_at P [] x after all = all.0
 element_at P (y ∷ before) x after all = element_at P before x after all.1
 
@@ -52,7 +52,7 @@ some_done (Some d) c e = (d, refl)
 
 -- ---- the view
 
-module _ (airings : List Airing) (before : List Aired) (x : Aired) (after : List Aired) (is : IsRepeatingAirOf airings (before ++ x ∷ after)) (can : AllByRecursion CanBeHeard airings)
+module _ (airings : List AiredTables) (before : List Aired) (x : Aired) (after : List Aired) (is : IsRepeatingAirOf airings (before ++ x ∷ after)) (can : AllByRecursion CanBeHeard airings)
     (join end : ℕ) (stays : StaysOnAir join end before x after) where
   abbrev packets : List (List ℕ)
   packets = map bytes_of_packet (slice_range (air (before ++ x ∷ after)) join end)
@@ -77,7 +77,7 @@ module _ (airings : List Airing) (before : List Aired) (x : Aired) (after : List
       one d aired =
           let all = subst (λ (ys : List Aired). IsOnlyKey test k (airings_of ys)) aired.cut (subst (IsOnlyKey test k) (sym is.airings_are) only) in
           key_carried (λ (q : Key). test q ≡ true → q ≡ k) d.key aired.cycle.airing.tables
-          (element_at (λ (a : Airing). AllByRecursion (λ (t : SubTable). test t.key ≡ true → t.key ≡ k) a.tables) aired.before aired.cycle aired.after all) d.sections aired.content
+          (element_at (λ (a : AiredTables). AllByRecursion (λ (t : SubTable). test t.key ≡ true → t.key ≡ k) a.tables) aired.before aired.cycle aired.after all) d.sections aired.content
 
 pub on_air_heard : OnAirIsHeard
 on_air_heard airings before x after is can join end stays within pat nit sdt once =

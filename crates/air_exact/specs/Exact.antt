@@ -4,7 +4,7 @@ use Rattle.std.specs.List.{AllByRecursion}
 use Rattle.section_codec.specs.declared.table.Key.{Key}
 use Rattle.section_codec.specs.declared.table.SubTable.{SubTable}
 use Rattle.section_codec.specs.Contents.{Content}
-use Rattle.version_book.specs.Airings.{Airing, content_at}
+use Rattle.version_book.specs.Airings.{AiredTables, content_at}
 use Rattle.heard_completions.specs.Counting.{is_counted}
 use Rattle.guide_receiver.specs.Latest.{is_pat_key, is_nit_key, is_sdt_key}
 use Rattle.guide_screen.specs.View.{View}
@@ -19,17 +19,17 @@ pub record StaysOnAir (join end : ℕ) (before : List Aired) (x : Aired) (after 
   pub same : (one two : List Aired) (y : Aired) → after ≡ one ++ y ∷ two → HasPacketIn join end (length (air (before ++ x ∷ one))) y → y.airing.tables ≡ x.airing.tables
 
 -- each key of these airings that passes the test is this one
-abbrev pub IsOnlyKey : (Key → Bool) → Key → List Airing → Type 0
-IsOnlyKey test k airings = AllByRecursion (λ (a : Airing). AllByRecursion (λ (t : SubTable). test t.key ≡ true → t.key ≡ k) a.tables) airings
+abbrev pub IsOnlyKey : (Key → Bool) → Key → List AiredTables → Type 0
+IsOnlyKey test k airings = AllByRecursion (λ (a : AiredTables). AllByRecursion (λ (t : SubTable). test t.key ≡ true → t.key ≡ k) a.tables) airings
 
 -- an airing carries this key, which receivers count and which passes the test
-pub record IsCarried (test : Key → Bool) (k : Key) (a : Airing) : Type 0 where
+pub record IsCarried (test : Key → Bool) (k : Key) (a : AiredTables) : Type 0 where
   pub passes : test k ≡ true
   pub counted : is_counted k.pid k.table ≡ true
   pub some : IsSome (content_at k a)
 
 -- Of the tables that come once these airings have no others than these, and this airing has them.
-pub record HaveOneEach (airings : List Airing) (a : Airing) (pat nit sdt : Key) : Type 0 where
+pub record HaveOneEach (airings : List AiredTables) (a : AiredTables) (pat nit sdt : Key) : Type 0 where
   pub pats : IsOnlyKey is_pat_key pat airings
   pub nits : IsOnlyKey is_nit_key nit airings
   pub sdts : IsOnlyKey (is_sdt_key sdt.ext) sdt airings
@@ -39,7 +39,7 @@ pub record HaveOneEach (airings : List Airing) (a : Airing) (pat nit sdt : Key) 
 
 -- What was heard is what this airing sends: the contents of its sub-tables, whatever else was heard; of the tables that come once their keys;
 -- and a moment.
-pub record HasOnAir (a : Airing) (pat nit sdt : Key) (V : View) : Type 0 where
+pub record HasOnAir (a : AiredTables) (pat nit sdt : Key) (V : View) : Type 0 where
   pub content : (k : Key) (c : Content) → is_counted k.pid k.table ≡ true → content_at k a ≡ Some c → V.content k ≡ Some c
   pub pat_is : V.pat ≡ Some pat
   pub nit_is : V.nit ≡ Some nit

@@ -3,7 +3,7 @@ use Rattle.std.specs.Prelude.{◌≡◌, ℕ, ◌*◌, ◌<◌, List, ◌∷◌,
 use Rattle.std.specs.List.{AllByRecursion}
 use Rattle.section_codec.specs.declared.table.Key.{Key}
 use Rattle.section_codec.specs.Contents.{Content}
-use Rattle.version_book.specs.Airings.{Airing, content_at}
+use Rattle.version_book.specs.Airings.{AiredTables, content_at}
 use Rattle.ts_packets.specs.Bytes.{bytes_of_packet}
 use Rattle.heard_completions.specs.Counting.{is_counted}
 use Rattle.heard_completions.specs.Dones.{counted_heard}
@@ -18,13 +18,13 @@ use Rattle.air_exact.specs.Exact.{StaysOnAir, HaveOneEach, HasOnAir}
 -- one that it carries, whatever was heard before.
 abbrev pub ContentsAreHeard : Type 0
 ContentsAreHeard =
-    (airings : List Airing) (before : List Aired) (x : Aired) (after : List Aired) → IsRepeatingAirOf airings (before ++ x ∷ after) → AllByRecursion CanBeHeard airings
+    (airings : List AiredTables) (before : List Aired) (x : Aired) (after : List Aired) → IsRepeatingAirOf airings (before ++ x ∷ after) → AllByRecursion CanBeHeard airings
     → (join end : ℕ) → StaysOnAir join end before x after → (k : Key) → is_counted k.pid k.table ≡ true → (c : Content) → content_at k x.airing ≡ Some c
     → content_in (counted_heard (map bytes_of_packet (slice_range (air (before ++ x ∷ after)) join end))) k ≡ Some c
 
 -- So a receiver has what is on air, where of the tables that come once all airings have the same: the contents, the keys, and a moment.
 abbrev pub OnAirIsHeard : Type 0
 OnAirIsHeard =
-    (airings : List Airing) (before : List Aired) (x : Aired) (after : List Aired) → IsRepeatingAirOf airings (before ++ x ∷ after) → AllByRecursion CanBeHeard airings
+    (airings : List AiredTables) (before : List Aired) (x : Aired) (after : List Aired) → IsRepeatingAirOf airings (before ++ x ∷ after) → AllByRecursion CanBeHeard airings
     → (join end : ℕ) → StaysOnAir join end before x after → x.airing.moment < 65536 * 86400 → (pat nit sdt : Key) → HaveOneEach airings x.airing pat nit sdt
     → HasOnAir x.airing pat nit sdt (view_of (map bytes_of_packet (slice_range (air (before ++ x ∷ after)) join end)))

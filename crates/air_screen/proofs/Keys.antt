@@ -1,5 +1,5 @@
 -- The keys of the tables of a publication.
-use Rattle.std.proofs.Common.{◌≡◌, ℕ, ◌<◌, ◌≤◌, ◌⊎◌, inl, inr, true, refl, ap, arith}
+use Rattle.std.proofs.Common.{◌≡◌, ◌≤◌, ◌⊎◌, inl, inr, true, refl, ap, arith}
 use Rattle.std.specs.List.{AllByRecursion}
 use Rattle.std.proofs.lemmas.Bool.Decides.{nat_tests}
 use Rattle.si_lists.proofs.Lists.{all_map, each_unit}
@@ -8,27 +8,11 @@ use Rattle.mux_model.specs.declared.mux.Mux.{Mux}
 use Rattle.mux_model.specs.Sound.{IsSound, IsSoundService}
 use Rattle.section_codec.specs.declared.table.Key.{Key}
 use Rattle.section_codec.specs.declared.table.SubTable.{SubTable}
-use Rattle.heard_completions.specs.Counting.{is_counted}
 use Rattle.guide_receiver.specs.Latest.{is_pat_key, is_nit_key, is_sdt_key}
 use Rattle.publication.specs.Network.{nit_key}
 use Rattle.publication.specs.Programs.{pat_key}
 use Rattle.publication.specs.Tables.{sdt_key, tables_of}
 use Rattle.publication.proofs.FitFacts.{each_pmt, each_sub_table}
-use Rattle.heard_completions.proofs.Tables.{schedules_counted, pmts_counted}
-
-abbrev IsCounted : SubTable → Type 0
-IsCounted t = is_counted t.key.pid t.key.table ≡ true
-
--- receivers count all sub-tables of a publication
-pub published_counted : (mux : Mux) (guide : Guide) → IsSound mux → AllByRecursion (λ (t : SubTable). is_counted t.key.pid t.key.table ≡ true) (tables_of mux guide)
-published_counted mux guide sound =
-    each_sub_table IsCounted (λ s. Unit {0}) mux guide (each_unit guide.services)
-    refl
-    (each_pmt IsCounted IsSoundService (λ s is. pmts_counted s.pmt_pid is.pmt_pid.0 is.pmt_pid.1) mux.services sound.services)
-    refl
-    refl
-    (λ s q. refl)
-    (λ s table q above below. schedules_counted table above below)
 
 -- ---- the tables that come once
 

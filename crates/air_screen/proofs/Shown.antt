@@ -2,18 +2,17 @@
 use Rattle.std.proofs.Common.{◌≡◌, ℕ, ◌<◌, List, [], ◌∷◌, ◌++◌, true, false, Option, Some, None, length, map, refl, sym, ap, ◌∙◌, subst, append_assoc, eq-eqb}
 use Rattle.std.specs.Prelude.{◌*◌, slice_range, IsSome}
 use Rattle.std.specs.List.{AllByRecursion}
-use Rattle.si_lists.proofs.Lists.{all_two}
+use Rattle.si_lists.proofs.Lists.{all_two, all_behind}
 use Rattle.guide_model.specs.declared.guide.Guide.{Guide}
 use Rattle.mux_model.specs.declared.mux.Mux.{Mux}
 use Rattle.mux_model.specs.Sound.{IsSoundWithIds}
 use Rattle.section_codec.specs.declared.table.Key.{Key}
 use Rattle.section_codec.specs.declared.table.SubTable.{SubTable}
 use Rattle.section_codec.specs.Contents.{Content}
-use Rattle.version_book.specs.Airings.{Airing, content_at, content_in}
+use Rattle.version_book.specs.Airings.{AiredTables, content_at, content_in}
 use Rattle.version_book.proofs.Airs.{AreOwn-all}
 use Rattle.ts_packets.specs.Bytes.{bytes_of_packet}
 use Rattle.ts_demux.specs.Sections.{heard_all}
-use Rattle.ts_demux.proofs.Windows.{all-behind}
 use Rattle.nit_sdt.specs.Nit.{NitReadsBack}
 use Rattle.nit_sdt.specs.Sdt.{SdtReadsBack}
 use Rattle.guide_screen.specs.View.{View}
@@ -30,16 +29,14 @@ use Rattle.publication.specs.Network.{nit_key, nit_table}
 use Rattle.publication.specs.Programs.{pat_key, pat_table, pmt_tables}
 use Rattle.publication.specs.Tables.{sdt_key, sdt_table, present_tables, all_near_tables, all_far_tables, tables_of}
 use Rattle.publication_screen.specs.Shown.{HasPublication}
+use Rattle.publication.proofs.CountedFacts.{published_counted}
 use Rattle.publication_screen.proofs.Whole.{publication_is_shown}
 use Rattle.air_screen.specs.Published.{CanBePublished, ArePublished, number_at, StaysPublished, AreShown}
 use Rattle.air_screen.specs.Laws.{PublishedIsShown}
-use Rattle.air_screen.proofs.Keys.{published_counted, only_pat, only_nit, only_sdt}
+use Rattle.air_screen.proofs.Keys.{only_pat, only_nit, only_sdt}
 use Rattle.air_exact.proofs.Contents.{can_at}
 
 -- ---- the publication of an airing
-
-abbrev Tables : Airing → List SubTable
-Tables a = a.tables
 
 -- the tables of the airing with this place
 tables_at : (mux : Mux) (guides : ℕ → Guide) (numbers : List ℕ) (before : List Aired) (x : Aired) (after : List Aired)
@@ -48,17 +45,17 @@ tables_at mux guides [] [] x after e = cc
 tables_at mux guides (n ∷ numbers) [] x after e = (let first : x.airing.tables ≡ tables_of mux (guides n) = cc in first)
 tables_at mux guides [] (y ∷ before) x after e = cc
 tables_at mux guides (n ∷ numbers) (y ∷ before) x after e =
-    let rest : map Tables (airings_of (before ++ x ∷ after)) ≡ map (λ (m : ℕ). tables_of mux (guides m)) numbers = cc in
+    let rest : ArePublished mux guides numbers (airings_of (before ++ x ∷ after)) = cc in
     tables_at mux guides numbers before x after rest
 
 -- what holds of the tables of each publication holds of each airing
-each_published : (P : List SubTable → Type 0) (mux : Mux) (guides : ℕ → Guide) → ((n : ℕ) → P (tables_of mux (guides n))) → (numbers : List ℕ) (airings : List Airing)
-    → ArePublished mux guides numbers airings → AllByRecursion (λ (a : Airing). P a.tables) airings
+each_published : (P : List SubTable → Type 0) (mux : Mux) (guides : ℕ → Guide) → ((n : ℕ) → P (tables_of mux (guides n))) → (numbers : List ℕ) (airings : List AiredTables)
+    → ArePublished mux guides numbers airings → AllByRecursion (λ (a : AiredTables). P a.tables) airings
 each_published P mux guides holds numbers [] e = tt
 each_published P mux guides holds [] (a ∷ airings) e = cc
 each_published P mux guides holds (n ∷ numbers) (a ∷ airings) e =
     let first : a.tables ≡ tables_of mux (guides n) = cc in
-    let rest : map Tables airings ≡ map (λ (m : ℕ). tables_of mux (guides m)) numbers = cc in
+    let rest : ArePublished mux guides numbers airings = cc in
     (subst P (sym first) (holds n), each_published P mux guides holds numbers airings rest)
 
 some_clock : (o : Option ℕ) → IsSome o → (clock : ℕ) × (o ≡ Some clock)
@@ -67,7 +64,7 @@ some_clock (Some at) some = (at, refl)
 
 -- ---- what is shown
 
-module _ (nit_back : NitReadsBack) (sdt_back : SdtReadsBack) (mux : Mux) (guides : ℕ → Guide) (numbers : List ℕ) (airings : List Airing) (sound : IsSoundWithIds mux)
+module _ (nit_back : NitReadsBack) (sdt_back : SdtReadsBack) (mux : Mux) (guides : ℕ → Guide) (numbers : List ℕ) (airings : List AiredTables) (sound : IsSoundWithIds mux)
     (can_publish : (n : ℕ) → CanBePublished mux (guides n)) (are : ArePublished mux guides numbers airings) (can : AllByRecursion CanBeHeard airings)
     (before : List Aired) (x : Aired) (after : List Aired) (is : IsRepeatingAirOf airings (before ++ x ∷ after)) where
   abbrev guide : Guide
@@ -103,7 +100,7 @@ module _ (nit_back : NitReadsBack) (sdt_back : SdtReadsBack) (mux : Mux) (guides
 
   others_found : AllByRecursion Found (nit_table mux ∷ sdt_table mux guide ∷ (present_tables mux guide ++ (all_near_tables mux guide ++ all_far_tables mux guide)))
   others_found =
-      all-behind Found (pmt_tables mux) (nit_table mux ∷ sdt_table mux guide ∷ (present_tables mux guide ++ (all_near_tables mux guide ++ all_far_tables mux guide))) found.1
+      all_behind Found (pmt_tables mux) (nit_table mux ∷ sdt_table mux guide ∷ (present_tables mux guide ++ (all_near_tables mux guide ++ all_far_tables mux guide))) found.1
 
   once : HaveOneEach airings x.airing (pat_key mux) (nit_key mux) (sdt_key mux)
   once = record {

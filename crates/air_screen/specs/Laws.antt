@@ -4,7 +4,7 @@ use Rattle.std.specs.List.{AllByRecursion}
 use Rattle.guide_model.specs.declared.guide.Guide.{Guide}
 use Rattle.mux_model.specs.declared.mux.Mux.{Mux}
 use Rattle.mux_model.specs.Sound.{IsSoundWithIds}
-use Rattle.version_book.specs.Airings.{Airing}
+use Rattle.version_book.specs.Airings.{AiredTables}
 use Rattle.ts_packets.specs.Bytes.{bytes_of_packet}
 use Rattle.air_model.specs.Air.{Aired, air}
 use Rattle.air_model.specs.Repeating.{IsRepeatingAirOf}
@@ -14,7 +14,7 @@ use Rattle.air_screen.specs.Published.{CanBePublished, ArePublished, number_at, 
 -- Where a publication stays on air, the packets heard show its guide.
 abbrev pub PublishedIsShown : Type 0
 PublishedIsShown =
-    (mux : Mux) (guides : ℕ → Guide) (numbers : List ℕ) (airings : List Airing) → IsSoundWithIds mux → ((n : ℕ) → CanBePublished mux (guides n))
+    (mux : Mux) (guides : ℕ → Guide) (numbers : List ℕ) (airings : List AiredTables) → IsSoundWithIds mux → ((n : ℕ) → CanBePublished mux (guides n))
     → ArePublished mux guides numbers airings → AllByRecursion CanBeHeard airings → (before : List Aired) (x : Aired) (after : List Aired)
     → IsRepeatingAirOf airings (before ++ x ∷ after) → x.airing.moment < 65536 * 86400 → (join end : ℕ) → StaysPublished numbers join end before x after
     → AreShown mux (guides (number_at numbers (length before))) (map bytes_of_packet (slice_range (air (before ++ x ∷ after)) join end))

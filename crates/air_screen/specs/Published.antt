@@ -1,10 +1,10 @@
 -- An air of publications, and what is shown of a part of it.
-use Rattle.std.specs.Prelude.{◌≡◌, ℕ, ◌+◌, ◌≤◌, List, [], ◌∷◌, ◌++◌, length, map, slice_index, Some}
+use Rattle.std.specs.Prelude.{◌≡◌, ℕ, ◌+◌, ◌≤◌, List, [], ◌∷◌, ◌++◌, length, map, take, slice_index, Some}
 use Rattle.guide_model.specs.declared.guide.Guide.{Guide}
 use Rattle.mux_model.specs.declared.mux.Mux.{Mux}
 use Rattle.guide_limits.specs.Limits.{IsGuideWithin}
 use Rattle.eit_tables.specs.Laws.{HasTypedEvents}
-use Rattle.version_book.specs.Airings.{Airing}
+use Rattle.version_book.specs.Airings.{AiredTables}
 use Rattle.ts_demux.specs.Sections.{heard_all}
 use Rattle.guide_screen.specs.declared.need.Heard.TheVariants.{Whole}
 use Rattle.guide_receiver.specs.Latest.{clock_of}
@@ -22,9 +22,10 @@ pub record CanBePublished (mux : Mux) (guide : Guide) : Type 0 where
   pub typed : HasTypedEvents guide
   pub names : HasKeptNames mux guide
 
--- these airings have the tables of the publications with these numbers
-abbrev pub ArePublished : Mux → (ℕ → Guide) → List ℕ → List Airing → Type 0
-ArePublished mux guides numbers airings = map (λ (a : Airing). a.tables) airings ≡ map (λ (n : ℕ). tables_of mux (guides n)) numbers
+-- these airings have the tables of the publications with these numbers, or with the first of them
+abbrev pub ArePublished : Mux → (ℕ → Guide) → List ℕ → List AiredTables → Type 0
+ArePublished mux guides numbers airings =
+    map (λ (a : AiredTables). a.tables) airings ≡ map (λ (n : ℕ). tables_of mux (guides n)) (take (length airings) numbers)
 
 -- the number of the publication of the airing with this place
 abbrev pub number_at : List ℕ → ℕ → ℕ

@@ -7,10 +7,10 @@ use Rattle.air_hearing.specs.Counting.{CanBeHeard}
 use Rattle.air_coherence.specs.Coherence.{SentCoherent}
 use Rattle.air_coherence.proofs.Sent.{cycles_sent_coherent, whole_sent_coherent, cut_sent_coherent}
 use Rattle.journal_model.specs.declared.step.Entry.{Entry}
-use Rattle.headend_live.specs.declared.send.SendStop.{SendStop}
-use Rattle.headend_live.specs.declared.send.SendStop.TheVariants.{Air, Memory}
-use Rattle.headend_live.specs.Air.{airings}
-use Rattle.headend_live.specs.Live.{AirDid}
+use Rattle.headend_jobs.specs.declared.send.SendStop.{SendStop}
+use Rattle.headend_jobs.specs.declared.send.SendStop.TheVariants.{Air, Memory}
+use Rattle.journal_air.specs.Air.{airings}
+use Rattle.headend_jobs.specs.Live.{AirDid}
 
 pub air_coherent : (mux : Mux) (journal : List Entry) (before now : Option (List ℕ)) (sent : Result (Unit {0}) SendStop) → AllByRecursion CanBeHeard (airings mux journal)
     → AirDid mux journal before now sent → SentCoherent (airings mux journal) before now

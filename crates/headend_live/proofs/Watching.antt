@@ -7,15 +7,15 @@ use Rattle.std.proofs.Math.Seq.{take-append-add}
 use Rattle.std.specs.Io.KnownBytes.{Appends}
 use Rattle.mux_model.specs.declared.mux.Mux.{Mux}
 use Rattle.ts_packets.specs.Bytes.{Packet, bytes_of_packet}
-use Rattle.version_book.specs.Airings.{Airing}
+use Rattle.version_book.specs.Airings.{AiredTables}
 use Rattle.air_model.specs.Air.{Aired, IsAirOf, air, air_bytes}
 use Rattle.air_model.proofs.Airs.{air-whole, air_bytes-push}
 use Rattle.journal_model.specs.declared.step.Entry.{Entry}
 use Rattle.guide_receiver.specs.Heard.{Hearing}
 use Rattle.guide_receiver.specs.Guides.{guide_of}
 use Rattle.guide_screen.specs.declared.need.Heard.{Heard}
-use Rattle.headend_live.specs.declared.send.SendStop.{SendStop}
-use Rattle.headend_live.specs.declared.send.SendStop.TheVariants.{Air, Memory}
+use Rattle.headend_jobs.specs.declared.send.SendStop.{SendStop}
+use Rattle.headend_jobs.specs.declared.send.SendStop.TheVariants.{Air, Memory}
 use Rattle.air_monitor.specs.declared.done_line.DoneLine.{DoneLine}
 use Rattle.air_monitor.specs.Heard.{AreInSync, HasTaken, HearsBy, WasHeard, Watching, WatchedOn}
 use Rattle.ts_packets.specs.WholePackets.{AreWhole, whole_packets}
@@ -23,10 +23,10 @@ use Rattle.ts_packets.specs.Packets.{joined}
 use Rattle.air_monitor.specs.Watches.{watched_at_once}
 use Rattle.air_monitor.proofs.Packets.{heard_front, told_taken, was_heard}
 use Rattle.ts_packets.proofs.WholePackets.{whole_packets-front}
-use Rattle.headend_live.specs.Live.{AirDid}
+use Rattle.headend_jobs.specs.Live.{AirDid}
 use Rattle.headend_live.specs.Watched.{HeardOfAir, HeardWhole, watched_stop}
-use Rattle.headend_live.specs.declared.live.LiveStop.{LiveStop}
-use Rattle.headend_live.specs.declared.live.LiveStop.TheVariants as live
+use Rattle.headend_jobs.specs.declared.live.LiveStop.{LiveStop}
+use Rattle.headend_jobs.specs.declared.live.LiveStop.TheVariants as live
 use Rattle.air_coherence.proofs.Coherent.{packets_whole, packets_joined}
 
 packets_sync : (ps : List Packet) → AreInSync (map bytes_of_packet ps)
@@ -35,13 +35,13 @@ packets_sync (p ∷ ps) = (refl, packets_sync ps)
 
 -- a front of an air was appended
 record FrontOfAir (before now : Option (List ℕ)) : Type 0 where
-  airings : List Airing
+  airings : List AiredTables
   cycles : List Aired
   is_air : IsAirOf airings cycles
   n : ℕ
   bytes : Appends before now (take n (air_bytes cycles))
 
-whole_air : (airings : List Airing) (cycles : List Aired) (before now : Option (List ℕ)) → IsAirOf airings cycles → Appends before now (air_bytes cycles) → FrontOfAir before now
+whole_air : (airings : List AiredTables) (cycles : List Aired) (before now : Option (List ℕ)) → IsAirOf airings cycles → Appends before now (air_bytes cycles) → FrontOfAir before now
 whole_air airings cycles before now is bytes = record {
   airings = airings;
   cycles = cycles;

@@ -11,15 +11,15 @@ use Rattle.guide_screen.specs.declared.need.Heard.{Heard}
 use Rattle.air_monitor.specs.declared.done_line.DoneLine.{DoneLine}
 use Rattle.air_monitor.specs.Heard.{HearsBy, lines_of_air}
 use Rattle.ts_packets.specs.WholePackets.{whole_packets}
-use Rattle.headend_live.specs.declared.live.LiveStop.{LiveStop}
-use Rattle.headend_live.specs.declared.live.LiveStop.TheVariants as live
+use Rattle.headend_jobs.specs.declared.live.LiveStop.{LiveStop}
+use Rattle.headend_jobs.specs.declared.live.LiveStop.TheVariants as live
 use Rattle.headend_live.specs.declared.watched.LivePlan.{LivePlan}
 use Rattle.headend_live.specs.declared.watched.LiveEnd.{LiveEnd}
-use Rattle.headend_live.specs.declared.send.SendStop.{SendStop}
-use Rattle.headend_live.specs.OnAir.{HasAirCause}
-use Rattle.headend_live.specs.Back.{lines_back}
-use Rattle.headend_live.specs.Callers.{HaveTheirCommands}
-use Rattle.headend_live.specs.Live.{LiveDid, and_stop, first_stop, run_stop}
+use Rattle.headend_jobs.specs.declared.send.SendStop.{SendStop}
+use Rattle.headend_jobs.specs.OnAir.{HasAirCause}
+use Rattle.headend_jobs.specs.Back.{lines_back}
+use Rattle.headend_jobs.specs.Callers.{HaveTheirCommands}
+use Rattle.headend_jobs.specs.Live.{LiveDid, and_stop, first_stop, run_stop}
 
 -- the guide that the whole packets of an air give, from packet `join` on
 abbrev pub guide_of_air : ℕ → List ℕ → Heard

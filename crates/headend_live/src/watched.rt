@@ -2,19 +2,21 @@
 ghost use Rattle.std.specs.Prelude.{◌≡◌, ◌≤◌, ◌↔◌, Bool, true, false, List, ℕ, Option, None, Some, OnErr, IfOk, IfSome, IsSome, [], length};
 ghost use Rattle.mux_model.specs.Sound.{IsSound, IsSoundWithIds};
 ghost use Rattle.air_coherence.specs.Coherence.{SentCoherent};
-ghost use Rattle.headend_live.specs.Air.{airings};
-ghost use Rattle.headend_live.specs.Laws.{HasTypedEdits};
-ghost use Rattle.headend_live.specs.OnAir.{HasAirCause};
+ghost use Rattle.carousel_player.specs.Spaced.{SentSpaced};
+ghost use Rattle.journal_air.specs.Air.{airings};
+ghost use Rattle.journal_air.specs.Laws.{HasTypedEdits};
+ghost use Rattle.headend_jobs.specs.OnAir.{HasAirCause};
+ghost use Rattle.journal_screen.specs.Shown.{IsAsRead, SentExact};
 ghost use Rattle.guide_receiver.specs.Guides.{guide_of};
 ghost use Rattle.air_monitor.specs.Heard.{HasTaken, HearsBy, WasHeard};
-ghost use Rattle.headend_live.specs.Callers.{HasRun};
+ghost use Rattle.headend_jobs.specs.Callers.{HasRun};
 ghost use Rattle.headend_live.specs.Watched.{LiveRan, wanting_stop, watched_stop};
-ghost use Rattle.headend_live.specs.Live.{run_stop};
+ghost use Rattle.headend_jobs.specs.Live.{run_stop};
 
-use crate::live::{Ended, LiveStop, and_stop, run_hall};
 use air_monitor::{DoneLines, Monitor, MonitorLog};
 use desk_core::Desk;
 use guide_receiver::Heard;
+use headend_jobs::{Ended, LiveStop, and_stop, run_hall};
 use mux_model::Mux;
 use si_causes::{Gate, LineReader, Sink, Source};
 use std::alloc::{AllocError, Global};
@@ -187,6 +189,11 @@ pub fn run_live<
     ensures ran { IfOk result (λ end. LiveRan F.left F.faults F.same S.left S.faults S.same mux plan feeds.items control (A.written air.old) (A.written air.new) (A.faults air.old) (A.faults air.new) end) }
     // What was sent is coherent: of any part of its packets no content is ever completed from two airings.
     ensures coherent { IfOk result (λ end. IsSoundWithIds mux → HasTypedEdits end.desk.entries → SentCoherent (airings mux end.desk.entries) (A.written air.old) (A.written air.new)) }
+    // And it is spaced: sections of tier Fast and Near repeat within their bounds.
+    ensures spaced { IfOk result (λ end. HasTypedEdits end.desk.entries
+        → SentSpaced (airings mux end.desk.entries) (A.written air.old) (A.written air.new)) }
+    // And exact: once a cycle was heard whole, the guide is that of its publication, as long as that stays on air.
+    ensures exact { IfOk result (λ end. IsAsRead mux end.desk.entries → SentExact mux end.desk.entries (A.written air.old) (A.written air.new)) }
     ensures memory { OnErr result (air.new ≡ air.old) }
 {
     let Ran { end, heard } = run_and_hear(

@@ -1,7 +1,7 @@
 // Two callers that take turns in two threads.
 ghost use Rattle.std.specs.Prelude.{◌≡◌};
 ghost use Rattle.mux_model.specs.Sound.{IsSound};
-ghost use Rattle.desk_hall.specs.Turn.{Keeps};
+ghost use Rattle.desk_hall.specs.Turn.{KeepsNumbers};
 
 use crate::halls::two_services;
 use crate::journals::{put_edits, put_steps_of};
@@ -26,7 +26,7 @@ fn run_caller<W: Wait>(
     gate: &Holding,
 ) -> HallPass
     requires { pass.turns ≡ hall.now.turns }
-    ensures { Keeps pass result }
+    ensures { KeepsNumbers pass result }
 {
     let _stop = hall.feed(rt, alloc, &mut pass, feed, &mut lines, gate);
     let _number = hall.publish(rt, &mut pass);

@@ -3,7 +3,7 @@ ghost use Rattle.std.specs.Prelude.{◌≡◌, ◌<◌, ℕ};
 ghost use Rattle.mux_model.specs.Sound.{IsSound};
 ghost use Rattle.journal_text.specs.Script.{IsItemWithin};
 ghost use Rattle.journal_model.specs.Steps.{IsStepWithin};
-ghost use Rattle.desk_hall.specs.Turn.{Keeps};
+ghost use Rattle.desk_hall.specs.Turn.{KeepsNumbers};
 
 use crate::halls::two_services;
 use crate::journals::put_entries;
@@ -38,7 +38,7 @@ fn tell_step<W: Wait>(
 ) -> Result<(), AllocError>
     requires turns { pass.old.turns ≡ hall.now.turns }
     requires within { IsStepWithin step }
-    ensures { Keeps pass.old pass.new }
+    ensures { KeepsNumbers pass.old pass.new }
 {
     match step {
         Step::Edit(feed, edit) => put_reply(out, hall.edit(rt, pass, feed, edit)?),
@@ -62,7 +62,7 @@ fn tell_next<W: Wait>(
     out: &mut String,
 ) -> Result<bool, AllocError>
     requires { pass.old.turns ≡ hall.now.turns }
-    ensures { Keeps pass.old pass.new }
+    ensures { KeepsNumbers pass.old pass.new }
 {
     match next_item(alloc, lines, false) {
         Ok(ScriptItem::Step(_, step)) => {
@@ -84,7 +84,7 @@ fn tell_steps<W: Wait>(
     out: &mut String,
 ) -> Result<(), AllocError>
     requires { pass.old.turns ≡ hall.now.turns }
-    ensures { Keeps pass.old pass.new }
+    ensures { KeepsNumbers pass.old pass.new }
 {
     'steps: for _ in 0..1_000 {
         if !tell_next(rt, alloc, hall, pass, lines, out)? {

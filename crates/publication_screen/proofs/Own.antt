@@ -4,8 +4,7 @@ use Rattle.std.specs.Prelude.{flat_map, if◌then◌else◌, ◌==◌, nat_lt, u
 use Rattle.std.specs.List.{AllByRecursion}
 use Rattle.std.proofs.lemmas.Bool.Decides.{nat_tests}
 use Rattle.std.proofs.lemmas.List.Elements.{recursion_from_All}
-use Rattle.si_lists.proofs.Lists.{all_two}
-use Rattle.ts_demux.proofs.Windows.{all-front, all-behind}
+use Rattle.si_lists.proofs.Lists.{all_two, all_front, all_behind}
 use Rattle.si_text.specs.Decoding.{IsKept}
 use Rattle.si_text.proofs.RoundTrip.{decoded-coded}
 use Rattle.guide_model.specs.declared.guide.Guide.{Guide}
@@ -104,7 +103,7 @@ services_wide (s ∷ ss) (g ∷ gs) sound within kept =
 in_runs : {X : Type 0} (P : X → Type 0) (runs : List (List X)) → AllByRecursion P (flat_map (λ (run : List X). run) runs) → AllByRecursion (AllByRecursion P) runs
 in_runs P [] all = tt
 in_runs P (run ∷ runs) all =
-    (all-front P run (flat_map (λ r. r) runs) all, in_runs P runs (all-behind P run (flat_map (λ r. r) runs) all))
+    (all_front P run (flat_map (λ r. r) runs) all, in_runs P runs (all_behind P run (flat_map (λ r. r) runs) all))
 
 sections_said : SdtReadsBack → (original : ℕ) → original < 65536 → (n : ℕ) (runs : List (List SdtService)) → AllByRecursion (AllByRecursion HasServiceWidths) runs
     → services_in (numbered n (map (section_body original) runs)) ≡ flat_map (λ (run : List SdtService). run) runs

@@ -5,8 +5,7 @@ use Rattle.std.specs.Prelude.{suc, flat_map, filter, if◌then◌else◌, is_som
 use Rattle.std.specs.List.{All, AllByRecursion}
 use Rattle.std.proofs.lemmas.Bool.Decides.{nat_tests}
 use Rattle.std.proofs.lemmas.List.Elements.{All-from_recursion}
-use Rattle.si_lists.proofs.Lists.{all_append}
-use Rattle.ts_demux.proofs.Windows.{all-front, all-behind}
+use Rattle.si_lists.proofs.Lists.{all_append, all_front, all_behind}
 use Rattle.si_text.specs.declared.shown.Shown.{Shown}
 use Rattle.si_text.specs.declared.shown.Shown.TheVariants.{Text}
 use Rattle.guide_model.specs.declared.stream.Cable.{Cable}
@@ -43,7 +42,7 @@ use Rattle.guide_screen.specs.declared.need.Need.{Need}
 use Rattle.guide_screen.specs.declared.need.Need.TheVariants.{Pat, Nit as NeedNit, Sdt, Clock, Pmt as NeedPmt}
 use Rattle.guide_screen.specs.declared.need.Heard.TheVariants.{Whole}
 use Rattle.guide_screen.specs.View.{View, sections, sections_at, sdt_behind, sdt_of, table_at, pmt_key as guide_pmt_key}
-use Rattle.guide_screen.specs.Reading.{programs_in, services_in, streams_in, nit_in, pmt_in, told}
+use Rattle.guide_screen.specs.Reading.{programs_in, services_in, streams_in, nit_in, pmt_in, value_in}
 use Rattle.guide_screen.specs.Needs.{Want, by_service, last_table, needs, programs_of, schedule_tables, services_of, tables_to, unless, unmet_of, want_pmt, want_service, want_services, want_table, wants}
 use Rattle.guide_screen.specs.Screen.{cable_in, event_at, heard_by, heard_of, network_name, pid_in, pmt_of, pmt_pid, schedule_of, screen, screen_service}
 use Rattle.publication.specs.Network.{nit_key, nit_of, nit_table}
@@ -64,7 +63,7 @@ Held content t = content t.key ≡ Some t.sections
 
 of_flat : {X Y : Type 0} (P : Y → Type 0) (f : X → List Y) (xs : List X) → AllByRecursion P (flat_map f xs) → AllByRecursion (λ (x : X). AllByRecursion P (f x)) xs
 of_flat P f [] all = tt
-of_flat P f (x ∷ xs) all = (all-front P (f x) (flat_map f xs) all, of_flat P f xs (all-behind P (f x) (flat_map f xs) all))
+of_flat P f (x ∷ xs) all = (all_front P (f x) (flat_map f xs) all, of_flat P f xs (all_behind P (f x) (flat_map f xs) all))
 
 -- ---- what is held of each service
 
@@ -143,7 +142,7 @@ module _ (mux : Mux) (ids : HasIds mux) (moment : ℕ) (content : Key → Option
     types = All-from_recursion IsTyped g.events has.typed
 
     pmt_is : pmt_of content s.service (Some s.pmt_pid) ≡ Some (programs.pmt_of s)
-    pmt_is = ap (λ (o : Option Content). told pmt_in 0 (sections o)) has.pmt ∙ pmt_said s has.sound
+    pmt_is = ap (λ (o : Option Content). value_in pmt_in 0 (sections o)) has.pmt ∙ pmt_said s has.sound
 
     present_is : content (eit_key mux 0x4E s.service) ≡ Some (present_sections mux moment g.events)
     present_is = ap (λ (n : ℕ). content (eit_key mux 0x4E n)) (sym has.same) ∙ has.present
@@ -272,24 +271,24 @@ module _ (nit_back : NitReadsBack) (sdt_back : SdtReadsBack) (mux : Mux) (guide 
   pat_has = has.contents.0
 
   pmts_have : AllByRecursion (Held V.content) (pmt_tables mux)
-  pmts_have = all-front (Held V.content) (pmt_tables mux) (nit_table mux ∷ sdt_table mux guide ∷ events) has.contents.1
+  pmts_have = all_front (Held V.content) (pmt_tables mux) (nit_table mux ∷ sdt_table mux guide ∷ events) has.contents.1
 
   others_have : AllByRecursion (Held V.content) (nit_table mux ∷ sdt_table mux guide ∷ events)
-  others_have = all-behind (Held V.content) (pmt_tables mux) (nit_table mux ∷ sdt_table mux guide ∷ events) has.contents.1
+  others_have = all_behind (Held V.content) (pmt_tables mux) (nit_table mux ∷ sdt_table mux guide ∷ events) has.contents.1
 
   schedules_have : AllByRecursion (Held V.content) (all_near_tables mux guide ++ all_far_tables mux guide)
-  schedules_have = all-behind (Held V.content) (present_tables mux guide) (all_near_tables mux guide ++ all_far_tables mux guide) others_have.1.1
+  schedules_have = all_behind (Held V.content) (present_tables mux guide) (all_near_tables mux guide ++ all_far_tables mux guide) others_have.1.1
 
   services_have : Services mux ids moment V.content mux.services guide.services
   services_have =
       all_services mux ids moment V.content mux.services guide.services same sound.sound.services within.services typed (typed_small guide within typed)
       (all_of_map (Held V.content) programs.pmt_table mux.services pmts_have)
       (all_of_map (Held V.content) (present_table mux moment) guide.services
-      (all-front (Held V.content) (present_tables mux guide) (all_near_tables mux guide ++ all_far_tables mux guide) others_have.1.1))
+      (all_front (Held V.content) (present_tables mux guide) (all_near_tables mux guide ++ all_far_tables mux guide) others_have.1.1))
       (of_flat (Held V.content) (near_tables mux (midnight moment)) guide.services
-      (all-front (Held V.content) (all_near_tables mux guide) (all_far_tables mux guide) schedules_have))
+      (all_front (Held V.content) (all_near_tables mux guide) (all_far_tables mux guide) schedules_have))
       (of_flat (Held V.content) (far_tables mux (midnight moment)) guide.services
-      (all-behind (Held V.content) (all_near_tables mux guide) (all_far_tables mux guide) schedules_have))
+      (all_behind (Held V.content) (all_near_tables mux guide) (all_far_tables mux guide) schedules_have))
 
   sdt_is : sdt_of V ≡ Some (sdt_key mux)
   sdt_is = ap (λ (o : Option Key). sdt_behind V o) has.pat ∙ has.sdt

@@ -1,3 +1,4 @@
 pub mod Screen
 pub mod Shown
 pub mod Laws
+mod Rows

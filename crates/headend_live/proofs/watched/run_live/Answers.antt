@@ -1,9 +1,11 @@
 use Rattle.std.proofs.Common.{◌≡◌, ℕ, List, ◌∙◌, ap}
 use Rattle.std.specs.Prelude.{Some}
-use Rattle.headend_live.specs.Live.{run_stop}
+use Rattle.headend_jobs.specs.Live.{run_stop}
 use Rattle.headend_live.specs.Watched.{HeardOfAir, watched_stop}
-use Rattle.headend_live.proofs.CarryFacts.{airings_heard}
+use Rattle.journal_air.proofs.CarryFacts.{airings_heard}
+use Rattle.journal_screen.proofs.Shown.{sent_shown}
 use Rattle.headend_live.proofs.Coherent.{air_coherent}
+use Rattle.headend_live.proofs.Spaced.{air_spaced, airings_fit}
 use Rattle.headend_live.proofs.Watching.{heard_of_air, heard_whole, or_wanting}
 use Rattle.headend_live.proofs.watched.run_live.Goals as goal
 
@@ -44,3 +46,22 @@ returns-in-Ok-clause-coherent g c =
     λ sound typed.
     air_coherent c.args.mux end.desk.entries (g.A.Sink.written c.args.air.now) (g.A.Sink.written ran.new.air) end.sent
     (airings_heard c.args.mux end.desk.entries sound typed did.2.journal_did.legal) did.2.air
+
+pub returns-in-Ok-clause-spaced : goal.returns-in-Ok-clause-spaced
+returns-in-Ok-clause-spaced g c =
+    let ran = c.run_and_hear-end in
+    let end = c.in-Ok.end in
+    let did = rw c.in-Ok.is at ran.ensures.did in
+    λ typed.
+    air_spaced c.args.mux end.desk.entries (g.A.Sink.written c.args.air.now) (g.A.Sink.written ran.new.air) end.sent
+    (airings_fit c.args.mux end.desk.entries c.requires.sound typed did.2.journal_did.legal) did.2.air
+
+pub returns-in-Ok-clause-exact : goal.returns-in-Ok-clause-exact
+returns-in-Ok-clause-exact g c =
+    let ran = c.run_and_hear-end in
+    let end = c.in-Ok.end in
+    let did = rw c.in-Ok.is at ran.ensures.did in
+    λ read.
+    sent_shown c.args.mux end.desk.entries read did.2.journal_did.legal (g.A.Sink.written c.args.air.now) (g.A.Sink.written ran.new.air)
+    (air_coherent c.args.mux end.desk.entries (g.A.Sink.written c.args.air.now) (g.A.Sink.written ran.new.air) end.sent
+    (airings_heard c.args.mux end.desk.entries read.sound read.edits did.2.journal_did.legal) did.2.air)

@@ -1,0 +1,137 @@
+-- What a swap puts on air, in each journal that begins with what its pass has then seen.
+use Rattle.std.proofs.Common.{◌≡◌, ℕ, ◌≤◌, List, [], ◌∷◌, ◌++◌, take, refl, sym, ap, ◌∙◌, subst, arith, append-nil, append_assoc}
+use Rattle.std.specs.Prelude.{Option, Some, Ok, Err}
+use Rattle.std.specs.Io.KnownBytes.{Appends}
+use Rattle.std.proofs.KnownBytes.{Appends-trans}
+use mathlib.Core.List.{IsPrefix}
+use Rattle.guide_model.specs.declared.guide.Guide.{Guide}
+use Rattle.mux_model.specs.declared.mux.Mux.{Mux}
+use Rattle.version_book.specs.Airings.{CycleForm, AiredTables}
+use Rattle.air_model.specs.Air.{Aired, air, airings_of, air_bytes}
+use Rattle.air_model.specs.Making.{cycle_alone}
+use Rattle.air_model.proofs.Airs.{AreMade-push}
+use Rattle.carousel_player.specs.Playing.{Playing, form_of}
+use Rattle.publication.specs.Tables.{tables_of, HasServicesOf}
+use Rattle.journal_model.specs.declared.step.Step.{Step}
+use Rattle.journal_model.specs.declared.step.Step.TheVariants.{Swap}
+use Rattle.journal_model.specs.declared.step.Outcome.{Outcome}
+use Rattle.journal_model.specs.declared.step.Outcome.TheVariants.{Swapped}
+use Rattle.desk_core.specs.declared.airing.Airing.{Airing}
+use Rattle.journal_model.specs.declared.step.Entry.{Entry}
+use Rattle.desk_core.specs.Journal.{publishes}
+use Rattle.desk_core.specs.Publications.{aired_by, publication}
+use Rattle.desk_core.specs.Desks.{on_air_of}
+use Rattle.desk_core.proofs.JournalFacts.{publication-kept}
+use Rattle.headend_jobs.specs.declared.send.SendStop.TheVariants.{Air}
+use Rattle.headend_jobs.specs.OnAir.{airing_by, cycle_bytes}
+use Rattle.journal_air.specs.Air.{airings_by, mux_form}
+use Rattle.headend_jobs.proofs.SwapFacts.{airings-append, airings_of-push, air_bytes-push, publishes-front}
+use Rattle.headend_jobs.proofs.AirFacts.{on_air_services}
+use Rattle.turn_lock.proofs.Lists.{prefix_trans}
+use Rattle.desk_hall.specs.Turn.{View, entry_of, desk_with, Made}
+use Rattle.headend_jobs.specs.Playing.{airing_with_tables, ArePutOnAir, HasPlayedTo, HasPlayedFront, HasPlayedSome, SwapSent, GoesOn}
+use Rattle.desk_hall.proofs.Turns.{some_same}
+use Rattle.desk_hall.proofs.Passes.{made_began}
+
+abbrev Known : Type 0
+Known = Option (List ℕ)
+
+-- a publication stays what it is in each longer journal
+pub publication_front : (mux : Mux) (xs zs : List Entry) (n : ℕ) → n ≤ publishes xs → publication mux (xs ++ zs) n ≡ publication mux xs n
+publication_front mux xs [] n le = ap (λ (l : List Entry). publication mux l n) (append-nil xs)
+publication_front mux xs (z ∷ zs) n le =
+    ap (λ (l : List Entry). publication mux l n) (sym (append_assoc xs (z ∷ []) zs))
+    ∙ publication_front mux (xs ++ z ∷ []) zs n (omega (arith, le, publishes-front xs (z ∷ [])))
+    ∙ publication-kept mux xs z n le
+
+-- the number of a swap is the number of a publication that its pass has seen
+swap_number : (n : ℕ) (airing : Airing) (v w : View) → (m : Made Swap (Swapped airing.number airing.moment) v w) → airing.number ≤ publishes w.seen
+swap_number n airing v w m =
+    let same : airing.number ≡ publishes m.before = ap (λ p. p.0) (some_same _ _ (ap aired_by m.outcome_is)) in
+    omega (arith, same, publishes-front m.before (entry_of v.own.low Swap (Swapped airing.number airing.moment) ∷ []), ap publishes m.seen)
+
+-- what one swap puts on air
+pub puts : (mux : Mux) (airing : Airing) (v w : View) → Made Swap (Swapped airing.number airing.moment) v w → airing ≡ on_air_of (desk_with mux w.seen)
+    → ArePutOnAir mux w.seen (entry_of v.own.low Swap (Swapped airing.number airing.moment) ∷ []) (airing_with_tables mux airing ∷ [])
+puts mux airing v w m is journal (zs, e) =
+    let le = swap_number 0 airing v w m in
+    let guide : airing.guide ≡ publication mux w.seen airing.number = subst (λ (x : Airing). x.guide ≡ publication mux w.seen x.number) (sym is) refl in
+    let there : publication mux journal airing.number ≡ publication mux w.seen airing.number =
+    ap (λ (l : List Entry). publication mux l airing.number) (sym e) ∙ publication_front mux w.seen zs airing.number le in
+    ap (λ (g : Guide). let a : AiredTables = record { tables = tables_of mux g; moment = airing.moment.0; form = mux_form mux } in a ∷ []) (guide ∙ sym there)
+
+-- what is on air in longer journals too
+pub put_longer : (mux : Mux) (seen more entries : List Entry) (airings : List AiredTables) → IsPrefix seen more → ArePutOnAir mux seen entries airings → ArePutOnAir mux more entries airings
+put_longer mux seen more entries airings p are journal q = are journal (prefix_trans seen more journal p q)
+
+-- and of more entries
+pub put_more : (mux : Mux) (seen front then : List Entry) (xs ys : List AiredTables) → ArePutOnAir mux seen front xs → ArePutOnAir mux seen then ys → ArePutOnAir mux seen (front ++ then) (xs ++ ys)
+put_more mux seen front then xs ys a b journal p =
+    ap (λ (l : List AiredTables). l ++ ys) (a journal p) ∙ ap (λ (l : List AiredTables). airings_by mux journal front ++ l) (b journal p)
+    ∙ sym (airings-append mux journal front then)
+
+-- the airings of the cycles with one more, whose entry was just made
+one_more : (mux : Mux) (airing : Airing) (v w : View) (front : List Entry) (xs : List Aired) (x : Aired) → Made Swap (Swapped airing.number airing.moment) v w → airing ≡ on_air_of (desk_with mux w.seen)
+    → ArePutOnAir mux v.seen front (airings_of xs) → x.airing ≡ airing_with_tables mux airing
+    → ArePutOnAir mux w.seen (front ++ entry_of v.own.low Swap (Swapped airing.number airing.moment) ∷ []) (airings_of (xs ++ x ∷ []))
+one_more mux airing v w front xs x m is are e =
+    let entry : Entry = entry_of v.own.low Swap (Swapped airing.number airing.moment) in
+    subst (λ (l : List AiredTables). ArePutOnAir mux w.seen (front ++ entry ∷ []) l)
+    (ap (λ (a : AiredTables). airings_of xs ++ a ∷ []) (sym e) ∙ sym (airings_of-push xs x))
+    (put_more mux w.seen front (entry ∷ []) (airings_of xs) (airing_with_tables mux airing ∷ [])
+    (put_longer mux v.seen w.seen front (airings_of xs) (made_began Swap (Swapped airing.number airing.moment) v w m) are)
+    (puts mux airing v w m is))
+
+-- the airing of a player with the multiplex's quota
+own_form : (mux : Mux) (airing : Airing) (player : Playing) → player.quota ≡ mux.quota → airing_by mux (form_of player) airing ≡ airing_with_tables mux airing
+own_form mux airing player quota = ap (λ (q : ℕ). airing_by mux (let form : CycleForm = record { quota = q } in form) airing) quota
+
+-- a whole cycle was sent
+pub sent_whole : (mux : Mux) (v w : View) (old new : Playing) (mid now : Known) (u : Unit {0}) → (s : SwapSent mux v w old new mid now (Ok u))
+    → GoesOn (λ entries before. HasPlayedTo mux w.seen entries new before now) mux v (entry_of v.own.low Swap (Swapped s.airing.number s.airing.moment) ∷ []) old mid
+sent_whole mux v w old new mid now u s = λ front before (xs, end, are, made, quota, bytes).
+    let (x, e, packets, ended, took) = s.sent xs end in (
+      xs ++ x ∷ [],
+      ended,
+      one_more mux s.airing v w front xs x s.made s.airing_is are (e ∙ own_form mux s.airing old quota),
+      AreMade-push [] xs x made (packets ∙ ap (cycle_alone (airings_of xs) (air xs)) (sym e)),
+      s.quota ∙ quota,
+      subst (Appends before now) (sym (air_bytes-push xs x)) (Appends-trans before mid now (air_bytes xs) (cycle_bytes x) bytes took),
+    )
+
+-- a cycle was sent in part
+pub sent_front : (mux : Mux) (v w : View) (old new : Playing) (mid now : Known) → (s : SwapSent mux v w old new mid now (Err Air))
+    → GoesOn (λ entries before. HasPlayedFront mux w.seen entries before now) mux v (entry_of v.own.low Swap (Swapped s.airing.number s.airing.moment) ∷ []) old mid
+sent_front mux v w old new mid now s = λ front before (xs, end, are, made, quota, bytes).
+    let (x, e, packets, is_air, (n, proper, took)) = s.sent xs end in
+    record {
+      whole = xs;
+      cut = x;
+      is_air = is_air;
+      airings_are = one_more mux s.airing v w front xs x s.made s.airing_is are (e ∙ own_form mux s.airing old quota);
+      made = AreMade-push [] xs x made (packets ∙ ap (cycle_alone (airings_of xs) (air xs)) (sym e));
+      taken = n;
+      proper = proper;
+      bytes = Appends-trans before mid now (air_bytes xs) (take n (cycle_bytes x)) bytes took;
+    }
+
+-- no cycle was sent
+pub sent_none : (mux : Mux) (v w : View) (old : Playing) (mid now : Known) (added : List Entry) → IsPrefix v.seen w.seen → now ≡ mid
+    → GoesOn (λ entries before. HasPlayedSome mux w.seen entries before now) mux v added old mid
+sent_none mux v w old mid now added p same = λ front before (xs, end, are, made, quota, bytes). record {
+  done = front;
+  left = added;
+  entries_are = refl;
+  whole = xs;
+  is_air = end.is_air;
+  airings_are = put_longer mux v.seen w.seen front (airings_of xs) p are;
+  made = made;
+  bytes = subst (λ (k : Known). Appends before k (air_bytes xs)) (sym same) bytes;
+}
+
+-- what the airing of a swap needs for its cycle
+pub airing_services : (mux : Mux) (airing : Airing) (w : View) → airing ≡ on_air_of (desk_with mux w.seen) → HasServicesOf mux airing.guide
+airing_services mux airing w is = on_air_services (desk_with mux w.seen) mux airing refl is
+
+pub stands_still : (mux : Mux) (step : Step) (outcome : Outcome) (v w : View) → v.on ≡ Some mux → Made step outcome v w → w.on ≡ Some mux
+stands_still mux step outcome v w on m = ap (λ (z : View). z.on) m.gained ∙ on

@@ -1,0 +1,13 @@
+pub mod AirFacts
+pub mod SwapFacts
+pub mod Airs
+pub mod ManyJobs
+pub mod WholeJournal
+pub mod Closing
+pub mod Ending
+pub mod Cutting
+pub mod Running
+pub mod CallerFacts
+pub mod Swaps
+pub mod HandedBack
+pub mod TypedJournals

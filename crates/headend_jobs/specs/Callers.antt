@@ -1,0 +1,63 @@
+-- Each caller's commands in the journal of a run.
+use Rattle.std.specs.Prelude.{◌≡◌, ℕ, suc, ◌+◌, ◌<◌, ◌≤◌, List, [], ◌∷◌, ◌++◌, length, map, Option, Some, None, Ok, Err, Result}
+use Rattle.si_causes.specs.Reading.{Reading, text_left}
+use Rattle.mux_model.specs.declared.mux.Mux.{Mux}
+use Rattle.carousel_player.specs.Playing.{Playing}
+use Rattle.input_lines.specs.declared.stop.EditStop.{EditStop}
+use Rattle.input_lines.specs.Ahead.{Ahead, Stop, ahead}
+use Rattle.feed_edits.specs.Edits.{edits_ahead}
+use Rattle.journal_model.specs.declared.step.Step.{Step}
+use Rattle.journal_model.specs.declared.step.Entry.{Entry}
+use Rattle.journal_model.specs.Steps.{Command, command_of}
+use Rattle.headend_jobs.specs.declared.send.SendStop.{SendStop}
+use Rattle.headend_jobs.specs.declared.send.SendStop.TheVariants.{Air, Memory}
+use Rattle.turn_lock.specs.Journal.{entries_of}
+use Rattle.turn_lock.specs.Knowledge.{TableId}
+use Rattle.desk_hall.specs.Turn.{caller_of}
+use Rattle.desk_hall.specs.Reads.{commands_by, edit_step, control_step, controls_ahead, ToldDid, TakenDid}
+use Rattle.headend_jobs.specs.declared.jobs.FeedJob.{FeedJob}
+use Rattle.headend_jobs.specs.declared.jobs.ControlJob.{ControlJob}
+use Rattle.headend_jobs.specs.declared.jobs.PlayerJob.{PlayerJob}
+use Rattle.headend_jobs.specs.Playing.{swaps_by}
+use Rattle.headend_jobs.specs.declared.live.Ended.{Ended}
+use Rattle.headend_jobs.specs.Live.{LiveDid, first_stop}
+use Rattle.headend_jobs.specs.Back.{lines_back}
+
+-- under this number the journal has these commands, each once, in order
+abbrev pub CommandsAre : List Entry → ℕ → List Command → Type 0
+CommandsAre journal who commands = map command_of (entries_of caller_of who journal) ≡ commands
+
+-- Under its number the journal has the commands of what a caller read from its lines, and then these.
+pub record CallerRead {T S : Type 0} (step : T → Step) (all : Ahead → List T × Stop) (left : S → Option (List ℕ)) (journal : List Entry) (who : ℕ) (then : List Command)
+    (old new : Reading S) (stop : Option EditStop) : Type 0 where
+  pub did : (values : List T) × CommandsAre journal who (commands_by who step values ++ then)
+  pub told : old.stop ≡ None → (text : List ℕ) → text_left left old ≡ Some text → ToldDid (λ values. CommandsAre journal who (commands_by who step values ++ then)) (all (ahead old text)) stop
+  pub taken : old.stop ≡ None → TakenDid (λ values. CommandsAre journal who (commands_by who step values ++ then)) left all old new stop
+
+-- So has each feed, up to the stop of its job: feed n is caller n + 1. The last job stands first.
+abbrev pub FeedsRead : {S : Type 0} → (S → Option (List ℕ)) → List Entry → ℕ → List (Reading S) → List (FeedJob S) → Type 0
+FeedsRead left journal n [] jobs = jobs ≡ []
+FeedsRead {S} left journal n (reader ∷ readers) jobs =
+    (rest : List (FeedJob S)) × (job : FeedJob S) × (jobs ≡ rest ++ job ∷ []) × (job.feed ≡ n) × CallerRead (edit_step n) edits_ahead left journal (n + 1) [] reader job.lines job.stop
+    × FeedsRead left journal (n + 1) readers rest
+
+-- Caller 1 made its swaps: all, or so many of them where the air failed in the last or memory was wanting.
+abbrev pub PlayerSwapped : List Entry → ℕ → Result (Unit {0}) SendStop → Type 0
+PlayerSwapped journal n (Ok u) = CommandsAre journal 1 (swaps_by 1 n)
+PlayerSwapped journal n (Err Air) = (k : ℕ) × (k < n) × CommandsAre journal 1 (swaps_by 1 (suc k))
+PlayerSwapped journal n (Err Memory) = (k : ℕ) × (k ≤ n) × CommandsAre journal 1 (swaps_by 1 k)
+
+-- A run's callers, each with exactly its commands, and no others; behind the control's lines stand its last turns.
+pub record HaveTheirCommands {F S : Type 0} (left : F → Option (List ℕ)) (leftS : S → Option (List ℕ)) (journal : List Entry) (cycles : ℕ) (readers : List (Reading F)) (reader : Reading S)
+    (feeds : List (FeedJob F)) (control : ControlJob S) (player : PlayerJob) (final : List Entry) : Type 0 where
+  pub feeds_read : FeedsRead left journal 1 readers feeds
+  pub control_read : CallerRead control_step controls_ahead leftS journal 0 (map command_of final) reader control.lines control.stop
+  pub player_swapped : PlayerSwapped journal cycles player.end
+  pub others : (k : ℕ) → length readers + 2 ≤ k → entries_of caller_of k journal ≡ []
+
+-- A run: what it did, each caller with its commands, why the jobs that read stopped, and their readers, in the order of the feeds.
+abbrev pub HasRun : {F S : Type 0} → (F → Option (List ℕ)) → (F → ℕ) → (F → F → Type 0) → (S → Option (List ℕ)) → (S → ℕ) → (S → S → Type 0) → Mux → ℕ → List (Reading F) → Reading S → Option (List ℕ) → Option (List ℕ) → Ended F S → Type 0
+HasRun left faults is_same leftS faultsS is_sameS mux cycles feeds control before now end =
+    (turns : TableId) × (playing : Playing) × (d : LiveDid left faults is_same leftS faultsS is_sameS turns mux cycles feeds control playing before now end.desk.entries end.sent)
+    × HaveTheirCommands left leftS end.desk.entries cycles feeds control d.feeds d.control d.player d.final
+    × (end.feeds.items ≡ lines_back d.feeds) × (end.lines ≡ d.control.lines) × (end.control ≡ d.control.stop) × (end.feed ≡ first_stop d.feeds)

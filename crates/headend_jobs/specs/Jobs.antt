@@ -1,0 +1,59 @@
+-- What the jobs of a run leave, each of what it was given.
+use Rattle.std.specs.Prelude.{◌≡◌, ℕ, ◌^◌, ◌<◌, ◌≤◌, List, [], ◌∷◌, Option, Some, None, OnOk}
+use Rattle.std.specs.Io.KnownBytes.{IsAtEnd}
+use Rattle.si_causes.specs.Reading.{Reading, text_left}
+use Rattle.mux_model.specs.Sound.{IsSound}
+use Rattle.input_lines.specs.declared.stop.EditStop.{EditStop}
+use Rattle.input_lines.specs.Ahead.{Ahead, Stop, ahead}
+use Rattle.feed_edits.specs.Edits.{edits_ahead}
+use Rattle.journal_model.specs.declared.step.Step.{Step}
+use Rattle.turn_lock.specs.Knowledge.{TableId}
+use Rattle.headend_jobs.specs.declared.jobs.FeedJob.{FeedJob}
+use Rattle.headend_jobs.specs.declared.jobs.ControlJob.{ControlJob}
+use Rattle.headend_jobs.specs.declared.jobs.PlayerJob.{PlayerJob}
+use Rattle.air_model.specs.Air.{Aired}
+use Rattle.carousel_player.specs.Playing.{AtEnd}
+use Rattle.headend_jobs.specs.OnAir.{HasAirCause}
+use Rattle.headend_jobs.specs.Playing.{SwapsPlayed}
+use Rattle.desk_hall.specs.Turn.{View}
+use Rattle.desk_hall.specs.Reads.{DidEach, ToldDid, TakenDid, HasReadCause, edit_step, control_step, controls_ahead}
+
+-- A job read from old to new, where `all` is what is ahead, and did the step of each value in a turn of its own, from v to w.
+pub record ReaderDid {T S : Type 0} (step : T → Step) (all : Ahead → List T × Stop) (left : S → Option (List ℕ)) (faults : S → ℕ) (is_same : S → S → Type 0)
+    (v w : View) (old new : Reading S) (stop : Option EditStop) : Type 0 where
+  pub did : (values : List T) × DidEach step v w values
+  pub told : old.stop ≡ None → (text : List ℕ) → text_left left old ≡ Some text → ToldDid (DidEach step v w) (all (ahead old text)) stop
+  pub taken : old.stop ≡ None → TakenDid (DidEach step v w) left all old new stop
+  pub end : stop ≡ None → IsAtEnd (left new.source)
+  pub cause : old.stop ≡ None → HasReadCause (faults old.source) (faults new.source) stop
+  pub later : faults old.source ≤ faults new.source
+  pub same : is_same old.source new.source
+
+module _ {S : Type 0} (left : S → Option (List ℕ)) (faults : S → ℕ) (is_same : S → S → Type 0) where
+  pub record FeedDid (old new : FeedJob S) : Type 0 where
+    pub feed : new.feed ≡ old.feed
+    pub read : ReaderDid (edit_step old.feed) edits_ahead left faults is_same old.pass new.pass old.lines new.lines new.stop
+
+  abbrev pub ControlDid : ControlJob S → ControlJob S → Type 0
+  ControlDid old new = ReaderDid control_step controls_ahead left faults is_same old.pass new.pass old.lines new.lines new.stop
+
+-- the player has a pass of these turns, and may begin
+pub record PlayerReady (turns : TableId) (job : PlayerJob) : Type 0 where
+  pub turns_are : job.pass.turns ≡ turns
+  pub sound : IsSound job.mux
+  pub stands : job.pass.on ≡ Some job.mux
+  pub ready : (xs : List Aired) × AtEnd xs job.player
+  pub few : job.cycles < 2 ^ 32
+
+-- it made its swaps, and what it sent is what the air took from mid to now
+pub record PlayerDid (old new : PlayerJob) (mid now : Option (List ℕ)) (faults_before faults_now : ℕ) : Type 0 where
+  pub mux : new.mux ≡ old.mux
+  pub played : SwapsPlayed old.mux old.cycles old.pass new.pass old.player new.player mid now new.end
+  pub ready : OnOk new.end ((xs : List Aired) × AtEnd xs new.player)
+  pub cause : HasAirCause faults_before faults_now new.end
+  pub later : faults_before ≤ faults_now
+
+-- each feed job's pass is of these turns
+abbrev pub AllOf : {S : Type 0} → TableId → List (FeedJob S) → Type 0
+AllOf turns [] = Unit {0}
+AllOf turns (job ∷ jobs) = (job.pass.turns ≡ turns) × AllOf turns jobs

@@ -1,0 +1,29 @@
+-- Laws of what a journal puts on air.
+use Rattle.std.specs.Prelude.{◌≡◌, true, List}
+use Rattle.std.specs.List.{AllByRecursion}
+use Rattle.section_codec.specs.declared.table.SubTable.{SubTable}
+use Rattle.version_book.specs.Airings.{AiredTables}
+use Rattle.mux_model.specs.declared.mux.Mux.{Mux}
+use Rattle.mux_model.specs.Sound.{IsSound, IsSoundWithIds}
+use Rattle.journal_model.specs.Edits.{IsTypedEdit}
+use Rattle.journal_model.specs.declared.step.Entry.{Entry}
+use Rattle.desk_core.specs.Journal.{accepted, Legal}
+use Rattle.heard_completions.specs.Counting.{is_counted}
+use Rattle.air_hearing.specs.Counting.{CanBeHeard}
+use Rattle.journal_air.specs.Air.{airings}
+
+-- The accepted edits of a journal have numbers as wide as their fields, and texts that may be kept, as all edits that are read.
+abbrev pub HasTypedEdits : List Entry → Type 0
+HasTypedEdits journal = AllByRecursion IsTypedEdit (accepted journal)
+
+-- Each airing of a legal journal can be sent and heard.
+abbrev pub AiringsCanBeHeard : Type 0
+AiringsCanBeHeard =
+    (mux : Mux) (journal : List Entry) → IsSoundWithIds mux → HasTypedEdits journal → Legal mux journal
+    → AllByRecursion CanBeHeard (airings mux journal)
+
+-- Receivers count all tables that it carries, where the multiplex is sound: the PIDs of its PMTs are such.
+abbrev pub AiringsAreCounted : Type 0
+AiringsAreCounted =
+    (mux : Mux) (journal : List Entry) → IsSound mux
+    → AllByRecursion (λ (a : AiredTables). AllByRecursion (λ (t : SubTable). is_counted t.key.pid t.key.table ≡ true) a.tables) (airings mux journal)

@@ -1,0 +1,3 @@
+pub mod Air
+pub mod Laws
+mod Rows

@@ -1,0 +1,8 @@
+// What holds of the airing list of a journal.
+ghost use Rattle.journal_air.specs.Laws.{AiringsCanBeHeard, AiringsAreCounted};
+
+/// Each airing of a legal journal can be sent and heard. Receivers count all tables that it carries.
+pub fn airings_can_be_heard()
+    ensures heard { AiringsCanBeHeard }
+    ensures counted { AiringsAreCounted }
+{}

@@ -1,0 +1,4 @@
+pub mod ReadBack
+pub mod Names
+pub mod Shown
+pub mod Last
