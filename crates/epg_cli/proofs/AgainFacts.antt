@@ -13,8 +13,8 @@ use Rattle.mux_model.specs.declared.mux.Mux.{Mux}
 use Rattle.mux_config.specs.declared.record.Numbered.{Numbered}
 use Rattle.mux_config.specs.Block.{Block, Whole, and_found, block_from, ended, fault_of, is_end, unless, with_network, with_services, with_stream, said, first, network_in, stream_in, is_network, is_stream, mux_with}
 use Rattle.mux_config.specs.Fields.{found_line}
-use Rattle.feed_edits.specs.Ahead.{Ends, Row, tail_of}
-use Rattle.feed_edits.specs.Ahead as reading
+use Rattle.input_lines.specs.Ahead.{Ends, Row, tail_of}
+use Rattle.input_lines.specs.Ahead as reading
 use Rattle.journal_model.specs.declared.reply.Field.{Field}
 use Rattle.journal_model.specs.declared.reply.Field.TheVariants.{Start, Duration, Window, Language, Name, Short, Extended, Country, Rating, Genre, Provider, ServiceName, Count, Segment}
 use Rattle.journal_model.specs.declared.reply.DayFault.{DayFault}
@@ -31,7 +31,7 @@ use Rattle.desk_core.proofs.JournalFacts.{journal_only}
 use Rattle.journal_text.specs.Back.{EntryReadsBack, IsReadable, ahead_of, command_lines, shown_lines}
 use Rattle.journal_text.specs.Entries.{entry_text, journal_text}
 use Rattle.journal_text.proofs.EntryBack.{entries_read_back}
-use Rattle.headend_live.specs.OnAir.{and_step}
+use Rattle.headend_jobs.specs.OnAir.{and_step}
 use Rattle.epg_live.specs.declared.reporting.HeardAir.{HeardAir}
 use Rattle.epg_report.specs.declared.status.Status.{Status}
 use Rattle.epg_report.specs.declared.status.Status.TheVariants.{Memory}
@@ -51,20 +51,9 @@ same_number : (n : ℕ) → (n == n) ≡ true
 same_number n = eq-eqb n n refl
 
 same_field : (f : Field) → is_field f f ≡ true
-same_field Start = refl
-same_field Duration = refl
-same_field Window = refl
-same_field Language = refl
-same_field Name = refl
-same_field Short = refl
-same_field Extended = refl
-same_field Country = refl
-same_field Rating = refl
-same_field Genre = refl
-same_field Provider = refl
-same_field ServiceName = refl
 same_field (Count n) = same_number n
 same_field (Segment n) = same_number n
+same_field other = refl
 
 same_fault : (f : DayFault) → is_day_fault f f ≡ true
 same_fault (BadField f) = same_field f

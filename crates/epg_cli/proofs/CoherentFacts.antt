@@ -4,17 +4,17 @@ use Rattle.std.specs.Prelude.{Option, Some, None}
 use Rattle.std.specs.List.{AllByRecursion}
 use Rattle.std.proofs.lemmas.List.{take_all}
 use Rattle.mux_model.specs.declared.mux.Mux.{Mux}
-use Rattle.feed_edits.specs.Ahead.{Tail, Breaks, tail_of}
+use Rattle.input_lines.specs.Ahead.{Tail, Breaks, tail_of}
 use Rattle.si_causes.specs.Text.{text_lines}
 use Rattle.input_lines.specs.Going.{shown_whole}
 use Rattle.journal_model.specs.declared.step.Entry.{Entry}
 use Rattle.journal_model.specs.Steps.{Command}
 use Rattle.desk_core.proofs.JournalFacts.{journal_legal}
-use Rattle.version_book.specs.Airings.{Airing}
+use Rattle.version_book.specs.Airings.{AiredTables}
 use Rattle.air_hearing.specs.Counting.{CanBeHeard}
 use Rattle.air_coherence.specs.Coherence.{SentCoherent}
 use Rattle.air_coherence.proofs.Sent.{whole_sent_coherent, cut_sent_coherent}
-use Rattle.headend_live.proofs.CarryFacts.{airings_heard}
+use Rattle.journal_air.proofs.CarryFacts.{airings_heard}
 use Rattle.epg_report.specs.declared.status.Status.{Status}
 use Rattle.epg_report.specs.declared.status.Status.TheVariants.{Done, Usage, BadScript, Disagrees, BadMux, BadFeed, BadStream, TooLong as PastLimit, OpenFault, ReadFault, WriteFault, Memory}
 use Rattle.epg_report.specs.declared.status.Origin.TheVariants.{Input, Feed}
@@ -41,16 +41,23 @@ module _ (lines : List (List ℕ)) (tail : Tail) where
   front_heard : (k : ℕ) → AllByRecursion CanBeHeard (airings_for script.mux (first_journal k script))
   front_heard k = heard_by k script.mux refl
 
-  whole_coherent : (air : ReportTaken) → IsAired script (whole_journal script) air → ScriptIsCoherent script air
-  whole_coherent air is =
+  -- what was sent of all commands, and of the first of them
+  pub whole_sent : (air : ReportTaken) → IsAired script (whole_journal script) air → SentCoherent (airings_for script.mux (first_journal (length script.commands) script)) air.old air.new
+  whole_sent air is =
       let n : ℕ = length script.commands in
       let all : whole_journal script ≡ first_journal n script = ap (journal_for script.mux) (sym (take_all n script.commands (omega arith))) in
       let here = subst (λ (es : List Entry). IsAired script es air) all is in
-      (n, whole_sent_coherent (airings_for script.mux (first_journal n script)) here.cycles air.old air.new here.is_air here.made (front_heard n) here.bytes)
+      whole_sent_coherent (airings_for script.mux (first_journal n script)) here.cycles air.old air.new here.is_air here.made (front_heard n) here.bytes
+
+  pub cut_sent : (air : ReportTaken) (k : ℕ) → IsAiredFront script (first_journal k script) air → SentCoherent (airings_for script.mux (first_journal k script)) air.old air.new
+  cut_sent air k is =
+      cut_sent_coherent (airings_for script.mux (first_journal k script)) is.whole is.cut is.taken air.old air.new is.is_air is.made (front_heard k) is.bytes
+
+  whole_coherent : (air : ReportTaken) → IsAired script (whole_journal script) air → ScriptIsCoherent script air
+  whole_coherent air is = (length script.commands, whole_sent air is)
 
   cut_coherent : (air : ReportTaken) (k : ℕ) → IsAiredFront script (first_journal k script) air → ScriptIsCoherent script air
-  cut_coherent air k is =
-      (k, cut_sent_coherent (airings_for script.mux (first_journal k script)) is.whole is.cut is.taken air.old air.new is.is_air is.made (front_heard k) is.bytes)
+  cut_coherent air k is = (k, cut_sent air k is)
 
 module _ (text : List ℕ) where
   abbrev lines_in : List (List ℕ)
@@ -63,11 +70,7 @@ module _ (text : List ℕ) where
   text_coherent air is = whole_coherent lines_in tail_in air is
 
   pub play_coherent : (left : Option (List ℕ)) (air report : ReportTaken) (status : Status) → Leaves text left air report status → PlayIsCoherent text air status
-  play_coherent left air report Done leaves = text_coherent air leaves.air_is
   play_coherent left air report Usage leaves = absurd leaves
-  play_coherent left air report (BadScript n) leaves = text_coherent air leaves.air_is
-  play_coherent left air report (Disagrees n kept found) leaves = text_coherent air leaves.air_is
-  play_coherent left air report (BadMux fault) leaves = text_coherent air leaves.air_is
   play_coherent left air report (BadFeed feed n) leaves = absurd leaves
   play_coherent left air report (BadStream n) leaves = absurd leaves
   play_coherent left air report (PastLimit Input) leaves = text_coherent air leaves.air_is
@@ -79,3 +82,4 @@ module _ (text : List ℕ) where
   play_coherent left air report (WriteFault Air) leaves = cut_coherent lines_in tail_in air leaves.k leaves.air_is
   play_coherent left air report (WriteFault Report) leaves = text_coherent air leaves.air_is
   play_coherent left air report Memory leaves = tt
+  play_coherent left air report other leaves = text_coherent air leaves.air_is

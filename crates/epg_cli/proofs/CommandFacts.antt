@@ -60,36 +60,18 @@ listen_open s f is e = subst IsOfListen e is
 -- ---- each fault has its cause
 
 pub play_cause : (i j f g a b : ℕ) (s : Status) → IsOfPlay s → (s ≡ ReadFault Input → Rose i j) → (s ≡ WriteFault Air → Rose a b) → HasStatusCause i j f g a b s
-play_cause i j f g a b Done is read air = tt
-play_cause i j f g a b Usage is read air = tt
-play_cause i j f g a b (BadScript n) is read air = tt
-play_cause i j f g a b (Disagrees n kept found) is read air = tt
-play_cause i j f g a b (BadMux fault) is read air = tt
-play_cause i j f g a b (BadFeed k n) is read air = tt
-play_cause i j f g a b (BadStream n) is read air = tt
-play_cause i j f g a b (TooLong origin) is read air = tt
-play_cause i j f g a b (OpenFault k) is read air = tt
 play_cause i j f g a b (ReadFault Input) is read air = read refl
 play_cause i j f g a b (ReadFault (Feed k)) is read air = absurd is
 play_cause i j f g a b (WriteFault Air) is read air = air refl
 play_cause i j f g a b (WriteFault Report) is read air = tt
-play_cause i j f g a b Memory is read air = tt
+play_cause i j f g a b other is read air = tt
 
 pub listen_cause : (i j f g a b : ℕ) (s : Status) → IsOfListen s → (s ≡ ReadFault Input → Rose i j) → HasStatusCause i j f g a b s
-listen_cause i j f g a b Done is read = tt
-listen_cause i j f g a b Usage is read = tt
-listen_cause i j f g a b (BadScript n) is read = tt
-listen_cause i j f g a b (Disagrees n kept found) is read = tt
-listen_cause i j f g a b (BadMux fault) is read = tt
-listen_cause i j f g a b (BadFeed k n) is read = tt
-listen_cause i j f g a b (BadStream n) is read = tt
-listen_cause i j f g a b (TooLong origin) is read = tt
-listen_cause i j f g a b (OpenFault k) is read = tt
 listen_cause i j f g a b (ReadFault Input) is read = read refl
 listen_cause i j f g a b (ReadFault (Feed k)) is read = absurd is
 listen_cause i j f g a b (WriteFault Air) is read = absurd is
 listen_cause i j f g a b (WriteFault Report) is read = tt
-listen_cause i j f g a b Memory is read = tt
+listen_cause i j f g a b other is read = tt
 
 -- what holds of want of memory
 pub of_memory : (P : Status → Type 0) (s : Status) → s ≡ Memory → P Memory → P s

@@ -1,17 +1,18 @@
 -- The items of a script, one after another, and what is played of them.
-use Rattle.std.proofs.Common.{◌≡◌, ℕ, Bool, true, false, List, [], ◌∷◌, ◌++◌, length, take, refl, sym, ap, ◌∙◌, subst, append-nil, append_assoc}
+use Rattle.std.proofs.Common.{◌≡◌, ◌≤◌, ℕ, Bool, true, false, List, [], ◌∷◌, ◌++◌, length, take, refl, sym, ap, ◌∙◌, subst, append-nil, append_assoc}
 use Rattle.std.specs.Prelude.{Option, Some, None, Ok, Err, is_some}
 use Rattle.std.proofs.Math.Seq.{take-append_seam}
+use Rattle.si_causes.proofs.CauseFacts.{Rose-from}
 use Rattle.si_causes.specs.Reading.{Reading, text_left}
 use Rattle.si_causes.specs.declared.stop.ReadStop.TheVariants.{Failed, TooLong as Overlong}
 use Rattle.input_lines.specs.Going.{HandedOut}
 use Rattle.input_lines.proofs.Steps.{handed_none, handed_more, whole_more}
 use Rattle.mux_model.specs.declared.mux.Mux.{Mux}
-use Rattle.feed_edits.specs.declared.stop.EditStop.{EditStop}
-use Rattle.feed_edits.specs.declared.stop.EditStop.TheVariants as edits
-use Rattle.feed_edits.specs.Ahead.{Ahead, Tail, Found, Came, Stopped, ahead}
-use Rattle.feed_edits.specs.Ahead as reading
-use Rattle.feed_edits.specs.Reads.{Passes, Leaves, Faulted, ahead_with}
+use Rattle.input_lines.specs.declared.stop.EditStop.{EditStop}
+use Rattle.input_lines.specs.declared.stop.EditStop.TheVariants as edits
+use Rattle.input_lines.specs.Ahead.{Ahead, Tail, Found, Came, Stopped, ahead}
+use Rattle.input_lines.specs.Ahead as reading
+use Rattle.input_lines.specs.Reads.{Passes, Leaves, Gives, GivesNext, Takes, Faulted, ahead_with}
 use Rattle.journal_model.specs.declared.step.Step.{Step}
 use Rattle.journal_model.specs.declared.step.Outcome.{Outcome}
 use Rattle.journal_model.specs.declared.step.Entry.{Entry}
@@ -20,15 +21,14 @@ use Rattle.journal_model.specs.Steps.{Command}
 use Rattle.desk_core.specs.Desks.{DeskState}
 use Rattle.desk_core.proofs.JournalFacts.{journal_more}
 use Rattle.journal_text.specs.declared.script.ScriptItem.{ScriptItem}
-use Rattle.journal_text.specs.declared.script.ScriptItem.TheVariants.{Step as step, Kept, End}
+use Rattle.journal_text.specs.declared.script.ScriptItem.TheVariants.{Step as step, Kept}
 use Rattle.journal_text.specs.Script.{asked_by, first_script_item, items_ahead, kept_first}
-use Rattle.journal_text.specs.ScriptReads.{GivesItem, TakesItem}
 use Rattle.journal_text.proofs.ItemsAhead.{items_step, items_kept, items_stop}
-use Rattle.headend_live.specs.OnAir.{and_step}
+use Rattle.headend_jobs.specs.OnAir.{and_step}
 use Rattle.epg_cli.specs.declared.stop.PlayStop.{PlayStop}
 use Rattle.epg_cli.specs.declared.stop.PlayStop.TheVariants.{NoMux as Undescribed, NoCommand as Refused, Disagrees, Read, Air, Memory}
 use Rattle.epg_cli.specs.Script.{Stop, Ended, NoCommand, Disagreed, TooLong, Unread, commands_of, difference, first_difference, first_of, played_items, stop_of, up_to}
-use Rattle.epg_cli.specs.Played.{IsDifference, PlayedWhole, RestDid, RestTaken, StepDid, course, course_of, desk_after, late_difference, read_stop, unless_late}
+use Rattle.epg_cli.specs.Played.{HasReadCause, IsDifference, PlayedWhole, RestDid, RestTaken, StepDid, course, course_of, desk_after, late_difference, read_stop, unless_late}
 
 -- commands and a stop
 abbrev pub Rest : Type 0
@@ -141,13 +141,9 @@ pub record ItemRead {S : Type 0} (left : S → Known) (now new : Reading S) (aft
   pub gives : (text : List ℕ) → text_left left now ≡ Some text → Leaves left (first_script_item after) (Came item) now new text
   pub takes : Passes left (first_script_item after) (Came item) now new
 
-pub step_read : {S : Type 0} (left : S → Known) (faults : S → ℕ) (now new : Reading S) (after : Bool) (made : Option Outcome) (who : ℕ) (s : Step) → after ≡ is_some made
-    → ((text : List ℕ) → text_left left now ≡ Some text → GivesItem left after now new text (Ok (step who s))) → TakesItem left faults after now new (Ok (step who s)) → ItemRead left now new (is_some made) (step who s)
-step_read left faults now new after made who s e gives takes = subst (λ (b : Bool). ItemRead left now new b (step who s)) e (record { gives = gives; takes = takes })
-
-pub kept_read : {S : Type 0} (left : S → Known) (faults : S → ℕ) (now new : Reading S) (after : Bool) (made : Option Outcome) (n : ℕ) (kept : Outcome) → after ≡ is_some made
-    → ((text : List ℕ) → text_left left now ≡ Some text → GivesItem left after now new text (Ok (Kept n kept))) → TakesItem left faults after now new (Ok (Kept n kept)) → ItemRead left now new (is_some made) (Kept n kept)
-kept_read left faults now new after made n kept e gives takes = subst (λ (b : Bool). ItemRead left now new b (Kept n kept)) e (record { gives = gives; takes = takes })
+pub item_read : {S : Type 0} (left : S → Known) (now new : Reading S) (after : Bool) (made : Option Outcome) (item : ScriptItem) → after ≡ is_some made
+    → ((text : List ℕ) → text_left left now ≡ Some text → Leaves left (first_script_item after) (Came item) now new text) → Passes left (first_script_item after) (Came item) now new → ItemRead left now new (is_some made) item
+item_read left now new after made item e gives takes = subst (λ (b : Bool). ItemRead left now new b item) e (record { gives = gives; takes = takes })
 
 -- what is played of what is ahead, before an item and behind it
 went_item : {S : Type 0} (left : S → Known) (old now new : Reading S) (before desk next : DeskState) (made after : Option Outcome) (item : ScriptItem) (done : List Command)
@@ -202,14 +198,14 @@ stopped_did : (all : Rest) (done : List Command) (stop : Stop) (before desk : De
 stopped_did all done stop before desk e d = (ap (λ (p : Rest). p.1) e, d ∙ ap (desk_after before) (sym (ap (λ (p : Rest). p.0) e)))
 
 pub ended : {S : Type 0} (left : S → Known) (old now new : Reading S) (before desk : DeskState) (after : Bool) (made : Option Outcome) → after ≡ is_some made → Went left old now before desk made
-    → ((text : List ℕ) → text_left left now ≡ Some text → GivesItem left after now new text (Ok End)) → (text : List ℕ) → text_left left old ≡ Some text
+    → ((text : List ℕ) → text_left left now ≡ Some text → GivesNext left (first_script_item after) now new text (Ok None)) → (text : List ℕ) → text_left left old ≡ Some text
     → RestDid (course_at before None (ahead old text)) before desk (Ok tt)
 ended left old now new before desk after made e w gives text told =
     stopped_did _ w.done Ended before desk
     (told_stop left old now before desk made Ended w (λ rest is. stop_ahead desk made (ahead now rest) reading.End (ap (λ b. first_script_item b (ahead now rest)) (sym e) ∙ (gives rest is).0)) text told) w.did
 
 pub read_stopped : {S : Type 0} (left : S → Known) (old now new : Reading S) (before desk : DeskState) (after : Bool) (made : Option Outcome) (stop : EditStop) → after ≡ is_some made → Went left old now before desk made
-    → ((text : List ℕ) → text_left left now ≡ Some text → GivesItem left after now new text (Err stop)) → (text : List ℕ) → text_left left old ≡ Some text
+    → ((text : List ℕ) → text_left left now ≡ Some text → Gives {T = ScriptItem} left (first_script_item after) now new text (Err stop)) → (text : List ℕ) → text_left left old ≡ Some text
     → RestDid (course_at before None (ahead old text)) before desk (Err (read_stop stop))
 read_stopped left old now new before desk after made (edits.NoCommand n) e w gives text told =
     stopped_did _ w.done (NoCommand n) before desk
@@ -232,11 +228,7 @@ pub differed_at : {S : Type 0} (left : S → Known) (old now new : Reading S) (b
     → ItemRead left now new (is_some made) (Kept n kept) → IsDifference (late_difference made (Some (n, kept))) (Some stop) → (text : List ℕ) → text_left left old ≡ Some text
     → RestDid (course_at before None (ahead old text)) before desk (Err stop)
 differed_at left old now new before desk made n kept (Disagrees m asked found) w r differ text told = differed left old now new before desk made n m kept asked found w r differ text told
-differed_at left old now new before desk made n kept (Undescribed fault) w r differ text told = absurd differ
-differed_at left old now new before desk made n kept (Refused m) w r differ text told = absurd differ
-differed_at left old now new before desk made n kept (Read stop) w r differ text told = absurd differ
-differed_at left old now new before desk made n kept Air w r differ text told = absurd differ
-differed_at left old now new before desk made n kept Memory w r differ text told = absurd differ
+differed_at left old now new before desk made n kept other w r differ text told = absurd differ
 
 -- a step was done, and its cycle failed
 front_of : (all x : Rest) (done : List Command) → all ≡ (done ++ x.0, x.1) → take (length done) all.0 ≡ done
@@ -251,10 +243,7 @@ step_failed left old now new before desk next made who s Air w r did text told =
     let t = more.told text told in
     (length more.done, more.did ∙ ap (desk_after before) (sym (front_of (course_at before None (ahead old text)) (course_at next made_now (ahead new t.0)) more.done t.2)))
 step_failed left old now new before desk next made who s Memory w r did text told = tt
-step_failed left old now new before desk next made who s (Undescribed fault) w r did text told = absurd did
-step_failed left old now new before desk next made who s (Refused n) w r did text told = absurd did
-step_failed left old now new before desk next made who s (Disagrees n kept found) w r did text told = absurd did
-step_failed left old now new before desk next made who s (Read read) w r did text told = absurd did
+step_failed left old now new before desk next made who s other w r did text told = absurd did
 
 -- ---- a read that failed
 
@@ -274,8 +263,16 @@ failed_at left faults old now new before desk made w f =
     }
 
 pub taken : {S : Type 0} (left : S → Known) (faults : S → ℕ) (old now new : Reading S) (before desk : DeskState) (after : Bool) (made : Option Outcome) (stop : EditStop) → after ≡ is_some made → Went left old now before desk made
-    → TakesItem left faults after now new (Err stop) → RestTaken left old new before desk (Err (read_stop stop))
+    → Takes {T = ScriptItem} left faults (first_script_item after) now new (Err stop) → RestTaken left old new before desk (Err (read_stop stop))
 taken left faults old now new before desk after made (edits.Read Failed) e w f = failed_at left faults old now new before desk made w (subst (λ (b : Bool). Faulted left faults (first_script_item b) now new) e f)
 taken left faults old now new before desk after made (edits.Read Overlong) e w f = tt
 taken left faults old now new before desk after made (edits.NoCommand n) e w f = tt
 taken left faults old now new before desk after made edits.Memory e w f = tt
+
+-- a stop by a failed read has its cause
+pub read_caused : {S : Type 0} (left : S → Known) (faults : S → ℕ) (old now new : Reading S) (after : Bool) (stop : EditStop) → faults old.source ≤ faults now.source → Takes {T = ScriptItem} left faults (first_script_item after) now new (Err stop)
+    → HasReadCause {T = Unit {0}} (faults old.source) (faults new.source) (Err (read_stop stop))
+read_caused left faults old now new after (edits.Read Failed) le f = Rose-from _ _ _ le f.cause
+read_caused left faults old now new after (edits.Read Overlong) le f = tt
+read_caused left faults old now new after (edits.NoCommand n) le f = tt
+read_caused left faults old now new after edits.Memory le f = tt

@@ -8,7 +8,7 @@ use Rattle.mux_model.specs.declared.mux.Mux.{Mux}
 use Rattle.mux_config.specs.Block.{Block, Faulty, Whole, Unended, block_from}
 use Rattle.mux_model.specs.Sound.{IsSoundWithIds}
 use Rattle.mux_config.proofs.FineLines.{block_sound}
-use Rattle.feed_edits.specs.Ahead.{Tail}
+use Rattle.input_lines.specs.Ahead.{Tail}
 use Rattle.ts_packets.specs.Bytes.{Packet, bytes_of_packet}
 use Rattle.packet_reader.specs.Recordings.{RecordingEnd, RecordingEnd.AtEnd, is_packet, and_packet, packets_in, packet_limit, recording}
 use Rattle.packet_reader.proofs.RecordingFacts.{packet_step}
@@ -25,25 +25,26 @@ use Rattle.section_codec.specs.declared.table.SubTable.{SubTable}
 use Rattle.section_codec.specs.KeyOrder.{is_key}
 use Rattle.section_codec.proofs.KeyOrderFacts.{is_key-same}
 use Rattle.section_codec.specs.Contents.{Content}
-use Rattle.version_book.specs.Airings.{Airing, content_in, carried}
+use Rattle.version_book.specs.Airings.{AiredTables, content_in, carried}
 use Rattle.air_hearing.specs.Counting.{CanBeHeard}
 use Rattle.air_hearing.specs.Changes.{is_new_at, version_with, changes_of, is_done_key}
 use Rattle.air_hearing.proofs.Told.{changes_heard}
-use Rattle.headend_live.specs.Air.{airings}
-use Rattle.headend_live.proofs.CarryFacts.{airings_heard, airings_counted}
+use Rattle.journal_air.specs.Air.{airings}
+use Rattle.journal_air.proofs.CarryFacts.{airings_heard, airings_counted}
 use Rattle.epg_cli.specs.Script.{script_with, script_of_lines}
 use Rattle.epg_cli.specs.Hearing.{PlayIsHeard}
 use Rattle.epg_cli.proofs.TypedFacts.{first-typed, journal-typed, script-typed}
 
 -- ---- the multiplex of a script
 
-mux_with : (block : Block) (tail : Tail) (mux : Mux) → ((m : Mux) (behind : List (ℕ × List ℕ)) → block ≡ Whole m behind → IsSoundWithIds m) → (script_with block tail).mux ≡ Some mux → IsSoundWithIds mux
-mux_with (Faulty fault) tail mux sound e = cc
-mux_with (Whole m behind) tail mux sound e = (let same : m ≡ mux = cc in subst IsSoundWithIds same (sound m behind refl))
-mux_with Unended tail mux sound e = cc
+-- what holds of each multiplex that a block describes holds of that of its script
+pub mux_with : (P : Mux → Type 0) (block : Block) (tail : Tail) (mux : Mux) → ((m : Mux) (behind : List (ℕ × List ℕ)) → block ≡ Whole m behind → P m) → (script_with block tail).mux ≡ Some mux → P mux
+mux_with P (Faulty fault) tail mux holds e = cc
+mux_with P (Whole m behind) tail mux holds e = (let same : m ≡ mux = cc in subst P same (holds m behind refl))
+mux_with P Unended tail mux holds e = cc
 
 pub mux_of_script : (lines : List (List ℕ)) (tail : Tail) (mux : Mux) → (script_with (block_from [] (record_lines 1 lines)) tail).mux ≡ Some mux → IsSoundWithIds mux
-mux_of_script lines tail mux e = mux_with (block_from [] (record_lines 1 lines)) tail mux (λ m behind is. block_sound 1 lines m behind is) e
+mux_of_script lines tail mux e = mux_with IsSoundWithIds (block_from [] (record_lines 1 lines)) tail mux (λ m behind is. block_sound 1 lines m behind is) e
 
 -- ---- an air as a recording
 
@@ -65,7 +66,7 @@ recorded (suc n) (p ∷ ps) all le =
 -- ---- a key that no airing carries
 
 -- all tables of an airing are such as receivers count
-abbrev AreCounted : Airing → Type 0
+abbrev AreCounted : AiredTables → Type 0
 AreCounted a = AllByRecursion (λ (t : SubTable). is_counted t.key.pid t.key.table ≡ true) a.tables
 
 other_key : (k : Key) (ts : List SubTable) → AllByRecursion (λ (t : SubTable). is_counted t.key.pid t.key.table ≡ true) ts → is_counted k.pid k.table ≡ false → content_in k ts ≡ None
@@ -78,13 +79,13 @@ other_key k (t ∷ ts) are other = go (is_key k t.key) refl (other_key k ts are.
         let none : true ≡ false = sym are.0 ∙ ap (λ (q : Key). is_counted q.pid q.table) (sym (is_key-same k t.key e)) ∙ other in
         absurd (let z : Prim.⊥ = cc in z)
 
-unchanged : (k : Key) (past airs : List Airing) → AllByRecursion AreCounted airs → is_counted k.pid k.table ≡ false → changes_of k past airs ≡ []
+unchanged : (k : Key) (past airs : List AiredTables) → AllByRecursion AreCounted airs → is_counted k.pid k.table ≡ false → changes_of k past airs ≡ []
 unchanged k past [] are other = refl
 unchanged k past (a ∷ airs) are other =
     ap₂ (λ (o : Option Content) (l : List DoneKey). (if is_new_at (carried k past) o then version_with k past a ∷ [] else []) ++ l) (other_key k a.tables are.0 other) (unchanged k (past ++ a ∷ []) airs are.1 other)
 
 -- a key that receivers do not count has no version changes
-counted_or_not : (airs : List Airing) (k : Key) → AllByRecursion AreCounted airs → (b : Bool) → is_counted k.pid k.table ≡ b
+counted_or_not : (airs : List AiredTables) (k : Key) → AllByRecursion AreCounted airs → (b : Bool) → is_counted k.pid k.table ≡ b
     → (if is_counted k.pid k.table then changes_of k [] airs else []) ≡ changes_of k [] airs
 counted_or_not airs k are true e = ap (λ (b : Bool). if b then changes_of k [] airs else []) e
 counted_or_not airs k are false e = ap (λ (b : Bool). if b then changes_of k [] airs else []) e ∙ sym (unchanged k [] airs are e)

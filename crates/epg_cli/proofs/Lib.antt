@@ -10,3 +10,5 @@ pub mod OutcomeFacts
 mod StopLines
 mod CommandFacts
 mod CoherentFacts
+mod SpacedFacts
+mod ShownFacts

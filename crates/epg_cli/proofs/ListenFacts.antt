@@ -9,7 +9,7 @@ use Rattle.heard_completions.proofs.Dones.{dones_push}
 use Rattle.si_causes.proofs.CauseFacts.{Rose-from, front_behind, Appends-nothing}
 use Rattle.si_causes.specs.Causes.{AppendsFront}
 use Rattle.packet_reader.specs.Recordings.{RecordingEnd, RecordingEnd.AtEnd, RecordingEnd.Broken, RecordingEnd.PastLimit, packet_limit, is_packet, and_packet, packets_in, recording}
-use Rattle.packet_reader.specs.Reading.{Reading, GivesPacket, TakesPacket, Counts, bytes_left, room, fresh}
+use Rattle.packet_reader.specs.Reading.{PacketReading, GivesPacket, TakesPacket, Counts, bytes_left, packets_to_come, fresh}
 use Rattle.packet_reader.proofs.RecordingFacts.{packet_step, broken_step, short_piece}
 use Rattle.packet_reader.specs.declared.stop.PacketStop.{PacketStop}
 use Rattle.packet_reader.specs.declared.stop.PacketStop.TheVariants as packet
@@ -53,26 +53,26 @@ no_lines n (d ∷ ds) w e = absurd (omega arith)
 
 -- ---- packets
 
-pub given_packet : {S : Type 0} (left : S → Option (List ℕ)) (before new : Reading S) (p : Recording) (n : ℕ) → GivesPacket left before new p (Ok (Some n))
-    → (rest : List ℕ) × (bytes_left left new ≡ Some rest) × (p ≡ and_packet new.packet (packets_in (room new) rest))
-given_packet left before new (q ∷ packets, end) n (is, (rest, told, then)) = (rest, told, ap (λ (r : Recording). and_packet q r) (sym then) ∙ ap (λ (t : List ℕ). and_packet t (packets_in (room new) rest)) (sym is))
+pub given_packet : {S : Type 0} (left : S → Option (List ℕ)) (before new : PacketReading S) (p : Recording) (n : ℕ) → GivesPacket left before new p (Ok (Some n))
+    → (rest : List ℕ) × (bytes_left left new ≡ Some rest) × (p ≡ and_packet new.packet (packets_in (packets_to_come new) rest))
+given_packet left before new (q ∷ packets, end) n (is, (rest, told, then)) = (rest, told, ap (λ (r : Recording). and_packet q r) (sym then) ∙ ap (λ (t : List ℕ). and_packet t (packets_in (packets_to_come new) rest)) (sym is))
 given_packet left before new ([], AtEnd) n gives = absurd gives
 given_packet left before new ([], Broken) n gives = absurd gives
 given_packet left before new ([], PastLimit) n gives = absurd gives
 
-pub given_end : {S : Type 0} (left : S → Option (List ℕ)) (before new : Reading S) (p : Recording) → GivesPacket left before new p (Ok None) → p ≡ ([], AtEnd)
+pub given_end : {S : Type 0} (left : S → Option (List ℕ)) (before new : PacketReading S) (p : Recording) → GivesPacket left before new p (Ok None) → p ≡ ([], AtEnd)
 given_end left before new (q ∷ packets, end) gives = absurd gives
 given_end left before new ([], AtEnd) gives = refl
 given_end left before new ([], Broken) gives = absurd gives
 given_end left before new ([], PastLimit) gives = absurd gives
 
-given_broken : {S : Type 0} (left : S → Option (List ℕ)) (before new : Reading S) (p : Recording) (n : ℕ) → GivesPacket left before new p (Err (packet.Broken n)) → p ≡ ([], Broken)
+given_broken : {S : Type 0} (left : S → Option (List ℕ)) (before new : PacketReading S) (p : Recording) (n : ℕ) → GivesPacket left before new p (Err (packet.Broken n)) → p ≡ ([], Broken)
 given_broken left before new (q ∷ packets, end) n gives = absurd gives
 given_broken left before new ([], AtEnd) n gives = absurd gives
 given_broken left before new ([], Broken) n gives = refl
 given_broken left before new ([], PastLimit) n gives = absurd gives
 
-given_past : {S : Type 0} (left : S → Option (List ℕ)) (before new : Reading S) (p : Recording) → GivesPacket left before new p (Err packet.TooLong) → p ≡ ([], PastLimit)
+given_past : {S : Type 0} (left : S → Option (List ℕ)) (before new : PacketReading S) (p : Recording) → GivesPacket left before new p (Err packet.TooLong) → p ≡ ([], PastLimit)
 given_past left before new (q ∷ packets, end) gives = absurd gives
 given_past left before new ([], AtEnd) gives = absurd gives
 given_past left before new ([], Broken) gives = absurd gives
@@ -106,7 +106,7 @@ front_heard all y heard e = ap (λ (r : Recording). take (length heard) r.0) e �
 text_is : (old new : Option (List ℕ)) (xs ys : List (List ℕ)) → xs ≡ ys → Appends old new (heard_text ys) → Appends old new (heard_text xs)
 text_is old new xs ys e done = subst (λ (l : List (List ℕ)). Appends old new (heard_text l)) (sym e) done
 
-pub heard_end : {S : Type 0} (left : S → Option (List ℕ)) (before after : Reading S) (bytes : List ℕ) (y : Recording) (heard : List (List ℕ)) (receiver : Hearing) (old new : Option (List ℕ))
+pub heard_end : {S : Type 0} (left : S → Option (List ℕ)) (before after : PacketReading S) (bytes : List ℕ) (y : Recording) (heard : List (List ℕ)) (receiver : Hearing) (old new : Option (List ℕ))
     → recording bytes ≡ (heard ++ y.0, y.1) → GivesPacket left before after y (Ok None) → Appends old new (heard_text heard) → ReceiverStandsFor heard receiver → HasHeard bytes (left after.source) receiver old new (Ok tt)
 heard_end left before after bytes y heard receiver old new e gives done stands =
     let last = last_heard (recording bytes) y heard AtEnd e (given_end left before after y gives) in
@@ -166,19 +166,19 @@ left_behind (Some xs) (Some ys) held more rest e gave =
     let same : held ++ xs ≡ rest = cc in
     (ys, refl, sym same ∙ ap (λ l. held ++ l) gave ∙ sym (append_assoc held more ys))
 
-pub heard_stop : {S : Type 0} (left : S → Option (List ℕ)) (before after : Reading S) (s : PacketStop) (bytes done rest : List ℕ) (heard : List (List ℕ)) (receiver : Hearing) (old new : Option (List ℕ))
-    → bytes_left left before ≡ Some rest → HasParted bytes done heard (room before) rest → before.number ≡ length heard → GivesPacket left before after (packets_in (room before) rest) (Err s)
+pub heard_stop : {S : Type 0} (left : S → Option (List ℕ)) (before after : PacketReading S) (s : PacketStop) (bytes done rest : List ℕ) (heard : List (List ℕ)) (receiver : Hearing) (old new : Option (List ℕ))
+    → bytes_left left before ≡ Some rest → HasParted bytes done heard (packets_to_come before) rest → before.number ≡ length heard → GivesPacket left before after (packets_in (packets_to_come before) rest) (Err s)
     → TakesPacket left before after (Err s) → Counts before after (Err s) → Appends old new (heard_text heard) → HasHeard bytes (left after.source) receiver old new (Err (stop.Read s))
 heard_stop left before after (packet.Broken n) bytes done rest heard receiver old new tells parted count gives takes counts lines =
-    let last = last_heard (recording bytes) (packets_in (room before) rest) heard Broken (parted_recording bytes done rest heard (room before) parted) (given_broken left before after (packets_in (room before) rest) n gives) in
+    let last = last_heard (recording bytes) (packets_in (packets_to_come before) rest) heard Broken (parted_recording bytes done rest heard (packets_to_come before) parted) (given_broken left before after (packets_in (packets_to_come before) rest) n gives) in
     (ap (λ (r : Recording). r.1) last, counts.0 ∙ count ∙ ap (λ (r : Recording). length r.0) (sym last), text_is old new (recording bytes).0 heard (ap (λ (r : Recording). r.0) last) lines)
 heard_stop left before after packet.TooLong bytes done rest heard receiver old new tells parted count gives takes counts lines =
-    let last = last_heard (recording bytes) (packets_in (room before) rest) heard PastLimit (parted_recording bytes done rest heard (room before) parted) (given_past left before after (packets_in (room before) rest) gives) in
+    let last = last_heard (recording bytes) (packets_in (packets_to_come before) rest) heard PastLimit (parted_recording bytes done rest heard (packets_to_come before) parted) (given_past left before after (packets_in (packets_to_come before) rest) gives) in
     (ap (λ (r : Recording). r.1) last, text_is old new (recording bytes).0 heard (ap (λ (r : Recording). r.0) last) lines)
 heard_stop left before after packet.Failed bytes done rest heard receiver old new tells parted count gives takes counts lines =
     let short = before.held ++ takes.0 in
     let behind = left_behind (left before.source) (left after.source) before.held takes.0 rest tells takes.1 in
-    let none = ap (λ (r : Recording). r.0) (parted.packets short) ∙ ap (λ (l : List (List ℕ)). heard ++ l) (none_in_short (room before) short takes.2) ∙ append-nil heard in (
+    let none = ap (λ (r : Recording). r.0) (parted.packets short) ∙ ap (λ (l : List (List ℕ)). heard ++ l) (none_in_short (packets_to_come before) short takes.2) ∙ append-nil heard in (
       done ++ short,
       record {
         behind = behind.0;
@@ -219,17 +219,8 @@ pub leaves_heard : (heard : Result (Unit {0}) ListenStop) (bytes : List ℕ) (le
     → EndsHeard receiver heard (record { old = mid; new = new; faults_old = g; faults_new = h }) status → LeavesHeard bytes left (record { old = old; new = new; faults_old = f; faults_new = h }) status
 leaves_heard (Ok u) bytes left receiver old mid new f g h Done le (ended, done, stands) ends = record { ended = ended; report_is = Appends-trans old mid new (heard_text (recording bytes).0) (heard_guide (recording bytes).0) done (ends (recording bytes).0 stands) }
 leaves_heard (Ok u) bytes left receiver old mid new f g h (WriteFault Report) le (ended, done, stands) ends = inr (ended, front_behind old mid new (heard_text (recording bytes).0) (heard_guide (recording bytes).0) done (ends.0 (recording bytes).0 stands))
-leaves_heard (Ok u) bytes left receiver old mid new f g h (WriteFault Air) le has ends = absurd ends
-leaves_heard (Ok u) bytes left receiver old mid new f g h Usage le has ends = absurd ends
-leaves_heard (Ok u) bytes left receiver old mid new f g h (BadScript n) le has ends = absurd ends
-leaves_heard (Ok u) bytes left receiver old mid new f g h (Disagrees n kept found) le has ends = absurd ends
-leaves_heard (Ok u) bytes left receiver old mid new f g h (BadMux fault) le has ends = absurd ends
-leaves_heard (Ok u) bytes left receiver old mid new f g h (BadFeed i n) le has ends = absurd ends
-leaves_heard (Ok u) bytes left receiver old mid new f g h (BadStream n) le has ends = absurd ends
-leaves_heard (Ok u) bytes left receiver old mid new f g h (TooLong origin) le has ends = absurd ends
-leaves_heard (Ok u) bytes left receiver old mid new f g h (OpenFault i) le has ends = absurd ends
-leaves_heard (Ok u) bytes left receiver old mid new f g h (ReadFault origin) le has ends = absurd ends
 leaves_heard (Ok u) bytes left receiver old mid new f g h Memory le has ends = tt
+leaves_heard (Ok u) bytes left receiver old mid new f g h other le has ends = absurd ends
 leaves_heard (Err stop.Memory) bytes left receiver old mid new f g h status le has ends = subst (LeavesHeard bytes left (record { old = old; new = new; faults_old = f; faults_new = h })) (sym ends) tt
 leaves_heard (Err stop.Report) bytes left receiver old mid new f g h status le has ends =
     let told : ReportTaken = record { old = old; new = new; faults_old = f; faults_new = h } in
@@ -248,7 +239,7 @@ pub heard_input : {S : Type 0} (left_of : S → Option (List ℕ)) (source input
 heard_input {S = S} left_of source input bytes report status e leaves = subst (λ (s : S). LeavesHeard bytes (left_of s) report status) (sym e) leaves
 
 -- a reader at the front of its source has the whole recording to give
-pub started : {S : Type 0} (left : S → Option (List ℕ)) (reader : Reading S) (source : S) (bytes : List ℕ) → reader ≡ fresh source → left source ≡ Some bytes → bytes_left left reader ≡ Some bytes
+pub started : {S : Type 0} (left : S → Option (List ℕ)) (reader : PacketReading S) (source : S) (bytes : List ℕ) → reader ≡ fresh source → left source ≡ Some bytes → bytes_left left reader ≡ Some bytes
 started left reader source bytes e tells = ap (bytes_left left) e ∙ prepend_known-nil (left source) ∙ tells
 
 -- where nothing fails, the end of the recording decides
@@ -262,12 +253,7 @@ hears_through bytes left report (ReadFault (Feed f)) leave r w = absurd leave
 hears_through bytes left report (WriteFault Report) leave r w = absurd (w refl)
 hears_through bytes left report (WriteFault Air) leave r w = absurd leave
 hears_through bytes left report Memory leave r w = tt
-hears_through bytes left report Usage leave r w = absurd leave
-hears_through bytes left report (BadScript n) leave r w = absurd leave
-hears_through bytes left report (Disagrees n kept found) leave r w = absurd leave
-hears_through bytes left report (BadMux fault) leave r w = absurd leave
-hears_through bytes left report (BadFeed f n) leave r w = absurd leave
-hears_through bytes left report (OpenFault f) leave r w = absurd leave
+hears_through bytes left report other leave r w = absurd leave
 
 pub no_read_cause : (before now : ℕ) (s : ListenStop) → IsNoReadStop (let r : Result (Unit {0}) ListenStop = Err s in r) → HasReadCause before now (Err s)
 no_read_cause before now (stop.Read s) none = absurd none
@@ -277,23 +263,13 @@ no_read_cause before now stop.Memory none = tt
 -- a run of `listen` has no other status
 stop_of_listen : (s : PacketStop) → IsOfListen (packet_stop_status s)
 stop_of_listen (packet.Broken n) = tt
-stop_of_listen packet.TooLong = tt
-stop_of_listen packet.Failed = tt
+stop_of_listen other = tt
 
 pub of_listen : (receiver : Hearing) (heard : Result (Unit {0}) ListenStop) (t : ReportTaken) (status : Status) → EndsHeard receiver heard t status → IsOfListen status
 of_listen receiver (Ok u) t Done ends = tt
 of_listen receiver (Ok u) t (WriteFault Report) ends = tt
-of_listen receiver (Ok u) t (WriteFault Air) ends = absurd ends
-of_listen receiver (Ok u) t Usage ends = absurd ends
-of_listen receiver (Ok u) t (BadScript n) ends = absurd ends
-of_listen receiver (Ok u) t (Disagrees n kept found) ends = absurd ends
-of_listen receiver (Ok u) t (BadMux fault) ends = absurd ends
-of_listen receiver (Ok u) t (BadFeed i n) ends = absurd ends
-of_listen receiver (Ok u) t (BadStream n) ends = absurd ends
-of_listen receiver (Ok u) t (TooLong origin) ends = absurd ends
-of_listen receiver (Ok u) t (OpenFault i) ends = absurd ends
-of_listen receiver (Ok u) t (ReadFault origin) ends = absurd ends
 of_listen receiver (Ok u) t Memory ends = tt
+of_listen receiver (Ok u) t other ends = absurd ends
 of_listen receiver (Err stop.Report) t status ends = subst IsOfListen (sym ends.0) tt
 of_listen receiver (Err stop.Memory) t status ends = subst IsOfListen (sym ends) tt
 of_listen receiver (Err (stop.Read s)) t status (inl memory) = subst IsOfListen (sym memory) tt

@@ -19,9 +19,9 @@ use Rattle.mux_config.specs.declared.stop.MuxStop.{MuxStop}
 use Rattle.mux_config.specs.declared.stop.MuxStop.TheVariants as mux
 use Rattle.mux_config.specs.Block.{Block, Faulty, Whole, Unended, at_text_end, block_from, block_of}
 use Rattle.mux_config.specs.Reads.{Described, MuxCame, ReadMux, WholeCame}
-use Rattle.feed_edits.specs.Ahead.{Breaks, ahead, tail_of}
-use Rattle.feed_edits.specs.Reads.{ahead_with}
-use Rattle.version_book.specs.Airings.{Airing}
+use Rattle.input_lines.specs.Ahead.{Breaks, ahead, tail_of}
+use Rattle.input_lines.specs.Reads.{ahead_with}
+use Rattle.version_book.specs.Airings.{AiredTables}
 use Rattle.air_model.specs.Air.{IsAirOf}
 use Rattle.air_model.proofs.Airs.{IsAirOf-none}
 use Rattle.carousel_player.specs.Playing.{Playing, AtEnd as AllSent}
@@ -30,8 +30,8 @@ use Rattle.desk_core.specs.Journal.{journal_of}
 use Rattle.journal_model.specs.Steps.{Command}
 use Rattle.desk_core.specs.Desks.{DeskState, fresh}
 use Rattle.journal_text.specs.Entries.{journal_text}
-use Rattle.headend_live.specs.Air.{airings}
-use Rattle.headend_live.specs.OnAir.{HasSentAll, HasAired, HasAiredFront, IsOnAir}
+use Rattle.journal_air.specs.Air.{airings}
+use Rattle.headend_jobs.specs.OnAir.{HasSentAll, HasAired, HasAiredFront, IsOnAir}
 use Rattle.epg_cli.specs.declared.stop.PlayStop.{PlayStop}
 use Rattle.epg_cli.specs.declared.stop.PlayStop.TheVariants.{NoMux as Undescribed, NoCommand as Refused, Disagrees as Differs, Read, Air as OnAir, Memory as NoMemory}
 use Rattle.epg_report.specs.declared.status.Status.{Status}
@@ -57,7 +57,7 @@ none_aired : (script : Script) (air : ReportTaken) → air.old ≡ air.new → I
 none_aired script air same = record {
   made = tt;
   cycles = [];
-  is_air = subst (λ (l : List Airing). IsAirOf l []) (sym (nothing_for script.mux)) IsAirOf-none;
+  is_air = subst (λ (l : List AiredTables). IsAirOf l []) (sym (nothing_for script.mux)) IsAirOf-none;
   bytes = subst (λ (w : Option (List ℕ)). Appends air.old w []) same (Appends-nothing air.old);
 }
 
@@ -147,7 +147,7 @@ aired_is : (mux : Mux) (desk : DeskState) (player : Playing) (rest : List Comman
     → IsAired (with_commands mux rest) (journal_of mux commands) air
 aired_is mux desk player rest commands air d (xs, sent, bytes) = record {
   cycles = xs;
-  is_air = subst (λ (l : List Airing). IsAirOf l xs) (sent.airings_are ∙ ap (λ (x : DeskState). airings x.mux x.entries) d) sent.at_end.is_air;
+  is_air = subst (λ (l : List AiredTables). IsAirOf l xs) (sent.airings_are ∙ ap (λ (x : DeskState). airings x.mux x.entries) d) sent.at_end.is_air;
   made = sent.made;
   bytes = bytes;
 }
@@ -161,7 +161,7 @@ front_is mux desk rest commands air d f = record {
   is_swap = f.is_swap;
   whole = f.whole;
   cut = f.cut;
-  is_air = subst (λ (l : List Airing). IsAirOf l (f.whole ++ f.cut ∷ [])) (ap (λ (x : DeskState). airings x.mux x.entries) d) f.is_air;
+  is_air = subst (λ (l : List AiredTables). IsAirOf l (f.whole ++ f.cut ∷ [])) (ap (λ (x : DeskState). airings x.mux x.entries) d) f.is_air;
   made = f.made;
   taken = f.taken;
   proper = f.proper;
@@ -221,16 +221,7 @@ finished_whole text left air report desk Done played finished =
 finished_whole text left air report desk (WriteFault Report) played finished =
     record { ended = played.stopped; air_is = played.air_is; report_is = subst (λ (l : List Entry). AppendsFront report.old report.new (journal_text l)) played.journal finished.0 }
 finished_whole text left air report desk (WriteFault Air) played finished = absurd finished
-finished_whole text left air report desk Usage played finished = absurd finished
-finished_whole text left air report desk (BadScript n) played finished = absurd finished
-finished_whole text left air report desk (Disagrees n kept found) played finished = absurd finished
-finished_whole text left air report desk (BadMux fault) played finished = absurd finished
-finished_whole text left air report desk (BadFeed f n) played finished = absurd finished
-finished_whole text left air report desk (BadStream n) played finished = absurd finished
-finished_whole text left air report desk (PastLimit origin) played finished = absurd finished
-finished_whole text left air report desk (OpenFault f) played finished = absurd finished
-finished_whole text left air report desk (ReadFault origin) played finished = absurd finished
-finished_whole text left air report desk Memory played finished = absurd finished
+finished_whole text left air report desk other played finished = absurd finished
 
 reported_of : (report : ReportTaken) (old new : List Entry) (text : List ℕ) → old ≡ new → Reported report (journal_text old ++ text) → Reported report (journal_text new ++ text)
 reported_of report old new text e r = subst (λ (l : List Entry). Reported report (journal_text l ++ text)) e r
@@ -293,10 +284,7 @@ completes text left air report (ReadFault (Feed f)) leave r a w = absurd leave
 completes text left air report (WriteFault Air) leave r a w = absurd (a refl)
 completes text left air report (WriteFault Report) leave r a w = absurd (w refl)
 completes text left air report Memory leave r a w = tt
-completes text left air report Usage leave r a w = absurd leave
-completes text left air report (BadFeed f n) leave r a w = absurd leave
-completes text left air report (BadStream n) leave r a w = absurd leave
-completes text left air report (OpenFault f) leave r a w = absurd leave
+completes text left air report other leave r a w = absurd leave
 
 -- and so a script that is whole is played to its end
 pub whole : (stop : Stop) (status : Status) → stop ≡ Ended → Completes stop status → (status ≡ Done) ⊎ (status ≡ Memory)
@@ -307,12 +295,7 @@ whole stop (BadScript n) e h = cc
 whole stop (Disagrees n kept found) e h = cc
 whole stop (PastLimit Input) e h = cc
 whole stop (PastLimit (Feed f)) e h = absurd h
-whole stop (ReadFault origin) e h = absurd h
-whole stop (WriteFault outlet) e h = absurd h
-whole stop Usage e h = absurd h
-whole stop (BadFeed f n) e h = absurd h
-whole stop (BadStream n) e h = absurd h
-whole stop (OpenFault f) e h = absurd h
+whole stop other e h = absurd h
 
 pub true-false : true ≡ false → ⊥
 true-false e = cc

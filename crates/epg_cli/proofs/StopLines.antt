@@ -11,29 +11,20 @@ use Rattle.epg_cli.specs.Run.{status_for, stop_text}
 use Rattle.epg_cli.specs.Listen.{packet_stop_status, packet_stop_text}
 
 pub stop_said : (stop : PlayStop) → IsStopInWindow stop → CanBeSaid (status_for stop)
-stop_said (NoMux fault) within = tt
-stop_said (NoCommand n) within = tt
 stop_said (Disagrees n kept found) within = within
 stop_said (Read Failed) within = tt
 stop_said (Read TooLong) within = tt
-stop_said Air within = tt
-stop_said Memory within = tt
+stop_said other within = tt
 
 pub stop_line : (stop : PlayStop) → fault_lines (status_for stop) ≡ fault_line (stop_text stop)
-stop_line (NoMux fault) = refl
-stop_line (NoCommand n) = refl
-stop_line (Disagrees n kept found) = refl
 stop_line (Read Failed) = refl
 stop_line (Read TooLong) = refl
-stop_line Air = refl
-stop_line Memory = refl
+stop_line other = refl
 
 pub packet_said : (stop : PacketStop) → CanBeSaid (packet_stop_status stop)
 packet_said (packet.Broken n) = tt
-packet_said packet.TooLong = tt
-packet_said packet.Failed = tt
+packet_said other = tt
 
 pub packet_line : (stop : PacketStop) → fault_lines (packet_stop_status stop) ≡ fault_line (packet_stop_text stop)
 packet_line (packet.Broken n) = refl
-packet_line packet.TooLong = refl
-packet_line packet.Failed = refl
+packet_line other = refl

@@ -1,4 +1,5 @@
--- The edits of a script's commands, and those of its journals, have numbers as wide as their fields, and texts that may be kept.
+-- The edits of a script's commands, and those of its journals, have numbers as wide as their fields, and texts that may be kept; their ticks are at
+-- moments that can be written.
 use Rattle.std.proofs.Common.{ℕ, false, List, [], ◌∷◌, ◌++◌, Option, Some, None, Bool, true, take}
 use Rattle.std.specs.Prelude.{IfSome, if◌then◌else◌}
 use Rattle.std.specs.List.{AllByRecursion, cons_option}
@@ -8,7 +9,7 @@ use Rattle.mux_model.specs.declared.mux.Mux.{Mux}
 use Rattle.mux_config.specs.Block.{Block, Faulty, Whole, Unended, block_from}
 use Rattle.journal_model.specs.declared.edit.Edit.{Edit}
 use Rattle.feed_book.specs.Accepted.{is_done}
-use Rattle.feed_edits.specs.Ahead.{Tail}
+use Rattle.input_lines.specs.Ahead.{Tail}
 use Rattle.journal_model.specs.Edits.{IsTypedEdit}
 use Rattle.journal_model.specs.declared.step.Step.{Step}
 use Rattle.journal_model.specs.declared.step.Step.TheVariants.{Edit as edit, Tick, Publish, Swap}
@@ -16,31 +17,36 @@ use Rattle.journal_model.specs.declared.step.Outcome.{Outcome}
 use Rattle.journal_model.specs.declared.step.Outcome.TheVariants.{Edited, Ticked, Late, Published, Swapped}
 use Rattle.journal_model.specs.declared.step.Entry.{Entry}
 use Rattle.desk_core.specs.Journal.{accepted, accepted_by, entry_after, journal_after, journal_of}
-use Rattle.journal_model.specs.Steps.{Command, IsTypedStep}
+use Rattle.journal_model.specs.Steps.{Command, IsStepInWindow, IsTypedStep}
 use Rattle.journal_text.specs.declared.script.ScriptItem.{ScriptItem}
 use Rattle.journal_text.specs.declared.script.ScriptItem.TheVariants.{Step as step, Kept, End}
 use Rattle.journal_text.specs.Script.{asked_by, items_ahead}
 use Rattle.journal_text.specs.ScriptLaws.{IsTypedScriptItem}
+use Rattle.journal_text.specs.Windows.{IsScriptItemInWindow}
 use Rattle.journal_text.proofs.TypedFacts.{items_typed}
-use Rattle.headend_live.specs.Laws.{HasTypedEdits}
+use Rattle.journal_text.proofs.WindowFacts.{items_window}
+use Rattle.journal_air.specs.Laws.{HasTypedEdits}
 use Rattle.epg_cli.specs.Script.{Stop, commands_of, first_difference, script_of_lines, script_with, stop_of, up_to}
 
+abbrev IsReadStep : Step → Type 0
+IsReadStep s = IsTypedStep s × IsStepInWindow s
+
 abbrev pub AreTypedCommands : List Command → Type 0
-AreTypedCommands commands = AllByRecursion (λ (c : Command). IsTypedStep c.1) commands
+AreTypedCommands commands = AllByRecursion (λ (c : Command). IsReadStep c.1) commands
 
 -- so are the first of them
 pub first-typed : (n : ℕ) (commands : List Command) → AreTypedCommands commands → AreTypedCommands (take n commands)
 first-typed n commands typed =
-    recursion_from_All (λ (c : Command). IsTypedStep c.1) (take n commands)
-    (All-take (λ (c : Command). IsTypedStep c.1) n commands (All-from_recursion (λ (c : Command). IsTypedStep c.1) commands typed))
+    recursion_from_All (λ (c : Command). IsReadStep c.1) (take n commands)
+    (All-take (λ (c : Command). IsReadStep c.1) n commands (All-from_recursion (λ (c : Command). IsReadStep c.1) commands typed))
 
 -- ---- a script
 
-asked_typed : (items : List ScriptItem) → AllByRecursion IsTypedScriptItem items → AreTypedCommands (commands_of (asked_by items))
-asked_typed [] typed = tt
-asked_typed (step who s ∷ items) typed = (typed.0, asked_typed items typed.1)
-asked_typed (Kept n outcome ∷ items) typed = asked_typed items typed.1
-asked_typed (End ∷ items) typed = asked_typed items typed.1
+asked_typed : (items : List ScriptItem) → AllByRecursion IsTypedScriptItem items → AllByRecursion IsScriptItemInWindow items → AreTypedCommands (commands_of (asked_by items))
+asked_typed [] typed window = tt
+asked_typed (step who s ∷ items) typed window = ((typed.0, window.0), asked_typed items typed.1 window.1)
+asked_typed (Kept n outcome ∷ items) typed window = asked_typed items typed.1 window.1
+asked_typed (End ∷ items) typed window = asked_typed items typed.1 window.1
 
 up_to-typed : (found : Option (ℕ × Stop)) (commands : List Command) (stop : Stop) → AreTypedCommands commands → AreTypedCommands (up_to found commands stop).0
 up_to-typed None commands stop typed = typed
@@ -51,7 +57,8 @@ with_typed (Faulty fault) tail = tt
 with_typed (Whole mux behind) tail =
     let items = items_ahead false (record { rows = behind; tail = tail }) in
     let asked = asked_by items.0 in
-    up_to-typed (first_difference asked (journal_after mux [] (commands_of asked))) (commands_of asked) (stop_of items.1) (asked_typed items.0 (items_typed false (record { rows = behind; tail = tail })))
+    up_to-typed (first_difference asked (journal_after mux [] (commands_of asked))) (commands_of asked) (stop_of items.1)
+    (asked_typed items.0 (items_typed false (record { rows = behind; tail = tail })) (items_window false (record { rows = behind; tail = tail })))
 with_typed Unended tail = tt
 
 pub script-typed : (lines : List (List ℕ)) (tail : Tail) → AreTypedCommands (script_of_lines lines tail).commands
@@ -65,13 +72,7 @@ accepted_one (edit feed e) (Edited reply) typed = go (is_done reply)
     go : (done : Bool) → IfSome (if done then Some e else None) IsTypedEdit
     go true = typed.1
     go false = tt
-accepted_one (edit feed e) Ticked typed = tt
-accepted_one (edit feed e) (Late at) typed = tt
-accepted_one (edit feed e) (Published n) typed = tt
-accepted_one (edit feed e) (Swapped n at) typed = tt
-accepted_one (Tick at) outcome typed = tt
-accepted_one Publish outcome typed = tt
-accepted_one Swap outcome typed = tt
+accepted_one s outcome typed = tt
 
 cons_typed : (o : Option Edit) (edits : List Edit) → IfSome o IsTypedEdit → AllByRecursion IsTypedEdit edits → AllByRecursion IsTypedEdit (cons_option o edits)
 cons_typed None edits one rest = rest
@@ -82,7 +83,14 @@ after_typed mux before [] typed = tt
 after_typed mux before (command ∷ commands) typed =
     let entry = entry_after mux before command in
     let rest = before ++ entry ∷ [] in
-    cons_typed (accepted_by entry.step entry.outcome) (accepted (journal_after mux rest commands)) (accepted_one entry.step entry.outcome typed.0) (after_typed mux rest commands typed.1)
+    cons_typed (accepted_by entry.step entry.outcome) (accepted (journal_after mux rest commands)) (accepted_one entry.step entry.outcome typed.0.0) (after_typed mux rest commands typed.1)
 
 pub journal-typed : (mux : Mux) (commands : List Command) → AreTypedCommands commands → HasTypedEdits (journal_of mux commands)
 journal-typed mux commands typed = after_typed mux [] commands typed
+
+after_window : (mux : Mux) (before : List Entry) (commands : List Command) → AreTypedCommands commands → AllByRecursion (λ (e : Entry). IsStepInWindow e.step) (journal_after mux before commands)
+after_window mux before [] typed = tt
+after_window mux before (command ∷ commands) typed = (typed.0.1, after_window mux (before ++ entry_after mux before command ∷ []) commands typed.1)
+
+pub journal-window : (mux : Mux) (commands : List Command) → AreTypedCommands commands → AllByRecursion (λ (e : Entry). IsStepInWindow e.step) (journal_of mux commands)
+journal-window mux commands typed = after_window mux [] commands typed

@@ -5,7 +5,7 @@ use Rattle.si_causes.specs.Text.{text_limit}
 use Rattle.input_lines.specs.Lines.{record_lines}
 use Rattle.mux_model.specs.declared.mux.Mux.{Mux}
 use Rattle.mux_config.specs.Block.{Whole, block_from}
-use Rattle.feed_edits.specs.Ahead.{Row}
+use Rattle.input_lines.specs.Ahead.{Row}
 use Rattle.journal_model.specs.declared.step.Entry.{Entry}
 use Rattle.desk_core.specs.Journal.{Legal}
 use Rattle.journal_model.specs.Steps.{command_of}

@@ -1,14 +1,14 @@
 -- What `listen` hears of what `play` sent.
 use Rattle.std.specs.Prelude.{◌≡◌, ℕ, ◌<◌, ◌≤◌, List, [], length, take, Some, filter, map}
 use Rattle.mux_model.specs.declared.mux.Mux.{Mux}
-use Rattle.feed_edits.specs.Ahead.{Tail}
+use Rattle.input_lines.specs.Ahead.{Tail}
 use Rattle.desk_core.specs.Journal.{journal_of}
 use Rattle.packet_reader.specs.Recordings.{RecordingEnd.AtEnd, packet_limit, recording}
 use Rattle.section_codec.specs.declared.table.Key.{Key}
 use Rattle.heard_completions.specs.Dones.{DoneAt, dones_of}
 use Rattle.air_model.specs.Air.{Aired, IsAirOf, air, air_bytes}
 use Rattle.air_hearing.specs.Changes.{changes_of, is_done_key}
-use Rattle.headend_live.specs.Air.{airings}
+use Rattle.journal_air.specs.Air.{airings}
 use Rattle.epg_cli.specs.Script.{script_of_lines}
 
 -- What `play` sends, `listen` hears: of an air of a journal of a script, which are its first commands or all, as a recording, each

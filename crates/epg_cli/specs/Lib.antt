@@ -8,3 +8,5 @@ pub mod Again
 pub mod Reports
 pub mod Rows
 pub mod Coherent
+pub mod Spaced
+pub mod Shown

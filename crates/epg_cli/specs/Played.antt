@@ -6,11 +6,11 @@ use Rattle.si_causes.specs.declared.stop.ReadStop.TheVariants.{Failed, TooLong a
 use Rattle.input_lines.specs.Going.{WereWhole}
 use Rattle.carousel_player.specs.Playing.{Playing}
 use Rattle.mux_model.specs.declared.mux.Mux.{Mux}
-use Rattle.feed_edits.specs.declared.stop.EditStop.{EditStop}
-use Rattle.feed_edits.specs.declared.stop.EditStop.TheVariants as edits
-use Rattle.feed_edits.specs.Ahead.{Ahead, Breaks}
-use Rattle.feed_edits.specs.Ahead as reading
-use Rattle.feed_edits.specs.Reads.{ahead_with}
+use Rattle.input_lines.specs.declared.stop.EditStop.{EditStop}
+use Rattle.input_lines.specs.declared.stop.EditStop.TheVariants as edits
+use Rattle.input_lines.specs.Ahead.{Ahead, Breaks}
+use Rattle.input_lines.specs.Ahead as reading
+use Rattle.input_lines.specs.Reads.{ahead_with}
 use Rattle.journal_model.specs.declared.step.Step.{Step}
 use Rattle.journal_model.specs.declared.step.Outcome.{Outcome}
 use Rattle.journal_model.specs.declared.step.Entry.{Entry}
@@ -19,7 +19,7 @@ use Rattle.journal_model.specs.Steps.{Command, IsInWindow}
 use Rattle.desk_core.specs.Desks.{DeskState}
 use Rattle.journal_text.specs.declared.script.ScriptItem.{ScriptItem}
 use Rattle.journal_text.specs.Script.{items_ahead, kept_first}
-use Rattle.headend_live.specs.OnAir.{HasAired, HasAiredFront, and_step}
+use Rattle.headend_jobs.specs.OnAir.{HasAired, HasAiredFront, and_step}
 use Rattle.epg_cli.specs.declared.stop.PlayStop.{PlayStop}
 use Rattle.epg_cli.specs.declared.stop.PlayStop.TheVariants.{NoMux as Undescribed, NoCommand as Refused, Disagrees, Read, Air, Memory}
 use Rattle.epg_cli.specs.Script.{Stop, Ended, NoCommand, Disagreed, TooLong, Unread, difference, played_items}

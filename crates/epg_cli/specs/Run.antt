@@ -6,7 +6,7 @@ use Rattle.si_causes.specs.declared.stop.ReadStop.TheVariants.{Failed, TooLong a
 use Rattle.mux_model.specs.declared.mux.Mux.{Mux}
 use Rattle.mux_config.specs.declared.stop.MuxStop.{MuxStop}
 use Rattle.mux_config.specs.declared.stop.MuxStop.TheVariants as mux
-use Rattle.version_book.specs.Airings.{Airing}
+use Rattle.version_book.specs.Airings.{AiredTables}
 use Rattle.air_model.specs.Air.{Aired, IsAirOf, air_bytes}
 use Rattle.air_model.specs.Making.{AreMade}
 use Rattle.journal_model.specs.declared.step.Step.TheVariants.{Swap}
@@ -15,8 +15,8 @@ use Rattle.desk_core.specs.Journal.{journal_of}
 use Rattle.journal_model.specs.Steps.{Command}
 use Rattle.desk_core.specs.Desks.{DeskState}
 use Rattle.journal_text.specs.Entries.{journal_text}
-use Rattle.headend_live.specs.Air.{airings}
-use Rattle.headend_live.specs.OnAir.{cycle_bytes}
+use Rattle.journal_air.specs.Air.{airings}
+use Rattle.headend_jobs.specs.OnAir.{cycle_bytes}
 use Rattle.epg_cli.specs.declared.stop.PlayStop.{PlayStop}
 use Rattle.epg_cli.specs.declared.stop.PlayStop.TheVariants.{NoMux as Undescribed, NoCommand as Refused, Disagrees as Differs, Read, Air as OnAir, Memory as NoMemory}
 use Rattle.epg_report.specs.declared.status.Status.{Status}
@@ -41,7 +41,7 @@ whole_journal script = journal_for script.mux script.commands
 abbrev pub first_journal : ℕ → Script → List Entry
 first_journal k script = journal_for script.mux (take k script.commands)
 
-abbrev pub airings_for : Option Mux → List Entry → List Airing
+abbrev pub airings_for : Option Mux → List Entry → List AiredTables
 airings_for None journal = []
 airings_for (Some mux) journal = airings mux journal
 

@@ -8,8 +8,8 @@ use Rattle.mux_config.specs.declared.fault.MuxFault.{MuxFault}
 use Rattle.mux_config.specs.declared.fault.MuxFault.TheVariants.{Missing}
 use Rattle.mux_model.specs.declared.mux.Mux.{Mux}
 use Rattle.mux_config.specs.Block.{Block, Faulty, Whole, Unended, block_from}
-use Rattle.feed_edits.specs.Ahead.{Ahead, Tail, Ends, Exceeds, Breaks, tail_of}
-use Rattle.feed_edits.specs.Ahead as reading
+use Rattle.input_lines.specs.Ahead.{Ahead, Tail, Ends, Exceeds, Breaks, tail_of}
+use Rattle.input_lines.specs.Ahead as reading
 use Rattle.journal_model.specs.declared.step.Outcome.{Outcome}
 use Rattle.journal_model.specs.declared.step.Entry.{Entry}
 use Rattle.desk_core.specs.Journal.{journal_after}

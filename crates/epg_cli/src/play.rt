@@ -2,11 +2,11 @@
 ghost use Rattle.std.specs.Prelude.{◌≡◌, ◌≤◌, ◌++◌, ◌∷◌, [], List, ℕ, Option, None, Some, IfErr, IfSome, OnOk};
 ghost use Rattle.std.specs.Io.KnownBytes.{IsAtEnd};
 ghost use Rattle.si_causes.specs.Reading.{text_left};
-ghost use Rattle.feed_edits.specs.Ahead.{ahead};
+ghost use Rattle.input_lines.specs.Ahead.{ahead};
 ghost use Rattle.journal_model.specs.declared.step.Entry.{Entry as AnEntry};
 ghost use Rattle.desk_core.specs.Journal.{Legal};
 ghost use Rattle.journal_model.specs.Steps.{IsStepWithin, IsInWindow};
-ghost use Rattle.headend_live.specs.OnAir.{HasAired, IsOnAir, is_swap};
+ghost use Rattle.headend_jobs.specs.OnAir.{HasAired, IsOnAir, is_swap};
 ghost use Rattle.epg_cli.specs.Outcomes.{is_outcome};
 ghost use Rattle.epg_cli.specs.Played.{AiredTo, HasAirCause, HasReadCause, IsDifference, IsStopInWindow, RestDid, RestTaken, StepDid, course, late_difference, read_stop};
 

@@ -7,12 +7,16 @@ ghost use Rattle.si_causes.specs.Reading.{fresh};
 ghost use Rattle.epg_report.specs.Texts.{fault_line};
 ghost use Rattle.epg_cli.specs.Again.{PrintsScript};
 ghost use Rattle.epg_cli.specs.Coherent.{PlayIsCoherent};
+ghost use Rattle.epg_cli.specs.Shown.{PlayIsExact};
 ghost use Rattle.epg_cli.specs.Script.{Ended, script_in};
+ghost use Rattle.epg_cli.specs.Spaced.{PlayIsSpaced};
 ghost use Rattle.command_words.specs.Commands.{texts};
 ghost use Rattle.command_words.specs.Grammar.{command_of, Play, Listen, Live};
 ghost use Rattle.epg_live.specs.Coherent.{LiveIsCoherent};
 ghost use Rattle.epg_live.specs.Decided.{AreWhole, text_status};
 ghost use Rattle.epg_live.specs.Ends.{HasAsked, LeavesLive};
+ghost use Rattle.epg_live.specs.Spaced.{LiveIsSpaced};
+ghost use Rattle.epg_live.specs.Shown.{LiveIsShown};
 ghost use Rattle.epg_live.specs.Stops.{HasStatusCause, IsOfLive};
 ghost use Rattle.packet_reader.specs.Recordings.{recording};
 ghost use Rattle.epg_cli.specs.Listen.{LeavesHeard, IsOfListen, HearsThrough};
@@ -118,6 +122,11 @@ pub fn run_play<S: Source, A: Sink, R: Sink>(
         → Leaves text (S.left input.new) (told A.written A.faults air.old air.new) (told R.written R.faults report.old report.new) result }
     // What was sent is coherent: of any part of its packets no content is ever completed from two airings.
     ensures coherent { (text : List ℕ) → S.left input.old ≡ Some text → PlayIsCoherent text (told A.written A.faults air.old air.new) result }
+    // And it is spaced: sections of tier Fast and Near repeat within their bounds.
+    ensures spaced { (text : List ℕ) → S.left input.old ≡ Some text
+        → PlayIsSpaced text (told A.written A.faults air.old air.new) result }
+    // And it is exact: once a cycle was heard whole, the guide that is heard is that of its publication, as long as that stays on air.
+    ensures exact { (text : List ℕ) → S.left input.old ≡ Some text → PlayIsExact text (told A.written A.faults air.old air.new) result }
     // Where neither the input nor a sink fails, the script decides the status, but for want of memory.
     ensures completes { (text : List ℕ) → S.left input.old ≡ Some text → ¬ (Rose (S.faults input.old) (S.faults input.new))
         → ¬ (Rose (A.faults air.old) (A.faults air.new)) → ¬ (Rose (R.faults report.old) (R.faults report.new)) → Completes (script_in text).stop result }
@@ -190,6 +199,13 @@ pub fn run<W: Threads + Wait + Sync, O: Opener, S: Source + Send, A: Sink + Send
     // And the air is coherent: of any part of its packets no content is ever completed from two airings of that journal.
     ensures coherent { command_of (texts words.now) ≡ Some Play → (text : List ℕ) → S.left input.old ≡ Some text
         → PlayIsCoherent text (told A.written A.faults air.old air.new) result }
+    // And it is spaced: sections of tier Fast and Near repeat within their bounds.
+    ensures spaced { command_of (texts words.now) ≡ Some Play
+        → (text : List ℕ) → S.left input.old ≡ Some text
+        → PlayIsSpaced text (told A.written A.faults air.old air.new) result }
+    // And exact: once a cycle was heard whole, the guide that is heard is that of its publication, as long as that stays on air.
+    ensures exact { command_of (texts words.now) ≡ Some Play → (text : List ℕ) → S.left input.old ≡ Some text
+        → PlayIsExact text (told A.written A.faults air.old air.new) result }
     ensures completes { command_of (texts words.now) ≡ Some Play → (text : List ℕ) → S.left input.old ≡ Some text → ¬ (Rose (S.faults input.old) (S.faults input.new))
         → ¬ (Rose (A.faults air.old) (A.faults air.new)) → ¬ (Rose (R.faults report.old) (R.faults report.new)) → Completes (script_in text).stop result }
     // And so a script that is whole is played to its end.
@@ -212,6 +228,18 @@ pub fn run<W: Threads + Wait + Sync, O: Opener, S: Source + Send, A: Sink + Send
     ensures live_coherent { (paths : List (List ℕ)) (cycles join : ℕ) → command_of (texts words.now) ≡ Some (Live paths cycles join)
         → (text : List ℕ) → S.left input.old ≡ Some text → (files : Files) → O.files opener.old ≡ Some files
         → LiveIsCoherent text (told A.written A.faults air.old air.new) (told R.written R.faults report.old report.new) result }
+    // And it is spaced.
+    ensures live_spaced { (paths : List (List ℕ)) (cycles join : ℕ)
+        → command_of (texts words.now) ≡ Some (Live paths cycles join)
+        → (text : List ℕ) → S.left input.old ≡ Some text
+        → (files : Files) → O.files opener.old ≡ Some files
+        → LiveIsSpaced text (told A.written A.faults air.old air.new)
+        (told R.written R.faults report.old report.new) result }
+    // And exact: once a cycle was heard whole, the guide is that of its publication; at the end the monitor shows the one on air, with all accepted edits.
+    ensures live_shown { (paths : List (List ℕ)) (cycles join : ℕ) → command_of (texts words.now) ≡ Some (Live paths cycles join)
+        → (text : List ℕ) → S.left input.old ≡ Some text → (files : Files) → O.files opener.old ≡ Some files
+        → LiveIsShown paths cycles join text files (S.left input.new) (O.read_faults opener.old) (O.read_faults opener.new)
+        (told A.written A.faults air.old air.new) (told R.written R.faults report.old report.new) result }
     // The journal that the report has is a script: behind its description `play` plays it to this journal again.
     ensures live_again { (paths : List (List ℕ)) (cycles join : ℕ) → command_of (texts words.now) ≡ Some (Live paths cycles join)
         → (text : List ℕ) → S.left input.old ≡ Some text → (files : Files) → O.files opener.old ≡ Some files

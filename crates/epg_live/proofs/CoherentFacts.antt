@@ -6,13 +6,13 @@ use Rattle.si_causes.specs.Text.{text_lines}
 use Rattle.mux_model.specs.declared.mux.Mux.{Mux}
 use Rattle.mux_config.specs.Block.{Whole}
 use Rattle.mux_config.proofs.FineLines.{whole_descriptions_are_sound}
-use Rattle.feed_edits.specs.Ahead.{Row}
+use Rattle.input_lines.specs.Ahead.{Row}
 use Rattle.journal_model.specs.declared.step.Entry.{Entry}
 use Rattle.air_coherence.specs.Coherence.{SentCoherent}
 use Rattle.epg_live.specs.declared.reporting.HeardAir.{HeardAir}
-use Rattle.headend_live.specs.Air.{airings}
-use Rattle.headend_live.specs.Live.{halts}
-use Rattle.headend_live.proofs.CarryFacts.{airings_heard}
+use Rattle.journal_air.specs.Air.{airings}
+use Rattle.headend_jobs.specs.Live.{halts}
+use Rattle.journal_air.proofs.CarryFacts.{airings_heard}
 use Rattle.headend_live.proofs.Coherent.{air_coherent}
 use Rattle.epg_report.specs.declared.status.Status.{Status}
 use Rattle.epg_report.specs.declared.status.Status.TheVariants.{Memory}
@@ -24,14 +24,14 @@ use Rattle.epg_live.specs.Coherent.{JournalIsCoherent, LiveIsCoherent}
 use Rattle.epg_live.proofs.TypedFacts.{run_typed}
 
 -- jobs that ran over the multiplex of the text
-ran_coherent : (mux : Mux) (cycles join : ℕ) (text : List ℕ) (left : Option (List ℕ)) (rows : List Row) (paths : List (List ℕ)) (files : Files) (feeds_before feeds_now : ℕ)
+pub ran_coherent : (mux : Mux) (cycles join : ℕ) (text : List ℕ) (left : Option (List ℕ)) (rows : List Row) (paths : List (List ℕ)) (files : Files) (feeds_before feeds_now : ℕ)
     (before now : Option (List ℕ)) (journal : List Entry) (heard : HeardAir) (status : Status) → described text ≡ Whole mux rows
     → JobsRan mux cycles join text left rows paths files feeds_before feeds_now before now journal heard status → SentCoherent (airings mux journal) before now
 ran_coherent mux cycles join text left rows paths files feeds_before feeds_now before now journal heard status whole ran =
     let typed = run_typed mux cycles text left rows paths files journal ran.player ran.control_stop ran.feed_stops ran.final
     (halts ran.player ran.control_stop (feeds_stop None 1 ran.feed_stops)) ran.sent ran.journal_is ran.last in
     air_coherent mux journal before now ran.sent
-    (airings_heard mux journal (whole_descriptions_are_sound 1 (text_lines text) mux rows whole) typed ran.journal_is.legal) ran.air_is
+    (airings_heard mux journal (whole_descriptions_are_sound 1 (text_lines text) mux rows whole) typed.0 ran.journal_is.legal) ran.air_is
 
 pub by_memory : (text : List ℕ) (report : ReportTaken) (met status : Status) → met ≡ Memory → ReportEnds met text report status → status ≡ Memory
 by_memory text report met status is (inl (took, same)) = same ∙ is

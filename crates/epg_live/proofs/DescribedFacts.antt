@@ -14,14 +14,14 @@ use Rattle.mux_config.specs.declared.stop.MuxStop.{MuxStop}
 use Rattle.mux_config.specs.declared.stop.MuxStop.TheVariants as mux
 use Rattle.mux_config.specs.Block.{Whole, Unended, block_from}
 use Rattle.mux_config.specs.Reads.{MuxCame, ReadMux}
-use Rattle.feed_edits.specs.declared.stop.EditStop.{EditStop}
-use Rattle.feed_edits.specs.declared.stop.EditStop.TheVariants as edit
-use Rattle.feed_edits.specs.Ahead.{Ahead, Breaks, Row, Tail, ahead, tail_of}
-use Rattle.feed_edits.specs.Reads.{ahead_with}
+use Rattle.input_lines.specs.declared.stop.EditStop.{EditStop}
+use Rattle.input_lines.specs.declared.stop.EditStop.TheVariants as edit
+use Rattle.input_lines.specs.Ahead.{Ahead, Breaks, Row, Tail, ahead, tail_of}
+use Rattle.input_lines.specs.Reads.{ahead_with}
 use Rattle.journal_model.specs.declared.step.Entry.{Entry}
 use Rattle.journal_model.specs.Steps.{Command}
 use Rattle.desk_hall.specs.Reads.{TakenDid, commands_by, control_step, controls_ahead}
-use Rattle.headend_live.specs.Callers.{CommandsAre}
+use Rattle.headend_jobs.specs.Callers.{CommandsAre}
 use Rattle.epg_live.specs.declared.reporting.HeardAir.{HeardAir}
 use Rattle.epg_report.specs.declared.status.Status.{Status}
 use Rattle.epg_report.specs.declared.status.Status.TheVariants.{Memory}

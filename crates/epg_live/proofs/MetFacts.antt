@@ -11,7 +11,7 @@ use Rattle.mux_config.specs.declared.stop.MuxStop.{MuxStop}
 use Rattle.mux_config.specs.declared.stop.MuxStop.TheVariants as mux
 use Rattle.mux_config.specs.Block.{Whole}
 use Rattle.mux_config.specs.Reads.{MuxCame}
-use Rattle.feed_edits.specs.Ahead.{Row}
+use Rattle.input_lines.specs.Ahead.{Row}
 use Rattle.journal_model.specs.declared.step.Entry.{Entry}
 use Rattle.epg_live.specs.declared.reporting.HeardAir.{HeardAir}
 use Rattle.epg_report.specs.declared.status.Status.{Status}

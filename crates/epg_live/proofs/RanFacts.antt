@@ -2,29 +2,29 @@
 use Rattle.std.proofs.Common.{◌≡◌, ◌⊎◌, inl, inr, ℕ, ◌+◌, ◌-◌, ◌^◌, ◌≤◌, ◌<◌, arith, List, [], ◌∷◌, ◌++◌, length, map, refl, sym, ap, ◌∙◌, subst}
 use Rattle.std.specs.Prelude.{Option, Some, None, Ok, Err, Result}
 use Rattle.si_causes.specs.Causes.{Rose}
-use Rattle.si_causes.specs.Opening.{Files, Holds, file_at}
+use Rattle.si_causes.specs.Opening.{Files, GivesFile, file_at}
 use Rattle.si_causes.specs.Reading.{Reading, fresh, text_left}
 use Rattle.si_causes.specs.declared.stop.ReadStop.TheVariants.{Failed, TooLong as Overlong}
 use Rattle.si_causes.proofs.TextFacts.{fresh_text}
 use Rattle.mux_model.specs.declared.mux.Mux.{Mux}
-use Rattle.feed_edits.specs.declared.stop.EditStop.{EditStop}
-use Rattle.feed_edits.specs.declared.stop.EditStop.TheVariants as edit
-use Rattle.feed_edits.specs.Ahead.{Ahead, ahead}
+use Rattle.input_lines.specs.declared.stop.EditStop.{EditStop}
+use Rattle.input_lines.specs.declared.stop.EditStop.TheVariants as edit
+use Rattle.input_lines.specs.Ahead.{Ahead, ahead}
 use Rattle.feed_edits.specs.Edits.{edits_ahead}
 use Rattle.journal_model.specs.declared.step.Entry.{Entry}
 use Rattle.journal_model.specs.Steps.{command_of}
 use Rattle.desk_hall.specs.Reads.{HasReadCause, commands_by, control_step, controls_ahead, edit_step, ToldDid}
 use Rattle.turn_lock.specs.Knowledge.{TableId}
-use Rattle.headend_live.specs.declared.jobs.FeedJob.{FeedJob}
-use Rattle.headend_live.specs.declared.live.LiveStop.{LiveStop}
-use Rattle.headend_live.specs.declared.send.SendStop.{SendStop}
-use Rattle.headend_live.specs.declared.live.LiveStop.TheVariants as live
+use Rattle.headend_jobs.specs.declared.jobs.FeedJob.{FeedJob}
+use Rattle.headend_jobs.specs.declared.live.LiveStop.{LiveStop}
+use Rattle.headend_jobs.specs.declared.send.SendStop.{SendStop}
+use Rattle.headend_jobs.specs.declared.live.LiveStop.TheVariants as live
 use Rattle.headend_live.specs.declared.watched.LivePlan.{LivePlan}
 use Rattle.headend_live.specs.declared.watched.LiveEnd.{LiveEnd}
-use Rattle.headend_live.specs.Back.{lines_back}
-use Rattle.headend_live.specs.Callers.{CallerRead, CommandsAre, FeedsRead}
-use Rattle.headend_live.specs.Jobs.{FeedDid}
-use Rattle.headend_live.specs.Live.{FeedsRan, LastMade, first_stop, halts, new_feed, or_feed, run_stop}
+use Rattle.headend_jobs.specs.Back.{lines_back}
+use Rattle.headend_jobs.specs.Callers.{CallerRead, CommandsAre, FeedsRead}
+use Rattle.headend_jobs.specs.Jobs.{FeedDid}
+use Rattle.headend_jobs.specs.Live.{FeedsRan, LastMade, first_stop, halts, new_feed, or_feed, run_stop}
 use Rattle.headend_live.specs.Watched.{LiveRan, watched_stop}
 use Rattle.std.specs.Io.KnownBytes.{IsAtEnd}
 use Rattle.epg_report.specs.declared.status.Status.{Status}
@@ -66,7 +66,7 @@ first_last first (j ∷ jobs) job = ap (λ o. or_feed o j.feed j.stop) (first_la
 
 -- ---- the feeds
 
-text_of : (files : Files) (path : List ℕ) (left : Option (List ℕ)) → Holds (Some files) path left → (text : List ℕ) × (file_at path files ≡ Some text) × (left ≡ Some text)
+text_of : (files : Files) (path : List ℕ) (left : Option (List ℕ)) → GivesFile (Some files) path left → (text : List ℕ) × (file_at path files ≡ Some text) × (left ≡ Some text)
 text_of files path None holds = absurd holds
 text_of files path (Some text) holds = (text, holds, refl)
 
@@ -165,6 +165,7 @@ module _ {F S : Type 0} (left : F → Option (List ℕ)) (faults : F → ℕ) (i
             };
             last = subst (λ (o : Option LiveStop). LastMade (halts ran.did.player.end stop o) 0 ran.did.final ran.sent) first
                 (subst (λ (k : ℕ). LastMade (halts ran.did.player.end stop (first_stop jobs)) k ran.did.final ran.sent) low ran.did.last);
+            failed = ran.did.failed;
             status_is = is ∙ ap live_status (unless_wanting ran.wanting end.stop (run_stop ran.sent stop (first_stop jobs)) ran.stop_is other ∙ ap (run_stop ran.sent stop) first);
             causes = feeds_caused left faults is_same files end.desk.entries ran.turns mux feeds_before feeds_now 1 paths (Some files) feeds jobs opened ran.did.feeds_ran (subst (λ (l : List (Reading F)). IfFailed faults (Rose feeds_before feeds_now) l) ran.feeds_are rose);
             air_is = ran.did.air;

@@ -3,15 +3,15 @@ use Rattle.std.proofs.Common.{◌≡◌, ◌⊎◌, inl, inr, ℕ, ◌+◌, List
 use Rattle.std.specs.Prelude.{◌↔◌, Bool, true, false, Option, Some, None, IsSome, Ok, Err, Result}
 use Rattle.si_causes.specs.Causes.{Rose}
 use Rattle.si_causes.specs.declared.stop.ReadStop.TheVariants.{Failed, TooLong as Overlong}
-use Rattle.feed_edits.specs.declared.stop.EditStop.{EditStop}
-use Rattle.feed_edits.specs.declared.stop.EditStop.TheVariants as edit
+use Rattle.input_lines.specs.declared.stop.EditStop.{EditStop}
+use Rattle.input_lines.specs.declared.stop.EditStop.TheVariants as edit
 use Rattle.desk_hall.specs.Reads.{HasReadCause}
-use Rattle.headend_live.specs.declared.live.LiveStop.{LiveStop}
-use Rattle.headend_live.specs.declared.live.LiveStop.TheVariants as live
-use Rattle.headend_live.specs.declared.send.SendStop.{SendStop}
-use Rattle.headend_live.specs.declared.send.SendStop.TheVariants as send
-use Rattle.headend_live.specs.OnAir.{HasAirCause}
-use Rattle.headend_live.specs.Live.{after, and_stop, control_stop, feed_stop, or_feed, run_stop, sent_stop}
+use Rattle.headend_jobs.specs.declared.live.LiveStop.{LiveStop}
+use Rattle.headend_jobs.specs.declared.live.LiveStop.TheVariants as live
+use Rattle.headend_jobs.specs.declared.send.SendStop.{SendStop}
+use Rattle.headend_jobs.specs.declared.send.SendStop.TheVariants as send
+use Rattle.headend_jobs.specs.OnAir.{HasAirCause}
+use Rattle.headend_jobs.specs.Live.{after, and_stop, control_stop, feed_stop, or_feed, run_stop, sent_stop}
 use Rattle.headend_live.specs.Watched.{watched_stop}
 use Rattle.guide_screen.specs.declared.need.Heard.{Heard}
 use Rattle.epg_report.specs.declared.status.Status.{Status}
@@ -40,7 +40,7 @@ and_keeps P (Some (live.Feed g t)) (Some (live.Control s)) m p q = p
 and_keeps P (Some (live.Feed g t)) (Some (live.Feed f s)) m p q = p
 
 -- where neither is taken there is neither
-and_none : (a b : Option LiveStop) → and_stop a b ≡ None → (a ≡ None) × (b ≡ None)
+pub and_none : (a b : Option LiveStop) → and_stop a b ≡ None → (a ≡ None) × (b ≡ None)
 and_none None b e = (refl, e)
 and_none (Some live.Memory) b e = cc
 and_none (Some live.Air) None e = cc
@@ -59,14 +59,14 @@ and_none (Some (live.Feed g t)) (Some live.Air) e = cc
 and_none (Some (live.Feed g t)) (Some (live.Control s)) e = cc
 and_none (Some (live.Feed g t)) (Some (live.Feed f s)) e = cc
 
-no_control : (stop : Option EditStop) → control_stop stop ≡ None → stop ≡ None
+pub no_control : (stop : Option EditStop) → control_stop stop ≡ None → stop ≡ None
 no_control None e = refl
 no_control (Some (edit.NoCommand n)) e = cc
 no_control (Some (edit.Read s)) e = cc
 no_control (Some edit.Memory) e = cc
 
 -- Done exactly where there is no stop
-done_none : (stop : Option LiveStop) → live_status stop ≡ Done → stop ≡ None
+pub done_none : (stop : Option LiveStop) → live_status stop ≡ Done → stop ≡ None
 done_none None e = refl
 done_none (Some live.Air) e = cc
 done_none (Some live.Memory) e = cc

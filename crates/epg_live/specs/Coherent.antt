@@ -2,11 +2,11 @@
 use Rattle.std.specs.Prelude.{◌≡◌, ◌⊎◌, ℕ, List, Option}
 use Rattle.mux_model.specs.declared.mux.Mux.{Mux}
 use Rattle.mux_config.specs.Block.{Whole}
-use Rattle.feed_edits.specs.Ahead.{Row}
+use Rattle.input_lines.specs.Ahead.{Row}
 use Rattle.journal_model.specs.declared.step.Entry.{Entry}
 use Rattle.air_coherence.specs.Coherence.{SentCoherent}
 use Rattle.epg_live.specs.declared.reporting.HeardAir.{HeardAir}
-use Rattle.headend_live.specs.Air.{airings}
+use Rattle.journal_air.specs.Air.{airings}
 use Rattle.epg_report.specs.declared.status.Status.{Status}
 use Rattle.epg_report.specs.declared.status.Status.TheVariants.{Memory}
 use Rattle.epg_report.specs.Told.{ReportTaken}

@@ -5,12 +5,12 @@ use Rattle.si_causes.specs.Opening.{Files, file_at}
 use Rattle.si_causes.specs.declared.stop.ReadStop.TheVariants as read
 use Rattle.mux_model.specs.declared.mux.Mux.{Mux}
 use Rattle.mux_config.specs.Block.{Block, Faulty, Whole, Unended}
-use Rattle.feed_edits.specs.declared.stop.EditStop.{EditStop}
-use Rattle.feed_edits.specs.declared.stop.EditStop.TheVariants as edit
-use Rattle.feed_edits.specs.Ahead.{Ahead, Row, Stop, End, NoCommand, TooLong, Unread}
+use Rattle.input_lines.specs.declared.stop.EditStop.{EditStop}
+use Rattle.input_lines.specs.declared.stop.EditStop.TheVariants as edit
+use Rattle.input_lines.specs.Ahead.{Ahead, Row, Stop, End, NoCommand, TooLong, Unread}
 use Rattle.feed_edits.specs.Edits.{edits_ahead}
 use Rattle.desk_hall.specs.Reads.{controls_ahead}
-use Rattle.headend_live.specs.Live.{run_stop}
+use Rattle.headend_jobs.specs.Live.{run_stop}
 use Rattle.epg_report.specs.declared.status.Status.{Status}
 use Rattle.epg_report.specs.declared.status.Status.TheVariants.{BadMux, TooLong as PastLimit}
 use Rattle.epg_report.specs.declared.status.Origin.TheVariants.{Input}

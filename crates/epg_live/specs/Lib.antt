@@ -4,3 +4,5 @@ pub mod Runs
 pub mod Decided
 pub mod Ends
 pub mod Coherent
+pub mod Spaced
+pub mod Shown

@@ -1,7 +1,7 @@
 -- The files of the feeds: what an opener was asked for, the readers that it gave, and how they were closed.
 use Rattle.std.specs.Prelude.{◌≡◌, ℕ, ◌<◌, ◌≤◌, List, [], ◌∷◌, ◌++◌, Option, None, Some, Ok, Err, Result}
 use Rattle.si_causes.specs.Causes.{Rose}
-use Rattle.si_causes.specs.Opening.{Files, Holds}
+use Rattle.si_causes.specs.Opening.{Files, GivesFile}
 use Rattle.si_causes.specs.Reading.{Reading, fresh}
 use Rattle.epg_live.specs.declared.feeds.OpenStop.{OpenStop}
 use Rattle.epg_live.specs.declared.feeds.OpenStop.TheVariants.{Feed, Memory}
@@ -17,7 +17,7 @@ pub record IsOpened {S : Type 0} (left : S → Option (List ℕ)) (faults : S �
   pub source : S
   pub unread : reader ≡ fresh source
   pub sound : faults source ≡ 0
-  pub holds : Holds files path (left source)
+  pub holds : GivesFile files path (left source)
 
 -- a reader for each of these paths, in order
 abbrev pub AreOpened : {S : Type 0} → (S → Option (List ℕ)) → (S → ℕ) → Option Files → List (List ℕ) → List (Reading S) → Type 0

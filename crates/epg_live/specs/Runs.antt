@@ -11,9 +11,9 @@ use Rattle.input_lines.specs.Going.{shown_whole}
 use Rattle.mux_model.specs.declared.mux.Mux.{Mux}
 use Rattle.mux_config.specs.Block.{Block, Faulty, Whole, Unended, block_from, block_of}
 use Rattle.mux_config.specs.Reads.{ReadMux, WholeCame}
-use Rattle.feed_edits.specs.declared.stop.EditStop.{EditStop}
-use Rattle.feed_edits.specs.declared.stop.EditStop.TheVariants.{Read}
-use Rattle.feed_edits.specs.Ahead.{Ahead, Row, Stop, Unread, Breaks, ahead_in, tail_of}
+use Rattle.input_lines.specs.declared.stop.EditStop.{EditStop}
+use Rattle.input_lines.specs.declared.stop.EditStop.TheVariants.{Read}
+use Rattle.input_lines.specs.Ahead.{Ahead, Row, Stop, Unread, Breaks, ahead_in, tail_of}
 use Rattle.feed_edits.specs.Edits.{edits_ahead}
 use Rattle.journal_model.specs.declared.step.Step.{Step}
 use Rattle.journal_model.specs.declared.step.Entry.{Entry}
@@ -24,9 +24,9 @@ use Rattle.desk_hall.specs.Reads.{ToldDid, commands_by, control_step, controls_a
 use Rattle.turn_lock.specs.Journal.{entries_of}
 use Rattle.guide_screen.specs.declared.need.Heard.{Heard}
 use Rattle.air_monitor.specs.Heard.{lines_of_air}
-use Rattle.headend_live.specs.declared.send.SendStop.{SendStop}
-use Rattle.headend_live.specs.Callers.{CommandsAre, PlayerSwapped}
-use Rattle.headend_live.specs.Live.{AirDid, LastMade, halts, run_stop}
+use Rattle.headend_jobs.specs.declared.send.SendStop.{SendStop}
+use Rattle.headend_jobs.specs.Callers.{CommandsAre, PlayerSwapped}
+use Rattle.headend_jobs.specs.Live.{AirDid, LastMade, halts, run_stop}
 use Rattle.headend_live.specs.Watched.{guide_of_air}
 use Rattle.epg_report.specs.declared.status.Status.{Status}
 use Rattle.epg_report.specs.declared.status.Status.TheVariants.{Done, BadMux, TooLong, OpenFault, ReadFault, Memory}
@@ -108,8 +108,8 @@ pub record WasHeard (join : ℕ) (before now : Option (List ℕ)) (heard : Heard
   pub guide : IfSome heard.guide (λ (h : Heard). h ≡ guide_of_air join taken)
 
 -- The jobs started, and all have ended. The status is that of the first stop in the order air, control, feeds by number; Done exactly
--- where there is none, and then the control's publish, swap and swap end the journal (`last`). `sent` says how the last cycle ended. A feed was not read
--- to its own stop only where the opener's count of read faults rose (`causes`). A guide is told exactly with
+-- where there is none, and then the control's publish, swap and swap end the journal (`last`). `sent` says how the last cycle ended; where the
+-- player failed, that was its last (`failed`). A feed was not read to its own stop only where the opener's count of read faults rose (`causes`). A guide is told exactly with
 -- Done (`told`); what it and the completions are is known where the air tells its bytes.
 pub record JobsRan (mux : Mux) (cycles join : ℕ) (text : List ℕ) (left : Option (List ℕ)) (rows : List Row) (paths : List (List ℕ)) (files : Files) (faults_before faults_now : ℕ) (before now : Option (List ℕ))
     (journal : List Entry) (heard : HeardAir) (status : Status) : Type 0 where
@@ -120,6 +120,7 @@ pub record JobsRan (mux : Mux) (cycles join : ℕ) (text : List ℕ) (left : Opt
   pub final : List Entry
   pub journal_is : IsJournal mux cycles text left rows paths files journal player control_stop feed_stops final
   pub last : LastMade (halts player control_stop (feeds_stop None 1 feed_stops)) 0 final sent
+  pub failed : (stop : SendStop) → player ≡ Err stop → sent ≡ Err stop
   pub status_is : status ≡ live_status (run_stop sent control_stop (feeds_stop None 1 feed_stops))
   pub causes : HaveReadCauses faults_before faults_now feed_stops
   pub air_is : AirDid mux journal before now sent

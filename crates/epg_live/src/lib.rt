@@ -2,8 +2,8 @@
 //! side by side, and reports the journal, and the completions and the guide that were heard of the air.
 //!
 //! The promise is on [`run_live_files`], in the record `LeavesLive`: what the air and the report took, over the text of the input and the
-//! files of the opener. Its faults have their causes, and it asks the opener for the paths of its words alone, each once, in order,
-//! before a job starts.
+//! files of the opener; and in `ShowsLive`, what is shown of that air. Its faults have their causes, and it asks the opener for the
+//! paths of its words alone, each once, in order, before a job starts.
 #![tactic(auto)]
 
 mod feeds;

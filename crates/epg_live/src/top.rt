@@ -8,7 +8,9 @@ ghost use Rattle.epg_report.specs.Told.{told};
 ghost use Rattle.epg_live.specs.Stops.{HasStatusCause, IsOfLive};
 ghost use Rattle.epg_live.specs.Decided.{AreWhole, text_status};
 ghost use Rattle.epg_live.specs.Coherent.{LiveIsCoherent};
+ghost use Rattle.epg_live.specs.Spaced.{LiveIsSpaced};
 ghost use Rattle.epg_live.specs.Ends.{HasAsked, LeavesLive};
+ghost use Rattle.epg_live.specs.Shown.{LiveIsShown};
 
 use crate::reporting::{HeardAir, LiveRun, finish};
 use crate::run::run_described;
@@ -92,6 +94,15 @@ pub fn run_live_files<
     // What was sent is coherent: of any part of its packets no content is ever completed from two airings of the journal that the report has.
     ensures coherent { (text : List ℕ) → S.left input.old ≡ Some text → (files : Files) → O.files opener.old ≡ Some files
         → LiveIsCoherent text (told A.written A.faults air.old air.new) (told R.written R.faults report.old report.new) result }
+    // And it is spaced: sections of tier Fast and Near repeat within their bounds.
+    ensures spaced { (text : List ℕ) → S.left input.old ≡ Some text
+        → (files : Files) → O.files opener.old ≡ Some files
+        → LiveIsSpaced text (told A.written A.faults air.old air.new)
+        (told R.written R.faults report.old report.new) result }
+    // And it is exact: once a cycle was heard whole, the guide is that of its publication; at the end the monitor shows the one on air.
+    ensures shown { (text : List ℕ) → S.left input.old ≡ Some text → (files : Files) → O.files opener.old ≡ Some files
+        → LiveIsShown (texts words.now.feeds.items) words.now.cycles words.now.join text files (S.left input.new) (O.read_faults opener.old) (O.read_faults opener.new)
+        (told A.written A.faults air.old air.new) (told R.written R.faults report.old report.new) result }
     // Where nothing fails, the texts decide the status, but for want of memory.
     ensures completes { (text : List ℕ) → S.left input.old ≡ Some text → (files : Files) → O.files opener.old ≡ Some files
         → ¬ (Rose (S.faults input.old) (S.faults input.new))

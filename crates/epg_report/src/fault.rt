@@ -8,16 +8,9 @@ use crate::status::{Origin, Outlet, Status};
 use journal_model::Outcome;
 use journal_text::write_outcome;
 use mux_config::{MuxFault, Word};
+use si_base::put_number;
 use si_causes::{Sink, write_all};
 use std::alloc::{AllocError, Global};
-
-/// Appends a number in decimal digits.
-pub fn put_number(alloc: Global, out: &mut Vec<u8>, n: u64) -> Result<(), AllocError>
-    ensures { OnOk result (out.new.items ≡ out.old.items ++ decimal n) }
-{
-    let text = n.to_string(alloc)?;
-    out.extend_from_slice(text.as_bytes())
-}
 
 fn word_of(word: Word) -> &'static str
     ensures { result.now ≡ word_text word }

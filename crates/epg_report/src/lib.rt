@@ -8,6 +8,6 @@ mod fault;
 mod journal;
 mod status;
 
-pub use fault::{out_of_memory, put_fault_line, put_number};
+pub use fault::{out_of_memory, put_fault_line};
 pub use journal::journal_of;
 pub use status::{Origin, Outlet, Status};

@@ -1,7 +1,7 @@
 use Rattle.std.proofs.Common.{◌≡◌, suc, ◌++◌, ◌∷◌, [], List, ℕ, map, ◌∙◌, arith, length, length-append, subst}
 use Rattle.std.specs.Prelude.{Ok, Err}
 use Rattle.packet_reader.specs.Recordings.{packets_in}
-use Rattle.packet_reader.specs.Reading.{room}
+use Rattle.packet_reader.specs.Reading.{packets_to_come}
 use Rattle.guide_receiver.specs.Heard.{ReceiverStandsFor}
 use Rattle.heard_completions.specs.Dones.{at_packet, dones_by}
 use Rattle.heard_completions.specs.Texts.{done_lines}
@@ -31,15 +31,15 @@ loop-number-preserved g c =
       report_later = omega (arith, i.report_later, c.in_default.ensures.later);
       told = λ bytes tells.
           let t = i.told bytes tells in
-          let given = given_packet g.S.Source.left c.loop-number.packets c.next.new.self (packets_in (room c.loop-number.packets) t.2) c.in-Ok-Some.number ((rw c.in-Ok-Some.field-0-is at c.in-Ok-Some.ensures.packets) i.going t.2 t.3) in
+          let given = given_packet g.S.Source.left c.loop-number.packets c.next.new.self (packets_in (packets_to_come c.loop-number.packets) t.2) c.in-Ok-Some.number ((rw c.in-Ok-Some.field-0-is at c.in-Ok-Some.ensures.packets) i.going t.2 t.3) in
           let takes = (rw c.in-Ok-Some.field-0-is at c.in-Ok-Some.ensures.takes) i.going t.2 t.3 in
           let number : c.in-Ok-Some.number ≡ length t.0 = counts.0 ∙ t.6 in
-          let fewer : room c.loop-number.packets ≡ suc (room c.next.new.self) = omega (arith, counts.0, counts.1, counts.2) in (
+          let fewer : packets_to_come c.loop-number.packets ≡ suc (packets_to_come c.next.new.self) = omega (arith, counts.0, counts.1, counts.2) in (
             t.0 ++ packet ∷ [],
             t.1 ++ packet,
             takes.0,
             takes.1,
-            more_parted bytes t.1 t.2 t.0 (room c.next.new.self) packet takes.0 (subst (λ n. HasParted bytes t.1 t.0 n t.2) fewer t.4) takes.2 counts.3 counts.4,
+            more_parted bytes t.1 t.2 t.0 (packets_to_come c.next.new.self) packet takes.0 (subst (λ n. HasParted bytes t.1 t.0 n t.2) fewer t.4) takes.2 counts.3 counts.4,
             subst (λ (p : List ℕ). ReceiverStandsFor (t.0 ++ p ∷ []) c.hear_packet.new.receiver) c.packet.ensures (c.in_default.ensures.stands t.0 t.5),
             omega (arith, counts.1, number, length-append t.0 (packet ∷ [])),
             reported_more t.0 packet c.in-Ok-Some.number (g.R.Sink.written c.args.report.now) (g.R.Sink.written c.loop-number.report) (g.R.Sink.written c.hear_packet.new.report) number t.7
@@ -54,10 +54,10 @@ returns-in-Err-hear_packet-clause-heard g c = λ bytes tells.
     let counts = (rw c.in-Ok-Some.field-0-is at c.in-Ok-Some.ensures.counts) i.going in
     let packet = c.next.new.self.packet in
     let t = i.told bytes tells in
-    let given = given_packet g.S.Source.left c.loop-number.packets c.next.new.self (packets_in (room c.loop-number.packets) t.2) c.in-Ok-Some.number ((rw c.in-Ok-Some.field-0-is at c.in-Ok-Some.ensures.packets) i.going t.2 t.3) in
+    let given = given_packet g.S.Source.left c.loop-number.packets c.next.new.self (packets_in (packets_to_come c.loop-number.packets) t.2) c.in-Ok-Some.number ((rw c.in-Ok-Some.field-0-is at c.in-Ok-Some.ensures.packets) i.going t.2 t.3) in
     let number : c.in-Ok-Some.number ≡ length t.0 = counts.0 ∙ t.6 in
-    heard_line c.in-Err-hear_packet.stop bytes (g.S.Source.left c.next.new.self.source) c.hear_packet.new.receiver (packets_in (room c.loop-number.packets) t.2) (packets_in (room c.next.new.self) given.0) t.0 packet c.in-Ok-Some.number
-    (g.R.Sink.written c.args.report.now) (g.R.Sink.written c.loop-number.report) (g.R.Sink.written c.hear_packet.new.report) (parted_recording bytes t.1 t.2 t.0 (room c.loop-number.packets) t.4) given.2 number t.7
+    heard_line c.in-Err-hear_packet.stop bytes (g.S.Source.left c.next.new.self.source) c.hear_packet.new.receiver (packets_in (packets_to_come c.loop-number.packets) t.2) (packets_in (packets_to_come c.next.new.self) given.0) t.0 packet c.in-Ok-Some.number
+    (g.R.Sink.written c.args.report.now) (g.R.Sink.written c.loop-number.report) (g.R.Sink.written c.hear_packet.new.report) (parted_recording bytes t.1 t.2 t.0 (packets_to_come c.loop-number.packets) t.4) given.2 number t.7
     (subst (λ (p : List ℕ). ReportsLines (g.R.Sink.written c.loop-number.report) (g.R.Sink.written c.hear_packet.new.report) (done_lines (map (at_packet c.in-Ok-Some.number) (dones_by t.0 p))) (Err c.in-Err-hear_packet.stop))
     c.packet.ensures (c.in-Err-hear_packet.ensures.reports t.0 t.5))
 
@@ -65,8 +65,8 @@ pub returns-in-Ok-None-clause-heard : goal.returns-in-Ok-None-clause-heard
 returns-in-Ok-None-clause-heard g c = λ bytes tells.
     let i = c.loop-number.invariant in
     let t = i.told bytes tells in
-    heard_end g.S.Source.left c.loop-number.packets c.next.new.self bytes (packets_in (room c.loop-number.packets) t.2) t.0 c.loop-number.receiver (g.R.Sink.written c.args.report.now) (g.R.Sink.written c.loop-number.report)
-    (parted_recording bytes t.1 t.2 t.0 (room c.loop-number.packets) t.4) ((rw c.in-Ok-None.field-0-is at c.in-Ok-None.ensures.packets) i.going t.2 t.3) t.7 t.5
+    heard_end g.S.Source.left c.loop-number.packets c.next.new.self bytes (packets_in (packets_to_come c.loop-number.packets) t.2) t.0 c.loop-number.receiver (g.R.Sink.written c.args.report.now) (g.R.Sink.written c.loop-number.report)
+    (parted_recording bytes t.1 t.2 t.0 (packets_to_come c.loop-number.packets) t.4) ((rw c.in-Ok-None.field-0-is at c.in-Ok-None.ensures.packets) i.going t.2 t.3) t.7 t.5
 
 pub returns-in-Err-clause-heard : goal.returns-in-Err-clause-heard
 returns-in-Err-clause-heard g c = λ bytes tells.

@@ -1,7 +1,7 @@
 use Rattle.std.proofs.Common.{◌≡◌, ◌≤◌, List, ℕ, length}
 use Rattle.std.specs.Prelude.{Some, None}
 use Rattle.std.specs.Io.KnownBytes.{Appends}
-use Rattle.packet_reader.specs.Reading.{bytes_left, room}
+use Rattle.packet_reader.specs.Reading.{bytes_left, packets_to_come}
 use Rattle.guide_receiver.specs.Heard.{ReceiverStandsFor}
 use Rattle.epg_cli.specs.Listen.{heard_text}
 use Rattle.epg_cli.proofs.ListenFacts.{HasParted}
@@ -16,10 +16,10 @@ invariant-loop-number g l =
       report_later : g.R.Sink.faults l.fn.report ≤ g.R.Sink.faults l.report;
       told : (bytes : List ℕ) → bytes_left g.S.Source.left l.fn.packets ≡ Some bytes →
           (heard : List (List ℕ)) × (done : List ℕ) × (rest : List ℕ) × (bytes_left g.S.Source.left l.packets ≡ Some rest)
-          × HasParted bytes done heard (room l.packets) rest
+          × HasParted bytes done heard (packets_to_come l.packets) rest
           × ReceiverStandsFor heard l.receiver × (l.packets.number ≡ length heard)
           × Appends (g.R.Sink.written l.fn.report) (g.R.Sink.written l.report) (heard_text heard);
     }
 
 abbrev pub decreases-loop-number : goal.decreases-loop-number
-decreases-loop-number g l = room l.packets
+decreases-loop-number g l = packets_to_come l.packets

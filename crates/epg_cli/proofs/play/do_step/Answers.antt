@@ -1,8 +1,8 @@
 use Rattle.std.proofs.Common.{ap, sym, ◌∙◌}
 use Rattle.std.specs.Prelude.{Ok, Err}
 use Rattle.desk_core.specs.Desks.{and_entry}
-use Rattle.headend_live.specs.declared.send.SendStop.TheVariants.{Air}
-use Rattle.headend_live.proofs.SwapFacts.{after_swap_aired, after_swap_on_air, after_other_aired, after_other_on_air, after_legal}
+use Rattle.headend_jobs.specs.declared.send.SendStop.TheVariants.{Air}
+use Rattle.headend_jobs.proofs.SwapFacts.{after_swap_aired, after_swap_on_air, after_other_aired, after_other_on_air, after_legal}
 use Rattle.epg_cli.proofs.play.do_step.Goals as goal
 
 pub returns-then-not-is_swap-clause-aired : goal.returns-then-not-is_swap-clause-aired

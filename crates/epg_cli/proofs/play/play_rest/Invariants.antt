@@ -3,7 +3,7 @@ use Rattle.std.specs.Prelude.{Option, None, IfSome}
 use Rattle.si_causes.specs.Reading.{room}
 use Rattle.desk_core.specs.Journal.{Legal}
 use Rattle.journal_model.specs.Steps.{IsInWindow}
-use Rattle.headend_live.specs.OnAir.{HasAired, IsOnAir}
+use Rattle.headend_jobs.specs.OnAir.{HasAired, IsOnAir}
 use Rattle.epg_cli.proofs.CourseFacts.{Went}
 use Rattle.epg_cli.proofs.play.play_rest.Given as goal
 

@@ -3,7 +3,7 @@ use Rattle.std.specs.Prelude.{Option, Some, None}
 use Rattle.desk_core.specs.Desks.{DeskState}
 use Rattle.epg_cli.specs.declared.stop.PlayStop.{PlayStop}
 use Rattle.epg_cli.specs.Played.{RestDid, RestTaken, course}
-use Rattle.feed_edits.specs.Ahead.{ahead}
+use Rattle.input_lines.specs.Ahead.{ahead}
 use Rattle.si_causes.specs.Reading.{text_left}
 use Rattle.epg_cli.specs.Run.{HasPlayed}
 use Rattle.epg_report.specs.Told.{told}

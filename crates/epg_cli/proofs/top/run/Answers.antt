@@ -9,285 +9,133 @@ use Rattle.epg_report.proofs.Reporting.{reported}
 use Rattle.epg_report.specs.declared.status.Status.TheVariants.{Done, Memory}
 use Rattle.epg_live.specs.Decided.{AreWhole, text_status}
 use Rattle.epg_live.specs.Ends.{HasAsked, LeavesLive}
+use Rattle.epg_live.specs.Shown.{LiveIsShown}
 use Rattle.epg_live.specs.Stops.{HasStatusCause, IsOfLive}
 use Rattle.epg_cli.specs.Coherent.{PlayIsCoherent}
+use Rattle.epg_cli.specs.Shown.{PlayIsExact}
 use Rattle.epg_cli.specs.Script.{script_in}
+use Rattle.epg_cli.specs.Spaced.{PlayIsSpaced}
 use Rattle.epg_cli.specs.Run.{Leaves, IsOfPlay, Completes}
 use Rattle.epg_cli.specs.Listen.{LeavesHeard, HearsThrough, IsOfListen}
 use Rattle.epg_cli.proofs.AgainFacts.{prints}
 use Rattle.epg_cli.proofs.CommandFacts.{play_listen, play_live, listen_live, live_neither, some_none, live_is, play_usage, listen_usage, live_usage, play_open, listen_open, play_cause, listen_cause, of_memory, memory_usage, memory_done, memory_open, memory_write, memory_read, none_asked}
 use Rattle.epg_cli.proofs.top.run.Goals as goal
 
-pub returns-in-Ok-Play-clause-usage : goal.returns-in-Ok-Play-clause-usage
-returns-in-Ok-Play-clause-usage g c =
+pub returns-in-Ok-Play : goal.returns-in-Ok-Play
+returns-in-Ok-Play g c =
     let spells : command_of (texts c.args.words.now) ≡ Some Play = rw c.in-Ok-Play.field-0-is at c.in-Ok-Play.ensures.command in
-    (λ e. absurd (play_usage c.run_play.result c.run_play.ensures.status e), λ none. absurd (some_none (command_of (texts c.args.words.now)) Play spells none))
+    record {
+      usage = (λ e. absurd (play_usage c.run_play.result c.run_play.ensures.status e), λ none. absurd (some_none (command_of (texts c.args.words.now)) Play spells none));
+      usage_leaves = λ e. absurd (play_usage c.run_play.result c.run_play.ensures.status e);
+      leaves = λ spelled. c.run_play.ensures.leaves;
+      coherent = λ spelled. c.run_play.ensures.coherent;
+      spaced = λ spelled. c.run_play.ensures.spaced;
+      exact = λ spelled. c.run_play.ensures.exact;
+      completes = λ spelled. c.run_play.ensures.completes;
+      whole = λ spelled. c.run_play.ensures.whole;
+      status = λ spelled. c.run_play.ensures.status;
+      listen_leaves = λ spelled. absurd (play_listen (command_of (texts c.args.words.now)) spells spelled);
+      listen_completes = λ spelled. absurd (play_listen (command_of (texts c.args.words.now)) spells spelled);
+      listen_status = λ spelled. absurd (play_listen (command_of (texts c.args.words.now)) spells spelled);
+      air_kept = λ spelled. absurd (play_listen (command_of (texts c.args.words.now)) spells spelled);
+      live_leaves = λ paths cycles join spelled. absurd (play_live (command_of (texts c.args.words.now)) paths cycles join spells spelled);
+      live_coherent = λ paths cycles join spelled. absurd (play_live (command_of (texts c.args.words.now)) paths cycles join spells spelled);
+      live_spaced = λ paths cycles join spelled. absurd (play_live (command_of (texts c.args.words.now)) paths cycles join spells spelled);
+      live_shown = λ paths cycles join spelled. absurd (play_live (command_of (texts c.args.words.now)) paths cycles join spells spelled);
+      live_again = λ paths cycles join spelled. absurd (play_live (command_of (texts c.args.words.now)) paths cycles join spells spelled);
+      live_completes = λ paths cycles join spelled. absurd (play_live (command_of (texts c.args.words.now)) paths cycles join spells spelled);
+      live_whole = λ paths cycles join spelled. absurd (play_live (command_of (texts c.args.words.now)) paths cycles join spells spelled);
+      live_status = λ paths cycles join spelled. absurd (play_live (command_of (texts c.args.words.now)) paths cycles join spells spelled);
+      asked = λ paths cycles join spelled. absurd (play_live (command_of (texts c.args.words.now)) paths cycles join spells spelled);
+      end = c.run_play.ensures.end;
+      cause = play_cause (g.S.Source.faults c.args.input.now) (g.S.Source.faults c.run_play.new.input) (g.O.Opener.read_faults c.args.opener.now) (g.O.Opener.read_faults c.args.opener.now) (g.A.Sink.faults c.args.air.now) (g.A.Sink.faults c.run_play.new.air) c.run_play.result c.run_play.ensures.status c.run_play.ensures.input c.run_play.ensures.air;
+      open_cause = λ feed e. absurd (play_open c.run_play.result feed c.run_play.ensures.status e);
+      report = c.run_play.ensures.report;
+      opener_kept = λ spelled. refl;
+    }
 
-pub returns-in-Ok-Play-clause-usage_leaves : goal.returns-in-Ok-Play-clause-usage_leaves
-returns-in-Ok-Play-clause-usage_leaves g c = λ e. absurd (play_usage c.run_play.result c.run_play.ensures.status e)
-
-pub returns-in-Ok-Play-clause-leaves : goal.returns-in-Ok-Play-clause-leaves
-returns-in-Ok-Play-clause-leaves g c = λ spelled. c.run_play.ensures.leaves
-
-pub returns-in-Ok-Play-clause-completes : goal.returns-in-Ok-Play-clause-completes
-returns-in-Ok-Play-clause-completes g c = λ spelled. c.run_play.ensures.completes
-
-pub returns-in-Ok-Play-clause-whole : goal.returns-in-Ok-Play-clause-whole
-returns-in-Ok-Play-clause-whole g c = λ spelled. c.run_play.ensures.whole
-
-pub returns-in-Ok-Play-clause-status : goal.returns-in-Ok-Play-clause-status
-returns-in-Ok-Play-clause-status g c = λ spelled. c.run_play.ensures.status
-
-pub returns-in-Ok-Play-clause-listen_leaves : goal.returns-in-Ok-Play-clause-listen_leaves
-returns-in-Ok-Play-clause-listen_leaves g c =
-    let spells : command_of (texts c.args.words.now) ≡ Some Play = rw c.in-Ok-Play.field-0-is at c.in-Ok-Play.ensures.command in
-    λ spelled. absurd (play_listen (command_of (texts c.args.words.now)) spells spelled)
-
-pub returns-in-Ok-Play-clause-listen_completes : goal.returns-in-Ok-Play-clause-listen_completes
-returns-in-Ok-Play-clause-listen_completes g c =
-    let spells : command_of (texts c.args.words.now) ≡ Some Play = rw c.in-Ok-Play.field-0-is at c.in-Ok-Play.ensures.command in
-    λ spelled. absurd (play_listen (command_of (texts c.args.words.now)) spells spelled)
-
-pub returns-in-Ok-Play-clause-listen_status : goal.returns-in-Ok-Play-clause-listen_status
-returns-in-Ok-Play-clause-listen_status g c =
-    let spells : command_of (texts c.args.words.now) ≡ Some Play = rw c.in-Ok-Play.field-0-is at c.in-Ok-Play.ensures.command in
-    λ spelled. absurd (play_listen (command_of (texts c.args.words.now)) spells spelled)
-
-pub returns-in-Ok-Play-clause-air_kept : goal.returns-in-Ok-Play-clause-air_kept
-returns-in-Ok-Play-clause-air_kept g c =
-    let spells : command_of (texts c.args.words.now) ≡ Some Play = rw c.in-Ok-Play.field-0-is at c.in-Ok-Play.ensures.command in
-    λ spelled. absurd (play_listen (command_of (texts c.args.words.now)) spells spelled)
-
-pub returns-in-Ok-Play-clause-live_leaves : goal.returns-in-Ok-Play-clause-live_leaves
-returns-in-Ok-Play-clause-live_leaves g c =
-    let spells : command_of (texts c.args.words.now) ≡ Some Play = rw c.in-Ok-Play.field-0-is at c.in-Ok-Play.ensures.command in
-    λ paths cycles join spelled. absurd (play_live (command_of (texts c.args.words.now)) paths cycles join spells spelled)
-
-pub returns-in-Ok-Play-clause-live_again : goal.returns-in-Ok-Play-clause-live_again
-returns-in-Ok-Play-clause-live_again g c =
-    let spells : command_of (texts c.args.words.now) ≡ Some Play = rw c.in-Ok-Play.field-0-is at c.in-Ok-Play.ensures.command in
-    λ paths cycles join spelled. absurd (play_live (command_of (texts c.args.words.now)) paths cycles join spells spelled)
-
-pub returns-in-Ok-Play-clause-live_completes : goal.returns-in-Ok-Play-clause-live_completes
-returns-in-Ok-Play-clause-live_completes g c =
-    let spells : command_of (texts c.args.words.now) ≡ Some Play = rw c.in-Ok-Play.field-0-is at c.in-Ok-Play.ensures.command in
-    λ paths cycles join spelled. absurd (play_live (command_of (texts c.args.words.now)) paths cycles join spells spelled)
-
-pub returns-in-Ok-Play-clause-live_whole : goal.returns-in-Ok-Play-clause-live_whole
-returns-in-Ok-Play-clause-live_whole g c =
-    let spells : command_of (texts c.args.words.now) ≡ Some Play = rw c.in-Ok-Play.field-0-is at c.in-Ok-Play.ensures.command in
-    λ paths cycles join spelled. absurd (play_live (command_of (texts c.args.words.now)) paths cycles join spells spelled)
-
-pub returns-in-Ok-Play-clause-live_status : goal.returns-in-Ok-Play-clause-live_status
-returns-in-Ok-Play-clause-live_status g c =
-    let spells : command_of (texts c.args.words.now) ≡ Some Play = rw c.in-Ok-Play.field-0-is at c.in-Ok-Play.ensures.command in
-    λ paths cycles join spelled. absurd (play_live (command_of (texts c.args.words.now)) paths cycles join spells spelled)
-
-pub returns-in-Ok-Play-clause-asked : goal.returns-in-Ok-Play-clause-asked
-returns-in-Ok-Play-clause-asked g c =
-    let spells : command_of (texts c.args.words.now) ≡ Some Play = rw c.in-Ok-Play.field-0-is at c.in-Ok-Play.ensures.command in
-    λ paths cycles join spelled. absurd (play_live (command_of (texts c.args.words.now)) paths cycles join spells spelled)
-
-pub returns-in-Ok-Play-clause-end : goal.returns-in-Ok-Play-clause-end
-returns-in-Ok-Play-clause-end g c = c.run_play.ensures.end
-
-pub returns-in-Ok-Play-clause-cause : goal.returns-in-Ok-Play-clause-cause
-returns-in-Ok-Play-clause-cause g c = play_cause (g.S.Source.faults c.args.input.now) (g.S.Source.faults c.run_play.new.input) (g.O.Opener.read_faults c.args.opener.now) (g.O.Opener.read_faults c.args.opener.now) (g.A.Sink.faults c.args.air.now) (g.A.Sink.faults c.run_play.new.air) c.run_play.result c.run_play.ensures.status c.run_play.ensures.input c.run_play.ensures.air
-
-pub returns-in-Ok-Play-clause-open_cause : goal.returns-in-Ok-Play-clause-open_cause
-returns-in-Ok-Play-clause-open_cause g c = λ feed e. absurd (play_open c.run_play.result feed c.run_play.ensures.status e)
-
-pub returns-in-Ok-Play-clause-report : goal.returns-in-Ok-Play-clause-report
-returns-in-Ok-Play-clause-report g c = c.run_play.ensures.report
-
-pub returns-in-Ok-Play-clause-opener_kept : goal.returns-in-Ok-Play-clause-opener_kept
-returns-in-Ok-Play-clause-opener_kept g c = λ spelled. refl
-
-pub returns-in-Ok-Listen-clause-usage : goal.returns-in-Ok-Listen-clause-usage
-returns-in-Ok-Listen-clause-usage g c =
+pub returns-in-Ok-Listen : goal.returns-in-Ok-Listen
+returns-in-Ok-Listen g c =
     let spells : command_of (texts c.args.words.now) ≡ Some Listen = rw c.in-Ok-Listen.field-0-is at c.in-Ok-Listen.ensures.command in
-    (λ e. absurd (listen_usage c.run_listen.result c.run_listen.ensures.status e), λ none. absurd (some_none (command_of (texts c.args.words.now)) Listen spells none))
+    record {
+      usage = (λ e. absurd (listen_usage c.run_listen.result c.run_listen.ensures.status e), λ none. absurd (some_none (command_of (texts c.args.words.now)) Listen spells none));
+      usage_leaves = λ e. absurd (listen_usage c.run_listen.result c.run_listen.ensures.status e);
+      leaves = λ spelled. absurd (play_listen (command_of (texts c.args.words.now)) spelled spells);
+      coherent = λ spelled. absurd (play_listen (command_of (texts c.args.words.now)) spelled spells);
+      spaced = λ spelled. absurd (play_listen (command_of (texts c.args.words.now)) spelled spells);
+      exact = λ spelled. absurd (play_listen (command_of (texts c.args.words.now)) spelled spells);
+      completes = λ spelled. absurd (play_listen (command_of (texts c.args.words.now)) spelled spells);
+      whole = λ spelled. absurd (play_listen (command_of (texts c.args.words.now)) spelled spells);
+      status = λ spelled. absurd (play_listen (command_of (texts c.args.words.now)) spelled spells);
+      listen_leaves = λ spelled. c.run_listen.ensures.leaves;
+      listen_completes = λ spelled. c.run_listen.ensures.completes;
+      listen_status = λ spelled. c.run_listen.ensures.status;
+      air_kept = λ spelled. refl;
+      live_leaves = λ paths cycles join spelled. absurd (listen_live (command_of (texts c.args.words.now)) paths cycles join spells spelled);
+      live_coherent = λ paths cycles join spelled. absurd (listen_live (command_of (texts c.args.words.now)) paths cycles join spells spelled);
+      live_spaced = λ paths cycles join spelled. absurd (listen_live (command_of (texts c.args.words.now)) paths cycles join spells spelled);
+      live_shown = λ paths cycles join spelled. absurd (listen_live (command_of (texts c.args.words.now)) paths cycles join spells spelled);
+      live_again = λ paths cycles join spelled. absurd (listen_live (command_of (texts c.args.words.now)) paths cycles join spells spelled);
+      live_completes = λ paths cycles join spelled. absurd (listen_live (command_of (texts c.args.words.now)) paths cycles join spells spelled);
+      live_whole = λ paths cycles join spelled. absurd (listen_live (command_of (texts c.args.words.now)) paths cycles join spells spelled);
+      live_status = λ paths cycles join spelled. absurd (listen_live (command_of (texts c.args.words.now)) paths cycles join spells spelled);
+      asked = λ paths cycles join spelled. absurd (listen_live (command_of (texts c.args.words.now)) paths cycles join spells spelled);
+      end = c.run_listen.ensures.end;
+      cause = listen_cause (g.S.Source.faults c.args.input.now) (g.S.Source.faults c.run_listen.new.input) (g.O.Opener.read_faults c.args.opener.now) (g.O.Opener.read_faults c.args.opener.now) (g.A.Sink.faults c.args.air.now) (g.A.Sink.faults c.args.air.now) c.run_listen.result c.run_listen.ensures.status c.run_listen.ensures.input;
+      open_cause = λ feed e. absurd (listen_open c.run_listen.result feed c.run_listen.ensures.status e);
+      report = c.run_listen.ensures.report;
+      opener_kept = λ spelled. refl;
+    }
 
-pub returns-in-Ok-Listen-clause-usage_leaves : goal.returns-in-Ok-Listen-clause-usage_leaves
-returns-in-Ok-Listen-clause-usage_leaves g c = λ e. absurd (listen_usage c.run_listen.result c.run_listen.ensures.status e)
-
-pub returns-in-Ok-Listen-clause-leaves : goal.returns-in-Ok-Listen-clause-leaves
-returns-in-Ok-Listen-clause-leaves g c =
-    let spells : command_of (texts c.args.words.now) ≡ Some Listen = rw c.in-Ok-Listen.field-0-is at c.in-Ok-Listen.ensures.command in
-    λ spelled. absurd (play_listen (command_of (texts c.args.words.now)) spelled spells)
-
-pub returns-in-Ok-Listen-clause-completes : goal.returns-in-Ok-Listen-clause-completes
-returns-in-Ok-Listen-clause-completes g c =
-    let spells : command_of (texts c.args.words.now) ≡ Some Listen = rw c.in-Ok-Listen.field-0-is at c.in-Ok-Listen.ensures.command in
-    λ spelled. absurd (play_listen (command_of (texts c.args.words.now)) spelled spells)
-
-pub returns-in-Ok-Listen-clause-whole : goal.returns-in-Ok-Listen-clause-whole
-returns-in-Ok-Listen-clause-whole g c =
-    let spells : command_of (texts c.args.words.now) ≡ Some Listen = rw c.in-Ok-Listen.field-0-is at c.in-Ok-Listen.ensures.command in
-    λ spelled. absurd (play_listen (command_of (texts c.args.words.now)) spelled spells)
-
-pub returns-in-Ok-Listen-clause-status : goal.returns-in-Ok-Listen-clause-status
-returns-in-Ok-Listen-clause-status g c =
-    let spells : command_of (texts c.args.words.now) ≡ Some Listen = rw c.in-Ok-Listen.field-0-is at c.in-Ok-Listen.ensures.command in
-    λ spelled. absurd (play_listen (command_of (texts c.args.words.now)) spelled spells)
-
-pub returns-in-Ok-Listen-clause-listen_leaves : goal.returns-in-Ok-Listen-clause-listen_leaves
-returns-in-Ok-Listen-clause-listen_leaves g c = λ spelled. c.run_listen.ensures.leaves
-
-pub returns-in-Ok-Listen-clause-listen_completes : goal.returns-in-Ok-Listen-clause-listen_completes
-returns-in-Ok-Listen-clause-listen_completes g c = λ spelled. c.run_listen.ensures.completes
-
-pub returns-in-Ok-Listen-clause-listen_status : goal.returns-in-Ok-Listen-clause-listen_status
-returns-in-Ok-Listen-clause-listen_status g c = λ spelled. c.run_listen.ensures.status
-
-pub returns-in-Ok-Listen-clause-air_kept : goal.returns-in-Ok-Listen-clause-air_kept
-returns-in-Ok-Listen-clause-air_kept g c = λ spelled. refl
-
-pub returns-in-Ok-Listen-clause-live_leaves : goal.returns-in-Ok-Listen-clause-live_leaves
-returns-in-Ok-Listen-clause-live_leaves g c =
-    let spells : command_of (texts c.args.words.now) ≡ Some Listen = rw c.in-Ok-Listen.field-0-is at c.in-Ok-Listen.ensures.command in
-    λ paths cycles join spelled. absurd (listen_live (command_of (texts c.args.words.now)) paths cycles join spells spelled)
-
-pub returns-in-Ok-Listen-clause-live_again : goal.returns-in-Ok-Listen-clause-live_again
-returns-in-Ok-Listen-clause-live_again g c =
-    let spells : command_of (texts c.args.words.now) ≡ Some Listen = rw c.in-Ok-Listen.field-0-is at c.in-Ok-Listen.ensures.command in
-    λ paths cycles join spelled. absurd (listen_live (command_of (texts c.args.words.now)) paths cycles join spells spelled)
-
-pub returns-in-Ok-Listen-clause-live_completes : goal.returns-in-Ok-Listen-clause-live_completes
-returns-in-Ok-Listen-clause-live_completes g c =
-    let spells : command_of (texts c.args.words.now) ≡ Some Listen = rw c.in-Ok-Listen.field-0-is at c.in-Ok-Listen.ensures.command in
-    λ paths cycles join spelled. absurd (listen_live (command_of (texts c.args.words.now)) paths cycles join spells spelled)
-
-pub returns-in-Ok-Listen-clause-live_whole : goal.returns-in-Ok-Listen-clause-live_whole
-returns-in-Ok-Listen-clause-live_whole g c =
-    let spells : command_of (texts c.args.words.now) ≡ Some Listen = rw c.in-Ok-Listen.field-0-is at c.in-Ok-Listen.ensures.command in
-    λ paths cycles join spelled. absurd (listen_live (command_of (texts c.args.words.now)) paths cycles join spells spelled)
-
-pub returns-in-Ok-Listen-clause-live_status : goal.returns-in-Ok-Listen-clause-live_status
-returns-in-Ok-Listen-clause-live_status g c =
-    let spells : command_of (texts c.args.words.now) ≡ Some Listen = rw c.in-Ok-Listen.field-0-is at c.in-Ok-Listen.ensures.command in
-    λ paths cycles join spelled. absurd (listen_live (command_of (texts c.args.words.now)) paths cycles join spells spelled)
-
-pub returns-in-Ok-Listen-clause-asked : goal.returns-in-Ok-Listen-clause-asked
-returns-in-Ok-Listen-clause-asked g c =
-    let spells : command_of (texts c.args.words.now) ≡ Some Listen = rw c.in-Ok-Listen.field-0-is at c.in-Ok-Listen.ensures.command in
-    λ paths cycles join spelled. absurd (listen_live (command_of (texts c.args.words.now)) paths cycles join spells spelled)
-
-pub returns-in-Ok-Listen-clause-end : goal.returns-in-Ok-Listen-clause-end
-returns-in-Ok-Listen-clause-end g c = c.run_listen.ensures.end
-
-pub returns-in-Ok-Listen-clause-cause : goal.returns-in-Ok-Listen-clause-cause
-returns-in-Ok-Listen-clause-cause g c = listen_cause (g.S.Source.faults c.args.input.now) (g.S.Source.faults c.run_listen.new.input) (g.O.Opener.read_faults c.args.opener.now) (g.O.Opener.read_faults c.args.opener.now) (g.A.Sink.faults c.args.air.now) (g.A.Sink.faults c.args.air.now) c.run_listen.result c.run_listen.ensures.status c.run_listen.ensures.input
-
-pub returns-in-Ok-Listen-clause-open_cause : goal.returns-in-Ok-Listen-clause-open_cause
-returns-in-Ok-Listen-clause-open_cause g c = λ feed e. absurd (listen_open c.run_listen.result feed c.run_listen.ensures.status e)
-
-pub returns-in-Ok-Listen-clause-report : goal.returns-in-Ok-Listen-clause-report
-returns-in-Ok-Listen-clause-report g c = c.run_listen.ensures.report
-
-pub returns-in-Ok-Listen-clause-opener_kept : goal.returns-in-Ok-Listen-clause-opener_kept
-returns-in-Ok-Listen-clause-opener_kept g c = λ spelled. refl
-
-pub returns-in-Ok-Live-clause-usage : goal.returns-in-Ok-Live-clause-usage
-returns-in-Ok-Live-clause-usage g c =
+pub returns-in-Ok-Live : goal.returns-in-Ok-Live
+returns-in-Ok-Live g c =
     let spells : command_of (texts c.args.words.now) ≡ Some (Live (texts c.in-Ok-Live.live.feeds.items) c.in-Ok-Live.live.cycles c.in-Ok-Live.live.join) = rw c.in-Ok-Live.field-0-is at c.in-Ok-Live.ensures.command in
-    (λ e. absurd (live_usage c.run_live_files.result c.run_live_files.ensures.status e), λ none. absurd (some_none (command_of (texts c.args.words.now)) (Live (texts c.in-Ok-Live.live.feeds.items) c.in-Ok-Live.live.cycles c.in-Ok-Live.live.join) spells none))
-
-pub returns-in-Ok-Live-clause-usage_leaves : goal.returns-in-Ok-Live-clause-usage_leaves
-returns-in-Ok-Live-clause-usage_leaves g c = λ e. absurd (live_usage c.run_live_files.result c.run_live_files.ensures.status e)
-
-pub returns-in-Ok-Live-clause-leaves : goal.returns-in-Ok-Live-clause-leaves
-returns-in-Ok-Live-clause-leaves g c =
-    let spells : command_of (texts c.args.words.now) ≡ Some (Live (texts c.in-Ok-Live.live.feeds.items) c.in-Ok-Live.live.cycles c.in-Ok-Live.live.join) = rw c.in-Ok-Live.field-0-is at c.in-Ok-Live.ensures.command in
-    λ spelled. absurd (play_live (command_of (texts c.args.words.now)) (texts c.in-Ok-Live.live.feeds.items) c.in-Ok-Live.live.cycles c.in-Ok-Live.live.join spelled spells)
-
-pub returns-in-Ok-Live-clause-completes : goal.returns-in-Ok-Live-clause-completes
-returns-in-Ok-Live-clause-completes g c =
-    let spells : command_of (texts c.args.words.now) ≡ Some (Live (texts c.in-Ok-Live.live.feeds.items) c.in-Ok-Live.live.cycles c.in-Ok-Live.live.join) = rw c.in-Ok-Live.field-0-is at c.in-Ok-Live.ensures.command in
-    λ spelled. absurd (play_live (command_of (texts c.args.words.now)) (texts c.in-Ok-Live.live.feeds.items) c.in-Ok-Live.live.cycles c.in-Ok-Live.live.join spelled spells)
-
-pub returns-in-Ok-Live-clause-whole : goal.returns-in-Ok-Live-clause-whole
-returns-in-Ok-Live-clause-whole g c =
-    let spells : command_of (texts c.args.words.now) ≡ Some (Live (texts c.in-Ok-Live.live.feeds.items) c.in-Ok-Live.live.cycles c.in-Ok-Live.live.join) = rw c.in-Ok-Live.field-0-is at c.in-Ok-Live.ensures.command in
-    λ spelled. absurd (play_live (command_of (texts c.args.words.now)) (texts c.in-Ok-Live.live.feeds.items) c.in-Ok-Live.live.cycles c.in-Ok-Live.live.join spelled spells)
-
-pub returns-in-Ok-Live-clause-status : goal.returns-in-Ok-Live-clause-status
-returns-in-Ok-Live-clause-status g c =
-    let spells : command_of (texts c.args.words.now) ≡ Some (Live (texts c.in-Ok-Live.live.feeds.items) c.in-Ok-Live.live.cycles c.in-Ok-Live.live.join) = rw c.in-Ok-Live.field-0-is at c.in-Ok-Live.ensures.command in
-    λ spelled. absurd (play_live (command_of (texts c.args.words.now)) (texts c.in-Ok-Live.live.feeds.items) c.in-Ok-Live.live.cycles c.in-Ok-Live.live.join spelled spells)
-
-pub returns-in-Ok-Live-clause-listen_leaves : goal.returns-in-Ok-Live-clause-listen_leaves
-returns-in-Ok-Live-clause-listen_leaves g c =
-    let spells : command_of (texts c.args.words.now) ≡ Some (Live (texts c.in-Ok-Live.live.feeds.items) c.in-Ok-Live.live.cycles c.in-Ok-Live.live.join) = rw c.in-Ok-Live.field-0-is at c.in-Ok-Live.ensures.command in
-    λ spelled. absurd (listen_live (command_of (texts c.args.words.now)) (texts c.in-Ok-Live.live.feeds.items) c.in-Ok-Live.live.cycles c.in-Ok-Live.live.join spelled spells)
-
-pub returns-in-Ok-Live-clause-listen_completes : goal.returns-in-Ok-Live-clause-listen_completes
-returns-in-Ok-Live-clause-listen_completes g c =
-    let spells : command_of (texts c.args.words.now) ≡ Some (Live (texts c.in-Ok-Live.live.feeds.items) c.in-Ok-Live.live.cycles c.in-Ok-Live.live.join) = rw c.in-Ok-Live.field-0-is at c.in-Ok-Live.ensures.command in
-    λ spelled. absurd (listen_live (command_of (texts c.args.words.now)) (texts c.in-Ok-Live.live.feeds.items) c.in-Ok-Live.live.cycles c.in-Ok-Live.live.join spelled spells)
-
-pub returns-in-Ok-Live-clause-listen_status : goal.returns-in-Ok-Live-clause-listen_status
-returns-in-Ok-Live-clause-listen_status g c =
-    let spells : command_of (texts c.args.words.now) ≡ Some (Live (texts c.in-Ok-Live.live.feeds.items) c.in-Ok-Live.live.cycles c.in-Ok-Live.live.join) = rw c.in-Ok-Live.field-0-is at c.in-Ok-Live.ensures.command in
-    λ spelled. absurd (listen_live (command_of (texts c.args.words.now)) (texts c.in-Ok-Live.live.feeds.items) c.in-Ok-Live.live.cycles c.in-Ok-Live.live.join spelled spells)
-
-pub returns-in-Ok-Live-clause-air_kept : goal.returns-in-Ok-Live-clause-air_kept
-returns-in-Ok-Live-clause-air_kept g c =
-    let spells : command_of (texts c.args.words.now) ≡ Some (Live (texts c.in-Ok-Live.live.feeds.items) c.in-Ok-Live.live.cycles c.in-Ok-Live.live.join) = rw c.in-Ok-Live.field-0-is at c.in-Ok-Live.ensures.command in
-    λ spelled. absurd (listen_live (command_of (texts c.args.words.now)) (texts c.in-Ok-Live.live.feeds.items) c.in-Ok-Live.live.cycles c.in-Ok-Live.live.join spelled spells)
-
-pub returns-in-Ok-Live-clause-live_leaves : goal.returns-in-Ok-Live-clause-live_leaves
-returns-in-Ok-Live-clause-live_leaves g c =
-    let spells : command_of (texts c.args.words.now) ≡ Some (Live (texts c.in-Ok-Live.live.feeds.items) c.in-Ok-Live.live.cycles c.in-Ok-Live.live.join) = rw c.in-Ok-Live.field-0-is at c.in-Ok-Live.ensures.command in
-    λ paths cycles join spelled text tells files known.
-    live_is (λ ps n j. LeavesLive ps n j text files (g.S.Source.left c.run_live_files.new.input) (g.O.Opener.read_faults c.args.opener.now) (g.O.Opener.read_faults c.run_live_files.new.opener) (told g.A.Sink.written g.A.Sink.faults c.args.air.now c.run_live_files.new.air) (told g.R.Sink.written g.R.Sink.faults c.args.report.now c.run_live_files.new.report) c.run_live_files.result)
-    (command_of (texts c.args.words.now)) (texts c.in-Ok-Live.live.feeds.items) paths c.in-Ok-Live.live.cycles cycles c.in-Ok-Live.live.join join spells spelled (c.run_live_files.ensures.leaves text tells files known)
-
-pub returns-in-Ok-Live-clause-live_again : goal.returns-in-Ok-Live-clause-live_again
-returns-in-Ok-Live-clause-live_again g c = λ paths cycles join spelled text tells files known.
-    prints (texts c.in-Ok-Live.live.feeds.items) c.in-Ok-Live.live.cycles c.in-Ok-Live.live.join text files (g.S.Source.left c.run_live_files.new.input) (g.O.Opener.read_faults c.args.opener.now) (g.O.Opener.read_faults c.run_live_files.new.opener)
-    (told g.A.Sink.written g.A.Sink.faults c.args.air.now c.run_live_files.new.air) (told g.R.Sink.written g.R.Sink.faults c.args.report.now c.run_live_files.new.report) c.run_live_files.result (c.run_live_files.ensures.leaves text tells files known)
-
-pub returns-in-Ok-Live-clause-live_completes : goal.returns-in-Ok-Live-clause-live_completes
-returns-in-Ok-Live-clause-live_completes g c =
-    let spells : command_of (texts c.args.words.now) ≡ Some (Live (texts c.in-Ok-Live.live.feeds.items) c.in-Ok-Live.live.cycles c.in-Ok-Live.live.join) = rw c.in-Ok-Live.field-0-is at c.in-Ok-Live.ensures.command in
-    λ paths cycles join spelled text tells files known no_read no_open no_feed no_air no_report.
-    live_is (λ ps n j. (c.run_live_files.result ≡ Memory) ⊎ (c.run_live_files.result ≡ text_status text ps files))
-    (command_of (texts c.args.words.now)) (texts c.in-Ok-Live.live.feeds.items) paths c.in-Ok-Live.live.cycles cycles c.in-Ok-Live.live.join join spells spelled (c.run_live_files.ensures.completes text tells files known no_read no_open no_feed no_air no_report)
-
-pub returns-in-Ok-Live-clause-live_whole : goal.returns-in-Ok-Live-clause-live_whole
-returns-in-Ok-Live-clause-live_whole g c =
-    let spells : command_of (texts c.args.words.now) ≡ Some (Live (texts c.in-Ok-Live.live.feeds.items) c.in-Ok-Live.live.cycles c.in-Ok-Live.live.join) = rw c.in-Ok-Live.field-0-is at c.in-Ok-Live.ensures.command in
-    λ paths cycles join spelled text tells files known are no_read no_open no_feed no_air no_report.
-    live_is (λ ps n j. AreWhole text ps files → (c.run_live_files.result ≡ Done) ⊎ (c.run_live_files.result ≡ Memory))
-    (command_of (texts c.args.words.now)) (texts c.in-Ok-Live.live.feeds.items) paths c.in-Ok-Live.live.cycles cycles c.in-Ok-Live.live.join join spells spelled (λ whole. c.run_live_files.ensures.whole text tells files known whole no_read no_open no_feed no_air no_report) are
-
-pub returns-in-Ok-Live-clause-live_status : goal.returns-in-Ok-Live-clause-live_status
-returns-in-Ok-Live-clause-live_status g c = λ paths cycles join spelled. c.run_live_files.ensures.status
-
-pub returns-in-Ok-Live-clause-asked : goal.returns-in-Ok-Live-clause-asked
-returns-in-Ok-Live-clause-asked g c =
-    let spells : command_of (texts c.args.words.now) ≡ Some (Live (texts c.in-Ok-Live.live.feeds.items) c.in-Ok-Live.live.cycles c.in-Ok-Live.live.join) = rw c.in-Ok-Live.field-0-is at c.in-Ok-Live.ensures.command in
-    λ paths cycles join spelled.
-    live_is (λ ps n j. HasAsked ps (g.O.Opener.tried c.args.opener.now) (g.O.Opener.tried c.run_live_files.new.opener) c.run_live_files.result)
-    (command_of (texts c.args.words.now)) (texts c.in-Ok-Live.live.feeds.items) paths c.in-Ok-Live.live.cycles cycles c.in-Ok-Live.live.join join spells spelled c.run_live_files.ensures.asked
-
-pub returns-in-Ok-Live-clause-end : goal.returns-in-Ok-Live-clause-end
-returns-in-Ok-Live-clause-end g c = c.run_live_files.ensures.end
-
-pub returns-in-Ok-Live-clause-cause : goal.returns-in-Ok-Live-clause-cause
-returns-in-Ok-Live-clause-cause g c = c.run_live_files.ensures.cause
-
-pub returns-in-Ok-Live-clause-open_cause : goal.returns-in-Ok-Live-clause-open_cause
-returns-in-Ok-Live-clause-open_cause g c = c.run_live_files.ensures.open_cause
-
-pub returns-in-Ok-Live-clause-report : goal.returns-in-Ok-Live-clause-report
-returns-in-Ok-Live-clause-report g c = c.run_live_files.ensures.report
-
-pub returns-in-Ok-Live-clause-opener_kept : goal.returns-in-Ok-Live-clause-opener_kept
-returns-in-Ok-Live-clause-opener_kept g c =
-    let spells : command_of (texts c.args.words.now) ≡ Some (Live (texts c.in-Ok-Live.live.feeds.items) c.in-Ok-Live.live.cycles c.in-Ok-Live.live.join) = rw c.in-Ok-Live.field-0-is at c.in-Ok-Live.ensures.command in
-    λ spelled. absurd (live_neither (command_of (texts c.args.words.now)) (texts c.in-Ok-Live.live.feeds.items) c.in-Ok-Live.live.cycles c.in-Ok-Live.live.join spells spelled)
+    record {
+      usage = (λ e. absurd (live_usage c.run_live_files.result c.run_live_files.ensures.status e), λ none. absurd (some_none (command_of (texts c.args.words.now)) (Live (texts c.in-Ok-Live.live.feeds.items) c.in-Ok-Live.live.cycles c.in-Ok-Live.live.join) spells none));
+      usage_leaves = λ e. absurd (live_usage c.run_live_files.result c.run_live_files.ensures.status e);
+      leaves = λ spelled. absurd (play_live (command_of (texts c.args.words.now)) (texts c.in-Ok-Live.live.feeds.items) c.in-Ok-Live.live.cycles c.in-Ok-Live.live.join spelled spells);
+      coherent = λ spelled. absurd (play_live (command_of (texts c.args.words.now)) (texts c.in-Ok-Live.live.feeds.items) c.in-Ok-Live.live.cycles c.in-Ok-Live.live.join spelled spells);
+      spaced = λ spelled. absurd (play_live (command_of (texts c.args.words.now)) (texts c.in-Ok-Live.live.feeds.items) c.in-Ok-Live.live.cycles c.in-Ok-Live.live.join spelled spells);
+      exact = λ spelled. absurd (play_live (command_of (texts c.args.words.now)) (texts c.in-Ok-Live.live.feeds.items) c.in-Ok-Live.live.cycles c.in-Ok-Live.live.join spelled spells);
+      completes = λ spelled. absurd (play_live (command_of (texts c.args.words.now)) (texts c.in-Ok-Live.live.feeds.items) c.in-Ok-Live.live.cycles c.in-Ok-Live.live.join spelled spells);
+      whole = λ spelled. absurd (play_live (command_of (texts c.args.words.now)) (texts c.in-Ok-Live.live.feeds.items) c.in-Ok-Live.live.cycles c.in-Ok-Live.live.join spelled spells);
+      status = λ spelled. absurd (play_live (command_of (texts c.args.words.now)) (texts c.in-Ok-Live.live.feeds.items) c.in-Ok-Live.live.cycles c.in-Ok-Live.live.join spelled spells);
+      listen_leaves = λ spelled. absurd (listen_live (command_of (texts c.args.words.now)) (texts c.in-Ok-Live.live.feeds.items) c.in-Ok-Live.live.cycles c.in-Ok-Live.live.join spelled spells);
+      listen_completes = λ spelled. absurd (listen_live (command_of (texts c.args.words.now)) (texts c.in-Ok-Live.live.feeds.items) c.in-Ok-Live.live.cycles c.in-Ok-Live.live.join spelled spells);
+      listen_status = λ spelled. absurd (listen_live (command_of (texts c.args.words.now)) (texts c.in-Ok-Live.live.feeds.items) c.in-Ok-Live.live.cycles c.in-Ok-Live.live.join spelled spells);
+      air_kept = λ spelled. absurd (listen_live (command_of (texts c.args.words.now)) (texts c.in-Ok-Live.live.feeds.items) c.in-Ok-Live.live.cycles c.in-Ok-Live.live.join spelled spells);
+      live_leaves =
+          λ paths cycles join spelled text tells files known.
+          live_is (λ ps n j. LeavesLive ps n j text files (g.S.Source.left c.run_live_files.new.input) (g.O.Opener.read_faults c.args.opener.now) (g.O.Opener.read_faults c.run_live_files.new.opener) (told g.A.Sink.written g.A.Sink.faults c.args.air.now c.run_live_files.new.air) (told g.R.Sink.written g.R.Sink.faults c.args.report.now c.run_live_files.new.report) c.run_live_files.result)
+          (command_of (texts c.args.words.now)) (texts c.in-Ok-Live.live.feeds.items) paths c.in-Ok-Live.live.cycles cycles c.in-Ok-Live.live.join join spells spelled (c.run_live_files.ensures.leaves text tells files known);
+      live_coherent = λ paths cycles join spelled text tells files known. c.run_live_files.ensures.coherent text tells files known;
+      live_spaced = λ paths cycles join spelled text tells files known. c.run_live_files.ensures.spaced text tells files known;
+      live_shown =
+          λ paths cycles join spelled text tells files known.
+          live_is (λ ps n j. LiveIsShown ps n j text files (g.S.Source.left c.run_live_files.new.input) (g.O.Opener.read_faults c.args.opener.now) (g.O.Opener.read_faults c.run_live_files.new.opener) (told g.A.Sink.written g.A.Sink.faults c.args.air.now c.run_live_files.new.air) (told g.R.Sink.written g.R.Sink.faults c.args.report.now c.run_live_files.new.report) c.run_live_files.result)
+          (command_of (texts c.args.words.now)) (texts c.in-Ok-Live.live.feeds.items) paths c.in-Ok-Live.live.cycles cycles c.in-Ok-Live.live.join join spells spelled (c.run_live_files.ensures.shown text tells files known);
+      live_again = λ paths cycles join spelled text tells files known.
+          prints (texts c.in-Ok-Live.live.feeds.items) c.in-Ok-Live.live.cycles c.in-Ok-Live.live.join text files (g.S.Source.left c.run_live_files.new.input) (g.O.Opener.read_faults c.args.opener.now) (g.O.Opener.read_faults c.run_live_files.new.opener)
+          (told g.A.Sink.written g.A.Sink.faults c.args.air.now c.run_live_files.new.air) (told g.R.Sink.written g.R.Sink.faults c.args.report.now c.run_live_files.new.report) c.run_live_files.result (c.run_live_files.ensures.leaves text tells files known);
+      live_completes =
+          λ paths cycles join spelled text tells files known no_read no_open no_feed no_air no_report.
+          live_is (λ ps n j. (c.run_live_files.result ≡ Memory) ⊎ (c.run_live_files.result ≡ text_status text ps files))
+          (command_of (texts c.args.words.now)) (texts c.in-Ok-Live.live.feeds.items) paths c.in-Ok-Live.live.cycles cycles c.in-Ok-Live.live.join join spells spelled (c.run_live_files.ensures.completes text tells files known no_read no_open no_feed no_air no_report);
+      live_whole =
+          λ paths cycles join spelled text tells files known are no_read no_open no_feed no_air no_report.
+          live_is (λ ps n j. AreWhole text ps files → (c.run_live_files.result ≡ Done) ⊎ (c.run_live_files.result ≡ Memory))
+          (command_of (texts c.args.words.now)) (texts c.in-Ok-Live.live.feeds.items) paths c.in-Ok-Live.live.cycles cycles c.in-Ok-Live.live.join join spells spelled (λ whole. c.run_live_files.ensures.whole text tells files known whole no_read no_open no_feed no_air no_report) are;
+      live_status = λ paths cycles join spelled. c.run_live_files.ensures.status;
+      asked =
+          λ paths cycles join spelled.
+          live_is (λ ps n j. HasAsked ps (g.O.Opener.tried c.args.opener.now) (g.O.Opener.tried c.run_live_files.new.opener) c.run_live_files.result)
+          (command_of (texts c.args.words.now)) (texts c.in-Ok-Live.live.feeds.items) paths c.in-Ok-Live.live.cycles cycles c.in-Ok-Live.live.join join spells spelled c.run_live_files.ensures.asked;
+      end = c.run_live_files.ensures.end;
+      cause = c.run_live_files.ensures.cause;
+      open_cause = c.run_live_files.ensures.open_cause;
+      report = c.run_live_files.ensures.report;
+      opener_kept = λ spelled. absurd (live_neither (command_of (texts c.args.words.now)) (texts c.in-Ok-Live.live.feeds.items) c.in-Ok-Live.live.cycles c.in-Ok-Live.live.join spells spelled);
+    }
 
 pub run_live_files-requires-clause-few : goal.run_live_files-requires-clause-few
 run_live_files-requires-clause-few g c κs within = (rw c.in-Ok-Live.field-0-is at c.in-Ok-Live.ensures.within).0
@@ -295,205 +143,71 @@ run_live_files-requires-clause-few g c κs within = (rw c.in-Ok-Live.field-0-is 
 pub run_live_files-requires-clause-cycles : goal.run_live_files-requires-clause-cycles
 run_live_files-requires-clause-cycles g c κs within = (rw c.in-Ok-Live.field-0-is at c.in-Ok-Live.ensures.within).1
 
-pub returns-in-Err-Memory-clause-usage : goal.returns-in-Err-Memory-clause-usage
-returns-in-Err-Memory-clause-usage g c = (λ e. absurd (memory_usage c.out_of_memory.result c.out_of_memory.ensures.status e), λ none. absurd (memory_read ((rw c.in-Err-Memory.field-0-is at c.in-Err-Memory.ensures.usage).1 none)))
+pub returns-in-Err-Memory : goal.returns-in-Err-Memory
+returns-in-Err-Memory g c = record {
+  usage = (λ e. absurd (memory_usage c.out_of_memory.result c.out_of_memory.ensures.status e), λ none. absurd (memory_read ((rw c.in-Err-Memory.field-0-is at c.in-Err-Memory.ensures.usage).1 none)));
+  usage_leaves = λ e. absurd (memory_usage c.out_of_memory.result c.out_of_memory.ensures.status e);
+  leaves = λ spelled text tells. of_memory (Leaves text (g.S.Source.left c.args.input.now) (told g.A.Sink.written g.A.Sink.faults c.args.air.now c.args.air.now) (told g.R.Sink.written g.R.Sink.faults c.args.report.now c.out_of_memory.new.report)) c.out_of_memory.result c.out_of_memory.ensures.status tt;
+  coherent = λ spelled text tells. of_memory (PlayIsCoherent text (told g.A.Sink.written g.A.Sink.faults c.args.air.now c.args.air.now)) c.out_of_memory.result c.out_of_memory.ensures.status tt;
+  spaced = λ spelled text tells. of_memory (PlayIsSpaced text (told g.A.Sink.written g.A.Sink.faults c.args.air.now c.args.air.now)) c.out_of_memory.result c.out_of_memory.ensures.status tt;
+  exact = λ spelled text tells. of_memory (PlayIsExact text (told g.A.Sink.written g.A.Sink.faults c.args.air.now c.args.air.now)) c.out_of_memory.result c.out_of_memory.ensures.status tt;
+  completes = λ spelled text tells no_read no_air no_report. of_memory (Completes (script_in text).stop) c.out_of_memory.result c.out_of_memory.ensures.status tt;
+  whole = λ spelled text tells ended no_read no_air no_report. inr c.out_of_memory.ensures.status;
+  status = λ spelled. of_memory IsOfPlay c.out_of_memory.result c.out_of_memory.ensures.status tt;
+  listen_leaves = λ spelled bytes tells. of_memory (LeavesHeard bytes (g.S.Source.left c.args.input.now) (told g.R.Sink.written g.R.Sink.faults c.args.report.now c.out_of_memory.new.report)) c.out_of_memory.result c.out_of_memory.ensures.status tt;
+  listen_completes = λ spelled bytes tells no_read no_report. of_memory (HearsThrough (recording bytes)) c.out_of_memory.result c.out_of_memory.ensures.status tt;
+  listen_status = λ spelled. of_memory IsOfListen c.out_of_memory.result c.out_of_memory.ensures.status tt;
+  air_kept = λ spelled. refl;
+  live_leaves = λ paths cycles join spelled text tells files known. inl c.out_of_memory.ensures.status;
+  live_coherent = λ paths cycles join spelled text tells files known. inl c.out_of_memory.ensures.status;
+  live_spaced = λ paths cycles join spelled text tells files known. inl c.out_of_memory.ensures.status;
+  live_shown = λ paths cycles join spelled text tells files known. inl c.out_of_memory.ensures.status;
+  live_again = λ paths cycles join spelled text tells files known. inl c.out_of_memory.ensures.status;
+  live_completes = λ paths cycles join spelled text tells files known no_read no_open no_feed no_air no_report. inl c.out_of_memory.ensures.status;
+  live_whole = λ paths cycles join spelled text tells files known are no_read no_open no_feed no_air no_report. inr c.out_of_memory.ensures.status;
+  live_status = λ paths cycles join spelled. of_memory IsOfLive c.out_of_memory.result c.out_of_memory.ensures.status tt;
+  asked = λ paths cycles join spelled. of_memory (HasAsked paths (g.O.Opener.tried c.args.opener.now) (g.O.Opener.tried c.args.opener.now)) c.out_of_memory.result c.out_of_memory.ensures.status (none_asked paths (g.O.Opener.tried c.args.opener.now));
+  end = λ e. absurd (memory_done c.out_of_memory.result c.out_of_memory.ensures.status e);
+  cause = of_memory (HasStatusCause (g.S.Source.faults c.args.input.now) (g.S.Source.faults c.args.input.now) (g.O.Opener.read_faults c.args.opener.now) (g.O.Opener.read_faults c.args.opener.now) (g.A.Sink.faults c.args.air.now) (g.A.Sink.faults c.args.air.now)) c.out_of_memory.result c.out_of_memory.ensures.status tt;
+  open_cause = λ feed e. absurd (memory_open c.out_of_memory.result feed c.out_of_memory.ensures.status e);
+  report = λ e. absurd (memory_write c.out_of_memory.result c.out_of_memory.ensures.status e);
+  opener_kept = λ spelled. refl;
+}
 
-pub returns-in-Err-Memory-clause-usage_leaves : goal.returns-in-Err-Memory-clause-usage_leaves
-returns-in-Err-Memory-clause-usage_leaves g c = λ e. absurd (memory_usage c.out_of_memory.result c.out_of_memory.ensures.status e)
-
-pub returns-in-Err-Memory-clause-leaves : goal.returns-in-Err-Memory-clause-leaves
-returns-in-Err-Memory-clause-leaves g c = λ spelled text tells. of_memory (Leaves text (g.S.Source.left c.args.input.now) (told g.A.Sink.written g.A.Sink.faults c.args.air.now c.args.air.now) (told g.R.Sink.written g.R.Sink.faults c.args.report.now c.out_of_memory.new.report)) c.out_of_memory.result c.out_of_memory.ensures.status tt
-
-pub returns-in-Err-Memory-clause-completes : goal.returns-in-Err-Memory-clause-completes
-returns-in-Err-Memory-clause-completes g c = λ spelled text tells no_read no_air no_report. of_memory (Completes (script_in text).stop) c.out_of_memory.result c.out_of_memory.ensures.status tt
-
-pub returns-in-Err-Memory-clause-whole : goal.returns-in-Err-Memory-clause-whole
-returns-in-Err-Memory-clause-whole g c = λ spelled text tells ended no_read no_air no_report. inr c.out_of_memory.ensures.status
-
-pub returns-in-Err-Memory-clause-status : goal.returns-in-Err-Memory-clause-status
-returns-in-Err-Memory-clause-status g c = λ spelled. of_memory IsOfPlay c.out_of_memory.result c.out_of_memory.ensures.status tt
-
-pub returns-in-Err-Memory-clause-listen_leaves : goal.returns-in-Err-Memory-clause-listen_leaves
-returns-in-Err-Memory-clause-listen_leaves g c = λ spelled bytes tells. of_memory (LeavesHeard bytes (g.S.Source.left c.args.input.now) (told g.R.Sink.written g.R.Sink.faults c.args.report.now c.out_of_memory.new.report)) c.out_of_memory.result c.out_of_memory.ensures.status tt
-
-pub returns-in-Err-Memory-clause-listen_completes : goal.returns-in-Err-Memory-clause-listen_completes
-returns-in-Err-Memory-clause-listen_completes g c = λ spelled bytes tells no_read no_report. of_memory (HearsThrough (recording bytes)) c.out_of_memory.result c.out_of_memory.ensures.status tt
-
-pub returns-in-Err-Memory-clause-listen_status : goal.returns-in-Err-Memory-clause-listen_status
-returns-in-Err-Memory-clause-listen_status g c = λ spelled. of_memory IsOfListen c.out_of_memory.result c.out_of_memory.ensures.status tt
-
-pub returns-in-Err-Memory-clause-air_kept : goal.returns-in-Err-Memory-clause-air_kept
-returns-in-Err-Memory-clause-air_kept g c = λ spelled. refl
-
-pub returns-in-Err-Memory-clause-live_leaves : goal.returns-in-Err-Memory-clause-live_leaves
-returns-in-Err-Memory-clause-live_leaves g c = λ paths cycles join spelled text tells files known. inl c.out_of_memory.ensures.status
-
-pub returns-in-Err-Memory-clause-live_again : goal.returns-in-Err-Memory-clause-live_again
-returns-in-Err-Memory-clause-live_again g c = λ paths cycles join spelled text tells files known. inl c.out_of_memory.ensures.status
-
-pub returns-in-Err-Memory-clause-live_completes : goal.returns-in-Err-Memory-clause-live_completes
-returns-in-Err-Memory-clause-live_completes g c = λ paths cycles join spelled text tells files known no_read no_open no_feed no_air no_report. inl c.out_of_memory.ensures.status
-
-pub returns-in-Err-Memory-clause-live_whole : goal.returns-in-Err-Memory-clause-live_whole
-returns-in-Err-Memory-clause-live_whole g c = λ paths cycles join spelled text tells files known are no_read no_open no_feed no_air no_report. inr c.out_of_memory.ensures.status
-
-pub returns-in-Err-Memory-clause-live_status : goal.returns-in-Err-Memory-clause-live_status
-returns-in-Err-Memory-clause-live_status g c = λ paths cycles join spelled. of_memory IsOfLive c.out_of_memory.result c.out_of_memory.ensures.status tt
-
-pub returns-in-Err-Memory-clause-asked : goal.returns-in-Err-Memory-clause-asked
-returns-in-Err-Memory-clause-asked g c = λ paths cycles join spelled. of_memory (HasAsked paths (g.O.Opener.tried c.args.opener.now) (g.O.Opener.tried c.args.opener.now)) c.out_of_memory.result c.out_of_memory.ensures.status (none_asked paths (g.O.Opener.tried c.args.opener.now))
-
-pub returns-in-Err-Memory-clause-end : goal.returns-in-Err-Memory-clause-end
-returns-in-Err-Memory-clause-end g c = λ e. absurd (memory_done c.out_of_memory.result c.out_of_memory.ensures.status e)
-
-pub returns-in-Err-Memory-clause-cause : goal.returns-in-Err-Memory-clause-cause
-returns-in-Err-Memory-clause-cause g c = of_memory (HasStatusCause (g.S.Source.faults c.args.input.now) (g.S.Source.faults c.args.input.now) (g.O.Opener.read_faults c.args.opener.now) (g.O.Opener.read_faults c.args.opener.now) (g.A.Sink.faults c.args.air.now) (g.A.Sink.faults c.args.air.now)) c.out_of_memory.result c.out_of_memory.ensures.status tt
-
-pub returns-in-Err-Memory-clause-open_cause : goal.returns-in-Err-Memory-clause-open_cause
-returns-in-Err-Memory-clause-open_cause g c = λ feed e. absurd (memory_open c.out_of_memory.result feed c.out_of_memory.ensures.status e)
-
-pub returns-in-Err-Memory-clause-report : goal.returns-in-Err-Memory-clause-report
-returns-in-Err-Memory-clause-report g c = λ e. absurd (memory_write c.out_of_memory.result c.out_of_memory.ensures.status e)
-
-pub returns-in-Err-Memory-clause-opener_kept : goal.returns-in-Err-Memory-clause-opener_kept
-returns-in-Err-Memory-clause-opener_kept g c = λ spelled. refl
-
-pub returns-in-Err-Usage-clause-usage : goal.returns-in-Err-Usage-clause-usage
-returns-in-Err-Usage-clause-usage g c =
+pub returns-in-Err-Usage : goal.returns-in-Err-Usage
+returns-in-Err-Usage g c =
     let none : command_of (texts c.args.words.now) ≡ None = (rw c.in-Err-Usage.field-0-is at c.in-Err-Usage.ensures.usage).0 refl in
-    (λ e. none, λ e. refl)
-
-pub returns-in-Err-Usage-clause-usage_leaves : goal.returns-in-Err-Usage-clause-usage_leaves
-returns-in-Err-Usage-clause-usage_leaves g c = λ e. (
-  refl,
-  refl,
-  refl,
-  reported c.write_all.result (told g.R.Sink.written g.R.Sink.faults c.args.report.now c.write_all.new.sink) (fault_line (codes "usage")) c.write_all.ensures.done c.write_all.ensures.failed c.write_all.ensures.cause.failed,
-)
-
-pub returns-in-Err-Usage-clause-leaves : goal.returns-in-Err-Usage-clause-leaves
-returns-in-Err-Usage-clause-leaves g c =
-    let none : command_of (texts c.args.words.now) ≡ None = (rw c.in-Err-Usage.field-0-is at c.in-Err-Usage.ensures.usage).0 refl in
-    λ spelled. absurd (some_none (command_of (texts c.args.words.now)) Play spelled none)
-
-pub returns-in-Err-Usage-clause-completes : goal.returns-in-Err-Usage-clause-completes
-returns-in-Err-Usage-clause-completes g c =
-    let none : command_of (texts c.args.words.now) ≡ None = (rw c.in-Err-Usage.field-0-is at c.in-Err-Usage.ensures.usage).0 refl in
-    λ spelled. absurd (some_none (command_of (texts c.args.words.now)) Play spelled none)
-
-pub returns-in-Err-Usage-clause-whole : goal.returns-in-Err-Usage-clause-whole
-returns-in-Err-Usage-clause-whole g c =
-    let none : command_of (texts c.args.words.now) ≡ None = (rw c.in-Err-Usage.field-0-is at c.in-Err-Usage.ensures.usage).0 refl in
-    λ spelled. absurd (some_none (command_of (texts c.args.words.now)) Play spelled none)
-
-pub returns-in-Err-Usage-clause-status : goal.returns-in-Err-Usage-clause-status
-returns-in-Err-Usage-clause-status g c =
-    let none : command_of (texts c.args.words.now) ≡ None = (rw c.in-Err-Usage.field-0-is at c.in-Err-Usage.ensures.usage).0 refl in
-    λ spelled. absurd (some_none (command_of (texts c.args.words.now)) Play spelled none)
-
-pub returns-in-Err-Usage-clause-listen_leaves : goal.returns-in-Err-Usage-clause-listen_leaves
-returns-in-Err-Usage-clause-listen_leaves g c =
-    let none : command_of (texts c.args.words.now) ≡ None = (rw c.in-Err-Usage.field-0-is at c.in-Err-Usage.ensures.usage).0 refl in
-    λ spelled. absurd (some_none (command_of (texts c.args.words.now)) Listen spelled none)
-
-pub returns-in-Err-Usage-clause-listen_completes : goal.returns-in-Err-Usage-clause-listen_completes
-returns-in-Err-Usage-clause-listen_completes g c =
-    let none : command_of (texts c.args.words.now) ≡ None = (rw c.in-Err-Usage.field-0-is at c.in-Err-Usage.ensures.usage).0 refl in
-    λ spelled. absurd (some_none (command_of (texts c.args.words.now)) Listen spelled none)
-
-pub returns-in-Err-Usage-clause-listen_status : goal.returns-in-Err-Usage-clause-listen_status
-returns-in-Err-Usage-clause-listen_status g c =
-    let none : command_of (texts c.args.words.now) ≡ None = (rw c.in-Err-Usage.field-0-is at c.in-Err-Usage.ensures.usage).0 refl in
-    λ spelled. absurd (some_none (command_of (texts c.args.words.now)) Listen spelled none)
-
-pub returns-in-Err-Usage-clause-air_kept : goal.returns-in-Err-Usage-clause-air_kept
-returns-in-Err-Usage-clause-air_kept g c =
-    let none : command_of (texts c.args.words.now) ≡ None = (rw c.in-Err-Usage.field-0-is at c.in-Err-Usage.ensures.usage).0 refl in
-    λ spelled. absurd (some_none (command_of (texts c.args.words.now)) Listen spelled none)
-
-pub returns-in-Err-Usage-clause-live_leaves : goal.returns-in-Err-Usage-clause-live_leaves
-returns-in-Err-Usage-clause-live_leaves g c =
-    let none : command_of (texts c.args.words.now) ≡ None = (rw c.in-Err-Usage.field-0-is at c.in-Err-Usage.ensures.usage).0 refl in
-    λ paths cycles join spelled. absurd (some_none (command_of (texts c.args.words.now)) (Live paths cycles join) spelled none)
-
-pub returns-in-Err-Usage-clause-live_again : goal.returns-in-Err-Usage-clause-live_again
-returns-in-Err-Usage-clause-live_again g c =
-    let none : command_of (texts c.args.words.now) ≡ None = (rw c.in-Err-Usage.field-0-is at c.in-Err-Usage.ensures.usage).0 refl in
-    λ paths cycles join spelled. absurd (some_none (command_of (texts c.args.words.now)) (Live paths cycles join) spelled none)
-
-pub returns-in-Err-Usage-clause-live_completes : goal.returns-in-Err-Usage-clause-live_completes
-returns-in-Err-Usage-clause-live_completes g c =
-    let none : command_of (texts c.args.words.now) ≡ None = (rw c.in-Err-Usage.field-0-is at c.in-Err-Usage.ensures.usage).0 refl in
-    λ paths cycles join spelled. absurd (some_none (command_of (texts c.args.words.now)) (Live paths cycles join) spelled none)
-
-pub returns-in-Err-Usage-clause-live_whole : goal.returns-in-Err-Usage-clause-live_whole
-returns-in-Err-Usage-clause-live_whole g c =
-    let none : command_of (texts c.args.words.now) ≡ None = (rw c.in-Err-Usage.field-0-is at c.in-Err-Usage.ensures.usage).0 refl in
-    λ paths cycles join spelled. absurd (some_none (command_of (texts c.args.words.now)) (Live paths cycles join) spelled none)
-
-pub returns-in-Err-Usage-clause-live_status : goal.returns-in-Err-Usage-clause-live_status
-returns-in-Err-Usage-clause-live_status g c =
-    let none : command_of (texts c.args.words.now) ≡ None = (rw c.in-Err-Usage.field-0-is at c.in-Err-Usage.ensures.usage).0 refl in
-    λ paths cycles join spelled. absurd (some_none (command_of (texts c.args.words.now)) (Live paths cycles join) spelled none)
-
-pub returns-in-Err-Usage-clause-asked : goal.returns-in-Err-Usage-clause-asked
-returns-in-Err-Usage-clause-asked g c =
-    let none : command_of (texts c.args.words.now) ≡ None = (rw c.in-Err-Usage.field-0-is at c.in-Err-Usage.ensures.usage).0 refl in
-    λ paths cycles join spelled. absurd (some_none (command_of (texts c.args.words.now)) (Live paths cycles join) spelled none)
-
-pub returns-in-Err-Usage-clause-end : goal.returns-in-Err-Usage-clause-end
-returns-in-Err-Usage-clause-end g c = λ e. cc
-
-pub returns-in-Err-Usage-clause-cause : goal.returns-in-Err-Usage-clause-cause
-returns-in-Err-Usage-clause-cause g c = tt
-
-pub returns-in-Err-Usage-clause-open_cause : goal.returns-in-Err-Usage-clause-open_cause
-returns-in-Err-Usage-clause-open_cause g c = λ feed e. cc
-
-pub returns-in-Err-Usage-clause-report : goal.returns-in-Err-Usage-clause-report
-returns-in-Err-Usage-clause-report g c = λ e. cc
-
-pub returns-in-Err-Usage-clause-opener_kept : goal.returns-in-Err-Usage-clause-opener_kept
-returns-in-Err-Usage-clause-opener_kept g c = λ spelled. refl
-
-pub returns-in-Ok-Play-clause-coherent : goal.returns-in-Ok-Play-clause-coherent
-returns-in-Ok-Play-clause-coherent g c = λ spelled. c.run_play.ensures.coherent
-
-pub returns-in-Ok-Play-clause-live_coherent : goal.returns-in-Ok-Play-clause-live_coherent
-returns-in-Ok-Play-clause-live_coherent g c =
-    let spells : command_of (texts c.args.words.now) ≡ Some Play = rw c.in-Ok-Play.field-0-is at c.in-Ok-Play.ensures.command in
-    λ paths cycles join spelled. absurd (play_live (command_of (texts c.args.words.now)) paths cycles join spells spelled)
-
-pub returns-in-Ok-Listen-clause-coherent : goal.returns-in-Ok-Listen-clause-coherent
-returns-in-Ok-Listen-clause-coherent g c =
-    let spells : command_of (texts c.args.words.now) ≡ Some Listen = rw c.in-Ok-Listen.field-0-is at c.in-Ok-Listen.ensures.command in
-    λ spelled. absurd (play_listen (command_of (texts c.args.words.now)) spelled spells)
-
-pub returns-in-Ok-Listen-clause-live_coherent : goal.returns-in-Ok-Listen-clause-live_coherent
-returns-in-Ok-Listen-clause-live_coherent g c =
-    let spells : command_of (texts c.args.words.now) ≡ Some Listen = rw c.in-Ok-Listen.field-0-is at c.in-Ok-Listen.ensures.command in
-    λ paths cycles join spelled. absurd (listen_live (command_of (texts c.args.words.now)) paths cycles join spells spelled)
-
-pub returns-in-Ok-Live-clause-coherent : goal.returns-in-Ok-Live-clause-coherent
-returns-in-Ok-Live-clause-coherent g c =
-    let spells : command_of (texts c.args.words.now) ≡ Some (Live (texts c.in-Ok-Live.live.feeds.items) c.in-Ok-Live.live.cycles c.in-Ok-Live.live.join) = rw c.in-Ok-Live.field-0-is at c.in-Ok-Live.ensures.command in
-    λ spelled. absurd (play_live (command_of (texts c.args.words.now)) (texts c.in-Ok-Live.live.feeds.items) c.in-Ok-Live.live.cycles c.in-Ok-Live.live.join spelled spells)
-
-pub returns-in-Ok-Live-clause-live_coherent : goal.returns-in-Ok-Live-clause-live_coherent
-returns-in-Ok-Live-clause-live_coherent g c = λ paths cycles join spelled text tells files known. c.run_live_files.ensures.coherent text tells files known
-
-pub returns-in-Err-Memory-clause-coherent : goal.returns-in-Err-Memory-clause-coherent
-returns-in-Err-Memory-clause-coherent g c = λ spelled text tells. of_memory (PlayIsCoherent text (told g.A.Sink.written g.A.Sink.faults c.args.air.now c.args.air.now)) c.out_of_memory.result c.out_of_memory.ensures.status tt
-
-pub returns-in-Err-Memory-clause-live_coherent : goal.returns-in-Err-Memory-clause-live_coherent
-returns-in-Err-Memory-clause-live_coherent g c = λ paths cycles join spelled text tells files known. inl c.out_of_memory.ensures.status
-
-pub returns-in-Err-Usage-clause-coherent : goal.returns-in-Err-Usage-clause-coherent
-returns-in-Err-Usage-clause-coherent g c =
-    let none : command_of (texts c.args.words.now) ≡ None = (rw c.in-Err-Usage.field-0-is at c.in-Err-Usage.ensures.usage).0 refl in
-    λ spelled. absurd (some_none (command_of (texts c.args.words.now)) Play spelled none)
-
-pub returns-in-Err-Usage-clause-live_coherent : goal.returns-in-Err-Usage-clause-live_coherent
-returns-in-Err-Usage-clause-live_coherent g c =
-    let none : command_of (texts c.args.words.now) ≡ None = (rw c.in-Err-Usage.field-0-is at c.in-Err-Usage.ensures.usage).0 refl in
-    λ paths cycles join spelled. absurd (some_none (command_of (texts c.args.words.now)) (Live paths cycles join) spelled none)
+    record {
+      usage = (λ e. none, λ e. refl);
+      usage_leaves = λ e. (
+        refl,
+        refl,
+        refl,
+        reported c.write_all.result (told g.R.Sink.written g.R.Sink.faults c.args.report.now c.write_all.new.sink) (fault_line (codes "usage")) c.write_all.ensures.done c.write_all.ensures.failed c.write_all.ensures.cause.failed,
+      );
+      leaves = λ spelled. absurd (some_none (command_of (texts c.args.words.now)) Play spelled none);
+      coherent = λ spelled. absurd (some_none (command_of (texts c.args.words.now)) Play spelled none);
+      spaced = λ spelled. absurd (some_none (command_of (texts c.args.words.now)) Play spelled none);
+      exact = λ spelled. absurd (some_none (command_of (texts c.args.words.now)) Play spelled none);
+      completes = λ spelled. absurd (some_none (command_of (texts c.args.words.now)) Play spelled none);
+      whole = λ spelled. absurd (some_none (command_of (texts c.args.words.now)) Play spelled none);
+      status = λ spelled. absurd (some_none (command_of (texts c.args.words.now)) Play spelled none);
+      listen_leaves = λ spelled. absurd (some_none (command_of (texts c.args.words.now)) Listen spelled none);
+      listen_completes = λ spelled. absurd (some_none (command_of (texts c.args.words.now)) Listen spelled none);
+      listen_status = λ spelled. absurd (some_none (command_of (texts c.args.words.now)) Listen spelled none);
+      air_kept = λ spelled. absurd (some_none (command_of (texts c.args.words.now)) Listen spelled none);
+      live_leaves = λ paths cycles join spelled. absurd (some_none (command_of (texts c.args.words.now)) (Live paths cycles join) spelled none);
+      live_coherent = λ paths cycles join spelled. absurd (some_none (command_of (texts c.args.words.now)) (Live paths cycles join) spelled none);
+      live_spaced = λ paths cycles join spelled. absurd (some_none (command_of (texts c.args.words.now)) (Live paths cycles join) spelled none);
+      live_shown = λ paths cycles join spelled. absurd (some_none (command_of (texts c.args.words.now)) (Live paths cycles join) spelled none);
+      live_again = λ paths cycles join spelled. absurd (some_none (command_of (texts c.args.words.now)) (Live paths cycles join) spelled none);
+      live_completes = λ paths cycles join spelled. absurd (some_none (command_of (texts c.args.words.now)) (Live paths cycles join) spelled none);
+      live_whole = λ paths cycles join spelled. absurd (some_none (command_of (texts c.args.words.now)) (Live paths cycles join) spelled none);
+      live_status = λ paths cycles join spelled. absurd (some_none (command_of (texts c.args.words.now)) (Live paths cycles join) spelled none);
+      asked = λ paths cycles join spelled. absurd (some_none (command_of (texts c.args.words.now)) (Live paths cycles join) spelled none);
+      end = λ e. cc;
+      cause = tt;
+      open_cause = λ feed e. cc;
+      report = λ e. cc;
+      opener_kept = λ spelled. refl;
+    }
