@@ -1,34 +1,34 @@
--- A line says only what is in its range, so that a whole description is sound.
-use Rattle.std.proofs.Common.{◌≡◌, ℕ, ◌*◌, ◌+◌, ◌<◌, Bool, true, false, cond, List, [], ◌∷◌, ◌++◌, Option, Some, None, refl, arith}
-use Rattle.std.specs.Prelude.{◌&&◌, nat_le, codes, if◌then◌else◌, option_map, Ok, Err, Result, IfOk}
+-- A line says only what is in its range, with texts that may be kept, so that a whole description is sound.
+use Rattle.std.proofs.Common.{◌≡◌, ℕ, ◌*◌, ◌<◌, ◌≤◌, Bool, true, false, cond, List, [], ◌∷◌, length, map, Option, Some, None, refl, sym, subst, arith, lit≤}
+use Rattle.std.specs.Prelude.{◌&&◌, nat_le, codes, if◌then◌else◌, option_map, Ok}
+use Rattle.std.specs.List.{AllByRecursion}
 use Rattle.std.proofs.lemmas.Bool.Decides.{nat_tests}
 use Rattle.si_lists.proofs.Outcomes.{none_of}
 use Rattle.si_lists.proofs.Truths.{first_true, second_true}
 use Rattle.si_text.specs.Coding.{coded_size}
+use Rattle.si_text.specs.Decoding.{IsKept}
 use Rattle.si_time.specs.Readings.{moment_in}
 use Rattle.si_time.proofs.TextFacts.{moment_in-is}
-use Rattle.si_causes.specs.Reading.{Reading}
-use Rattle.si_causes.specs.Text.{TextEnd, AtEnd, PastLimit}
-use Rattle.input_lines.specs.Fields.{record_of}
-use Rattle.input_lines.specs.Lines.{record_lines}
+use Rattle.input_lines.specs.Ahead.{Ahead, Came, Found, Row, Tail}
+use Rattle.input_lines.specs.Fields.{is_line, line_fields}
 use Rattle.input_lines.specs.Numbers.{in_range, is_word, numeral_of}
-use Rattle.mux_config.specs.declared.fault.MuxFault.{MuxFault}
-use Rattle.mux_config.specs.declared.stop.MuxStop.{MuxStop}
-use Rattle.mux_config.specs.Reads.{MuxCame}
+use Rattle.input_lines.proofs.CleanLines.{is_line_back, line_kept}
+use Rattle.guide_model.specs.declared.stream.Component.{Component}
 use Rattle.mux_model.specs.declared.mux.MuxService.{MuxService}
 use Rattle.mux_model.specs.declared.mux.Mux.{Mux}
+use Rattle.mux_model.specs.Sound.{AreDifferent, Between, HasSoundLanguage, IsSoundCable, IsSoundComponent, IsSoundService}
+use Rattle.mux_config.specs.declared.fault.MuxFault.{MuxFault}
 use Rattle.mux_config.specs.declared.rows.Numbers.{Numbers}
 use Rattle.mux_config.specs.declared.record.Record.{Record}
 use Rattle.mux_config.specs.declared.record.Record.TheVariants.{Network, Stream, Delivery, Service, Part, Quota, End}
 use Rattle.mux_config.specs.declared.record.RecordFound.{RecordFound}
 use Rattle.mux_config.specs.declared.record.RecordFound.TheVariants.{NoRecord, OutOfRange, Is}
 use Rattle.mux_config.specs.declared.record.Numbered.{Numbered}
-use Rattle.mux_config.specs.Block.{Block, Faulty, Whole, Unended, and_found, at_text_end, block_from, ended, fault_of, has_no_place, is_end, repeated_at, unless}
-use Rattle.mux_config.specs.Fields.{cable_with, found_fields, found_in, found_line, found_with, is_language, is_letter, is_service_in_range, language_of, network_in, stream_in, cable_in, delivery_with, numbers_in, service_of, service_in, bare_service, part_in, start_with, start_in, quota_in, spelled, within}
-use Rattle.mux_config.proofs.FineRecords.{AreFine, IsFine, IsFineFound, IsFineService}
-use Rattle.mux_config.specs.Laws.{WholeDescriptionsAreSound}
-use Rattle.mux_model.specs.Sound.{IsSound, IsSoundWithIds, Between, HasSoundLanguage, IsSoundCable}
-use Rattle.mux_config.proofs.Soundness.{fine_none, fine_more, sound_end}
+use Rattle.mux_config.specs.Descriptions.{Description, and_found, described_from, ended, fault_of, has_no_place, is_end, repeated_at, unless}
+use Rattle.mux_config.specs.Fields.{cable_with, found_fields, found_in, found_line, found_with, is_language, is_letter, is_service_in_range, language_of, network_in, stream_in, cable_in, numbers_in, service_of, service_in, bare_service, part_in, start_with, start_in, quota_in, within}
+use Rattle.mux_config.specs.Laws.{DescribedTextsAreKept, WholeDescriptionsAreSound}
+use Rattle.mux_config.proofs.FineRecords.{AreFine, IsFine, IsFineFound}
+use Rattle.mux_config.proofs.Soundness.{IsFineMux, fine_end, fine_more, fine_none}
 
 -- ---- numbers in their ranges
 
@@ -56,17 +56,14 @@ fine_with : (o : Option ℕ) (next : ℕ → RecordFound) → ((n : ℕ) → IsF
 fine_with None next h = tt
 fine_with (Some n) next h = h n
 
-fine_spelled : (field : List ℕ) (next : ℕ → RecordFound) → ((n : ℕ) → IsFineFound (next n)) → IsFineFound (spelled field next)
-fine_spelled field next h = fine_with (numeral_of field) next h
-
-fine_network : (id name : List ℕ) → IsFineFound (network_in id name)
-fine_network id name = fine_spelled id _ (λ n. fine_within (in_range 0 65535 n && in_range 1 100 (coded_size name)) (Network n name) (λ e. (
+fine_network : (id name : List ℕ) → IsKept name → IsFineFound (network_in id name)
+fine_network id name kept = fine_with (numeral_of id) _ (λ n. fine_within (in_range 0 65535 n && in_range 1 100 (coded_size name)) (Network n name) (λ e. (
   short_bound 0 n (first_true (in_range 0 65535 n) (in_range 1 100 (coded_size name)) e),
-  bounds 1 100 (coded_size name) (second_true (in_range 0 65535 n) (in_range 1 100 (coded_size name)) e),
+  (bounds 1 100 (coded_size name) (second_true (in_range 0 65535 n) (in_range 1 100 (coded_size name)) e), kept),
 )))
 
 fine_stream : (id original : List ℕ) → IsFineFound (stream_in id original)
-fine_stream id original = fine_spelled id _ (λ n. fine_spelled original _ (λ o. fine_within (in_range 0 65535 n && in_range 0 65535 o) (Stream n o) (λ e. (
+fine_stream id original = fine_with (numeral_of id) _ (λ n. fine_with (numeral_of original) _ (λ o. fine_within (in_range 0 65535 n && in_range 0 65535 o) (Stream n o) (λ e. (
   short_bound 0 n (first_true (in_range 0 65535 n) (in_range 0 65535 o) e),
   short_bound 0 o (second_true (in_range 0 65535 n) (in_range 0 65535 o) e),
 ))))
@@ -83,15 +80,13 @@ sound_cable f m s o i e =
       fec_inner = (bounds 0 15 i (second_true (in_range 0 15 o) _ protections)).1;
     }
 
-fine_delivery : (f m s o i : ℕ) → IsFineFound (delivery_with f m s o i)
-fine_delivery f m s o i = fine_within _ (Delivery (cable_with f m s o i)) (sound_cable f m s o i)
-
 fine_cable : (frequency modulation rate outer inner : List ℕ) → IsFineFound (cable_in frequency modulation rate outer inner)
 fine_cable frequency modulation rate outer inner =
-    fine_spelled frequency _ (λ f. fine_spelled modulation _ (λ m. fine_spelled rate _ (λ s. fine_spelled outer _ (λ o. fine_spelled inner _ (λ i. fine_delivery f m s o i)))))
+    fine_with (numeral_of frequency) _ (λ f. fine_with (numeral_of modulation) _ (λ m. fine_with (numeral_of rate) _ (λ s. fine_with (numeral_of outer) _ (λ o. fine_with (numeral_of inner) _ (λ i. fine_within _ (Delivery (cable_with f m s o i)) (sound_cable f m s o i))))))
 
-fine_fields : (s : MuxService) → is_service_in_range s ≡ true → IsFineService s
-fine_fields s e =
+-- a service that has no components yet
+sound_service : (s : MuxService) → s.components ≡ [] → is_service_in_range s ≡ true → IsSoundService s
+sound_service s none e =
     let numbers = first_true _ (in_range 0 100 (coded_size s.provider) && in_range 1 100 (coded_size s.name)) e in
     let names = second_true (in_range 1 65535 s.service && (in_range 1 16 s.feed && (in_range 0 255 s.kind && (in_range 32 8190 s.pmt_pid && in_range 32 8191 s.pcr_pid)))) _ e in
     let feeds = second_true (in_range 1 65535 s.service) _ numbers in
@@ -104,13 +99,16 @@ fine_fields s e =
       pcr_pid = bounds 32 8191 s.pcr_pid (second_true (in_range 32 8190 s.pmt_pid) _ pids);
       provider = (bounds 0 100 (coded_size s.provider) (first_true (in_range 0 100 (coded_size s.provider)) _ names)).1;
       name = bounds 1 100 (coded_size s.name) (second_true (in_range 0 100 (coded_size s.provider)) _ names);
+      count = subst (λ (cs : List Component). length cs ≤ 16) (sym none) (lit≤ tt);
+      components = subst (AllByRecursion IsSoundComponent) (sym none) tt;
+      components_once = subst (λ (cs : List Component). AreDifferent (map (λ (x : Component). x.pid) cs)) (sym none) tt;
     }
 
-fine_service : (o : Option Numbers) (provider name : List ℕ) → IsFineFound (service_of o provider name)
-fine_service None provider name = tt
-fine_service (Some n) provider name =
-    let s = bare_service n.service n.feed n.kind n.pmt_pid n.pcr_pid provider name in
-    fine_within (is_service_in_range s) (Service s) (fine_fields s)
+fine_service : (o : Option Numbers) (provider name : List ℕ) → IsKept provider → IsKept name → IsFineFound (service_of o provider name)
+fine_service None provider name p n = tt
+fine_service (Some numbers) provider name p n =
+    let s = bare_service numbers.service numbers.feed numbers.kind numbers.pmt_pid numbers.pcr_pid provider name in
+    fine_within (is_service_in_range s) (Service s) (λ e. (sound_service s refl e, (p, n)))
 
 sound_language : (letters : List ℕ) → is_language letters ≡ true → HasSoundLanguage (language_of letters)
 sound_language [] e = tt
@@ -131,7 +129,7 @@ sound_part s k p language e =
     }
 
 fine_part : (service kind pid language : List ℕ) → IsFineFound (part_in service kind pid language)
-fine_part service kind pid language = fine_spelled service _ (λ s. fine_spelled kind _ (λ k. fine_spelled pid _ (λ p. fine_within _ _ (sound_part s k p language))))
+fine_part service kind pid language = fine_with (numeral_of service) _ (λ s. fine_with (numeral_of kind) _ (λ k. fine_with (numeral_of pid) _ (λ p. fine_within _ _ (sound_part s k p language))))
 
 fine_moment : (o : Option ℕ) → ((t : ℕ) → o ≡ Some t → t < 65536 * 86400) → IsFineFound (start_with o)
 fine_moment None h = tt
@@ -141,28 +139,29 @@ fine_start : (moment : List ℕ) → IsFineFound (start_in moment)
 fine_start moment = fine_moment (moment_in moment) (λ t e. (moment_in-is moment t e).0)
 
 fine_quota : (quota : List ℕ) → IsFineFound (quota_in quota)
-fine_quota quota = fine_spelled quota _ (λ n. fine_within (in_range 1 10000 n) (Quota n) (bounds 1 10000 n))
+fine_quota quota = fine_with (numeral_of quota) _ (λ n. fine_within (in_range 1 10000 n) (Quota n) (bounds 1 10000 n))
 
-fine_in : (fields : List (List ℕ)) → IsFineFound (found_in fields)
-fine_in (word ∷ []) = fine_if (is_word (codes "end") word) (Is End) NoRecord tt tt
-fine_in (word ∷ a ∷ []) =
+fine_in : (fields : List (List ℕ)) → AllByRecursion IsKept fields → IsFineFound (found_in fields)
+fine_in (word ∷ []) kept = fine_if (is_word (codes "end") word) (Is End) NoRecord tt tt
+fine_in (word ∷ a ∷ []) kept =
     fine_if (is_word (codes "start") word) (start_in a) _ (fine_start a)
     (fine_if (is_word (codes "quota") word) (quota_in a) NoRecord (fine_quota a) tt)
-fine_in (word ∷ a ∷ b ∷ []) =
-    fine_if (is_word (codes "network") word) (network_in a b) _ (fine_network a b)
+fine_in (word ∷ a ∷ b ∷ []) kept =
+    fine_if (is_word (codes "network") word) (network_in a b) _ (fine_network a b kept.1.1.0)
     (fine_if (is_word (codes "stream") word) (stream_in a b) NoRecord (fine_stream a b) tt)
-fine_in (word ∷ a ∷ b ∷ c ∷ d ∷ []) = fine_if (is_word (codes "component") word) (part_in a b c d) NoRecord (fine_part a b c d) tt
-fine_in (word ∷ a ∷ b ∷ c ∷ d ∷ e ∷ []) = fine_if (is_word (codes "cable") word) (cable_in a b c d e) NoRecord (fine_cable a b c d e) tt
-fine_in (word ∷ a ∷ b ∷ c ∷ d ∷ e ∷ f ∷ g ∷ []) = fine_if (is_word (codes "service") word) (service_in a b c d e f g) NoRecord (fine_service (numbers_in a b c d e) f g) tt
-fine_in other = tt
+fine_in (word ∷ a ∷ b ∷ c ∷ d ∷ []) kept = fine_if (is_word (codes "component") word) (part_in a b c d) NoRecord (fine_part a b c d) tt
+fine_in (word ∷ a ∷ b ∷ c ∷ d ∷ e ∷ []) kept = fine_if (is_word (codes "cable") word) (cable_in a b c d e) NoRecord (fine_cable a b c d e) tt
+fine_in (word ∷ a ∷ b ∷ c ∷ d ∷ e ∷ f ∷ g ∷ []) kept =
+    fine_if (is_word (codes "service") word) (service_in a b c d e f g) NoRecord (fine_service (numbers_in a b c d e) f g kept.1.1.1.1.1.1.0 kept.1.1.1.1.1.1.1.0) tt
+fine_in other kept = tt
 
-fine_found : (o : Option (List (List ℕ))) → IsFineFound (found_fields o)
-fine_found None = tt
-fine_found (Some fields) = fine_in fields
-
--- a line's record has every field in its range
+-- a line's record has every field in its range, and texts that may be kept
 pub fine_line : (line : List ℕ) → IsFineFound (found_line line)
-fine_line line = fine_found (record_of line)
+fine_line line = go (is_line line) refl
+  where
+    go : (b : Bool) → is_line line ≡ b → IsFineFound (found_fields (if b then Some (line_fields line) else None))
+    go false e = tt
+    go true e = fine_in (line_fields line) (line_kept line (is_line_back line e).kept)
 
 -- ---- a description
 
@@ -178,37 +177,21 @@ fine_next before n (Is r) f fine e =
     let p = placed (has_no_place before r) (repeated_at before r) _ _ e in
     fine_more before n r f fine p.0 p.1
 
-pub unless_whole : (o : Option MuxFault) (block : Block) (mux : Mux) (behind : List (ℕ × List ℕ)) → unless o block ≡ Whole mux behind → (o ≡ None) × (block ≡ Whole mux behind)
-unless_whole None block mux behind e = (refl, e)
-unless_whole (Some f) block mux behind e = cc e
+step_fine : (fault : Option MuxFault) (b : Bool) (before : List Numbered) (behind : Ahead) (next : Found Description) (mux : Mux) (left : Ahead) → AreFine before → (fault ≡ None → next ≡ Came (Ok mux) left → IsFineMux mux)
+    → unless fault behind (if b then Came (ended before) behind else next) ≡ Came (Ok mux) left → IsFineMux mux
+step_fine (Some f) b before behind next mux left fine others e = cc e
+step_fine None true before behind next mux left fine others e = (let same : (let f : Found Description = Came (ended before) behind in f) ≡ Came (Ok mux) left = e in fine_end before mux fine (cc same))
+step_fine None false before behind next mux left fine others e = others refl e
 
-step_sound : (b : Bool) (before after : List Numbered) (lines : List (ℕ × List ℕ)) (mux : Mux) (behind : List (ℕ × List ℕ)) → AreFine before → (block_from after lines ≡ Whole mux behind → IsSoundWithIds mux)
-    → (if b then ended before lines else block_from after lines) ≡ Whole mux behind → IsSoundWithIds mux
-step_sound true before after lines mux behind f next e = sound_end before mux lines behind f e
-step_sound false before after lines mux behind f next e = next e
-
-pub sound_from : (lines : List (ℕ × List ℕ)) (before : List Numbered) (mux : Mux) (behind : List (ℕ × List ℕ)) → AreFine before → block_from before lines ≡ Whole mux behind → IsSoundWithIds mux
-sound_from [] before mux behind f e = cc e
-sound_from (line ∷ lines) before mux behind f e =
-    let says = found_line line.1 in
-    let u = unless_whole (fault_of before line.0 says) _ mux behind e in
-    let after = and_found before line.0 says in
-    step_sound (is_end says) before after lines mux behind f (sound_from lines after mux behind (fine_next before line.0 says f (fine_line line.1) u.0)) u.1
-
--- the multiplex of lines that are a whole description, whatever is behind them
-pub block_sound : (n : ℕ) (lines : List (List ℕ)) (mux : Mux) (behind : List (ℕ × List ℕ)) → block_from [] (record_lines n lines) ≡ Whole mux behind → IsSoundWithIds mux
-block_sound n lines mux behind e = sound_from (record_lines n lines) [] mux behind fine_none e
-
-pub whole_before : (block : Block) (end : TextEnd) (mux : Mux) (behind : List (ℕ × List ℕ)) → at_text_end block end ≡ Whole mux behind → block ≡ Whole mux behind
-whole_before (Faulty f) end mux behind e = e
-whole_before (Whole made more) end mux behind e = e
-whole_before Unended AtEnd mux behind e = cc e
-whole_before Unended PastLimit mux behind e = cc e
+fine_from : (rows : List Row) (tail : Tail) (before : List Numbered) (mux : Mux) (behind : Ahead) → AreFine before → described_from before rows tail ≡ Came (Ok mux) behind → IsFineMux mux
+fine_from [] tail before mux behind fine e = cc e
+fine_from (row ∷ rows) tail before mux behind fine e =
+    let found = found_line row.1 in
+    step_fine (fault_of before row.0 found) (is_end found) before (record { rows = rows; tail = tail }) (described_from (and_found before row.0 found) rows tail) mux behind fine
+    (λ none next. fine_from rows tail (and_found before row.0 found) mux behind (fine_next before row.0 found fine (fine_line row.1) none) next) e
 
 pub whole_descriptions_are_sound : WholeDescriptionsAreSound
-whole_descriptions_are_sound n lines mux behind e = block_sound n lines.0 mux behind (whole_before (block_from [] (record_lines n lines.0)) lines.1 mux behind e)
+whole_descriptions_are_sound lines mux behind e = (fine_from lines.rows lines.tail [] mux behind fine_none e).sound
 
--- and so is the multiplex of a description that was read
-pub came_sound : {S : Type 0} (left : S → Option (List ℕ)) (faults : S → ℕ) (old new : Reading S) (result : Result Mux MuxStop) → MuxCame left faults old new result → IfOk result IsSound
-came_sound left faults old new (Ok mux) came = (block_sound (old.number + 1) (came.looked.lines ++ []) mux _ (came.whole [])).sound
-came_sound left faults old new (Err stop) came = tt
+pub described_texts_are_kept : DescribedTextsAreKept
+described_texts_are_kept lines mux behind e = let fine = fine_from lines.rows lines.tail [] mux behind fine_none e in (fine.network_name, fine.services)

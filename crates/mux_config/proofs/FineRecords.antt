@@ -1,35 +1,41 @@
--- Records whose fields are in their ranges.
+-- Records whose fields are in their ranges, with texts that may be kept.
 use Rattle.std.specs.Prelude.{◌≢◌, ℕ, ◌*◌, ◌<◌, ◌≤◌, List, length, map}
 use Rattle.std.specs.List.{AllByRecursion}
 use Rattle.guide_model.specs.declared.stream.Component.{Component}
 use Rattle.si_text.specs.Coding.{coded_size}
+use Rattle.si_text.specs.Decoding.{IsKept}
+use Rattle.si_time.specs.declared.moment.Moment.{Moment}
 use Rattle.mux_model.specs.declared.mux.MuxService.{MuxService}
 use Rattle.mux_config.specs.declared.record.Record.{Record}
-use Rattle.mux_config.specs.declared.record.Record.TheVariants.{Network, Stream, Delivery, Service, Part, Start, Quota}
+use Rattle.mux_config.specs.declared.record.Record.TheVariants.{Network, Stream, Delivery, Service, Part, Start, Quota, End}
 use Rattle.mux_config.specs.declared.record.RecordFound.{RecordFound}
 use Rattle.mux_config.specs.declared.record.RecordFound.TheVariants.{Is}
-use Rattle.mux_model.specs.Sound.{AreDifferent, Between, DoAscend, IsSoundCable, IsSoundComponent, pmt_pids}
+use Rattle.mux_model.specs.Sound.{AreDifferent, Between, DoAscend, IsSoundCable, IsSoundComponent, IsSoundService, pmt_pids}
 use Rattle.mux_config.specs.declared.record.Numbered.{Numbered}
-use Rattle.mux_config.specs.Block.{all_of, part_in, service_in, sorted}
+use Rattle.mux_config.specs.Descriptions.{all_of, part_in, service_in, sorted}
 
--- a service, but for its components
-pub record IsFineService (s : MuxService) : Type 0 where
-  pub service : Between 1 65535 s.service
-  pub feed : Between 1 16 s.feed
-  pub pmt_pid : Between 32 8190 s.pmt_pid
-  pub pcr_pid : Between 32 8191 s.pcr_pid
-  pub provider : coded_size s.provider ≤ 100
-  pub name : Between 1 100 (coded_size s.name)
+-- a service, with texts that may be kept
+abbrev pub IsFineService : MuxService → Type 0
+IsFineService s = IsSoundService s × (IsKept s.provider × IsKept s.name)
+
+abbrev pub IsFineNetwork : ℕ × List ℕ → Type 0
+IsFineNetwork network = (network.0 < 65536) × (Between 1 100 (coded_size network.1) × IsKept network.1)
+
+abbrev pub IsFineStream : ℕ × ℕ → Type 0
+IsFineStream stream = (stream.0 < 65536) × (stream.1 < 65536)
+
+abbrev pub IsFineStart : Moment → Type 0
+IsFineStart moment = moment.0 < 65536 * 86400
 
 abbrev pub IsFine : Record → Type 0
-IsFine (Network id name) = (id < 65536) × Between 1 100 (coded_size name)
-IsFine (Stream id original) = (id < 65536) × (original < 65536)
+IsFine (Network id name) = IsFineNetwork (id, name)
+IsFine (Stream id original) = IsFineStream (id, original)
 IsFine (Delivery cable) = IsSoundCable cable
 IsFine (Service s) = IsFineService s
 IsFine (Part id component) = IsSoundComponent component
-IsFine (Start moment) = moment.0 < 65536 * 86400
+IsFine (Start moment) = IsFineStart moment
 IsFine (Quota n) = Between 1 10000 n
-IsFine r = Unit {0}
+IsFine End = Unit {0}
 
 abbrev pub IsFineFound : RecordFound → Type 0
 IsFineFound (Is r) = IsFine r

@@ -1,15 +1,16 @@
 -- Services in ascending order, and the records of a kind, one after another.
-use Rattle.std.proofs.Common.{◌≡◌, ℕ, zero, suc, ◌+◌, ◌<◌, ◌≤◌, Bool, List, [], ◌∷◌, ◌++◌, length, take, drop, map, get_or, refl, sym, ap, ◌∙◌, arith, inl, inr, append-nil}
+use Rattle.std.proofs.Common.{◌≡◌, ℕ, suc, ◌+◌, ◌<◌, ◌≤◌, Bool, List, [], ◌∷◌, ◌++◌, length, take, drop, map, get_or, refl, sym, ap, ◌∙◌, arith, inl, inr, append-nil}
 use Rattle.std.specs.Prelude.{nat_lt, position, Option, Some, None}
 use Rattle.std.specs.List.{cons_option, fold, position_or_len}
 use Rattle.std.proofs.lemmas.Bool.{cases_Bool}
 use Rattle.std.proofs.lemmas.Bool.Decides.{nat_tests}
+use Rattle.std.proofs.lemmas.List.{take_more}
 use Rattle.std.proofs.lemmas.Option.{cond_some}
 use Rattle.si_lists.proofs.Truths.{none_not}
 use Rattle.mux_model.specs.declared.mux.MuxService.{MuxService}
 use Rattle.mux_config.specs.declared.record.Record.{Record}
 use Rattle.mux_config.specs.declared.record.Numbered.{Numbered}
-use Rattle.mux_config.specs.Block.{all_of, insert, service_in, sorted, with_parts}
+use Rattle.mux_config.specs.Descriptions.{all_of, insert, service_in, sorted, with_parts}
 use Rattle.mux_config.specs.Kinds.{put_service}
 use Rattle.mux_config.proofs.RecordFacts.{all_more}
 
@@ -49,13 +50,8 @@ place_none s ts id same e =
 
 -- ---- one record more
 
-pub take_step : (rs : List Numbered) (i : ℕ) (x : Numbered) → i < length rs → x ≡ get_or rs i x → take (i + 1) rs ≡ take i rs ++ x ∷ []
-take_step [] i x lt e = absurd (omega arith)
-take_step (r ∷ rs) zero x lt e = ap (λ (y : Numbered). y ∷ []) (sym e)
-take_step (r ∷ rs) (suc i) x lt e = let next : suc i + 1 ≡ suc (i + 1) = omega arith in rw next (ap (λ (l : List Numbered). r ∷ l) (take_step rs i x (omega arith) e))
-
 pub all_step : {X : Type 0} (kind : Record → Option X) (rs : List Numbered) (i : ℕ) (x : Numbered) → i < length rs → x ≡ get_or rs i x → all_of kind (take (i + 1) rs) ≡ all_of kind (take i rs) ++ cons_option (kind x.says) []
-all_step kind rs i x lt e = ap (all_of kind) (take_step rs i x lt e) ∙ all_more kind (take i rs) x
+all_step kind rs i x lt e = ap (all_of kind) (take_more rs i x lt ∙ ap (λ (y : Numbered). take i rs ++ y ∷ []) (sym e)) ∙ all_more kind (take i rs) x
 
 -- ---- services that ascend
 

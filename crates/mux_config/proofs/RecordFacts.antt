@@ -6,7 +6,7 @@ use Rattle.std.proofs.lemmas.List.Elements.{filter_map-append}
 use Rattle.std.proofs.lemmas.List.Recursion.{is_count_by}
 use Rattle.mux_config.specs.declared.record.Record.{Record}
 use Rattle.mux_config.specs.declared.record.Numbered.{Numbered}
-use Rattle.mux_config.specs.Block.{all_of}
+use Rattle.mux_config.specs.Descriptions.{all_of}
 
 pub all_more : {X : Type 0} (kind : Record → Option X) (rs : List Numbered) (r : Numbered) → all_of kind (rs ++ r ∷ []) ≡ all_of kind rs ++ cons_option (kind r.says) []
 all_more kind rs r = filter_map-append (λ (x : Numbered). kind x.says) rs (r ∷ [])

@@ -1,22 +1,23 @@
 -- What holds of records that were taken, and of their multiplex.
-use Rattle.std.proofs.Common.{◌≡◌, ◌≢◌, ℕ, ◌+◌, ◌*◌, ◌<◌, ◌≤◌, ◌==◌, Bool, true, false, cond, List, [], ◌∷◌, ◌++◌, length, map, Option, Some, None, refl, sym, ap, ◌∙◌, subst, arith, inl, inr, append-nil, length-append, eq-eqb, lit<, lit≤, ◌⊎◌}
-use Rattle.std.specs.Prelude.{◌||◌, ◌&&◌, nat_lt, nat_le}
+use Rattle.std.proofs.Common.{◌≡◌, ◌≢◌, ℕ, ◌+◌, ◌<◌, ◌≤◌, ◌==◌, Bool, true, false, cond, List, [], ◌∷◌, ◌++◌, length, map, Option, Some, None, refl, sym, ap, ◌∙◌, subst, arith, inl, inr, append-nil, length-append, eq-eqb, lit<, lit≤, ◌⊎◌}
+use Rattle.std.specs.Prelude.{◌||◌, ◌&&◌, nat_lt, nat_le, IfSome, Ok}
 use Rattle.std.specs.List.{AllByRecursion, cons_option, fold}
 use Rattle.std.specs.Option.{unwrap_or}
 use Rattle.std.proofs.lemmas.Bool.{cases_Bool, eqb-true, leb-true, false≢true}
 use Rattle.std.proofs.lemmas.Bool.Decides.{nat_tests}
-use Rattle.si_lists.proofs.Lists.{all_push}
+use Rattle.std.proofs.lemmas.List.{length-map}
+use Rattle.si_lists.proofs.Lists.{all_push, all_append, all_map as all_imp}
+use Rattle.guide_model.specs.declared.stream.Cable.{Cable}
 use Rattle.guide_model.specs.declared.stream.Component.{Component}
-use Rattle.si_time.specs.declared.moment.Moment.{Moment}
-use Rattle.si_text.specs.Coding.{coded_size}
+use Rattle.si_text.specs.Decoding.{IsKept}
 use Rattle.mux_model.specs.declared.mux.MuxService.{MuxService}
 use Rattle.mux_model.specs.declared.mux.Mux.{Mux}
 use Rattle.mux_config.specs.declared.record.Record.{Record}
-use Rattle.mux_config.specs.declared.record.Record.TheVariants.{Network, Stream, Delivery, Service, Part, Start, Quota, End}
+use Rattle.mux_config.specs.declared.record.Record.TheVariants.{Network, Stream, Delivery, Service, Part, Start, Quota}
 use Rattle.mux_config.specs.declared.record.Numbered.{Numbered}
-use Rattle.mux_config.specs.Block.{Whole, all_of, delivery_in, first, first_line, has_id, has_pmt, has_pid, holds, ended, is_stream, stream_in, with_network, with_services, with_stream, has_no_place, insert, is_delivery, is_network, is_quota, is_start, mux_with, network_in, numbered, part_in, quota_in, repeated_at, said, service_in, services_of, sorted, start_in, with_parts}
-use Rattle.mux_config.proofs.FineRecords.{AreFine, IsApart, IsFine, IsFineService, in_order, parts_in}
-use Rattle.mux_model.specs.Sound.{AreDifferent, Between, DoAscend, HasSoundCable, IsSound, IsSoundComponent, IsSoundService, all_component_pids, component_pids, pmt_pids, IsSoundWithIds}
+use Rattle.mux_config.specs.Descriptions.{Description, all_of, cable_of, delivery_in, first, first_line, has_id, has_pmt, has_pid, holds, ended, is_stream, stream_in, with_network, with_services, with_stream, has_no_place, insert, is_delivery, is_network, is_quota, is_start, mux_with, network_in, numbered, part_in, quota_in, repeated_at, said, service_in, services_of, sorted, start_in, with_parts}
+use Rattle.mux_config.proofs.FineRecords.{AreFine, IsApart, IsFine, IsFineNetwork, IsFineService, IsFineStart, IsFineStream, in_order, parts_in}
+use Rattle.mux_model.specs.Sound.{AreDifferent, Between, DoAscend, HasSoundCable, IsSoundCable, IsSoundComponent, IsSoundService, all_component_pids, component_pids, pmt_pids, IsSoundWithIds}
 use Rattle.mux_config.proofs.RecordFacts.{all_more, or_none_left, or_none_right, all_kept}
 use Rattle.mux_config.proofs.Ordering.{sorted_more}
 
@@ -29,18 +30,13 @@ all_insert P s (t ∷ ts) p h = elim (cases_Bool (nat_lt s.service t.service)) [
   | inr e ↦ rw e (h.0, all_insert P s ts p h.1)
 ]
 
-pub all_imp : {X : Type 0} (P Q : X → Type 0) (xs : List X) → ((x : X) → P x → Q x) → AllByRecursion P xs → AllByRecursion Q xs
-all_imp P Q [] f h = tt
-all_imp P Q (x ∷ xs) f h = (f x h.0, all_imp P Q xs f h.1)
-
-all_map : {X : Type 0} (f : X → ℕ) (P : ℕ → Type 0) (xs : List X) → AllByRecursion (λ x. P (f x)) xs → AllByRecursion P (map f xs)
+all_map : {X Y : Type 0} (f : X → Y) (P : Y → Type 0) (xs : List X) → AllByRecursion (λ x. P (f x)) xs → AllByRecursion P (map f xs)
 all_map f P [] h = tt
 all_map f P (x ∷ xs) h = (h.0, all_map f P xs h.1)
 
--- what a list of PMT PIDs says of its services
-of_pids : (P : ℕ → Type 0) (ts : List MuxService) → AllByRecursion P (pmt_pids ts) → AllByRecursion (λ (t : MuxService). P t.pmt_pid) ts
-of_pids P [] h = tt
-of_pids P (t ∷ ts) h = (h.0, of_pids P ts h.1)
+of_map : {X Y : Type 0} (f : X → Y) (P : Y → Type 0) (xs : List X) → AllByRecursion P (map f xs) → AllByRecursion (λ x. P (f x)) xs
+of_map f P [] h = tt
+of_map f P (x ∷ xs) h = (h.0, of_map f P xs h.1)
 
 -- a service whose PMT has another PID than those there
 pmts_insert : (s : MuxService) (ts : List MuxService) → AllByRecursion (λ (t : MuxService). s.pmt_pid ≢ t.pmt_pid) ts → AreDifferent (pmt_pids ts) → AreDifferent (pmt_pids (insert s ts))
@@ -48,7 +44,7 @@ pmts_insert s [] new h = (tt, tt)
 pmts_insert s (t ∷ ts) new h = elim (cases_Bool (nat_lt s.service t.service)) [
   | inl e ↦ rw e ((new.0, all_map (λ (u : MuxService). u.pmt_pid) (λ m. s.pmt_pid ≢ m) ts new.1), h)
   | inr e ↦ rw e (
-    all_map (λ (u : MuxService). u.pmt_pid) (λ m. t.pmt_pid ≢ m) (insert s ts) (all_insert (λ (u : MuxService). t.pmt_pid ≢ u.pmt_pid) s ts (λ e. new.0 (sym e)) (of_pids (λ m. t.pmt_pid ≢ m) ts h.0)),
+    all_map (λ (u : MuxService). u.pmt_pid) (λ m. t.pmt_pid ≢ m) (insert s ts) (all_insert (λ (u : MuxService). t.pmt_pid ≢ u.pmt_pid) s ts (λ e. new.0 (sym e)) (of_map (λ (u : MuxService). u.pmt_pid) (λ m. t.pmt_pid ≢ m) ts h.0)),
     pmts_insert s ts new.1 h.1,
   )
 ]
@@ -65,21 +61,17 @@ ascend_insert s [] new h = (tt, tt)
 ascend_insert s (t ∷ ts) new h = elim (cases_Bool (nat_lt s.service t.service)) [
   | inl e ↦
       let below : s.service < t.service = grind (arith, nat_tests) in
-      rw e ((below, all_imp (λ (u : MuxService). t.service < u.service) (λ (u : MuxService). s.service < u.service) ts (λ u less. omega (arith, below, less)) h.0), h)
+      rw e ((below, all_imp (λ (u : MuxService). t.service < u.service) (λ (u : MuxService). s.service < u.service) (λ u less. omega (arith, below, less)) ts h.0), h)
   | inr e ↦
       let above : t.service ≤ s.service = grind (arith, nat_tests) in
       let less : t.service < s.service = below_of t.service s.service above new.0 in
       rw e (all_insert (λ (u : MuxService). t.service < u.service) s ts less h.0, ascend_insert s ts new.1 h.1)
 ]
 
-of_component_pids : (P : ℕ → Type 0) (xs : List Component) → AllByRecursion P (map (λ (x : Component). x.pid) xs) → AllByRecursion (λ (x : Component). P x.pid) xs
-of_component_pids P [] h = tt
-of_component_pids P (x ∷ xs) h = (h.0, of_component_pids P xs h.1)
-
 different_snoc : (xs : List Component) (c : Component) → AllByRecursion (λ (x : Component). x.pid ≢ c.pid) xs → AreDifferent (map (λ (x : Component). x.pid) xs) → AreDifferent (map (λ (x : Component). x.pid) (xs ++ c ∷ []))
 different_snoc [] c new h = (tt, tt)
 different_snoc (x ∷ xs) c new h = (
-  all_map (λ (y : Component). y.pid) (λ m. x.pid ≢ m) (xs ++ c ∷ []) (all_push (λ (y : Component). x.pid ≢ y.pid) xs c (of_component_pids (λ m. x.pid ≢ m) xs h.0) new.0),
+  all_map (λ (y : Component). y.pid) (λ m. x.pid ≢ m) (xs ++ c ∷ []) (all_push (λ (y : Component). x.pid ≢ y.pid) xs c (of_map (λ (y : Component). y.pid) (λ m. x.pid ≢ m) xs h.0) new.0),
   different_snoc xs c new.1 h.1,
 )
 
@@ -282,80 +274,53 @@ fine_more rs line other f fine place once = fine_kept rs line other f fine refl 
 
 -- ---- the multiplex
 
-abbrev FineOption : Option Numbered → Type 0
-FineOption None = Unit {0}
-FineOption (Some r) = IsFine r.says
-
-first_fine : (test : Record → Bool) (rs : List Numbered) → AllByRecursion (λ (r : Numbered). IsFine r.says) rs → FineOption (first test rs)
-first_fine test [] h = tt
-first_fine test (r ∷ rs) h = elim (cases_Bool (test r.says)) [
-  | inl e ↦ rw e h.0
-  | inr e ↦ rw e (first_fine test rs h.1)
+-- what the first record says that passes a test
+said_first : {X : Type 0} (kind : Record → Option X) (P : X → Type 0) → ((r : Record) → IsFine r → IfSome (kind r) P) → (test : Record → Bool) (rs : List Numbered) → AllByRecursion (λ (r : Numbered). IsFine r.says) rs
+    → IfSome (said kind (first test rs)) P
+said_first kind P f test [] h = tt
+said_first kind P f test (r ∷ rs) h = elim (cases_Bool (test r.says)) [
+  | inl e ↦ rw e (f r.says h.0)
+  | inr e ↦ rw e (said_first kind P f test rs h.1)
 ]
 
-abbrev IsFineNetwork : ℕ × List ℕ → Type 0
-IsFineNetwork n = (n.0 < 65536) × Between 1 100 (coded_size n.1)
+or_other : {X : Type 0} (P : X → Type 0) (o : Option X) (x : X) → IfSome o P → P x → P (unwrap_or o x)
+or_other P None x h p = p
+or_other P (Some y) x h p = h
 
-in_network : (says : Record) (n : ℕ × List ℕ) → IsFine says → network_in says ≡ Some n → IsFineNetwork n
-in_network (Network id name) n h e = let same : (id, name) ≡ n = cc e in subst IsFineNetwork same h
-in_network other n h e = cc e
+in_network : (r : Record) → IsFine r → IfSome (network_in r) IsFineNetwork
+in_network (Network id name) h = h
+in_network other h = tt
 
-network_fine : (o : Option Numbered) (n : ℕ × List ℕ) → FineOption o → said network_in o ≡ Some n → IsFineNetwork n
-network_fine None n h e = cc e
-network_fine (Some r) n h e = in_network r.says n h e
+in_stream : (r : Record) → IsFine r → IfSome (stream_in r) IsFineStream
+in_stream (Stream id original) h = h
+in_stream other h = tt
 
-abbrev IsFineStream : ℕ × ℕ → Type 0
-IsFineStream s = (s.0 < 65536) × (s.1 < 65536)
+in_delivery : (r : Record) → IsFine r → IfSome (delivery_in r) IsSoundCable
+in_delivery (Delivery cable) h = h
+in_delivery other h = tt
 
-in_stream : (says : Record) (s : ℕ × ℕ) → IsFine says → stream_in says ≡ Some s → IsFineStream s
-in_stream (Stream id o) s h e = let same : (id, o) ≡ s = cc e in subst IsFineStream same h
-in_stream other s h e = cc e
-
-stream_fine : (o : Option Numbered) (s : ℕ × ℕ) → FineOption o → said stream_in o ≡ Some s → IsFineStream s
-stream_fine None s h e = cc e
-stream_fine (Some r) s h e = in_stream r.says s h e
-
-in_cable : (says : Record) → IsFine says → HasSoundCable (delivery_in says)
-in_cable (Delivery cable) h = h
-in_cable other h = tt
-
-cable_fine : (o : Option Numbered) → FineOption o → HasSoundCable (said delivery_in o)
-cable_fine None h = tt
-cable_fine (Some r) h = in_cable r.says h
-
-abbrev first_start : Moment
-first_start = record { 0 = 3506716800 }
-
-in_start : (says : Record) → IsFine says → (unwrap_or (start_in says) first_start).0 < 65536 * 86400
+in_start : (r : Record) → IsFine r → IfSome (start_in r) IsFineStart
 in_start (Start moment) h = h
-in_start other h = lit< tt
+in_start other h = tt
 
-start_fine : (o : Option Numbered) → FineOption o → (unwrap_or (said start_in o) first_start).0 < 65536 * 86400
-start_fine None h = lit< tt
-start_fine (Some r) h = in_start r.says h
+in_quota : (r : Record) → IsFine r → IfSome (quota_in r) (Between 1 10000)
+in_quota (Quota n) h = h
+in_quota other h = tt
 
-in_quota : (says : Record) → IsFine says → Between 1 10000 (unwrap_or (quota_in says) 200)
-in_quota (Quota q) h = h
-in_quota other h = (lit≤ tt, lit≤ tt)
-
-quota_fine : (o : Option Numbered) → FineOption o → Between 1 10000 (unwrap_or (said quota_in o) 200)
-quota_fine None h = (lit≤ tt, lit≤ tt)
-quota_fine (Some r) h = in_quota r.says h
-
-all_served : (f : MuxService → MuxService) (P : MuxService → Type 0) (xs : List MuxService) → AllByRecursion (λ x. P (f x)) xs → AllByRecursion P (map f xs)
-all_served f P [] h = tt
-all_served f P (x ∷ xs) h = (h.0, all_served f P xs h.1)
+sound_cable : (o : Option Cable) → IfSome o IsSoundCable → HasSoundCable o
+sound_cable None h = tt
+sound_cable (Some cable) h = h
 
 sound_services : (rs : List Numbered) (ts : List MuxService) → AreFine rs → AllByRecursion IsFineService ts → AllByRecursion IsSoundService (map (with_parts rs) ts)
 sound_services rs [] f h = tt
 sound_services rs (s ∷ ts) f h = (
   record {
-    service = h.0.service;
-    feed = h.0.feed;
-    pmt_pid = h.0.pmt_pid;
-    pcr_pid = h.0.pcr_pid;
-    provider = h.0.provider;
-    name = h.0.name;
+    service = h.0.0.service;
+    feed = h.0.0.feed;
+    pmt_pid = h.0.0.pmt_pid;
+    pcr_pid = h.0.0.pcr_pid;
+    provider = h.0.0.provider;
+    name = h.0.0.name;
     count = f.few s.service;
     components = said_all (part_in s.service) IsSoundComponent IsFine (part_said s.service) rs f.each;
     components_once = f.once s.service;
@@ -365,20 +330,16 @@ sound_services rs (s ∷ ts) f h = (
 
 ascend_parts : (rs : List Numbered) (ts : List MuxService) → DoAscend ts → DoAscend (map (with_parts rs) ts)
 ascend_parts rs [] h = tt
-ascend_parts rs (t ∷ ts) h = (all_served (with_parts rs) (λ (u : MuxService). t.service < u.service) ts h.0, ascend_parts rs ts h.1)
+ascend_parts rs (t ∷ ts) h = (all_map (with_parts rs) (λ (u : MuxService). t.service < u.service) ts h.0, ascend_parts rs ts h.1)
 
 pmts_same : (rs : List Numbered) (ts : List MuxService) → pmt_pids (map (with_parts rs) ts) ≡ pmt_pids ts
 pmts_same rs [] = refl
 pmts_same rs (t ∷ ts) = ap (λ (l : List ℕ). t.pmt_pid ∷ l) (pmts_same rs ts)
 
-all_join : (P : ℕ → Type 0) (xs ys : List ℕ) → AllByRecursion P xs → AllByRecursion P ys → AllByRecursion P (xs ++ ys)
-all_join P [] ys h k = k
-all_join P (x ∷ xs) ys h k = (h.0, all_join P xs ys h.1 k)
-
 all_pids : (rs : List Numbered) (s : MuxService) (ts : List MuxService) → ((id : ℕ) → IsApart (parts_in id rs) s) → AllByRecursion (λ pid. s.pmt_pid ≢ pid) (all_component_pids (map (with_parts rs) ts))
 all_pids rs s [] h = tt
 all_pids rs s (t ∷ ts) h =
-    all_join (λ pid. s.pmt_pid ≢ pid) (component_pids (with_parts rs t)) (all_component_pids (map (with_parts rs) ts))
+    all_append (λ pid. s.pmt_pid ≢ pid) (component_pids (with_parts rs t)) (all_component_pids (map (with_parts rs) ts))
     (all_map (λ (c : Component). c.pid) (λ pid. s.pmt_pid ≢ pid) (parts_in t.service rs) (h t.service)) (all_pids rs s ts h)
 
 for_each : (Q : ℕ → MuxService → Type 0) (xs : List MuxService) → ((id : ℕ) → AllByRecursion (Q id) xs) → AllByRecursion (λ s. (id : ℕ) → Q id s) xs
@@ -389,53 +350,55 @@ apart_pids : (rs : List Numbered) → AreFine rs → AllByRecursion (λ pmt. All
 apart_pids rs f =
     let ts = in_order rs in
     let each = for_each (λ (id : ℕ) (s : MuxService). IsApart (parts_in id rs) s) ts f.apart in
-    let all = all_imp (λ (s : MuxService). (id : ℕ) → IsApart (parts_in id rs) s) (λ (s : MuxService). AllByRecursion (λ pid. s.pmt_pid ≢ pid) (all_component_pids (services_of rs))) ts (λ s h. all_pids rs s ts h) each in
+    let all = all_imp (λ (s : MuxService). (id : ℕ) → IsApart (parts_in id rs) s) (λ (s : MuxService). AllByRecursion (λ pid. s.pmt_pid ≢ pid) (all_component_pids (services_of rs))) (λ s h. all_pids rs s ts h) ts each in
     subst (AllByRecursion (λ pmt. AllByRecursion (λ pid. pmt ≢ pid) (all_component_pids (services_of rs)))) (sym (pmts_same rs ts)) (all_map (λ (s : MuxService). s.pmt_pid) (λ pmt. AllByRecursion (λ pid. pmt ≢ pid) (all_component_pids (services_of rs))) ts all)
 
-length_parts : (rs : List Numbered) (ts : List MuxService) → length (map (with_parts rs) ts) ≡ length ts
-length_parts rs [] = refl
-length_parts rs (t ∷ ts) = omega (arith, length_parts rs ts)
+-- a sound multiplex, with names that may be kept
+pub record IsFineMux (mux : Mux) : Type 0 where
+  pub sound : IsSoundWithIds mux
+  pub network_name : IsKept mux.network_name
+  pub services : AllByRecursion (λ (s : MuxService). IsKept s.provider × IsKept s.name) mux.services
 
-pub sound_mux : (rs : List Numbered) (network : ℕ × List ℕ) (stream : ℕ × ℕ) → AreFine rs → said network_in (first is_network rs) ≡ Some network → 1 ≤ length (services_of rs) → IsSound (mux_with network stream rs)
-sound_mux rs network stream f named some = record {
-  network_name = (network_fine (first is_network rs) network (first_fine is_network rs f.each) named).1;
-  cable = cable_fine (first is_delivery rs) (first_fine is_delivery rs f.each);
-  start = start_fine (first is_start rs) (first_fine is_start rs f.each);
-  quota = quota_fine (first is_quota rs) (first_fine is_quota rs f.each);
-  count = (some, omega (arith, f.count, length_parts rs (in_order rs)));
-  services = sound_services rs (in_order rs) f (served_all IsFineService IsFine service_said rs f.each);
-  ascend = ascend_parts rs (in_order rs) f.ascend;
-  pmts_once = subst AreDifferent (sym (pmts_same rs (in_order rs))) f.pmts;
-  apart = apart_pids rs f;
-}
+fine_mux : (rs : List Numbered) (network : ℕ × List ℕ) (stream : ℕ × ℕ) → AreFine rs → IsFineNetwork network → IsFineStream stream → 1 ≤ length (services_of rs) → IsFineMux (mux_with network stream rs)
+fine_mux rs network stream f named ids some =
+    let ts = in_order rs in
+    let served = served_all IsFineService IsFine service_said rs f.each in
+    record {
+      sound = record {
+        sound = record {
+          network_name = named.1.0;
+          cable = sound_cable (cable_of rs) (said_first delivery_in IsSoundCable in_delivery is_delivery rs f.each);
+          start = or_other IsFineStart (said start_in (first is_start rs)) (record { 0 = 3506716800 }) (said_first start_in IsFineStart in_start is_start rs f.each) (lit< tt);
+          quota = or_other (Between 1 10000) (said quota_in (first is_quota rs)) 200 (said_first quota_in (Between 1 10000) in_quota is_quota rs f.each) (lit≤ tt, lit≤ tt);
+          count = (some, omega (arith, f.count, length-map (in_order rs) (with_parts rs)));
+          services = sound_services rs ts f served;
+          ascend = ascend_parts rs ts f.ascend;
+          pmts_once = subst AreDifferent (sym (pmts_same rs ts)) f.pmts;
+          apart = apart_pids rs f;
+        };
+        network = named.0;
+        stream = ids.0;
+        original = ids.1;
+      };
+      network_name = named.1.1;
+      services = all_map (with_parts rs) (λ (s : MuxService). IsKept s.provider × IsKept s.name) ts (all_imp IsFineService (λ (s : MuxService). IsKept s.provider × IsKept s.name) (λ s h. h.1) ts served);
+    }
 
-whole_services : (mux made : Mux) (behind more : List (ℕ × List ℕ)) → with_services mux behind ≡ Whole made more → (1 ≤ length mux.services) × (mux ≡ made)
-whole_services mux made behind more e = elim (cases_Bool (nat_le 1 (length mux.services))) [
-  | inl some ↦ (leb-true 1 (length mux.services) some, let w : Whole mux behind ≡ Whole made more = rw some at e in cc w)
+whole_services : (mux made : Mux) → with_services mux ≡ Ok made → (1 ≤ length mux.services) × (mux ≡ made)
+whole_services mux made e = elim (cases_Bool (nat_le 1 (length mux.services))) [
+  | inl some ↦ (leb-true 1 (length mux.services) some, let w : (let r : Description = Ok mux in r) ≡ Ok made = rw some at e in cc w)
   | inr none ↦ cc (rw none at e)
 ]
 
-with_ids : (rs : List Numbered) (network : ℕ × List ℕ) (stream : ℕ × ℕ) → AreFine rs → said network_in (first is_network rs) ≡ Some network → said stream_in (first is_stream rs) ≡ Some stream → 1 ≤ length (services_of rs)
-    → IsSoundWithIds (mux_with network stream rs)
-with_ids rs network stream f named streamed some =
-    let ids = stream_fine (first is_stream rs) stream (first_fine is_stream rs f.each) streamed in
-    record {
-      sound = sound_mux rs network stream f named some;
-      network = (network_fine (first is_network rs) network (first_fine is_network rs f.each) named).0;
-      stream = ids.0;
-      original = ids.1;
-    }
+whole_stream : (rs : List Numbered) (network : ℕ × List ℕ) (o : Option (ℕ × ℕ)) (made : Mux) → AreFine rs → IsFineNetwork network → IfSome o IsFineStream → with_stream rs network o ≡ Ok made → IsFineMux made
+whole_stream rs network None made f named ids e = cc e
+whole_stream rs network (Some stream) made f named ids e =
+    let w = whole_services (mux_with network stream rs) made e in
+    subst IsFineMux w.1 (fine_mux rs network stream f named ids w.0)
 
-whole_stream : (rs : List Numbered) (network : ℕ × List ℕ) (o : Option (ℕ × ℕ)) (made : Mux) (behind more : List (ℕ × List ℕ)) → AreFine rs → said network_in (first is_network rs) ≡ Some network → said stream_in (first is_stream rs) ≡ o
-    → with_stream rs network o behind ≡ Whole made more → IsSoundWithIds made
-whole_stream rs network None made behind more f named streamed e = cc e
-whole_stream rs network (Some stream) made behind more f named streamed e =
-    let w = whole_services (mux_with network stream rs) made behind more e in
-    subst IsSoundWithIds w.1 (with_ids rs network stream f named streamed w.0)
+whole_network : (rs : List Numbered) (o : Option (ℕ × List ℕ)) (made : Mux) → AreFine rs → IfSome o IsFineNetwork → with_network rs o ≡ Ok made → IsFineMux made
+whole_network rs None made f named e = cc e
+whole_network rs (Some network) made f named e = whole_stream rs network (said stream_in (first is_stream rs)) made f named (said_first stream_in IsFineStream in_stream is_stream rs f.each) e
 
-whole_network : (rs : List Numbered) (o : Option (ℕ × List ℕ)) (made : Mux) (behind more : List (ℕ × List ℕ)) → AreFine rs → said network_in (first is_network rs) ≡ o → with_network rs o behind ≡ Whole made more → IsSoundWithIds made
-whole_network rs None made behind more f named e = cc e
-whole_network rs (Some network) made behind more f named e = whole_stream rs network (said stream_in (first is_stream rs)) made behind more f named refl e
-
-pub sound_end : (rs : List Numbered) (made : Mux) (behind more : List (ℕ × List ℕ)) → AreFine rs → ended rs behind ≡ Whole made more → IsSoundWithIds made
-sound_end rs made behind more f e = whole_network rs (said network_in (first is_network rs)) made behind more f refl e
+pub fine_end : (rs : List Numbered) (made : Mux) → AreFine rs → ended rs ≡ Ok made → IsFineMux made
+fine_end rs made f e = whole_network rs (said network_in (first is_network rs)) made f (said_first network_in IsFineNetwork in_network is_network rs f.each) e

@@ -5,7 +5,7 @@ use Rattle.mux_config.specs.declared.record.Numbered.{Numbered}
 use Rattle.mux_config.specs.declared.kinds.Kind.{Kind}
 use Rattle.mux_config.specs.declared.kinds.Kind.TheVariants.{Networks, Streams, Deliveries, Starts, Quotas, Ids, Pmts, Pids, Holders}
 use Rattle.mux_config.specs.declared.record.Record.{Record}
-use Rattle.mux_config.specs.Block.{is_network, is_stream, is_delivery, is_start, is_quota, has_id, has_pmt, has_pid, holds, insert, with_parts}
+use Rattle.mux_config.specs.Descriptions.{is_network, is_stream, is_delivery, is_start, is_quota, has_id, has_pmt, has_pid, holds, insert, with_parts}
 
 abbrev pub is_of : Kind → Record → Bool
 is_of Networks = is_network

@@ -1,8 +1,7 @@
 pub mod Fields
-pub mod Block
+pub mod Descriptions
 pub mod Kinds
 pub mod Reads
 mod Rows
-mod BlockRows
+mod DescriptionRows
 pub mod Laws
-pub mod Texts

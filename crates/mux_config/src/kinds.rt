@@ -4,7 +4,7 @@ ghost use Rattle.std.specs.Prelude.{◌≡◌, ◌||◌, not, nat_le, length, op
 ghost use Rattle.std.specs.Option.{option_or, is_some};
 ghost use Rattle.std.specs.List.{count_by, find, list_any};
 ghost use Rattle.mux_config.specs.declared.record.Numbered.{Numbered};
-ghost use Rattle.mux_config.specs.Block.{all_of, has_no_place, repeated_at, first_line, has_id, has_pmt, has_pid, has_part, part_in, service_in};
+ghost use Rattle.mux_config.specs.Descriptions.{all_of, has_no_place, repeated_at, first_line, has_id, has_pmt, has_pid, has_part, part_in, service_in};
 ghost use Rattle.mux_config.specs.Kinds.{is_of};
 
 use crate::record::{Numbered, Record};

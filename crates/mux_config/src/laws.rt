@@ -1,6 +1,5 @@
 // Laws of descriptions.
-ghost use Rattle.mux_config.specs.Laws.{WholeDescriptionsAreSound};
-ghost use Rattle.mux_config.specs.Texts.{DescribedTextsAreKept};
+ghost use Rattle.mux_config.specs.Laws.{DescribedTextsAreKept, WholeDescriptionsAreSound};
 
 /// The multiplex of a whole description is sound, and its network id, its stream id and its original network id are of
 /// 16 bits. The definitions alone tell it, of any lines, whether or not a reader ever gives them.

@@ -1,12 +1,9 @@
 // Reading a description from the lines of a text.
-ghost use Rattle.std.specs.Prelude.{◌≡◌, ◌≤◌, ◌∷◌, ◌++◌, [], List, ℕ, Some, None, Ok, Err, IfOk, IfSome, OnOk};
-ghost use Rattle.si_causes.specs.Reading.{text_left};
-ghost use Rattle.input_lines.specs.Lines.{lines_of};
-ghost use Rattle.mux_config.specs.declared.stop.MuxStop.TheVariants.{Read};
-ghost use Rattle.mux_config.specs.Block.{is_end as ends_here, numbered};
+ghost use Rattle.std.specs.Prelude.{◌≡◌, ◌∷◌, ◌++◌, [], IfOk, OnOk};
+ghost use Rattle.mux_config.specs.Descriptions.{is_end as ends_here, numbered};
 ghost use Rattle.mux_config.specs.Fields.{found_line as found_there};
 ghost use Rattle.mux_model.specs.Sound.{IsSound};
-ghost use Rattle.mux_config.specs.Reads.{MuxCame, ReadMux, TookLine};
+ghost use Rattle.mux_config.specs.Reads.{ReadMux, TookLine};
 ghost use Rattle.mux_config.specs.declared.record.RecordFound.TheVariants.{Is};
 
 use crate::fault::{MuxFault, Word};
@@ -84,16 +81,11 @@ fn take_record(records: &mut Vec<Numbered>, number: u64, says: Record) -> Result
 /// It gives the multiplex of the description's lines, which is sound, or their first fault. Lines count from the
 /// reader's first; those that are passed over count too. `Read` tells that the reader stopped: where a read of the
 /// source failed, the lines that were whole in the bytes taken have neither a fault nor the end. Want of memory gives up
-/// what was read. The lines that were handed out make the multiplex whatever lines are behind them; they and the lines
-/// behind them are all that the text has.
+/// what was read. The lines that were handed out make the multiplex, or have the fault, whatever lines are behind them;
+/// but a missing end is the fault of all lines that were left.
 pub fn read_mux<S: Source>(alloc: Global, lines: &mut LineReader<S>) -> Result<Mux, MuxStop>
-    ensures block { lines.old.stop ≡ None → (text : List ℕ) → text_left S.left lines.old ≡ Some text
-        → ReadMux S.left lines.old lines.new (lines_of lines.old text) result }
-    ensures came { lines.old.stop ≡ None → MuxCame S.left S.faults lines.old lines.new result }
+    ensures read { ReadMux S.left S.faults S.same lines.old lines.new result }
     ensures sound { IfOk result IsSound }
-    ensures sticky { IfSome lines.old.stop (λ stop. (result ≡ Err (Read stop)) × (lines.new ≡ lines.old)) }
-    ensures later { S.faults lines.old.source ≤ S.faults lines.new.source }
-    ensures same { S.same lines.old.source lines.new.source }
 {
     let mut records = Vec::new(alloc);
     'lines: loop {

@@ -1,8 +1,8 @@
 // The multiplex that records make.
-ghost use Rattle.std.specs.Prelude.{◌≡◌, ◌≤◌, ◌∷◌, ◌++◌, [], ℕ, List, length, nat_lt, position, take, drop, IfOk, OnOk};
+ghost use Rattle.std.specs.Prelude.{◌≡◌, ◌≤◌, ◌∷◌, ◌++◌, [], length, nat_lt, position, take, drop, IfOk, OnOk};
 ghost use Rattle.std.specs.Option.{unwrap_or};
 ghost use Rattle.mux_model.specs.declared.mux.MuxService.{MuxService};
-ghost use Rattle.mux_config.specs.Block.{all_of, cable_of as the_cable, ended, first, insert as inserted, is_network, is_stream, network_in, part_in, quota_of as the_quota, said, service_in, services_of as the_services, start_of as the_start, stream_in, with_parts as with_its_parts};
+ghost use Rattle.mux_config.specs.Descriptions.{all_of, cable_of as the_cable, ended, first, insert as inserted, is_network, is_stream, network_in, part_in, quota_of as the_quota, said, service_in, services_of as the_services, start_of as the_start, stream_in, with_parts as with_its_parts};
 ghost use Rattle.mux_config.specs.Kinds.{put_service};
 ghost use Rattle.mux_config.specs.Reads.{Makes};
 ghost use Rattle.std.specs.List.{cons_option};
@@ -38,24 +38,18 @@ fn network_of(records: &[Numbered]) -> Result<Option<(u16, Txt)>, AllocError>
 fn stream_of(records: &[Numbered]) -> Option<(u16, u16)>
     ensures { result ≡ said stream_in (first is_stream records.now) }
 {
-    match first_of(Kind::Streams, records) {
-        Some(found) => match &found.says {
-            Record::Stream(id, original) => Some((*id, *original)),
-            _ => None,
-        },
-        None => None,
+    match &first_of(Kind::Streams, records)?.says {
+        Record::Stream(id, original) => Some((*id, *original)),
+        _ => None,
     }
 }
 
 fn cable_of(records: &[Numbered]) -> Option<Cable>
     ensures { result ≡ the_cable records.now }
 {
-    match first_of(Kind::Deliveries, records) {
-        Some(found) => match &found.says {
-            Record::Delivery(cable) => Some(*cable),
-            _ => None,
-        },
-        None => None,
+    match &first_of(Kind::Deliveries, records)?.says {
+        Record::Delivery(cable) => Some(*cable),
+        _ => None,
     }
 }
 
@@ -200,7 +194,7 @@ fn take_service(
 
 /// The multiplex that these records make, or what is missing.
 pub(crate) fn multiplex(alloc: Global, records: &[Numbered]) -> Result<Mux, MuxStop>
-    ensures { (behind : List (ℕ × List ℕ)) → Makes (ended records.now behind) behind result }
+    ensures { Makes (ended records.now) result }
 {
     let Some((network, network_name)) = network_of(records)? else {
         return Err(MuxStop::Fault(MuxFault::Missing(Word::Network)));

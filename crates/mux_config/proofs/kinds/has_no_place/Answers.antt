@@ -1,6 +1,6 @@
 use Rattle.std.proofs.Common.{◌∙◌, sym, ap}
 use Rattle.std.specs.Prelude.{nat_le}
-use Rattle.mux_config.specs.Block.{has_no_place, service_in}
+use Rattle.mux_config.specs.Descriptions.{has_no_place, service_in}
 use Rattle.mux_config.proofs.RecordFacts.{counted}
 use Rattle.mux_config.proofs.kinds.has_no_place.Goals as goal
 

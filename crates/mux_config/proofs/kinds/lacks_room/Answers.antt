@@ -1,6 +1,6 @@
 use Rattle.std.proofs.Common.{◌∙◌, Bool, sym, ap}
 use Rattle.std.specs.Prelude.{◌||◌, length, nat_le, not}
-use Rattle.mux_config.specs.Block.{all_of, part_in}
+use Rattle.mux_config.specs.Descriptions.{all_of, part_in}
 use Rattle.mux_config.proofs.RecordFacts.{counted}
 use Rattle.mux_config.proofs.kinds.lacks_room.Goals as goal
 

@@ -1,4 +1,4 @@
-use Rattle.mux_config.proofs.Texts.{described_texts_are_kept}
+use Rattle.mux_config.proofs.FineLines.{described_texts_are_kept}
 use Rattle.mux_config.proofs.laws.described_texts_are_kept.Goals as goal
 
 pub returns : goal.returns

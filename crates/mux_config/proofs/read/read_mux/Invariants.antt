@@ -1,17 +1,11 @@
-use Rattle.std.proofs.Common.{◌≡◌, ◌≤◌}
-use Rattle.std.specs.Prelude.{None, IfSome}
+use Rattle.std.specs.Prelude.{[]}
 use Rattle.si_causes.specs.Reading.{room}
-use Rattle.mux_config.proofs.Reading.{Taken}
+use Rattle.input_lines.proofs.LineReads.{ReadsOn}
+use Rattle.mux_config.proofs.Reading.{from}
 use Rattle.mux_config.proofs.read.read_mux.Given as goal
 
 abbrev pub invariant-lines : goal.invariant-lines
-invariant-lines g l =
-    record {
-      stuck : IfSome l.fn.lines.stop (λ stop. l.lines ≡ l.fn.lines);
-      same : g.S.Source.same l.fn.lines.source l.lines.source;
-      later : g.S.Source.faults l.fn.lines.source ≤ g.S.Source.faults l.lines.source;
-      taken : l.fn.lines.stop ≡ None → Taken g.S.Source.left l.fn.lines l.lines l.records.items;
-    }
+invariant-lines g l = ReadsOn g.S.Source.left g.S.Source.faults g.S.Source.same (from []) (from l.records.items) l.fn.lines l.lines
 
 abbrev pub decreases-lines : goal.decreases-lines
 decreases-lines g l = room l.lines

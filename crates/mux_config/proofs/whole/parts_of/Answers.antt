@@ -2,7 +2,7 @@ use Rattle.std.proofs.Common.{◌∙◌, ◌++◌, [], List, sym, ap}
 use Rattle.std.specs.List.{cons_option}
 use Rattle.guide_model.specs.declared.stream.Component.{Component}
 use Rattle.mux_config.specs.declared.record.Numbered.{Numbered}
-use Rattle.mux_config.specs.Block.{part_in}
+use Rattle.mux_config.specs.Descriptions.{part_in}
 use Rattle.mux_config.proofs.Ordering.{all_step}
 use Rattle.mux_config.proofs.whole.parts_of.Goals as goal
 

@@ -1,5 +1,5 @@
 use Rattle.std.proofs.Common.{◌≡◌, take}
-use Rattle.mux_config.specs.Block.{all_of, part_in}
+use Rattle.mux_config.specs.Descriptions.{all_of, part_in}
 use Rattle.mux_config.proofs.whole.parts_of.Given as goal
 
 abbrev pub invariant-records : goal.invariant-records

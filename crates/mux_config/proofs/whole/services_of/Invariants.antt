@@ -1,5 +1,5 @@
 use Rattle.std.proofs.Common.{◌≡◌, take, map}
-use Rattle.mux_config.specs.Block.{all_of, service_in, sorted, with_parts}
+use Rattle.mux_config.specs.Descriptions.{all_of, service_in, sorted, with_parts}
 use Rattle.mux_config.proofs.whole.services_of.Given as goal
 
 abbrev pub invariant-records : goal.invariant-records

@@ -1,12 +1,11 @@
 -- The description of a multiplex: the first fault of its lines, or the multiplex that their records make.
-use Rattle.std.specs.Prelude.{ℕ, ◌==◌, nat_le, nat_lt, Bool, true, false, not, ◌&&◌, ◌||◌, List, [], ◌∷◌, ◌++◌, length, map, Option, Some, None, if◌then◌else◌, option_map}
-use Rattle.std.specs.Option.{option_or, unwrap_or}
+use Rattle.std.specs.Prelude.{ℕ, ◌==◌, nat_le, nat_lt, Bool, true, false, not, ◌&&◌, ◌||◌, List, [], ◌∷◌, ◌++◌, length, map, Option, Some, None, if◌then◌else◌, option_map, Ok, Err, Result}
+use Rattle.std.specs.Option.{is_some, option_or, unwrap_or}
 use Rattle.std.specs.List.{find, filter_map, list_any, fold}
 use Rattle.guide_model.specs.declared.stream.Cable.{Cable}
 use Rattle.guide_model.specs.declared.stream.Component.{Component}
-use Rattle.si_causes.specs.Text.{TextEnd, AtEnd, PastLimit}
 use Rattle.si_time.specs.declared.moment.Moment.{Moment}
-use Rattle.input_lines.specs.Lines.{Lines, record_lines}
+use Rattle.input_lines.specs.Ahead.{Ahead, Came, Found, NoCommand, Row, Stopped, Tail, missing_at}
 use Rattle.mux_config.specs.declared.fault.Word.TheVariants as word
 use Rattle.mux_config.specs.declared.fault.MuxFault.{MuxFault}
 use Rattle.mux_config.specs.declared.fault.MuxFault.TheVariants as fault
@@ -68,24 +67,19 @@ first_line test records = option_map (λ (r : Numbered). r.line) (first test rec
 -- ---- the faults of a line
 
 abbrev pub is_network : Record → Bool
-is_network (Network id name) = true
-is_network r = false
+is_network r = is_some (network_in r)
 
 abbrev pub is_stream : Record → Bool
-is_stream (Stream id original) = true
-is_stream r = false
+is_stream r = is_some (stream_in r)
 
 abbrev pub is_delivery : Record → Bool
-is_delivery (Delivery cable) = true
-is_delivery r = false
+is_delivery r = is_some (delivery_in r)
 
 abbrev pub is_start : Record → Bool
-is_start (Start moment) = true
-is_start r = false
+is_start r = is_some (start_in r)
 
 abbrev pub is_quota : Record → Bool
-is_quota (Quota n) = true
-is_quota r = false
+is_quota r = is_some (quota_in r)
 
 -- a service with this id; with this PMT PID
 abbrev pub has_id : ℕ → Record → Bool
@@ -176,27 +170,24 @@ mux_with network stream records = record {
 
 -- ---- a description
 
--- A description has a fault, or is whole and makes a multiplex, with the lines behind it that are records; or it has
--- neither a fault nor an end.
-pub data Block : Type 0 where
-  Faulty : MuxFault → Block
-  Whole : Mux → List (ℕ × List ℕ) → Block
-  Unended : Block
+-- what a description comes to: its multiplex, or its first fault
+abbrev pub Description : Type 0
+Description = Result Mux MuxFault
 
-abbrev pub with_services : Mux → List (ℕ × List ℕ) → Block
-with_services mux behind = if nat_le 1 (length mux.services) then Whole mux behind else Faulty (fault.Missing word.Service)
+abbrev pub with_services : Mux → Description
+with_services mux = if nat_le 1 (length mux.services) then Ok mux else Err (fault.Missing word.Service)
 
-abbrev pub with_stream : List Numbered → ℕ × List ℕ → Option (ℕ × ℕ) → List (ℕ × List ℕ) → Block
-with_stream records network None behind = Faulty (fault.Missing word.Stream)
-with_stream records network (Some stream) behind = with_services (mux_with network stream records) behind
+abbrev pub with_stream : List Numbered → ℕ × List ℕ → Option (ℕ × ℕ) → Description
+with_stream records network None = Err (fault.Missing word.Stream)
+with_stream records network (Some stream) = with_services (mux_with network stream records)
 
-abbrev pub with_network : List Numbered → Option (ℕ × List ℕ) → List (ℕ × List ℕ) → Block
-with_network records None behind = Faulty (fault.Missing word.Network)
-with_network records (Some network) behind = with_stream records network (said stream_in (first is_stream records)) behind
+abbrev pub with_network : List Numbered → Option (ℕ × List ℕ) → Description
+with_network records None = Err (fault.Missing word.Network)
+with_network records (Some network) = with_stream records network (said stream_in (first is_stream records))
 
 -- the description that ends with these records
-abbrev pub ended : List Numbered → List (ℕ × List ℕ) → Block
-ended records behind = with_network records (said network_in (first is_network records)) behind
+abbrev pub ended : List Numbered → Description
+ended records = with_network records (said network_in (first is_network records))
 
 abbrev pub is_end : RecordFound → Bool
 is_end (Is End) = true
@@ -210,25 +201,25 @@ abbrev pub and_found : List Numbered → ℕ → RecordFound → List Numbered
 and_found before n (Is r) = before ++ numbered n r ∷ []
 and_found before n found = before
 
--- a line that has this fault or none, with what follows where it goes on
-abbrev pub unless : Option MuxFault → Block → Block
-unless (Some f) behind = Faulty f
-unless None behind = behind
+-- a line that has this fault or none, and what is read where it goes on
+abbrev pub unless : Option MuxFault → Ahead → Found Description → Found Description
+unless (Some f) behind next = Came (Err f) behind
+unless None behind next = next
 
--- the description of the lines that are records, behind those that were read
-abbrev pub block_from : List Numbered → List (ℕ × List ℕ) → Block
-block_from before [] = Unended
-block_from before (line ∷ lines) =
-    unless (fault_of before line.0 (found_line line.1))
-    (if is_end (found_line line.1) then ended before lines else block_from (and_found before line.0 (found_line line.1)) lines)
+-- the description of the lines ahead, behind the records that were read; without its `end` a line is missing
+abbrev pub described_from : List Numbered → List Row → Tail → Found Description
+described_from before [] tail = Stopped (missing_at tail)
+described_from before (row ∷ rows) tail =
+    unless (fault_of before row.0 (found_line row.1)) (record { rows = rows; tail = tail })
+    (if is_end (found_line row.1) then Came (ended before) (record { rows = rows; tail = tail }) else described_from (and_found before row.0 (found_line row.1)) rows tail)
 
--- where the text ends, the end is missing
-abbrev pub at_text_end : Block → TextEnd → Block
-at_text_end Unended AtEnd = Faulty (fault.Missing word.End)
-at_text_end Unended PastLimit = Unended
-at_text_end (Faulty f) end = Faulty f
-at_text_end (Whole mux behind) end = Whole mux behind
+-- the description ahead
+abbrev pub description_ahead : Ahead → Found Description
+description_ahead ahead = described_from [] ahead.rows ahead.tail
 
--- the description of lines of which the first has number n, and how their text ends
-abbrev pub block_of : ℕ → Lines → Block
-block_of n lines = at_text_end (block_from [] (record_lines n lines.0)) lines.1
+-- its fault; a text that ends before it has no `end`
+abbrev pub fault_in : Found Description → Option MuxFault
+fault_in (Came (Ok mux) behind) = None
+fault_in (Came (Err fault) behind) = Some fault
+fault_in (Stopped (NoCommand n)) = Some (fault.Missing word.End)
+fault_in (Stopped stop) = None

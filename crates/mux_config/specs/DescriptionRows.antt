@@ -1,0 +1,143 @@
+-- Worked descriptions.
+use Rattle.std.specs.Prelude.{◌≡◌, ℕ, List, [], ◌∷◌, Option, Some, None, Ok, refl, codes}
+use Rattle.std.specs.Str.{chars, is_utf8}
+use Rattle.input_lines.specs.Fields.{next_record, strip_bom}
+use Rattle.guide_model.specs.declared.stream.Component.{Component}
+use Rattle.si_causes.specs.Text.{AtEnd, PastLimit}
+use Rattle.input_lines.specs.Ahead.{Came, Ends, Found, Row, Stopped, TooLong, ahead_in}
+use Rattle.si_time.specs.Readings as times
+use Rattle.mux_config.specs.declared.fault.Word.TheVariants.{Network, Stream, Service, End}
+use Rattle.mux_config.specs.declared.fault.MuxFault.TheVariants.{Line, Range, Twice, Missing}
+use Rattle.mux_model.specs.declared.mux.MuxService.{MuxService}
+use Rattle.mux_model.specs.declared.mux.Mux.{Mux}
+use Rattle.mux_config.specs.declared.fault.MuxFault.{MuxFault}
+use Rattle.mux_config.specs.Descriptions.{Description, description_ahead, fault_in}
+
+abbrev described : List (List ℕ) → Found Description
+described lines = description_ahead (ahead_in 1 (lines, AtEnd))
+
+abbrev fault_of_text : List (List ℕ) → Option MuxFault
+fault_of_text lines = fault_in (described lines)
+
+abbrev network_line : List ℕ
+network_line = codes "network,40,Demo"
+
+abbrev stream_line : List ℕ
+stream_line = codes "stream,1,1"
+
+abbrev service_line : List ℕ
+service_line = codes "service,101,1,1,256,257,Acme,One"
+
+abbrev end_line : List ℕ
+end_line = codes "end"
+
+abbrev service : ℕ → ℕ → ℕ → List Component → MuxService
+service id pmt pcr components = record {
+  service = id;
+  feed = 1;
+  kind = 1;
+  pmt_pid = pmt;
+  pcr_pid = pcr;
+  provider = codes "Acme";
+  name = codes "One";
+  components = components;
+}
+
+abbrev mux_with : List MuxService → Mux
+mux_with services = record {
+  network = 40;
+  network_name = codes "Demo";
+  stream = 1;
+  original = 1;
+  cable = None;
+  start = record { 0 = 3506716800 };
+  quota = 200;
+  services = services;
+}
+
+-- the multiplex with these services, and what is ahead behind its lines: these lines, and the end at line n
+abbrev whole : List MuxService → List Row → ℕ → Found Description
+whole services rows n = Came (Ok (mux_with services)) (record { rows = rows; tail = Ends n })
+
+-- four lines, and what stands behind them
+demo : described (network_line ∷ stream_line ∷ service_line ∷ end_line ∷ codes "#" ∷ codes "publish" ∷ []) ≡ whole (service 101 256 257 [] ∷ []) ((6, codes "publish") ∷ []) 7
+unfolding chars is_utf8 lib.Utf8.encode next_record strip_bom
+demo = refl
+
+-- in another order, with lines that are passed over
+other_order : described (service_line ∷ [] ∷ network_line ∷ codes "# 1" ∷ stream_line ∷ codes "\"end\"" ∷ []) ≡ whole (service 101 256 257 [] ∷ []) [] 7
+unfolding chars is_utf8 lib.Utf8.encode next_record strip_bom
+other_order = refl
+
+no_stream : fault_of_text (network_line ∷ service_line ∷ end_line ∷ []) ≡ Some (Missing Stream)
+unfolding chars is_utf8 lib.Utf8.encode next_record strip_bom
+no_stream = refl
+
+-- the network is asked for first, and the service last
+nothing : fault_of_text (end_line ∷ []) ≡ Some (Missing Network)
+unfolding chars is_utf8 lib.Utf8.encode next_record strip_bom
+nothing = refl
+
+no_service : fault_of_text (network_line ∷ stream_line ∷ end_line ∷ []) ≡ Some (Missing Service)
+unfolding chars is_utf8 lib.Utf8.encode next_record strip_bom
+no_service = refl
+
+no_end : fault_of_text (network_line ∷ stream_line ∷ []) ≡ Some (Missing End)
+unfolding chars is_utf8 lib.Utf8.encode next_record strip_bom
+no_end = refl
+
+past_limit : description_ahead (ahead_in 1 (network_line ∷ stream_line ∷ [], PastLimit)) ≡ Stopped TooLong
+unfolding chars is_utf8 lib.Utf8.encode next_record strip_bom
+past_limit = refl
+
+service_twice : fault_of_text (network_line ∷ stream_line ∷ service_line ∷ service_line ∷ end_line ∷ []) ≡ Some (Twice 4 3)
+unfolding chars is_utf8 lib.Utf8.encode next_record strip_bom
+service_twice = refl
+
+too_few_fields : fault_of_text (codes "network,40" ∷ end_line ∷ []) ≡ Some (Line 1)
+unfolding chars is_utf8 lib.Utf8.encode next_record strip_bom
+too_few_fields = refl
+
+-- a line is tried for its form, then for its ranges, then for what it repeats
+form_first : fault_of_text (network_line ∷ codes "network,70000,\"\"" ∷ []) ≡ Some (Range 2)
+unfolding chars is_utf8 lib.Utf8.encode next_record strip_bom
+form_first = refl
+
+no_number : fault_of_text (network_line ∷ codes "stream,70000,x" ∷ []) ≡ Some (Line 2)
+unfolding chars is_utf8 lib.Utf8.encode next_record strip_bom
+no_number = refl
+
+no_moment : fault_of_text (codes "start,1970" ∷ []) ≡ Some (Range 1)
+unfolding chars is_utf8 lib.Utf8.encode next_record strip_bom times.moment_in
+no_moment = refl
+
+-- the id of a service goes before the PID of its PMT, as a PMT PID and as a component's
+id_first : fault_of_text (service_line ∷ codes "service,102,1,1,300,257,Acme,One" ∷ codes "service,101,1,1,300,257,Acme,One" ∷ []) ≡ Some (Twice 3 1)
+unfolding chars is_utf8 lib.Utf8.encode next_record strip_bom
+id_first = refl
+
+pmt_twice : fault_of_text (service_line ∷ codes "component,101,2,300," ∷ codes "service,102,1,1,256,257,Acme,One" ∷ []) ≡ Some (Twice 3 1)
+unfolding chars is_utf8 lib.Utf8.encode next_record strip_bom
+pmt_twice = refl
+
+pmt_of_component : fault_of_text (service_line ∷ codes "component,101,2,300," ∷ codes "service,102,1,1,300,257,Acme,One" ∷ []) ≡ Some (Twice 3 2)
+unfolding chars is_utf8 lib.Utf8.encode next_record strip_bom
+pmt_of_component = refl
+
+component_of_pmt : fault_of_text (service_line ∷ codes "component,101,2,256," ∷ []) ≡ Some (Twice 2 1)
+unfolding chars is_utf8 lib.Utf8.encode next_record strip_bom
+component_of_pmt = refl
+
+component_twice : fault_of_text (service_line ∷ codes "component,101,2,300," ∷ codes "component,101,3,300,deu" ∷ []) ≡ Some (Twice 3 2)
+unfolding chars is_utf8 lib.Utf8.encode next_record strip_bom
+component_twice = refl
+
+no_such_service : fault_of_text (service_line ∷ codes "component,102,2,300," ∷ []) ≡ Some (Range 2)
+unfolding chars is_utf8 lib.Utf8.encode next_record strip_bom
+no_such_service = refl
+
+-- services ascend, and have their components in their order; two may share a PID
+two_services : described (codes "service,102,1,1,300,257,Acme,One" ∷ service_line ∷ codes "component,102,2,41," ∷ codes "component,101,2,41,deu" ∷ codes "component,102,3,40," ∷ network_line ∷ stream_line ∷ end_line ∷ [])
+    ≡ whole (service 101 256 257 (record { stream_type = 2; pid = 41; language = Some (codes "deu") } ∷ []) ∷ service 102 300 257 (record { stream_type = 2; pid = 41; language = None } ∷ record { stream_type = 3; pid = 40; language = None } ∷ []) ∷ []) [] 9
+unfolding chars is_utf8 lib.Utf8.encode next_record strip_bom
+two_services = refl
