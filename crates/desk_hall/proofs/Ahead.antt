@@ -5,10 +5,10 @@ use Rattle.input_lines.specs.Fields.{record_of}
 use Rattle.input_lines.specs.Ahead.{Ahead, Row, on_line, and_all}
 use Rattle.input_lines.proofs.ValuesAhead.{line_within, values_go_on}
 use Rattle.journal_model.specs.declared.edit.Edit.{Edit}
-use Rattle.feed_edits.specs.Edits.{edits_ahead, first_edit}
-use Rattle.feed_edits.proofs.LinesLeft.{edits_go_on}
+use Rattle.script_lines.specs.Edits.{edits_ahead, first_edit}
+use Rattle.script_lines.proofs.LinesLeft.{edits_go_on}
 use Rattle.journal_model.specs.declared.control.Control.{Control}
-use Rattle.control_lines.specs.Controls.{first_control, control_of}
+use Rattle.script_lines.specs.Controls.{first_control, control_of}
 use Rattle.desk_hall.specs.Reads.{controls_ahead}
 
 pub edits_on : (lines : Ahead) → edits_ahead lines ≡ and_all (first_edit lines) (λ (edit : Edit). edits_ahead)

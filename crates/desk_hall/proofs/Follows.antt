@@ -1,6 +1,6 @@
 -- What is read of the lines ahead of a reader, one value after another, and why no more is.
-use Rattle.std.proofs.Common.{◌≡◌, ℕ, false, List, [], ◌∷◌, ◌++◌, length, take, refl, sym, ap, ◌∙◌, subst, append-nil, append_assoc}
-use Rattle.std.specs.Prelude.{Option, Some, None, Ok, Err}
+use Rattle.std.proofs.Common.{◌≡◌, ℕ, List, [], ◌∷◌, ◌++◌, length, take, refl, sym, ap, ◌∙◌, subst, append-nil, append_assoc}
+use Rattle.std.specs.Prelude.{Option, Some, None, Err}
 use Rattle.std.proofs.Math.Seq.{take-append_seam}
 use Rattle.si_causes.specs.Reading.{Reading, text_left}
 use Rattle.si_causes.specs.declared.stop.ReadStop.TheVariants.{Failed, TooLong as Overlong}
@@ -9,8 +9,8 @@ use Rattle.input_lines.proofs.Steps.{handed_none, handed_more, whole_more}
 use Rattle.input_lines.specs.declared.stop.EditStop.{EditStop}
 use Rattle.input_lines.specs.declared.stop.EditStop.TheVariants.{NoCommand as Refused, Read, Memory}
 use Rattle.input_lines.specs.Ahead.{Ahead, Tail, Breaks, Found, Came, Stopped, Stop, End, NoCommand, TooLong, Unread, ahead, and_all}
-use Rattle.input_lines.specs.Reads.{Gives, Takes, Passes, Leaves, Faulted, ahead_with}
-use Rattle.desk_hall.specs.Reads.{ToldDid, WholeDid, TakenDid}
+use Rattle.input_lines.specs.Reads.{Gives, Takes, Passes, Leaves, ahead_with}
+use Rattle.desk_hall.specs.Reads.{ToldDid, TakenDid}
 
 abbrev Known : Type 0
 Known = Option (List ℕ)

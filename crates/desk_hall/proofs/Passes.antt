@@ -1,5 +1,5 @@
 -- Several turns of one pass.
-use Rattle.std.proofs.Common.{◌≡◌, ℕ, List, [], ◌∷◌, ◌++◌, map, refl, sym, ap, ◌∙◌, subst, inl, inr, append-nil, append_assoc}
+use Rattle.std.proofs.Common.{◌≡◌, ℕ, List, [], ◌∷◌, ◌++◌, refl, sym, ap, ◌∙◌, subst, inl, inr, append-nil, append_assoc}
 use Rattle.std.specs.Prelude.{Result, Ok, Err, IfOk, OnErr}
 use Rattle.std.proofs.lemmas.List.{map-append}
 use mathlib.Core.List.{IsPrefix}
@@ -8,7 +8,7 @@ use Rattle.journal_model.specs.declared.step.Outcome.{Outcome}
 use Rattle.journal_model.specs.declared.step.Entry.{Entry}
 use Rattle.journal_model.specs.Steps.{Command, command_of}
 use Rattle.turn_lock.proofs.Lists.{prefix_self, prefix_trans}
-use Rattle.desk_hall.specs.Turn.{View, caller_of, entry_of, with_entries, Made, Idle, KeepsNumbers, Knows, Did}
+use Rattle.desk_hall.specs.Turn.{View, entry_of, with_entries, Made, Idle, KeepsNumbers, Knows, Did}
 use Rattle.desk_hall.specs.Reads.{DidEach, commands_by}
 
 -- what is seen of a pass that made an entry begins with what it had seen

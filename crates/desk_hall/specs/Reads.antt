@@ -14,7 +14,7 @@ use Rattle.journal_model.specs.declared.control.Control.TheVariants.{Tick as tic
 use Rattle.journal_model.specs.declared.step.Step.{Step}
 use Rattle.journal_model.specs.declared.step.Step.TheVariants.{Edit as edit, Tick, Publish}
 use Rattle.journal_model.specs.Steps.{Command}
-use Rattle.control_lines.specs.Controls.{first_control}
+use Rattle.script_lines.specs.Controls.{first_control}
 use Rattle.desk_hall.specs.Turn.{View, Did}
 
 -- ---- what is asked for

@@ -1,5 +1,5 @@
 -- What one turn does to the journal of a desk, and to what its pass knows.
-use Rattle.std.specs.Prelude.{◌≡◌, ◌⊎◌, ◌<◌, ◌*◌, ℕ, List, [], ◌∷◌, ◌++◌, map, Option, Some, Ok, Err, Result}
+use Rattle.std.specs.Prelude.{◌≡◌, ◌⊎◌, ◌<◌, ◌*◌, ℕ, List, [], ◌∷◌, ◌++◌, map, Some, Ok, Err, Result}
 use mathlib.Core.List.{IsPrefix}
 use Rattle.mux_model.specs.declared.mux.Mux.{Mux}
 use Rattle.guide_limits.specs.Limits.{IsGuideWithin}

@@ -11,9 +11,8 @@ ghost use Rattle.desk_hall.specs.Reads.{control_step, controls_ahead, DidEach, T
 
 use crate::hall::Hall;
 use crate::state::HallPass;
-use control_lines::next_control;
-use feed_edits::EditStop;
 use journal_model::{Control, Step};
+use script_lines::{EditStop, next_control};
 use si_causes::{LineReader, Source};
 use std::alloc::Global;
 use std::sync::Wait;

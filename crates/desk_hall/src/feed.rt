@@ -5,13 +5,13 @@ ghost use Rattle.si_causes.specs.Reading.{text_left};
 ghost use Rattle.journal_model.specs.declared.edit.Edit.{Edit as AnEdit};
 ghost use Rattle.input_lines.specs.declared.stop.EditStop.TheVariants.{Read};
 ghost use Rattle.input_lines.specs.Ahead.{ahead};
-ghost use Rattle.feed_edits.specs.Edits.{edits_ahead};
+ghost use Rattle.script_lines.specs.Edits.{edits_ahead};
 ghost use Rattle.desk_hall.specs.Turn.{KeepsNumbers};
 ghost use Rattle.desk_hall.specs.Reads.{edit_step, DidEach, ToldDid, TakenDid, HasReadCause};
 
 use crate::hall::Hall;
 use crate::state::HallPass;
-use feed_edits::{EditStop, next_edit};
+use script_lines::{EditStop, next_edit};
 use si_causes::{Gate, LineReader, Place, Source};
 use std::alloc::Global;
 use std::sync::Wait;

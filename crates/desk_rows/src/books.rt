@@ -1,5 +1,5 @@
 // What a feed book replies to edits, and what stands behind them.
-ghost use Rattle.journal_text.specs.Script.{IsItemWithin};
+ghost use Rattle.script_lines.specs.Script.{IsItemWithin};
 ghost use Rattle.mux_model.specs.Sound.{IsSound};
 
 use crate::events::put_guide;

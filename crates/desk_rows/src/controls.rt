@@ -1,8 +1,8 @@
 // What control lines give.
 use crate::words::{put_end, put_last};
-use control_lines::next_control;
 use journal_model::Control;
 use row_lines::{Lines, moment_text, text_of};
+use script_lines::next_control;
 use si_time::Moment;
 use std::alloc::{AllocError, Global};
 

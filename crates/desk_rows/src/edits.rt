@@ -1,10 +1,10 @@
 // What lines of edits give.
 use crate::words::{put_edit_stop, put_end, put_last};
-use feed_edits::{next_edit, read_edit};
 use guide_model::Genre;
 use input_lines::{LineFields, fields};
 use journal_model::{Edit, Item, RawRating};
 use row_lines::{Lines, text_of};
+use script_lines::{next_edit, read_edit};
 use std::alloc::{AllocError, Global};
 
 /// Appends a genre.

@@ -1,10 +1,10 @@
 // What the lines of a script give.
 use crate::edits::put_edit;
 use crate::words::{put_edit_stop, put_outcome};
-use feed_edits::EditStop;
 use journal_model::{Edit, Outcome, Step};
 use journal_text::{ScriptItem, next_item};
 use row_lines::{Lines, moment_text, text_of};
+use script_lines::EditStop;
 use si_time::Moment;
 use std::alloc::{AllocError, Global};
 

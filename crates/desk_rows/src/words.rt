@@ -1,7 +1,7 @@
 // Parts of answers in words.
-use feed_edits::EditStop;
 use journal_model::{DayFault, Field, Outcome, Reply};
 use row_lines::{moment_text, text_of};
+use script_lines::EditStop;
 use si_causes::ReadStop;
 use si_time::Moment;
 use std::alloc::AllocError;

@@ -9,7 +9,7 @@ use Rattle.mux_model.specs.declared.mux.Mux.{Mux}
 use Rattle.input_lines.specs.declared.stop.EditStop.{EditStop}
 use Rattle.input_lines.specs.declared.stop.EditStop.TheVariants.{NoCommand as Refused, Read, Memory}
 use Rattle.input_lines.specs.Ahead.{Ahead, Stop, ahead}
-use Rattle.feed_edits.specs.Edits.{edits_ahead}
+use Rattle.script_lines.specs.Edits.{edits_ahead}
 use Rattle.journal_model.specs.declared.step.Step.{Step}
 use Rattle.journal_model.specs.declared.step.Entry.{Entry}
 use Rattle.journal_model.specs.Steps.{Command, command_of}

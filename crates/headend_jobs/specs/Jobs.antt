@@ -5,7 +5,7 @@ use Rattle.si_causes.specs.Reading.{Reading, text_left}
 use Rattle.mux_model.specs.Sound.{IsSound}
 use Rattle.input_lines.specs.declared.stop.EditStop.{EditStop}
 use Rattle.input_lines.specs.Ahead.{Ahead, Stop, ahead}
-use Rattle.feed_edits.specs.Edits.{edits_ahead}
+use Rattle.script_lines.specs.Edits.{edits_ahead}
 use Rattle.journal_model.specs.declared.step.Step.{Step}
 use Rattle.turn_lock.specs.Knowledge.{TableId}
 use Rattle.headend_jobs.specs.declared.jobs.FeedJob.{FeedJob}

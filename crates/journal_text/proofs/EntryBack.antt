@@ -5,7 +5,6 @@ use Rattle.std.specs.List.{list_all, AllByRecursion}
 use Rattle.std.proofs.lemmas.Bool.Decides.{nat_tests}
 use Rattle.std.proofs.lemmas.List.Elements.{recursion_from_All}
 use Rattle.std.proofs.lemmas.Bool.{and_parts}
-use Rattle.si_text.specs.Decoding.{IsKept}
 use Rattle.si_time.specs.Moments.{moment_text}
 use Rattle.si_time.specs.declared.moment.Moment.{Moment}
 use Rattle.input_lines.specs.Fields.{record_of}
@@ -13,27 +12,27 @@ use Rattle.input_lines.specs.Lines.{record_lines}
 use Rattle.input_lines.specs.Numbers.{is_word, is_digit}
 use Rattle.journal_model.specs.declared.edit.Item.{Item}
 use Rattle.journal_model.specs.declared.edit.Edit.{Edit}
-use Rattle.journal_model.specs.declared.edit.Edit.TheVariants.{Put, Withdraw, Clear, Name, Day}
+use Rattle.journal_model.specs.declared.edit.Edit.TheVariants.{Day}
 use Rattle.input_lines.specs.Ahead.{Ahead, Row, Tail, Came, and_then, on_line}
-use Rattle.feed_edits.specs.Edits.{read_edit}
+use Rattle.script_lines.specs.Edits.{read_edit}
 use Rattle.journal_model.specs.Edits.{IsShapedItem, IsShaped, IsTypedItem, IsTypedEdit}
-use Rattle.feed_edits.specs.Back.{HaveFields, edit_fields, item_rows}
-use Rattle.feed_edits.proofs.Back.{edits_read_back, number_back}
-use Rattle.feed_edits.proofs.Typed.{typed_numbers}
+use Rattle.script_lines.specs.EditFields.{HaveFields, edit_fields, item_rows}
+use Rattle.script_lines.proofs.EditBack.{edits_read_back}
+use Rattle.script_lines.proofs.EditTypes.{typed_numbers}
 use Rattle.journal_model.specs.declared.step.Step.{Step}
 use Rattle.journal_model.specs.declared.step.Step.TheVariants.{Edit as edit, Tick, Publish, Swap}
 use Rattle.journal_model.specs.declared.step.Outcome.{Outcome}
 use Rattle.journal_model.specs.declared.step.Entry.{Entry}
-use Rattle.control_lines.specs.Controls.{control_of}
+use Rattle.script_lines.specs.Controls.{control_of}
 use Rattle.journal_model.specs.Steps.{IsStepWithin, IsTypedStep}
-use Rattle.journal_text.specs.declared.script.ScriptItem.TheVariants.{Step as step, Kept}
+use Rattle.script_lines.specs.declared.script.ScriptItem.TheVariants.{Step as step, Kept}
 use Rattle.journal_text.specs.Edits.{line_text, item_text, item_row, items_of}
 use Rattle.journal_text.specs.Entries.{step_fields, step_items, entry_text}
-use Rattle.journal_text.specs.Script.{feed_of, feed_command, short_step, command_with, command_of_caller, command_by, read_command, kept_in, kept_item, step_item, read_item, item_on, first_script_item, IsShapedStep}
+use Rattle.script_lines.specs.Script.{feed_of, feed_command, short_step, command_with, command_of_caller, command_by, read_command, kept_in, kept_item, step_item, read_item, item_on, first_script_item, IsShapedStep}
 use Rattle.journal_text.specs.Back.{IsNumeralNumber, IsRow, IsShort, command_row, outcome_row, row_line, shown_lines, ahead_of, command_lines, IsReadableOutcome, IsWritableOutcome, EntriesReadBack}
 use Rattle.journal_text.proofs.RowBack.{rows_read_back}
-use Rattle.journal_text.proofs.OutcomeBack.{outcome_back, numeral_back, moment_back, digits_of, low}
-use Rattle.journal_text.proofs.EntryRows.{outcome_front, outcome_row_kept, outcome_line, readable_written}
+use Rattle.script_lines.proofs.NumberBack.{number_back, numeral_back, moment_back, digits_of, low}
+use Rattle.journal_text.proofs.EntryRows.{outcome_reads, outcome_front, outcome_row_kept, outcome_line, readable_written}
 use Rattle.journal_text.proofs.EntryFields.{item_row_kept, command_kept, command_front}
 
 -- ---- the lines of rows
@@ -140,7 +139,7 @@ step_reads after who n s a b w e =
     ∙ ap step_item e
 
 kept_reads : (n : ℕ) (o : Outcome) (a : Ahead) → IsReadableOutcome o → read_item true n (outcome_row o) a ≡ Came (Kept n o) a
-kept_reads n o a h = ap (λ k. kept_item n (on_line n k a)) (outcome_back o h)
+kept_reads n o a h = ap (λ k. kept_item n (on_line n k a)) (outcome_reads o h)
 
 outcome_is_row : (o : Outcome) → IsReadableOutcome o → IsShort (outcome_row o) → IsRow (outcome_row o)
 outcome_is_row o h short = record { front = outcome_front o; kept = outcome_row_kept o (readable_written o h); short = short }
@@ -153,14 +152,8 @@ items_are_rows [] h t s = tt
 items_are_rows (item ∷ items) h t s = (record { front = (refl, refl); kept = item_row_kept item h.0 t.0; short = s.0 }, items_are_rows items h.1 t.1 s.1)
 
 step_rows : (s : Step) → IsShapedStep s → IsTypedStep s → AllByRecursion (λ (item : Item). IsShort (item_row item)) (step_items s) → AreRows (step_items s)
-step_rows (edit feed (Put service item)) h k s = tt
-step_rows (edit feed (Withdraw service event)) h k s = tt
-step_rows (edit feed (Clear service)) h k s = tt
-step_rows (edit feed (Name service provider name)) h k s = tt
 step_rows (edit feed (Day service day items)) h k s = items_are_rows items (recursion_from_All IsShapedItem items h.items) k.1.1 s
-step_rows (Tick at) h k s = tt
-step_rows Publish h k s = tt
-step_rows Swap h k s = tt
+step_rows other h k s = tt
 
 -- the text of an entry, part by part
 pub entry_parts : (entry : Entry) (rest : List ℕ) → IsWritableOutcome entry.outcome

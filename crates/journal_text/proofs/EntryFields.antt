@@ -14,15 +14,15 @@ use Rattle.journal_model.specs.declared.edit.Edit.{Edit}
 use Rattle.journal_model.specs.declared.edit.Edit.TheVariants.{Put, Withdraw, Clear, Name, Day}
 use Rattle.journal_model.specs.Edits.{IsShapedItem, IsShaped, HasGenreNumbers, IsTypedItem, IsTypedEdit}
 use Rattle.field_text.specs.Genres.{genre_text, genres_text}
-use Rattle.feed_edits.specs.Back.{rating_field, item_fields, edit_fields, country_field}
+use Rattle.script_lines.specs.EditFields.{rating_field, item_fields, edit_fields, country_field}
 use Rattle.journal_model.specs.declared.step.Step.{Step}
 use Rattle.journal_model.specs.declared.step.Step.TheVariants.{Edit as edit, Tick, Publish, Swap}
 use Rattle.journal_model.specs.Steps.{IsStepWithin, IsTypedStep}
 use Rattle.journal_text.specs.Edits.{item_row}
 use Rattle.journal_text.specs.Entries.{step_fields}
-use Rattle.journal_text.specs.Script.{IsShapedStep}
+use Rattle.script_lines.specs.Script.{IsShapedStep}
 use Rattle.journal_text.specs.Back.{IsFront, IsFronted, command_row}
-use Rattle.journal_text.proofs.OutcomeBack.{digits_of, decimal_some, small}
+use Rattle.script_lines.proofs.NumberBack.{digits_of, decimal_some, small}
 use Rattle.journal_text.proofs.EntryRows.{is_printing, is_written, printing_kept, digits_printing, shape_written, written_kept, moment_written, number_kept}
 
 -- ---- the fields of an edit are texts

@@ -1,5 +1,5 @@
 -- The lines of an entry are rows.
-use Rattle.std.proofs.Common.{◌≡◌, ◌≢◌, ◌==◌, ◌&&◌, ◌∙◌, ◌<◌, ◌*◌, ◌^◌, ◌++◌, ◌∷◌, [], ℕ, List, Bool, refl, sym, ap, true, false, inl, inr, arith, append-nil}
+use Rattle.std.proofs.Common.{◌≡◌, ◌≢◌, ◌==◌, ◌&&◌, ◌∙◌, ◌<◌, ◌≤◌, ◌*◌, ◌^◌, ◌++◌, ◌∷◌, [], ℕ, List, Bool, refl, sym, ap, true, false, inl, inr, arith, append-nil}
 use Rattle.std.specs.Prelude.{codes, decimal, nat_le, if◌then◌else◌}
 use Rattle.std.specs.Char.{is_ascii_digit}
 use Rattle.std.specs.List.{list_all, list_any, AllByRecursion}
@@ -9,21 +9,24 @@ use Rattle.csv.specs.Writing.{default_writer, field_text, fields_text, needs_byt
 use Rattle.si_time.specs.Readings.{has_shape}
 use Rattle.si_time.specs.Moments.{moment_text}
 use Rattle.si_text.specs.Decoding.{IsKept}
-use Rattle.input_lines.specs.Numbers.{is_digit}
+use Rattle.input_lines.specs.Numbers.{is_digit, numeral_of}
 use Rattle.input_lines.proofs.CleanText.{is_plain_char, IsClean}
 use Rattle.input_lines.proofs.CleanLines.{kept_from}
 use Rattle.si_time.proofs.TextFacts.{moment_in-only, moment_in-moment_text}
 use Rattle.journal_model.specs.declared.reply.Field.{Field}
-use Rattle.journal_model.specs.declared.reply.Field.TheVariants.{Start, Duration, Window, Language, Name, Short, Extended, Country, Rating, Genre, Provider, ServiceName, Count, Segment}
+use Rattle.journal_model.specs.declared.reply.Field.TheVariants.{Count, Segment}
 use Rattle.journal_model.specs.declared.reply.DayFault.{DayFault}
 use Rattle.journal_model.specs.declared.reply.DayFault.TheVariants.{Range as BadField, Overlap as Overlaps}
 use Rattle.journal_model.specs.declared.reply.Reply.TheVariants.{Done, Foreign, Range, Overlap, Member}
 use Rattle.journal_model.specs.declared.step.Outcome.{Outcome}
 use Rattle.journal_model.specs.declared.step.Outcome.TheVariants.{Edited, Ticked, Late, Published, Swapped}
 use Rattle.journal_text.specs.Edits.{line_text}
-use Rattle.journal_text.specs.Outcomes.{field_fields, day_fault_fields, outcome_fields, outcome_text, with_commas}
-use Rattle.journal_text.specs.Back.{HasFieldNumber, HasDayFaultNumbers, HasOutcomeNumbers, field_numbers, day_fault_numbers, outcome_numbers, IsFronted, IsReadableOutcome, IsWritableOutcome, row_line, outcome_row}
-use Rattle.journal_text.proofs.OutcomeBack.{digits_of, outcome_is, low, small}
+use Rattle.script_lines.specs.Outcomes.{field_fields, field_numbers, fault_ids, fault_numbers, day_fault_fields, id_in, outcome_fields, outcome_ids, outcome_numbers, outcome_of_fields}
+use Rattle.journal_text.specs.Entries.{outcome_text, with_commas}
+use Rattle.journal_text.specs.Back.{IsFronted, IsReadableOutcome, IsWritableOutcome, OutcomesReadBack, row_line, outcome_row}
+use Rattle.script_lines.proofs.NumberBack.{digits_of, low, small, number_back, numeral_back, all_more}
+use Rattle.script_lines.proofs.OutcomeBack.{outcome_back}
+use Rattle.si_lists.proofs.Lists.{all_map}
 use Rattle.journal_text.proofs.CleanRows.{clean_append, clean_none, clean_byte}
 
 -- ---- bytes that stand for themselves
@@ -49,10 +52,7 @@ digit_printing : (b : ℕ) → is_digit b ≡ true → is_printing b ≡ true
 digit_printing b h = grind (arith, nat_tests)
 
 pub digits_printing : (xs : List ℕ) → list_all is_digit xs ≡ true → list_all is_printing xs ≡ true
-digits_printing [] h = refl
-digits_printing (x ∷ xs) h =
-    let (p, q) = and_parts (is_digit x) (list_all is_digit xs) h in
-    rw (digit_printing x p) (digits_printing xs q)
+digits_printing = all_more is_digit is_printing digit_printing
 
 -- a byte that no field is quoted for
 abbrev pub is_written : ℕ → Bool
@@ -63,12 +63,6 @@ written_printing b h = grind (arith, nat_tests)
 
 digit_written : (b : ℕ) → is_digit b ≡ true → is_written b ≡ true
 digit_written b h = grind (arith, nat_tests)
-
-pub all_more : (P Q : ℕ → Bool) → ((b : ℕ) → P b ≡ true → Q b ≡ true) → (xs : List ℕ) → list_all P xs ≡ true → list_all Q xs ≡ true
-all_more P Q f [] h = refl
-all_more P Q f (x ∷ xs) h =
-    let (p, q) = and_parts (P x) (list_all P xs) h in
-    rw (f x p) (all_more P Q f xs q)
 
 pub digits_written : (xs : List ℕ) → list_all is_digit xs ≡ true → list_all is_written xs ≡ true
 digits_written = all_more is_digit is_written digit_written
@@ -133,21 +127,25 @@ plain_fields f (g ∷ fs) h =
     let (p, q) = and_parts (list_all is_written f) (all_written (g ∷ fs)) h in
     ap (λ (l : List ℕ). 44 ∷ (l ++ fields_text default_writer (g ∷ fs))) (plain_field f p) ∙ ap (λ (l : List ℕ). 44 ∷ (f ++ l)) (plain_fields g fs q)
 
-field_written : (f : Field) → AllByRecursion (λ n. n < 2 ^ 64) (field_numbers f) → all_written (field_fields f) ≡ true
+-- a number of 64 bits
+abbrev pub IsWide : ℕ → Type 0
+IsWide n = n < 2 ^ 64
+
+field_written : (f : Field) → AllByRecursion IsWide (field_numbers f) → all_written (field_fields f) ≡ true
 field_written (Count n) h = rw (number_written n h.0) refl
 field_written (Segment n) h = rw (number_written n h.0) refl
 field_written other h = refl
 
-fault_written : (fault : DayFault) → AllByRecursion (λ n. n < 2 ^ 64) (day_fault_numbers fault) → all_written (day_fault_fields fault) ≡ true
-fault_written (BadField f) h = field_written f h
-fault_written (Overlaps e) h = rw (number_written e h.0) refl
+fault_written : (fault : DayFault) → AllByRecursion IsWide (fault_ids fault) → AllByRecursion IsWide (fault_numbers fault) → all_written (day_fault_fields fault) ≡ true
+fault_written (BadField f) i h = field_written f h
+fault_written (Overlaps e) i h = rw (number_written e i.0) refl
 
 pub outcome_written : (o : Outcome) → IsWritableOutcome o → all_written (outcome_fields o) ≡ true
 outcome_written (Edited Done) h = refl
-outcome_written (Edited (Foreign s)) h = rw (number_written s h.numbers.0) refl
+outcome_written (Edited (Foreign s)) h = rw (number_written s h.ids.0) refl
 outcome_written (Edited (Range f)) h = field_written f h.numbers
-outcome_written (Edited (Overlap e)) h = rw (number_written e h.numbers.0) refl
-outcome_written (Edited (Member i fault)) h = rw (number_written i h.numbers.0) (fault_written fault h.numbers.1)
+outcome_written (Edited (Overlap e)) h = rw (number_written e h.ids.0) refl
+outcome_written (Edited (Member i fault)) h = rw (number_written i h.ids.0) (fault_written fault h.ids.1 h.numbers)
 outcome_written Ticked h = refl
 outcome_written (Late at) h = rw (moment_written at.0 h.window) refl
 outcome_written (Published n) h = rw (number_written n h.numbers.0) refl
@@ -169,7 +167,7 @@ outcome_some other = λ e. cc
 pub outcome_line : (o : Outcome) → IsWritableOutcome o → codes "=," ++ outcome_text o ++ codes "\n" ≡ line_text (outcome_row o)
 outcome_line o h =
     let body : row_line (outcome_row o) ≡ codes "=," ++ outcome_text o =
-    ap (λ (l : List ℕ). 61 ∷ l) (some_written (outcome_fields o) (outcome_some o) (outcome_written o h)) ∙ ap (λ (l : List ℕ). 61 ∷ 44 ∷ l) (sym (outcome_is o)) in
+    ap (λ (l : List ℕ). 61 ∷ l) (some_written (outcome_fields o) (outcome_some o) (outcome_written o h)) in
     ap (λ (l : List ℕ). l ++ 10 ∷ []) (sym body)
 
 all_written_kept : (fs : List (List ℕ)) → all_written fs ≡ true → AllByRecursion IsKept fs
@@ -187,25 +185,15 @@ pub outcome_front : (o : Outcome) → IsFronted (outcome_row o)
 outcome_front o = fronted (outcome_fields o) (outcome_some o)
 
 -- what is readable can be written
-field_low : (f : Field) → HasFieldNumber f → AllByRecursion (λ n. n < 2 ^ 64) (field_numbers f)
-field_low (Count n) h = (low n h, tt)
-field_low (Segment n) h = (low n h, tt)
-field_low other h = tt
-
-fault_low : (fault : DayFault) → HasDayFaultNumbers fault → AllByRecursion (λ n. n < 2 ^ 64) (day_fault_numbers fault)
-fault_low (BadField f) h = field_low f h
-fault_low (Overlaps e) h = (small e h, tt)
-
-outcome_low : (o : Outcome) → HasOutcomeNumbers o → AllByRecursion (λ n. n < 2 ^ 64) (outcome_numbers o)
-outcome_low (Edited Done) h = tt
-outcome_low (Edited (Foreign s)) h = (small s h, tt)
-outcome_low (Edited (Range f)) h = field_low f h
-outcome_low (Edited (Overlap e)) h = (small e h, tt)
-outcome_low (Edited (Member i fault)) h = (small i h.0, fault_low fault h.1)
-outcome_low Ticked h = tt
-outcome_low (Late at) h = tt
-outcome_low (Published n) h = (low n h, tt)
-outcome_low (Swapped n at) h = (low n h, tt)
-
 pub readable_written : (o : Outcome) → IsReadableOutcome o → IsWritableOutcome o
-readable_written o h = record { numbers = outcome_low o h.numbers; window = h.window }
+readable_written o h = record {
+  ids = all_map (λ (n : ℕ). n ≤ 65535) IsWide small (outcome_ids o) h.ids;
+  numbers = all_map (λ (n : ℕ). n ≤ 999999999) IsWide low (outcome_numbers o) h.numbers;
+  window = h.window;
+}
+
+-- and it is read
+pub outcome_reads : OutcomesReadBack
+unfolding outcome_of_fields
+outcome_reads o h =
+    outcome_back id_in numeral_of (λ n. n ≤ 65535) (λ n. n ≤ 999999999) (λ n le. number_back n 65535 le (omega arith)) numeral_back o h.ids h.numbers h.window

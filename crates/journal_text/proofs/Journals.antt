@@ -1,7 +1,7 @@
 -- Journals whose edits were read from lines are equal where their texts are: the text gives the rows, and these the entries.
-use Rattle.std.proofs.Common.{◌≡◌, ◌∙◌, ◌<◌, ◌≤◌, ◌^◌, ◌++◌, ◌∷◌, [], ℕ, true, false, List, Option, Some, None, length, map, refl, sym, ap, subst, arith, append-nil, append_assoc}
+use Rattle.std.proofs.Common.{◌≡◌, ◌∙◌, ◌<◌, ◌++◌, ◌∷◌, [], ℕ, true, false, List, Option, Some, None, length, map, refl, sym, ap, subst, arith, append-nil, append_assoc}
 use Rattle.std.proofs.lemmas.List.{length-map}
-use Rattle.std.specs.Prelude.{codes, decimal, drop, flat_map, if◌then◌else◌, option_map}
+use Rattle.std.specs.Prelude.{decimal, drop, flat_map, option_map}
 use Rattle.std.proofs.Math.Seq.{drop-append_seam}
 use Rattle.std.specs.List.{AllByRecursion, list_all}
 use Rattle.std.proofs.lemmas.List.Elements.{recursion_from_All}
@@ -12,38 +12,32 @@ use Rattle.csv.specs.Writing.{default_writer, fields_text}
 use Rattle.si_causes.specs.Lines.{raw_lines}
 use Rattle.si_text.specs.Decoding.{IsKept}
 use Rattle.input_lines.specs.Fields.{line_fields}
-use Rattle.input_lines.specs.Numbers.{is_digit, is_word, value_from}
-use Rattle.journal_model.specs.declared.reply.Field.{Field}
-use Rattle.journal_model.specs.declared.reply.Field.TheVariants.{Start, Duration, Window, Language, Name as NameField, Short, Extended, Country, Rating, Genre, Provider, ServiceName, Count, Segment}
-use Rattle.journal_model.specs.declared.reply.DayFault.{DayFault}
-use Rattle.journal_model.specs.declared.reply.DayFault.TheVariants.{Range as BadField, Overlap as Overlaps}
-use Rattle.journal_model.specs.declared.reply.Reply.{Reply}
-use Rattle.journal_model.specs.declared.reply.Reply.TheVariants.{Done, Foreign, Range, Overlap, Member}
+use Rattle.input_lines.specs.Numbers.{is_digit, value_from}
 use Rattle.journal_model.specs.declared.edit.Item.{Item}
 use Rattle.journal_model.specs.declared.edit.Edit.{Edit}
-use Rattle.journal_model.specs.declared.edit.Edit.TheVariants.{Put, Withdraw, Clear, Name, Day}
-use Rattle.feed_edits.specs.Items.{all_some, item_of, item_line}
-use Rattle.journal_model.specs.Edits.{IsShapedItem, IsShaped, HasNumbers, IsTypedItem}
-use Rattle.feed_edits.specs.Back.{edit_fields}
-use Rattle.feed_edits.proofs.Back.{number_back, item_back, item_line_back}
-use Rattle.feed_edits.proofs.Typed.{typed_numbers}
+use Rattle.journal_model.specs.declared.edit.Edit.TheVariants.{Day}
+use Rattle.script_lines.specs.Items.{all_some, item_line}
+use Rattle.script_lines.specs.Heads.{edit_head}
+use Rattle.journal_model.specs.Edits.{IsShapedItem, IsTypedItem}
+use Rattle.script_lines.specs.EditFields.{edit_fields}
+use Rattle.script_lines.proofs.EditBack.{head_from, head_back, item_line_back, rows_behind, with_rows}
+use Rattle.script_lines.proofs.EditFacts.{no_fields}
+use Rattle.script_lines.proofs.NumberBack.{number_back, value_back, digits_of, decimal_some}
+use Rattle.script_lines.proofs.OutcomeBack.{outcome_back}
+use Rattle.script_lines.proofs.EditTypes.{typed_numbers}
 use Rattle.journal_model.specs.declared.step.Step.{Step}
 use Rattle.journal_model.specs.declared.step.Step.TheVariants.{Edit as edit, Tick, Publish, Swap}
 use Rattle.journal_model.specs.declared.step.Outcome.{Outcome}
-use Rattle.journal_model.specs.declared.step.Outcome.TheVariants.{Edited, Ticked, Late, Published, Swapped}
 use Rattle.journal_model.specs.declared.step.Entry.{Entry}
 use Rattle.journal_model.specs.Steps.{IsStepWithin, IsTypedStep}
-use Rattle.control_lines.specs.Controls.{moment_at}
 use Rattle.journal_text.specs.Edits.{line_text, item_text, item_row, items_of}
 use Rattle.journal_text.specs.Entries.{step_fields, step_items, entry_text, journal_text}
-use Rattle.journal_text.specs.Outcomes.{field_fields, day_fault_fields, outcome_fields}
-use Rattle.journal_text.specs.KeptOutcomes.{event_word, other_word, or_else}
-use Rattle.journal_text.specs.Script.{short_step, feed_of, IsShapedStep}
-use Rattle.journal_text.specs.Back.{IsFronted, IsWritableOutcome, IsOfLines, command_row, outcome_row, row_line, field_numbers, day_fault_numbers, BeginsNoEntry, JournalsDiffer, JournalsEnd}
+use Rattle.script_lines.specs.Outcomes.{Numeral, outcome_by, outcome_fields}
+use Rattle.script_lines.specs.Script.{short_step, feed_of, IsShapedStep}
+use Rattle.journal_text.specs.Back.{IsFronted, IsWritableOutcome, IsOfLines, command_row, outcome_row, row_line, BeginsNoEntry, JournalsDiffer, JournalsEnd}
 use Rattle.journal_text.proofs.CleanRows.{row_clean, all_clean, clean_inner, line_first}
 use Rattle.journal_text.proofs.RowBack.{fields_back}
-use Rattle.journal_text.proofs.OutcomeBack.{value_back, small, moment_back, digits_of, decimal_some}
-use Rattle.journal_text.proofs.EntryRows.{outcome_front, outcome_row_kept, plain_field, number_written}
+use Rattle.journal_text.proofs.EntryRows.{IsWide, outcome_front, outcome_row_kept, plain_field, number_written}
 use Rattle.journal_text.proofs.EntryFields.{item_row_kept, command_kept, command_front}
 use Rattle.journal_text.proofs.EntryBack.{feed_short, tick_short, publish_short, swap_short, entry_parts}
 
@@ -79,14 +73,8 @@ items_fit [] h t = tt
 items_fit (item ∷ items) h t = ((h.0, t.0), items_fit items h.1 t.1)
 
 step_fit : (s : Step) → IsShapedStep s → IsTypedStep s → AreItems (step_items s)
-step_fit (edit feed (Put service item)) h k = tt
-step_fit (edit feed (Withdraw service event)) h k = tt
-step_fit (edit feed (Clear service)) h k = tt
-step_fit (edit feed (Name service provider name)) h k = tt
 step_fit (edit feed (Day service day items)) h k = items_fit items (recursion_from_All IsShapedItem items h.items) k.1.1
-step_fit (Tick at) h k = tt
-step_fit Publish h k = tt
-step_fit Swap h k = tt
+step_fit other h k = tt
 
 -- the rows of an entry, and then others
 abbrev pub rows_of : Entry → List Row → List Row
@@ -104,160 +92,59 @@ entry_in entry rest h =
 
 -- ---- the step of rows
 
--- the edit of the fields of its line, and of its item rows
-abbrev pub put_from : Row → Option Edit
-put_from [] = None
-put_from (service ∷ item) = option_map (λ (i : Item). Put (value_from 0 service) i) (item_of item)
-
-abbrev pub withdraw_from : Row → Option Edit
-withdraw_from (service ∷ event ∷ fields) = Some (Withdraw (value_from 0 service) (value_from 0 event))
-withdraw_from fields = None
-
-abbrev pub clear_from : Row → Option Edit
-clear_from [] = None
-clear_from (service ∷ fields) = Some (Clear (value_from 0 service))
-
-abbrev pub name_from : Row → Option Edit
-name_from (service ∷ provider ∷ name ∷ fields) = Some (Name (value_from 0 service) provider name)
-name_from fields = None
-
-abbrev pub day_with : List ℕ → List ℕ → List Item → Edit
-day_with service date items = Day (value_from 0 service) (record { 0 = date }) items
-
-abbrev pub day_from : Row → List Row → Option Edit
-day_from (service ∷ date ∷ fields) rows = option_map (day_with service date) (all_some (map item_line rows))
-day_from fields rows = None
-
-abbrev pub edit_from : Row → List Row → Option Edit
-edit_from [] rows = None
-edit_from (word ∷ fields) rows =
-    if is_word (codes "put") word then put_from fields
-    else (if is_word (codes "withdraw") word then withdraw_from fields
-    else (if is_word (codes "clear") word then clear_from fields
-    else (if is_word (codes "name") word then name_from fields
-    else day_from fields rows)))
-
 items_from : (items : List Item) → AreItems items → all_some (map item_line (map item_row items)) ≡ Some items
 items_from [] h = refl
 items_from (item ∷ items) h =
     rw (item_line_back item h.0.0 h.0.1.numbers, items_from items h.1) refl
 
-id_back : (n : ℕ) → n ≤ 65535 → value_from 0 (decimal n) ≡ n
-id_back n le = value_back n (small n le)
+edit_back : (e : Edit) → AreItems (items_of e) → with_rows (Some (head_from e)) (map item_row (items_of e)) ≡ Some e
+edit_back (Day service day items) t = ap (option_map (Day service day)) (items_from items t)
+edit_back other t = refl
 
-edit_back : (e : Edit) → IsShaped e → HasNumbers e → AreItems (items_of e) → edit_from (edit_fields e) (map item_row (items_of e)) ≡ Some e
-edit_back (Put service item) h k t =
-    rw (id_back service k.0, item_back item h k.1) refl
-edit_back (Withdraw service event) h k t = rw (id_back service k.0, id_back event k.1) refl
-edit_back (Clear service) h k t = rw (id_back service k) refl
-edit_back (Name service provider name) h k t = rw (id_back service k) refl
-edit_back (Day service day items) h k t =
-    ap (option_map (day_with (decimal service) day.0)) (items_from items t)
-    ∙ ap (λ (n : ℕ). let o : Option Edit = Some (Day n day items) in o) (id_back service k.0)
-
--- how many item rows stand behind a line
-abbrev pub day_count : Row → ℕ
-day_count (service ∷ date ∷ count ∷ fields) = value_from 0 count
-day_count fields = 0
-
-abbrev pub rows_behind : Row → ℕ
-rows_behind (word ∷ fields) = if is_word (codes "day") word then day_count fields else 0
-rows_behind [] = 0
-
-count_of : (e : Edit) → IsShaped e → rows_behind (edit_fields e) ≡ length (items_of e)
-count_of (Day service day items) h = value_back (length items) (small (length items) (let n : length items ≤ 2000 = h.count in omega arith))
-count_of other h = refl
+count_of : (e : Edit) → rows_behind (Some (head_from e)) ≡ length (items_of e)
+count_of (Day service day items) = refl
+count_of other = refl
 
 abbrev pub step_with : Option Step → Option ℕ → Option Edit → Option Step
 step_with (Some s) feed e = Some s
-step_with None None e = None
-step_with None (Some feed) None = None
 step_with None (Some feed) (Some e) = Some (edit feed e)
+step_with None feed e = None
 
 -- the step of these fields and of these item rows
 abbrev pub step_from : Row → List Row → Option Step
-step_from fields rows = step_with (short_step fields) (feed_of fields) (edit_from (drop 2 fields) rows)
+step_from fields rows = step_with (short_step fields) (feed_of fields) (with_rows (edit_head (drop 2 fields)) rows)
+
+head_of_edit : (feed : ℕ) (e : Edit) → IsShapedStep (edit feed e) → IsTypedStep (edit feed e) → edit_head (edit_fields e) ≡ Some (head_from e)
+head_of_edit feed e h k = head_back e h (typed_numbers e k.1)
 
 step_back : (s : Step) → IsShapedStep s → IsStepWithin s → IsTypedStep s → step_from (step_fields s) (map item_row (step_items s)) ≡ Some s
 step_back (edit feed e) h w k =
-    let rows = map item_row (items_of e) in
-    let number : feed_of (step_fields (edit feed e)) ≡ Some feed = number_back feed 255 k.0 (omega arith) in
-    ap (λ o. step_with o (feed_of (step_fields (edit feed e))) (edit_from (edit_fields e) rows)) (feed_short (decimal feed) (edit_fields e))
-    ∙ ap (λ o. step_with None o (edit_from (edit_fields e) rows)) number
-    ∙ ap (step_with None (Some feed)) (edit_back e h (typed_numbers e k.1) (step_fit (edit feed e) h k))
-step_back (Tick at) h w k = ap (λ o. step_with o (feed_of (step_fields (Tick at))) (edit_from (drop 2 (step_fields (Tick at))) [])) (tick_short at w)
-step_back Publish h w k = ap (λ o. step_with o (feed_of (step_fields Publish)) (edit_from (drop 2 (step_fields Publish)) [])) publish_short
-step_back Swap h w k = ap (λ o. step_with o (feed_of (step_fields Swap)) (edit_from (drop 2 (step_fields Swap)) [])) swap_short
+    let fields = step_fields (edit feed e) in
+    let found : with_rows (edit_head (edit_fields e)) (map item_row (items_of e)) ≡ Some e =
+    ap (λ o. with_rows o (map item_row (items_of e))) (head_of_edit feed e h k) ∙ edit_back e (step_fit (edit feed e) h k) in
+    ap (λ o. step_with o (feed_of fields) (with_rows (edit_head (edit_fields e)) (map item_row (items_of e)))) (feed_short (decimal feed) (edit_fields e))
+    ∙ ap (λ o. step_with None o (with_rows (edit_head (edit_fields e)) (map item_row (items_of e)))) (number_back feed 255 k.0 (omega arith))
+    ∙ ap (step_with None (Some feed)) found
+step_back (Tick at) h w k = ap (λ o. step_with o (feed_of (step_fields (Tick at))) (with_rows (edit_head (drop 2 (step_fields (Tick at)))) [])) (tick_short at w)
+step_back Publish h w k = ap (λ o. step_with o (feed_of (step_fields Publish)) (with_rows (edit_head (drop 2 (step_fields Publish))) [])) publish_short
+step_back Swap h w k = ap (λ o. step_with o (feed_of (step_fields Swap)) (with_rows (edit_head (drop 2 (step_fields Swap))) [])) swap_short
 
-count_back : (s : Step) → IsShapedStep s → rows_behind (drop 2 (step_fields s)) ≡ length (step_items s)
-count_back (edit feed e) h = count_of e h
-count_back (Tick at) h = refl
-count_back Publish h = refl
-count_back Swap h = refl
+count_back : (s : Step) → IsShapedStep s → IsTypedStep s → rows_behind (edit_head (drop 2 (step_fields s))) ≡ length (step_items s)
+count_back (edit feed e) h k = ap rows_behind (head_of_edit feed e h k) ∙ count_of e
+count_back (Tick at) h k = ap rows_behind no_fields
+count_back Publish h k = ap rows_behind no_fields
+count_back Swap h k = ap rows_behind no_fields
 
--- ---- the outcome of a row
+-- ---- the outcome of a row, whatever its numbers
 
-abbrev pub number_from : Row → ℕ
-number_from [] = 0
-number_from (n ∷ fields) = value_from 0 n
+abbrev any_number : Numeral
+any_number field = Some (value_from 0 field)
 
-abbrev pub field_from : Row → Option Field
-field_from [] = None
-field_from (word ∷ []) = or_else (event_word word) (other_word word)
-field_from (word ∷ n ∷ fields) = if is_word (codes "count") word then Some (Count (value_from 0 n)) else Some (Segment (value_from 0 n))
+wide_back : (n : ℕ) → IsWide n → any_number (decimal n) ≡ Some n
+wide_back n h = ap (λ (k : ℕ). let o : Option ℕ = Some k in o) (value_back n h)
 
-abbrev pub fault_from : Row → Option DayFault
-fault_from [] = None
-fault_from (word ∷ fields) = if is_word (codes "range") word then option_map BadField (field_from fields) else Some (Overlaps (number_from fields))
-
-abbrev pub member_from : Row → Option Reply
-member_from [] = None
-member_from (place ∷ fields) = option_map (Member (value_from 0 place)) (fault_from fields)
-
-abbrev pub reply_from : List ℕ → Row → Option Reply
-reply_from word fields =
-    if is_word (codes "done") word then Some Done
-    else (if is_word (codes "foreign") word then Some (Foreign (number_from fields))
-    else (if is_word (codes "range") word then option_map Range (field_from fields)
-    else (if is_word (codes "overlap") word then Some (Overlap (number_from fields))
-    else member_from fields)))
-
-abbrev pub late_from : Row → Option Outcome
-late_from [] = None
-late_from (moment ∷ fields) = option_map Late (moment_at moment)
-
-abbrev pub swapped_from : Row → Option Outcome
-swapped_from (n ∷ moment ∷ fields) = option_map (Swapped (value_from 0 n)) (moment_at moment)
-swapped_from fields = None
-
-abbrev pub outcome_from : Row → Option Outcome
-outcome_from [] = None
-outcome_from (word ∷ fields) =
-    if is_word (codes "ticked") word then Some Ticked
-    else (if is_word (codes "late") word then late_from fields
-    else (if is_word (codes "published") word then Some (Published (number_from fields))
-    else (if is_word (codes "swapped") word then swapped_from fields
-    else option_map Edited (reply_from word fields))))
-
-field_again : (f : Field) → AllByRecursion (λ n. n < 2 ^ 64) (field_numbers f) → field_from (field_fields f) ≡ Some f
-field_again (Count n) h = rw (value_back n h.0) refl
-field_again (Segment n) h = rw (value_back n h.0) refl
-field_again other h = refl
-
-fault_again : (fault : DayFault) → AllByRecursion (λ n. n < 2 ^ 64) (day_fault_numbers fault) → fault_from (day_fault_fields fault) ≡ Some fault
-fault_again (BadField f) h = rw (field_again f h) refl
-fault_again (Overlaps e) h = rw (value_back e h.0) refl
-
-outcome_again : (o : Outcome) → IsWritableOutcome o → outcome_from (outcome_fields o) ≡ Some o
-outcome_again (Edited Done) h = refl
-outcome_again (Edited (Foreign s)) h = rw (value_back s h.numbers.0) refl
-outcome_again (Edited (Range f)) h = rw (field_again f h.numbers) refl
-outcome_again (Edited (Overlap e)) h = rw (value_back e h.numbers.0) refl
-outcome_again (Edited (Member i fault)) h = rw (value_back i h.numbers.0, fault_again fault h.numbers.1) refl
-outcome_again Ticked h = refl
-outcome_again (Late at) h = rw (moment_back at h.window) refl
-outcome_again (Published n) h = rw (value_back n h.numbers.0) refl
-outcome_again (Swapped n at) h = rw (value_back n h.numbers.0, moment_back at h.window) refl
+outcome_again : (o : Outcome) → IsWritableOutcome o → outcome_by any_number any_number (outcome_fields o) ≡ Some o
+outcome_again o h = outcome_back any_number any_number IsWide IsWide wide_back wide_back o h.ids h.numbers h.window
 
 -- ---- equal rows are of equal entries
 
@@ -275,14 +162,14 @@ rows_same x y us vs h k e =
     let fields : step_fields x.step ≡ step_fields y.step = cc command in
     let who : x.who ≡ y.who = sym (value_back x.who h.who) ∙ ap (value_from 0) whos ∙ value_back y.who k.who in
     let count : length (map item_row (step_items x.step)) ≡ length (map item_row (step_items y.step)) =
-    length-map (step_items x.step) item_row ∙ sym (count_back x.step h.shaped) ∙ ap (λ (l : Row). rows_behind (drop 2 l)) fields ∙ count_back y.step k.shaped ∙ sym (length-map (step_items y.step) item_row) in
+    length-map (step_items x.step) item_row ∙ sym (count_back x.step h.shaped h.typed) ∙ ap (λ (l : Row). rows_behind (edit_head (drop 2 l))) fields ∙ count_back y.step k.shaped k.typed ∙ sym (length-map (step_items y.step) item_row) in
     let parts = same_parts (map item_row (step_items x.step)) (map item_row (step_items y.step)) (outcome_row x.outcome ∷ us) (outcome_row y.outcome ∷ vs) count behind in
     let last : outcome_row x.outcome ∷ us ≡ outcome_row y.outcome ∷ vs = parts.1 in
     let outcomes : outcome_fields x.outcome ≡ outcome_fields y.outcome = cc last in
     let rest : us ≡ vs = cc last in
     let step : x.step ≡ y.step =
     some_same (sym (step_back x.step h.shaped h.within h.typed) ∙ ap (λ (l : Row). step_from l (map item_row (step_items x.step))) fields ∙ ap (step_from (step_fields y.step)) parts.0 ∙ step_back y.step k.shaped k.within k.typed) in
-    let outcome : x.outcome ≡ y.outcome = some_same (sym (outcome_again x.outcome h.outcome) ∙ ap outcome_from outcomes ∙ outcome_again y.outcome k.outcome) in
+    let outcome : x.outcome ≡ y.outcome = some_same (sym (outcome_again x.outcome h.outcome) ∙ ap (outcome_by any_number any_number) outcomes ∙ outcome_again y.outcome k.outcome) in
     (same_entry x y who step outcome, rest)
 
 -- ---- what stands behind a journal

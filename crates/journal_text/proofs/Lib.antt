@@ -1,12 +1,7 @@
 pub mod LineFacts
-pub mod ScriptFacts
-pub mod ItemsAhead
-pub mod TypedFacts
-pub mod WindowFacts
 pub mod LineBack
 pub mod CleanRows
 pub mod RowBack
-pub mod OutcomeBack
 pub mod EntryRows
 pub mod EntryFields
 pub mod EntryBack

@@ -7,25 +7,17 @@ use Rattle.si_text.specs.Decoding.{IsKept}
 use Rattle.input_lines.specs.Fields.{record_of}
 use Rattle.input_lines.specs.Lines.{is_passed, record_lines}
 use Rattle.input_lines.specs.Numbers.{is_digit}
-use Rattle.journal_model.specs.declared.reply.Field.{Field}
-use Rattle.journal_model.specs.declared.reply.Field.TheVariants.{Start, Duration, Window, Language, Name, Short, Extended, Country, Rating, Genre, Provider, ServiceName, Count, Segment}
-use Rattle.journal_model.specs.declared.reply.DayFault.{DayFault}
-use Rattle.journal_model.specs.declared.reply.DayFault.TheVariants.{Range as BadField, Overlap as Overlaps}
-use Rattle.journal_model.specs.declared.reply.Reply.{Reply}
-use Rattle.journal_model.specs.declared.reply.Reply.TheVariants.{Done, Foreign, Range, Overlap, Member}
 use Rattle.journal_model.specs.declared.step.Outcome.{Outcome}
-use Rattle.journal_model.specs.declared.step.Outcome.TheVariants.{Edited, Ticked, Late, Published, Swapped}
 use Rattle.journal_model.specs.declared.edit.Item.{Item}
 use Rattle.input_lines.specs.Ahead.{Ahead, Tail, Came}
 use Rattle.journal_model.specs.declared.step.Step.{Step}
 use Rattle.journal_model.specs.declared.step.Entry.{Entry}
 use Rattle.journal_model.specs.Steps.{IsStepWithin, IsTypedStep, IsInWindow}
-use Rattle.journal_text.specs.declared.script.ScriptItem.TheVariants.{Step as step, Kept}
+use Rattle.script_lines.specs.declared.script.ScriptItem.TheVariants.{Step as step, Kept}
 use Rattle.journal_text.specs.Edits.{line_text, item_row}
-use Rattle.journal_text.specs.Entries.{step_fields, step_items, entry_text, journal_text}
-use Rattle.journal_text.specs.Script.{first_script_item, IsShapedStep}
-use Rattle.journal_text.specs.Outcomes.{outcome_text, outcome_fields, with_commas}
-use Rattle.journal_text.specs.KeptOutcomes.{outcome_of_fields}
+use Rattle.journal_text.specs.Entries.{step_fields, step_items, with_commas, outcome_text, entry_text, journal_text}
+use Rattle.script_lines.specs.Script.{first_script_item, IsShapedStep}
+use Rattle.script_lines.specs.Outcomes.{outcome_fields, outcome_of_fields, outcome_ids, outcome_numbers}
 
 -- ---- rows
 
@@ -69,33 +61,10 @@ RowsReadBack = (fields : List (List ℕ)) → IsRow fields → (rest : List ℕ)
 abbrev pub IsNumeralNumber : ℕ → Type 0
 IsNumeralNumber n = n ≤ 999999999
 
-abbrev pub HasFieldNumber : Field → Type 0
-HasFieldNumber (Count n) = IsNumeralNumber n
-HasFieldNumber (Segment n) = IsNumeralNumber n
-HasFieldNumber other = Unit {0}
-
--- ids and places are numbers of 16 bits
-abbrev pub HasDayFaultNumbers : DayFault → Type 0
-HasDayFaultNumbers (BadField field) = HasFieldNumber field
-HasDayFaultNumbers (Overlaps event) = event ≤ 65535
-
-abbrev pub HasReplyNumbers : Reply → Type 0
-HasReplyNumbers Done = Unit {0}
-HasReplyNumbers (Foreign service) = service ≤ 65535
-HasReplyNumbers (Range field) = HasFieldNumber field
-HasReplyNumbers (Overlap event) = event ≤ 65535
-HasReplyNumbers (Member place fault) = (place ≤ 65535) × HasDayFaultNumbers fault
-
-abbrev pub HasOutcomeNumbers : Outcome → Type 0
-HasOutcomeNumbers (Edited reply) = HasReplyNumbers reply
-HasOutcomeNumbers Ticked = Unit {0}
-HasOutcomeNumbers (Late at) = Unit {0}
-HasOutcomeNumbers (Published n) = IsNumeralNumber n
-HasOutcomeNumbers (Swapped n at) = IsNumeralNumber n
-
--- an outcome that reads back: its numbers have at most nine digits, and its moment can be written
+-- an outcome that reads back: its ids and places have 16 bits, its other numbers at most nine digits, and its moment can be written
 pub record IsReadableOutcome (outcome : Outcome) : Type 0 where
-  pub numbers : HasOutcomeNumbers outcome
+  pub ids : AllByRecursion (λ n. n ≤ 65535) (outcome_ids outcome)
+  pub numbers : AllByRecursion IsNumeralNumber (outcome_numbers outcome)
   pub window : IsInWindow outcome
 
 -- The text of an outcome is its fields with commas between, and these are read as the outcome.
@@ -149,32 +118,9 @@ EntriesReadBack = (entry : Entry) → IsReadable entry → (n : ℕ) (rest : Lis
 
 -- ---- journals
 
--- the numbers of an outcome
-abbrev pub field_numbers : Field → List ℕ
-field_numbers (Count n) = n ∷ []
-field_numbers (Segment n) = n ∷ []
-field_numbers other = []
-
-abbrev pub day_fault_numbers : DayFault → List ℕ
-day_fault_numbers (BadField field) = field_numbers field
-day_fault_numbers (Overlaps event) = event ∷ []
-
-abbrev pub reply_numbers : Reply → List ℕ
-reply_numbers Done = []
-reply_numbers (Foreign service) = service ∷ []
-reply_numbers (Range field) = field_numbers field
-reply_numbers (Overlap event) = event ∷ []
-reply_numbers (Member place fault) = place ∷ day_fault_numbers fault
-
-abbrev pub outcome_numbers : Outcome → List ℕ
-outcome_numbers (Edited reply) = reply_numbers reply
-outcome_numbers Ticked = []
-outcome_numbers (Late at) = []
-outcome_numbers (Published n) = n ∷ []
-outcome_numbers (Swapped n at) = n ∷ []
-
 -- numbers of 64 bits, and a moment that can be written
 pub record IsWritableOutcome (outcome : Outcome) : Type 0 where
+  pub ids : AllByRecursion (λ n. n < 2 ^ 64) (outcome_ids outcome)
   pub numbers : AllByRecursion (λ n. n < 2 ^ 64) (outcome_numbers outcome)
   pub window : IsInWindow outcome
 

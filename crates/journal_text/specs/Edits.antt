@@ -6,8 +6,8 @@ use Rattle.csv.specs.declared.writer.WriterBuilder.{WriterBuilder}
 use Rattle.csv.specs.declared.writer.Writer.{Writer}
 use Rattle.journal_model.specs.declared.edit.Item.{Item}
 use Rattle.journal_model.specs.declared.edit.Edit.{Edit}
-use Rattle.journal_model.specs.declared.edit.Edit.TheVariants.{Put, Withdraw, Clear, Name, Day}
-use Rattle.feed_edits.specs.Back.{item_fields}
+use Rattle.journal_model.specs.declared.edit.Edit.TheVariants.{Day}
+use Rattle.script_lines.specs.EditFields.{item_fields}
 
 -- the items of a day
 abbrev pub items_of : Edit → List Item

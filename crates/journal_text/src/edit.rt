@@ -1,7 +1,7 @@
 // The lines of an edit.
 ghost use Rattle.std.specs.Prelude.{◌≡◌, ◌++◌, ◌∷◌, OnOk, IfOk, codes, decimal, flat_map};
 ghost use Rattle.field_text.specs.Genres.{genres_text};
-ghost use Rattle.feed_edits.specs.Back.{country_field, edit_fields, item_fields, rating_field};
+ghost use Rattle.script_lines.specs.EditFields.{country_field, edit_fields, item_fields, rating_field};
 ghost use Rattle.journal_text.specs.Edits.{and_field, and_fields, item_text, items_of, IsOpenFor};
 
 use crate::line::LineWriter;

@@ -1,9 +1,8 @@
 // The text of a journal's entry.
 ghost use Rattle.std.specs.Prelude.{◌≡◌, ◌++◌, ◌∷◌, IfOk, OnOk, OnErr, codes, decimal};
 ghost use Rattle.journal_text.specs.Edits.{and_fields, IsOpenFor};
-ghost use Rattle.journal_text.specs.Outcomes.{outcome_text};
 ghost use Rattle.journal_model.specs.Steps.{IsInWindow, IsEntryInWindow, IsStepInWindow};
-ghost use Rattle.journal_text.specs.Entries.{step_fields, step_items, command_text, entry_text};
+ghost use Rattle.journal_text.specs.Entries.{step_fields, step_items, command_text, outcome_text, entry_text};
 
 use crate::edit::{add_edit, items_of, put_items};
 use crate::line::LineWriter;

@@ -1,7 +1,5 @@
-// What is written reads back, and a script is read item by item.
+// What is written reads back.
 ghost use Rattle.journal_text.specs.Back.{EntriesReadBack, JournalsDiffer, JournalsEnd, OutcomesAreFields, OutcomesReadBack, RowsReadBack};
-ghost use Rattle.journal_text.specs.ScriptLaws.{ItemsAreTyped, ItemsGoOn};
-ghost use Rattle.journal_text.specs.Windows.{ItemsAreInWindow};
 
 /// The law that a line of fields reads back as the fields, whatever text stands behind it: the fields are texts, at least two,
 /// the first may begin a line, and the line has at most 16,384 bytes.
@@ -27,13 +25,4 @@ pub fn entries_read_back()
 pub fn journals_differ_in_their_texts()
     ensures journals { JournalsDiffer }
     ensures end { JournalsEnd }
-{}
-
-/// The laws that the items ahead of a reader are the first, as [`crate::next_item`] reads it, and then those of what is ahead
-/// behind it, whatever stands behind the lines; that each edit among them has numbers as wide as their fields, and texts that may
-/// be kept; and that each tick is at a moment that 16 bits of days can say.
-pub fn items_go_on()
-    ensures on { ItemsGoOn }
-    ensures typed { ItemsAreTyped }
-    ensures window { ItemsAreInWindow }
 {}

@@ -1,83 +1,67 @@
 // The text of an outcome.
-ghost use Rattle.std.specs.Prelude.{◌≡◌, ◌*◌, ◌<◌, ◌++◌, IfOk, OnOk, OnErr, codes, decimal};
+ghost use Rattle.std.specs.Prelude.{◌≡◌, ◌*◌, ◌<◌, ◌++◌, ◌∷◌, IfOk, OnOk, OnErr, decimal};
 ghost use Rattle.si_time.specs.Moments.{moment_text};
-ghost use Rattle.journal_text.specs.Outcomes.{field_text, day_fault_text, reply_text, outcome_text};
 ghost use Rattle.journal_model.specs.Steps.{IsInWindow};
+ghost use Rattle.script_lines.specs.Outcomes.{field_fields, day_fault_fields, reply_fields};
+ghost use Rattle.journal_text.specs.Entries.{outcome_text, with_commas};
 
 use journal_model::{DayFault, Field, Outcome, Reply};
+use script_lines::field_word;
 use si_base::put_number;
 use si_time::{Moment, write_moment};
 use std::alloc::{AllocError, Global};
 
+// Appends a comma and a moment.
 fn put_moment(out: &mut Vec<u8>, at: Moment) -> Result<(), AllocError>
     requires { at.0 < 65536 * 86400 }
-    ensures { OnOk result (out.new.items ≡ out.old.items ++ moment_text at.0) }
+    ensures { OnOk result (out.new.items ≡ out.old.items ++ 44 ∷ moment_text at.0) }
 {
+    out.extend_from_slice(b",")?;
     out.extend_from_slice(&write_moment(at))
 }
 
-fn put_field(alloc: Global, out: &mut Vec<u8>, field: Field) -> Result<(), AllocError>
-    ensures { OnOk result (out.new.items ≡ out.old.items ++ field_text field) }
+// Appends a word, a comma and a number.
+fn put_counted(alloc: Global, out: &mut Vec<u8>, word: &[u8], n: u64) -> Result<(), AllocError>
+    ensures { OnOk result (out.new.items ≡ out.old.items ++ (word.now ++ 44 ∷ decimal n)) }
 {
+    out.extend_from_slice(word)?;
+    out.extend_from_slice(b",")?;
+    put_number(alloc, out, n)
+}
+
+fn put_field(alloc: Global, out: &mut Vec<u8>, field: Field) -> Result<(), AllocError>
+    ensures { OnOk result (out.new.items ≡ out.old.items ++ with_commas (field_fields field)) }
+{
+    let word = field_word(field).as_bytes();
     match field {
-        Field::Start => out.extend_from_slice(b"start"),
-        Field::Duration => out.extend_from_slice(b"duration"),
-        Field::Window => out.extend_from_slice(b"window"),
-        Field::Language => out.extend_from_slice(b"language"),
-        Field::Name => out.extend_from_slice(b"name"),
-        Field::Short => out.extend_from_slice(b"short"),
-        Field::Extended => out.extend_from_slice(b"extended"),
-        Field::Country => out.extend_from_slice(b"country"),
-        Field::Rating => out.extend_from_slice(b"rating"),
-        Field::Genre => out.extend_from_slice(b"genre"),
-        Field::Provider => out.extend_from_slice(b"provider"),
-        Field::ServiceName => out.extend_from_slice(b"servicename"),
-        Field::Count(n) => {
-            out.extend_from_slice(b"count,")?;
-            put_number(alloc, out, n as u64)
-        }
-        Field::Segment(n) => {
-            out.extend_from_slice(b"segment,")?;
-            put_number(alloc, out, n as u64)
-        }
+        Field::Count(n) => put_counted(alloc, out, word, n as u64),
+        Field::Segment(n) => put_counted(alloc, out, word, n as u64),
+        _ => out.extend_from_slice(word),
     }
 }
 
 fn put_day_fault(alloc: Global, out: &mut Vec<u8>, fault: DayFault) -> Result<(), AllocError>
-    ensures { OnOk result (out.new.items ≡ out.old.items ++ day_fault_text fault) }
+    ensures { OnOk result (out.new.items ≡ out.old.items ++ with_commas (day_fault_fields fault)) }
 {
     match fault {
         DayFault::Range(field) => {
             out.extend_from_slice(b"range,")?;
             put_field(alloc, out, field)
         }
-        DayFault::Overlap(event) => {
-            out.extend_from_slice(b"overlap,")?;
-            put_number(alloc, out, event as u64)
-        }
+        DayFault::Overlap(event) => put_counted(alloc, out, b"overlap", event as u64),
     }
 }
 
 fn put_reply(alloc: Global, out: &mut Vec<u8>, reply: Reply) -> Result<(), AllocError>
-    ensures { OnOk result (out.new.items ≡ out.old.items ++ reply_text reply) }
+    ensures { OnOk result (out.new.items ≡ out.old.items ++ with_commas (reply_fields reply)) }
 {
     match reply {
         Reply::Done => out.extend_from_slice(b"done"),
-        Reply::Foreign(service) => {
-            out.extend_from_slice(b"foreign,")?;
-            put_number(alloc, out, service as u64)
-        }
-        Reply::Range(field) => {
-            out.extend_from_slice(b"range,")?;
-            put_field(alloc, out, field)
-        }
-        Reply::Overlap(event) => {
-            out.extend_from_slice(b"overlap,")?;
-            put_number(alloc, out, event as u64)
-        }
+        Reply::Foreign(service) => put_counted(alloc, out, b"foreign", service as u64),
+        Reply::Range(field) => put_day_fault(alloc, out, DayFault::Range(field)),
+        Reply::Overlap(event) => put_day_fault(alloc, out, DayFault::Overlap(event)),
         Reply::Member(place, fault) => {
-            out.extend_from_slice(b"member,")?;
-            put_number(alloc, out, place as u64)?;
+            put_counted(alloc, out, b"member", place as u64)?;
             out.extend_from_slice(b",")?;
             put_day_fault(alloc, out, fault)
         }
@@ -97,17 +81,12 @@ pub(crate) fn put_outcome(
         Outcome::Edited(reply) => put_reply(alloc, out, reply),
         Outcome::Ticked => out.extend_from_slice(b"ticked"),
         Outcome::Late(at) => {
-            out.extend_from_slice(b"late,")?;
+            out.extend_from_slice(b"late")?;
             put_moment(out, at)
         }
-        Outcome::Published(n) => {
-            out.extend_from_slice(b"published,")?;
-            put_number(alloc, out, n)
-        }
+        Outcome::Published(n) => put_counted(alloc, out, b"published", n),
         Outcome::Swapped(n, at) => {
-            out.extend_from_slice(b"swapped,")?;
-            put_number(alloc, out, n)?;
-            out.extend_from_slice(b",")?;
+            put_counted(alloc, out, b"swapped", n)?;
             put_moment(out, at)
         }
     }

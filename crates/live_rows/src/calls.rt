@@ -1,7 +1,7 @@
 // What the single calls of a hall answer.
 ghost use Rattle.std.specs.Prelude.{◌≡◌, ◌<◌, ℕ};
 ghost use Rattle.mux_model.specs.Sound.{IsSound};
-ghost use Rattle.journal_text.specs.Script.{IsItemWithin};
+ghost use Rattle.script_lines.specs.Script.{IsItemWithin};
 ghost use Rattle.journal_model.specs.Steps.{IsStepWithin};
 ghost use Rattle.desk_hall.specs.Turn.{KeepsNumbers};
 

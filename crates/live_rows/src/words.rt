@@ -1,6 +1,6 @@
 // Parts of answers in words.
-use feed_edits::EditStop;
 use journal_model::{Edit, Entry, Outcome, Reply, Step};
+use script_lines::EditStop;
 use si_causes::ReadStop;
 use std::alloc::AllocError;
 

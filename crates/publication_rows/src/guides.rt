@@ -5,12 +5,12 @@ ghost use Rattle.mux_model.specs.Sound.{IsSound};
 ghost use Rattle.publication_rows.specs.Books.{KeepsBook};
 
 use feed_book::Book;
-use feed_edits::{EditStop, next_edit};
 use journal_model::{Edit, Reply};
 use mux_config::read_mux;
 use mux_model::Mux;
 use publication::build;
 use row_lines::{Lines, Row, WHOLE, reader, written_out};
+use script_lines::{EditStop, next_edit};
 use section_codec::Tables;
 use si_time::{Moment, read_moment};
 use std::alloc::{AllocError, Global};

@@ -1,6 +1,6 @@
 use Rattle.std.proofs.Common.{◌≡◌, OnOk, sym, subst}
 use Rattle.journal_model.specs.declared.edit.Edit.{Edit}
-use Rattle.feed_edits.specs.Back.{edit_fields}
+use Rattle.script_lines.specs.EditFields.{edit_fields}
 use Rattle.journal_text.specs.Edits.{and_fields}
 use Rattle.journal_text.proofs.edit.add_edit.Goals as goal
 

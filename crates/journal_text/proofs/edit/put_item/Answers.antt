@@ -1,5 +1,5 @@
 use Rattle.std.proofs.Common.{◌≡◌, ℕ, List, ◌∷◌, ◌++◌, OnOk, codes, ap, ◌∙◌, subst}
-use Rattle.feed_edits.specs.Back.{item_fields}
+use Rattle.script_lines.specs.EditFields.{item_fields}
 use Rattle.journal_text.specs.Edits.{Line, and_field, and_fields, no_fields}
 use Rattle.journal_text.proofs.LineFacts.{ended_line}
 use Rattle.journal_text.proofs.edit.put_item.Goals as goal

@@ -2,7 +2,7 @@ use Rattle.std.proofs.Common.{◌∙◌, ap, arith, refl, subst}
 use Rattle.std.specs.Prelude.{Some}
 use Rattle.input_lines.specs.declared.stop.EditStop.TheVariants.{Memory}
 use Rattle.journal_model.specs.declared.step.Step.{Step}
-use Rattle.control_lines.specs.Controls.{first_control}
+use Rattle.script_lines.specs.Controls.{first_control}
 use Rattle.desk_hall.specs.Turn.{View, Made}
 use Rattle.desk_hall.specs.Reads.{control_step, controls_ahead}
 use Rattle.desk_hall.proofs.Ahead.{controls_on}

@@ -1,6 +1,6 @@
 use Rattle.std.proofs.Common.{◌≡◌, ◌≤◌}
 use Rattle.si_causes.specs.Reading.{room}
-use Rattle.control_lines.specs.Controls.{first_control}
+use Rattle.script_lines.specs.Controls.{first_control}
 use Rattle.desk_hall.specs.Reads.{control_step, controls_ahead}
 use Rattle.desk_hall.proofs.Ahead.{controls_on}
 use Rattle.desk_hall.proofs.Reading.{Going}

@@ -1,7 +1,7 @@
 use Rattle.std.proofs.Common.{◌∙◌, ap, arith, refl}
 use Rattle.std.specs.Prelude.{Some}
 use Rattle.input_lines.specs.declared.stop.EditStop.TheVariants.{Memory}
-use Rattle.feed_edits.specs.Edits.{first_edit, edits_ahead}
+use Rattle.script_lines.specs.Edits.{first_edit, edits_ahead}
 use Rattle.desk_hall.specs.Turn.{View}
 use Rattle.desk_hall.specs.Reads.{edit_step}
 use Rattle.desk_hall.proofs.Ahead.{edits_on}

@@ -1,6 +1,6 @@
 use Rattle.std.proofs.Common.{◌≡◌, ◌≤◌, ◌+◌}
 use Rattle.si_causes.specs.Reading.{room}
-use Rattle.feed_edits.specs.Edits.{first_edit, edits_ahead}
+use Rattle.script_lines.specs.Edits.{first_edit, edits_ahead}
 use Rattle.desk_hall.specs.Reads.{edit_step}
 use Rattle.desk_hall.proofs.Ahead.{edits_on}
 use Rattle.desk_hall.proofs.Reading.{Going}

@@ -1,0 +1,13 @@
+pub mod NumberBack
+pub mod Genres
+pub mod EventFields
+pub mod Shapes
+pub mod EditFacts
+pub mod LinesLeft
+pub mod EditBack
+pub mod OutcomeBack
+pub mod EditTypes
+pub mod ControlFacts
+pub mod ScriptFacts
+pub mod ItemsAhead
+pub mod ItemFacts

@@ -1,0 +1,56 @@
+-- What is read has its shape.
+use Rattle.std.proofs.Common.{◌≡◌, ◌≢◌, ℕ, true, List, [], ◌∷◌, subst, inl, inr}
+use Rattle.std.specs.Prelude.{Option, Some, None, IfSome, codes, option_map}
+use Rattle.std.proofs.lemmas.Bool.{cases_Bool}
+use Rattle.si_time.specs.Readings.{has_shape}
+use Rattle.guide_model.specs.declared.event.Genre.{Genre}
+use Rattle.input_lines.specs.Numbers.{number_in}
+use Rattle.journal_model.specs.declared.edit.Stamp.{Stamp}
+use Rattle.journal_model.specs.declared.edit.Length.{Length}
+use Rattle.journal_model.specs.declared.edit.RawRating.{RawRating}
+use Rattle.journal_model.specs.declared.edit.Item.{Item}
+use Rattle.script_lines.specs.Items.{item_of, item_with, stamp_of, length_of, rating_of, rating_with, genres_of}
+use Rattle.journal_model.specs.Edits.{IsShapedItem}
+
+abbrev IsStamp : Stamp → Type 0
+IsStamp stamp = has_shape (codes "dddd-dd-ddTdd:dd:ddZ") stamp.0 ≡ true
+
+abbrev IsLength : Length → Type 0
+IsLength length = has_shape (codes "dd:dd:dd") length.0 ≡ true
+
+abbrev HasCountry : Option RawRating → Type 0
+HasCountry rating = IfSome rating (λ r. r.country ≢ [])
+
+stamp_shaped : (field : List ℕ) → IfSome (stamp_of field) IsStamp
+stamp_shaped field = elim (cases_Bool (has_shape (codes "dddd-dd-ddTdd:dd:ddZ") field)) [
+  | inl e ↦ rw e e
+  | inr e ↦ rw e tt
+]
+
+length_shaped : (field : List ℕ) → IfSome (length_of field) IsLength
+length_shaped field = elim (cases_Bool (has_shape (codes "dd:dd:dd") field)) [
+  | inl e ↦ rw e e
+  | inr e ↦ rw e tt
+]
+
+with_country : (c : ℕ) (cs : List ℕ) (value : Option ℕ) → IfSome (option_map (λ n. Some (rating_with (c ∷ cs) n)) value) HasCountry
+with_country c cs None = tt
+with_country c cs (Some n) = λ e. cc
+
+rating_shaped : (country value : List ℕ) → IfSome (rating_of country value) HasCountry
+rating_shaped [] [] = tt
+rating_shaped [] (v ∷ vs) = tt
+rating_shaped (c ∷ cs) value = with_country c cs (number_in 0 255 value)
+
+with_shaped : (d e f g : List ℕ) (i : Option ℕ) (s : Option Stamp) (l : Option Length) (r : Option (Option RawRating)) (n : Option (List Genre)) (item : Item)
+    → IfSome s IsStamp → IfSome l IsLength → IfSome r HasCountry → item_with d e f g i s l r n ≡ Some item → IsShapedItem item
+with_shaped d e f g (Some i) (Some s) (Some l) (Some r) (Some n) item hs hl hr is =
+    let same : (record { id = i; start = s; length = l; language = d; name = e; short = f; extended = g; rating = r; genres = n }) ≡ item = cc in
+    subst IsShapedItem same (record { start = hs; length = hl; country = hr })
+with_shaped d e f g i s l r n item hs hl hr is = absurd cc
+
+pub item_shaped : (fields : List (List ℕ)) (item : Item) → item_of fields ≡ Some item → IsShapedItem item
+unfolding item_of
+item_shaped (a ∷ b ∷ c ∷ d ∷ e ∷ f ∷ g ∷ h ∷ i ∷ j ∷ []) item is =
+    with_shaped d e f g (number_in 0 65535 a) (stamp_of b) (length_of c) (rating_of h i) (genres_of j) item (stamp_shaped b) (length_shaped c) (rating_shaped h i) is
+item_shaped fields item is = absurd cc

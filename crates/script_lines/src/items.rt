@@ -1,0 +1,174 @@
+// Events in the fields of a line.
+ghost use Rattle.std.specs.Prelude.{◌≡◌, IfOk, IfSome, map};
+ghost use Rattle.script_lines.specs.Items.{day_of, genre_from, genre_of, genres_of, item_line, item_of, length_of, rating_of, stamp_of};
+ghost use Rattle.journal_model.specs.Edits.{IsShapedItem};
+
+use guide_model::{Genre, Genres};
+use input_lines::{is_word, number};
+use journal_model::{DayText, Item, Length, RawRating, Stamp};
+use si_text::Txt;
+use si_time::has_shape;
+use std::alloc::{AllocError, Global};
+
+// START
+fn read_stamp(field: &[u8]) -> Option<Stamp>
+    ensures { result ≡ stamp_of field.now }
+{
+    if !has_shape(b"dddd-dd-ddTdd:dd:ddZ", field) {
+        return None;
+    }
+    match field.as_array() {
+        Some(text) => Some(Stamp(*text)),
+        None => unreachable!(),
+    }
+}
+
+// DURATION
+fn read_length(field: &[u8]) -> Option<Length>
+    ensures { result ≡ length_of field.now }
+{
+    if !has_shape(b"dd:dd:dd", field) {
+        return None;
+    }
+    match field.as_array() {
+        Some(text) => Some(Length(*text)),
+        None => unreachable!(),
+    }
+}
+
+// DATE
+pub(crate) fn read_day(field: &[u8]) -> Option<DayText>
+    ensures { result ≡ day_of field.now }
+{
+    if !has_shape(b"dddd-dd-dd", field) {
+        return None;
+    }
+    match field.as_array() {
+        Some(text) => Some(DayText(*text)),
+        None => unreachable!(),
+    }
+}
+
+// The genre of the parts of `a.b.u`.
+fn genre_of_parts(parts: &[&str]) -> Option<Genre>
+    ensures { result ≡ genre_from (map (λ part. part.now) parts.now) }
+{
+    let [a, b, u] = parts else {
+        return None;
+    };
+    let level1 = number(a, 0, 255)?;
+    let level2 = number(b, 0, 255)?;
+    let user = number(u, 0, 255)?;
+    Some(Genre {
+        level1: level1 as u8,
+        level2: level2 as u8,
+        user: user as u8,
+    })
+}
+
+// A genre `a.b.u`.
+fn read_genre(alloc: Global, group: &str) -> Result<Option<Genre>, AllocError>
+    ensures { IfOk result (λ found. found ≡ genre_of group.now) }
+{
+    let parts: Vec<&str> = group.split('.').collect(alloc)?;
+    Ok(genre_of_parts(&parts))
+}
+
+// GENRES
+fn read_genres(alloc: Global, field: &str) -> Result<Option<Genres>, AllocError>
+    ensures { IfOk result (λ found. found ≡ genres_of field.now) }
+{
+    let mut genres = Genres::new(alloc);
+    if field.is_empty() {
+        return Ok(Some(genres));
+    }
+    let groups: Vec<&str> = field.split(' ').collect(alloc)?;
+    for group in &groups {
+        let Some(genre) = read_genre(alloc, group)? else {
+            return Ok(None);
+        };
+        genres.push(genre)?;
+    }
+    Ok(Some(genres))
+}
+
+// COUNTRY and RATING
+fn read_rating(country: &Txt, value: &Txt) -> Result<Option<Option<RawRating>>, AllocError>
+    ensures { IfOk result (λ found. found ≡ rating_of country.now value.now) }
+{
+    if country.as_str().is_empty() {
+        let none = value.as_str().is_empty();
+        return Ok(if none { Some(None) } else { None });
+    }
+    let Some(value) = number(value.as_str(), 0, 255) else {
+        return Ok(None);
+    };
+    Ok(Some(Some(RawRating {
+        country: country.copy()?,
+        value: value as u8,
+    })))
+}
+
+// The event of ten fields.
+#[tactic(auto, unfolding(crate::specs::Items::item_of))]
+pub(crate) fn read_item(alloc: Global, fields: &[Txt]) -> Result<Option<Item>, AllocError>
+    ensures value { IfOk result (λ found. found ≡ item_of fields.now) }
+    ensures shaped { IfOk result (λ found. IfSome found IsShapedItem) }
+{
+    let [
+        event,
+        start,
+        duration,
+        language,
+        name,
+        short,
+        extended,
+        country,
+        value,
+        groups,
+    ] = fields
+    else {
+        return Ok(None);
+    };
+    let Some(id) = number(event.as_str(), 0, 65535) else {
+        return Ok(None);
+    };
+    let Some(start) = read_stamp(start.as_str().as_bytes()) else {
+        return Ok(None);
+    };
+    let Some(length) = read_length(duration.as_str().as_bytes()) else {
+        return Ok(None);
+    };
+    let Some(rating) = read_rating(country, value)? else {
+        return Ok(None);
+    };
+    let Some(genres) = read_genres(alloc, groups.as_str())? else {
+        return Ok(None);
+    };
+    Ok(Some(Item {
+        id: id as u16,
+        start,
+        length,
+        language: language.copy()?,
+        name: name.copy()?,
+        short: short.copy()?,
+        extended: extended.copy()?,
+        rating,
+        genres,
+    }))
+}
+
+/// The event of a line `item,..`.
+#[tactic(auto, unfolding(crate::specs::Items::item_line))]
+pub(crate) fn read_item_line(alloc: Global, fields: &[Txt]) -> Result<Option<Item>, AllocError>
+    ensures value { IfOk result (λ found. found ≡ item_line fields.now) }
+    ensures shaped { IfOk result (λ found. IfSome found IsShapedItem) }
+{
+    let [word, fields @ ..] = fields else {
+        return Ok(None);
+    };
+    if !is_word(word.as_str(), "item") {
+        return Ok(None);
+    }
+    read_item(alloc, fields)
+}
