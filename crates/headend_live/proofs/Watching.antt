@@ -1,7 +1,6 @@
 -- What is heard of the air of a run.
 use Rattle.std.proofs.Common.{◌≡◌, ◌≢◌, ℕ, ◌+◌, ◌/◌, Bool, true, false, List, [], ◌∷◌, ◌++◌, length, take, drop, map, flat_map, refl, sym, ap, ◌∙◌, subst, arith, append-nil}
 use Rattle.std.specs.Prelude.{Option, Some, IfSome, Ok, Err, Result, OnOk, OnErr}
-use Rattle.std.specs.List.{AllByRecursion}
 use Rattle.std.proofs.lemmas.List.{take_all}
 use Rattle.std.proofs.Math.Seq.{take-append-add}
 use Rattle.std.specs.Io.KnownBytes.{Appends}
@@ -18,7 +17,7 @@ use Rattle.headend_jobs.specs.declared.send.SendStop.{SendStop}
 use Rattle.headend_jobs.specs.declared.send.SendStop.TheVariants.{Air, Memory}
 use Rattle.air_monitor.specs.declared.done_line.DoneLine.{DoneLine}
 use Rattle.air_monitor.specs.Heard.{AreInSync, HasTaken, HearsBy, WasHeard, Watching, WatchedOn}
-use Rattle.ts_packets.specs.WholePackets.{AreWhole, whole_packets}
+use Rattle.ts_packets.specs.WholePackets.{whole_packets}
 use Rattle.ts_packets.specs.Packets.{joined}
 use Rattle.air_monitor.specs.Watches.{watched_at_once}
 use Rattle.air_monitor.proofs.Packets.{heard_front, told_taken, was_heard}
