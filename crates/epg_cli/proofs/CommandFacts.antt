@@ -1,18 +1,17 @@
--- The command that the words of a run spell, and the statuses of each command.
-use Rattle.std.proofs.Common.{◌≡◌, ℕ, List, refl, sym, subst, append-nil, inl, inr, ◌⊎◌}
+-- The command that the words of a run spell, and the statuses that a command has not.
+use Rattle.std.proofs.Common.{◌≡◌, ℕ, List, refl, subst, inl, inr, ◌⊎◌}
 use Rattle.std.specs.Prelude.{Option, Some, None, Result, Err}
 use Rattle.si_causes.specs.Causes.{Rose}
 use Rattle.command_words.specs.declared.command.WordsStop.{WordsStop}
 use Rattle.command_words.specs.declared.command.WordsStop.TheVariants as words
 use Rattle.command_words.specs.Grammar.{CommandLine, Play, Listen, Live}
 use Rattle.epg_report.specs.declared.status.Status.{Status}
-use Rattle.epg_report.specs.declared.status.Status.TheVariants.{Done, Usage, BadScript, Disagrees, BadMux, BadFeed, BadStream, TooLong, OpenFault, ReadFault, WriteFault, Memory}
+use Rattle.epg_report.specs.declared.status.Status.TheVariants.{Usage, OpenFault, ReadFault, WriteFault, Memory}
 use Rattle.epg_report.specs.declared.status.Origin.TheVariants.{Input, Feed}
 use Rattle.epg_report.specs.declared.status.Outlet.TheVariants.{Air, Report}
-use Rattle.epg_live.specs.Ends.{HasAsked}
+use Rattle.epg_play.specs.Leaves.{IsOfPlay}
+use Rattle.epg_listen.specs.Leaves.{IsOfListen}
 use Rattle.epg_live.specs.Stops.{HasStatusCause, IsOfLive}
-use Rattle.epg_cli.specs.Listen.{IsOfListen}
-use Rattle.epg_cli.specs.Run.{IsOfPlay}
 
 -- ---- words spell one command
 
@@ -57,6 +56,12 @@ play_open s f is e = subst IsOfPlay e is
 pub listen_open : (s : Status) (f : ℕ) → IsOfListen s → s ≡ OpenFault f → ⊥
 listen_open s f is e = subst IsOfListen e is
 
+pub memory_usage : (s : Status) → s ≡ Memory → s ≡ Usage → ⊥
+memory_usage s e f = cc
+
+pub memory_read : {T : Type 0} → (let r : Result T WordsStop = Err words.Memory in r) ≡ Err words.Usage → ⊥
+memory_read e = cc
+
 -- ---- each fault has its cause
 
 pub play_cause : (i j f g a b : ℕ) (s : Status) → IsOfPlay s → (s ≡ ReadFault Input → Rose i j) → (s ≡ WriteFault Air → Rose a b) → HasStatusCause i j f g a b s
@@ -72,26 +77,3 @@ listen_cause i j f g a b (ReadFault (Feed k)) is read = absurd is
 listen_cause i j f g a b (WriteFault Air) is read = absurd is
 listen_cause i j f g a b (WriteFault Report) is read = tt
 listen_cause i j f g a b other is read = tt
-
--- what holds of want of memory
-pub of_memory : (P : Status → Type 0) (s : Status) → s ≡ Memory → P Memory → P s
-of_memory P s e p = subst P (sym e) p
-
-pub memory_usage : (s : Status) → s ≡ Memory → s ≡ Usage → ⊥
-memory_usage s e f = cc
-
-pub memory_done : (s : Status) → s ≡ Memory → s ≡ Done → ⊥
-memory_done s e f = cc
-
-pub memory_open : (s : Status) (k : ℕ) → s ≡ Memory → s ≡ OpenFault k → ⊥
-memory_open s k e f = cc
-
-pub memory_write : (s : Status) → s ≡ Memory → s ≡ WriteFault Report → ⊥
-memory_write s e f = cc
-
-pub none_asked : (paths : List (List ℕ)) (tried : Option (List (List ℕ))) → HasAsked paths tried tried Memory
-none_asked paths None = (0, refl, tt)
-none_asked paths (Some before) = (0, sym (append-nil before), tt)
-
-pub memory_read : {T : Type 0} → (let r : Result T WordsStop = Err words.Memory in r) ≡ Err words.Usage → ⊥
-memory_read e = cc

@@ -1,12 +1,1 @@
-pub mod Outcomes
-pub mod Script
-pub mod Played
-pub mod Run
-pub mod Listen
-pub mod Hearing
-pub mod Again
-pub mod Reports
-pub mod Rows
-pub mod Coherent
-pub mod Spaced
-pub mod Shown
+pub mod Prints

@@ -8,8 +8,8 @@ use Rattle.input_lines.specs.Ahead.{Ahead, Row, IfCame, on_line}
 use Rattle.input_lines.proofs.ValuesAhead.{line_came, values_came}
 use Rattle.journal_model.specs.declared.control.Control.{Control}
 use Rattle.journal_model.specs.Steps.{IsControlWithin}
-use Rattle.control_lines.specs.Controls.{control_of}
-use Rattle.control_lines.proofs.WindowFacts.{control_window}
+use Rattle.script_lines.specs.Controls.{control_of}
+use Rattle.script_lines.proofs.ControlFacts.{control_window}
 use Rattle.desk_hall.specs.Reads.{controls_ahead}
 
 line_within : (any : Unit {0}) (row : Row) (behind : Ahead) → IfCame IsControlWithin (on_line row.0 (option_and_then control_of (record_of row.1)) behind)

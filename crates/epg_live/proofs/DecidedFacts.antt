@@ -6,11 +6,12 @@ use Rattle.si_causes.specs.Causes.{Rose}
 use Rattle.si_causes.specs.Opening.{Files, file_at}
 use Rattle.si_causes.specs.declared.stop.ReadStop.TheVariants.{Failed, TooLong as Overlong}
 use Rattle.mux_model.specs.declared.mux.Mux.{Mux}
-use Rattle.mux_config.specs.Block.{Block}
+use Rattle.mux_config.specs.declared.fault.MuxFault.{MuxFault}
+use Rattle.mux_config.specs.Descriptions.{Description, fault_in}
 use Rattle.input_lines.specs.declared.stop.EditStop.{EditStop}
 use Rattle.input_lines.specs.declared.stop.EditStop.TheVariants as edit
-use Rattle.input_lines.specs.Ahead.{Row, Stop}
-use Rattle.feed_edits.specs.Edits.{edits_ahead}
+use Rattle.input_lines.specs.Ahead.{Ahead, Came, Found, NoCommand, Stop, Stopped}
+use Rattle.script_lines.specs.Edits.{edits_ahead}
 use Rattle.journal_model.specs.declared.step.Entry.{Entry}
 use Rattle.journal_model.specs.Steps.{command_of}
 use Rattle.desk_hall.specs.Reads.{HasReadCause, ToldDid, commands_by, control_step, controls_ahead, edit_step}
@@ -19,26 +20,25 @@ use Rattle.headend_jobs.specs.declared.live.LiveStop.{LiveStop}
 use Rattle.headend_jobs.specs.declared.live.LiveStop.TheVariants as live
 use Rattle.headend_jobs.specs.declared.send.SendStop.{SendStop}
 use Rattle.headend_jobs.specs.declared.send.SendStop.TheVariants as send
-use Rattle.headend_jobs.specs.Live.{after, and_stop, control_stop, feed_stop, or_feed, run_stop}
+use Rattle.headend_jobs.specs.Live.{after, and_stop, control_stop, or_feed, run_stop}
 use Rattle.epg_live.specs.declared.reporting.HeardAir.{HeardAir}
 use Rattle.epg_report.specs.declared.status.Status.{Status}
-use Rattle.epg_report.specs.declared.status.Status.TheVariants.{Done, Usage, BadScript, Disagrees, BadMux, BadFeed, BadStream, TooLong, OpenFault, ReadFault, WriteFault, Memory}
+use Rattle.epg_report.specs.declared.status.Status.TheVariants.{Done, BadMux, TooLong, OpenFault, ReadFault, WriteFault, Memory}
 use Rattle.epg_report.specs.declared.status.Origin.TheVariants.{Input, Feed}
 use Rattle.epg_report.specs.declared.status.Outlet.TheVariants.{Air}
 use Rattle.epg_report.specs.Told.{ReportTaken}
 use Rattle.epg_live.specs.Stops.{HasStatusCause, HaveReadCauses, feeds_stop, live_status}
-use Rattle.epg_live.specs.Runs.{EndsBefore, FeedsDid, JobsRan, Ran, ahead_of, behind, described}
-use Rattle.epg_live.specs.Decided.{AreWhole, HasEdits, block_status, feed_text_stop, job_stop, jobs_status, text_status}
-use Rattle.epg_live.specs.Ends.{HasMet, LeavesLive}
+use Rattle.epg_live.specs.Runs.{EndsBefore, FeedsDid, JobsRan, ahead_of, described}
+use Rattle.epg_live.specs.Decided.{AreWhole, HasEdits, feed_text_stop, job_stop, jobs_status, text_status, description_status}
+use Rattle.epg_live.specs.Ends.{HasMet, ReportEnds, run_text}
+use Rattle.epg_live.specs.Leaves.{LeavesLive}
 
 -- ---- want of memory is taken, whoever met it
 
 and_memory : (a : Option LiveStop) → and_stop a (Some live.Memory) ≡ Some live.Memory
 and_memory None = refl
 and_memory (Some live.Memory) = refl
-and_memory (Some live.Air) = refl
-and_memory (Some (live.Control s)) = refl
-and_memory (Some (live.Feed f s)) = refl
+and_memory (Some other) = refl
 
 memory_feeds : (n : ℕ) (stops : List (Option EditStop)) → feeds_stop (Some live.Memory) n stops ≡ Some live.Memory
 memory_feeds n [] = refl
@@ -46,19 +46,10 @@ memory_feeds n (stop ∷ stops) = memory_feeds (n + 1) stops
 
 -- ---- else the first
 
-air_first : (b : Option LiveStop) → (and_stop (Some live.Air) b ≡ Some live.Memory) ⊎ (and_stop (Some live.Air) b ≡ Some live.Air)
-air_first None = inr refl
-air_first (Some live.Memory) = inl refl
-air_first (Some live.Air) = inr refl
-air_first (Some (live.Control s)) = inr refl
-air_first (Some (live.Feed f s)) = inr refl
-
-control_first : (t : EditStop) (b : Option LiveStop) → (and_stop (Some (live.Control t)) b ≡ Some live.Memory) ⊎ (and_stop (Some (live.Control t)) b ≡ Some (live.Control t))
-control_first t None = inr refl
-control_first t (Some live.Memory) = inl refl
-control_first t (Some live.Air) = inr refl
-control_first t (Some (live.Control s)) = inr refl
-control_first t (Some (live.Feed f s)) = inr refl
+after_first : (first : LiveStop) (b : Option LiveStop) → (after first b ≡ Some live.Memory) ⊎ (after first b ≡ Some first)
+after_first first None = inr refl
+after_first first (Some live.Memory) = inl refl
+after_first first (Some other) = inr refl
 
 -- ---- one job
 
@@ -105,13 +96,13 @@ module _ (status : Status) (no_input : status ≡ ReadFault Input → ⊥) (no_a
   run_decided : (sent : Result (Unit {0}) SendStop) (control : Option EditStop) (ahead : Stop) (feeds fed : Option LiveStop) → status ≡ live_status (run_stop sent control feeds) → AsAhead control ahead
       → (feeds ≡ Some live.Memory) ⊎ (feeds ≡ fed) → (status ≡ Memory) ⊎ (status ≡ live_status (run_stop (Ok tt) (job_stop ahead) fed))
   run_decided (Err send.Memory) control ahead feeds fed is did found = inl is
-  run_decided (Err send.Air) control ahead feeds fed is did found = elim (air_first (and_stop (control_stop control) feeds)) [
+  run_decided (Err send.Air) control ahead feeds fed is did found = elim (after_first live.Air (and_stop (control_stop control) feeds)) [
     | inl memory ↦ inl (is ∙ ap live_status memory)
     | inr air ↦ absurd (no_air (is ∙ ap live_status air))
   ]
   run_decided (Ok u) control ahead feeds fed is (inl failed) found =
       let with_control : status ≡ live_status (and_stop (Some (live.Control (edit.Read Failed))) feeds) = is ∙ ap (λ (o : Option EditStop). live_status (and_stop (control_stop o) feeds)) failed in
-      elim (control_first (edit.Read Failed) feeds) [
+      elim (after_first (live.Control (edit.Read Failed)) feeds) [
         | inl memory ↦ inl (with_control ∙ ap live_status memory)
         | inr first ↦ absurd (no_input (with_control ∙ ap live_status first))
       ]
@@ -121,31 +112,30 @@ module _ (status : Status) (no_input : status ≡ ReadFault Input → ⊥) (no_a
   run_decided (Ok u) control ahead feeds fed is (inr (inr same)) (inr found) =
       inr (is ∙ ap (λ (o : Option LiveStop). live_status (and_stop (control_stop control) o)) found ∙ ap (λ (o : Option EditStop). live_status (and_stop (control_stop o) fed)) same)
 
-  jobs_decided : (mux : Mux) (cycles join : ℕ) (text : List ℕ) (left : Option (List ℕ)) (rows : List Row) (paths : List (List ℕ)) (files : Files) (feeds_before feeds_now : ℕ) (before now : Option (List ℕ)) (journal : List Entry) (heard : HeardAir)
-      → (Rose feeds_before feeds_now → ⊥) → JobsRan mux cycles join text left rows paths files feeds_before feeds_now before now journal heard status → (status ≡ Memory) ⊎ (status ≡ jobs_status (behind text rows) paths files)
-  jobs_decided mux cycles join text left rows paths files feeds_before feeds_now before now journal heard none ran =
-      run_decided ran.sent ran.control_stop (controls_ahead (behind text rows)).1 (feeds_stop None 1 ran.feed_stops) (feeds_stop None 1 (map (λ path. feed_text_stop (file_at path files)) paths)) ran.status_is
-      (as_ahead (λ values. CommandsAre journal 0 (commands_by 0 control_step values ++ map command_of ran.final)) (controls_ahead (behind text rows)) ran.control_stop ran.journal_is.control_did)
+  jobs_decided : (mux : Mux) (cycles join : ℕ) (text : List ℕ) (left : Option (List ℕ)) (behind : Ahead) (paths : List (List ℕ)) (files : Files) (feeds_before feeds_now : ℕ) (before now : Option (List ℕ)) (journal : List Entry) (heard : HeardAir)
+      → (Rose feeds_before feeds_now → ⊥) → JobsRan mux cycles join text left behind paths files feeds_before feeds_now before now journal heard status → (status ≡ Memory) ⊎ (status ≡ jobs_status behind paths files)
+  jobs_decided mux cycles join text left behind paths files feeds_before feeds_now before now journal heard none ran =
+      run_decided ran.sent ran.control_stop (controls_ahead behind).1 (feeds_stop None 1 ran.feed_stops) (feeds_stop None 1 (map (λ path. feed_text_stop (file_at path files)) paths)) ran.status_is
+      (as_ahead (λ values. CommandsAre journal 0 (commands_by 0 control_step values ++ map command_of ran.final)) (controls_ahead behind) ran.control_stop ran.journal_is.control_did)
       (feeds_decided files journal feeds_before feeds_now none None 1 paths ran.feed_stops ran.journal_is.feeds_did ran.causes)
 
 -- ---- the run
 
+fault_status : (paths : List (List ℕ)) (files : Files) (fault : MuxFault) (found : Found Description) → fault_in found ≡ Some fault → description_status found paths files ≡ BadMux fault
+fault_status paths files fault (Came (Ok mux) behind) e = cc e
+fault_status paths files fault (Came (Err here) behind) e = ap BadMux (cc e)
+fault_status paths files fault (Stopped (NoCommand n)) e = ap BadMux (cc e)
+fault_status paths files fault (Stopped other) e = cc e
+
 before_decided : (text : List ℕ) (left : Option (List ℕ)) (paths : List (List ℕ)) (files : Files) (status : Status) → EndsBefore text left status → ((f : ℕ) → status ≡ OpenFault f → ⊥) → (status ≡ ReadFault Input → ⊥)
     → status ≡ text_status text paths files
-before_decided text left paths files (BadMux fault) why no_open no_input = sym (ap (λ (b : Block). block_status b text paths files) why)
-before_decided text left paths files (TooLong Input) why no_open no_input = sym (ap (λ (b : Block). block_status b text paths files) why)
+before_decided text left paths files (BadMux fault) why no_open no_input = sym (fault_status paths files fault (described text) why)
+before_decided text left paths files (TooLong Input) why no_open no_input = sym (ap (λ (d : Found Description). description_status d paths files) why)
 before_decided text left paths files (ReadFault Input) why no_open no_input = absurd (no_input refl)
 before_decided text left paths files (OpenFault f) why no_open no_input = absurd (no_open f refl)
-before_decided text left paths files Done why no_open no_input = absurd why
-before_decided text left paths files Usage why no_open no_input = absurd why
-before_decided text left paths files (BadScript n) why no_open no_input = absurd why
-before_decided text left paths files (Disagrees n kept found) why no_open no_input = absurd why
-before_decided text left paths files (BadFeed f n) why no_open no_input = absurd why
-before_decided text left paths files (BadStream n) why no_open no_input = absurd why
 before_decided text left paths files (TooLong (Feed f)) why no_open no_input = absurd why
 before_decided text left paths files (ReadFault (Feed f)) why no_open no_input = absurd why
-before_decided text left paths files (WriteFault outlet) why no_open no_input = absurd why
-before_decided text left paths files Memory why no_open no_input = absurd why
+before_decided text left paths files other why no_open no_input = absurd why
 
 met_decided : (paths : List (List ℕ)) (cycles join : ℕ) (text : List ℕ) (files : Files) (left : Option (List ℕ)) (feeds_before feeds_now : ℕ) (before now : Option (List ℕ)) (journal : List Entry) (heard : HeardAir) (met : Status)
     → HasMet paths cycles join text files left feeds_before feeds_now before now journal heard met → ((f : ℕ) → met ≡ OpenFault f → ⊥) → (met ≡ ReadFault Input → ⊥) → (met ≡ WriteFault Air → ⊥) → (Rose feeds_before feeds_now → ⊥)
@@ -153,23 +143,26 @@ met_decided : (paths : List (List ℕ)) (cycles join : ℕ) (text : List ℕ) (f
 met_decided paths cycles join text files left feeds_before feeds_now before now journal heard met (inl memory) no_open no_input no_air no_feed = inl memory
 met_decided paths cycles join text files left feeds_before feeds_now before now journal heard met (inr (inl none)) no_open no_input no_air no_feed =
     inr (before_decided text left paths files met none.why no_open no_input)
-met_decided paths cycles join text files left feeds_before feeds_now before now journal heard met (inr (inr (mux, rows, whole, ran))) no_open no_input no_air no_feed =
-    elim (jobs_decided met no_input no_air mux cycles join text left rows paths files feeds_before feeds_now before now journal heard no_feed ran) [
+met_decided paths cycles join text files left feeds_before feeds_now before now journal heard met (inr (inr (mux, behind, whole, ran))) no_open no_input no_air no_feed =
+    elim (jobs_decided met no_input no_air mux cycles join text left behind paths files feeds_before feeds_now before now journal heard no_feed ran) [
       | inl memory ↦ inl memory
-      | inr ends ↦ inr (ends ∙ sym (ap (λ (b : Block). block_status b text paths files) whole))
+      | inr ends ↦ inr (ends ∙ sym (ap (λ (d : Found Description). description_status d paths files) whole))
     ]
 
 pub decided : (paths : List (List ℕ)) (cycles join : ℕ) (text : List ℕ) (files : Files) (left : Option (List ℕ)) (input_before input_now feeds_before feeds_now : ℕ) (air report : ReportTaken) (status : Status)
     → LeavesLive paths cycles join text files left feeds_before feeds_now air report status → HasStatusCause input_before input_now feeds_before feeds_now air.faults_old air.faults_new status → ((f : ℕ) → status ≡ OpenFault f → ⊥)
     → (Rose input_before input_now → ⊥) → (Rose feeds_before feeds_now → ⊥) → (Rose air.faults_old air.faults_new → ⊥) → (Rose report.faults_old report.faults_new → ⊥) → (status ≡ Memory) ⊎ (status ≡ text_status text paths files)
 decided paths cycles join text files left input_before input_now feeds_before feeds_now air report status (inl memory) cause no_open no_read no_feed no_air no_report = inl memory
-decided paths cycles join text files left input_before input_now feeds_before feeds_now air report status (inr (journal, heard, met, has, inr (rose, took, same))) cause no_open no_read no_feed no_air no_report = absurd (no_report rose)
-decided paths cycles join text files left input_before input_now feeds_before feeds_now air report status (inr (journal, heard, met, has, inl (took, same))) cause no_open no_read no_feed no_air no_report =
-    let caused : (s : Status) → met ≡ s → HasStatusCause input_before input_now feeds_before feeds_now air.faults_old air.faults_new s = (λ s e. subst (λ (t : Status). HasStatusCause input_before input_now feeds_before feeds_now air.faults_old air.faults_new t) (same ∙ e) cause) in
-    elim (met_decided paths cycles join text files left feeds_before feeds_now air.old air.new journal heard met has (λ f e. no_open f (same ∙ e)) (λ e. no_read (caused (ReadFault Input) e)) (λ e. no_air (caused (WriteFault Air) e)) no_feed) [
-      | inl memory ↦ inl (same ∙ memory)
-      | inr ends ↦ inr (same ∙ ends)
-    ]
+decided paths cycles join text files left input_before input_now feeds_before feeds_now air report status (inr run) cause no_open no_read no_feed no_air no_report = by run.reported
+  where
+    by : ReportEnds run.met (run_text run.journal run.heard) report status → (status ≡ Memory) ⊎ (status ≡ text_status text paths files)
+    by (inr (rose, took, same)) = absurd (no_report rose)
+    by (inl (took, same)) =
+        let caused : (s : Status) → run.met ≡ s → HasStatusCause input_before input_now feeds_before feeds_now air.faults_old air.faults_new s = (λ s e. subst (λ (t : Status). HasStatusCause input_before input_now feeds_before feeds_now air.faults_old air.faults_new t) (same ∙ e) cause) in
+        elim (met_decided paths cycles join text files left feeds_before feeds_now air.old air.new run.journal run.heard run.met run.ran (λ f e. no_open f (same ∙ e)) (λ e. no_read (caused (ReadFault Input) e)) (λ e. no_air (caused (WriteFault Air) e)) no_feed) [
+          | inl memory ↦ inl (same ∙ memory)
+          | inr ends ↦ inr (same ∙ ends)
+        ]
 
 -- ---- Done
 
@@ -179,11 +172,12 @@ none_fed files n (path ∷ paths) (here, whole) =
     ap (λ (o : Option EditStop). feeds_stop (or_feed None n o) (n + 1) (map (λ path. feed_text_stop (file_at path files)) paths)) (ap feed_text_stop here.file ∙ ap job_stop here.end)
     ∙ none_fed files (n + 1) paths whole
 
-pub whole : (text : List ℕ) (paths : List (List ℕ)) (files : Files) (status : Status) → AreWhole text paths files → (status ≡ Memory) ⊎ (status ≡ text_status text paths files) → (status ≡ Done) ⊎ (status ≡ Memory)
-whole text paths files status are (inl memory) = inr memory
-whole text paths files status are (inr ends) = inl (
-    ends
-    ∙ ap (λ (b : Block). block_status b text paths files) are.whole
+pub whole_done : (text : List ℕ) (paths : List (List ℕ)) (files : Files) → AreWhole text paths files → text_status text paths files ≡ Done
+whole_done text paths files are =
+    ap (λ (d : Found Description). description_status d paths files) are.whole
     ∙ ap (λ (s : Stop). live_status (run_stop (Ok tt) (job_stop s) (feeds_stop None 1 (map (λ path. feed_text_stop (file_at path files)) paths)))) are.control
     ∙ ap (λ (o : Option LiveStop). live_status (run_stop (Ok tt) None o)) (none_fed files 1 paths are.feeds)
-    )
+
+pub whole : (text : List ℕ) (paths : List (List ℕ)) (files : Files) (status : Status) → AreWhole text paths files → (status ≡ Memory) ⊎ (status ≡ text_status text paths files) → (status ≡ Done) ⊎ (status ≡ Memory)
+whole text paths files status are (inl memory) = inr memory
+whole text paths files status are (inr ends) = inl (ends ∙ whole_done text paths files are)

@@ -1,11 +1,10 @@
-mod StopFacts
+pub mod StopFacts
 mod OpenFacts
 mod RanFacts
 mod DescribedFacts
 mod MetFacts
-mod DecidedFacts
+pub mod DecidedFacts
 mod ControlFacts
 mod TypedFacts
-pub mod CoherentFacts
-mod SpacedFacts
-pub mod ShownFacts
+pub mod LeavesFacts
+pub mod LiveRunFacts

@@ -1,6 +1,6 @@
 -- What a run met, from what its parts tell.
-use Rattle.std.proofs.Common.{◌≡◌, ◌⊎◌, inl, inr, ℕ, ◌≤◌, arith, List, [], ◌∷◌, ◌++◌, length, take, refl, sym, ap, ◌∙◌, subst}
-use Rattle.std.specs.Prelude.{Option, Some, None, Ok, Err, Result, IfOk, OnErr}
+use Rattle.std.proofs.Common.{◌≡◌, ◌⊎◌, inl, inr, ℕ, ◌≤◌, List, [], length, take, refl, sym, ◌∙◌, subst}
+use Rattle.std.specs.Prelude.{Option, None, Ok, Err, Result, IfOk, OnErr}
 use Rattle.si_causes.specs.Causes.{Rose}
 use Rattle.si_causes.specs.Opening.{Files}
 use Rattle.si_causes.specs.Reading.{Reading}
@@ -9,13 +9,13 @@ use Rattle.si_causes.proofs.CauseFacts.{Rose-from}
 use Rattle.mux_model.specs.declared.mux.Mux.{Mux}
 use Rattle.mux_config.specs.declared.stop.MuxStop.{MuxStop}
 use Rattle.mux_config.specs.declared.stop.MuxStop.TheVariants as mux
-use Rattle.mux_config.specs.Block.{Whole}
-use Rattle.mux_config.specs.Reads.{MuxCame}
-use Rattle.input_lines.specs.Ahead.{Row}
+use Rattle.mux_config.specs.Reads.{ReadMux}
+use Rattle.mux_config.proofs.Reading.{read_stopped}
+use Rattle.input_lines.specs.Ahead.{Ahead, Came}
 use Rattle.journal_model.specs.declared.step.Entry.{Entry}
 use Rattle.epg_live.specs.declared.reporting.HeardAir.{HeardAir}
 use Rattle.epg_report.specs.declared.status.Status.{Status}
-use Rattle.epg_report.specs.declared.status.Status.TheVariants.{Done, Usage, BadScript, Disagrees, BadMux, BadFeed, BadStream, TooLong, OpenFault, ReadFault, WriteFault, Memory}
+use Rattle.epg_report.specs.declared.status.Status.TheVariants.{Done, Usage, Disagrees, BadMux, BadStream, TooLong, OpenFault, ReadFault, WriteFault, Memory}
 use Rattle.epg_report.specs.declared.status.Origin.TheVariants.{Input, Feed}
 use Rattle.epg_report.specs.declared.status.Outlet.TheVariants.{Air, Report}
 use Rattle.epg_live.specs.declared.feeds.OpenStop.{OpenStop}
@@ -23,18 +23,20 @@ use Rattle.epg_live.specs.declared.feeds.OpenStop.TheVariants as opening
 use Rattle.epg_live.specs.Opened.{HasOpenCause, HasTried, OpenedTo}
 use Rattle.epg_live.specs.Stops.{HasStatusCause, IsMet, IsOfLive, IsOfRun, mux_status, open_status}
 use Rattle.epg_live.specs.Runs.{NoJobs, Ran, described, nothing_heard}
-use Rattle.epg_live.specs.Ends.{AskedFor, HasAsked, HasMet, LeavesLive, ReportEnds, or_report, run_text}
+use Rattle.epg_live.specs.Ends.{AskedFor, HasAsked, HasMet, ReportEnds, or_report, run_text}
+use Rattle.epg_live.specs.Leaves.{LeavesLive}
 use Rattle.epg_report.specs.Told.{ReportTaken}
 use Rattle.epg_live.proofs.OpenFacts.{tried_none}
+use Rattle.epg_live.proofs.LeavesFacts.{leaves}
 
 -- ---- where the description was not read
 
-pub mux_caused : {S : Type 0} (left : S → Option (List ℕ)) (faults : S → ℕ) (old new : Reading S) (stop : MuxStop) (feeds air : ℕ) → MuxCame left faults old new (Err stop)
-    → HasStatusCause (faults old.source) (faults new.source) feeds feeds air air (mux_status stop)
-mux_caused left faults old new (mux.Fault fault) feeds air came = tt
-mux_caused left faults old new (mux.Read Failed) feeds air came = came.cause
-mux_caused left faults old new (mux.Read Overlong) feeds air came = tt
-mux_caused left faults old new mux.Memory feeds air came = tt
+pub mux_caused : {S : Type 0} (left : S → Option (List ℕ)) (faults : S → ℕ) (alike : S → S → Type 0) (old new : Reading S) (stop : MuxStop) (feeds air : ℕ)
+    → old.stop ≡ None → ReadMux left faults alike old new (Err stop) → HasStatusCause (faults old.source) (faults new.source) feeds feeds air air (mux_status stop)
+mux_caused left faults alike old new (mux.Fault fault) feeds air going read = tt
+mux_caused left faults alike old new (mux.Read Failed) feeds air going read = ((read_stopped left faults alike old new Failed read).takes going).cause
+mux_caused left faults alike old new (mux.Read Overlong) feeds air going read = tt
+mux_caused left faults alike old new mux.Memory feeds air going read = tt
 
 pub mux_asked : (paths : List (List ℕ)) (tried : Option (List (List ℕ))) (stop : MuxStop) → HasAsked paths tried tried (mux_status stop)
 mux_asked paths tried (mux.Fault fault) = (0, tried_none tried, refl)
@@ -43,29 +45,26 @@ mux_asked paths tried (mux.Read Overlong) = (0, tried_none tried, inl refl)
 mux_asked paths tried mux.Memory = (0, tried_none tried, tt)
 
 pub mux_of_live : (stop : MuxStop) → IsMet (mux_status stop)
-mux_of_live (mux.Fault fault) = tt
 mux_of_live (mux.Read Failed) = tt
 mux_of_live (mux.Read Overlong) = tt
-mux_of_live mux.Memory = tt
+mux_of_live other = tt
 
 pub mux_not_done : (stop : MuxStop) → mux_status stop ≡ Done → ⊥
-mux_not_done (mux.Fault fault) e = cc
 mux_not_done (mux.Read Failed) e = cc
 mux_not_done (mux.Read Overlong) e = cc
-mux_not_done mux.Memory e = cc
+mux_not_done other e = cc
 
 pub mux_not_open : (stop : MuxStop) (f : ℕ) → mux_status stop ≡ OpenFault f → ⊥
-mux_not_open (mux.Fault fault) f e = cc
 mux_not_open (mux.Read Failed) f e = cc
 mux_not_open (mux.Read Overlong) f e = cc
-mux_not_open mux.Memory f e = cc
+mux_not_open other f e = cc
 
 -- ---- where the files were not opened
 
-pub not_opened : (text : List ℕ) (left before now : Option (List ℕ)) (journal : List Entry) (heard : HeardAir) (stop : OpenStop) (mux : Mux) (rows : List Row) → described text ≡ Whole mux rows → journal ≡ [] → heard ≡ nothing_heard → now ≡ before
+pub not_opened : (text : List ℕ) (left before now : Option (List ℕ)) (journal : List Entry) (heard : HeardAir) (stop : OpenStop) (mux : Mux) (behind : Ahead) → described text ≡ Came (Ok mux) behind → journal ≡ [] → heard ≡ nothing_heard → now ≡ before
     → (open_status stop ≡ Memory) ⊎ NoJobs text left before now journal heard (open_status stop)
-not_opened text left before now journal heard (opening.Feed f) mux rows whole none quiet same = inr (record { why = (mux, rows, whole); journal_is = none; heard_is = quiet; sent = same })
-not_opened text left before now journal heard opening.Memory mux rows whole none quiet same = inl refl
+not_opened text left before now journal heard (opening.Feed f) mux behind whole none quiet same = inr (record { why = (mux, behind, whole); journal_is = none; heard_is = quiet; sent = same })
+not_opened text left before now journal heard opening.Memory mux behind whole none quiet same = inl refl
 
 pub open_caused : (stop : OpenStop) (input_before input_now feeds_before feeds_now air_before air_now : ℕ) → HasStatusCause input_before input_now feeds_before feeds_now air_before air_now (open_status stop)
 open_caused (opening.Feed f) input_before input_now feeds_before feeds_now air_before air_now = tt
@@ -90,30 +89,19 @@ open_not_done opening.Memory e = cc
 -- ---- where jobs ran
 
 pub of_run : (met : Status) → IsOfRun met → IsMet met
-of_run Done is = is
-of_run Usage is = is
-of_run (BadScript n) is = is
-of_run (Disagrees n kept found) is = is
 of_run (BadMux fault) is = absurd is
-of_run (BadFeed f n) is = is
-of_run (BadStream n) is = is
-of_run (TooLong origin) is = is
 of_run (OpenFault f) is = absurd is
-of_run (ReadFault origin) is = is
 of_run (WriteFault Air) is = is
 of_run (WriteFault Report) is = is
-of_run Memory is = is
+of_run other is = is
 
 pub run_not_open : (met : Status) (f : ℕ) → IsOfRun met → met ≡ OpenFault f → ⊥
 run_not_open met f is e = subst IsOfRun e is
 
 run_asked : (n k : ℕ) (met : Status) → IsOfRun met → k ≡ n → AskedFor n k met
-run_asked n k Done is e = e
 run_asked n k Usage is e = absurd is
-run_asked n k (BadScript m) is e = e
 run_asked n k (Disagrees m kept found) is e = absurd is
 run_asked n k (BadMux fault) is e = absurd is
-run_asked n k (BadFeed f m) is e = e
 run_asked n k (BadStream m) is e = absurd is
 run_asked n k (TooLong Input) is e = inr e
 run_asked n k (TooLong (Feed f)) is e = e
@@ -123,6 +111,7 @@ run_asked n k (ReadFault (Feed f)) is e = e
 run_asked n k (WriteFault Air) is e = e
 run_asked n k (WriteFault Report) is e = absurd is
 run_asked n k Memory is e = tt
+run_asked n k other is e = e
 
 pub all_asked : {T : Type 0} (r : Result T OpenStop) (paths : List (List ℕ)) (old mid new : Option (List (List ℕ))) (n : ℕ) (feeds : T) (met : Status) → r ≡ Ok feeds → length paths ≡ n → new ≡ mid → IsOfRun met
     → (k : ℕ) × HasTried old mid (take k paths) × OpenedTo k n r → HasAsked paths old new met
@@ -139,20 +128,11 @@ ran_met left (Ok s) paths cycles join text files feeds_old feeds_mid feeds_now b
     inr (inr (subst (λ (n : ℕ). Ran paths cycles join text files (left s) n feeds_now before now journal heard met) same ran))
 
 cause_from : (old mid now feeds_old feeds_mid feeds_now air_before air_now : ℕ) (met : Status) → old ≤ mid → feeds_mid ≡ feeds_old → HasStatusCause mid now feeds_mid feeds_now air_before air_now met → HasStatusCause old now feeds_old feeds_now air_before air_now met
-cause_from old mid now feeds_old feeds_mid feeds_now air_before air_now Done le same cause = tt
-cause_from old mid now feeds_old feeds_mid feeds_now air_before air_now Usage le same cause = tt
-cause_from old mid now feeds_old feeds_mid feeds_now air_before air_now (BadScript n) le same cause = tt
-cause_from old mid now feeds_old feeds_mid feeds_now air_before air_now (Disagrees n kept found) le same cause = tt
-cause_from old mid now feeds_old feeds_mid feeds_now air_before air_now (BadMux fault) le same cause = tt
-cause_from old mid now feeds_old feeds_mid feeds_now air_before air_now (BadFeed f n) le same cause = tt
-cause_from old mid now feeds_old feeds_mid feeds_now air_before air_now (BadStream n) le same cause = tt
-cause_from old mid now feeds_old feeds_mid feeds_now air_before air_now (TooLong origin) le same cause = tt
-cause_from old mid now feeds_old feeds_mid feeds_now air_before air_now (OpenFault f) le same cause = tt
 cause_from old mid now feeds_old feeds_mid feeds_now air_before air_now (ReadFault Input) le same cause = Rose-from old mid now le cause
 cause_from old mid now feeds_old feeds_mid feeds_now air_before air_now (ReadFault (Feed f)) le same cause = subst (λ n. Rose n feeds_now) same cause
 cause_from old mid now feeds_old feeds_mid feeds_now air_before air_now (WriteFault Air) le same cause = cause
 cause_from old mid now feeds_old feeds_mid feeds_now air_before air_now (WriteFault Report) le same cause = tt
-cause_from old mid now feeds_old feeds_mid feeds_now air_before air_now Memory le same cause = tt
+cause_from old mid now feeds_old feeds_mid feeds_now air_before air_now other le same cause = tt
 
 pub ran_caused : {S E : Type 0} (faults : S → ℕ) (r : Result S E) (old mid feeds_old feeds_mid feeds_now air_before air_now : ℕ) (met : Status) → old ≤ mid → feeds_mid ≡ feeds_old
     → IfOk r (λ s. HasStatusCause mid (faults s) feeds_mid feeds_now air_before air_now met) → IfOk r (λ s. HasStatusCause old (faults s) feeds_old feeds_now air_before air_now met)
@@ -182,17 +162,7 @@ Ends met text report status = (status ≡ Memory) ⊎ ReportEnds met text report
 
 report_asked : (n k : ℕ) (met : Status) → IsMet met → AskedFor n k met → AskedFor n k (or_report met)
 report_asked n k Done is asked = asked
-report_asked n k Usage is asked = asked
-report_asked n k (BadScript m) is asked = asked
-report_asked n k (Disagrees m kept found) is asked = asked
-report_asked n k (BadMux fault) is asked = asked
-report_asked n k (BadFeed f m) is asked = asked
-report_asked n k (BadStream m) is asked = asked
-report_asked n k (TooLong origin) is asked = asked
-report_asked n k (OpenFault f) is asked = asked
-report_asked n k (ReadFault origin) is asked = asked
-report_asked n k (WriteFault outlet) is asked = asked
-report_asked n k Memory is asked = asked
+report_asked n k other is asked = asked
 
 pub ends_asked : (paths : List (List ℕ)) (old new : Option (List (List ℕ))) (met : Status) (text : List ℕ) (report : ReportTaken) (status : Status) → IsMet met → HasAsked paths old new met → Ends met text report status → HasAsked paths old new status
 ends_asked paths old new met text report status is (k, tried, asked) (inl memory) = subst (HasAsked paths old new) (sym memory) (k, tried, tt)
@@ -207,44 +177,26 @@ ends_rose met text report status is (inr (inr (rose, took, same))) e = rose
 report_of_live : (met : Status) → IsMet met → IsOfLive (or_report met)
 report_of_live Done is = tt
 report_of_live Usage is = is
-report_of_live (BadScript m) is = tt
 report_of_live (Disagrees m kept found) is = is
-report_of_live (BadMux fault) is = tt
-report_of_live (BadFeed f m) is = tt
 report_of_live (BadStream m) is = is
-report_of_live (TooLong origin) is = tt
-report_of_live (OpenFault f) is = tt
-report_of_live (ReadFault origin) is = tt
-report_of_live (WriteFault outlet) is = tt
-report_of_live Memory is = tt
+report_of_live other is = tt
 
 met_of_live : (met : Status) → IsMet met → IsOfLive met
-met_of_live Done is = tt
 met_of_live Usage is = is
-met_of_live (BadScript m) is = tt
 met_of_live (Disagrees m kept found) is = is
-met_of_live (BadMux fault) is = tt
-met_of_live (BadFeed f m) is = tt
 met_of_live (BadStream m) is = is
-met_of_live (TooLong origin) is = tt
-met_of_live (OpenFault f) is = tt
-met_of_live (ReadFault origin) is = tt
-met_of_live (WriteFault outlet) is = tt
-met_of_live Memory is = tt
+met_of_live other is = tt
 
 pub ends_of_live : (met : Status) (text : List ℕ) (report : ReportTaken) (status : Status) → IsMet met → Ends met text report status → IsOfLive status
 ends_of_live met text report status is (inl memory) = subst IsOfLive (sym memory) tt
 ends_of_live met text report status is (inr (inl (took, same))) = subst IsOfLive (sym same) (met_of_live met is)
 ends_of_live met text report status is (inr (inr (rose, took, same))) = subst IsOfLive (sym same) (report_of_live met is)
 
-leaves : (paths : List (List ℕ)) (cycles join : ℕ) (text : List ℕ) (files : Files) (left : Option (List ℕ)) (feeds_old feeds_now : ℕ) (air report : ReportTaken) (journal : List Entry) (heard : HeardAir) (met status : Status)
-    → HasMet paths cycles join text files left feeds_old feeds_now air.old air.new journal heard met → Ends met (run_text journal heard) report status → LeavesLive paths cycles join text files left feeds_old feeds_now air report status
-leaves paths cycles join text files left feeds_old feeds_now air report journal heard met status has (inl memory) = inl memory
-leaves paths cycles join text files left feeds_old feeds_now air report journal heard met status has (inr ends) = inr (journal, heard, met, has, ends)
-
--- the same of an input that is the source which the reader gave back
+-- what an input leaves that is the source which the reader gave back
 pub leaves_live : {S : Type 0} (left_of : S → Option (List ℕ)) (source input : S) (paths : List (List ℕ)) (cycles join : ℕ) (text : List ℕ) (files : Files) (feeds_old feeds_now : ℕ) (air report : ReportTaken) (journal : List Entry) (heard : HeardAir)
     (met status : Status) → input ≡ source → HasMet paths cycles join text files (left_of source) feeds_old feeds_now air.old air.new journal heard met → Ends met (run_text journal heard) report status
     → LeavesLive paths cycles join text files (left_of input) feeds_old feeds_now air report status
-leaves_live {S = S} left_of source input paths cycles join text files feeds_old feeds_now air report journal heard met status e has ends =
-    subst (λ (s : S). LeavesLive paths cycles join text files (left_of s) feeds_old feeds_now air report status) (sym e) (leaves paths cycles join text files (left_of source) feeds_old feeds_now air report journal heard met status has ends)
+leaves_live {S = S} left_of source input paths cycles join text files feeds_old feeds_now air report journal heard met status e has (inl memory) = inl memory
+leaves_live {S = S} left_of source input paths cycles join text files feeds_old feeds_now air report journal heard met status e has (inr ends) =
+    subst (λ (s : S). LeavesLive paths cycles join text files (left_of s) feeds_old feeds_now air report status) (sym e)
+    (leaves paths cycles join text files (left_of source) feeds_old feeds_now air report journal heard met status has ends)

@@ -1,38 +1,36 @@
 -- From what a run did to what it leaves of the texts of its files.
-use Rattle.std.proofs.Common.{◌≡◌, ◌⊎◌, inl, inr, ℕ, ◌+◌, ◌-◌, ◌^◌, ◌≤◌, ◌<◌, arith, List, [], ◌∷◌, ◌++◌, length, map, refl, sym, ap, ◌∙◌, subst}
+use Rattle.std.proofs.Common.{◌≡◌, ◌⊎◌, inl, inr, ℕ, ◌+◌, ◌<◌, arith, List, [], ◌∷◌, ◌++◌, map, refl, sym, ap, ◌∙◌, subst}
 use Rattle.std.specs.Prelude.{Option, Some, None, Ok, Err, Result}
 use Rattle.si_causes.specs.Causes.{Rose}
 use Rattle.si_causes.specs.Opening.{Files, GivesFile, file_at}
-use Rattle.si_causes.specs.Reading.{Reading, fresh, text_left}
+use Rattle.si_causes.specs.Reading.{Reading, text_left}
 use Rattle.si_causes.specs.declared.stop.ReadStop.TheVariants.{Failed, TooLong as Overlong}
 use Rattle.si_causes.proofs.TextFacts.{fresh_text}
 use Rattle.mux_model.specs.declared.mux.Mux.{Mux}
 use Rattle.input_lines.specs.declared.stop.EditStop.{EditStop}
 use Rattle.input_lines.specs.declared.stop.EditStop.TheVariants as edit
-use Rattle.input_lines.specs.Ahead.{Ahead, ahead}
-use Rattle.feed_edits.specs.Edits.{edits_ahead}
+use Rattle.input_lines.specs.Ahead.{ahead}
+use Rattle.script_lines.specs.Edits.{edits_ahead}
 use Rattle.journal_model.specs.declared.step.Entry.{Entry}
 use Rattle.journal_model.specs.Steps.{command_of}
-use Rattle.desk_hall.specs.Reads.{HasReadCause, commands_by, control_step, controls_ahead, edit_step, ToldDid}
+use Rattle.desk_hall.specs.Reads.{HasReadCause, commands_by, edit_step, ToldDid}
 use Rattle.turn_lock.specs.Knowledge.{TableId}
 use Rattle.headend_jobs.specs.declared.jobs.FeedJob.{FeedJob}
 use Rattle.headend_jobs.specs.declared.live.LiveStop.{LiveStop}
 use Rattle.headend_jobs.specs.declared.send.SendStop.{SendStop}
-use Rattle.headend_jobs.specs.declared.live.LiveStop.TheVariants as live
 use Rattle.headend_live.specs.declared.watched.LivePlan.{LivePlan}
 use Rattle.headend_live.specs.declared.watched.LiveEnd.{LiveEnd}
 use Rattle.headend_jobs.specs.Back.{lines_back}
 use Rattle.headend_jobs.specs.Callers.{CallerRead, CommandsAre, FeedsRead}
-use Rattle.headend_jobs.specs.Jobs.{FeedDid}
-use Rattle.headend_jobs.specs.Live.{FeedsRan, LastMade, first_stop, halts, new_feed, or_feed, run_stop}
+use Rattle.headend_jobs.specs.Live.{FeedsRan, LastMade, first_stop, halts, or_feed, run_stop}
 use Rattle.headend_live.specs.Watched.{LiveRan, watched_stop}
 use Rattle.std.specs.Io.KnownBytes.{IsAtEnd}
 use Rattle.epg_report.specs.declared.status.Status.{Status}
 use Rattle.epg_report.specs.declared.status.Status.TheVariants.{Done, Memory}
 use Rattle.epg_live.specs.Opened.{AreOpened, IfFailed, IsOpened}
 use Rattle.epg_live.specs.Stops.{HasStatusCause, HaveReadCauses, feeds_stop, live_status}
-use Rattle.epg_live.specs.Runs.{CallerDid, ControlTook, FeedsDid, HasRead, Ran, ahead_of, behind}
-use Rattle.epg_live.proofs.DescribedFacts.{control_took, is_described}
+use Rattle.epg_live.specs.Runs.{CallerDid, ControlTook, FeedsDid, HasRead, Ran, ahead_of}
+use Rattle.epg_live.proofs.DescribedFacts.{control_took}
 use Rattle.epg_live.proofs.OpenFacts.{opened_length}
 use Rattle.epg_live.proofs.StopFacts.{done_control, done_told, memory_or, run_caused, unless_wanting}
 
@@ -134,7 +132,6 @@ module _ {F S : Type 0} (left : F → Option (List ℕ)) (faults : F → ℕ) (i
       let jobs = ran.did.feeds in
       let stop = ran.did.control.stop in
       let then = map command_of ran.did.final in
-      let d = is_described leftS faultsS (fresh read.source) control read.source text mux refl read.read in
       let first : first_stop jobs ≡ feeds_stop None 1 (stops_back jobs) = first_is jobs ∙ feeds_first left faults is_same files end.desk.entries None 1 feeds jobs ran.commands.feeds_read in
       let low : ran.did.control.pass.own.low ≡ 0 = ap (λ z. z.own.low) ran.did.control_did.did.1.gained in
       let source_is : source ≡ ran.did.control.lines.source = back ∙ ap (λ (r : Reading S). r.source) ran.control_is in
@@ -144,8 +141,8 @@ module _ {F S : Type 0} (left : F → Option (List ℕ)) (faults : F → ℕ) (i
         | inl memory ↦ inl (is ∙ ap live_status memory)
         | inr other ↦ inr (
           mux,
-          d.2.0,
-          d.2.1,
+          ahead control read.read.rest,
+          read.read.reads,
           record {
             player = ran.did.player.end;
             sent = ran.sent;
@@ -154,9 +151,9 @@ module _ {F S : Type 0} (left : F → Option (List ℕ)) (faults : F → ℕ) (i
             final = ran.did.final;
             journal_is = record {
               legal = ran.did.journal_did.legal;
-              control_did = subst (λ (a : Ahead). CallerDid end.desk.entries 0 control_step (controls_ahead a) then stop) (sym d.2.2) (ran.commands.control_read.told going d.0 d.1);
+              control_did = ran.commands.control_read.told going read.read.rest read.read.told;
               control_took = subst (λ (s : S). ControlTook text (leftS s) mux end.desk.entries stop) (sym source_is)
-                  (control_took leftS faultsS text mux control ran.did.control.lines end.desk.entries then stop read (ran.commands.control_read.taken going) none);
+                  (control_took leftS faultsS is_sameS text mux control ran.did.control.lines end.desk.entries then stop read (ran.commands.control_read.taken going) none);
               player_did = ran.commands.player_swapped;
               feeds_did = feeds_did left faults is_same files end.desk.entries 1 paths feeds jobs opened ran.commands.feeds_read;
               others = λ k le. ran.commands.others k (omega (arith, le, opened_length left faults (Some files) paths feeds opened));

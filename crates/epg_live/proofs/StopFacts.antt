@@ -1,7 +1,6 @@
 -- One of two stops, and the statuses of stops.
 use Rattle.std.proofs.Common.{◌≡◌, ◌⊎◌, inl, inr, ℕ, ◌+◌, List, [], ◌∷◌, refl, sym, ap, ◌∙◌}
-use Rattle.std.specs.Prelude.{◌↔◌, Bool, true, false, Option, Some, None, IsSome, Ok, Err, Result}
-use Rattle.si_causes.specs.Causes.{Rose}
+use Rattle.std.specs.Prelude.{◌↔◌, Bool, true, false, Option, Some, None, IsSome, Err, Result}
 use Rattle.si_causes.specs.declared.stop.ReadStop.TheVariants.{Failed, TooLong as Overlong}
 use Rattle.input_lines.specs.declared.stop.EditStop.{EditStop}
 use Rattle.input_lines.specs.declared.stop.EditStop.TheVariants as edit
@@ -16,48 +15,34 @@ use Rattle.headend_live.specs.Watched.{watched_stop}
 use Rattle.guide_screen.specs.declared.need.Heard.{Heard}
 use Rattle.epg_report.specs.declared.status.Status.{Status}
 use Rattle.epg_report.specs.declared.status.Status.TheVariants.{Done}
-use Rattle.epg_report.specs.declared.status.Origin.TheVariants.{Input, Feed}
-use Rattle.epg_live.specs.Stops.{HaveReadCauses, HasStatusCause, feeds_stop, live_status, read_status}
+use Rattle.epg_report.specs.declared.status.Origin.TheVariants.{Feed}
+use Rattle.epg_live.specs.Stops.{HaveReadCauses, HasStatusCause, feeds_stop, live_status}
 
 -- what holds of either holds of the one that is taken
+after_keeps : (P : Option LiveStop → Type 0) (first : LiveStop) (b : Option LiveStop) → P (Some live.Memory) → P (Some first) → P (after first b)
+after_keeps P first None m p = p
+after_keeps P first (Some live.Memory) m p = m
+after_keeps P first (Some other) m p = p
+
 and_keeps : (P : Option LiveStop → Type 0) (a b : Option LiveStop) → P (Some live.Memory) → P a → P b → P (and_stop a b)
 and_keeps P None b m p q = q
 and_keeps P (Some live.Memory) b m p q = m
-and_keeps P (Some live.Air) None m p q = p
-and_keeps P (Some live.Air) (Some live.Memory) m p q = m
-and_keeps P (Some live.Air) (Some live.Air) m p q = p
-and_keeps P (Some live.Air) (Some (live.Control s)) m p q = p
-and_keeps P (Some live.Air) (Some (live.Feed f s)) m p q = p
-and_keeps P (Some (live.Control t)) None m p q = p
-and_keeps P (Some (live.Control t)) (Some live.Memory) m p q = m
-and_keeps P (Some (live.Control t)) (Some live.Air) m p q = p
-and_keeps P (Some (live.Control t)) (Some (live.Control s)) m p q = p
-and_keeps P (Some (live.Control t)) (Some (live.Feed f s)) m p q = p
-and_keeps P (Some (live.Feed g t)) None m p q = p
-and_keeps P (Some (live.Feed g t)) (Some live.Memory) m p q = m
-and_keeps P (Some (live.Feed g t)) (Some live.Air) m p q = p
-and_keeps P (Some (live.Feed g t)) (Some (live.Control s)) m p q = p
-and_keeps P (Some (live.Feed g t)) (Some (live.Feed f s)) m p q = p
+and_keeps P (Some live.Air) b m p q = after_keeps P live.Air b m p
+and_keeps P (Some (live.Control t)) b m p q = after_keeps P (live.Control t) b m p
+and_keeps P (Some (live.Feed g t)) b m p q = after_keeps P (live.Feed g t) b m p
 
 -- where neither is taken there is neither
+after_some : (first : LiveStop) (b : Option LiveStop) → after first b ≡ None → ⊥
+after_some first None e = cc
+after_some first (Some live.Memory) e = cc
+after_some first (Some other) e = cc
+
 pub and_none : (a b : Option LiveStop) → and_stop a b ≡ None → (a ≡ None) × (b ≡ None)
 and_none None b e = (refl, e)
 and_none (Some live.Memory) b e = cc
-and_none (Some live.Air) None e = cc
-and_none (Some live.Air) (Some live.Memory) e = cc
-and_none (Some live.Air) (Some live.Air) e = cc
-and_none (Some live.Air) (Some (live.Control s)) e = cc
-and_none (Some live.Air) (Some (live.Feed f s)) e = cc
-and_none (Some (live.Control t)) None e = cc
-and_none (Some (live.Control t)) (Some live.Memory) e = cc
-and_none (Some (live.Control t)) (Some live.Air) e = cc
-and_none (Some (live.Control t)) (Some (live.Control s)) e = cc
-and_none (Some (live.Control t)) (Some (live.Feed f s)) e = cc
-and_none (Some (live.Feed g t)) None e = cc
-and_none (Some (live.Feed g t)) (Some live.Memory) e = cc
-and_none (Some (live.Feed g t)) (Some live.Air) e = cc
-and_none (Some (live.Feed g t)) (Some (live.Control s)) e = cc
-and_none (Some (live.Feed g t)) (Some (live.Feed f s)) e = cc
+and_none (Some live.Air) b e = absurd (after_some live.Air b e)
+and_none (Some (live.Control t)) b e = absurd (after_some (live.Control t) b e)
+and_none (Some (live.Feed g t)) b e = absurd (after_some (live.Feed g t) b e)
 
 pub no_control : (stop : Option EditStop) → control_stop stop ≡ None → stop ≡ None
 no_control None e = refl
@@ -96,9 +81,7 @@ done_control wanting end sent control feeds is done =
 pub memory_or : (stop : Option LiveStop) → (stop ≡ Some live.Memory) ⊎ (stop ≡ Some live.Memory → ⊥)
 memory_or None = inr (λ e. cc)
 memory_or (Some live.Memory) = inl refl
-memory_or (Some live.Air) = inr (λ e. cc)
-memory_or (Some (live.Control s)) = inr (λ e. cc)
-memory_or (Some (live.Feed f s)) = inr (λ e. cc)
+memory_or (Some other) = inr (λ e. cc)
 
 pub unless_wanting : (wanting : Bool) (end stop : Option LiveStop) → end ≡ watched_stop wanting stop → (end ≡ Some live.Memory → ⊥) → end ≡ stop
 unless_wanting true end stop is other = absurd (other is)
@@ -111,23 +94,18 @@ module _ (input_before input_now feeds_before feeds_now air_before air_now : ℕ
   Caused stop = HasStatusCause input_before input_now feeds_before feeds_now air_before air_now (live_status stop)
 
   sent_caused : (sent : Result (Unit {0}) SendStop) → HasAirCause air_before air_now sent → Caused (sent_stop sent)
-  sent_caused (Ok u) cause = tt
   sent_caused (Err send.Air) cause = cause
-  sent_caused (Err send.Memory) cause = tt
+  sent_caused other cause = tt
 
   control_caused : (stop : Option EditStop) → HasReadCause input_before input_now stop → Caused (control_stop stop)
-  control_caused None cause = tt
-  control_caused (Some (edit.NoCommand n)) cause = tt
   control_caused (Some (edit.Read Failed)) cause = cause
   control_caused (Some (edit.Read Overlong)) cause = tt
-  control_caused (Some edit.Memory) cause = tt
+  control_caused other cause = tt
 
   feed_caused : (f : ℕ) (stop : Option EditStop) → HasReadCause feeds_before feeds_now stop → Caused (feed_stop f stop)
-  feed_caused f None cause = tt
-  feed_caused f (Some (edit.NoCommand n)) cause = tt
   feed_caused f (Some (edit.Read Failed)) cause = cause
   feed_caused f (Some (edit.Read Overlong)) cause = tt
-  feed_caused f (Some edit.Memory) cause = tt
+  feed_caused f other cause = tt
 
   feeds_caused : (first : Option LiveStop) (f : ℕ) (stops : List (Option EditStop)) → Caused first → HaveReadCauses feeds_before feeds_now stops → Caused (feeds_stop first f stops)
   feeds_caused first f [] here causes = here

@@ -11,17 +11,15 @@ use Rattle.mux_model.specs.declared.mux.Mux.{Mux}
 use Rattle.journal_model.specs.declared.edit.Edit.{Edit}
 use Rattle.input_lines.specs.declared.stop.EditStop.{EditStop}
 use Rattle.input_lines.specs.declared.stop.EditStop.TheVariants.{NoCommand as Refused, Read, Memory}
-use Rattle.input_lines.specs.Ahead.{Row, Stop}
-use Rattle.feed_edits.specs.Edits.{edits_ahead}
+use Rattle.input_lines.specs.Ahead.{Ahead, Stop}
+use Rattle.script_lines.specs.Edits.{edits_ahead}
 use Rattle.journal_model.specs.Edits.{IsTypedEdit}
-use Rattle.feed_edits.proofs.Typed.{ahead_typed}
+use Rattle.script_lines.proofs.EditTypes.{ahead_typed}
 use Rattle.journal_model.specs.declared.control.Control.{Control}
 use Rattle.journal_model.specs.declared.control.Control.TheVariants.{Tick as tick, Publish as publish}
 use Rattle.journal_model.specs.declared.step.Step.{Step}
 use Rattle.journal_model.specs.declared.step.Entry.{Entry}
 use Rattle.journal_model.specs.Steps.{Command, IsControlWithin, IsStepInWindow, command_of}
-use Rattle.turn_lock.specs.Journal.{entries_of}
-use Rattle.desk_hall.specs.Turn.{caller_of}
 use Rattle.desk_hall.specs.Reads.{commands_by, control_step, controls_ahead, edit_step}
 use Rattle.headend_jobs.specs.declared.send.SendStop.{SendStop}
 use Rattle.headend_jobs.specs.declared.send.SendStop.TheVariants as send
@@ -31,7 +29,7 @@ use Rattle.headend_jobs.specs.Live.{LastMade}
 use Rattle.headend_jobs.specs.Playing.{swaps_by}
 use Rattle.headend_jobs.specs.Whole.{final_commands}
 use Rattle.headend_jobs.proofs.TypedJournals.{IsReadStep, AreReadCommands, CallerIsRead, caller_typed, journal_typed, journal_window}
-use Rattle.epg_live.specs.Runs.{CallerDid, FeedsDid, IsJournal, ahead_of, behind}
+use Rattle.epg_live.specs.Runs.{CallerDid, FeedsDid, IsJournal, ahead_of}
 use Rattle.epg_live.proofs.ControlFacts.{controls_within}
 
 first_of : {X : Type 0} (P : X → Type 0) (k : ℕ) (xs : List X) → AllByRecursion P xs → AllByRecursion P (take k xs)
@@ -98,10 +96,10 @@ feed_typed files journal f (path ∷ paths) (stop ∷ stops) did k lt le =
 
 -- ---- the journal
 
-pub run_typed : (mux : Mux) (cycles : ℕ) (text : List ℕ) (left : Option (List ℕ)) (rows : List Row) (paths : List (List ℕ)) (files : Files) (journal : List Entry)
+pub run_typed : (mux : Mux) (cycles : ℕ) (text : List ℕ) (left : Option (List ℕ)) (behind : Ahead) (paths : List (List ℕ)) (files : Files) (journal : List Entry)
     (player : Result (Unit {0}) SendStop) (control_stop : Option EditStop) (feed_stops : List (Option EditStop)) (final : List Entry) (stopped : Bool) (sent : Result (Unit {0}) SendStop)
-    → IsJournal mux cycles text left rows paths files journal player control_stop feed_stops final → LastMade stopped 0 final sent → HasTypedEdits journal × AllByRecursion (λ (e : Entry). IsStepInWindow e.step) journal
-run_typed mux cycles text left rows paths files journal player control_stop feed_stops final stopped sent is last = (journal_typed journal each, journal_window journal each)
+    → IsJournal mux cycles text left behind paths files journal player control_stop feed_stops final → LastMade stopped 0 final sent → HasTypedEdits journal × AllByRecursion (λ (e : Entry). IsStepInWindow e.step) journal
+run_typed mux cycles text left behind paths files journal player control_stop feed_stops final stopped sent is last = (journal_typed journal each, journal_window journal each)
   where
     others : (k : ℕ) → 1 < k → (1 + length paths < k) ⊎ (k ≤ 1 + length paths) → CallerIsRead journal k
     others k lt (inl far) =
@@ -111,6 +109,6 @@ run_typed mux cycles text left rows paths files journal player control_stop feed
     each : (k : ℕ) → CallerIsRead journal k
     each zero =
         reader_typed IsControlWithin journal 0 control_step (map command_of final) controls_typed
-        (final_typed stopped final sent last) (controls_ahead (behind text rows)) control_stop (controls_within (behind text rows)) is.control_did
+        (final_typed stopped final sent last) (controls_ahead behind) control_stop (controls_within behind) is.control_did
     each (suc zero) = player_typed journal cycles player is.player_did
     each (suc (suc k)) = others (suc (suc k)) (omega arith) (lt_or (1 + length paths) (suc (suc k)))

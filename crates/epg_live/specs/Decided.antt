@@ -1,20 +1,22 @@
 -- What the texts of a run decide, where nothing fails: its status, and whether it is Done.
-use Rattle.std.specs.Prelude.{◌≡◌, ℕ, List, map, Option, None, Some, Ok}
+use Rattle.std.specs.Prelude.{◌≡◌, ℕ, List, map, Option, None, Some, Ok, Err}
 use Rattle.std.specs.List.{AllByRecursion}
 use Rattle.si_causes.specs.Opening.{Files, file_at}
 use Rattle.si_causes.specs.declared.stop.ReadStop.TheVariants as read
 use Rattle.mux_model.specs.declared.mux.Mux.{Mux}
-use Rattle.mux_config.specs.Block.{Block, Faulty, Whole, Unended}
+use Rattle.mux_config.specs.declared.fault.Word.TheVariants.{End as EndWord}
+use Rattle.mux_config.specs.declared.fault.MuxFault.TheVariants.{Missing}
+use Rattle.mux_config.specs.Descriptions.{Description}
 use Rattle.input_lines.specs.declared.stop.EditStop.{EditStop}
 use Rattle.input_lines.specs.declared.stop.EditStop.TheVariants as edit
-use Rattle.input_lines.specs.Ahead.{Ahead, Row, Stop, End, NoCommand, TooLong, Unread}
-use Rattle.feed_edits.specs.Edits.{edits_ahead}
+use Rattle.input_lines.specs.Ahead.{Ahead, Came, Found, Stop, Stopped, End, NoCommand, TooLong, Unread}
+use Rattle.script_lines.specs.Edits.{edits_ahead}
 use Rattle.desk_hall.specs.Reads.{controls_ahead}
 use Rattle.headend_jobs.specs.Live.{run_stop}
 use Rattle.epg_report.specs.declared.status.Status.{Status}
 use Rattle.epg_report.specs.declared.status.Status.TheVariants.{BadMux, TooLong as PastLimit}
 use Rattle.epg_report.specs.declared.status.Origin.TheVariants.{Input}
-use Rattle.epg_live.specs.Runs.{ahead_of, behind, described}
+use Rattle.epg_live.specs.Runs.{ahead_of, described}
 use Rattle.epg_live.specs.Stops.{feeds_stop, live_status}
 
 -- ---- the status
@@ -35,14 +37,15 @@ abbrev pub jobs_status : Ahead → List (List ℕ) → Files → Status
 jobs_status control paths files =
     live_status (run_stop (Ok tt) (job_stop (controls_ahead control).1) (feeds_stop None 1 (map (λ path. feed_text_stop (file_at path files)) paths)))
 
-abbrev pub block_status : Block → List ℕ → List (List ℕ) → Files → Status
-block_status (Faulty fault) text paths files = BadMux fault
-block_status Unended text paths files = PastLimit Input
-block_status (Whole mux rows) text paths files = jobs_status (behind text rows) paths files
+abbrev pub description_status : Found Description → List (List ℕ) → Files → Status
+description_status (Came (Ok mux) behind) paths files = jobs_status behind paths files
+description_status (Came (Err fault) behind) paths files = BadMux fault
+description_status (Stopped (NoCommand n)) paths files = BadMux (Missing EndWord)
+description_status (Stopped stop) paths files = PastLimit Input
 
 -- The status that the texts decide: the fault of the description, or else the first stop of the jobs that read.
 abbrev pub text_status : List ℕ → List (List ℕ) → Files → Status
-text_status text paths files = block_status (described text) text paths files
+text_status text paths files = description_status (described text) paths files
 
 -- ---- Done
 
@@ -55,7 +58,7 @@ pub record HasEdits (files : Files) (path : List ℕ) : Type 0 where
 -- The input describes a multiplex, and behind it has control lines alone, up to its end; each path has a file of edits alone.
 pub record AreWhole (text : List ℕ) (paths : List (List ℕ)) (files : Files) : Type 0 where
   pub mux : Mux
-  pub rows : List Row
-  pub whole : described text ≡ Whole mux rows
-  pub control : (controls_ahead (behind text rows)).1 ≡ End
+  pub behind : Ahead
+  pub whole : described text ≡ Came (Ok mux) behind
+  pub control : (controls_ahead behind).1 ≡ End
   pub feeds : AllByRecursion (HasEdits files) paths

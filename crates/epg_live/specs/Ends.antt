@@ -1,5 +1,5 @@
 -- What a run of `live` leaves.
-use Rattle.std.specs.Prelude.{◌≡◌, ◌⊎◌, ℕ, ◌≤◌, List, [], ◌++◌, length, take, flat_map, Option, Some, None, Ok, Err, Result}
+use Rattle.std.specs.Prelude.{◌≡◌, ◌⊎◌, ℕ, List, [], ◌++◌, length, take, flat_map, Option, Some, None, Ok, Err, Result}
 use Rattle.std.specs.Io.KnownBytes.{Appends}
 use Rattle.si_causes.specs.Causes.{Rose, AppendsFront}
 use Rattle.si_causes.specs.Opening.{Files}
@@ -19,7 +19,7 @@ use Rattle.epg_report.specs.declared.status.Outlet.TheVariants.{Report}
 use Rattle.epg_report.specs.Texts.{fault_lines}
 use Rattle.epg_report.specs.Told.{ReportTaken}
 use Rattle.epg_live.specs.declared.reporting.HeardAir.{HeardAir}
-use Rattle.epg_live.specs.declared.reporting.LiveRun.{LiveRun}
+use Rattle.epg_live.specs.declared.reporting.LiveResult.{LiveResult}
 use Rattle.epg_live.specs.Opened.{HasTried}
 use Rattle.epg_live.specs.Runs.{NoJobs, Ran, nothing_heard}
 
@@ -64,14 +64,6 @@ abbrev pub HasMet : List (List ℕ) → ℕ → ℕ → List ℕ → Files → O
 HasMet paths cycles join text files left faults_before faults_now before now journal heard met =
     (met ≡ Memory) ⊎ (NoJobs text left before now journal heard met ⊎ Ran paths cycles join text files left faults_before faults_now before now journal heard met)
 
--- What a run over the files of these paths leaves, of the text of its input and the files of its opener, and of what is left of that text: the report has the journal,
--- the completions and, where no fault was met, the guide, and ends by the status that was met. Want of memory, whoever met it, goes before all.
-abbrev pub LeavesLive : List (List ℕ) → ℕ → ℕ → List ℕ → Files → Option (List ℕ) → ℕ → ℕ → ReportTaken → ReportTaken → Status → Type 0
-LeavesLive paths cycles join text files left faults_before faults_now air report status =
-    (status ≡ Memory)
-    ⊎ ((journal : List Entry) × (heard : HeardAir) × (met : Status)
-    × HasMet paths cycles join text files left faults_before faults_now air.old air.new journal heard met × ReportEnds met (run_text journal heard) report status)
-
 -- ---- inside a run
 
 abbrev pub entries_of : Option DeskState → List Entry
@@ -92,6 +84,6 @@ abbrev pub HasAsked : List (List ℕ) → Option (List (List ℕ)) → Option (L
 HasAsked paths old new status = (k : ℕ) × HasTried old new (take k paths) × AskedFor (length paths) k status
 
 -- nothing has run
-pub record IsBlank (run : LiveRun) : Type 0 where
+pub record IsBlank (run : LiveResult) : Type 0 where
   pub desk : run.desk ≡ None
   pub heard : run.heard ≡ nothing_heard

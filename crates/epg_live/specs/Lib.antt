@@ -3,6 +3,5 @@ pub mod Stops
 pub mod Runs
 pub mod Decided
 pub mod Ends
-pub mod Coherent
-pub mod Spaced
-pub mod Shown
+pub mod Leaves
+pub mod LiveRun

@@ -1,20 +1,19 @@
 -- A run over the text of its input and the files of its feeds.
 use Rattle.std.specs.Prelude.{◌≡◌, ◌↔◌, ℕ, ◌+◌, ◌≤◌, List, [], ◌∷◌, ◌++◌, length, map, Option, Some, None, IfSome, IsSome, Ok, Err, Result}
 use Rattle.std.specs.Io.KnownBytes.{Appends}
-use Rattle.si_causes.specs.Causes.{Rose}
 use Rattle.si_causes.specs.Opening.{Files, file_at}
 use Rattle.si_causes.specs.Reading.{Reading, fresh}
 use Rattle.si_causes.specs.Text.{text_lines}
 use Rattle.si_causes.specs.declared.stop.ReadStop.TheVariants.{Failed}
-use Rattle.input_lines.specs.Lines.{lines_of, record_lines}
+use Rattle.input_lines.specs.Lines.{record_lines}
 use Rattle.input_lines.specs.Going.{shown_whole}
 use Rattle.mux_model.specs.declared.mux.Mux.{Mux}
-use Rattle.mux_config.specs.Block.{Block, Faulty, Whole, Unended, block_from, block_of}
-use Rattle.mux_config.specs.Reads.{ReadMux, WholeCame}
+use Rattle.mux_config.specs.Descriptions.{Description, description_ahead, fault_in}
 use Rattle.input_lines.specs.declared.stop.EditStop.{EditStop}
 use Rattle.input_lines.specs.declared.stop.EditStop.TheVariants.{Read}
-use Rattle.input_lines.specs.Ahead.{Ahead, Row, Stop, Unread, Breaks, ahead_in, tail_of}
-use Rattle.feed_edits.specs.Edits.{edits_ahead}
+use Rattle.input_lines.specs.Ahead.{Ahead, Breaks, Came, Found, Stop, Stopped, TooLong as Exceeded, Unread, ahead_in}
+use Rattle.input_lines.specs.Reads.{Leaves, Passes}
+use Rattle.script_lines.specs.Edits.{edits_ahead}
 use Rattle.journal_model.specs.declared.step.Step.{Step}
 use Rattle.journal_model.specs.declared.step.Entry.{Entry}
 use Rattle.desk_core.specs.Journal.{Legal}
@@ -29,23 +28,24 @@ use Rattle.headend_jobs.specs.Callers.{CommandsAre, PlayerSwapped}
 use Rattle.headend_jobs.specs.Live.{AirDid, LastMade, halts, run_stop}
 use Rattle.headend_live.specs.Watched.{guide_of_air}
 use Rattle.epg_report.specs.declared.status.Status.{Status}
-use Rattle.epg_report.specs.declared.status.Status.TheVariants.{Done, BadMux, TooLong, OpenFault, ReadFault, Memory}
+use Rattle.epg_report.specs.declared.status.Status.TheVariants.{Done, BadMux, TooLong, OpenFault, ReadFault}
 use Rattle.epg_report.specs.declared.status.Origin.TheVariants.{Input}
 use Rattle.epg_live.specs.declared.reporting.HeardAir.{HeardAir}
 use Rattle.epg_live.specs.Stops.{HaveReadCauses, feeds_stop, live_status}
 
 -- ---- what was asked for
 
--- the description in a text, and what is ahead behind its `end`
-abbrev pub described : List ℕ → Block
-described text = block_of 1 (text_lines text)
-
-abbrev pub behind : List ℕ → List Row → Ahead
-behind text rows = (let lines = text_lines text in record { rows = rows; tail = tail_of (1 + length lines.0) lines.1 })
-
--- what is ahead in the text of a feed
+-- what is ahead in a text
 abbrev pub ahead_of : List ℕ → Ahead
 ahead_of text = ahead_in 1 (text_lines text)
+
+-- the description in a text
+abbrev pub described : List ℕ → Found Description
+described text = description_ahead (ahead_of text)
+
+-- what is ahead in the lines that are whole in bytes, behind which a read failed
+abbrev pub ahead_taken : List ℕ → Ahead
+ahead_taken bytes = record { rows = record_lines 1 (shown_whole bytes); tail = Breaks }
 
 -- Under its number the journal has the commands that were ahead of a caller up to its own stop, and then these.
 abbrev pub CallerDid : {T : Type 0} → List Entry → ℕ → (T → Step) → List T × Stop → List Command → Option EditStop → Type 0
@@ -53,20 +53,20 @@ CallerDid journal who step all then stop = ToldDid (λ values. CommandsAre journ
 
 -- Of a text these bytes were taken, and the others are left; the lines that were whole in the bytes taken describe this multiplex, and have
 -- these lines behind its `end`.
-pub record IsTaken (text : List ℕ) (left : Option (List ℕ)) (mux : Mux) (rows : List Row) : Type 0 where
+pub record IsTaken (text : List ℕ) (left : Option (List ℕ)) (mux : Mux) (behind : Ahead) : Type 0 where
   pub taken : List ℕ
   pub rest : List ℕ
   pub text_is : text ≡ taken ++ rest
   pub left_is : left ≡ Some rest
-  pub whole : block_from [] (record_lines 1 (shown_whole taken)) ≡ Whole mux rows
+  pub whole : description_ahead (ahead_taken taken) ≡ Came (Ok mux) behind
 
 -- A read of the control's lines failed: it has exactly the commands of the lines that were whole in the bytes taken, and each of these
 -- is one.
 pub record HasTaken (text : List ℕ) (left : Option (List ℕ)) (mux : Mux) (journal : List Entry) : Type 0 where
-  pub rows : List Row
-  pub taken : IsTaken text left mux rows
-  pub stop : (controls_ahead (record { rows = rows; tail = Breaks })).1 ≡ Unread
-  pub commands : CommandsAre journal 0 (commands_by 0 control_step (controls_ahead (record { rows = rows; tail = Breaks })).0)
+  pub behind : Ahead
+  pub taken : IsTaken text left mux behind
+  pub stop : (controls_ahead behind).1 ≡ Unread
+  pub commands : CommandsAre journal 0 (commands_by 0 control_step (controls_ahead behind).0)
 
 abbrev pub ControlTook : List ℕ → Option (List ℕ) → Mux → List Entry → Option EditStop → Type 0
 ControlTook text left mux journal (Some (Read Failed)) = HasTaken text left mux journal
@@ -88,10 +88,10 @@ nothing_heard = record { dones = []; guide = None }
 
 -- The journal: each caller's commands stand in it once, in order, whatever other jobs met, each with the reply of a desk of one thread
 -- (`legal`), and no one else's. Caller 0 is the control, caller 1 the player. `final` is what the control made behind all jobs.
-pub record IsJournal (mux : Mux) (cycles : ℕ) (text : List ℕ) (left : Option (List ℕ)) (rows : List Row) (paths : List (List ℕ)) (files : Files) (journal : List Entry)
+pub record IsJournal (mux : Mux) (cycles : ℕ) (text : List ℕ) (left : Option (List ℕ)) (behind : Ahead) (paths : List (List ℕ)) (files : Files) (journal : List Entry)
     (player : Result (Unit {0}) SendStop) (control_stop : Option EditStop) (feed_stops : List (Option EditStop)) (final : List Entry) : Type 0 where
   pub legal : Legal mux journal
-  pub control_did : CallerDid journal 0 control_step (controls_ahead (behind text rows)) (map command_of final) control_stop
+  pub control_did : CallerDid journal 0 control_step (controls_ahead behind) (map command_of final) control_stop
   pub control_took : ControlTook text left mux journal control_stop
   pub player_did : PlayerSwapped journal cycles player
   pub feeds_did : FeedsDid files journal 1 paths feed_stops
@@ -111,14 +111,14 @@ pub record WasHeard (join : ℕ) (before now : Option (List ℕ)) (heard : Heard
 -- where there is none, and then the control's publish, swap and swap end the journal (`last`). `sent` says how the last cycle ended; where the
 -- player failed, that was its last (`failed`). A feed was not read to its own stop only where the opener's count of read faults rose (`causes`). A guide is told exactly with
 -- Done (`told`); what it and the completions are is known where the air tells its bytes.
-pub record JobsRan (mux : Mux) (cycles join : ℕ) (text : List ℕ) (left : Option (List ℕ)) (rows : List Row) (paths : List (List ℕ)) (files : Files) (faults_before faults_now : ℕ) (before now : Option (List ℕ))
+pub record JobsRan (mux : Mux) (cycles join : ℕ) (text : List ℕ) (left : Option (List ℕ)) (behind : Ahead) (paths : List (List ℕ)) (files : Files) (faults_before faults_now : ℕ) (before now : Option (List ℕ))
     (journal : List Entry) (heard : HeardAir) (status : Status) : Type 0 where
   pub player : Result (Unit {0}) SendStop
   pub sent : Result (Unit {0}) SendStop
   pub control_stop : Option EditStop
   pub feed_stops : List (Option EditStop)
   pub final : List Entry
-  pub journal_is : IsJournal mux cycles text left rows paths files journal player control_stop feed_stops final
+  pub journal_is : IsJournal mux cycles text left behind paths files journal player control_stop feed_stops final
   pub last : LastMade (halts player control_stop (feeds_stop None 1 feed_stops)) 0 final sent
   pub failed : (stop : SendStop) → player ≡ Err stop → sent ≡ Err stop
   pub status_is : status ≡ live_status (run_stop sent control_stop (feeds_stop None 1 feed_stops))
@@ -130,15 +130,15 @@ pub record JobsRan (mux : Mux) (cycles join : ℕ) (text : List ℕ) (left : Opt
 -- jobs ran over the multiplex of the text
 abbrev pub Ran : List (List ℕ) → ℕ → ℕ → List ℕ → Files → Option (List ℕ) → ℕ → ℕ → Option (List ℕ) → Option (List ℕ) → List Entry → HeardAir → Status → Type 0
 Ran paths cycles join text files left faults_before faults_now before now journal heard met =
-    (mux : Mux) × (rows : List Row) × (described text ≡ Whole mux rows)
-    × JobsRan mux cycles join text left rows paths files faults_before faults_now before now journal heard met
+    (mux : Mux) × (behind : Ahead) × (described text ≡ Came (Ok mux) behind)
+    × JobsRan mux cycles join text left behind paths files faults_before faults_now before now journal heard met
 
 -- a reader behind the description that it read of the text of its source
 pub record HasRead {S : Type 0} (left : S → Option (List ℕ)) (text : List ℕ) (mux : Mux) (reader : Reading S) : Type 0 where
   pub source : S
   pub tells : left source ≡ Some text
-  pub read : ReadMux left (fresh source) reader (lines_of (fresh source) text) (Ok mux)
-  pub came : WholeCame left (fresh source) reader mux
+  pub read : Leaves left description_ahead (Came (Ok mux)) (fresh source) reader text
+  pub came : Passes left description_ahead (Came (Ok mux)) (fresh source) reader
 
 -- ---- a run that ended before
 
@@ -148,14 +148,14 @@ pub record IsUnread (text : List ℕ) (left : Option (List ℕ)) : Type 0 where
   pub rest : List ℕ
   pub text_is : text ≡ taken ++ rest
   pub left_is : left ≡ Some rest
-  pub unended : block_from [] (record_lines 1 (shown_whole taken)) ≡ Unended
+  pub unended : description_ahead (ahead_taken taken) ≡ Stopped Unread
 
 -- why no job started
 abbrev pub EndsBefore : List ℕ → Option (List ℕ) → Status → Type 0
-EndsBefore text left (BadMux fault) = described text ≡ Faulty fault
-EndsBefore text left (TooLong Input) = described text ≡ Unended
+EndsBefore text left (BadMux fault) = fault_in (described text) ≡ Some fault
+EndsBefore text left (TooLong Input) = described text ≡ Stopped Exceeded
 EndsBefore text left (ReadFault Input) = IsUnread text left
-EndsBefore text left (OpenFault f) = (mux : Mux) × (rows : List Row) × (described text ≡ Whole mux rows)
+EndsBefore text left (OpenFault f) = (mux : Mux) × (behind : Ahead) × (described text ≡ Came (Ok mux) behind)
 EndsBefore text left status = ⊥
 
 -- no job started: nothing was sent

@@ -36,7 +36,7 @@ impl HeardAir {
 
 /// What ran: the desk, where jobs started, what was heard, and the status that was met; Done where no fault was.
 #[derive(Drop)]
-pub(crate) struct LiveRun {
+pub(crate) struct LiveResult {
     pub(crate) desk: Option<Desk>,
     pub(crate) heard: HeardAir,
     pub(crate) met: Status,
@@ -80,7 +80,7 @@ fn put_heard(alloc: Global, out: &mut Vec<u8>, heard: &HeardAir) -> Result<(), A
 }
 
 // The whole report.
-fn report_of(alloc: Global, run: &LiveRun) -> Result<Vec<u8>, AllocError>
+fn report_of(alloc: Global, run: &LiveResult) -> Result<Vec<u8>, AllocError>
     requires { CanBeSaid run.now.met }
     ensures { IfOk result (λ text. text.items ≡ run_text (entries_of run.now.desk) run.now.heard ++ fault_lines run.now.met) }
 {
@@ -94,7 +94,7 @@ fn report_of(alloc: Global, run: &LiveRun) -> Result<Vec<u8>, AllocError>
 }
 
 /// Reports what ran, and says how the run ends. A report that fails changes the status of a run without a fault alone.
-pub(crate) fn finish<R: Sink>(alloc: Global, run: &LiveRun, report: &mut R) -> Status
+pub(crate) fn finish<R: Sink>(alloc: Global, run: &LiveResult, report: &mut R) -> Status
     requires { CanBeSaid run.now.met }
     ensures ends { (result ≡ Status.Memory) ⊎ ReportEnds run.now.met (run_text (entries_of run.now.desk) run.now.heard) (told R.written R.faults report.old report.new) result }
 {

@@ -13,13 +13,13 @@ ghost use Rattle.epg_live.specs.Opened.{AreOpened};
 ghost use Rattle.epg_live.specs.Stops.{HasStatusCause, IsMet, IsOfRun, live_status, mux_status, open_status, read_status};
 
 use crate::feeds::{OpenStop, close_feeds, open_feeds};
-use crate::reporting::{HeardAir, LiveRun};
+use crate::reporting::{HeardAir, LiveResult};
 use command_words::LiveWords;
 use epg_report::{Origin, Outlet, Status};
-use feed_edits::EditStop;
 use headend_live::{LivePlan, LiveStop, Readers, run_live};
 use mux_config::{MuxStop, read_mux};
 use mux_model::Mux;
+use script_lines::EditStop;
 use si_causes::{Gate, LineReader, Opener, ReadStop, Sink, Source};
 use std::alloc::{AllocError, Global};
 use std::marker::{Send, Sync};
@@ -100,7 +100,7 @@ fn run_jobs<W: Threads + Wait + Sync, O: Opener, S: Source + Send, A: Sink + Sen
     opener: &mut O,
     air: &mut A,
     gate: &G,
-    run: &mut LiveRun,
+    run: &mut LiveResult,
 ) -> Result<S, AllocError>
     requires sound { IsSound mux }
     requires few { length feeds.items ≤ 16 }
@@ -146,7 +146,7 @@ pub(crate) fn run_described<
     mut lines: LineReader<S>,
     air: &mut A,
     gate: &G,
-    run: &mut LiveRun,
+    run: &mut LiveResult,
 ) -> Result<S, AllocError>
     requires few { length words.now.feeds.items ≤ 16 }
     requires cycles { words.now.cycles ≤ 1000 }

@@ -4,7 +4,7 @@ use Rattle.mux_config.specs.declared.fault.Word.{Word}
 use Rattle.mux_config.specs.declared.fault.Word.TheVariants.{Network, Stream, Service, End}
 use Rattle.mux_config.specs.declared.fault.MuxFault.{MuxFault}
 use Rattle.mux_config.specs.declared.fault.MuxFault.TheVariants.{Line, Range, Twice, Missing}
-use Rattle.journal_text.specs.Outcomes.{outcome_text}
+use Rattle.journal_text.specs.Entries.{outcome_text}
 use Rattle.journal_model.specs.Steps.{IsInWindow}
 use Rattle.epg_report.specs.declared.status.Status.{Status}
 use Rattle.epg_report.specs.declared.status.Status.TheVariants.{Done, Usage, BadScript, Disagrees, BadMux, BadFeed, BadStream, TooLong, OpenFault, ReadFault, WriteFault, Memory}

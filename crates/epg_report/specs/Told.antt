@@ -1,4 +1,4 @@
--- What a sink told before and after a call.
+-- What a sink and a source told before and after a call.
 use Rattle.std.specs.Prelude.{◌⊎◌, ℕ, List, Option}
 use Rattle.std.specs.Io.KnownBytes.{Appends}
 use Rattle.si_causes.specs.Causes.{Rose, AppendsFront}
@@ -16,3 +16,13 @@ told written faults old new = record { old = written old; new = written new; fau
 -- the text was appended, or a proper front of it where the sink failed in this call
 abbrev pub Reported : ReportTaken → List ℕ → Type 0
 Reported report text = Appends report.old report.new text ⊎ (Rose report.faults_old report.faults_new × AppendsFront report.old report.new text)
+
+-- What a source gave: the bytes that were left in it before and behind a call, where they are known, and the count of its faults.
+pub record SourceGave : Type 0 where
+  pub old : Option (List ℕ)
+  pub new : Option (List ℕ)
+  pub faults_old : ℕ
+  pub faults_new : ℕ
+
+abbrev pub gave : {S : Type 0} → (S → Option (List ℕ)) → (S → ℕ) → S → S → SourceGave
+gave left faults old new = record { old = left old; new = left new; faults_old = faults old; faults_new = faults new }

@@ -1,6 +1,6 @@
 // The lines of faults.
 ghost use Rattle.std.specs.Prelude.{◌≡◌, ◌≤◌, ◌++◌, OnOk, codes, decimal};
-ghost use Rattle.journal_text.specs.Outcomes.{outcome_text};
+ghost use Rattle.journal_text.specs.Entries.{outcome_text};
 ghost use Rattle.journal_model.specs.Steps.{IsInWindow};
 ghost use Rattle.epg_report.specs.Texts.{CanBeSaid, fault_lines, fault_text, has_line, mux_fault_text, origin_text, word_text};
 

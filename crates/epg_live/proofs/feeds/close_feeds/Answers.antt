@@ -1,4 +1,4 @@
-use Rattle.std.proofs.Common.{ℕ, ◌∙◌, subst}
+use Rattle.std.proofs.Common.{◌∙◌, subst}
 use Rattle.si_causes.specs.Opening.{TakesBack}
 use Rattle.epg_live.proofs.OpenFacts.{closes_more}
 use Rattle.epg_live.proofs.feeds.close_feeds.Goals as goal

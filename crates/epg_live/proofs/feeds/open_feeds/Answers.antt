@@ -1,4 +1,4 @@
-use Rattle.std.proofs.Common.{◌≡◌, ◌+◌, ◌∙◌, ℕ, List, Option, Ok, sym, ap, subst, arith, take}
+use Rattle.std.proofs.Common.{◌+◌, ◌∙◌, ℕ, List, Option, Ok, sym, ap, subst, arith, take}
 use Rattle.si_causes.specs.Causes.{Rose}
 use Rattle.si_causes.proofs.CauseFacts.{Rose-from}
 use Rattle.command_words.specs.Commands.{texts}

@@ -1,15 +1,16 @@
-use Rattle.std.proofs.Common.{◌≡◌, ◌⊎◌, inl, inr, ℕ, List, length, take, refl, sym, ap, ◌∙◌, subst, string_bytes, arith}
-use Rattle.std.specs.Prelude.{Option, Some, None}
+use Rattle.std.proofs.Common.{◌≡◌, ℕ, length, take, refl, sym, ap, ◌∙◌, subst, string_bytes, arith}
+use Rattle.std.specs.Prelude.{Option}
 use Rattle.std.proofs.lemmas.List.{length-map}
 use Rattle.si_causes.specs.Opening.{Files}
+use Rattle.input_lines.specs.Ahead.{ahead}
 use Rattle.command_words.specs.Commands.{texts}
 use Rattle.epg_report.specs.declared.status.Status.{Status}
 use Rattle.epg_live.specs.Ends.{HasAsked, HasMet, entries_of}
 use Rattle.epg_live.specs.Opened.{AreOpened, HasTried, OpenedTo}
 use Rattle.epg_live.specs.Stops.{HasStatusCause, IsMet, IsOfRun, mux_status, open_status}
-use Rattle.epg_live.proofs.DescribedFacts.{has_read, is_described, not_described, unread_going, unread_told}
+use Rattle.epg_live.proofs.DescribedFacts.{has_read, not_described, unread_going}
 use Rattle.epg_live.proofs.OpenFacts.{opened_length}
-use Rattle.epg_live.proofs.MetFacts.{all_asked, as_met, if_ok, mux_asked, mux_caused, mux_not_done, mux_not_open, mux_of_live, not_opened, of_run, open_asked, open_caused, open_fault, open_not_done, open_of_live, ran_caused, ran_met, run_not_open, some_asked}
+use Rattle.epg_live.proofs.MetFacts.{all_asked, as_met, if_ok, mux_asked, mux_caused, mux_not_done, mux_not_open, mux_of_live, not_opened, ran_met, some_asked}
 use Rattle.epg_live.proofs.run.run_described.Goals as goal
 
 -- ---- the description was not read
@@ -19,13 +20,11 @@ returns-in-Err-clause-met g c = λ text tells files known.
     let old = c.args.lines in
     let mid = c.read_mux.new.lines in
     let unread = c.requires.unread in
-    let going = unread_going g.S.Source.left g.S.Source.faults old old.source unread in
     let paths = texts c.args.words.now.feeds.items in
     let air = g.A.Sink.written c.args.air.now in
     let faults = g.O.Opener.read_faults c.args.opener.now in
     let journal = entries_of c.args.run.now.desk in
-    let met = not_described g.S.Source.left g.S.Source.faults old mid old.source text air air journal c.args.run.now.heard c.in-Err.stop unread tells
-    (c.in-Err.ensures.block going text (unread_told g.S.Source.left g.S.Source.faults old old.source text unread tells)) (c.in-Err.ensures.came going) (ap entries_of c.requires.blank.desk) c.requires.blank.heard refl in
+    let met = not_described g.S.Source.left g.S.Source.faults g.S.Source.same old mid old.source text air air journal c.args.run.now.heard c.in-Err.stop unread tells c.in-Err.ensures.read (ap entries_of c.requires.blank.desk) c.requires.blank.heard refl in
     subst (λ (s : Status). HasMet paths c.args.words.now.cycles c.args.words.now.join text files (g.S.Source.left c.close.result) faults faults air air journal c.args.run.now.heard s) (sym c.mux_status-run.ensures.value)
     (subst (λ s. HasMet paths c.args.words.now.cycles c.args.words.now.join text files (g.S.Source.left s) faults faults air air journal c.args.run.now.heard (mux_status c.in-Err.stop)) (sym c.close.ensures)
     (as_met paths c.args.words.now.cycles c.args.words.now.join text files (g.S.Source.left mid.source) faults faults air air journal c.args.run.now.heard (mux_status c.in-Err.stop) met))
@@ -34,12 +33,12 @@ pub returns-in-Err-clause-cause : goal.returns-in-Err-clause-cause
 returns-in-Err-clause-cause g c =
     let old = c.args.lines in
     let mid = c.read_mux.new.lines in
-    let going = unread_going g.S.Source.left g.S.Source.faults old old.source c.requires.unread in
+    let going = unread_going g.S.Source.left g.S.Source.faults g.S.Source.same old old.source c.requires.unread in
     let faults = g.O.Opener.read_faults c.args.opener.now in
     let air = g.A.Sink.faults c.args.air.now in
     subst (λ (s : Status). HasStatusCause (g.S.Source.faults old.source) (g.S.Source.faults c.close.result) faults faults air air s) (sym c.mux_status-run.ensures.value)
     (subst (λ s. HasStatusCause (g.S.Source.faults old.source) (g.S.Source.faults s) faults faults air air (mux_status c.in-Err.stop)) (sym c.close.ensures)
-    (mux_caused g.S.Source.left g.S.Source.faults old mid c.in-Err.stop faults air (c.in-Err.ensures.came going)))
+    (mux_caused g.S.Source.left g.S.Source.faults g.S.Source.same old mid c.in-Err.stop faults air going c.in-Err.ensures.read))
 
 pub returns-in-Err-clause-open_cause : goal.returns-in-Err-clause-open_cause
 returns-in-Err-clause-open_cause g c = λ f e. absurd (mux_not_open c.in-Err.stop f (sym c.mux_status-run.ensures.value ∙ e))
@@ -62,14 +61,13 @@ returns-in-Err-open_feeds-clause-met g c = λ text tells files known.
     let old = c.args.lines in
     let mid = c.read_mux.new.lines in
     let unread = c.requires.unread in
-    let going = unread_going g.S.Source.left g.S.Source.faults old old.source unread in
     let paths = texts c.args.words.now.feeds.items in
     let air = g.A.Sink.written c.args.air.now in
     let journal = entries_of c.args.run.now.desk in
-    let d = is_described g.S.Source.left g.S.Source.faults old mid old.source text c.in-Ok.mux unread (c.in-Ok.ensures.block going text (unread_told g.S.Source.left g.S.Source.faults old old.source text unread tells)) in
+    let read = has_read g.S.Source.left g.S.Source.faults g.S.Source.same old mid old.source text c.in-Ok.mux unread tells c.in-Ok.ensures.read in
     subst (λ (s : Status). HasMet paths c.args.words.now.cycles c.args.words.now.join text files (g.S.Source.left c.close-in-Err-open_feeds.result) (g.O.Opener.read_faults c.args.opener.now) (g.O.Opener.read_faults c.open_feeds.new.opener) air air journal c.args.run.now.heard s) (sym c.open_status-run.ensures.value)
     (as_met paths c.args.words.now.cycles c.args.words.now.join text files (g.S.Source.left c.close-in-Err-open_feeds.result) (g.O.Opener.read_faults c.args.opener.now) (g.O.Opener.read_faults c.open_feeds.new.opener) air air journal c.args.run.now.heard (open_status c.in-Err-open_feeds.stop)
-    (not_opened text (g.S.Source.left c.close-in-Err-open_feeds.result) air air journal c.args.run.now.heard c.in-Err-open_feeds.stop c.in-Ok.mux d.2.0 d.2.1 (ap entries_of c.requires.blank.desk) c.requires.blank.heard refl))
+    (not_opened text (g.S.Source.left c.close-in-Err-open_feeds.result) air air journal c.args.run.now.heard c.in-Err-open_feeds.stop c.in-Ok.mux (ahead mid read.read.rest) read.read.reads (ap entries_of c.requires.blank.desk) c.requires.blank.heard refl))
 
 -- ---- jobs ran
 
@@ -87,11 +85,9 @@ returns-clause-met g c = λ text tells files known.
     let old = c.args.lines in
     let mid = c.read_mux.new.lines in
     let unread = c.requires.unread in
-    let going = unread_going g.S.Source.left g.S.Source.faults old old.source unread in
     let items = c.args.words.now.feeds.items in
     let feeds = c.in-Ok-open_feeds.feeds.items in
-    let read = has_read g.S.Source.left g.S.Source.faults old mid old.source text c.in-Ok.mux unread tells
-    (c.in-Ok.ensures.block going text (unread_told g.S.Source.left g.S.Source.faults old old.source text unread tells)) (c.in-Ok.ensures.came going) in
+    let read = has_read g.S.Source.left g.S.Source.faults g.S.Source.same old mid old.source text c.in-Ok.mux unread tells c.in-Ok.ensures.read in
     let opened : AreOpened g.O.From.Source.left g.O.From.Source.faults (g.O.Opener.files c.open_feeds.new.opener) (texts items) feeds =
     subst (λ (o : Option Files). AreOpened g.O.From.Source.left g.O.From.Source.faults o (texts items) feeds) (sym c.open_feeds.ensures.files)
     (subst (λ l. AreOpened g.O.From.Source.left g.O.From.Source.faults (g.O.Opener.files c.args.opener.now) (texts l) feeds) c.deref.ensures.value c.in-Ok-open_feeds.ensures.opened) in

@@ -1,5 +1,5 @@
-use Rattle.std.proofs.Common.{◌≡◌, ℕ, List, sym, subst}
-use Rattle.std.specs.Prelude.{Option, Some}
+use Rattle.std.proofs.Common.{subst}
+use Rattle.std.specs.Prelude.{Option}
 use Rattle.si_causes.specs.Opening.{Files}
 use Rattle.epg_live.specs.Opened.{AreOpened}
 use Rattle.epg_live.proofs.RanFacts.{jobs_caused, jobs_ended, jobs_ran, jobs_same}

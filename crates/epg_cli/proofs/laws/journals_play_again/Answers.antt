@@ -1,5 +1,0 @@
-use Rattle.epg_cli.proofs.AgainFacts.{journals-again}
-use Rattle.epg_cli.proofs.laws.journals_play_again.Goals as goal
-
-pub returns : goal.returns
-returns c = journals-again

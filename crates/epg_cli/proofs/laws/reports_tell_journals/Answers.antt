@@ -1,5 +1,0 @@
-use Rattle.epg_cli.proofs.ReportFacts.{reports_tell_journals}
-use Rattle.epg_cli.proofs.laws.reports_tell_journals.Goals as goal
-
-pub returns : goal.returns
-returns c = reports_tell_journals

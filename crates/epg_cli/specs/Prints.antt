@@ -1,0 +1,30 @@
+-- The journal that `live` prints is a script.
+use Rattle.std.specs.Prelude.{◌≡◌, ◌⊎◌, ◌≤◌, ℕ, List, ◌++◌, length, Ok}
+use Rattle.std.specs.List.{AllByRecursion}
+use Rattle.si_causes.specs.Text.{text_limit}
+use Rattle.mux_model.specs.declared.mux.Mux.{Mux}
+use Rattle.input_lines.specs.Ahead.{Ahead, Came}
+use Rattle.journal_model.specs.declared.step.Entry.{Entry}
+use Rattle.journal_text.specs.Back.{IsReadable}
+use Rattle.journal_text.specs.Entries.{journal_text}
+use Rattle.epg_report.specs.declared.status.Status.{Status}
+use Rattle.epg_report.specs.declared.status.Status.TheVariants.{Memory}
+use Rattle.epg_report.specs.Told.{ReportTaken}
+use Rattle.epg_play.specs.Script.{script_in}
+use Rattle.epg_play.specs.Again.{Describes, PlaysAgain}
+use Rattle.epg_live.specs.declared.reporting.HeardAir.{HeardAir}
+use Rattle.epg_live.specs.Runs.{described}
+use Rattle.epg_live.specs.Ends.{ReportEnds, run_text}
+
+-- Behind each description of the multiplex that this text describes, the text of this journal is such a script, where its entries can be
+-- read.
+abbrev pub IsScript : List ℕ → List Entry → Type 0
+IsScript text journal =
+    (mux : Mux) (behind : Ahead) (block : List ℕ) → described text ≡ Came (Ok mux) behind → Describes block mux → AllByRecursion IsReadable journal
+    → length (block ++ journal_text journal) ≤ text_limit → PlaysAgain mux journal (script_in (block ++ journal_text journal))
+
+-- The report of a run of `live` over this text has a journal that is such a script, then completions, and the end that was met.
+abbrev pub PrintsScript : List ℕ → ReportTaken → Status → Type 0
+PrintsScript text report status =
+    (status ≡ Memory)
+    ⊎ ((journal : List Entry) × (heard : HeardAir) × (met : Status) × ReportEnds met (run_text journal heard) report status × IsScript text journal)

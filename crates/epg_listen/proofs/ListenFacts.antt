@@ -1,0 +1,277 @@
+-- Packets of a recording, one after another, and what is reported of them.
+use Rattle.std.proofs.Common.{◌≡◌, ℕ, zero, suc, ◌+◌, ◌*◌, ◌/◌, ◌-◌, ◌<◌, ◌≤◌, List, [], ◌∷◌, ◌++◌, length, take, drop, slice_index, map, get_or, refl, sym, ap, ◌∙◌, subst, arith, append-nil, append_assoc, length-append, inl, inr, true}
+use Rattle.std.specs.Prelude.{Option, Some, None, Ok, Err, Result}
+use Rattle.std.proofs.lemmas.List.{map_more, take_at}
+use Rattle.std.proofs.Math.Seq.{take-append_seam, drop-append_seam}
+use Rattle.std.specs.Io.KnownBytes.{Appends, Consumes, prepend_known}
+use Rattle.std.proofs.KnownBytes.{Appends-trans, prepend_known-nil}
+use Rattle.heard_completions.proofs.Dones.{dones_push}
+use Rattle.si_causes.proofs.CauseFacts.{Rose-from, front_behind, Appends-nothing}
+use Rattle.si_causes.specs.Causes.{AppendsFront}
+use Rattle.packet_reader.specs.Recordings.{RecordingEnd, RecordingEnd.AtEnd, RecordingEnd.Broken, RecordingEnd.PastLimit, packet_limit, is_packet, and_packet, packets_in, recording}
+use Rattle.packet_reader.specs.Reading.{PacketReading, GivesPacket, TakesPacket, Counts, bytes_left, packets_to_come, fresh}
+use Rattle.packet_reader.proofs.RecordingFacts.{packet_step, broken_step, short_piece}
+use Rattle.packet_reader.specs.declared.stop.PacketStop.{PacketStop}
+use Rattle.packet_reader.specs.declared.stop.PacketStop.TheVariants as packet
+use Rattle.heard_completions.specs.declared.done.DoneKey.{DoneKey}
+use Rattle.guide_receiver.specs.Heard.{Hearing, ReceiverStandsFor}
+use Rattle.heard_completions.specs.Dones.{DoneAt, at_packet, dones_by, dones_behind}
+use Rattle.heard_completions.specs.Texts.{done_line, done_lines}
+use Rattle.epg_listen.specs.declared.listen.ListenStop.{ListenStop}
+use Rattle.epg_listen.specs.declared.listen.ListenStop.TheVariants as stop
+use Rattle.epg_report.specs.declared.status.Status.{Status}
+use Rattle.epg_report.specs.declared.status.Status.TheVariants.{Done, BadStream, TooLong, ReadFault, WriteFault, Memory}
+use Rattle.epg_report.specs.declared.status.Origin.TheVariants.{Input, Feed}
+use Rattle.epg_report.specs.declared.status.Outlet.TheVariants.{Air, Report}
+use Rattle.epg_report.specs.Texts.{fault_line}
+use Rattle.epg_report.specs.Told.{ReportTaken, Reported}
+use Rattle.epg_listen.specs.Leaves.{Recording, heard_text, heard_guide, packet_stop_text, packet_stop_status, LeavesHeard, IsOfListen, HearsThrough}
+use Rattle.epg_listen.specs.Hearing.{HasHeard, ReportsLines, EndsHeard, HasReadCause, IsNoReadStop}
+
+-- ---- lines
+
+lines_append : (xs ys : List DoneAt) → done_lines (xs ++ ys) ≡ done_lines xs ++ done_lines ys
+lines_append [] ys = refl
+lines_append (x ∷ xs) ys = ap (λ t. done_line x ++ t) (lines_append xs ys) ∙ sym (append_assoc (done_line x) (done_lines xs) (done_lines ys))
+
+pub lines_next : (n : ℕ) (dones : List DoneKey) (i : ℕ) (d item : DoneKey) (text new : List ℕ) → i < length dones → item ≡ get_or dones i d
+    → text ≡ done_lines (map (at_packet n) (take i dones)) → new ≡ text ++ done_line (at_packet n item) → new ≡ done_lines (map (at_packet n) (take (i + 1) dones))
+lines_next n dones i d item text new lt is before more =
+    more ∙ ap (λ t. t ++ done_line (at_packet n item)) before
+    ∙ ap (λ t. done_lines (map (at_packet n) (take i dones)) ++ t) (sym (append-nil (done_line (at_packet n item))))
+    ∙ sym (lines_append (map (at_packet n) (take i dones)) (at_packet n item ∷ []))
+    ∙ ap (λ x. done_lines (map (at_packet n) (take i dones) ++ at_packet n x ∷ [])) is
+    ∙ ap done_lines (sym (map_more (at_packet n) dones i d lt))
+
+-- the report of one packet more
+pub text_push : (heard : List (List ℕ)) (p : List ℕ) → heard_text (heard ++ p ∷ []) ≡ heard_text heard ++ done_lines (map (at_packet (length heard)) (dones_by heard p))
+text_push heard p = ap done_lines (dones_push [] heard p) ∙ lines_append (dones_behind [] heard) (map (at_packet (length heard)) (dones_by heard p))
+
+-- a packet that shows nothing
+pub no_lines : (n : ℕ) (dones : List DoneKey) (w : Option (List ℕ)) → length dones ≡ 0 → Appends w w (done_lines (map (at_packet n) dones))
+no_lines n [] w e = Appends-nothing w
+no_lines n (d ∷ ds) w e = absurd (omega arith)
+
+-- ---- packets
+
+pub given_packet : {S : Type 0} (left : S → Option (List ℕ)) (before new : PacketReading S) (p : Recording) (n : ℕ) → GivesPacket left before new p (Ok (Some n))
+    → (rest : List ℕ) × (bytes_left left new ≡ Some rest) × (p ≡ and_packet new.packet (packets_in (packets_to_come new) rest))
+given_packet left before new (q ∷ packets, end) n (is, (rest, told, then)) = (rest, told, ap (λ (r : Recording). and_packet q r) (sym then) ∙ ap (λ (t : List ℕ). and_packet t (packets_in (packets_to_come new) rest)) (sym is))
+given_packet left before new ([], AtEnd) n gives = absurd gives
+given_packet left before new ([], Broken) n gives = absurd gives
+given_packet left before new ([], PastLimit) n gives = absurd gives
+
+pub given_end : {S : Type 0} (left : S → Option (List ℕ)) (before new : PacketReading S) (p : Recording) → GivesPacket left before new p (Ok None) → p ≡ ([], AtEnd)
+given_end left before new (q ∷ packets, end) gives = absurd gives
+given_end left before new ([], AtEnd) gives = refl
+given_end left before new ([], Broken) gives = absurd gives
+given_end left before new ([], PastLimit) gives = absurd gives
+
+given_broken : {S : Type 0} (left : S → Option (List ℕ)) (before new : PacketReading S) (p : Recording) (n : ℕ) → GivesPacket left before new p (Err (packet.Broken n)) → p ≡ ([], Broken)
+given_broken left before new (q ∷ packets, end) n gives = absurd gives
+given_broken left before new ([], AtEnd) n gives = absurd gives
+given_broken left before new ([], Broken) n gives = refl
+given_broken left before new ([], PastLimit) n gives = absurd gives
+
+given_past : {S : Type 0} (left : S → Option (List ℕ)) (before new : PacketReading S) (p : Recording) → GivesPacket left before new p (Err packet.TooLong) → p ≡ ([], PastLimit)
+given_past left before new (q ∷ packets, end) gives = absurd gives
+given_past left before new ([], AtEnd) gives = absurd gives
+given_past left before new ([], Broken) gives = absurd gives
+given_past left before new ([], PastLimit) gives = refl
+
+-- one more packet was heard
+pub more_heard : (all y x : Recording) (heard : List (List ℕ)) (p : List ℕ) → all ≡ (heard ++ y.0, y.1) → y ≡ and_packet p x → all ≡ ((heard ++ p ∷ []) ++ x.0, x.1)
+more_heard all y x heard p e t =
+    e ∙ ap (λ (r : Recording). let q : Recording = (heard ++ r.0, r.1) in q) t
+    ∙ ap (λ (l : List (List ℕ)). let q : Recording = (l, x.1) in q) (sym (append_assoc heard (p ∷ []) x.0))
+
+pub start_recording : (n : ℕ) (bytes : List ℕ) → n ≡ 0 → recording bytes ≡ ([] ++ (packets_in (packet_limit - n) bytes).0, (packets_in (packet_limit - n) bytes).1)
+start_recording n bytes e = ap (λ k. packets_in (packet_limit - k) bytes) (sym e)
+
+-- and reported
+pub reported_more : (heard : List (List ℕ)) (p : List ℕ) (n : ℕ) (a b c : Option (List ℕ)) → n ≡ length heard → Appends a b (heard_text heard)
+    → Appends b c (done_lines (map (at_packet n) (dones_by heard p))) → Appends a c (heard_text (heard ++ p ∷ []))
+reported_more heard p n a b c number done more =
+    let lines = ap (λ k. done_lines (map (at_packet k) (dones_by heard p))) number in
+    subst (Appends a c) (ap (λ l. heard_text heard ++ l) lines ∙ sym (text_push heard p)) (Appends-trans a b c (heard_text heard) (done_lines (map (at_packet n) (dones_by heard p))) done more)
+
+-- nothing is left
+last_heard : (all y : Recording) (heard : List (List ℕ)) (end : RecordingEnd) → all ≡ (heard ++ y.0, y.1) → y ≡ ([], end) → all ≡ (heard, end)
+last_heard all y heard end e t =
+    e ∙ ap (λ (r : Recording). let q : Recording = (heard ++ r.0, r.1) in q) t ∙ ap (λ (l : List (List ℕ)). let q : Recording = (l, end) in q) (append-nil heard)
+
+-- the first packets of a recording are those that were heard
+front_heard : (all y : Recording) (heard : List (List ℕ)) → all ≡ (heard ++ y.0, y.1) → take (length heard) all.0 ≡ heard
+front_heard all y heard e = ap (λ (r : Recording). take (length heard) r.0) e ∙ take-append_seam heard y.0
+
+text_is : (old new : Option (List ℕ)) (xs ys : List (List ℕ)) → xs ≡ ys → Appends old new (heard_text ys) → Appends old new (heard_text xs)
+text_is old new xs ys e done = subst (λ (l : List (List ℕ)). Appends old new (heard_text l)) (sym e) done
+
+pub heard_end : {S : Type 0} (left : S → Option (List ℕ)) (before after : PacketReading S) (bytes : List ℕ) (y : Recording) (heard : List (List ℕ)) (receiver : Hearing) (old new : Option (List ℕ))
+    → recording bytes ≡ (heard ++ y.0, y.1) → GivesPacket left before after y (Ok None) → Appends old new (heard_text heard) → ReceiverStandsFor heard receiver → HasHeard bytes (left after.source) receiver old new (Ok tt)
+heard_end left before after bytes y heard receiver old new e gives done stands =
+    let last = last_heard (recording bytes) y heard AtEnd e (given_end left before after y gives) in
+    let packets : (recording bytes).0 ≡ heard = ap (λ (r : Recording). r.0) last in (
+      ap (λ (r : Recording). r.1) last,
+      text_is old new (recording bytes).0 heard packets done,
+      subst (λ (l : List (List ℕ)). ReceiverStandsFor l receiver) (sym packets) stands,
+    )
+
+-- ---- what was taken
+
+-- bytes of a recording whose packets were heard, and those behind them, of which n packets may still come
+pub record HasParted (bytes done : List ℕ) (heard : List (List ℕ)) (n : ℕ) (rest : List ℕ) : Type 0 where
+  pub parted : bytes ≡ done ++ rest
+  pub size : length done ≡ 188 * length heard
+  pub packets : (more : List ℕ) → recording (done ++ more) ≡ (heard ++ (packets_in n more).0, (packets_in n more).1)
+
+pub start_parted : (n : ℕ) (bytes : List ℕ) → n ≡ 0 → HasParted bytes [] [] (packet_limit - n) bytes
+start_parted n bytes e = record { parted = refl; size = refl; packets = λ more. start_recording n more e }
+
+pub parted_recording : (bytes done rest : List ℕ) (heard : List (List ℕ)) (n : ℕ) → HasParted bytes done heard n rest → recording bytes ≡ (heard ++ (packets_in n rest).0, (packets_in n rest).1)
+parted_recording bytes done rest heard n parted = ap recording parted.parted ∙ parted.packets rest
+
+-- a packet in front of some bytes
+packet_front : (n : ℕ) (p more : List ℕ) → length p ≡ 188 → slice_index p 0 ≡ 0x47 → packets_in (suc n) (p ++ more) ≡ and_packet p (packets_in n more)
+packet_front n p more long sync =
+    let front : take 188 (p ++ more) ≡ p = take_at p more 188 long in
+    let rest : drop 188 (p ++ more) ≡ more = ap (λ k. drop k (p ++ more)) (sym long) ∙ drop-append_seam p more in
+    let is : is_packet (take 188 (p ++ more)) ≡ true = ap is_packet front ∙ (rw (long, sync) refl) in
+    packet_step n (p ++ more) is ∙ ap (λ l. and_packet l (packets_in n (drop 188 (p ++ more)))) front ∙ ap (λ l. and_packet p (packets_in n l)) rest
+
+pub more_parted : (bytes done rest : List ℕ) (heard : List (List ℕ)) (n : ℕ) (p behind : List ℕ) → HasParted bytes done heard (suc n) rest → rest ≡ p ++ behind → length p ≡ 188
+    → slice_index p 0 ≡ 0x47 → HasParted bytes (done ++ p) (heard ++ p ∷ []) n behind
+more_parted bytes done rest heard n p behind before is long sync = record {
+  parted = before.parted ∙ ap (λ l. done ++ l) is ∙ sym (append_assoc done p behind);
+  size = omega (arith, before.size, long, length-append done p, length-append heard (p ∷ []));
+  packets = λ more.
+      more_heard (recording ((done ++ p) ++ more)) (packets_in (suc n) (p ++ more)) (packets_in n more) heard p
+      (ap recording (append_assoc done p more) ∙ before.packets (p ++ more)) (packet_front n p more long sync);
+}
+
+-- fewer bytes than a packet has hold none
+none_in_short : (n : ℕ) (bytes : List ℕ) → length bytes < 188 → (packets_in n bytes).0 ≡ []
+none_in_short n [] lt = refl
+none_in_short zero (b ∷ bytes) lt = refl
+none_in_short (suc n) (b ∷ bytes) lt = ap (λ (r : Recording). r.0) (broken_step n (b ∷ bytes) (λ e. cc) (short_piece (b ∷ bytes) lt))
+
+whole_pieces : (k : ℕ) (done short : List ℕ) → length done ≡ 188 * k → length short < 188 → k ≡ length (done ++ short) / 188
+whole_pieces k done short size lt = omega (arith, size, lt, length-append done short)
+
+-- what is behind the bytes that a source gave
+left_behind : (before after : Option (List ℕ)) (held more rest : List ℕ) → prepend_known held before ≡ Some rest → Consumes before after more
+    → (behind : List ℕ) × (after ≡ Some behind) × (rest ≡ (held ++ more) ++ behind)
+left_behind None after held more rest e gave = cc
+left_behind (Some xs) None held more rest e gave = absurd gave
+left_behind (Some xs) (Some ys) held more rest e gave =
+    let same : held ++ xs ≡ rest = cc in
+    (ys, refl, sym same ∙ ap (λ l. held ++ l) gave ∙ sym (append_assoc held more ys))
+
+pub heard_stop : {S : Type 0} (left : S → Option (List ℕ)) (before after : PacketReading S) (s : PacketStop) (bytes done rest : List ℕ) (heard : List (List ℕ)) (receiver : Hearing) (old new : Option (List ℕ))
+    → bytes_left left before ≡ Some rest → HasParted bytes done heard (packets_to_come before) rest → before.number ≡ length heard → GivesPacket left before after (packets_in (packets_to_come before) rest) (Err s)
+    → TakesPacket left before after (Err s) → Counts before after (Err s) → Appends old new (heard_text heard) → HasHeard bytes (left after.source) receiver old new (Err (stop.Read s))
+heard_stop left before after (packet.Broken n) bytes done rest heard receiver old new tells parted count gives takes counts lines =
+    let last = last_heard (recording bytes) (packets_in (packets_to_come before) rest) heard Broken (parted_recording bytes done rest heard (packets_to_come before) parted) (given_broken left before after (packets_in (packets_to_come before) rest) n gives) in
+    (ap (λ (r : Recording). r.1) last, counts.0 ∙ count ∙ ap (λ (r : Recording). length r.0) (sym last), text_is old new (recording bytes).0 heard (ap (λ (r : Recording). r.0) last) lines)
+heard_stop left before after packet.TooLong bytes done rest heard receiver old new tells parted count gives takes counts lines =
+    let last = last_heard (recording bytes) (packets_in (packets_to_come before) rest) heard PastLimit (parted_recording bytes done rest heard (packets_to_come before) parted) (given_past left before after (packets_in (packets_to_come before) rest) gives) in
+    (ap (λ (r : Recording). r.1) last, text_is old new (recording bytes).0 heard (ap (λ (r : Recording). r.0) last) lines)
+heard_stop left before after packet.Failed bytes done rest heard receiver old new tells parted count gives takes counts lines =
+    let short = before.held ++ takes.0 in
+    let behind = left_behind (left before.source) (left after.source) before.held takes.0 rest tells takes.1 in
+    let none = ap (λ (r : Recording). r.0) (parted.packets short) ∙ ap (λ (l : List (List ℕ)). heard ++ l) (none_in_short (packets_to_come before) short takes.2) ∙ append-nil heard in (
+      done ++ short,
+      record {
+        behind = behind.0;
+        bytes_are = parted.parted ∙ ap (λ l. done ++ l) behind.2 ∙ sym (append_assoc done short behind.0);
+        left_is = behind.1;
+        whole = ap (λ (l : List (List ℕ)). length l) none ∙ whole_pieces (length heard) done short parted.size takes.2;
+      },
+      text_is old new (recording (done ++ short)).0 heard none lines,
+    )
+
+-- the lines of a packet were not all written, or there was no memory for them
+pub heard_line : (s : ListenStop) (bytes : List ℕ) (left : Option (List ℕ)) (receiver : Hearing) (y x : Recording) (heard : List (List ℕ)) (p : List ℕ) (n : ℕ) (a b c : Option (List ℕ))
+    → recording bytes ≡ (heard ++ y.0, y.1) → y ≡ and_packet p x → n ≡ length heard → Appends a b (heard_text heard)
+    → ReportsLines b c (done_lines (map (at_packet n) (dones_by heard p))) (Err s) → HasHeard bytes left receiver a c (Err s)
+heard_line (stop.Read s) bytes left receiver y x heard p n a b c e t number done reports = absurd reports
+heard_line stop.Memory bytes left receiver y x heard p n a b c e t number done reports = tt
+heard_line stop.Report bytes left receiver y x heard p n a b c e t number done reports =
+    let lines = ap (λ k. done_lines (map (at_packet k) (dones_by heard p))) number in
+    let text = ap (λ l. heard_text heard ++ l) lines ∙ sym (text_push heard p) ∙ ap heard_text (sym (front_heard (recording bytes) x (heard ++ p ∷ []) (more_heard (recording bytes) y x heard p e t))) in
+    (length (heard ++ p ∷ []), subst (AppendsFront a c) text (front_behind a b c (heard_text heard) (done_lines (map (at_packet n) (dones_by heard p))) done reports))
+
+-- ---- the run is over
+
+-- the guide was reported by a text that is the guide's, or a proper front of it
+pub guide_told : (packets : List (List ℕ)) (old new : Option (List ℕ)) (text : List ℕ) → text ≡ heard_guide packets → Appends old new text → Appends old new (heard_guide packets)
+guide_told packets old new text e told = subst (Appends old new) e told
+
+pub guide_front : (packets : List (List ℕ)) (old new : Option (List ℕ)) (text : List ℕ) → text ≡ heard_guide packets → AppendsFront old new text → AppendsFront old new (heard_guide packets)
+guide_front packets old new text e told = subst (AppendsFront old new) e told
+
+-- what is reported behind something that was written
+behind : (a b c : Option (List ℕ)) (f g h : ℕ) (xs ys : List ℕ) → f ≤ g → Appends a b xs → Reported (record { old = b; new = c; faults_old = g; faults_new = h }) ys
+    → Reported (record { old = a; new = c; faults_old = f; faults_new = h }) (xs ++ ys)
+behind a b c f g h xs ys le done (inl all) = inl (Appends-trans a b c xs ys done all)
+behind a b c f g h xs ys le done (inr (rose, front)) = inr (Rose-from f g h le rose, front_behind a b c xs ys done front)
+
+pub leaves_heard : (heard : Result (Unit {0}) ListenStop) (bytes : List ℕ) (left : Option (List ℕ)) (receiver : Hearing) (old mid new : Option (List ℕ)) (f g h : ℕ) (status : Status) → f ≤ g → HasHeard bytes left receiver old mid heard
+    → EndsHeard receiver heard (record { old = mid; new = new; faults_old = g; faults_new = h }) status → LeavesHeard bytes left (record { old = old; new = new; faults_old = f; faults_new = h }) status
+leaves_heard (Ok u) bytes left receiver old mid new f g h Done le (ended, done, stands) ends = record { ended = ended; report_is = Appends-trans old mid new (heard_text (recording bytes).0) (heard_guide (recording bytes).0) done (ends (recording bytes).0 stands) }
+leaves_heard (Ok u) bytes left receiver old mid new f g h (WriteFault Report) le (ended, done, stands) ends = inr (ended, front_behind old mid new (heard_text (recording bytes).0) (heard_guide (recording bytes).0) done (ends.0 (recording bytes).0 stands))
+leaves_heard (Ok u) bytes left receiver old mid new f g h Memory le has ends = tt
+leaves_heard (Ok u) bytes left receiver old mid new f g h other le has ends = absurd ends
+leaves_heard (Err stop.Memory) bytes left receiver old mid new f g h status le has ends = subst (LeavesHeard bytes left (record { old = old; new = new; faults_old = f; faults_new = h })) (sym ends) tt
+leaves_heard (Err stop.Report) bytes left receiver old mid new f g h status le has ends =
+    let told : ReportTaken = record { old = old; new = new; faults_old = f; faults_new = h } in
+    subst (LeavesHeard bytes left told) (sym ends.0) (inl (has.0, subst (λ (w : Option (List ℕ)). AppendsFront old w (heard_text (take has.0 (recording bytes).0))) ends.1 has.1))
+leaves_heard (Err (stop.Read s)) bytes left receiver old mid new f g h status le has (inl memory) = subst (LeavesHeard bytes left (record { old = old; new = new; faults_old = f; faults_new = h })) (sym memory) tt
+leaves_heard (Err (stop.Read (packet.Broken n))) bytes left receiver old mid new f g h status le has (inr (is, reported)) =
+    subst (LeavesHeard bytes left (record { old = old; new = new; faults_old = f; faults_new = h })) (sym is) (has.0, has.1, behind old mid new f g h (heard_text (recording bytes).0) (fault_line (packet_stop_text (packet.Broken n))) le has.2 reported)
+leaves_heard (Err (stop.Read packet.TooLong)) bytes left receiver old mid new f g h status le has (inr (is, reported)) =
+    subst (LeavesHeard bytes left (record { old = old; new = new; faults_old = f; faults_new = h })) (sym is) (has.0, behind old mid new f g h (heard_text (recording bytes).0) (fault_line (packet_stop_text packet.TooLong)) le has.1 reported)
+leaves_heard (Err (stop.Read packet.Failed)) bytes left receiver old mid new f g h status le has (inr (is, reported)) =
+    subst (LeavesHeard bytes left (record { old = old; new = new; faults_old = f; faults_new = h })) (sym is) (record { taken = has.0; is_taken = has.1; report_is = behind old mid new f g h (heard_text (recording has.0).0) (fault_line (packet_stop_text packet.Failed)) le has.2 reported })
+
+-- the source of the reader is the input, which was lent
+pub heard_input : {S : Type 0} (left_of : S → Option (List ℕ)) (source input : S) (bytes : List ℕ) (report : ReportTaken) (status : Status) → input ≡ source
+    → LeavesHeard bytes (left_of source) report status → LeavesHeard bytes (left_of input) report status
+heard_input {S = S} left_of source input bytes report status e leaves = subst (λ (s : S). LeavesHeard bytes (left_of s) report status) (sym e) leaves
+
+-- a reader at the front of its source has the whole recording to give
+pub started : {S : Type 0} (left : S → Option (List ℕ)) (reader : PacketReading S) (source : S) (bytes : List ℕ) → reader ≡ fresh source → left source ≡ Some bytes → bytes_left left reader ≡ Some bytes
+started left reader source bytes e tells = ap (bytes_left left) e ∙ prepend_known-nil (left source) ∙ tells
+
+-- where nothing fails, the end of the recording decides
+pub hears_through : (bytes : List ℕ) (left : Option (List ℕ)) (report : ReportTaken) (status : Status) → LeavesHeard bytes left report status → (status ≡ ReadFault Input → ⊥) → (status ≡ WriteFault Report → ⊥) → HearsThrough (recording bytes) status
+hears_through bytes left report Done leave r w = leave.ended
+hears_through bytes left report (BadStream n) leave r w = (leave.0, leave.1)
+hears_through bytes left report (TooLong Input) leave r w = leave.0
+hears_through bytes left report (TooLong (Feed f)) leave r w = absurd leave
+hears_through bytes left report (ReadFault Input) leave r w = absurd (r refl)
+hears_through bytes left report (ReadFault (Feed f)) leave r w = absurd leave
+hears_through bytes left report (WriteFault Report) leave r w = absurd (w refl)
+hears_through bytes left report (WriteFault Air) leave r w = absurd leave
+hears_through bytes left report Memory leave r w = tt
+hears_through bytes left report other leave r w = absurd leave
+
+pub no_read_cause : (before now : ℕ) (s : ListenStop) → IsNoReadStop (let r : Result (Unit {0}) ListenStop = Err s in r) → HasReadCause before now (Err s)
+no_read_cause before now (stop.Read s) none = absurd none
+no_read_cause before now stop.Report none = tt
+no_read_cause before now stop.Memory none = tt
+
+-- a run of `listen` has no other status
+stop_of_listen : (s : PacketStop) → IsOfListen (packet_stop_status s)
+stop_of_listen (packet.Broken n) = tt
+stop_of_listen other = tt
+
+pub of_listen : (receiver : Hearing) (heard : Result (Unit {0}) ListenStop) (t : ReportTaken) (status : Status) → EndsHeard receiver heard t status → IsOfListen status
+of_listen receiver (Ok u) t Done ends = tt
+of_listen receiver (Ok u) t (WriteFault Report) ends = tt
+of_listen receiver (Ok u) t Memory ends = tt
+of_listen receiver (Ok u) t other ends = absurd ends
+of_listen receiver (Err stop.Report) t status ends = subst IsOfListen (sym ends.0) tt
+of_listen receiver (Err stop.Memory) t status ends = subst IsOfListen (sym ends) tt
+of_listen receiver (Err (stop.Read s)) t status (inl memory) = subst IsOfListen (sym memory) tt
+of_listen receiver (Err (stop.Read s)) t status (inr (is, reported)) = subst IsOfListen (sym is) (stop_of_listen s)

@@ -1,0 +1,115 @@
+-- What a run of `listen` leaves, for each status, and all that it promises.
+use Rattle.std.specs.Prelude.{◌≡◌, ℕ, ◌/◌, ◌⊎◌, ◌++◌, List, length, take, Option, Some}
+use Rattle.std.specs.Io.KnownBytes.{Appends, IsAtEnd}
+use Rattle.si_causes.specs.Causes.{Rose, AppendsFront}
+use Rattle.packet_reader.specs.Recordings.{RecordingEnd, RecordingEnd.AtEnd, RecordingEnd.Broken, RecordingEnd.PastLimit, recording}
+use Rattle.packet_reader.specs.declared.stop.PacketStop.{PacketStop}
+use Rattle.packet_reader.specs.declared.stop.PacketStop.TheVariants as packet
+use Rattle.heard_completions.specs.Dones.{dones_of}
+use Rattle.guide_receiver.specs.Guides.{guide_of}
+use Rattle.heard_completions.specs.Texts.{done_lines}
+use Rattle.guide_text.specs.Guides.{guide_text}
+use Rattle.epg_report.specs.declared.status.Status.{Status}
+use Rattle.epg_report.specs.declared.status.Status.TheVariants.{Done, BadStream, TooLong, ReadFault, WriteFault, Memory}
+use Rattle.epg_report.specs.declared.status.Origin.TheVariants.{Input}
+use Rattle.epg_report.specs.declared.status.Outlet.TheVariants.{Report}
+use Rattle.epg_report.specs.Texts.{fault_line, fault_text}
+use Rattle.epg_report.specs.Told.{ReportTaken, Reported, SourceGave}
+
+-- the packets of a recording, and how it stops
+abbrev pub Recording : Type 0
+Recording = List (List ℕ) × RecordingEnd
+
+-- the lines of the completions that these packets show
+abbrev pub heard_text : List (List ℕ) → List ℕ
+heard_text packets = done_lines (dones_of packets)
+
+-- the text of the guide that was heard of them
+abbrev pub heard_guide : List (List ℕ) → List ℕ
+heard_guide packets = guide_text (guide_of packets)
+
+-- the whole report of a recording of these packets
+abbrev pub report_of : List (List ℕ) → List ℕ
+report_of packets = heard_text packets ++ heard_guide packets
+
+-- the status of a stop
+abbrev pub packet_stop_status : PacketStop → Status
+packet_stop_status (packet.Broken n) = BadStream n
+packet_stop_status packet.TooLong = TooLong Input
+packet_stop_status packet.Failed = ReadFault Input
+
+-- what the line of a stop says
+abbrev pub packet_stop_text : PacketStop → List ℕ
+packet_stop_text stop = fault_text (packet_stop_status stop)
+
+-- with Done: each piece of the recording is a packet, and the report is the completions of all of them and the guide
+pub record HeardWhole (recording : Recording) (report : ReportTaken) : Type 0 where
+  pub ended : recording.1 ≡ AtEnd
+  pub report_is : Appends report.old report.new (report_of recording.0)
+
+-- with a fault behind all packets of the recording
+abbrev pub HeardAll : Recording → List ℕ → ReportTaken → Type 0
+HeardAll recording fault report = Reported report (heard_text recording.0 ++ fault_line fault)
+
+-- These bytes were taken from the input, and the others are left; each whole piece that was taken is a packet.
+pub record WasTaken (bytes : List ℕ) (left : Option (List ℕ)) (taken : List ℕ) : Type 0 where
+  pub behind : List ℕ
+  pub bytes_are : bytes ≡ taken ++ behind
+  pub left_is : left ≡ Some behind
+  pub whole : length (recording taken).0 ≡ length taken / 188
+
+-- with a failed read: the completions of the whole packets that were taken, and the fault
+pub record HeardTaken (bytes : List ℕ) (left : Option (List ℕ)) (report : ReportTaken) : Type 0 where
+  pub taken : List ℕ
+  pub is_taken : WasTaken bytes left taken
+  pub report_is : Reported report (heard_text (recording taken).0 ++ fault_line (packet_stop_text packet.Failed))
+
+-- With a fault of the report no fault of the recording was met: the report has a proper front of the completions of the first k packets,
+-- or, where the recording was heard to its end, of all completions and the guide.
+abbrev pub HeardUnreported : Recording → ReportTaken → Type 0
+HeardUnreported recording report =
+    ((k : ℕ) × AppendsFront report.old report.new (heard_text (take k recording.0)))
+    ⊎ ((recording.1 ≡ AtEnd) × AppendsFront report.old report.new (report_of recording.0))
+
+-- What a run of `listen` leaves with each status, of the bytes of a recording, and of what is left of them. No other status comes.
+abbrev pub LeavesHeard : List ℕ → Option (List ℕ) → ReportTaken → Status → Type 0
+LeavesHeard bytes left report Done = HeardWhole (recording bytes) report
+LeavesHeard bytes left report (BadStream n) = ((recording bytes).1 ≡ Broken) × (n ≡ length (recording bytes).0) × HeardAll (recording bytes) (packet_stop_text (packet.Broken n)) report
+LeavesHeard bytes left report (TooLong Input) = ((recording bytes).1 ≡ PastLimit) × HeardAll (recording bytes) (packet_stop_text packet.TooLong) report
+LeavesHeard bytes left report (ReadFault Input) = HeardTaken bytes left report
+LeavesHeard bytes left report (WriteFault Report) = HeardUnreported (recording bytes) report
+LeavesHeard bytes left report Memory = Unit {0}
+LeavesHeard bytes left report status = ⊥
+
+-- the statuses of `listen`
+abbrev pub IsOfListen : Status → Type 0
+IsOfListen Done = Unit {0}
+IsOfListen (BadStream n) = Unit {0}
+IsOfListen (TooLong Input) = Unit {0}
+IsOfListen (ReadFault Input) = Unit {0}
+IsOfListen (WriteFault Report) = Unit {0}
+IsOfListen Memory = Unit {0}
+IsOfListen status = ⊥
+
+-- What a run answers where neither the input nor the report fails: the end of the recording decides, but for want of memory.
+abbrev pub HearsThrough : Recording → Status → Type 0
+HearsThrough recording Done = recording.1 ≡ AtEnd
+HearsThrough recording (BadStream n) = (recording.1 ≡ Broken) × (n ≡ length recording.0)
+HearsThrough recording (TooLong Input) = recording.1 ≡ PastLimit
+HearsThrough recording Memory = Unit {0}
+HearsThrough recording status = ⊥
+
+-- A run of `listen`: what its input gave, what its report took, and its status.
+pub record ListenRun (input : SourceGave) (report : ReportTaken) (status : Status) : Type 0 where
+  -- what is left with each status: the completions and the guide that the report has
+  pub leaves : (bytes : List ℕ) → input.old ≡ Some bytes → LeavesHeard bytes input.new report status
+  -- where neither the input nor the report fails, the recording decides the status, but for want of memory
+  pub completes : (bytes : List ℕ) → input.old ≡ Some bytes → ¬ (Rose input.faults_old input.faults_new)
+      → ¬ (Rose report.faults_old report.faults_new) → HearsThrough (recording bytes) status
+  -- no other status comes
+  pub known : IsOfListen status
+  -- with Done the input was read to its end
+  pub end : status ≡ Done → IsAtEnd input.new
+  -- a fault of the input and of the report has its cause
+  pub input_cause : status ≡ ReadFault Input → Rose input.faults_old input.faults_new
+  pub report_cause : status ≡ WriteFault Report → Rose report.faults_old report.faults_new

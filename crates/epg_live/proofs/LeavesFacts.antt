@@ -1,0 +1,130 @@
+-- What a run leaves, from what it met and how its report ended: what it sent is heard as it should be, and its monitor shows what is on air at its end.
+use Rattle.std.proofs.Common.{◌≡◌, inl, inr, ℕ, true, false, List, refl, sym, ap, ◌∙◌, subst, map, drop}
+use Rattle.std.specs.Prelude.{Option, Some, None, IfSome, IsSome, Ok, Err, Result}
+use Rattle.si_causes.specs.Opening.{Files}
+use Rattle.mux_model.specs.declared.mux.Mux.{Mux}
+use Rattle.mux_config.proofs.FineLines.{described_texts_are_kept, whole_descriptions_are_sound}
+use Rattle.input_lines.specs.declared.stop.EditStop.{EditStop}
+use Rattle.input_lines.specs.Ahead.{Ahead, Came}
+use Rattle.journal_model.specs.declared.step.Entry.{Entry}
+use Rattle.journal_model.specs.Steps.{command_of}
+use Rattle.ts_packets.specs.WholePackets.{whole_packets}
+use Rattle.air_model.specs.Air.{air_bytes}
+use Rattle.air_monitor.proofs.Packets.{told_taken}
+use Rattle.guide_screen.specs.declared.need.Heard.{Heard}
+use Rattle.guide_receiver.specs.Guides.{guide_of}
+use Rattle.journal_screen.specs.Shown.{IsAsRead}
+use Rattle.journal_screen.specs.Last.{IsShownLast}
+use Rattle.journal_screen.proofs.Last.{journals_last}
+use Rattle.headend_jobs.specs.declared.live.LiveStop.{LiveStop}
+use Rattle.headend_jobs.specs.declared.send.SendStop.{SendStop}
+use Rattle.headend_jobs.specs.declared.send.SendStop.TheVariants as send
+use Rattle.headend_jobs.specs.Live.{AirDid, AirOf, LastMade, and_stop, control_stop, halts, run_stop, sent_stop}
+use Rattle.headend_live.specs.Watched.{guide_of_air}
+use Rattle.headend_live.proofs.Sent.{air_sent}
+use Rattle.headend_jobs.specs.Whole.{final_commands}
+use Rattle.epg_report.specs.declared.status.Status.{Status}
+use Rattle.epg_report.specs.declared.status.Status.TheVariants.{Done, Memory}
+use Rattle.epg_report.specs.Told.{ReportTaken}
+use Rattle.epg_live.specs.declared.reporting.HeardAir.{HeardAir}
+use Rattle.epg_live.specs.Stops.{feeds_stop}
+use Rattle.epg_live.specs.Runs.{EndsBefore, JobsRan, NoJobs, described, ahead_of}
+use Rattle.epg_live.specs.Ends.{HasMet, ReportEnds, or_report, run_text}
+use Rattle.epg_live.specs.Leaves.{LeavesLive}
+use Rattle.epg_live.proofs.StopFacts.{and_none, done_none, no_control}
+use Rattle.epg_live.proofs.TypedFacts.{run_typed}
+
+-- ---- a run that nothing stopped
+
+-- the control made its last turns, where nothing stopped the run
+pub last_made : (player sent : Result (Unit {0}) SendStop) (control : Option EditStop) (feeds : Option LiveStop) (final : List Entry)
+    → ((stop : SendStop) → player ≡ Err stop → sent ≡ Err stop) → sent_stop sent ≡ None → control ≡ None → feeds ≡ None
+    → LastMade (halts player control feeds) 0 final sent → map command_of final ≡ final_commands 0
+last_made player (Err send.Air) control feeds final failed all_sent none fed last = cc all_sent
+last_made player (Err send.Memory) control feeds final failed all_sent none fed last = cc all_sent
+last_made (Err stop) (Ok u) control feeds final failed all_sent none fed last = cc (failed stop refl)
+last_made (Ok v) (Ok u) (Some stop) feeds final failed all_sent none fed last = cc none
+last_made (Ok v) (Ok u) None (Some stop) final failed all_sent none fed last = cc fed
+last_made (Ok v) (Ok u) None None final failed all_sent none fed last = last
+
+-- and the air took all cycles
+all_aired : (mux : Mux) (journal : List Entry) (before now : Option (List ℕ)) (sent : Result (Unit {0}) SendStop) → sent_stop sent ≡ None → AirDid mux journal before now sent
+    → AirOf mux journal before now
+all_aired mux journal before now (Ok u) all_sent did = did
+all_aired mux journal before now (Err send.Air) all_sent did = cc all_sent
+all_aired mux journal before now (Err send.Memory) all_sent did = cc all_sent
+
+told_guide : (guide : Option Heard) (heard : Heard) → IsSome guide → IfSome guide (λ (h : Heard). h ≡ heard) → guide ≡ Some heard
+told_guide None heard some is = (let no : false ≡ true = some in cc no)
+told_guide (Some h) heard some is = ap (λ (x : Heard). Some x) is
+
+module _ (mux : Mux) (cycles join : ℕ) (text : List ℕ) (left : Option (List ℕ)) (behind : Ahead) (paths : List (List ℕ)) (files : Files) (feeds_before feeds_now : ℕ)
+    (before now : Option (List ℕ)) (journal : List Entry) (heard : HeardAir) (status : Status) (whole : described text ≡ Came (Ok mux) behind)
+    (ran : JobsRan mux cycles join text left behind paths files feeds_before feeds_now before now journal heard status) where
+  abbrev fed : Option LiveStop
+  fed = feeds_stop None 1 ran.feed_stops
+
+  as_read : IsAsRead mux journal
+  as_read =
+      let typed = run_typed mux cycles text left behind paths files journal ran.player ran.control_stop ran.feed_stops ran.final (halts ran.player ran.control_stop fed) ran.sent
+      ran.journal_is ran.last in
+      let kept = described_texts_are_kept (ahead_of text) mux behind whole in
+      record {
+        sound = whole_descriptions_are_sound (ahead_of text) mux behind whole;
+        network = kept.0;
+        services = kept.1;
+        edits = typed.0;
+        steps = typed.1;
+      }
+
+  ran_shown : status ≡ Done → (sent : List ℕ) → before ≡ Some sent → IsShownLast join mux journal before now heard.guide
+  ran_shown done sent knows =
+      let none = done_none (run_stop ran.sent ran.control_stop fed) (sym ran.status_is ∙ done) in
+      let stops = and_none (sent_stop ran.sent) (and_stop (control_stop ran.control_stop) fed) none in
+      let jobs = and_none (control_stop ran.control_stop) fed stops.1 in
+      let air = all_aired mux journal before now ran.sent stops.0 ran.air_is in
+      let was = ran.was_heard sent knows in
+      let taken = told_taken before now sent was.taken (air_bytes air.cycles) knows was.gave air.bytes in
+      let guide = told_guide heard.guide (guide_of_air join was.taken) (ran.told.1 done) was.guide in
+      journals_last 0 join mux journal as_read ran.journal_is.legal
+      (record {
+        front = ran.journal_is.front;
+        final = ran.final;
+        ends = ran.journal_is.ends;
+        commands = last_made ran.player ran.sent ran.control_stop fed ran.final ran.failed stops.0 (no_control ran.control_stop jobs.0) jobs.1 ran.last;
+      })
+      air.cycles air.is_air before now air.bytes heard.guide (guide ∙ ap (λ (bytes : List ℕ). Some (guide_of (drop join (whole_packets bytes)))) taken)
+
+-- ---- the run
+
+pub by_memory : (text : List ℕ) (report : ReportTaken) (met status : Status) → met ≡ Memory → ReportEnds met text report status → status ≡ Memory
+by_memory text report met status is (inl (took, same)) = same ∙ is
+by_memory text report met status is (inr (rose, took, same)) = same ∙ ap or_report is
+
+none_done : (text : List ℕ) (left before now : Option (List ℕ)) (journal : List Entry) (heard : HeardAir) (met : Status) → NoJobs text left before now journal heard met → met ≡ Done → Prim.⊥
+none_done text left before now journal heard met none done = subst (λ (s : Status). EndsBefore text left s) done none.why
+
+pub leaves : (paths : List (List ℕ)) (cycles join : ℕ) (text : List ℕ) (files : Files) (left : Option (List ℕ)) (feeds_before feeds_now : ℕ) (air report : ReportTaken) (journal : List Entry) (heard : HeardAir) (met status : Status)
+    → HasMet paths cycles join text files left feeds_before feeds_now air.old air.new journal heard met → ReportEnds met (run_text journal heard) report status
+    → LeavesLive paths cycles join text files left feeds_before feeds_now air report status
+leaves paths cycles join text files left feeds_before feeds_now air report journal heard met status (inl memory) ends = inl (by_memory (run_text journal heard) report met status memory ends)
+leaves paths cycles join text files left feeds_before feeds_now air report journal heard met status (inr (inl none)) ends = inr (record {
+  journal = journal;
+  heard = heard;
+  met = met;
+  ran = inr (inl none);
+  reported = ends;
+  sent = inl none.sent;
+  shown = λ done sent knows. absurd (none_done text left air.old air.new journal heard met none done);
+})
+leaves paths cycles join text files left feeds_before feeds_now air report journal heard met status (inr (inr (mux, behind, whole, ran))) ends =
+    let read = as_read mux cycles join text left behind paths files feeds_before feeds_now air.old air.new journal heard met whole ran in
+    inr (record {
+      journal = journal;
+      heard = heard;
+      met = met;
+      ran = inr (inr (mux, behind, whole, ran));
+      reported = ends;
+      sent = inr (mux, behind, whole, air_sent mux journal air.old air.new ran.sent read ran.journal_is.legal ran.air_is);
+      shown = λ done sent knows. (mux, behind, whole, ran_shown mux cycles join text left behind paths files feeds_before feeds_now air.old air.new journal heard met whole ran done sent knows);
+    })

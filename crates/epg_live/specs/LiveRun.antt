@@ -1,0 +1,67 @@
+-- What a run of `live` promises.
+use Rattle.std.specs.Prelude.{◌≡◌, ◌⊎◌, ℕ, List, Option, Some}
+use Rattle.std.specs.Io.KnownBytes.{IsAtEnd}
+use Rattle.si_causes.specs.Causes.{Rose}
+use Rattle.si_causes.specs.Opening.{Files}
+use Rattle.epg_report.specs.declared.status.Status.{Status}
+use Rattle.epg_report.specs.declared.status.Status.TheVariants.{Done, OpenFault, WriteFault, Memory}
+use Rattle.epg_report.specs.declared.status.Outlet.TheVariants.{Report}
+use Rattle.epg_report.specs.Told.{ReportTaken, SourceGave}
+use Rattle.epg_live.specs.Decided.{AreWhole, text_status}
+use Rattle.epg_live.specs.Stops.{HasStatusCause, IsOfLive}
+use Rattle.epg_live.specs.Ends.{HasAsked}
+use Rattle.epg_live.specs.Leaves.{LeavesLive}
+
+-- What an opener was asked: its files, where they are known, the paths that were tried, and the counts of its faults, in opening files and
+-- in reading those that it opened.
+pub record OpenerAsked : Type 0 where
+  pub files : Option Files
+  pub tried_old : Option (List (List ℕ))
+  pub tried_new : Option (List (List ℕ))
+  pub faults_old : ℕ
+  pub faults_new : ℕ
+  pub read_old : ℕ
+  pub read_new : ℕ
+
+abbrev pub asked : {O : Type 0} → (O → Option Files) → (O → Option (List (List ℕ))) → (O → ℕ) → (O → ℕ) → O → O → OpenerAsked
+asked files tried faults read_faults old new = record {
+  files = files old;
+  tried_old = tried old;
+  tried_new = tried new;
+  faults_old = faults old;
+  faults_new = faults new;
+  read_old = read_faults old;
+  read_new = read_faults new;
+}
+
+-- nothing failed: neither the input, nor opening or reading a file, nor a sink
+pub record IsUnfailing (opener : OpenerAsked) (input : SourceGave) (air report : ReportTaken) : Type 0 where
+  pub no_input : ¬ (Rose input.faults_old input.faults_new)
+  pub no_opening : ¬ (Rose opener.faults_old opener.faults_new)
+  pub no_reading : ¬ (Rose opener.read_old opener.read_new)
+  pub no_air : ¬ (Rose air.faults_old air.faults_new)
+  pub no_report : ¬ (Rose report.faults_old report.faults_new)
+
+-- A run of `live` over the files of these paths: what its opener was asked, what its input gave, what its air and its report took, and its
+-- status.
+pub record LiveRun (paths : List (List ℕ)) (cycles join : ℕ) (opener : OpenerAsked) (input : SourceGave) (air report : ReportTaken) (status : Status) : Type 0 where
+  -- what is left with each status: one journal of all callers, however their threads interleave, its air, how that can be heard, and what
+  -- was heard of it
+  pub leaves : (text : List ℕ) → input.old ≡ Some text → (files : Files) → opener.files ≡ Some files
+      → LeavesLive paths cycles join text files input.new opener.read_old opener.read_new air report status
+  -- where nothing fails, the texts of the input and of the files decide the status, but for want of memory
+  pub completes : (text : List ℕ) → input.old ≡ Some text → (files : Files) → opener.files ≡ Some files → IsUnfailing opener input air report
+      → (status ≡ Memory) ⊎ (status ≡ text_status text paths files)
+  -- and so texts that are whole are run to their ends
+  pub whole : (text : List ℕ) → input.old ≡ Some text → (files : Files) → opener.files ≡ Some files → AreWhole text paths files
+      → IsUnfailing opener input air report → (status ≡ Done) ⊎ (status ≡ Memory)
+  -- no other status comes
+  pub known : IsOfLive status
+  -- the opener was asked for the paths, in order
+  pub asked_for : HasAsked paths opener.tried_old opener.tried_new status
+  -- with Done the input was read to its end
+  pub end : status ≡ Done → IsAtEnd input.new
+  -- each fault has its cause
+  pub cause : HasStatusCause input.faults_old input.faults_new opener.read_old opener.read_new air.faults_old air.faults_new status
+  pub open_cause : (feed : ℕ) → status ≡ OpenFault feed → Rose opener.faults_old opener.faults_new
+  pub report_cause : status ≡ WriteFault Report → Rose report.faults_old report.faults_new

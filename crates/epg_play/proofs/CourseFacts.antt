@@ -1,0 +1,278 @@
+-- The items of a script, one after another, and what is played of them.
+use Rattle.std.proofs.Common.{◌≡◌, ◌≤◌, ℕ, Bool, true, false, List, [], ◌∷◌, ◌++◌, length, take, refl, sym, ap, ◌∙◌, subst, append-nil, append_assoc}
+use Rattle.std.specs.Prelude.{Option, Some, None, Ok, Err, is_some}
+use Rattle.std.proofs.Math.Seq.{take-append_seam}
+use Rattle.si_causes.proofs.CauseFacts.{Rose-from}
+use Rattle.si_causes.specs.Reading.{Reading, text_left}
+use Rattle.si_causes.specs.declared.stop.ReadStop.TheVariants.{Failed, TooLong as Overlong}
+use Rattle.input_lines.specs.Going.{HandedOut}
+use Rattle.input_lines.proofs.Steps.{handed_none, handed_more, whole_more}
+use Rattle.mux_model.specs.declared.mux.Mux.{Mux}
+use Rattle.input_lines.specs.declared.stop.EditStop.{EditStop}
+use Rattle.input_lines.specs.declared.stop.EditStop.TheVariants as edits
+use Rattle.input_lines.specs.Ahead.{Ahead, Tail, Came, Stopped, ahead}
+use Rattle.input_lines.specs.Ahead as reading
+use Rattle.input_lines.specs.Reads.{Passes, Leaves, Gives, GivesNext, Takes, Faulted, ahead_with}
+use Rattle.journal_model.specs.declared.step.Step.{Step}
+use Rattle.journal_model.specs.declared.step.Outcome.{Outcome}
+use Rattle.journal_model.specs.declared.step.Entry.{Entry}
+use Rattle.desk_core.specs.Journal.{journal_after, entry_after, outcome_of}
+use Rattle.journal_model.specs.Steps.{Command}
+use Rattle.desk_core.specs.Desks.{DeskState}
+use Rattle.desk_core.proofs.JournalFacts.{journal_more}
+use Rattle.script_lines.specs.declared.script.ScriptItem.{ScriptItem}
+use Rattle.script_lines.specs.declared.script.ScriptItem.TheVariants.{Step as step, Kept}
+use Rattle.script_lines.specs.Script.{asked_by, first_script_item, items_ahead, kept_first}
+use Rattle.script_lines.proofs.ItemsAhead.{items_step, items_kept, items_stop}
+use Rattle.headend_jobs.specs.OnAir.{and_step}
+use Rattle.epg_play.specs.declared.stop.PlayStop.{PlayStop}
+use Rattle.epg_play.specs.declared.stop.PlayStop.TheVariants.{Disagrees, Read, Air, Memory}
+use Rattle.epg_play.specs.Script.{Stop, Ended, NoCommand, Disagreed, TooLong, Unread, commands_of, difference, first_difference, first_of, played_items, stop_of, up_to}
+use Rattle.epg_play.specs.Played.{HasReadCause, IsDifference, PlayedWhole, RestDid, RestTaken, StepDid, course, course_of, desk_after, late_difference, read_stop, unless_late}
+
+-- commands and a stop
+abbrev pub Rest : Type 0
+Rest = List Command × Stop
+
+abbrev pub and_command : Command → Rest → Rest
+and_command command rest = (command ∷ rest.0, rest.1)
+
+-- ---- items
+
+up_first : (here : Option Stop) (later : Option (ℕ × Stop)) (command : Command) (commands : List Command) (stop : Stop)
+    → up_to (first_of here later) (command ∷ commands) stop ≡ and_command command (unless_late here (up_to later commands stop))
+up_first (Some here) later command commands stop = refl
+up_first None None command commands stop = refl
+up_first None (Some later) command commands stop = refl
+
+none_late : (made : Option Outcome) (rest : Rest) → unless_late (late_difference made None) rest ≡ rest
+none_late None rest = refl
+none_late (Some found) rest = refl
+
+-- a step in front of other items
+course_step : (mux : Mux) (before : List Entry) (made : Option Outcome) (who : ℕ) (s : Step) (items : List ScriptItem × reading.Stop)
+    → course_of mux before made (step who s ∷ items.0, items.1)
+    ≡ and_command (who, s) (course_of mux (before ++ entry_after mux before (who, s) ∷ []) (Some (outcome_of mux before s)) items)
+course_step mux before made who s items =
+    let front = before ++ entry_after mux before (who, s) ∷ [] in
+    let commands = commands_of (asked_by items.0) in
+    none_late made _
+    ∙ up_first (difference (kept_first items.0) (outcome_of mux before s)) (first_difference (asked_by items.0) (journal_after mux front commands)) (who, s) commands (stop_of items.1)
+
+-- what is ahead of a desk
+abbrev pub course_at : DeskState → Option Outcome → Ahead → Rest
+course_at desk made lines = course desk.mux desk.entries made lines
+
+pub step_ahead : (desk : DeskState) (made : Option Outcome) (lines behind : Ahead) (who : ℕ) (s : Step) → first_script_item (is_some made) lines ≡ Came (step who s) behind
+    → course_at desk made lines ≡ and_command (who, s) (course_at (and_step desk who s) (Some (outcome_of desk.mux desk.entries s)) behind)
+step_ahead desk made lines behind who s e =
+    ap (course_of desk.mux desk.entries made) (items_step (is_some made) lines behind who s e)
+    ∙ course_step desk.mux desk.entries made who s (items_ahead true behind)
+
+pub agreed_ahead : (desk : DeskState) (made : Option Outcome) (lines behind : Ahead) (n : ℕ) (kept : Outcome) → first_script_item (is_some made) lines ≡ Came (Kept n kept) behind
+    → late_difference made (Some (n, kept)) ≡ None → course_at desk made lines ≡ course_at desk None behind
+agreed_ahead desk made lines behind n kept e agree =
+    ap (course_of desk.mux desk.entries made) (items_kept (is_some made) lines behind n kept e)
+    ∙ ap (λ (o : Option Stop). unless_late o (played_items desk.mux desk.entries (items_ahead false behind))) agree
+
+pub differs_ahead : (desk : DeskState) (made : Option Outcome) (lines behind : Ahead) (n : ℕ) (kept : Outcome) (stop : Stop) → first_script_item (is_some made) lines ≡ Came (Kept n kept) behind
+    → late_difference made (Some (n, kept)) ≡ Some stop → course_at desk made lines ≡ ([], stop)
+differs_ahead desk made lines behind n kept stop e differ =
+    ap (course_of desk.mux desk.entries made) (items_kept (is_some made) lines behind n kept e)
+    ∙ ap (λ (o : Option Stop). unless_late o (played_items desk.mux desk.entries (items_ahead false behind))) differ
+
+pub stop_ahead : (desk : DeskState) (made : Option Outcome) (lines : Ahead) (stop : reading.Stop) → first_script_item (is_some made) lines ≡ Stopped stop → course_at desk made lines ≡ ([], stop_of stop)
+stop_ahead desk made lines stop e = ap (course_of desk.mux desk.entries made) (items_stop (is_some made) lines stop e) ∙ none_late made _
+
+-- ---- commands that were done
+
+pub desk_none : (desk : DeskState) → desk ≡ desk_after desk []
+desk_none desk = ap (λ (l : List Entry). let d : DeskState = record { mux = desk.mux; entries = l } in d) (sym (append-nil desk.entries))
+
+pub desk_more : (desk : DeskState) (commands : List Command) (who : ℕ) (s : Step) → and_step (desk_after desk commands) who s ≡ desk_after desk (commands ++ (who, s) ∷ [])
+desk_more desk commands who s =
+    ap (λ (l : List Entry). let d : DeskState = record { mux = desk.mux; entries = l } in d) (append_assoc desk.entries (journal_after desk.mux desk.entries commands) _ ∙ ap (λ l. desk.entries ++ l) (sym (journal_more desk.mux desk.entries commands ((who, s) ∷ []))))
+
+-- of what was ahead these commands were done, and this is what is played behind them
+abbrev pub Done : DeskState → DeskState → Option Outcome → Ahead → Ahead → List Command → Type 0
+Done old desk made lines behind done = course_at old None lines ≡ (done ++ (course_at desk made behind).0, (course_at desk made behind).1)
+
+done_more : (old desk new : DeskState) (made after : Option Outcome) (lines now behind : Ahead) (done : List Command) (command : Command) → Done old desk made lines now done
+    → course_at desk made now ≡ and_command command (course_at new after behind) → Done old new after lines behind (done ++ command ∷ [])
+done_more old desk new made after lines now behind done command d e =
+    d ∙ ap (λ (p : Rest). let q : Rest = (done ++ p.0, p.1) in q) e
+    ∙ ap (λ (l : List Command). let q : Rest = (l, (course_at new after behind).1) in q) (sym (append_assoc done (command ∷ []) (course_at new after behind).0))
+
+done_same : (old desk : DeskState) (made after : Option Outcome) (lines now behind : Ahead) (done : List Command) → Done old desk made lines now done
+    → course_at desk made now ≡ course_at desk after behind → Done old desk after lines behind done
+done_same old desk made after lines now behind done d e = d ∙ ap (λ (p : Rest). let q : Rest = (done ++ p.0, p.1) in q) e
+
+done_last : (old desk : DeskState) (made : Option Outcome) (lines now : Ahead) (done : List Command) (stop : Stop) → Done old desk made lines now done
+    → course_at desk made now ≡ ([], stop) → course_at old None lines ≡ (done, stop)
+done_last old desk made lines now done stop d e =
+    d ∙ ap (λ (p : Rest). let q : Rest = (done ++ p.0, p.1) in q) e ∙ ap (λ (l : List Command). let q : Rest = (l, stop) in q) (append-nil done)
+
+-- ---- a reader that goes on
+
+abbrev Known : Type 0
+Known = Option (List ℕ)
+
+-- From old to now the lines gave the steps that the desk did.
+pub record Went {S : Type 0} (left : S → Known) (old now : Reading S) (before desk : DeskState) (made : Option Outcome) : Type 0 where
+  pub done : List Command
+  pub did : desk ≡ desk_after before done
+  pub told : (text : List ℕ) → text_left left old ≡ Some text → (rest : List ℕ) × (text_left left now ≡ Some rest) × Done before desk made (ahead old text) (ahead now rest) done
+  pub lines : List (List ℕ)
+  pub handed : HandedOut left old now lines
+  pub reads : (more : List (List ℕ)) (tail : Tail) → Done before desk made (ahead_with old (lines ++ more) tail) (ahead_with now more tail) done
+
+pub went_none : {S : Type 0} (left : S → Known) (reader : Reading S) (desk : DeskState) → Went left reader reader desk desk None
+went_none left reader desk = record {
+  done = [];
+  did = desk_none desk;
+  told = λ text told. (text, told, refl);
+  lines = [];
+  handed = handed_none left reader;
+  reads = λ more tail. refl;
+}
+
+-- an item was read
+pub record ItemRead {S : Type 0} (left : S → Known) (now new : Reading S) (after : Bool) (item : ScriptItem) : Type 0 where
+  pub gives : (text : List ℕ) → text_left left now ≡ Some text → Leaves left (first_script_item after) (Came item) now new text
+  pub takes : Passes left (first_script_item after) (Came item) now new
+
+pub item_read : {S : Type 0} (left : S → Known) (now new : Reading S) (after : Bool) (made : Option Outcome) (item : ScriptItem) → after ≡ is_some made
+    → ((text : List ℕ) → text_left left now ≡ Some text → Leaves left (first_script_item after) (Came item) now new text) → Passes left (first_script_item after) (Came item) now new → ItemRead left now new (is_some made) item
+item_read left now new after made item e gives takes = subst (λ (b : Bool). ItemRead left now new b item) e (record { gives = gives; takes = takes })
+
+-- what is played of what is ahead, before an item and behind it
+went_item : {S : Type 0} (left : S → Known) (old now new : Reading S) (before desk next : DeskState) (made after : Option Outcome) (item : ScriptItem) (done : List Command)
+    → (w : Went left old now before desk made) → ItemRead left now new (is_some made) item → next ≡ desk_after before done
+    → ((lines behind : Ahead) → first_script_item (is_some made) lines ≡ Came item behind → (a : Ahead) → Done before desk made a lines w.done → Done before next after a behind done)
+    → Went left old new before next after
+went_item left old now new before desk next made after item done w r did step_on = record {
+  done = done;
+  did = did;
+  told = λ text told.
+      let t = w.told text told in
+      let g = r.gives t.0 t.1 in
+      (g.rest, g.told, step_on (ahead now t.0) (ahead new g.rest) g.reads (ahead old text) t.2);
+  lines = w.lines ++ r.takes.looked.lines;
+  handed = handed_more left old now new w.lines r.takes.looked.lines w.handed r.takes.looked.handed;
+  reads = λ more tail.
+      subst (λ (l : List (List ℕ)). Done before next after (ahead_with old l tail) (ahead_with new more tail) done) (sym (append_assoc w.lines r.takes.looked.lines more))
+      (step_on (ahead_with now (r.takes.looked.lines ++ more) tail) (ahead_with new more tail) (r.takes.reads more tail) (ahead_with old (w.lines ++ (r.takes.looked.lines ++ more)) tail) (w.reads (r.takes.looked.lines ++ more) tail));
+}
+
+-- a step was read and done
+pub went_step : {S : Type 0} (left : S → Known) (old now new : Reading S) (before desk next : DeskState) (made after : Option Outcome) (who : ℕ) (s : Step)
+    → Went left old now before desk made → ItemRead left now new (is_some made) (step who s) → next ≡ and_step desk who s → after ≡ Some (outcome_of desk.mux desk.entries s)
+    → Went left old new before next after
+went_step left old now new before desk next made after who s w r did outcome =
+    went_item left old now new before desk next made after (step who s) (w.done ++ (who, s) ∷ []) w r
+    (did ∙ ap (λ (d : DeskState). and_step d who s) w.did ∙ desk_more before w.done who s)
+    (λ lines behind e a d. done_more before desk next made after a lines behind w.done (who, s) d
+    (step_ahead desk made lines behind who s e ∙ ap (λ (o : Option Outcome). and_command (who, s) (course_at (and_step desk who s) o behind)) (sym outcome)
+    ∙ ap (λ (x : DeskState). and_command (who, s) (course_at x after behind)) (sym did)))
+
+-- an outcome line that agrees was read
+pub went_kept : {S : Type 0} (left : S → Known) (old now new : Reading S) (before desk : DeskState) (made : Option Outcome) (n : ℕ) (kept : Outcome)
+    → Went left old now before desk made → ItemRead left now new (is_some made) (Kept n kept) → late_difference made (Some (n, kept)) ≡ None
+    → Went left old new before desk None
+went_kept left old now new before desk made n kept w r agree =
+    went_item left old now new before desk desk made None (Kept n kept) w.done w r w.did
+    (λ lines behind e a d. done_same before desk made None a lines behind w.done d (agreed_ahead desk made lines behind n kept e agree))
+
+-- ---- why it does not go on
+
+-- what is ahead stops
+told_stop : {S : Type 0} (left : S → Known) (old now : Reading S) (before desk : DeskState) (made : Option Outcome) (stop : Stop) → (w : Went left old now before desk made)
+    → ((rest : List ℕ) → text_left left now ≡ Some rest → course_at desk made (ahead now rest) ≡ ([], stop))
+    → (text : List ℕ) → text_left left old ≡ Some text → course_at before None (ahead old text) ≡ (w.done, stop)
+told_stop left old now before desk made stop w stops text told =
+    let t = w.told text told in
+    done_last before desk made (ahead old text) (ahead now t.0) w.done stop t.2 (stops t.0 t.1)
+
+-- the stop and the desk
+stopped_did : (all : Rest) (done : List Command) (stop : Stop) (before desk : DeskState) → all ≡ (done, stop) → desk ≡ desk_after before done → (all.1 ≡ stop) × (desk ≡ desk_after before all.0)
+stopped_did all done stop before desk e d = (ap (λ (p : Rest). p.1) e, d ∙ ap (desk_after before) (sym (ap (λ (p : Rest). p.0) e)))
+
+pub ended : {S : Type 0} (left : S → Known) (old now new : Reading S) (before desk : DeskState) (after : Bool) (made : Option Outcome) → after ≡ is_some made → Went left old now before desk made
+    → ((text : List ℕ) → text_left left now ≡ Some text → GivesNext left (first_script_item after) now new text (Ok None)) → (text : List ℕ) → text_left left old ≡ Some text
+    → RestDid (course_at before None (ahead old text)) before desk (Ok tt)
+ended left old now new before desk after made e w gives text told =
+    stopped_did _ w.done Ended before desk
+    (told_stop left old now before desk made Ended w (λ rest is. stop_ahead desk made (ahead now rest) reading.End (ap (λ b. first_script_item b (ahead now rest)) (sym e) ∙ (gives rest is).0)) text told) w.did
+
+pub read_stopped : {S : Type 0} (left : S → Known) (old now new : Reading S) (before desk : DeskState) (after : Bool) (made : Option Outcome) (stop : EditStop) → after ≡ is_some made → Went left old now before desk made
+    → ((text : List ℕ) → text_left left now ≡ Some text → Gives {T = ScriptItem} left (first_script_item after) now new text (Err stop)) → (text : List ℕ) → text_left left old ≡ Some text
+    → RestDid (course_at before None (ahead old text)) before desk (Err (read_stop stop))
+read_stopped left old now new before desk after made (edits.NoCommand n) e w gives text told =
+    stopped_did _ w.done (NoCommand n) before desk
+    (told_stop left old now before desk made (NoCommand n) w (λ rest is. stop_ahead desk made (ahead now rest) (reading.NoCommand n) (ap (λ b. first_script_item b (ahead now rest)) (sym e) ∙ gives rest is)) text told) w.did
+read_stopped left old now new before desk after made (edits.Read Overlong) e w gives text told =
+    stopped_did _ w.done TooLong before desk
+    (told_stop left old now before desk made TooLong w (λ rest is. stop_ahead desk made (ahead now rest) reading.TooLong (ap (λ b. first_script_item b (ahead now rest)) (sym e) ∙ gives rest is)) text told) w.did
+read_stopped left old now new before desk after made (edits.Read Failed) e w gives text told = tt
+read_stopped left old now new before desk after made edits.Memory e w gives text told = tt
+
+differed : {S : Type 0} (left : S → Known) (old now new : Reading S) (before desk : DeskState) (made : Option Outcome) (n m : ℕ) (kept asked found : Outcome) → Went left old now before desk made
+    → ItemRead left now new (is_some made) (Kept n kept) → late_difference made (Some (n, kept)) ≡ Some (Disagreed m asked found) → (text : List ℕ) → text_left left old ≡ Some text
+    → RestDid (course_at before None (ahead old text)) before desk (Err (Disagrees m asked found))
+differed left old now new before desk made n m kept asked found w r differ text told =
+    stopped_did _ w.done (Disagreed m asked found) before desk
+    (told_stop left old now before desk made (Disagreed m asked found) w
+    (λ rest is. let g = r.gives rest is in differs_ahead desk made (ahead now rest) (ahead new g.rest) n kept (Disagreed m asked found) g.reads differ) text told) w.did
+
+pub differed_at : {S : Type 0} (left : S → Known) (old now new : Reading S) (before desk : DeskState) (made : Option Outcome) (n : ℕ) (kept : Outcome) (stop : PlayStop) → Went left old now before desk made
+    → ItemRead left now new (is_some made) (Kept n kept) → IsDifference (late_difference made (Some (n, kept))) (Some stop) → (text : List ℕ) → text_left left old ≡ Some text
+    → RestDid (course_at before None (ahead old text)) before desk (Err stop)
+differed_at left old now new before desk made n kept (Disagrees m asked found) w r differ text told = differed left old now new before desk made n m kept asked found w r differ text told
+differed_at left old now new before desk made n kept other w r differ text told = absurd differ
+
+-- a step was done, and its cycle failed
+front_of : (all x : Rest) (done : List Command) → all ≡ (done ++ x.0, x.1) → take (length done) all.0 ≡ done
+front_of all x done e = ap (λ (p : Rest). take (length done) p.0) e ∙ take-append_seam done x.0
+
+pub step_failed : {S : Type 0} (left : S → Known) (old now new : Reading S) (before desk next : DeskState) (made : Option Outcome) (who : ℕ) (s : Step) (stop : PlayStop)
+    → Went left old now before desk made → ItemRead left now new (is_some made) (step who s) → StepDid who s desk next (Err stop)
+    → (text : List ℕ) → text_left left old ≡ Some text → RestDid (course_at before None (ahead old text)) before next (Err stop)
+step_failed left old now new before desk next made who s Air w r did text told =
+    let made_now = Some (outcome_of desk.mux desk.entries s) in
+    let more = went_step left old now new before desk next made made_now who s w r did refl in
+    let t = more.told text told in
+    (length more.done, more.did ∙ ap (desk_after before) (sym (front_of (course_at before None (ahead old text)) (course_at next made_now (ahead new t.0)) more.done t.2)))
+step_failed left old now new before desk next made who s Memory w r did text told = tt
+step_failed left old now new before desk next made who s other w r did text told = absurd did
+
+-- ---- a read that failed
+
+failed_at : {S : Type 0} (left : S → Known) (faults : S → ℕ) (old now new : Reading S) (before desk : DeskState) (made : Option Outcome) → Went left old now before desk made
+    → Faulted left faults (first_script_item (is_some made)) now new → PlayedWhole left old new before desk
+failed_at left faults old now new before desk made w f =
+    let lines = w.lines ++ f.lines in
+    let all = done_last before desk made (ahead_with old lines reading.Breaks) (ahead_with now f.lines reading.Breaks) w.done Unread (w.reads f.lines reading.Breaks)
+    (stop_ahead desk made (ahead_with now f.lines reading.Breaks) reading.Unread f.reads) in
+    let did = stopped_did (course_at before None (ahead_with old lines reading.Breaks)) w.done Unread before desk all w.did in
+    record {
+      lines = lines;
+      whole = whole_more left old now new w.lines f.lines w.handed f.unended f.whole;
+      unended = w.handed.since f.unended;
+      stop = did.0;
+      did = did.1;
+    }
+
+pub taken : {S : Type 0} (left : S → Known) (faults : S → ℕ) (old now new : Reading S) (before desk : DeskState) (after : Bool) (made : Option Outcome) (stop : EditStop) → after ≡ is_some made → Went left old now before desk made
+    → Takes {T = ScriptItem} left faults (first_script_item after) now new (Err stop) → RestTaken left old new before desk (Err (read_stop stop))
+taken left faults old now new before desk after made (edits.Read Failed) e w f = failed_at left faults old now new before desk made w (subst (λ (b : Bool). Faulted left faults (first_script_item b) now new) e f)
+taken left faults old now new before desk after made (edits.Read Overlong) e w f = tt
+taken left faults old now new before desk after made (edits.NoCommand n) e w f = tt
+taken left faults old now new before desk after made edits.Memory e w f = tt
+
+-- a stop by a failed read has its cause
+pub read_caused : {S : Type 0} (left : S → Known) (faults : S → ℕ) (old now new : Reading S) (after : Bool) (stop : EditStop) → faults old.source ≤ faults now.source → Takes {T = ScriptItem} left faults (first_script_item after) now new (Err stop)
+    → HasReadCause {T = Unit {0}} (faults old.source) (faults new.source) (Err (read_stop stop))
+read_caused left faults old now new after (edits.Read Failed) le f = Rose-from _ _ _ le f.cause
+read_caused left faults old now new after (edits.Read Overlong) le f = tt
+read_caused left faults old now new after (edits.NoCommand n) le f = tt
+read_caused left faults old now new after edits.Memory le f = tt

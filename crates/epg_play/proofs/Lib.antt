@@ -1,0 +1,11 @@
+pub mod WindowFacts
+pub mod CourseFacts
+pub mod RunFacts
+mod TypedFacts
+pub mod HearingFacts
+pub mod AgainFacts
+pub mod ReportFacts
+pub mod OutcomeFacts
+mod StopLines
+mod SentFacts
+pub mod PlayRunFacts

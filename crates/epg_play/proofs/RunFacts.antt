@@ -1,0 +1,278 @@
+-- From what was played, and how its report ended, to what a run leaves.
+use Rattle.std.proofs.Common.{◌≡◌, ℕ, ◌+◌, List, [], ◌∷◌, ◌++◌, length, take, refl, sym, ap, ◌∙◌, subst, inl, inr, ◌⊎◌}
+use Rattle.std.specs.Prelude.{Option, Some, None, Ok, Err, Result, true, false}
+use Rattle.std.specs.Result.{result_err}
+use Rattle.std.specs.Io.KnownBytes.{Appends, Consumes}
+use Rattle.si_causes.proofs.CauseFacts.{Appends-nothing}
+use Rattle.si_causes.specs.Causes.{AppendsFront}
+use Rattle.si_causes.specs.Reading.{Reading, fresh as unread, text_left}
+use Rattle.si_causes.proofs.TextFacts.{fresh_text}
+use Rattle.si_causes.specs.declared.stop.ReadStop.TheVariants.{Failed, TooLong as Overlong}
+use Rattle.si_causes.specs.Text.{text_lines}
+use Rattle.input_lines.specs.Going.{WereWhole, shown_whole}
+use Rattle.input_lines.proofs.Steps.{whole_more}
+use Rattle.mux_config.specs.declared.fault.Word.TheVariants.{End}
+use Rattle.mux_config.specs.declared.fault.MuxFault.{MuxFault}
+use Rattle.mux_config.specs.declared.fault.MuxFault.TheVariants.{Missing}
+use Rattle.mux_model.specs.declared.mux.Mux.{Mux}
+use Rattle.mux_config.specs.declared.stop.MuxStop.{MuxStop}
+use Rattle.mux_config.specs.declared.stop.MuxStop.TheVariants as mux
+use Rattle.mux_config.specs.Reads.{ReadMux}
+use Rattle.input_lines.specs.Ahead.{Breaks, Tail, ahead, tail_of, Came, Found, Stopped}
+use Rattle.input_lines.specs.Reads.{ahead_with, Leaves as LeavesAhead, Passes}
+use Rattle.mux_config.specs.Descriptions.{Description, description_ahead, fault_in}
+use Rattle.mux_config.proofs.Reading.{fault_read, read_stopped}
+use Rattle.input_lines.specs.Ahead as lines
+use Rattle.version_book.specs.Airings.{AiredTables}
+use Rattle.air_model.specs.Air.{IsAirOf}
+use Rattle.carousel_player.specs.Playing.{Playing, AtEnd as AllSent}
+use Rattle.journal_model.specs.declared.step.Entry.{Entry}
+use Rattle.desk_core.specs.Journal.{journal_of}
+use Rattle.journal_model.specs.Steps.{Command}
+use Rattle.desk_core.specs.Desks.{DeskState, fresh}
+use Rattle.journal_text.specs.Entries.{journal_text}
+use Rattle.journal_air.specs.Air.{airings}
+use Rattle.headend_jobs.specs.OnAir.{HasSentAll, HasAired, HasAiredFront, IsOnAir}
+use Rattle.epg_play.specs.declared.stop.PlayStop.{PlayStop}
+use Rattle.epg_play.specs.declared.stop.PlayStop.TheVariants.{NoMux as Undescribed, NoCommand as Refused, Disagrees as Differs, Read, Air as OnAir, Memory as NoMemory}
+use Rattle.epg_report.specs.declared.status.Status.{Status}
+use Rattle.epg_report.specs.declared.status.Status.TheVariants.{Done, BadScript, Disagrees, BadMux, TooLong as PastLimit, ReadFault, WriteFault, Memory}
+use Rattle.epg_report.specs.declared.status.Origin.TheVariants.{Input, Feed}
+use Rattle.epg_report.specs.declared.status.Outlet.TheVariants.{Air, Report}
+use Rattle.epg_play.specs.Script.{Script, Stop, Ended, NoMux, NoCommand, Disagreed, TooLong, Unread, no_mux, script_in, script_taken, script_with, with_commands}
+use Rattle.epg_play.specs.Played.{AiredTo, PlayedWhole, RestDid, RestTaken, course, desk_after}
+use Rattle.epg_report.specs.Texts.{fault_line}
+use Rattle.epg_play.specs.Leaves.{IsAired, IsAiredFront, IsSent, Leaves, LeavesAll, Completes, first_journal, whole_journal, status_for, stop_text}
+use Rattle.epg_play.specs.Ending.{HasPlayed, HasPlayedAll, HasPlayedTaken, Finished, FinishedBy, entries_of, mux_stop}
+use Rattle.epg_report.specs.Told.{ReportTaken, Reported}
+use Rattle.headend_jobs.specs.Live.{AirOf}
+use Rattle.epg_play.proofs.CourseFacts.{Rest}
+use Rattle.epg_play.proofs.SentFacts.{cut_sent, whole_sent}
+
+none_aired : (air : ReportTaken) → air.old ≡ air.new → IsAired None [] air
+none_aired air same = subst (λ (w : Option (List ℕ)). Appends air.old w []) same (Appends-nothing air.old)
+
+-- ---- the script of a text, by what reading its description told
+
+abbrev Known : Type 0
+Known = Option (List ℕ)
+
+faulty_script : (found : Found Description) (fault : MuxFault) → fault_in found ≡ Some fault → script_with found ≡ no_mux (NoMux fault)
+faulty_script (Came (Ok mux) behind) fault e = cc e
+faulty_script (Came (Err here) behind) fault e = (let same : here ≡ fault = cc e in ap (λ f. no_mux (NoMux f)) same)
+faulty_script (Stopped (lines.NoCommand n)) fault e = (let same : Missing End ≡ fault = cc e in ap (λ f. no_mux (NoMux f)) same)
+faulty_script (Stopped lines.End) fault e = cc e
+faulty_script (Stopped lines.TooLong) fault e = cc e
+faulty_script (Stopped lines.Unread) fault e = cc e
+
+-- ---- what was played
+
+nothing_played : (script : Script) (stop : Stop) (air : ReportTaken) → script ≡ no_mux stop → air.old ≡ air.new → HasPlayedAll script stop air None
+nothing_played script stop air e same = subst (λ (s : Script). HasPlayedAll s stop air None) (sym e) (record { stopped = refl; air_is = none_aired air same; journal = refl })
+
+-- of known bytes some were taken, and the others are left
+bytes_left : (left : Known) (text taken : List ℕ) → Consumes (Some text) left taken → (behind : List ℕ) × (text ≡ taken ++ behind) × (left ≡ Some behind)
+bytes_left None text taken h = absurd h
+bytes_left (Some behind) text taken h = (behind, h, refl)
+
+taken_played : (text taken : List ℕ) (old left : Known) (air : ReportTaken) (desk : Option DeskState) → old ≡ Some text → Consumes old left taken → HasPlayedAll (script_taken taken) Unread air desk → HasPlayedTaken text left air desk
+taken_played text taken old left air desk told gave all =
+    let b = bytes_left left text taken (subst (λ (o : Known). Consumes o left taken) told gave) in
+    record { taken = taken; behind = b.0; text_is = b.1; left_is = b.2; all = all }
+
+-- the description was not read
+pub no_mux_played : {S : Type 0} (left : S → Known) (faults : S → ℕ) (alike : S → S → Type 0) (old new : Reading S) (source : S) (text : List ℕ) (air : ReportTaken) (stop : MuxStop) → old ≡ unread source → left source ≡ Some text → air.old ≡ air.new
+    → ReadMux left faults alike old new (Err stop) → HasPlayed text (left new.source) air None (Some (mux_stop stop))
+no_mux_played left faults alike old new source text air (mux.Fault fault) e told same read =
+    let here = subst (λ r. ReadMux left faults alike r new (Err (mux.Fault fault))) e read in
+    nothing_played (script_in text) (NoMux fault) air (faulty_script _ fault (fault_read left faults alike (unread source) new fault text refl (fresh_text left source ∙ told) here)) same
+no_mux_played left faults alike old new source text air (mux.Read Overlong) e told same read =
+    let here = read_stopped left faults alike (unread source) new Overlong (subst (λ r. ReadMux left faults alike r new (Err (mux.Read Overlong))) e read) in
+    nothing_played (script_in text) TooLong air (ap script_with (here.gives refl text (fresh_text left source ∙ told))) same
+no_mux_played left faults alike old new source text air (mux.Read Failed) e told same read =
+    let fault = (read_stopped left faults alike (unread source) new Failed (subst (λ r. ReadMux left faults alike r new (Err (mux.Read Failed))) e read)).takes refl in
+    taken_played text fault.whole.more (left source) (left new.source) air None told fault.whole.gave
+    (nothing_played (script_taken fault.whole.more) Unread air (ap (λ l. script_with (description_ahead (ahead_with (unread source) l Breaks))) fault.whole.whole ∙ ap script_with fault.reads) same)
+no_mux_played left faults alike old new source text air mux.Memory e told same read = tt
+
+aired_is : (mux : Mux) (desk : DeskState) (player : Playing) (commands : List Command) (air : ReportTaken) → desk ≡ desk_after (fresh mux) commands → HasAired desk player air.old air.new
+    → AirOf mux (journal_of mux commands) air.old air.new
+aired_is mux desk player commands air d (xs, sent, bytes) = record {
+  cycles = xs;
+  is_air = subst (λ (l : List AiredTables). IsAirOf l xs) (sent.airings_are ∙ ap (λ (x : DeskState). airings x.mux x.entries) d) sent.at_end.is_air;
+  made = sent.made;
+  bytes = bytes;
+}
+
+front_is : (mux : Mux) (desk : DeskState) (commands : List Command) (air : ReportTaken) → desk ≡ desk_after (fresh mux) commands → HasAiredFront desk air.old air.new
+    → IsAiredFront (Some mux) (journal_of mux commands) air
+front_is mux desk commands air d f = record {
+  mux = mux;
+  is_described = refl;
+  front = f.front;
+  last = f.last;
+  entries = sym (ap (λ (x : DeskState). x.entries) d) ∙ f.entries;
+  is_swap = f.is_swap;
+  cut = record {
+    whole = f.whole;
+    cut = f.cut;
+    is_air = subst (λ (l : List AiredTables). IsAirOf l (f.whole ++ f.cut ∷ [])) (ap (λ (x : DeskState). airings x.mux x.entries) d) f.is_air;
+    made = f.made;
+    taken = f.taken;
+    proper = f.proper;
+    bytes = f.bytes;
+  };
+}
+
+-- all commands were played
+played_all : (script : Script) (stop : Stop) (mux : Mux) (rest : Rest) (desk : DeskState) (player : Playing) (air : ReportTaken) → script ≡ with_commands mux rest → (rest.1 ≡ stop) × (desk ≡ desk_after (fresh mux) rest.0)
+    → HasAired desk player air.old air.new → HasPlayedAll script stop air (Some desk)
+played_all script stop mux rest desk player air e did aired =
+    subst (λ (s : Script). HasPlayedAll s stop air (Some desk)) (sym e)
+    (record { stopped = did.0; air_is = aired_is mux desk player rest.0 air did.1 aired; journal = ap (λ (x : DeskState). x.entries) did.1 })
+
+-- those of the lines that were whole, where a read failed
+played_taken : {S : Type 0} (left : S → Known) (source : S) (mid new : Reading S) (text : List ℕ) (mux : Mux) (desk : DeskState) (player : Playing) (air : ReportTaken) → left source ≡ Some text
+    → Passes left description_ahead (Came (Ok mux)) (unread source) mid → PlayedWhole left mid new (fresh mux) desk → HasAired desk player air.old air.new → HasPlayedTaken text (left new.source) air (Some desk)
+played_taken left source mid new text mux desk player air told came p aired =
+    let both : WereWhole left (unread source) new (came.looked.lines ++ p.lines) = whole_more left (unread source) mid new came.looked.lines p.lines came.looked.handed p.unended p.whole in
+    let script : script_taken both.more ≡ with_commands mux (course mux [] None (ahead_with mid p.lines Breaks)) =
+    ap (λ l. script_with (description_ahead (ahead_with (unread source) l Breaks))) both.whole ∙ ap script_with (came.reads p.lines Breaks) in
+    taken_played text both.more (left source) (left new.source) air (Some desk) told both.gave
+    (played_all (script_taken both.more) Unread mux (course mux [] None (ahead_with mid p.lines Breaks)) desk player air script (p.stop, p.did) aired)
+
+-- what was played behind the description of a multiplex
+pub played_behind : {S : Type 0} (left : S → Known) (source : S) (mid new : Reading S) (text : List ℕ) (mux : Mux) (desk : DeskState) (player : Playing) (air : ReportTaken) (r : Result (Unit {0}) PlayStop) → left source ≡ Some text
+    → LeavesAhead left description_ahead (Came (Ok mux)) (unread source) mid text → Passes left description_ahead (Came (Ok mux)) (unread source) mid
+    → ((rest : List ℕ) → text_left left mid ≡ Some rest → RestDid (course mux [] None (ahead mid rest)) (fresh mux) desk r) → RestTaken left mid new (fresh mux) desk r → AiredTo desk player air.old air.new r
+    → HasPlayed text (left new.source) air (Some desk) (result_err r)
+played_behind left source mid new text mux desk player air (Ok u) told d came did taken aired =
+    played_all (script_in text) Ended mux (course mux [] None (ahead mid d.rest)) desk player air (ap script_with d.reads) (did d.rest d.told) aired
+played_behind left source mid new text mux desk player air (Err (Undescribed fault)) told d came did taken aired = absurd (did d.rest d.told)
+played_behind left source mid new text mux desk player air (Err (Refused n)) told d came did taken aired =
+    played_all (script_in text) (NoCommand n) mux (course mux [] None (ahead mid d.rest)) desk player air (ap script_with d.reads) (did d.rest d.told) aired
+played_behind left source mid new text mux desk player air (Err (Differs n kept found)) told d came did taken aired =
+    played_all (script_in text) (Disagreed n kept found) mux (course mux [] None (ahead mid d.rest)) desk player air (ap script_with d.reads) (did d.rest d.told) aired
+played_behind left source mid new text mux desk player air (Err (Read Overlong)) told d came did taken aired =
+    played_all (script_in text) TooLong mux (course mux [] None (ahead mid d.rest)) desk player air (ap script_with d.reads) (did d.rest d.told) aired
+played_behind left source mid new text mux desk player air (Err (Read Failed)) told d came did taken aired = played_taken left source mid new text mux desk player air told came taken aired
+played_behind left source mid new text mux desk player air (Err OnAir) told d came did taken aired =
+    let rest = course mux [] None (ahead mid d.rest) in
+    let script : script_in text ≡ with_commands mux rest = ap script_with d.reads in
+    let k = (did d.rest d.told).0 in
+    let desk_is = (did d.rest d.told).1 in (
+      k,
+      subst (λ (s : Script). IsAiredFront s.mux (first_journal k s) air) (sym script) (front_is mux desk (take k rest.0) air desk_is aired),
+      subst (λ (s : Script). desk.entries ≡ first_journal k s) (sym script) (ap (λ (x : DeskState). x.entries) desk_is),
+    )
+played_behind left source mid new text mux desk player air (Err NoMemory) told d came did taken aired = tt
+
+-- ---- the run is over
+
+-- what was sent of the script of a text
+abbrev tail_in : List ℕ → Tail
+tail_in text = tail_of (1 + length (text_lines text).0) (text_lines text).1
+
+text_sent : (text : List ℕ) (air : ReportTaken) → IsAired (script_in text).mux (whole_journal (script_in text)) air → IsSent (script_in text).mux (whole_journal (script_in text)) air
+text_sent text air is = whole_sent (text_lines text).0 (tail_in text) air is
+
+finished_whole : (text : List ℕ) (left : Known) (air report : ReportTaken) (desk : Option DeskState) (status : Status) → HasPlayed text left air desk None → FinishedBy None (entries_of desk) report status → Leaves text left air report status
+finished_whole text left air report desk Done played finished = record {
+  ended = played.stopped;
+  air_is = played.air_is;
+  sent = text_sent text air played.air_is;
+  report_is = subst (λ (l : List Entry). Appends report.old report.new (journal_text l)) played.journal finished;
+}
+finished_whole text left air report desk (WriteFault Report) played finished = record {
+  ended = played.stopped;
+  air_is = played.air_is;
+  sent = text_sent text air played.air_is;
+  report_is = subst (λ (l : List Entry). AppendsFront report.old report.new (journal_text l)) played.journal finished.0;
+}
+finished_whole text left air report desk (WriteFault Air) played finished = absurd finished
+finished_whole text left air report desk other played finished = absurd finished
+
+reported_of : (report : ReportTaken) (old new : List Entry) (text : List ℕ) → old ≡ new → Reported report (journal_text old ++ text) → Reported report (journal_text new ++ text)
+reported_of report old new text e r = subst (λ (l : List Entry). Reported report (journal_text l ++ text)) e r
+
+finished_all : (script : Script) (stop : Stop) (fault : List ℕ) (air report : ReportTaken) (desk : Option DeskState) → (IsAired script.mux (whole_journal script) air → IsSent script.mux (whole_journal script) air) → HasPlayedAll script stop air desk
+    → Reported report (journal_text (entries_of desk) ++ fault_line fault) → LeavesAll script stop fault air report
+finished_all script stop fault air report desk sent played reported =
+    record { stopped = played.stopped; air_is = played.air_is; sent = sent played.air_is; report_is = reported_of report _ _ (fault_line fault) played.journal reported }
+
+finished_text : (text : List ℕ) (stop : Stop) (fault : List ℕ) (air report : ReportTaken) (desk : Option DeskState) → HasPlayedAll (script_in text) stop air desk → Reported report (journal_text (entries_of desk) ++ fault_line fault)
+    → LeavesAll (script_in text) stop fault air report
+finished_text text stop fault air report desk played reported = finished_all (script_in text) stop fault air report desk (text_sent text air) played reported
+
+finished_stop : (stop : PlayStop) (text : List ℕ) (left : Known) (air report : ReportTaken) (desk : Option DeskState) → HasPlayed text left air desk (Some stop)
+    → Reported report (journal_text (entries_of desk) ++ fault_line (stop_text stop)) → Leaves text left air report (status_for stop)
+finished_stop (Undescribed fault) text left air report desk played reported = finished_text text (NoMux fault) (stop_text (Undescribed fault)) air report desk played reported
+finished_stop (Refused n) text left air report desk played reported = finished_text text (NoCommand n) (stop_text (Refused n)) air report desk played reported
+finished_stop (Differs n kept found) text left air report desk played reported = finished_text text (Disagreed n kept found) (stop_text (Differs n kept found)) air report desk played reported
+finished_stop (Read Overlong) text left air report desk played reported = finished_text text TooLong (stop_text (Read Overlong)) air report desk played reported
+finished_stop (Read Failed) text left air report desk played reported = record {
+  taken = played.taken;
+  behind = played.behind;
+  text_is = played.text_is;
+  left_is = played.left_is;
+  leaves = finished_all (script_taken played.taken) Unread (stop_text (Read Failed)) air report desk (whole_sent (shown_whole played.taken) Breaks air) played.all reported;
+}
+finished_stop OnAir text left air report desk played reported = record {
+  k = played.0;
+  air_is = played.1;
+  sent = cut_sent (text_lines text).0 (tail_in text) air played.0 played.1;
+  report_is = reported_of report _ _ (fault_line (stop_text OnAir)) played.2 reported;
+}
+finished_stop NoMemory text left air report desk played reported = tt
+
+pub leaves : (stop : Option PlayStop) (text : List ℕ) (left : Known) (air report : ReportTaken) (desk : Option DeskState) (status : Status) → HasPlayed text left air desk stop → Finished stop (entries_of desk) report status
+    → Leaves text left air report status
+leaves stop text left air report desk status played (inl memory) = subst (λ (s : Status). Leaves text left air report s) (sym memory) tt
+leaves None text left air report desk status played (inr finished) = finished_whole text left air report desk status played finished
+leaves (Some stop) text left air report desk status played (inr finished) = subst (λ (s : Status). Leaves text left air report s) (sym finished.0) (finished_stop stop text left air report desk played finished.1)
+
+-- the same of an input that is the source which the reader gave back
+pub leaves_input : {S : Type 0} (left_of : S → Known) (source input : S) (stop : Option PlayStop) (text : List ℕ) (air report : ReportTaken) (desk : Option DeskState) (status : Status) → input ≡ source
+    → HasPlayed text (left_of source) air desk stop → Finished stop (entries_of desk) report status → Leaves text (left_of input) air report status
+leaves_input {S = S} left_of source input stop text air report desk status e played finished =
+    subst (λ (s : S). Leaves text (left_of s) air report status) (sym e) (leaves stop text (left_of source) air report desk status played finished)
+
+start_sent : (mux : Mux) (desk : DeskState) (player : Playing) → desk ≡ fresh mux → AllSent [] player → player.quota ≡ mux.quota → HasSentAll desk player []
+start_sent mux desk player d end quota =
+    record { at_end = end; airings_are = sym (ap (λ (x : DeskState). airings x.mux x.entries) d); made = tt; quota = quota ∙ sym (ap (λ (x : DeskState). x.mux.quota) d) }
+
+pub start_aired : (mux : Mux) (desk : DeskState) (player : Playing) (w : Option (List ℕ)) → desk ≡ fresh mux → AllSent [] player → player.quota ≡ mux.quota → HasAired desk player w w
+start_aired mux desk player w d end quota = ([], start_sent mux desk player d end quota, Appends-nothing w)
+
+pub start_on_air : (mux : Mux) (desk : DeskState) (player : Playing) → desk ≡ fresh mux → AllSent [] player → player.quota ≡ mux.quota → IsOnAir desk player
+start_on_air mux desk player d end quota = ([], start_sent mux desk player d end quota)
+
+-- where nothing fails, the script's stop decides
+pub completes : (text : List ℕ) (left : Known) (air report : ReportTaken) (status : Status) → Leaves text left air report status → (status ≡ ReadFault Input → ⊥) → (status ≡ WriteFault Air → ⊥) → (status ≡ WriteFault Report → ⊥)
+    → Completes (script_in text).stop status
+completes text left air report Done leave r a w = leave.ended
+completes text left air report (BadMux fault) leave r a w = leave.stopped
+completes text left air report (BadScript n) leave r a w = leave.stopped
+completes text left air report (Disagrees n kept found) leave r a w = leave.stopped
+completes text left air report (PastLimit Input) leave r a w = leave.stopped
+completes text left air report (PastLimit (Feed f)) leave r a w = absurd leave
+completes text left air report (ReadFault Input) leave r a w = absurd (r refl)
+completes text left air report (ReadFault (Feed f)) leave r a w = absurd leave
+completes text left air report (WriteFault Air) leave r a w = absurd (a refl)
+completes text left air report (WriteFault Report) leave r a w = absurd (w refl)
+completes text left air report Memory leave r a w = tt
+completes text left air report other leave r a w = absurd leave
+
+-- and so a script that is whole is played to its end
+pub whole : (stop : Stop) (status : Status) → stop ≡ Ended → Completes stop status → (status ≡ Done) ⊎ (status ≡ Memory)
+whole stop Done e h = inl refl
+whole stop Memory e h = inr refl
+whole stop (BadMux fault) e h = cc
+whole stop (BadScript n) e h = cc
+whole stop (Disagrees n kept found) e h = cc
+whole stop (PastLimit Input) e h = cc
+whole stop (PastLimit (Feed f)) e h = absurd h
+whole stop other e h = absurd h
+
+pub true-false : true ≡ false → ⊥
+true-false e = cc

@@ -1,0 +1,169 @@
+-- What a run of `play` leaves, for each status, and all that it promises.
+use Rattle.std.specs.Prelude.{◌≡◌, ◌⊎◌, ℕ, List, [], ◌∷◌, ◌++◌, take, Option, Some, None}
+use Rattle.std.specs.Io.KnownBytes.{Appends, IsAtEnd}
+use Rattle.si_causes.specs.Causes.{Rose, AppendsFront}
+use Rattle.si_causes.specs.declared.stop.ReadStop.TheVariants.{Failed, TooLong as Overlong}
+use Rattle.mux_model.specs.declared.mux.Mux.{Mux}
+use Rattle.journal_model.specs.declared.step.Step.TheVariants.{Swap}
+use Rattle.journal_model.specs.declared.step.Entry.{Entry}
+use Rattle.desk_core.specs.Journal.{journal_of}
+use Rattle.journal_model.specs.Steps.{Command}
+use Rattle.journal_text.specs.Entries.{journal_text}
+use Rattle.headend_jobs.specs.Live.{AirOf, CutAirOf}
+use Rattle.headend_live.specs.SentAir.{SentAir}
+use Rattle.epg_play.specs.declared.stop.PlayStop.{PlayStop}
+use Rattle.epg_play.specs.declared.stop.PlayStop.TheVariants.{NoMux as Undescribed, NoCommand as Refused, Disagrees as Differs, Read, Air as OnAir, Memory as NoMemory}
+use Rattle.epg_report.specs.declared.status.Status.{Status}
+use Rattle.epg_report.specs.declared.status.Status.TheVariants.{Done, BadScript, Disagrees, BadMux, TooLong as PastLimit, ReadFault, WriteFault, Memory}
+use Rattle.epg_report.specs.declared.status.Origin.TheVariants.{Input}
+use Rattle.epg_report.specs.declared.status.Outlet.TheVariants.{Air, Report}
+use Rattle.epg_play.specs.Script.{Script, Stop, Ended, NoMux, NoCommand, Disagreed, TooLong, Unread, script_in, script_taken}
+use Rattle.epg_report.specs.Texts.{fault_line, fault_text}
+use Rattle.epg_report.specs.Told.{ReportTaken, Reported, SourceGave}
+
+-- ---- journals of a script
+
+abbrev pub journal_for : Option Mux → List Command → List Entry
+journal_for None commands = []
+journal_for (Some mux) commands = journal_of mux commands
+
+-- the legal journal of all commands of a script, and of its first k
+abbrev pub whole_journal : Script → List Entry
+whole_journal script = journal_for script.mux script.commands
+
+abbrev pub first_journal : ℕ → Script → List Entry
+first_journal k script = journal_for script.mux (take k script.commands)
+
+-- an air of this journal was appended; nothing, where no multiplex is described
+abbrev pub IsAired : Option Mux → List Entry → ReportTaken → Type 0
+IsAired None journal air = Appends air.old air.new []
+IsAired (Some mux) journal air = AirOf mux journal air.old air.new
+
+-- The journal ends with a swap, and of an air of it all cycles but the last were appended, and a proper front of that one.
+pub record IsAiredFront (described : Option Mux) (journal : List Entry) (air : ReportTaken) : Type 0 where
+  pub mux : Mux
+  pub is_described : described ≡ Some mux
+  pub front : List Entry
+  pub last : Entry
+  pub entries : journal ≡ front ++ last ∷ []
+  pub is_swap : last.step ≡ Swap
+  pub cut : CutAirOf mux journal air.old air.new
+
+-- and who hears it hears one airing at a time, whole and often enough
+abbrev pub IsSent : Option Mux → List Entry → ReportTaken → Type 0
+IsSent None journal air = Appends air.old air.new []
+IsSent (Some mux) journal air = SentAir mux journal air.old air.new
+
+-- ---- faults
+
+-- the status of a stop
+abbrev pub status_for : PlayStop → Status
+status_for (Undescribed fault) = BadMux fault
+status_for (Refused n) = BadScript n
+status_for (Differs n kept found) = Disagrees n kept found
+status_for (Read Overlong) = PastLimit Input
+status_for (Read Failed) = ReadFault Input
+status_for OnAir = WriteFault Air
+status_for NoMemory = Memory
+
+-- what the line of a stop says
+abbrev pub stop_text : PlayStop → List ℕ
+stop_text stop = fault_text (status_for stop)
+
+-- the fault line of a run, where there is one
+abbrev pub ending_text : Option PlayStop → List ℕ
+ending_text None = []
+ending_text (Some stop) = fault_line (stop_text stop)
+
+-- ---- what is left
+
+-- with Done: the script is whole, the air is that of its journal, and the report is the journal's text
+pub record LeavesDone (script : Script) (air report : ReportTaken) : Type 0 where
+  pub ended : script.stop ≡ Ended
+  pub air_is : IsAired script.mux (whole_journal script) air
+  pub sent : IsSent script.mux (whole_journal script) air
+  pub report_is : Appends report.old report.new (journal_text (whole_journal script))
+
+-- with a fault behind all commands of the script: the air is that of their journal, and the report is the journal and the fault line
+pub record LeavesAll (script : Script) (stop : Stop) (fault : List ℕ) (air report : ReportTaken) : Type 0 where
+  pub stopped : script.stop ≡ stop
+  pub air_is : IsAired script.mux (whole_journal script) air
+  pub sent : IsSent script.mux (whole_journal script) air
+  pub report_is : Reported report (journal_text (whole_journal script) ++ fault_line fault)
+
+-- With a failed read: these bytes were taken from the input, and the others are left. The commands are exactly those whose lines all
+-- ended in the bytes taken.
+pub record LeavesUnread (text : List ℕ) (left : Option (List ℕ)) (air report : ReportTaken) : Type 0 where
+  pub taken : List ℕ
+  pub behind : List ℕ
+  pub text_is : text ≡ taken ++ behind
+  pub left_is : left ≡ Some behind
+  pub leaves : LeavesAll (script_taken taken) Unread (stop_text (Read Failed)) air report
+
+-- with a fault in the cycle of the last of the first k commands
+pub record LeavesCut (script : Script) (fault : List ℕ) (air report : ReportTaken) : Type 0 where
+  pub k : ℕ
+  pub air_is : IsAiredFront script.mux (first_journal k script) air
+  pub sent : IsSent script.mux (first_journal k script) air
+  pub report_is : Reported report (journal_text (first_journal k script) ++ fault_line fault)
+
+-- with a fault in the report of a whole script: a proper front of the journal's text
+pub record LeavesUnreported (script : Script) (air report : ReportTaken) : Type 0 where
+  pub ended : script.stop ≡ Ended
+  pub air_is : IsAired script.mux (whole_journal script) air
+  pub sent : IsSent script.mux (whole_journal script) air
+  pub report_is : AppendsFront report.old report.new (journal_text (whole_journal script))
+
+-- What a run of `play` leaves with each status, of a text, and of what is left of it. No other status comes.
+abbrev pub Leaves : List ℕ → Option (List ℕ) → ReportTaken → ReportTaken → Status → Type 0
+Leaves text left air report Done = LeavesDone (script_in text) air report
+Leaves text left air report (BadMux fault) = LeavesAll (script_in text) (NoMux fault) (stop_text (Undescribed fault)) air report
+Leaves text left air report (BadScript n) = LeavesAll (script_in text) (NoCommand n) (stop_text (Refused n)) air report
+Leaves text left air report (Disagrees n kept found) = LeavesAll (script_in text) (Disagreed n kept found) (stop_text (Differs n kept found)) air report
+Leaves text left air report (PastLimit Input) = LeavesAll (script_in text) TooLong (stop_text (Read Overlong)) air report
+Leaves text left air report (ReadFault Input) = LeavesUnread text left air report
+Leaves text left air report (WriteFault Air) = LeavesCut (script_in text) (stop_text OnAir) air report
+Leaves text left air report (WriteFault Report) = LeavesUnreported (script_in text) air report
+Leaves text left air report Memory = Unit {0}
+Leaves text left air report status = ⊥
+
+-- the statuses of `play`
+abbrev pub IsOfPlay : Status → Type 0
+IsOfPlay Done = Unit {0}
+IsOfPlay (BadMux fault) = Unit {0}
+IsOfPlay (BadScript n) = Unit {0}
+IsOfPlay (Disagrees n kept found) = Unit {0}
+IsOfPlay (PastLimit Input) = Unit {0}
+IsOfPlay (ReadFault Input) = Unit {0}
+IsOfPlay (WriteFault outlet) = Unit {0}
+IsOfPlay Memory = Unit {0}
+IsOfPlay status = ⊥
+
+-- What a run answers where neither the input nor a sink fails: the stop of the script decides, but for want of memory.
+abbrev pub Completes : Stop → Status → Type 0
+Completes stop Done = stop ≡ Ended
+Completes stop (BadMux fault) = stop ≡ NoMux fault
+Completes stop (BadScript n) = stop ≡ NoCommand n
+Completes stop (Disagrees n kept found) = stop ≡ Disagreed n kept found
+Completes stop (PastLimit Input) = stop ≡ TooLong
+Completes stop Memory = Unit {0}
+Completes stop status = ⊥
+
+-- A run of `play`: what its input gave, what its air and its report took, and its status.
+pub record PlayRun (input : SourceGave) (air report : ReportTaken) (status : Status) : Type 0 where
+  -- what is left with each status: the journal that the report has, its air, and how that can be heard
+  pub leaves : (text : List ℕ) → input.old ≡ Some text → Leaves text input.new air report status
+  -- where neither the input nor a sink fails, the script decides the status, but for want of memory
+  pub completes : (text : List ℕ) → input.old ≡ Some text → ¬ (Rose input.faults_old input.faults_new) → ¬ (Rose air.faults_old air.faults_new)
+      → ¬ (Rose report.faults_old report.faults_new) → Completes (script_in text).stop status
+  -- and so a script that is whole is played to its end
+  pub whole : (text : List ℕ) → input.old ≡ Some text → (script_in text).stop ≡ Ended → ¬ (Rose input.faults_old input.faults_new)
+      → ¬ (Rose air.faults_old air.faults_new) → ¬ (Rose report.faults_old report.faults_new) → (status ≡ Done) ⊎ (status ≡ Memory)
+  -- no other status comes
+  pub known : IsOfPlay status
+  -- with Done the input was read to its end
+  pub end : status ≡ Done → IsAtEnd input.new
+  -- each fault of the input or of a sink has its cause
+  pub input_cause : status ≡ ReadFault Input → Rose input.faults_old input.faults_new
+  pub air_cause : status ≡ WriteFault Air → Rose air.faults_old air.faults_new
+  pub report_cause : status ≡ WriteFault Report → Rose report.faults_old report.faults_new

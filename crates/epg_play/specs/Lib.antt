@@ -1,0 +1,9 @@
+pub mod Outcomes
+pub mod Script
+pub mod Played
+pub mod Leaves
+pub mod Ending
+pub mod Hearing
+pub mod Again
+pub mod Reports
+pub mod Rows

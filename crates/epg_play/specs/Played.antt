@@ -1,0 +1,120 @@
+-- What playing the commands of a script leaves: the desk, and what the air took.
+use Rattle.std.specs.Prelude.{◌≡◌, ℕ, false, is_some, List, [], ◌++◌, take, Option, Some, None, Ok, Err, Result}
+use Rattle.si_causes.specs.Causes.{Rose}
+use Rattle.si_causes.specs.Reading.{Reading}
+use Rattle.si_causes.specs.declared.stop.ReadStop.TheVariants.{Failed, TooLong as Overlong}
+use Rattle.input_lines.specs.Going.{WereWhole}
+use Rattle.carousel_player.specs.Playing.{Playing}
+use Rattle.mux_model.specs.declared.mux.Mux.{Mux}
+use Rattle.input_lines.specs.declared.stop.EditStop.{EditStop}
+use Rattle.input_lines.specs.declared.stop.EditStop.TheVariants as edits
+use Rattle.input_lines.specs.Ahead.{Ahead, Breaks}
+use Rattle.input_lines.specs.Ahead as reading
+use Rattle.input_lines.specs.Reads.{ahead_with}
+use Rattle.journal_model.specs.declared.step.Step.{Step}
+use Rattle.journal_model.specs.declared.step.Outcome.{Outcome}
+use Rattle.journal_model.specs.declared.step.Entry.{Entry}
+use Rattle.desk_core.specs.Journal.{journal_after}
+use Rattle.journal_model.specs.Steps.{Command, IsInWindow}
+use Rattle.desk_core.specs.Desks.{DeskState}
+use Rattle.script_lines.specs.declared.script.ScriptItem.{ScriptItem}
+use Rattle.script_lines.specs.Script.{items_ahead, kept_first}
+use Rattle.headend_jobs.specs.OnAir.{HasAired, HasAiredFront, and_step}
+use Rattle.epg_play.specs.declared.stop.PlayStop.{PlayStop}
+use Rattle.epg_play.specs.declared.stop.PlayStop.TheVariants.{NoMux as Undescribed, NoCommand as Refused, Disagrees, Read, Air, Memory}
+use Rattle.epg_play.specs.Script.{Stop, Ended, NoCommand, Disagreed, TooLong, Unread, difference, played_items}
+
+-- ---- one step
+
+-- what doing a step leaves of a desk
+abbrev pub StepDid : ℕ → Step → DeskState → DeskState → Result (Unit {0}) PlayStop → Type 0
+StepDid who step old new (Ok u) = new ≡ and_step old who step
+StepDid who step old new (Err Air) = new ≡ and_step old who step
+StepDid who step old new (Err Memory) = Unit {0}
+StepDid who step old new (Err (Undescribed fault)) = ⊥
+StepDid who step old new (Err (Refused n)) = ⊥
+StepDid who step old new (Err (Disagrees n kept found)) = ⊥
+StepDid who step old new (Err (Read stop)) = ⊥
+
+-- what the air has, once a script is played as far as this
+abbrev pub AiredTo : {T : Type 0} → DeskState → Playing → Option (List ℕ) → Option (List ℕ) → Result T PlayStop → Type 0
+AiredTo desk player before now (Ok u) = HasAired desk player before now
+AiredTo desk player before now (Err Air) = HasAiredFront desk before now
+AiredTo desk player before now (Err Memory) = Unit {0}
+AiredTo desk player before now (Err (Undescribed fault)) = HasAired desk player before now
+AiredTo desk player before now (Err (Refused n)) = HasAired desk player before now
+AiredTo desk player before now (Err (Disagrees n kept found)) = HasAired desk player before now
+AiredTo desk player before now (Err (Read stop)) = HasAired desk player before now
+
+-- a stop by a failed write has its cause, and one by a failed read
+abbrev pub HasAirCause : {T : Type 0} → ℕ → ℕ → Result T PlayStop → Type 0
+HasAirCause before now (Err Air) = Rose before now
+HasAirCause before now result = Unit {0}
+
+abbrev pub HasReadCause : {T : Type 0} → ℕ → ℕ → Result T PlayStop → Type 0
+HasReadCause before now (Err (Read Failed)) = Rose before now
+HasReadCause before now result = Unit {0}
+
+-- the outcomes of a disagreement can be written
+abbrev pub IsStopInWindow : PlayStop → Type 0
+IsStopInWindow (Disagrees n kept found) = IsInWindow kept × IsInWindow found
+IsStopInWindow stop = Unit {0}
+
+-- the stop of a call that reads
+abbrev pub read_stop : EditStop → PlayStop
+read_stop (edits.NoCommand n) = Refused n
+read_stop (edits.Read stop) = Read stop
+read_stop edits.Memory = Memory
+
+-- ---- the rest of a script
+
+-- what is kept behind an outcome that was made just before, where it is another
+abbrev pub late_difference : Option Outcome → Option (ℕ × Outcome) → Option Stop
+late_difference None kept = None
+late_difference (Some found) kept = difference kept found
+
+-- the stop at a difference, and none where there is none
+abbrev pub IsDifference : Option Stop → Option PlayStop → Type 0
+IsDifference stop None = stop ≡ None
+IsDifference stop (Some (Disagrees n kept found)) = stop ≡ Some (Disagreed n kept found)
+IsDifference stop (Some other) = ⊥
+
+abbrev pub unless_late : Option Stop → List Command × Stop → List Command × Stop
+unless_late (Some stop) played = ([], stop)
+unless_late None played = played
+
+-- Of these items, what is played behind these entries; `made` is the outcome of the last, where it was made just before.
+abbrev pub course_of : Mux → List Entry → Option Outcome → List ScriptItem × reading.Stop → List Command × Stop
+course_of mux before made items = unless_late (late_difference made (kept_first items.0)) (played_items mux before items)
+
+-- the same of what is ahead
+abbrev pub course : Mux → List Entry → Option Outcome → Ahead → List Command × Stop
+course mux before made lines = course_of mux before made (items_ahead (is_some made) lines)
+
+-- the desk after these commands
+abbrev pub desk_after : DeskState → List Command → DeskState
+desk_after desk commands = record { mux = desk.mux; entries = desk.entries ++ journal_after desk.mux desk.entries commands }
+
+-- what playing the rest of a script does to the desk
+abbrev pub RestDid : List Command × Stop → DeskState → DeskState → Result (Unit {0}) PlayStop → Type 0
+RestDid rest old new (Ok u) = (rest.1 ≡ Ended) × (new ≡ desk_after old rest.0)
+RestDid rest old new (Err (Undescribed fault)) = ⊥
+RestDid rest old new (Err (Refused n)) = (rest.1 ≡ NoCommand n) × (new ≡ desk_after old rest.0)
+RestDid rest old new (Err (Disagrees n kept found)) = (rest.1 ≡ Disagreed n kept found) × (new ≡ desk_after old rest.0)
+RestDid rest old new (Err (Read Overlong)) = (rest.1 ≡ TooLong) × (new ≡ desk_after old rest.0)
+RestDid rest old new (Err (Read Failed)) = Unit {0}
+RestDid rest old new (Err Air) = (k : ℕ) × (new ≡ desk_after old (take k rest.0))
+RestDid rest old new (Err Memory) = Unit {0}
+
+-- A read failed: of the lines that were whole in the bytes taken all commands were played.
+pub record PlayedWhole {S : Type 0} (left : S → Option (List ℕ)) (old new : Reading S) (desk after : DeskState) : Type 0 where
+  pub lines : List (List ℕ)
+  pub whole : WereWhole left old new lines
+  pub unended : old.ended ≡ false
+  pub stop : (course desk.mux desk.entries None (ahead_with old lines Breaks)).1 ≡ Unread
+  pub did : after ≡ desk_after desk (course desk.mux desk.entries None (ahead_with old lines Breaks)).0
+
+-- what playing the rest of a script tells of the bytes that the source gave
+abbrev pub RestTaken : {S : Type 0} → (S → Option (List ℕ)) → Reading S → Reading S → DeskState → DeskState → Result (Unit {0}) PlayStop → Type 0
+RestTaken left old new desk after (Err (Read Failed)) = PlayedWhole left old new desk after
+RestTaken left old new desk after result = Unit {0}

@@ -1,0 +1,29 @@
+// What the two words of the program have to do with each other, and what a report has to do with an input.
+ghost use Rattle.epg_play.specs.Again.{JournalsPlayAgain};
+ghost use Rattle.epg_play.specs.Hearing.{PlayIsHeard};
+ghost use Rattle.epg_play.specs.Outcomes.{OutcomesAreCompared};
+ghost use Rattle.epg_play.specs.Reports.{ReportsTellJournals};
+
+/// What `play` sends, `listen` hears: where an air of a journal of a script's first commands, or of all, as `play` leaves one, is the
+/// recording, each piece of it is a packet, and of each key just its version changes along the airing list are reported, in order.
+pub fn play_is_heard()
+    ensures { PlayIsHeard }
+{}
+
+/// A printed journal is a script: behind the description of its multiplex, the text of a legal journal whose entries can be read is
+/// played to its end, and its journal is this journal again. An entry can be read where its lines have at most 16,384 bytes, and its
+/// numbers nine digits (`IsReadable` of `journal_text`).
+pub fn journals_play_again()
+    ensures { JournalsPlayAgain }
+{}
+
+/// A report tells its journal: reports that are one have one journal and one fault line, if any, where the edits of both journals were
+/// read from lines. So no fault line goes on with a journal.
+pub fn reports_tell_journals()
+    ensures { ReportsTellJournals }
+{}
+
+/// Outcomes are compared as values: a kept outcome agrees exactly where it is the desk's.
+pub fn outcomes_are_compared()
+    ensures { OutcomesAreCompared }
+{}

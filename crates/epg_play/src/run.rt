@@ -1,0 +1,84 @@
+// A script, played from the input.
+ghost use Rattle.std.specs.Prelude.{◌≡◌, List, ℕ, None, Some};
+ghost use Rattle.std.specs.Io.KnownBytes.{IsAtEnd};
+ghost use Rattle.si_causes.specs.Reading.{fresh};
+ghost use Rattle.epg_play.specs.Ending.{HasPlayed, CanBeTold, mux_stop, HasStopCause, HasAirStopCause};
+ghost use Rattle.epg_play.specs.Leaves.{PlayRun};
+ghost use Rattle.epg_report.specs.Told.{gave, told};
+
+use crate::ending::{Played, finish};
+use crate::play::play_rest;
+use crate::stop::PlayStop;
+use carousel_player::Player;
+use desk_core::Desk;
+use epg_report::{Status, out_of_memory};
+use mux_config::{MuxStop, read_mux};
+use si_causes::{LineReader, Sink, Source};
+use std::alloc::Global;
+
+// Why the description of the multiplex was not read.
+fn stop_of(stop: MuxStop) -> PlayStop
+    ensures { result ≡ mux_stop stop }
+{
+    match stop {
+        MuxStop::Fault(fault) => PlayStop::NoMux(fault),
+        MuxStop::Read(stop) => PlayStop::Read(stop),
+        MuxStop::Memory => PlayStop::Memory,
+    }
+}
+
+// Reads the description of the multiplex, and then does the commands behind it.
+fn play<S: Source, A: Sink>(alloc: Global, lines: &mut LineReader<S>, air: &mut A) -> Played
+    requires unread { lines.old ≡ fresh lines.old.source }
+    ensures played { (text : List ℕ) → S.left lines.old.source ≡ Some text
+        → HasPlayed text (S.left lines.new.source) (told A.written A.faults air.old air.new)
+        result.desk result.stop }
+    ensures window { CanBeTold result.stop }
+    ensures end { result.stop ≡ None → IsAtEnd (S.left lines.new.source) }
+    ensures read_cause { HasStopCause (S.faults lines.old.source) (S.faults lines.new.source)
+        result.stop }
+    ensures air_cause { HasAirStopCause (A.faults air.old) (A.faults air.new) result.stop }
+    ensures same { S.same lines.old.source lines.new.source }
+{
+    let mux = match read_mux(alloc, lines) {
+        Ok(mux) => mux,
+        Err(stop) => {
+            return Played {
+                desk: None,
+                stop: Some(stop_of(stop)),
+            };
+        }
+    };
+    let quota = mux.quota;
+    let Ok(mut desk) = Desk::open(alloc, mux) else {
+        return Played {
+            desk: None,
+            stop: Some(PlayStop::Memory),
+        };
+    };
+    let mut player = Player::open(alloc, quota);
+    let stop = play_rest(alloc, lines, &mut desk, &mut player, air).err();
+    Played {
+        desk: Some(desk),
+        stop,
+    }
+}
+
+/// Plays the script of the input: reads its lines and does them one after the other, sends one cycle to the air after each swap,
+/// and reports the journal of all steps done, with a line that names the fault where there is one.
+pub fn run_play<S: Source, A: Sink, R: Sink>(
+    alloc: Global,
+    input: &mut S,
+    air: &mut A,
+    report: &mut R,
+) -> Status
+    ensures run { PlayRun (gave S.left S.faults input.old input.new)
+        (told A.written A.faults air.old air.new) (told R.written R.faults report.old report.new) result }
+{
+    let Ok(mut lines) = LineReader::open(alloc, &mut *input) else {
+        return out_of_memory(report);
+    };
+    let played = play(alloc, &mut lines, air);
+    let _source = lines.close();
+    finish(alloc, &played, report)
+}
