@@ -2,13 +2,13 @@
 ghost use Rattle.std.specs.Prelude.{◌≡◌, ◌≤◌, ◌<◌, ◌+◌};
 ghost use Rattle.si_workload.specs.Shows.{drawn, show_at, state_behind};
 
-// A show: its event_id, its start and its length in quarters of an hour, counted from the first midnight, and the number in its name.
+/// A show: its event_id, its start and its length in quarters of an hour, counted from the first midnight, and the number in its name.
 #[derive(Clone, Copy)]
-pub(crate) struct Show {
-    pub(crate) id: u64,
-    pub(crate) start: u64,
-    pub(crate) quarters: u64,
-    pub(crate) title: u64,
+pub struct Show {
+    pub id: u64,
+    pub start: u64,
+    pub quarters: u64,
+    pub title: u64,
 }
 
 // The next show of a service: its event_id, its start, and the state before its draws.

@@ -1,0 +1,12 @@
+pub mod Closed
+pub mod Chains
+pub mod PlainRows
+pub mod MadeLines
+pub mod Reading
+pub mod MadeEdits
+pub mod ItemLines
+pub mod Events
+pub mod Days
+pub mod Journals
+pub mod Counts
+pub mod Callers

@@ -1,0 +1,4 @@
+pub mod Load
+pub mod Laws
+pub mod Journals
+pub mod Callers

@@ -1,0 +1,3 @@
+mod Stops
+pub mod Texts
+pub mod Journals
