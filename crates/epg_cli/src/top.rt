@@ -1,10 +1,8 @@
 // The top call.
-ghost use Rattle.std.specs.Prelude.{◌≡◌, ◌↔◌, ◌⊎◌, List, ℕ, None, Some, codes};
+ghost use Rattle.std.specs.Prelude.{◌≡◌, ◌↔◌, ◌⊎◌, List, ℕ, Some, codes};
 ghost use Rattle.std.specs.Io.KnownBytes.{IsAtEnd};
 ghost use Rattle.si_causes.specs.Causes.{Rose};
 ghost use Rattle.si_causes.specs.Opening.{Files};
-ghost use Rattle.command_words.specs.Commands.{texts};
-ghost use Rattle.command_words.specs.Grammar.{command_of, Play, Listen, Live};
 ghost use Rattle.epg_report.specs.Texts.{fault_line};
 ghost use Rattle.epg_report.specs.Told.{Reported, gave, told};
 ghost use Rattle.epg_play.specs.Leaves.{PlayRun};
@@ -12,6 +10,7 @@ ghost use Rattle.epg_listen.specs.Leaves.{ListenRun};
 ghost use Rattle.epg_live.specs.LiveRun.{LiveRun, asked};
 ghost use Rattle.epg_live.specs.Stops.{HasStatusCause};
 ghost use Rattle.epg_cli.specs.Prints.{PrintsScript};
+ghost use Rattle.epg_cli.specs.Spelled.{IsUsage, IsPlay, IsListen, IsLive};
 
 use command_words::{Command, WordsStop, parse_words};
 use epg_listen::run_listen;
@@ -25,7 +24,7 @@ use std::sync::Wait;
 use std::thread::Threads;
 
 /// Does all that the program does: it takes the words of the command line without the program's name, what opens files, the input,
-/// the air, the report, and the gate that the jobs of `live` pass. What the words spell is `command_of` of `command_words`.
+/// the air, the report, and the gate that the jobs of `live` pass. Which command the words spell is told by `command_of` of `command_words`.
 pub fn run<W: Threads + Wait + Sync, O: Opener, S: Source + Send, A: Sink + Send, R: Sink, G: Gate>(
     rt: &W,
     alloc: Global,
@@ -37,33 +36,30 @@ pub fn run<W: Threads + Wait + Sync, O: Opener, S: Source + Send, A: Sink + Send
     gate: &G,
 ) -> Status
     // Usage comes exactly where the words spell no command; then nothing is read, opened or sent.
-    ensures usage { result ≡ Status.Usage ↔ (command_of (texts words.now) ≡ None) }
+    ensures usage { result ≡ Status.Usage ↔ IsUsage words.now }
     ensures usage_leaves { result ≡ Status.Usage → (air.new ≡ air.old) × (input.new ≡ input.old)
         × (opener.new ≡ opener.old)
         × Reported (told R.written R.faults report.old report.new) (fault_line (codes "usage")) }
     // A run of each command.
-    ensures play { command_of (texts words.now) ≡ Some Play
-        → PlayRun (gave S.left S.faults input.old input.new)
+    ensures play { IsPlay words.now → PlayRun (gave S.left S.faults input.old input.new)
         (told A.written A.faults air.old air.new) (told R.written R.faults report.old report.new) result }
-    ensures listen { command_of (texts words.now) ≡ Some Listen
-        → ListenRun (gave S.left S.faults input.old input.new)
+    ensures listen { IsListen words.now → ListenRun (gave S.left S.faults input.old input.new)
         (told R.written R.faults report.old report.new) result }
     ensures live { (paths : List (List ℕ)) (cycles join : ℕ)
-        → command_of (texts words.now) ≡ Some (Live paths cycles join) → LiveRun paths cycles join
+        → IsLive words.now paths cycles join → LiveRun paths cycles join
         (asked O.files O.tried O.faults O.read_faults opener.old opener.new)
         (gave S.left S.faults input.old input.new) (told A.written A.faults air.old air.new)
         (told R.written R.faults report.old report.new) result }
     // The journal that the report of `live` has is a script: behind its description `play` plays it
     // to this journal again.
     ensures live_again { (paths : List (List ℕ)) (cycles join : ℕ)
-        → command_of (texts words.now) ≡ Some (Live paths cycles join)
+        → IsLive words.now paths cycles join
         → (text : List ℕ) → S.left input.old ≡ Some text
         → (files : Files) → O.files opener.old ≡ Some files
         → PrintsScript text (told R.written R.faults report.old report.new) result }
     // With `listen` nothing is sent, and only `live` opens files.
-    ensures air_kept { command_of (texts words.now) ≡ Some Listen → air.new ≡ air.old }
-    ensures opener_kept { (command_of (texts words.now) ≡ Some Play)
-        ⊎ (command_of (texts words.now) ≡ Some Listen) → opener.new ≡ opener.old }
+    ensures air_kept { IsListen words.now → air.new ≡ air.old }
+    ensures opener_kept { IsPlay words.now ⊎ IsListen words.now → opener.new ≡ opener.old }
     // With Done the input was read to its end; each fault has its cause.
     ensures end { result ≡ Status.Done → IsAtEnd (S.left input.new) }
     ensures cause { HasStatusCause (S.faults input.old) (S.faults input.new)

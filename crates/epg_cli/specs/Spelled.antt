@@ -1,0 +1,17 @@
+-- Which command the words of a run spell.
+use Rattle.std.specs.Prelude.{◌≡◌, ℕ, List, None, Some, String}
+use Rattle.command_words.specs.Commands.{texts}
+use Rattle.command_words.specs.Grammar.{Listen, Live, Play, command_of}
+
+abbrev pub IsUsage : {Y : Type 0} → List (String Y) → Type 0
+IsUsage words = command_of (texts words) ≡ None
+
+abbrev pub IsPlay : {Y : Type 0} → List (String Y) → Type 0
+IsPlay words = command_of (texts words) ≡ Some Play
+
+abbrev pub IsListen : {Y : Type 0} → List (String Y) → Type 0
+IsListen words = command_of (texts words) ≡ Some Listen
+
+-- over the files of these paths, with so many cycles, heard from packet `join` on
+abbrev pub IsLive : {Y : Type 0} → List (String Y) → List (List ℕ) → ℕ → ℕ → Type 0
+IsLive words paths cycles join = command_of (texts words) ≡ Some (Live paths cycles join)
