@@ -5,7 +5,7 @@ use Rattle.std.specs.List.{AllByRecursion, All, range_with_len, take-map, drop-m
 use Rattle.std.proofs.lemmas.List.Elements.{All-from_recursion, All-take, All-drop}
 use Rattle.std.proofs.lemmas.List.{length-map}
 use Rattle.std.proofs.lemmas.List.Sums.{sum_by-cons}
-use Rattle.si_lists.proofs.Lists.{all_append, all_map, all_two, range_more}
+use Rattle.si_lists.proofs.Lists.{all_map, all_two, range_more, all_of_map, all_to_map, each_flat}
 use Rattle.si_base.specs.Fields.{two, two_at}
 use Rattle.guide_model.specs.declared.event.Event.{Event}
 use Rattle.desc_event.specs.EventDescriptors.{entry_size}
@@ -33,20 +33,6 @@ use Rattle.eit_tables.specs.Present.{event_at, present_event, following_event}
 use Rattle.eit_tables.specs.Schedule.{last_table_of, schedule_section}
 use Rattle.eit_tables.specs.Laws.{AreSmallEntries, AreEit, Names, PresentIsFit, ScheduleIsFit, EventsAreRead, EventsNameTheMux}
 use Rattle.eit_tables.proofs.EventFacts.{all_codable}
-
--- ---- what holds of each element
-
-pub all_of_map : {X Y : Type 0} (P : Y → Type 0) (f : X → Y) (xs : List X) → AllByRecursion P (map f xs) → AllByRecursion (λ (x : X). P (f x)) xs
-all_of_map P f [] h = tt
-all_of_map P f (x ∷ xs) h = (h.0, all_of_map P f xs h.1)
-
-all_to_map : {X Y : Type 0} (P : Y → Type 0) (f : X → Y) (xs : List X) → AllByRecursion (λ (x : X). P (f x)) xs → AllByRecursion P (map f xs)
-all_to_map P f [] h = tt
-all_to_map P f (x ∷ xs) h = (h.0, all_to_map P f xs h.1)
-
-all_flat : {X Y : Type 0} (P : Y → Type 0) (f : X → List Y) → ((x : X) → AllByRecursion P (f x)) → (xs : List X) → AllByRecursion P (flat_map f xs)
-all_flat P f each [] = tt
-all_flat P f each (x ∷ xs) = all_append P (f x) (flat_map f xs) (each x) (all_flat P f each xs)
 
 -- ---- bodies
 
@@ -208,7 +194,7 @@ table_fit mux events end table first placed =
       bodies = all_to_map (λ (s : NumberedBody). (6 ≤ length s.body) × (length s.body ≤ 4084)) made ps
           (all_map (λ (p : Piece). sum_by entry_size (section_events p events) ≤ 4078) (λ (p : Piece). (6 ≤ length (made p).body) × (length (made p).body ≤ 4084))
           (λ p h. body_fits (eit_head mux p.segment_last end) 0 (section_events p events) h) ps
-          (all_flat (λ (p : Piece). sum_by entry_size (section_events p events) ≤ 4078) of (λ segment. segment_fits mux events end placed table (last_in_table first ats) segment (first + segment)) (range_with_len 0 (used + 1))));
+          (each_flat (λ (p : Piece). sum_by entry_size (section_events p events) ≤ 4078) of (λ segment. segment_fits mux events end placed table (last_in_table first ats) segment (first + segment)) (range_with_len 0 (used + 1))));
       by_segments = record {
         some = omega (arith, length-map ps made, ap length parts, length-append before (of used), size, few.0);
         ascending = made_ascend mux events end 0 ps (table_rises table first ats placed.fit);

@@ -24,9 +24,10 @@ use Rattle.journal_text.specs.Edits.{line_text}
 use Rattle.script_lines.specs.Outcomes.{field_fields, field_numbers, fault_ids, fault_numbers, day_fault_fields, id_in, outcome_fields, outcome_ids, outcome_numbers, outcome_of_fields}
 use Rattle.journal_text.specs.Entries.{outcome_text, with_commas}
 use Rattle.journal_text.specs.Back.{IsFronted, IsReadableOutcome, IsWritableOutcome, OutcomesReadBack, row_line, outcome_row}
-use Rattle.script_lines.proofs.NumberBack.{digits_of, low, small, number_back, numeral_back, all_more}
+use Rattle.script_lines.proofs.NumberBack.{digits_of, low, small, number_back, numeral_back}
 use Rattle.script_lines.proofs.OutcomeBack.{outcome_back}
 use Rattle.si_lists.proofs.Lists.{all_map}
+use Rattle.si_lists.proofs.Filters.{list_all-more}
 use Rattle.journal_text.proofs.CleanRows.{clean_append, clean_none, clean_byte}
 
 -- ---- bytes that stand for themselves
@@ -52,7 +53,7 @@ digit_printing : (b : ℕ) → is_digit b ≡ true → is_printing b ≡ true
 digit_printing b h = grind (arith, nat_tests)
 
 pub digits_printing : (xs : List ℕ) → list_all is_digit xs ≡ true → list_all is_printing xs ≡ true
-digits_printing = all_more is_digit is_printing digit_printing
+digits_printing = list_all-more is_digit is_printing digit_printing
 
 -- a byte that no field is quoted for
 abbrev pub is_written : ℕ → Bool
@@ -65,7 +66,7 @@ digit_written : (b : ℕ) → is_digit b ≡ true → is_written b ≡ true
 digit_written b h = grind (arith, nat_tests)
 
 pub digits_written : (xs : List ℕ) → list_all is_digit xs ≡ true → list_all is_written xs ≡ true
-digits_written = all_more is_digit is_written digit_written
+digits_written = list_all-more is_digit is_written digit_written
 
 -- bytes of a shape of such bytes
 shape_byte : (s b : ℕ) → is_written s ≡ true → (if s == 100 then is_ascii_digit b else b == s) ≡ true → is_written b ≡ true
@@ -84,7 +85,7 @@ shape_written (s ∷ shape) (x ∷ xs) p h =
     rw (shape_byte s x a c) (shape_written shape xs b d)
 
 pub written_kept : (xs : List ℕ) → list_all is_written xs ≡ true → IsKept xs
-written_kept xs h = printing_kept xs (all_more is_written is_printing written_printing xs h)
+written_kept xs h = printing_kept xs (list_all-more is_written is_printing written_printing xs h)
 
 pub moment_written : (t : ℕ) → t < 65536 * 86400 → list_all is_written (moment_text t) ≡ true
 moment_written t h = shape_written (codes "dddd-dd-ddTdd:dd:ddZ") (moment_text t) refl (moment_in-only (moment_text t) t (moment_in-moment_text t h)).shape

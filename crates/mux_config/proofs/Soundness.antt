@@ -6,7 +6,7 @@ use Rattle.std.specs.Option.{unwrap_or}
 use Rattle.std.proofs.lemmas.Bool.{cases_Bool, eqb-true, leb-true, false≢true}
 use Rattle.std.proofs.lemmas.Bool.Decides.{nat_tests}
 use Rattle.std.proofs.lemmas.List.{length-map}
-use Rattle.si_lists.proofs.Lists.{all_push, all_append, all_map as all_imp}
+use Rattle.si_lists.proofs.Lists.{all_push, all_append, all_map, all_to_map, all_of_map}
 use Rattle.guide_model.specs.declared.stream.Cable.{Cable}
 use Rattle.guide_model.specs.declared.stream.Component.{Component}
 use Rattle.si_text.specs.Decoding.{IsKept}
@@ -30,21 +30,13 @@ all_insert P s (t ∷ ts) p h = elim (cases_Bool (nat_lt s.service t.service)) [
   | inr e ↦ rw e (h.0, all_insert P s ts p h.1)
 ]
 
-all_map : {X Y : Type 0} (f : X → Y) (P : Y → Type 0) (xs : List X) → AllByRecursion (λ x. P (f x)) xs → AllByRecursion P (map f xs)
-all_map f P [] h = tt
-all_map f P (x ∷ xs) h = (h.0, all_map f P xs h.1)
-
-of_map : {X Y : Type 0} (f : X → Y) (P : Y → Type 0) (xs : List X) → AllByRecursion P (map f xs) → AllByRecursion (λ x. P (f x)) xs
-of_map f P [] h = tt
-of_map f P (x ∷ xs) h = (h.0, of_map f P xs h.1)
-
 -- a service whose PMT has another PID than those there
 pmts_insert : (s : MuxService) (ts : List MuxService) → AllByRecursion (λ (t : MuxService). s.pmt_pid ≢ t.pmt_pid) ts → AreDifferent (pmt_pids ts) → AreDifferent (pmt_pids (insert s ts))
 pmts_insert s [] new h = (tt, tt)
 pmts_insert s (t ∷ ts) new h = elim (cases_Bool (nat_lt s.service t.service)) [
-  | inl e ↦ rw e ((new.0, all_map (λ (u : MuxService). u.pmt_pid) (λ m. s.pmt_pid ≢ m) ts new.1), h)
+  | inl e ↦ rw e ((new.0, all_to_map (λ m. s.pmt_pid ≢ m) (λ (u : MuxService). u.pmt_pid) ts new.1), h)
   | inr e ↦ rw e (
-    all_map (λ (u : MuxService). u.pmt_pid) (λ m. t.pmt_pid ≢ m) (insert s ts) (all_insert (λ (u : MuxService). t.pmt_pid ≢ u.pmt_pid) s ts (λ e. new.0 (sym e)) (of_map (λ (u : MuxService). u.pmt_pid) (λ m. t.pmt_pid ≢ m) ts h.0)),
+    all_to_map (λ m. t.pmt_pid ≢ m) (λ (u : MuxService). u.pmt_pid) (insert s ts) (all_insert (λ (u : MuxService). t.pmt_pid ≢ u.pmt_pid) s ts (λ e. new.0 (sym e)) (all_of_map (λ m. t.pmt_pid ≢ m) (λ (u : MuxService). u.pmt_pid) ts h.0)),
     pmts_insert s ts new.1 h.1,
   )
 ]
@@ -61,7 +53,7 @@ ascend_insert s [] new h = (tt, tt)
 ascend_insert s (t ∷ ts) new h = elim (cases_Bool (nat_lt s.service t.service)) [
   | inl e ↦
       let below : s.service < t.service = grind (arith, nat_tests) in
-      rw e ((below, all_imp (λ (u : MuxService). t.service < u.service) (λ (u : MuxService). s.service < u.service) (λ u less. omega (arith, below, less)) ts h.0), h)
+      rw e ((below, all_map (λ (u : MuxService). t.service < u.service) (λ (u : MuxService). s.service < u.service) (λ u less. omega (arith, below, less)) ts h.0), h)
   | inr e ↦
       let above : t.service ≤ s.service = grind (arith, nat_tests) in
       let less : t.service < s.service = below_of t.service s.service above new.0 in
@@ -71,7 +63,7 @@ ascend_insert s (t ∷ ts) new h = elim (cases_Bool (nat_lt s.service t.service)
 different_snoc : (xs : List Component) (c : Component) → AllByRecursion (λ (x : Component). x.pid ≢ c.pid) xs → AreDifferent (map (λ (x : Component). x.pid) xs) → AreDifferent (map (λ (x : Component). x.pid) (xs ++ c ∷ []))
 different_snoc [] c new h = (tt, tt)
 different_snoc (x ∷ xs) c new h = (
-  all_map (λ (y : Component). y.pid) (λ m. x.pid ≢ m) (xs ++ c ∷ []) (all_push (λ (y : Component). x.pid ≢ y.pid) xs c (of_map (λ (y : Component). y.pid) (λ m. x.pid ≢ m) xs h.0) new.0),
+  all_to_map (λ m. x.pid ≢ m) (λ (y : Component). y.pid) (xs ++ c ∷ []) (all_push (λ (y : Component). x.pid ≢ y.pid) xs c (all_of_map (λ m. x.pid ≢ m) (λ (y : Component). y.pid) xs h.0) new.0),
   different_snoc xs c new.1 h.1,
 )
 
@@ -330,7 +322,7 @@ sound_services rs (s ∷ ts) f h = (
 
 ascend_parts : (rs : List Numbered) (ts : List MuxService) → DoAscend ts → DoAscend (map (with_parts rs) ts)
 ascend_parts rs [] h = tt
-ascend_parts rs (t ∷ ts) h = (all_map (with_parts rs) (λ (u : MuxService). t.service < u.service) ts h.0, ascend_parts rs ts h.1)
+ascend_parts rs (t ∷ ts) h = (all_to_map (λ (u : MuxService). t.service < u.service) (with_parts rs) ts h.0, ascend_parts rs ts h.1)
 
 pmts_same : (rs : List Numbered) (ts : List MuxService) → pmt_pids (map (with_parts rs) ts) ≡ pmt_pids ts
 pmts_same rs [] = refl
@@ -340,7 +332,7 @@ all_pids : (rs : List Numbered) (s : MuxService) (ts : List MuxService) → ((id
 all_pids rs s [] h = tt
 all_pids rs s (t ∷ ts) h =
     all_append (λ pid. s.pmt_pid ≢ pid) (component_pids (with_parts rs t)) (all_component_pids (map (with_parts rs) ts))
-    (all_map (λ (c : Component). c.pid) (λ pid. s.pmt_pid ≢ pid) (parts_in t.service rs) (h t.service)) (all_pids rs s ts h)
+    (all_to_map (λ pid. s.pmt_pid ≢ pid) (λ (c : Component). c.pid) (parts_in t.service rs) (h t.service)) (all_pids rs s ts h)
 
 for_each : (Q : ℕ → MuxService → Type 0) (xs : List MuxService) → ((id : ℕ) → AllByRecursion (Q id) xs) → AllByRecursion (λ s. (id : ℕ) → Q id s) xs
 for_each Q [] h = tt
@@ -350,8 +342,8 @@ apart_pids : (rs : List Numbered) → AreFine rs → AllByRecursion (λ pmt. All
 apart_pids rs f =
     let ts = in_order rs in
     let each = for_each (λ (id : ℕ) (s : MuxService). IsApart (parts_in id rs) s) ts f.apart in
-    let all = all_imp (λ (s : MuxService). (id : ℕ) → IsApart (parts_in id rs) s) (λ (s : MuxService). AllByRecursion (λ pid. s.pmt_pid ≢ pid) (all_component_pids (services_of rs))) (λ s h. all_pids rs s ts h) ts each in
-    subst (AllByRecursion (λ pmt. AllByRecursion (λ pid. pmt ≢ pid) (all_component_pids (services_of rs)))) (sym (pmts_same rs ts)) (all_map (λ (s : MuxService). s.pmt_pid) (λ pmt. AllByRecursion (λ pid. pmt ≢ pid) (all_component_pids (services_of rs))) ts all)
+    let all = all_map (λ (s : MuxService). (id : ℕ) → IsApart (parts_in id rs) s) (λ (s : MuxService). AllByRecursion (λ pid. s.pmt_pid ≢ pid) (all_component_pids (services_of rs))) (λ s h. all_pids rs s ts h) ts each in
+    subst (AllByRecursion (λ pmt. AllByRecursion (λ pid. pmt ≢ pid) (all_component_pids (services_of rs)))) (sym (pmts_same rs ts)) (all_to_map (λ pmt. AllByRecursion (λ pid. pmt ≢ pid) (all_component_pids (services_of rs))) (λ (s : MuxService). s.pmt_pid) ts all)
 
 -- a sound multiplex, with names that may be kept
 pub record IsFineMux (mux : Mux) : Type 0 where
@@ -381,7 +373,7 @@ fine_mux rs network stream f named ids some =
         original = ids.1;
       };
       network_name = named.1.1;
-      services = all_map (with_parts rs) (λ (s : MuxService). IsKept s.provider × IsKept s.name) ts (all_imp IsFineService (λ (s : MuxService). IsKept s.provider × IsKept s.name) (λ s h. h.1) ts served);
+      services = all_to_map (λ (s : MuxService). IsKept s.provider × IsKept s.name) (with_parts rs) ts (all_map IsFineService (λ (s : MuxService). IsKept s.provider × IsKept s.name) (λ s h. h.1) ts served);
     }
 
 whole_services : (mux made : Mux) → with_services mux ≡ Ok made → (1 ≤ length mux.services) × (mux ≡ made)

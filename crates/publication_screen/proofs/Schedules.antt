@@ -5,6 +5,7 @@ use Rattle.std.specs.Prelude.{zero, suc, min, flat_map, filter, if◌then◌else
 use Rattle.std.specs.List.{All, AllByRecursion, range_with_len}
 use Rattle.std.proofs.lemmas.List.{map-append}
 use Rattle.std.proofs.lemmas.List.Concat.{flat_map-append}
+use Rattle.si_lists.proofs.Lists.{all_of_map}
 use Rattle.si_lists.proofs.Parts.{lt_or}
 use Rattle.guide_model.specs.declared.event.Event.{Event}
 use Rattle.guide_model.specs.declared.guide.ServiceGuide.{ServiceGuide}
@@ -132,10 +133,6 @@ module _ (mux : Mux) (ids : HasIds mux) (day : ℕ) (g : ServiceGuide) where
     same_range n (suc k) =
         ap (λ (l : List ℕ). n ∷ l) (ap (λ (m : ℕ). numbers_from m k) (let e : 1 + n ≡ n + 1 = omega arith in e) ∙ same_range (n + 1) k)
 
-    of_map : (P : SubTable → Type 0) (tables : List ℕ) → AllByRecursion P (map (schedule_table mux day g) tables) → AllByRecursion (λ (table : ℕ). P (schedule_table mux day g table)) tables
-    of_map P [] all = tt
-    of_map P (t ∷ ts) all = (all.0, of_map P ts all.1)
-
     abbrev Held : SubTable → Type 0
     Held t = content t.key ≡ Some t.sections
 
@@ -144,10 +141,10 @@ module _ (mux : Mux) (ids : HasIds mux) (day : ℕ) (g : ServiceGuide) where
     has_tables near far = go (lt_or 0x50 end)
       where
         near_are : AllByRecursion Has (range_with_len 0x50 ((1 + min 0x51 end) - 0x50))
-        near_are = of_map Held (range_with_len 0x50 ((1 + min 0x51 end) - 0x50)) near
+        near_are = all_of_map Held (schedule_table mux day g) (range_with_len 0x50 ((1 + min 0x51 end) - 0x50)) near
 
         far_are : AllByRecursion Has (range_with_len 0x52 ((1 + end) - 0x52))
-        far_are = of_map Held (range_with_len 0x52 ((1 + end) - 0x52)) far
+        far_are = all_of_map Held (schedule_table mux day g) (range_with_len 0x52 ((1 + end) - 0x52)) far
 
         go : (0x50 < end) ⊎ (end ≤ 0x50) → AllByRecursion Has (tables_to 0x50 end)
         go (inl more) =

@@ -5,7 +5,7 @@ use Rattle.std.specs.Prelude.{suc, flat_map, filter, if◌then◌else◌, is_som
 use Rattle.std.specs.List.{All, AllByRecursion}
 use Rattle.std.proofs.lemmas.Bool.Decides.{nat_tests}
 use Rattle.std.proofs.lemmas.List.Elements.{All-from_recursion}
-use Rattle.si_lists.proofs.Lists.{all_append, all_front, all_behind}
+use Rattle.si_lists.proofs.Lists.{all_append, all_front, all_behind, all_of_map}
 use Rattle.si_text.specs.declared.shown.Shown.{Shown}
 use Rattle.si_text.specs.declared.shown.Shown.TheVariants.{Text}
 use Rattle.guide_model.specs.declared.stream.Cable.{Cable}
@@ -56,7 +56,6 @@ use Rattle.publication_screen.specs.Laws.{PublicationIsShown}
 use Rattle.publication_screen.proofs.Own.{pat_said, pmt_said, pids_said, nit_said, sdt_said, services_in_order}
 use Rattle.publication_screen.proofs.Events.{HasIds, now_said, next_said}
 use Rattle.publication_screen.proofs.Schedules.{HasTable, has_tables, last_is, schedule_said}
-use Rattle.eit_tables.proofs.EitFacts.{all_of_map}
 
 abbrev Held : (Key → Option Content) → SubTable → Type 0
 Held content t = content t.key ≡ Some t.sections

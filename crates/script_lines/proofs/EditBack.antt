@@ -1,11 +1,11 @@
 -- What is written of an edit reads back as the edit.
-use Rattle.std.proofs.Common.{◌≡◌, ◌≢◌, ◌≤◌, ◌<◌, ℕ, true, false, not, List, [], ◌∷◌, ◌++◌, length, refl, ap, ◌∙◌, arith, inl, inr, lit<}
+use Rattle.std.proofs.Common.{◌≡◌, ◌≢◌, ◌≤◌, ◌<◌, ℕ, true, false, not, List, [], ◌∷◌, ◌++◌, length, refl, ap, ◌∙◌, arith, lit<}
 use Rattle.std.specs.Prelude.{Option, Some, None, IfSome, codes, decimal, map, option_map, ◌==◌}
 use Rattle.std.specs.List.{list_all, slice_split, AllByRecursion}
 use Rattle.std.proofs.lemmas.Bool.Decides.{nat_tests}
 use Rattle.std.proofs.lemmas.List.Folds.{list_all-append}
-use Rattle.std.proofs.lemmas.Bool.{cases_Bool}
 use Rattle.std.proofs.lemmas.List.Elements.{recursion_from_All}
+use Rattle.si_lists.proofs.Filters.{list_all-more, split_front, split_last}
 use Rattle.guide_model.specs.declared.event.Genre.{Genre}
 use Rattle.input_lines.specs.Numbers.{is_digit}
 use Rattle.journal_model.specs.declared.edit.RawRating.{RawRating}
@@ -23,35 +23,16 @@ use Rattle.script_lines.specs.Edits.{items_of, with_items, edit_from}
 use Rattle.field_text.specs.Genres.{genre_text, genres_text}
 use Rattle.script_lines.specs.EditFields.{country_field, rating_field, item_fields, edit_fields, item_rows, HaveFields, EditsReadBack}
 use Rattle.script_lines.proofs.Genres.{genres_of_some}
-use Rattle.script_lines.proofs.NumberBack.{small, digits_of, number_back, all_more}
+use Rattle.script_lines.proofs.NumberBack.{small, digits_of, number_back}
 
 byte_digits : (n : ℕ) → n ≤ 255 → list_all is_digit (decimal n) ≡ true
 byte_digits n le = digits_of n (small n (omega arith))
-
--- ---- parts
-
--- what stands before the byte is the first part
-split_front : (c : ℕ) (xs ys : List ℕ) → list_all (λ b. not (b == c)) xs ≡ true → slice_split (λ b. b == c) (xs ++ c ∷ ys) ≡ xs ∷ slice_split (λ b. b == c) ys
-split_front c [] ys h = let e : (c == c) ≡ true = grind (arith, nat_tests) in rw e refl
-split_front c (x ∷ xs) ys h =
-    elim (cases_Bool (x == c)) [
-      | inl e ↦ absurd (let k = rw e at h in cc)
-      | inr e ↦ (let more = split_front c xs ys (rw e at h) in rw (e, more) refl)
-    ]
-
-split_last : (c : ℕ) (xs : List ℕ) → list_all (λ b. not (b == c)) xs ≡ true → slice_split (λ b. b == c) xs ≡ xs ∷ []
-split_last c [] h = refl
-split_last c (x ∷ xs) h =
-    elim (cases_Bool (x == c)) [
-      | inl e ↦ absurd (let k = rw e at h in cc)
-      | inr e ↦ (let more = split_last c xs (rw e at h) in rw (e, more) refl)
-    ]
 
 digit_lacks : (c x : ℕ) → c < 48 → is_digit x ≡ true → not (x == c) ≡ true
 digit_lacks c x lt h = let other : (x == c) ≡ false = grind (arith, nat_tests) in rw other refl
 
 digits_lack : (c : ℕ) (xs : List ℕ) → c < 48 → list_all is_digit xs ≡ true → list_all (λ b. not (b == c)) xs ≡ true
-digits_lack c xs lt h = all_more is_digit (λ b. not (b == c)) (λ b. digit_lacks c b lt) xs h
+digits_lack c xs lt h = list_all-more is_digit (λ b. not (b == c)) (λ b. digit_lacks c b lt) xs h
 
 -- ---- genres
 

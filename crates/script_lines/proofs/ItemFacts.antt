@@ -1,9 +1,9 @@
 -- The edits of a script's items have numbers as wide as their fields, and texts that may be kept; its ticks are at moments that can be
 -- written.
-use Rattle.std.proofs.Common.{ℕ, zero, suc, Bool, true, false, List, [], ◌∷◌}
+use Rattle.std.proofs.Common.{ℕ, Bool, true, false, List, [], ◌∷◌}
 use Rattle.std.specs.Prelude.{◌≤◌, Option, Some, None, IfSome, option_map, drop, codes, if◌then◌else◌}
 use Rattle.std.specs.List.{AllByRecursion}
-use Rattle.si_lists.proofs.Lists.{all_map}
+use Rattle.si_lists.proofs.Lists.{all_map, all_drop}
 use Rattle.si_lists.proofs.Outcomes.{map_some, if_some}
 use Rattle.si_text.specs.Decoding.{IsKept}
 use Rattle.input_lines.specs.Fields.{record_of}
@@ -52,21 +52,15 @@ feed_typed [] = tt
 feed_typed (word ∷ []) = tt
 feed_typed (word ∷ feed ∷ fields) = if_some IsFeed (is_word (codes "feed") word) (number_in 0 255 feed) None (number_within 255 feed) tt
 
--- what holds of all fields holds of those behind the first ones
-all_drop : (n : ℕ) (fields : List (List ℕ)) → AllByRecursion IsKept fields → AllByRecursion IsKept (drop n fields)
-all_drop zero fields kept = kept
-all_drop (suc n) [] kept = tt
-all_drop (suc n) (f ∷ fields) kept = all_drop n fields kept.1
-
 command_sound : (who n : ℕ) (short : Option Step) (fields : List (List ℕ)) (behind : Ahead) → IfSome short IsSoundStep → AllByRecursion IsKept fields
     → IfCame IsSoundCommand (command_with who n short fields behind)
 command_sound who n (Some short) fields behind sound kept = sound
 command_sound who n None fields behind sound kept =
     then_came IsFeed IsSoundCommand (on_line n (feed_of fields) behind) _ (line_came IsFeed n (feed_of fields) behind (feed_typed fields))
-    (λ feed more le. then_came IsTypedEdit IsSoundCommand (read_edit n (drop 2 fields) more) _ (read_typed n (drop 2 fields) more (all_drop 2 fields kept)) (λ e rest typed. ((le, typed), tt)))
+    (λ feed more le. then_came IsTypedEdit IsSoundCommand (read_edit n (drop 2 fields) more) _ (read_typed n (drop 2 fields) more (all_drop IsKept 2 fields kept)) (λ e rest typed. ((le, typed), tt)))
 
 caller_sound : (who : Option ℕ) (n : ℕ) (fields : List (List ℕ)) (behind : Ahead) → AllByRecursion IsKept fields → IfCame IsSoundCommand (command_by who n fields behind)
-caller_sound (Some who) n fields behind kept = command_sound who n (short_step (drop 1 fields)) (drop 1 fields) behind (short_sound (drop 1 fields)) (all_drop 1 fields kept)
+caller_sound (Some who) n fields behind kept = command_sound who n (short_step (drop 1 fields)) (drop 1 fields) behind (short_sound (drop 1 fields)) (all_drop IsKept 1 fields kept)
 caller_sound None n fields behind kept = command_sound 0 n (short_step fields) fields behind (short_sound fields) kept
 
 kept_sound : (n : ℕ) (found : Found Outcome) → IfCame IsSoundItem (kept_item n found)

@@ -1,9 +1,8 @@
 -- Numbers and moments read back from their texts.
-use Rattle.std.proofs.Common.{◌≡◌, ◌≤◌, ◌<◌, ◌^◌, ◌*◌, ℕ, Bool, List, [], ◌∷◌, length, true, refl, arith, lit<, lit≤}
+use Rattle.std.proofs.Common.{◌≡◌, ◌≤◌, ◌<◌, ◌^◌, ◌*◌, ℕ, length, true, refl, arith, lit<, lit≤}
 use Rattle.std.specs.Prelude.{Some, decimal, nat_le}
 use Rattle.std.specs.List.{list_all}
 use Rattle.std.proofs.lemmas.Fmt.{digits_decimal, digits_value-decimal, length-decimal-le, decimal_nonempty}
-use Rattle.std.proofs.lemmas.Bool.{and_parts}
 use Rattle.std.proofs.lemmas.Bool.Decides.{nat_tests}
 use Rattle.si_time.specs.Moments.{moment_text}
 use Rattle.si_time.specs.declared.moment.Moment.{Moment}
@@ -49,11 +48,3 @@ number_back n high le most =
 
 pub moment_back : (at : Moment) → at.0 < 65536 * 86400 → moment_at (moment_text at.0) ≡ Some at
 moment_back at h = rw (moment_in-moment_text at.0 h) refl
-
--- ---- texts of such bytes
-
-pub all_more : (P Q : ℕ → Bool) → ((b : ℕ) → P b ≡ true → Q b ≡ true) → (xs : List ℕ) → list_all P xs ≡ true → list_all Q xs ≡ true
-all_more P Q f [] h = refl
-all_more P Q f (x ∷ xs) h =
-    let (p, q) = and_parts (P x) (list_all P xs) h in
-    rw (f x p) (all_more P Q f xs q)

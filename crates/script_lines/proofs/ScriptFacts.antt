@@ -8,8 +8,7 @@ use Rattle.script_lines.specs.Edits.{read_edit}
 use Rattle.journal_model.specs.declared.step.Step.{Step}
 use Rattle.script_lines.specs.declared.script.ScriptItem.{ScriptItem}
 use Rattle.script_lines.specs.declared.script.ScriptItem.TheVariants.{Step as step, Kept, End}
-use Rattle.script_lines.specs.Script.{command_with, command_of_caller, command_by, caller_of, feed_of, feed_command, short_step, is_outcome_line, kept_in, kept_item, step_item, read_command, read_item}
-use Rattle.script_lines.specs.ScriptReads.{IsRead, next_of}
+use Rattle.script_lines.specs.Script.{command_with, command_of_caller, command_by, caller_of, feed_of, feed_command, short_step, is_outcome_line, kept_in, kept_item, step_item, read_command, read_item, IsRead, next_of}
 use Rattle.input_lines.proofs.LineReads.{some_ok}
 
 -- ---- a command of a caller

@@ -5,6 +5,5 @@ pub mod EditFields
 pub mod Controls
 pub mod Outcomes
 pub mod Script
-pub mod ScriptReads
 pub mod Laws
 mod Rows

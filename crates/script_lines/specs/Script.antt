@@ -1,10 +1,11 @@
 -- Script lines: commands, each with its caller, and the outcome that a line behind a command keeps.
-use Rattle.std.specs.Prelude.{ℕ, Bool, true, false, List, [], ◌∷◌, drop, Option, Some, None, option_map, if◌then◌else◌, codes}
+use Rattle.std.specs.Prelude.{ℕ, Bool, true, false, List, [], ◌∷◌, drop, Option, Some, None, Result, Ok, Err, option_map, if◌then◌else◌, codes}
 use Rattle.si_causes.specs.Text.{text_lines}
 use Rattle.input_lines.specs.Fields.{record_of}
 use Rattle.input_lines.specs.Numbers.{is_word, number_in, numeral_of}
 use Rattle.journal_model.specs.declared.edit.Edit.{Edit}
 use Rattle.journal_model.specs.Edits.{IsShaped}
+use Rattle.input_lines.specs.declared.stop.EditStop.{EditStop}
 use Rattle.input_lines.specs.Ahead.{Ahead, Found, Came, Stop, and_then, first_row, on_line, stop_at, ahead_in, values_ahead}
 use Rattle.script_lines.specs.Edits.{read_edit}
 use Rattle.journal_model.specs.declared.control.Control.{Control}
@@ -95,6 +96,19 @@ abbrev pub is_command : ScriptItem → Bool
 is_command (step who s) = true
 is_command (Kept n outcome) = false
 is_command End = false
+
+-- an item that stands on lines
+abbrev pub IsRead : ScriptItem → Type 0
+IsRead (step who s) = Unit {0}
+IsRead (Kept n outcome) = Unit {0}
+IsRead End = ⊥
+
+-- the item that was read next, or none at the end
+abbrev pub next_of : Result ScriptItem EditStop → Result (Option ScriptItem) EditStop
+next_of (Ok (step who s)) = Ok (Some (step who s))
+next_of (Ok (Kept n outcome)) = Ok (Some (Kept n outcome))
+next_of (Ok End) = Ok None
+next_of (Err stop) = Err stop
 
 -- the items ahead of a reader, and why no more is read
 unfoldable pub items_ahead : Bool → Ahead → List ScriptItem × Stop

@@ -3,8 +3,7 @@ ghost use Rattle.std.specs.Prelude.{◌≡◌, ◌≤◌, IfOk, IfSome, drop};
 ghost use Rattle.input_lines.specs.Fields.{record_of};
 ghost use Rattle.input_lines.specs.Reads.{NextOf, ReadOf, Says};
 ghost use Rattle.journal_model.specs.Steps.{IsStepWithin, IsInWindow};
-ghost use Rattle.script_lines.specs.Script.{IsItemWithin, IsShapedScriptItem, IsShapedStep, caller_of, command_of_caller, control_step, feed_of, first_script_item, is_outcome_line, is_swap, kept_in, read_command as command_at, read_item, short_step};
-ghost use Rattle.script_lines.specs.ScriptReads.{IsRead, next_of};
+ghost use Rattle.script_lines.specs.Script.{IsItemWithin, IsRead, IsShapedScriptItem, IsShapedStep, caller_of, command_of_caller, control_step, feed_of, first_script_item, is_outcome_line, is_swap, kept_in, next_of, read_command as command_at, read_item, short_step};
 
 use crate::control::read_control;
 use crate::edits::read_edit;

@@ -1,4 +1,5 @@
 pub mod Lists
+pub mod Filters
 pub mod Outcomes
 pub mod Truths
 pub mod Parts

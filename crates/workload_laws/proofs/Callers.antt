@@ -6,7 +6,7 @@ use Rattle.std.proofs.lemmas.Bool.{cases_Bool}
 use Rattle.std.proofs.lemmas.List.{length-map}
 use Rattle.si_lists.proofs.Lists.{all_map, all_two}
 use Rattle.si_lists.proofs.Parts.{lt_or}
-use Rattle.si_lists.proofs.Truths.{not_both}
+use Rattle.si_lists.proofs.Filters.{passed, skipped}
 use Rattle.journal_model.specs.declared.edit.Edit.{Edit}
 use Rattle.journal_model.specs.declared.step.Step.{Step}
 use Rattle.journal_model.specs.declared.step.Step.TheVariants.{Publish, Swap}
@@ -23,22 +23,6 @@ use Rattle.workload_laws.proofs.Events.{same_number}
 use Rattle.workload_laws.proofs.Counts.{made_counted}
 
 -- ---- lists
-
--- what holds of those that pass
-pub passed : {X : Type 0} (P : X → Type 0) (p : X → Bool) (xs : List X) → AllByRecursion P (filter p xs) → AllByRecursion (λ (x : X). p x ≡ true → P x) xs
-passed P p [] h = tt
-passed P p (x ∷ xs) h = elim (cases_Bool (p x)) [
-  | inl e ↦ (let k = rw e at h in (λ t. k.0, passed P p xs k.1))
-  | inr e ↦ (let k = rw e at h in (λ t. absurd (not_both (p x) t e), passed P p xs k))
-]
-
--- those that do not pass give nothing
-skipped : {X Y : Type 0} (f : X → Option Y) (p : X → Bool) (xs : List X) → AllByRecursion (λ (x : X). p x ≡ false → f x ≡ None) xs → filter_map f xs ≡ filter_map f (filter p xs)
-skipped f p [] h = refl
-skipped {Y = Y} f p (x ∷ xs) h = elim (cases_Bool (p x)) [
-  | inl e ↦ rw e (ap (λ (l : List Y). cons_option (f x) l) (skipped f p xs h.1))
-  | inr e ↦ rw e (ap (λ (o : Option Y). cons_option o (filter_map f xs)) (h.0 e) ∙ skipped f p xs h.1)
-]
 
 kept_one : {X : Type 0} (p : X → Bool) (x : X) (xs : List X) → length (filter p (x ∷ xs)) ≡ (if p x then 1 else 0) + length (filter p xs)
 kept_one p x xs = elim (cases_Bool (p x)) [

@@ -5,7 +5,7 @@ use Rattle.std.specs.List.{AllByRecursion, filter, range_with_len}
 use Rattle.std.proofs.lemmas.Bool.{cases_Bool, eqb-true, ltb-true}
 use Rattle.std.proofs.lemmas.Bool.Decides.{nat_tests}
 use Rattle.std.proofs.lemmas.List.{length-append}
-use Rattle.si_lists.proofs.Lists.{all_map}
+use Rattle.si_lists.proofs.Lists.{all_map, all_through}
 use Rattle.si_lists.proofs.Parts.{lt_or}
 use Rattle.si_text.specs.Coding.{coded_size}
 use Rattle.guide_model.specs.declared.event.Event.{Event}
@@ -24,7 +24,7 @@ use Rattle.si_workload.specs.Texts.{moment_at}
 use Rattle.workload_laws.specs.Load.{show_item, name_edit, day_edit, service_edits}
 use Rattle.workload_laws.proofs.Chains.{IsChain, chain_of}
 use Rattle.workload_laws.proofs.MadeLines.{number_short}
-use Rattle.workload_laws.proofs.MadeEdits.{all_through, date_read}
+use Rattle.workload_laws.proofs.MadeEdits.{date_read}
 use Rattle.workload_laws.proofs.Events.{show_event, IsOn, chain_front, day_fine, day_puts, inside, not_above, size_within, same_number, other_number}
 
 -- ---- the shows before a day

@@ -6,7 +6,7 @@ use Rattle.std.proofs.lemmas.Bool.{cases_Bool, eqb-true}
 use Rattle.std.proofs.lemmas.Bool.Decides.{nat_tests}
 use Rattle.std.proofs.lemmas.List.{reverse-append}
 use Rattle.std.proofs.lemmas.List.Elements.{filter-append, filter_map-append}
-use Rattle.si_lists.proofs.Lists.{all_at}
+use Rattle.si_lists.proofs.Lists.{all_at, all_through, all_flat}
 use Rattle.si_lists.proofs.Truths.{not_both}
 use Rattle.guide_model.specs.declared.event.Event.{Event}
 use Rattle.journal_model.specs.declared.edit.Edit.{Edit}
@@ -26,7 +26,6 @@ use Rattle.workload_laws.specs.Journals.{edit_of, edits_by, AreFirst, IsOfFeeds,
 use Rattle.si_workload.specs.Shows.{shows_of}
 use Rattle.workload_laws.specs.Load.{soak_mux, day_edit, service_edits, feed_services, soak_edits}
 use Rattle.workload_laws.proofs.MadeLines.{days_below}
-use Rattle.workload_laws.proofs.MadeEdits.{all_through, all_flat}
 use Rattle.workload_laws.proofs.Events.{same_number, other_number}
 use Rattle.workload_laws.proofs.Days.{service_goes}
 

@@ -1,12 +1,12 @@
 -- The made text of a feed is read to its edits.
-use Rattle.std.proofs.Common.{◌≡◌, ◌≤◌, ◌<◌, ◌+◌, ◌*◌, ◌/◌, ℕ, true, List, [], ◌∷◌, length, map, refl, ap, ◌∙◌, arith, inl, inr}
-use Rattle.std.specs.Prelude.{Option, Some, nat_le, codes, flat_map}
+use Rattle.std.proofs.Common.{◌≡◌, ◌≤◌, ◌<◌, ◌+◌, ◌*◌, ◌/◌, ℕ, true, List, length, map, refl, ap, ◌∙◌, arith, inl, inr}
+use Rattle.std.specs.Prelude.{Option, Some, nat_le, codes}
 use Rattle.std.specs.List.{AllByRecursion, filter, range_with_len}
 use Rattle.std.proofs.lemmas.Bool.{cases_Bool}
 use Rattle.std.proofs.lemmas.Bool.Decides.{nat_tests}
 use Rattle.std.proofs.lemmas.List.{length-map}
 use Rattle.std.proofs.lemmas.List.Elements.{All-from_recursion}
-use Rattle.si_lists.proofs.Lists.{all_append}
+use Rattle.si_lists.proofs.Lists.{all_through, all_flat}
 use Rattle.si_lists.proofs.Outcomes.{none_some}
 use Rattle.si_causes.specs.Text.{text_lines}
 use Rattle.si_time.specs.Moments.{moment_text, duration_text}
@@ -28,16 +28,6 @@ use Rattle.workload_laws.proofs.Chains.{IsMadeShow, day_made, day_few}
 use Rattle.workload_laws.proofs.PlainRows.{IsPlainRow}
 use Rattle.workload_laws.proofs.MadeLines.{IsSoakService, date_of, days_below, services_within, in_window, in_clock, item_is_row, name_is_row, day_is_row, feed_lines}
 use Rattle.workload_laws.proofs.Reading.{IsPlainEdit, edits_read, edits_short}
-
--- ---- lists
-
-pub all_through : {X Y : Type 0} (A : X → Type 0) (P : Y → Type 0) (f : X → Y) → ((x : X) → A x → P (f x)) → (xs : List X) → AllByRecursion A xs → AllByRecursion P (map f xs)
-all_through A P f goes [] h = tt
-all_through A P f goes (x ∷ xs) h = (goes x h.0, all_through A P f goes xs h.1)
-
-pub all_flat : {X Y : Type 0} (P : X → Type 0) (Q : Y → Type 0) (f : X → List Y) → ((x : X) → P x → AllByRecursion Q (f x)) → (xs : List X) → AllByRecursion P xs → AllByRecursion Q (flat_map f xs)
-all_flat P Q f each [] h = tt
-all_flat P Q f each (x ∷ xs) h = all_append Q (f x) (flat_map f xs) (each x h.0) (all_flat P Q f each xs h.1)
 
 -- ---- what the times of shows are read as
 

@@ -8,6 +8,7 @@ use Rattle.si_lists.proofs.Truths.{first_true}
 use Rattle.std.proofs.lemmas.List.Concat.{flat_map-append}
 use Rattle.std.proofs.lemmas.Bool.Decides.{nat_tests}
 use Rattle.std.proofs.lemmas.List.Folds.{list_all-append}
+use Rattle.si_lists.proofs.Filters.{list_all-more}
 use Rattle.si_time.specs.Moments.{moment_text, duration_text}
 use Rattle.si_time.proofs.TextFacts.{moment_text-bytes, duration_text-bytes, length-moment_text, length-duration_text}
 use Rattle.si_workload.specs.declared.shows.Show.{Show}
@@ -16,7 +17,7 @@ use Rattle.si_workload.specs.Texts.{moment_at, item_line, day_line, day_text, na
 use Rattle.journal_model.specs.declared.edit.Edit.{Edit}
 use Rattle.script_lines.specs.EditFields.{edit_fields, item_fields}
 use Rattle.journal_text.specs.Edits.{line_text, item_row, item_text, items_of}
-use Rattle.script_lines.proofs.NumberBack.{all_more, small}
+use Rattle.script_lines.proofs.NumberBack.{small}
 use Rattle.journal_text.proofs.EntryRows.{is_written, number_written}
 use Rattle.workload_laws.specs.Load.{show_item, name_edit, day_edit, service_edits, feed_services, soak_edits}
 use Rattle.workload_laws.proofs.Chains.{IsMadeShow, day_made, day_few}
@@ -49,7 +50,7 @@ abbrev is_time : ℕ → Bool
 is_time b = nat_le 45 b && nat_le b 90
 
 time_field : (xs : List ℕ) → list_all is_time xs ≡ true → length xs ≤ 20 → IsPlainField xs
-time_field xs h short = record { plain = all_plain xs (all_more is_time is_written time_written xs h); short = short }
+time_field xs h short = record { plain = all_plain xs (list_all-more is_time is_written time_written xs h); short = short }
 
 pub in_window : (quarters : ℕ) → quarters < 1352 → moment_at quarters < 65536 * 86400
 in_window quarters lt = omega (arith, lt)

@@ -7,10 +7,10 @@ use Rattle.std.proofs.lemmas.Bool.Decides.{nat_tests}
 use Rattle.std.proofs.lemmas.List.{length-append}
 use Rattle.csv.specs.Writing.{default_writer, field_text, fields_text, needs_byte}
 use Rattle.si_lists.proofs.Lists.{all_map}
+use Rattle.si_lists.proofs.Filters.{list_all-more}
 use Rattle.si_text.specs.Decoding.{IsKept}
 use Rattle.journal_text.specs.Edits.{line_text}
 use Rattle.journal_text.specs.Back.{IsFronted, IsRow, row_line}
-use Rattle.script_lines.proofs.NumberBack.{all_more}
 use Rattle.journal_text.proofs.EntryRows.{is_printing, is_written, printing_kept}
 
 -- a space, or a byte that no field is quoted for
@@ -24,7 +24,7 @@ written_plain : (b : ℕ) → is_written b ≡ true → is_plain b ≡ true
 written_plain b h = rw h refl
 
 pub all_plain : (xs : List ℕ) → list_all is_written xs ≡ true → list_all is_plain xs ≡ true
-all_plain = all_more is_written is_plain written_plain
+all_plain = list_all-more is_written is_plain written_plain
 
 plain_byte : (b : ℕ) → is_plain b ≡ true → needs_byte default_writer b ≡ false
 plain_byte b h =
@@ -91,7 +91,7 @@ pub line_short : (fields : List (List ℕ)) → IsPlainRow fields → length (li
 line_short fields h = let a = row_short fields h in omega (arith, a, length-append (row_line fields) (10 ∷ []))
 
 kept_field : (field : List ℕ) → IsPlainField field → IsKept field
-kept_field field h = printing_kept field (all_more is_plain is_printing plain_printing field h.plain)
+kept_field field h = printing_kept field (list_all-more is_plain is_printing plain_printing field h.plain)
 
 pub plain_is_row : (fields : List (List ℕ)) → IsPlainRow fields → IsRow fields
 plain_is_row fields h = record {

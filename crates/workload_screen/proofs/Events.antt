@@ -1,10 +1,12 @@
 -- The events of the made load are all within the schedule of the screen behind a run.
-use Rattle.std.proofs.Common.{◌≡◌, ◌≤◌, ◌<◌, ◌+◌, ◌*◌, ℕ, Bool, true, List, [], ◌∷◌, length, map, refl, sym, ap, ap₂, subst, ◌∙◌, arith}
+use Rattle.std.proofs.Common.{◌≡◌, ◌≤◌, ◌<◌, ◌+◌, ◌*◌, ℕ, true, List, [], ◌∷◌, length, map, refl, sym, ap, ap₂, subst, ◌∙◌, arith}
 use Rattle.std.specs.Prelude.{nat_le, nat_lt}
 use Rattle.std.specs.List.{AllByRecursion, filter, sum_by}
 use Rattle.std.proofs.lemmas.Bool.Decides.{nat_tests}
 use Rattle.std.proofs.lemmas.List.{length-map}
 use Rattle.std.proofs.lemmas.List.Sums.{sum_by-cons}
+use Rattle.si_lists.proofs.Lists.{all_through}
+use Rattle.si_lists.proofs.Filters.{all_stay}
 use Rattle.guide_model.specs.declared.event.Event.{Event}
 use Rattle.guide_model.specs.declared.guide.ServiceGuide.{ServiceGuide}
 use Rattle.guide_model.specs.declared.screen.ScreenService.{ScreenService}
@@ -22,7 +24,6 @@ use Rattle.si_workload.specs.Shows.{shows_of}
 use Rattle.si_workload.specs.Texts.{moment_at}
 use Rattle.workload_laws.specs.Load.{soak_mux, service_edits, feed_services, soak_edits}
 use Rattle.workload_laws.proofs.Chains.{IsMadeShow, chain_of, chain_made}
-use Rattle.workload_laws.proofs.MadeEdits.{all_through}
 use Rattle.workload_laws.proofs.Events.{show_event}
 use Rattle.workload_laws.proofs.Days.{service_goes}
 use Rattle.workload_laws.proofs.Journals.{among, is_of, of_service, IsFeed, feed_one, feed_two, Shares, standing_own, journal_ran}
@@ -32,17 +33,13 @@ use Rattle.workload_screen.proofs.Moments.{first_midnight, moment_within}
 
 -- ---- events that are all scheduled
 
-kept_all : {X : Type 0} (p : X → Bool) (xs : List X) → AllByRecursion (λ (x : X). p x ≡ true) xs → filter p xs ≡ xs
-kept_all p [] h = refl
-kept_all {X = X} p (x ∷ xs) h = rw h.0 (ap (λ (l : List X). x ∷ l) (kept_all p xs h.1))
-
 abbrev AreScheduled : ℕ → List Event → Type 0
 AreScheduled moment events = AllByRecursion (λ (e : Event). is_scheduled (midnight moment) e ≡ true) events
 
 all_shown : (moment : ℕ) (service : MuxService) (guide : ServiceGuide) → AreScheduled moment guide.events → length (service_shown moment service guide).events ≡ length guide.events
 all_shown moment service guide h =
     length-map (filter (is_scheduled (midnight moment)) guide.events) shown_event
-    ∙ ap (λ (l : List Event). length l) (kept_all (is_scheduled (midnight moment)) guide.events h)
+    ∙ ap (λ (l : List Event). length l) (all_stay (is_scheduled (midnight moment)) guide.events h)
 
 abbrev guides_of : List MuxService → List Edit → List ServiceGuide
 guides_of services past = map (λ (kept : KeptService). kept.guide) (book_after services past)

@@ -3,6 +3,7 @@ use Rattle.std.proofs.Common.{◌≡◌, ◌≤◌, ◌<◌, ◌/◌, ℕ, true,
 use Rattle.std.specs.Prelude.{Option, Some, None, nat_lt, ◌==◌, replicate}
 use Rattle.std.specs.List.{AllByRecursion, filter_map, cons_option}
 use Rattle.std.proofs.lemmas.Bool.{cases_Bool}
+use Rattle.si_lists.proofs.Filters.{passed}
 use Rattle.si_time.specs.declared.moment.Moment.{Moment}
 use Rattle.guide_limits.specs.Events.{midnight}
 use Rattle.journal_model.specs.declared.edit.Edit.{Edit}
@@ -19,7 +20,7 @@ use Rattle.desk_hall.specs.Reads.{commands_by, edit_step}
 use Rattle.si_workload.specs.Texts.{moment_at}
 use Rattle.workload_laws.specs.Load.{soak_mux, soak_edits}
 use Rattle.workload_laws.specs.Callers.{commands_of, IsSoakRun}
-use Rattle.workload_laws.proofs.Callers.{passed, below_four, low_callers}
+use Rattle.workload_laws.proofs.Callers.{below_four, low_callers}
 
 -- ---- moments of the first day
 
