@@ -1,5 +1,5 @@
 -- Facts on the fields of a clean line.
-use Rattle.std.proofs.Common.{◌≡◌, ◌==◌, ◌&&◌, ◌||◌, ◌++◌, ◌∷◌, ◌∙◌, [], ℕ, suc, zero, List, Option, Some, None, refl, ap, subst, true, false, inl, inr, take, length, not}
+use Rattle.std.proofs.Common.{◌≡◌, ◌==◌, ◌&&◌, ◌||◌, ◌++◌, ◌∷◌, ◌∙◌, [], ℕ, suc, zero, List, Option, Some, None, refl, ap, subst, true, false, inl, inr, take, length, get_or, not, ◌<◌, arith}
 use Rattle.std.specs.List.{list_all, list_any}
 use Rattle.std.specs.Prelude.{nat_le}
 use Rattle.std.specs.Str.{IsUtf8, chars, is_utf8}
@@ -22,6 +22,11 @@ unfolding field_at
 kept_at [] i x h e = absurd (cc e)
 kept_at (f ∷ fs) zero x h e = subst IsKept (cc e) h.0
 kept_at (f ∷ fs) (suc i) x h e = kept_at fs i x h.1 e
+
+pub kept_in : (fs : List (List ℕ)) (i : ℕ) (x : List ℕ) → AllByRecursion IsKept fs → i < length fs → IsKept (get_or fs i x)
+kept_in [] i x h l = absurd (omega (arith, l))
+kept_in (f ∷ fs) zero x h l = h.0
+kept_in (f ∷ fs) (suc i) x h l = kept_in fs i x h.1 (omega (arith, l))
 
 pub take_more : (fs : List (List ℕ)) (i : ℕ) (x : List ℕ) → field_at fs i ≡ Some x → take (suc i) fs ≡ take i fs ++ x ∷ []
 unfolding field_at

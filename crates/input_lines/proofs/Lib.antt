@@ -1,6 +1,8 @@
 pub mod CleanText
 pub mod Clean
+pub mod CleanBytes
 pub mod CleanLines
+mod Unquoted
 pub mod Numerals
 pub mod Steps
 pub mod LastLines

@@ -1,5 +1,6 @@
 -- The fields of an input line, by the words of csv.
-use Rattle.std.specs.Prelude.{◌≤◌, ℕ, Bool, ◌&&◌, not, nat_le, List, [], length, Option, Some, None, if◌then◌else◌}
+use Rattle.std.specs.Prelude.{◌≤◌, ℕ, ◌==◌, Bool, ◌&&◌, not, nat_le, List, [], length, slice_index, Option, Some, None, if◌then◌else◌}
+use Rattle.std.specs.List.{list_any, slice_split}
 use Rattle.std.specs.Str.{chars, is_utf8}
 use Rattle.csv.specs.Machine.{Read}
 unfoldable pub use Rattle.csv.specs.Machine.{next_record}
@@ -16,6 +17,17 @@ fields_or_none (Some read) = read.0
 -- the fields of the one record that csv reads of the line, behind a byte order mark; a line of which it makes no record has none
 abbrev pub line_fields : List ℕ → List (List ℕ)
 line_fields line = fields_or_none (next_record default_config StartRecord [] [] (strip_bom line))
+
+-- the parts between the commas of a line
+abbrev pub comma_parts : List ℕ → List (List ℕ)
+comma_parts line = slice_split (λ b. b == 44) line
+
+abbrev pub has_quote : List ℕ → Bool
+has_quote line = list_any (λ b. b == 34) line
+
+-- no double quote stands in the line, and it has a first byte, which is not that of a byte order mark
+abbrev pub is_bare : List ℕ → Bool
+is_bare line = not (length line == 0) && (not (slice_index line 0 == 0xEF) && not (has_quote line))
 
 -- a line that may be a record: of at most 16,384 bytes, UTF-8, without a control character
 pub record IsLine (line : List ℕ) : Type 0 where

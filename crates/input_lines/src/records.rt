@@ -3,9 +3,10 @@ ghost use Rattle.std.specs.Prelude.{◌≡◌, IfOk, IfSome, IfNone};
 ghost use Rattle.std.specs.List.{AllByRecursion};
 ghost use Rattle.csv.specs.Records.{fields_of};
 ghost use Rattle.si_text.specs.Decoding.{IsKept};
-ghost use Rattle.input_lines.specs.Fields.{IsLine, line_fields, record_of};
+ghost use Rattle.input_lines.specs.Fields.{IsLine, comma_parts, has_quote, is_bare, line_fields, record_of};
 
 use csv::{ReaderBuilder, StringRecord};
+use memchr::{memchr, memchr_iter};
 use si_base::Items;
 use si_text::{Txt, has_control};
 use std::alloc::{AllocError, Global};
@@ -46,6 +47,50 @@ fn texts(alloc: Global, row: &StringRecord) -> Result<LineFields, AllocError>
     Ok(texts)
 }
 
+fn has_quote(line: &[u8]) -> bool
+    ensures { result ≡ has_quote line.now }
+{
+    memchr(b'"', line).is_some()
+}
+
+// Whether no double quote stands in a line, and it has a first byte, which is not that of a byte order mark.
+fn is_bare(line: &[u8]) -> bool
+    ensures { result ≡ is_bare line.now }
+{
+    if line.is_empty() {
+        return false;
+    }
+    if line[0] == 0xEF {
+        return false;
+    }
+    !has_quote(line)
+}
+
+// The parts between the commas of a line. The list takes memory once, and each part once.
+fn parts(alloc: Global, line: &str) -> Result<LineFields, AllocError>
+    requires { AllByRecursion IsKept (comma_parts line.now) }
+    ensures { IfOk result (λ parts. parts ≡ comma_parts line.now) }
+{
+    let commas = memchr_iter(b',', line.as_bytes()).count();
+    let mut parts = Vec::with_capacity(alloc, commas + 1)?;
+    for part in line.split(',') {
+        parts.push(Txt::of_kept(alloc, part)?)?;
+    }
+    Ok(Items::of(parts))
+}
+
+// The fields of a line that may be kept: those of a bare one are its parts, and csv is asked of any other.
+fn kept_fields(alloc: Global, line: &str) -> Result<LineFields, AllocError>
+    requires { IsKept line.now }
+    ensures { IfOk result (λ fields. fields ≡ line_fields line.now) }
+{
+    if is_bare(line.as_bytes()) {
+        return parts(alloc, line);
+    }
+    let row = line_record(alloc, line.as_bytes())?;
+    texts(alloc, &row)
+}
+
 /// The fields of the one record that csv reads of a line, without header and with any number of fields; none where csv
 /// makes no record of it. `None` comes exactly where the line is longer than 16,384 bytes, is no UTF-8 or has a control
 /// character.
@@ -63,6 +108,5 @@ pub fn fields(alloc: Global, line: &[u8]) -> Result<Option<LineFields>, AllocErr
     if has_control(text) {
         return Ok(None);
     }
-    let row = line_record(alloc, line)?;
-    Ok(Some(texts(alloc, &row)?))
+    Ok(Some(kept_fields(alloc, text)?))
 }

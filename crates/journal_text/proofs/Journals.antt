@@ -35,7 +35,8 @@ use Rattle.journal_text.specs.Entries.{step_fields, step_items, entry_text, jour
 use Rattle.script_lines.specs.Outcomes.{Numeral, outcome_by, outcome_fields}
 use Rattle.script_lines.specs.Script.{short_step, feed_of, IsShapedStep}
 use Rattle.journal_text.specs.Back.{IsFronted, IsWritableOutcome, IsOfLines, command_row, outcome_row, row_line, BeginsNoEntry, JournalsDiffer, JournalsEnd}
-use Rattle.journal_text.proofs.CleanRows.{row_clean, all_clean, clean_inner, line_first}
+use Rattle.input_lines.proofs.CleanBytes.{clean_inner}
+use Rattle.journal_text.proofs.CleanRows.{row_clean, all_clean, line_first}
 use Rattle.journal_text.proofs.RowBack.{fields_back}
 use Rattle.journal_text.proofs.EntryRows.{IsWide, outcome_front, outcome_row_kept, plain_field, number_written}
 use Rattle.journal_text.proofs.EntryFields.{item_row_kept, command_kept, command_front}
