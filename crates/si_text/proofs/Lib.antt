@@ -1,4 +1,5 @@
 pub mod PlainFacts
+mod PlainTable
 pub mod RoundTrip
 pub mod CutFacts
 pub mod PieceFacts
