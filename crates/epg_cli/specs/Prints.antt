@@ -1,6 +1,7 @@
 -- The journal that `live` prints is a script.
-use Rattle.std.specs.Prelude.{◌≡◌, ◌⊎◌, ◌≤◌, ℕ, List, ◌++◌, length, Ok}
+use Rattle.std.specs.Prelude.{◌≡◌, ◌⊎◌, ◌≤◌, ℕ, List, ◌++◌, length, Ok, Option, Some}
 use Rattle.std.specs.List.{AllByRecursion}
+use Rattle.si_causes.specs.Opening.{Files}
 use Rattle.si_causes.specs.Text.{text_limit}
 use Rattle.mux_model.specs.declared.mux.Mux.{Mux}
 use Rattle.input_lines.specs.Ahead.{Ahead, Came}
@@ -9,7 +10,7 @@ use Rattle.journal_text.specs.Back.{IsReadable}
 use Rattle.journal_text.specs.Entries.{journal_text}
 use Rattle.epg_report.specs.declared.status.Status.{Status}
 use Rattle.epg_report.specs.declared.status.Status.TheVariants.{Memory}
-use Rattle.epg_report.specs.Told.{ReportTaken}
+use Rattle.epg_report.specs.Told.{ReportTaken, told}
 use Rattle.epg_play.specs.Script.{script_in}
 use Rattle.epg_play.specs.Again.{Describes, PlaysAgain}
 use Rattle.epg_live.specs.declared.reporting.HeardAir.{HeardAir}
@@ -28,3 +29,8 @@ abbrev pub PrintsScript : List ℕ → ReportTaken → Status → Type 0
 PrintsScript text report status =
     (status ≡ Memory)
     ⊎ ((journal : List Entry) × (heard : HeardAir) × (met : Status) × ReportEnds met (run_text journal heard) report status × IsScript text journal)
+
+-- So does the report of a call, where the opener's files and the text that was left in the input are known.
+abbrev pub PrintedScript : {O S R : Type 0} → (O → Option Files) → O → (S → Option (List ℕ)) → S → (R → Option (List ℕ)) → (R → ℕ) → R → R → Status → Type 0
+PrintedScript files opener left input taken faults report report_then status =
+    (text : List ℕ) → left input ≡ Some text → (known : Files) → files opener ≡ Some known → PrintsScript text (told taken faults report report_then) status

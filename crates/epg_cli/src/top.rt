@@ -1,15 +1,14 @@
 // The top call.
-ghost use Rattle.std.specs.Prelude.{◌≡◌, ◌↔◌, ◌⊎◌, List, ℕ, Some, codes};
+ghost use Rattle.std.specs.Prelude.{◌≡◌, ◌↔◌, ◌⊎◌, List, ℕ, codes};
 ghost use Rattle.std.specs.Io.KnownBytes.{IsAtEnd};
 ghost use Rattle.si_causes.specs.Causes.{Rose};
-ghost use Rattle.si_causes.specs.Opening.{Files};
 ghost use Rattle.epg_report.specs.Texts.{fault_line};
-ghost use Rattle.epg_report.specs.Told.{Reported, gave, told};
-ghost use Rattle.epg_play.specs.Leaves.{PlayRun};
-ghost use Rattle.epg_listen.specs.Leaves.{ListenRun};
-ghost use Rattle.epg_live.specs.LiveRun.{LiveRun, asked};
+ghost use Rattle.epg_report.specs.Told.{Reported, told};
+ghost use Rattle.epg_play.specs.Leaves.{PlayRan};
+ghost use Rattle.epg_listen.specs.Leaves.{ListenRan};
+ghost use Rattle.epg_live.specs.LiveRun.{LiveRan};
 ghost use Rattle.epg_live.specs.Stops.{HasStatusCause};
-ghost use Rattle.epg_cli.specs.Prints.{PrintsScript};
+ghost use Rattle.epg_cli.specs.Prints.{PrintedScript};
 ghost use Rattle.epg_cli.specs.Spelled.{IsUsage, IsPlay, IsListen, IsLive};
 
 use command_words::{Command, WordsStop, parse_words};
@@ -41,22 +40,20 @@ pub fn run<W: Threads + Wait + Sync, O: Opener, S: Source + Send, A: Sink + Send
         × (opener.new ≡ opener.old)
         × Reported (told R.written R.faults report.old report.new) (fault_line (codes "usage")) }
     // A run of each command.
-    ensures play { IsPlay words.now → PlayRun (gave S.left S.faults input.old input.new)
-        (told A.written A.faults air.old air.new) (told R.written R.faults report.old report.new) result }
-    ensures listen { IsListen words.now → ListenRun (gave S.left S.faults input.old input.new)
-        (told R.written R.faults report.old report.new) result }
+    ensures play { IsPlay words.now → PlayRan S.left S.faults input.old input.new
+        A.written A.faults air.old air.new R.written R.faults report.old report.new result }
+    ensures listen { IsListen words.now → ListenRan S.left S.faults input.old input.new
+        R.written R.faults report.old report.new result }
     ensures live { (paths : List (List ℕ)) (cycles join : ℕ)
-        → IsLive words.now paths cycles join → LiveRun paths cycles join
-        (asked O.files O.tried O.faults O.read_faults opener.old opener.new)
-        (gave S.left S.faults input.old input.new) (told A.written A.faults air.old air.new)
-        (told R.written R.faults report.old report.new) result }
+        → IsLive words.now paths cycles join → LiveRan paths cycles join
+        O.files O.tried O.faults O.read_faults opener.old opener.new
+        S.left S.faults input.old input.new
+        A.written A.faults air.old air.new R.written R.faults report.old report.new result }
     // The journal that the report of `live` has is a script: behind its description `play` plays it
     // to this journal again.
     ensures live_again { (paths : List (List ℕ)) (cycles join : ℕ)
-        → IsLive words.now paths cycles join
-        → (text : List ℕ) → S.left input.old ≡ Some text
-        → (files : Files) → O.files opener.old ≡ Some files
-        → PrintsScript text (told R.written R.faults report.old report.new) result }
+        → IsLive words.now paths cycles join → PrintedScript O.files opener.old
+        S.left input.old R.written R.faults report.old report.new result }
     // With `listen` nothing is sent, and only `live` opens files.
     ensures air_kept { IsListen words.now → air.new ≡ air.old }
     ensures opener_kept { IsPlay words.now ⊎ IsListen words.now → opener.new ≡ opener.old }

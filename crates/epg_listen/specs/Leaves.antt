@@ -14,7 +14,7 @@ use Rattle.epg_report.specs.declared.status.Status.TheVariants.{Done, BadStream,
 use Rattle.epg_report.specs.declared.status.Origin.TheVariants.{Input}
 use Rattle.epg_report.specs.declared.status.Outlet.TheVariants.{Report}
 use Rattle.epg_report.specs.Texts.{fault_line, fault_text}
-use Rattle.epg_report.specs.Told.{ReportTaken, Reported, SourceGave}
+use Rattle.epg_report.specs.Told.{ReportTaken, Reported, SourceGave, gave, told}
 
 -- the packets of a recording, and how it stops
 abbrev pub Recording : Type 0
@@ -113,3 +113,8 @@ pub record ListenRun (input : SourceGave) (report : ReportTaken) (status : Statu
   -- a fault of the input and of the report has its cause
   pub input_cause : status ≡ ReadFault Input → Rose input.faults_old input.faults_new
   pub report_cause : status ≡ WriteFault Report → Rose report.faults_old report.faults_new
+
+-- So a call ran with this input and this report: of each what tells its bytes and its faults, and how it was before and behind.
+abbrev pub ListenRan : {S R : Type 0} → (S → Option (List ℕ)) → (S → ℕ) → S → S → (R → Option (List ℕ)) → (R → ℕ) → R → R → Status → Type 0
+ListenRan left read_faults input input_then taken report_faults report report_then status =
+    ListenRun (gave left read_faults input input_then) (told taken report_faults report report_then) status

@@ -1,6 +1,5 @@
 // A recording, heard from the input.
-ghost use Rattle.epg_listen.specs.Leaves.{ListenRun};
-ghost use Rattle.epg_report.specs.Told.{gave, told};
+ghost use Rattle.epg_listen.specs.Leaves.{ListenRan};
 
 use crate::listen::{end_report, hear_all};
 use epg_report::{Status, out_of_memory};
@@ -13,8 +12,8 @@ use std::alloc::Global;
 /// sub-table, before it reads the next packet, and then the guide that it heard, or a line that names the fault (ISO/IEC 13818-1, 2.4;
 /// EN 300 468, 5.1 and 5.2).
 pub fn run_listen<S: Source, R: Sink>(alloc: Global, input: &mut S, report: &mut R) -> Status
-    ensures run { ListenRun (gave S.left S.faults input.old input.new)
-        (told R.written R.faults report.old report.new) result }
+    ensures run { ListenRan S.left S.faults input.old input.new
+        R.written R.faults report.old report.new result }
 {
     let Ok(mut packets) = PacketReader::open(alloc, &mut *input) else {
         return out_of_memory(report);

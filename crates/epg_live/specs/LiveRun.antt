@@ -6,7 +6,7 @@ use Rattle.si_causes.specs.Opening.{Files}
 use Rattle.epg_report.specs.declared.status.Status.{Status}
 use Rattle.epg_report.specs.declared.status.Status.TheVariants.{Done, OpenFault, WriteFault, Memory}
 use Rattle.epg_report.specs.declared.status.Outlet.TheVariants.{Report}
-use Rattle.epg_report.specs.Told.{ReportTaken, SourceGave}
+use Rattle.epg_report.specs.Told.{ReportTaken, SourceGave, gave, told}
 use Rattle.epg_live.specs.Decided.{AreWhole, text_status}
 use Rattle.epg_live.specs.Stops.{HasStatusCause, IsOfLive}
 use Rattle.epg_live.specs.Ends.{HasAsked}
@@ -65,3 +65,12 @@ pub record LiveRun (paths : List (List ℕ)) (cycles join : ℕ) (opener : Opene
   pub cause : HasStatusCause input.faults_old input.faults_new opener.read_old opener.read_new air.faults_old air.faults_new status
   pub open_cause : (feed : ℕ) → status ≡ OpenFault feed → Rose opener.faults_old opener.faults_new
   pub report_cause : status ≡ WriteFault Report → Rose report.faults_old report.faults_new
+
+-- So a call ran with this opener, this input, this air and this report: of each what tells what it has and its faults, and how it was
+-- before and behind.
+abbrev pub LiveRan : {O S A R : Type 0} → List (List ℕ) → ℕ → ℕ → (O → Option Files) → (O → Option (List (List ℕ))) → (O → ℕ) → (O → ℕ) → O → O
+    → (S → Option (List ℕ)) → (S → ℕ) → S → S → (A → Option (List ℕ)) → (A → ℕ) → A → A → (R → Option (List ℕ)) → (R → ℕ) → R → R → Status → Type 0
+LiveRan paths cycles join files tried open_faults file_faults opener opener_then left read_faults input input_then sent air_faults air air_then
+    taken report_faults report report_then status =
+    LiveRun paths cycles join (asked files tried open_faults file_faults opener opener_then) (gave left read_faults input input_then)
+    (told sent air_faults air air_then) (told taken report_faults report report_then) status

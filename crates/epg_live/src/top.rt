@@ -1,8 +1,7 @@
 // The run of `live`.
 ghost use Rattle.std.specs.Prelude.{◌≤◌, length};
 ghost use Rattle.command_words.specs.Commands.{texts};
-ghost use Rattle.epg_report.specs.Told.{gave, told};
-ghost use Rattle.epg_live.specs.LiveRun.{LiveRun, asked};
+ghost use Rattle.epg_live.specs.LiveRun.{LiveRan};
 
 use crate::reporting::{HeardAir, LiveResult, finish};
 use crate::run::run_described;
@@ -35,10 +34,10 @@ pub fn run_live_files<
 ) -> Status
     requires few { length words.now.feeds.items ≤ 16 }
     requires cycles { words.now.cycles ≤ 1000 }
-    ensures run { LiveRun (texts words.now.feeds.items) words.now.cycles words.now.join
-        (asked O.files O.tried O.faults O.read_faults opener.old opener.new)
-        (gave S.left S.faults input.old input.new) (told A.written A.faults air.old air.new)
-        (told R.written R.faults report.old report.new) result }
+    ensures run { LiveRan (texts words.now.feeds.items) words.now.cycles words.now.join
+        O.files O.tried O.faults O.read_faults opener.old opener.new
+        S.left S.faults input.old input.new
+        A.written A.faults air.old air.new R.written R.faults report.old report.new result }
 {
     let Ok(lines) = LineReader::open(alloc, &mut *input) else {
         return out_of_memory(report);

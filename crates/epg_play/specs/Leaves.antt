@@ -19,7 +19,7 @@ use Rattle.epg_report.specs.declared.status.Origin.TheVariants.{Input}
 use Rattle.epg_report.specs.declared.status.Outlet.TheVariants.{Air, Report}
 use Rattle.epg_play.specs.Script.{Script, Stop, Ended, NoMux, NoCommand, Disagreed, TooLong, Unread, script_in, script_taken}
 use Rattle.epg_report.specs.Texts.{fault_line, fault_text}
-use Rattle.epg_report.specs.Told.{ReportTaken, Reported, SourceGave}
+use Rattle.epg_report.specs.Told.{ReportTaken, Reported, SourceGave, gave, told}
 
 -- ---- journals of a script
 
@@ -167,3 +167,9 @@ pub record PlayRun (input : SourceGave) (air report : ReportTaken) (status : Sta
   pub input_cause : status ≡ ReadFault Input → Rose input.faults_old input.faults_new
   pub air_cause : status ≡ WriteFault Air → Rose air.faults_old air.faults_new
   pub report_cause : status ≡ WriteFault Report → Rose report.faults_old report.faults_new
+
+-- So a call ran with this input, this air and this report: of each what tells its bytes and its faults, and how it was before and behind.
+abbrev pub PlayRan : {S A R : Type 0} → (S → Option (List ℕ)) → (S → ℕ) → S → S → (A → Option (List ℕ)) → (A → ℕ) → A → A
+    → (R → Option (List ℕ)) → (R → ℕ) → R → R → Status → Type 0
+PlayRan left read_faults input input_then sent air_faults air air_then taken report_faults report report_then status =
+    PlayRun (gave left read_faults input input_then) (told sent air_faults air air_then) (told taken report_faults report report_then) status

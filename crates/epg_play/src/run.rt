@@ -3,8 +3,8 @@ ghost use Rattle.std.specs.Prelude.{◌≡◌, List, ℕ, None, Some};
 ghost use Rattle.std.specs.Io.KnownBytes.{IsAtEnd};
 ghost use Rattle.si_causes.specs.Reading.{fresh};
 ghost use Rattle.epg_play.specs.Ending.{HasPlayed, CanBeTold, mux_stop, HasStopCause, HasAirStopCause};
-ghost use Rattle.epg_play.specs.Leaves.{PlayRun};
-ghost use Rattle.epg_report.specs.Told.{gave, told};
+ghost use Rattle.epg_play.specs.Leaves.{PlayRan};
+ghost use Rattle.epg_report.specs.Told.{told};
 
 use crate::ending::{Played, finish};
 use crate::play::play_rest;
@@ -72,8 +72,8 @@ pub fn run_play<S: Source, A: Sink, R: Sink>(
     air: &mut A,
     report: &mut R,
 ) -> Status
-    ensures run { PlayRun (gave S.left S.faults input.old input.new)
-        (told A.written A.faults air.old air.new) (told R.written R.faults report.old report.new) result }
+    ensures run { PlayRan S.left S.faults input.old input.new
+        A.written A.faults air.old air.new R.written R.faults report.old report.new result }
 {
     let Ok(mut lines) = LineReader::open(alloc, &mut *input) else {
         return out_of_memory(report);
