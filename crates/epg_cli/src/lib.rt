@@ -4,7 +4,7 @@
 //!
 //! The promise is on [`run`]: usage comes exactly where the words spell no command, and for each command one record says all of its run,
 //! over what was left in the input and what the air and the report took: `PlayRun` of `epg_play`, `ListenRun` of `epg_listen`, and
-//! `LiveRun` of `epg_live`.
+//! `LiveRun` of `epg_live`. A clause names it by what the call ran, with its input and its sinks: `PlayRan`, `ListenRan`, `LiveRan`.
 #![tactic(auto)]
 
 mod top;
