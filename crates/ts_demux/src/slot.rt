@@ -21,19 +21,20 @@ pub(crate) struct LoadShape {
     pub(crate) at: u8,
 }
 
-// A load, as its packet and the place of the payload's first byte.
+// A load's counter, and the place of the payload's first byte in its packet.
 #[derive(Clone, Copy)]
 pub(crate) struct LastLoad {
     counter: u8,
     at: u8,
-    packet: [u8; 188],
     ghost in_packet: { at < 188 },
 }
 
-// What is kept of a PID: its last load, and the first bytes of the section that is open.
+// What is kept of a PID: its last load with that load's packet, which is written in place, and the first bytes of the section that is
+// open. Without a last load the packet is not looked at.
 #[derive(Drop)]
 pub(crate) struct PidSlot {
     last: Option<LastLoad>,
+    packet: [u8; 188],
     section: Option<Bytes>,
 }
 
@@ -44,7 +45,7 @@ impl Model for PidSlot {
 
     ghost Value = { PidState };
 
-    ghost view = { λ s. record { last = option_map (λ l. record { counter = l.counter; payload = drop l.at l.packet }) s.last; section = s.section } };
+    ghost view = { λ s. record { last = option_map (λ l. record { counter = l.counter; payload = drop l.at s.packet }) s.last; section = s.section } };
 
     ghost invariant = { λ s. IsOpen s.section };
 }
@@ -56,6 +57,7 @@ impl PidSlot {
     {
         PidSlot {
             last: None,
+            packet: [0; 188],
             section: None,
         }
     }
@@ -79,10 +81,10 @@ impl PidSlot {
         let follows = self.is_next(load.counter);
         let section = &mut self.section;
         let sections = take_payload(alloc, load.pid, section, follows, load.start, payload)?;
+        self.packet = *packet;
         self.last = Some(LastLoad {
             counter: load.counter,
             at: load.at,
-            packet: *packet,
         });
         Ok(sections)
     }
@@ -93,7 +95,7 @@ impl PidSlot {
     {
         match &self.last {
             Some(last) => {
-                let (_, kept) = last.packet.split_at(usize::from(last.at));
+                let (_, kept) = self.packet.split_at(usize::from(last.at));
                 last.counter == counter && kept == payload
             }
             None => false,
