@@ -109,10 +109,8 @@ fn joined(alloc: Global, pieces: &[Bytes]) -> Result<Shown, AllocError>
             Shown::Hex(_) => return all_bytes(alloc, pieces),
         }
     }
-    match Txt::of(alloc, text.as_str())? {
-        Some(text) => Ok(Shown::Text(text)),
-        None => all_bytes(alloc, pieces),
-    }
+    // what kept texts join to has no control character either
+    Ok(Shown::Text(Txt::of_kept(alloc, text.as_str())?))
 }
 
 // All bytes of pieces as Hex.
