@@ -1,9 +1,6 @@
 -- The lines of fields, and the items of an edit, which have lines of their own.
-use Rattle.std.specs.Prelude.{◌≡◌, ◌<◌, ℕ, ◌++◌, ◌+◌, ◌-◌, List, [], ◌∷◌, codes, Vec}
-use Rattle.std.specs.declared.alloc.Global.{Global}
-use Rattle.csv.specs.Writing.{default_writer, row_body, next_sep, field_text, writer_under, writer_pending, fields_written, writer_setup}
-use Rattle.csv.specs.declared.writer.WriterBuilder.{WriterBuilder}
-use Rattle.csv.specs.declared.writer.Writer.{Writer}
+use Rattle.std.specs.Prelude.{◌<◌, ℕ, ◌++◌, ◌+◌, ◌-◌, List, [], ◌∷◌, codes}
+use Rattle.csv.specs.Writing.{default_writer, row_body, next_sep, field_text}
 use Rattle.journal_model.specs.declared.edit.Item.{Item}
 use Rattle.journal_model.specs.declared.edit.Edit.{Edit}
 use Rattle.journal_model.specs.declared.edit.Edit.TheVariants.{Day}
@@ -14,35 +11,25 @@ abbrev pub items_of : Edit → List Item
 items_of (Day service day items) = items
 items_of other = []
 
--- a line in the making: its text, how many fields it has, and how they are written
+-- a line in the making: its text, and how many fields it has
 pub record Line : Type 0 where
   pub text : List ℕ
   pub fields : ℕ
-  pub setup : WriterBuilder
-
--- what a writer of a line holds
-abbrev pub line_in : Writer (Vec ℕ Global) → Line
-line_in writer = record { text = (writer_under writer).items ++ writer_pending writer; fields = fields_written writer; setup = writer_setup writer }
 
 -- a line with one more field: behind a comma, unless it is the first
 abbrev pub and_field : Line → List ℕ → Line
-and_field line field = record { text = line.text ++ (next_sep default_writer line.fields ++ field_text default_writer field); fields = line.fields + 1; setup = line.setup }
+and_field line field = record { text = line.text ++ (next_sep default_writer line.fields ++ field_text default_writer field); fields = line.fields + 1 }
 
 abbrev pub no_fields : Line
-no_fields = record { text = []; fields = 0; setup = default_writer }
+no_fields = record { text = []; fields = 0 }
 
 -- its text, with LF at its end
 abbrev pub ended : Line → List ℕ
 ended line = line.text ++ 10 ∷ []
 
--- a line that may get a field
-pub record IsOpen (line : Line) : Type 0 where
-  pub setup : line.setup ≡ default_writer
-  pub few : line.fields < 100
-
--- and that many fields more
+-- a line that may get one field more, and that many besides
 abbrev pub IsOpenFor : ℕ → Line → Type 0
-IsOpenFor n line = (line.setup ≡ default_writer) × (line.fields < 100 - n)
+IsOpenFor n line = line.fields < 100 - n
 
 abbrev pub and_fields : Line → List (List ℕ) → Line
 and_fields line [] = line
