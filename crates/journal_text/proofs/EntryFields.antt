@@ -23,7 +23,8 @@ use Rattle.journal_text.specs.Entries.{step_fields}
 use Rattle.script_lines.specs.Script.{IsShapedStep}
 use Rattle.journal_text.specs.Back.{IsFront, IsFronted, command_row}
 use Rattle.script_lines.proofs.NumberBack.{digits_of, decimal_some, small}
-use Rattle.journal_text.proofs.EntryRows.{is_printing, is_written, printing_kept, digits_printing, shape_written, written_kept, moment_written, number_kept}
+use Rattle.si_text.specs.Control.{is_printing}
+use Rattle.journal_text.proofs.EntryRows.{is_written, printing_kept, digits_printing, shape_written, written_kept, moment_written, number_kept}
 
 -- ---- the fields of an edit are texts
 

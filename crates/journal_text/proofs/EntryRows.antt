@@ -28,13 +28,10 @@ use Rattle.script_lines.proofs.NumberBack.{digits_of, low, small, number_back, n
 use Rattle.script_lines.proofs.OutcomeBack.{outcome_back}
 use Rattle.si_lists.proofs.Lists.{all_map}
 use Rattle.si_lists.proofs.Filters.{list_all-more}
+use Rattle.si_text.specs.Control.{is_printing}
 use Rattle.journal_text.proofs.CleanRows.{clean_append, clean_none, clean_byte}
 
 -- ---- bytes that stand for themselves
-
--- a printing byte of ASCII
-abbrev pub is_printing : ℕ → Bool
-is_printing b = nat_le 32 b && nat_le b 126
 
 plain_printing : (b : ℕ) → is_printing b ≡ true → (b < 128) × (is_plain_char b ≡ true)
 plain_printing b h = (grind (arith, nat_tests), grind (arith, nat_tests))

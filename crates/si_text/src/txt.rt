@@ -2,7 +2,7 @@
 ghost use Rattle.std.specs.Prelude.{◌≡◌, IfOk, Some, None, false, if◌then◌else◌, IsUtf8};
 ghost use Rattle.std.specs.Str.{chars};
 ghost use Rattle.std.specs.List.{list_any};
-ghost use Rattle.si_text.specs.Control.{is_control, has_control};
+ghost use Rattle.si_text.specs.Control.{all_printing, is_control, has_control, is_printing};
 
 use std::alloc::{AllocError, Global};
 use std::marker::Model;
@@ -70,10 +70,26 @@ fn is_control_char(c: char) -> bool
     matches!(c, '\0'..='\u{1F}' | '\u{7F}'..='\u{9F}' | '\u{E080}'..='\u{E09F}')
 }
 
+fn is_printing_byte(b: u8) -> bool
+    ensures { result ≡ is_printing b }
+{
+    matches!(b, 0x20..=0x7E)
+}
+
+fn is_all_printing(bytes: &[u8]) -> bool
+    ensures { result ≡ all_printing bytes.now }
+{
+    bytes.iter().all(|b| is_printing_byte(*b))
+}
+
 /// Whether a text has a control character. It takes no memory.
 pub fn has_control(text: &str) -> bool
     ensures { result ≡ has_control text.now }
 {
+    // the characters of other texts are decoded
+    if is_all_printing(text.as_bytes()) {
+        return false;
+    }
     text.chars().any(
         |c: char| -> bool
             ensures { result ≡ is_control c }

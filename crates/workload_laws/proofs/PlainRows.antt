@@ -11,7 +11,8 @@ use Rattle.si_lists.proofs.Filters.{list_all-more}
 use Rattle.si_text.specs.Decoding.{IsKept}
 use Rattle.journal_text.specs.Edits.{line_text}
 use Rattle.journal_text.specs.Back.{IsFronted, IsRow, row_line}
-use Rattle.journal_text.proofs.EntryRows.{is_printing, is_written, printing_kept}
+use Rattle.si_text.specs.Control.{is_printing}
+use Rattle.journal_text.proofs.EntryRows.{is_written, printing_kept}
 
 -- a space, or a byte that no field is quoted for
 abbrev pub is_plain : ℕ → Bool
