@@ -12,7 +12,7 @@ use Rattle.ts_demux.proofs.Hear.{pick, found}
 use Rattle.ts_demux.proofs.Machine.{begun-nothing, begun-whole, size_in-three}
 
 -- a whole section has three bytes at least
-whole_some : (x : List ℕ) → is_whole x ≡ true → 3 ≤ size_in x
+pub whole_some : (x : List ℕ) → is_whole x ≡ true → 3 ≤ size_in x
 whole_some x e =
     let p = and_parts (nat_le 3 (length x)) (nat_le (size_in x) 4096 && nat_le (size_in x) (length x)) e in
     size_in-three x (le_told 3 (length x) p.0)

@@ -111,10 +111,17 @@ fn go_on(
     ensures kept { OnOk result (section.new ≡ open_further section.old payload.now) }
     ensures memory { OnErr result (section.new ≡ section.old) }
 {
-    if let Some(rest) = missing_in(section, payload) {
-        return end_and_begin(alloc, pid, section, rest, &[]);
+    let Some(bytes) = &*section else {
+        return Ok(Items::new(alloc));
+    };
+    match measure(bytes.as_slice(), payload) {
+        Reach::Ends(size) => {
+            let (rest, _) = payload.split_at(size - bytes.len());
+            return end_and_begin(alloc, pid, section, rest, &[]);
+        }
+        Reach::TooLong => *section = None,
+        Reach::Open(_) => extend(section, payload)?,
     }
-    keep_more(section, payload)?;
     Ok(Items::new(alloc))
 }
 
@@ -136,22 +143,6 @@ fn missing_in<'a>(section: &Option<Bytes>, more: &'a [u8]) -> Option<&'a [u8]>
         }
         _ => None,
     }
-}
-
-// Keeps bytes that do not end the section.
-fn keep_more(section: &mut Option<Bytes>, more: &[u8]) -> Result<(), AllocError>
-    requires part { finished_with section.old more.now ≡ [] }
-    ensures kept { OnOk result (section.new ≡ open_further section.old more.now) }
-    ensures memory { OnErr result (section.new ≡ section.old) }
-{
-    let Some(bytes) = section else {
-        return Ok(());
-    };
-    if measure(bytes.as_slice(), more) == Reach::TooLong {
-        *section = None;
-        return Ok(());
-    }
-    bytes.items.extend_from_slice(more)
 }
 
 // Ends the section with these bytes, and begins those that stand behind them in the packet.
