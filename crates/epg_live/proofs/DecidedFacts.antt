@@ -137,7 +137,8 @@ before_decided text left paths files (TooLong (Feed f)) why no_open no_input = a
 before_decided text left paths files (ReadFault (Feed f)) why no_open no_input = absurd why
 before_decided text left paths files other why no_open no_input = absurd why
 
-met_decided : (paths : List (List ℕ)) (cycles join : ℕ) (text : List ℕ) (files : Files) (left : Option (List ℕ)) (feeds_before feeds_now : ℕ) (before now : Option (List ℕ)) (journal : List Entry) (heard : HeardAir) (met : Status)
+-- a run that met neither a failed source nor a failed air met what the texts decide
+pub met_decided : (paths : List (List ℕ)) (cycles join : ℕ) (text : List ℕ) (files : Files) (left : Option (List ℕ)) (feeds_before feeds_now : ℕ) (before now : Option (List ℕ)) (journal : List Entry) (heard : HeardAir) (met : Status)
     → HasMet paths cycles join text files left feeds_before feeds_now before now journal heard met → ((f : ℕ) → met ≡ OpenFault f → ⊥) → (met ≡ ReadFault Input → ⊥) → (met ≡ WriteFault Air → ⊥) → (Rose feeds_before feeds_now → ⊥)
     → (met ≡ Memory) ⊎ (met ≡ text_status text paths files)
 met_decided paths cycles join text files left feeds_before feeds_now before now journal heard met (inl memory) no_open no_input no_air no_feed = inl memory

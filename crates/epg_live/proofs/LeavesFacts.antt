@@ -64,7 +64,7 @@ module _ (mux : Mux) (cycles join : ℕ) (text : List ℕ) (left : Option (List 
   abbrev fed : Option LiveStop
   fed = feeds_stop None 1 ran.feed_stops
 
-  as_read : IsAsRead mux journal
+  pub as_read : IsAsRead mux journal
   as_read =
       let typed = run_typed mux cycles text left behind paths files journal ran.player ran.control_stop ran.feed_stops ran.final (halts ran.player ran.control_stop fed) ran.sent
       ran.journal_is ran.last in
@@ -77,7 +77,7 @@ module _ (mux : Mux) (cycles join : ℕ) (text : List ℕ) (left : Option (List 
         steps = typed.1;
       }
 
-  ran_shown : status ≡ Done → (sent : List ℕ) → before ≡ Some sent → IsShownLast join mux journal before now heard.guide
+  pub ran_shown : status ≡ Done → (sent : List ℕ) → before ≡ Some sent → IsShownLast join mux journal before now heard.guide
   ran_shown done sent knows =
       let none = done_none (run_stop ran.sent ran.control_stop fed) (sym ran.status_is ∙ done) in
       let stops = and_none (sent_stop ran.sent) (and_stop (control_stop ran.control_stop) fed) none in

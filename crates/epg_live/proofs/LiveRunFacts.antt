@@ -1,5 +1,5 @@
 -- A run of `live`, from what it leaves and how it ended.
-use Rattle.std.proofs.Common.{◌≡◌, ◌⊎◌, ℕ, List, inl, sym, subst}
+use Rattle.std.proofs.Common.{◌≡◌, ◌⊎◌, ◌∙◌, ℕ, List, inl, inr, ap, sym, subst}
 use Rattle.std.specs.Prelude.{Option, Some}
 use Rattle.std.specs.Io.KnownBytes.{IsAtEnd}
 use Rattle.si_causes.specs.Causes.{Rose}
@@ -7,14 +7,19 @@ use Rattle.si_causes.specs.Opening.{Files}
 use Rattle.epg_report.specs.declared.status.Status.{Status}
 use Rattle.epg_report.specs.declared.status.Status.TheVariants.{Done, OpenFault, WriteFault, Memory}
 use Rattle.epg_report.specs.declared.status.Outlet.TheVariants.{Report}
-use Rattle.epg_report.specs.Told.{ReportTaken, SourceGave}
+use Rattle.epg_report.specs.Texts.{CanBeSaid}
+use Rattle.epg_report.specs.Told.{ReportTaken, SourceGave, gave}
 use Rattle.epg_live.specs.Decided.{text_status}
-use Rattle.epg_live.specs.Stops.{HasStatusCause, IsOfLive}
-use Rattle.epg_live.specs.Ends.{HasAsked}
+use Rattle.epg_live.specs.Stops.{HasStatusCause, IsMet, IsOfLive}
+use Rattle.epg_live.specs.declared.reporting.LiveResult.{LiveResult}
+use Rattle.epg_live.specs.Ends.{HasAsked, HasMet, ReportEnds, entries_of, run_text}
 use Rattle.epg_live.specs.Leaves.{LeavesLive}
 use Rattle.epg_live.specs.LiveRun.{IsUnfailing, LiveRun, OpenerAsked}
+use Rattle.epg_live.specs.Met.{LiveMet}
 use Rattle.epg_live.proofs.DecidedFacts.{decided, whole}
 use Rattle.epg_live.proofs.OpenFacts.{tried_none}
+use Rattle.epg_live.proofs.LeavesFacts.{leaves}
+use Rattle.epg_live.proofs.MetFacts.{ends_asked, ends_caused, ends_done, ends_of_live, ends_open, ends_rose}
 
 pub live_run : (paths : List (List ℕ)) (cycles join : ℕ) (opener : OpenerAsked) (input : SourceGave) (air report : ReportTaken) (status : Status)
     → ((text : List ℕ) → input.old ≡ Some text → (files : Files) → opener.files ≡ Some files → LeavesLive paths cycles join text files input.new opener.read_old opener.read_new air report status)
@@ -39,9 +44,49 @@ live_run paths cycles join opener input air report status leaves known asked_for
         decided paths cycles join text files input.new input.faults_old input.faults_new opener.read_old opener.read_new air report status (leaves text tells files told) cause
         (λ feed e. none.no_opening (open_rose feed e)) none.no_input none.no_reading none.no_air none.no_report
 
+-- from what it met, and how its report ended
+pub live_ends : (paths : List (List ℕ)) (cycles join : ℕ) (opener : OpenerAsked) (input : SourceGave) (air report : ReportTaken) (run : LiveResult) (status : Status)
+    → LiveMet paths cycles join opener input air run → (status ≡ Memory) ⊎ ReportEnds run.met (run_text (entries_of run.desk) run.heard) report status
+    → LiveRun paths cycles join opener input air report status
+live_ends paths cycles join opener input air report run status m ends =
+    let text = run_text (entries_of run.desk) run.heard in
+    live_run paths cycles join opener input air report status
+    (λ said tells files known. left said files (m.met said tells files known) ends)
+    (ends_of_live run.met text report status m.known ends)
+    (ends_asked paths opener.tried_old opener.tried_new run.met text report status m.known m.asked_for ends)
+    (λ e. m.end (ends_done run.met text report status m.known ends e))
+    (ends_caused input.faults_old input.faults_new opener.read_old opener.read_new air.faults_old air.faults_new run.met text report status m.cause ends)
+    (λ feed e. m.open_cause feed (ends_open run.met text report status feed ends e))
+    (ends_rose run.met text report status m.known ends)
+  where
+    left : (said : List ℕ) (files : Files) → HasMet paths cycles join said files input.new opener.read_old opener.read_new air.old air.new (entries_of run.desk) run.heard run.met
+        → (status ≡ Memory) ⊎ ReportEnds run.met (run_text (entries_of run.desk) run.heard) report status
+        → LeavesLive paths cycles join said files input.new opener.read_old opener.read_new air report status
+    left said files has (inl memory) = inl memory
+    left said files has (inr ends) = leaves paths cycles join said files input.new opener.read_old opener.read_new air report (entries_of run.desk) run.heard run.met status has ends
+
 -- no path was asked for
 pub none_asked : (paths : List (List ℕ)) (tried : Option (List (List ℕ))) → HasAsked paths tried tried Memory
 none_asked paths tried = (0, tried_none tried, tt)
+
+-- What a run met whose input is the source that its reader had first, and gave back.
+pub live_met : {S : Type 0} (left : S → Option (List ℕ)) (faults : S → ℕ) (old first source new : S) (paths : List (List ℕ)) (cycles join : ℕ) (opener : OpenerAsked) (air : ReportTaken) (run : LiveResult)
+    → first ≡ old → new ≡ source
+    → ((text : List ℕ) → left first ≡ Some text → (files : Files) → opener.files ≡ Some files
+    → HasMet paths cycles join text files (left source) opener.read_old opener.read_new air.old air.new (entries_of run.desk) run.heard run.met)
+    → IsMet run.met → CanBeSaid run.met → HasAsked paths opener.tried_old opener.tried_new run.met → (run.met ≡ Done → IsAtEnd (left source))
+    → HasStatusCause (faults first) (faults source) opener.read_old opener.read_new air.faults_old air.faults_new run.met
+    → ((feed : ℕ) → run.met ≡ OpenFault feed → Rose opener.faults_old opener.faults_new) → LiveMet paths cycles join opener (gave left faults old new) air run
+live_met {S = S} left faults old first source new paths cycles join opener air run begins gives met known said asked_for end cause open_cause =
+    subst (λ (s : S). LiveMet paths cycles join opener (gave left faults old s) air run) (sym gives) (record {
+      met = λ text tells files told. met text (ap left begins ∙ tells) files told;
+      known = known;
+      said = said;
+      asked_for = asked_for;
+      end = end;
+      cause = subst (λ (s : S). HasStatusCause (faults s) (faults source) opener.read_old opener.read_new air.faults_old air.faults_new run.met) begins cause;
+      open_cause = open_cause;
+    })
 
 -- where memory was wanting
 pub live_memory : (paths : List (List ℕ)) (cycles join : ℕ) (opener : OpenerAsked) (input : SourceGave) (air report : ReportTaken) (status : Status) → status ≡ Memory

@@ -23,11 +23,9 @@ use Rattle.epg_live.specs.declared.feeds.OpenStop.TheVariants as opening
 use Rattle.epg_live.specs.Opened.{HasOpenCause, HasTried, OpenedTo}
 use Rattle.epg_live.specs.Stops.{HasStatusCause, IsMet, IsOfLive, IsOfRun, mux_status, open_status}
 use Rattle.epg_live.specs.Runs.{NoJobs, Ran, described, nothing_heard}
-use Rattle.epg_live.specs.Ends.{AskedFor, HasAsked, HasMet, ReportEnds, or_report, run_text}
-use Rattle.epg_live.specs.Leaves.{LeavesLive}
+use Rattle.epg_live.specs.Ends.{AskedFor, HasAsked, HasMet, ReportEnds, or_report}
 use Rattle.epg_report.specs.Told.{ReportTaken}
 use Rattle.epg_live.proofs.OpenFacts.{tried_none}
-use Rattle.epg_live.proofs.LeavesFacts.{leaves}
 
 -- ---- where the description was not read
 
@@ -192,11 +190,32 @@ ends_of_live met text report status is (inl memory) = subst IsOfLive (sym memory
 ends_of_live met text report status is (inr (inl (took, same))) = subst IsOfLive (sym same) (met_of_live met is)
 ends_of_live met text report status is (inr (inr (rose, took, same))) = subst IsOfLive (sym same) (report_of_live met is)
 
--- what an input leaves that is the source which the reader gave back
-pub leaves_live : {S : Type 0} (left_of : S → Option (List ℕ)) (source input : S) (paths : List (List ℕ)) (cycles join : ℕ) (text : List ℕ) (files : Files) (feeds_old feeds_now : ℕ) (air report : ReportTaken) (journal : List Entry) (heard : HeardAir)
-    (met status : Status) → input ≡ source → HasMet paths cycles join text files (left_of source) feeds_old feeds_now air.old air.new journal heard met → Ends met (run_text journal heard) report status
-    → LeavesLive paths cycles join text files (left_of input) feeds_old feeds_now air report status
-leaves_live {S = S} left_of source input paths cycles join text files feeds_old feeds_now air report journal heard met status e has (inl memory) = inl memory
-leaves_live {S = S} left_of source input paths cycles join text files feeds_old feeds_now air report journal heard met status e has (inr ends) =
-    subst (λ (s : S). LeavesLive paths cycles join text files (left_of s) feeds_old feeds_now air report status) (sym e)
-    (leaves paths cycles join text files (left_of source) feeds_old feeds_now air report journal heard met status has ends)
+report_done : (met : Status) → or_report met ≡ Done → ⊥
+report_done Done e = cc
+report_done other e = cc
+
+pub ends_done : (met : Status) (text : List ℕ) (report : ReportTaken) (status : Status) → IsMet met → Ends met text report status → status ≡ Done → met ≡ Done
+ends_done met text report status is (inl memory) e = cc
+ends_done met text report status is (inr (inl (took, same))) e = sym same ∙ e
+ends_done met text report status is (inr (inr (rose, took, same))) e = absurd (report_done met (sym same ∙ e))
+
+report_open : (met : Status) (feed : ℕ) → or_report met ≡ OpenFault feed → met ≡ OpenFault feed
+report_open Done feed e = cc
+report_open other feed e = e
+
+pub ends_open : (met : Status) (text : List ℕ) (report : ReportTaken) (status : Status) (feed : ℕ) → Ends met text report status → status ≡ OpenFault feed → met ≡ OpenFault feed
+ends_open met text report status feed (inl memory) e = cc
+ends_open met text report status feed (inr (inl (took, same))) e = sym same ∙ e
+ends_open met text report status feed (inr (inr (rose, took, same))) e = report_open met feed (sym same ∙ e)
+
+report_caused : (input_old input_now feeds_old feeds_now air_old air_now : ℕ) (met : Status) → HasStatusCause input_old input_now feeds_old feeds_now air_old air_now met
+    → HasStatusCause input_old input_now feeds_old feeds_now air_old air_now (or_report met)
+report_caused input_old input_now feeds_old feeds_now air_old air_now Done cause = tt
+report_caused input_old input_now feeds_old feeds_now air_old air_now other cause = cause
+
+pub ends_caused : (input_old input_now feeds_old feeds_now air_old air_now : ℕ) (met : Status) (text : List ℕ) (report : ReportTaken) (status : Status)
+    → HasStatusCause input_old input_now feeds_old feeds_now air_old air_now met → Ends met text report status → HasStatusCause input_old input_now feeds_old feeds_now air_old air_now status
+ends_caused input_old input_now feeds_old feeds_now air_old air_now met text report status cause (inl memory) = subst (HasStatusCause input_old input_now feeds_old feeds_now air_old air_now) (sym memory) tt
+ends_caused input_old input_now feeds_old feeds_now air_old air_now met text report status cause (inr (inl (took, same))) = subst (HasStatusCause input_old input_now feeds_old feeds_now air_old air_now) (sym same) cause
+ends_caused input_old input_now feeds_old feeds_now air_old air_now met text report status cause (inr (inr (rose, took, same))) =
+    subst (HasStatusCause input_old input_now feeds_old feeds_now air_old air_now) (sym same) (report_caused input_old input_now feeds_old feeds_now air_old air_now met cause)

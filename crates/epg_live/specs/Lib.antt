@@ -5,3 +5,4 @@ pub mod Decided
 pub mod Ends
 pub mod Leaves
 pub mod LiveRun
+pub mod Met

@@ -36,10 +36,10 @@ impl HeardAir {
 
 /// What ran: the desk, where jobs started, what was heard, and the status that was met; Done where no fault was.
 #[derive(Drop)]
-pub(crate) struct LiveResult {
-    pub(crate) desk: Option<Desk>,
-    pub(crate) heard: HeardAir,
-    pub(crate) met: Status,
+pub struct LiveResult {
+    pub desk: Option<Desk>,
+    pub heard: HeardAir,
+    pub met: Status,
 }
 
 fn done_of(line: &DoneLine) -> DoneKey
@@ -105,8 +105,8 @@ pub(crate) fn finish<R: Sink>(alloc: Global, run: &LiveResult, report: &mut R) -
     ended(run.met, written)
 }
 
-// The status of a run that met this, and whose report was written so.
-fn ended(met: Status, written: Result<(), Failed>) -> Status
+/// The status of a run that met this, and whose report was written so: the first fault decides.
+pub fn ended(met: Status, written: Result<(), Failed>) -> Status
     ensures { result ≡ ended_by met written }
 {
     match (met, written) {

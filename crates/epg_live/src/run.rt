@@ -10,6 +10,7 @@ ghost use Rattle.epg_report.specs.Texts.{CanBeSaid};
 ghost use Rattle.epg_live.specs.Ends.{HasAsked, HasMet, IsBlank, entries_of};
 ghost use Rattle.epg_live.specs.Runs.{HasRead, Ran};
 ghost use Rattle.epg_live.specs.Opened.{AreOpened};
+ghost use Rattle.epg_live.specs.Met.{LiveRanTo};
 ghost use Rattle.epg_live.specs.Stops.{HasStatusCause, IsMet, IsOfRun, live_status, mux_status, open_status, read_status};
 
 use crate::feeds::{OpenStop, close_feeds, open_feeds};
@@ -131,14 +132,8 @@ fn run_jobs<W: Threads + Wait + Sync, O: Opener, S: Source + Send, A: Sink + Sen
     Ok(end.control.close())
 }
 
-/// Reads the description, opens the files of the feeds, and runs; gives the input back.
-pub(crate) fn run_described<
-    W: Threads + Wait + Sync,
-    O: Opener,
-    S: Source + Send,
-    A: Sink + Send,
-    G: Gate,
->(
+// Reads the description, opens the files of the feeds, and runs; gives the input back.
+fn run_described<W: Threads + Wait + Sync, O: Opener, S: Source + Send, A: Sink + Send, G: Gate>(
     rt: &W,
     alloc: Global,
     words: &LiveWords,
@@ -183,4 +178,33 @@ pub(crate) fn run_described<
         join: words.join,
     };
     run_jobs(rt, alloc, mux, plan, feeds, lines, opener, air, gate, run)
+}
+
+/// Runs `live` up to its report: reads the description of the multiplex, opens the files of the feeds in order, and then runs their jobs,
+/// the control's over the lines behind the description, and the player's, side by side. `Err` comes only where memory is wanting.
+pub fn run_files<W: Threads + Wait + Sync, O: Opener, S: Source + Send, A: Sink + Send, G: Gate>(
+    rt: &W,
+    alloc: Global,
+    words: &LiveWords,
+    opener: &mut O,
+    input: &mut S,
+    air: &mut A,
+    gate: &G,
+) -> Result<LiveResult, AllocError>
+    requires few { length words.now.feeds.items ≤ 16 }
+    requires cycles { words.now.cycles ≤ 1000 }
+    ensures run { IfOk result (LiveRanTo (texts words.now.feeds.items) words.now.cycles words.now.join
+        O.files O.tried O.faults O.read_faults opener.old opener.new
+        S.left S.faults input.old input.new A.written A.faults air.old air.new) }
+    ensures asked { OnErr result (HasAsked (texts words.now.feeds.items)
+        (O.tried opener.old) (O.tried opener.new) Status.Memory) }
+{
+    let lines = LineReader::open(alloc, &mut *input)?;
+    let mut run = LiveResult {
+        desk: None,
+        heard: HeardAir::nothing(alloc),
+        met: Status::Done,
+    };
+    let _source = run_described(rt, alloc, words, opener, lines, air, gate, &mut run)?;
+    Ok(run)
 }
