@@ -4,7 +4,7 @@ use Rattle.std.specs.Prelude.{IsSome, option_and_then, option_map}
 use Rattle.clap.specs.Matches.{first_value, matched_of, raw_values}
 use Rattle.clap.specs.declared.parser.matches.Found.{Found}
 use Rattle.input_lines.specs.Numbers.{number_in}
-use Rattle.command_words.specs.Grammar.{CommandLine, Play, Listen, Live, live_of, settings_of}
+use Rattle.command_words.specs.Grammar.{CommandLine, Play, Listen, Live, Soak, live_of, settings_of}
 use Rattle.command_words.specs.Matches.{Say}
 
 pub record Said (found : Found) (words : List (List ℕ)) : Type 0 where
@@ -31,6 +31,7 @@ said found words some say = by (option_and_then live_of (settings_of words)) ref
     by None e is = cc is
     by (Some Play) e is = absurd (say Play e)
     by (Some Listen) e is = absurd (say Listen e)
+    by (Some (Soak number)) e is = absurd (say (Soak number) e)
     by (Some (Live feeds cycles join)) e is =
         let (f, c, j) = say (Live feeds cycles join) e in
         let (cycles_text, cycles_are, cycles_read) = then_some (number_in 1 1000) (first_value found (codes "cycles")) cycles c in

@@ -5,7 +5,7 @@ use Rattle.command_words.specs.declared.command.Command.TheVariants as command
 use Rattle.command_words.specs.declared.command.LiveWords.{LiveWords}
 use Rattle.command_words.specs.declared.setting.LiveOption.{LiveOption}
 use Rattle.command_words.specs.declared.setting.LiveOption.TheVariants as option
-use Rattle.command_words.specs.Grammar.{CommandLine, Play, Listen, Live, Setting, Feed, Cycles, Join}
+use Rattle.command_words.specs.Grammar.{CommandLine, Play, Listen, Live, Soak, Setting, Feed, Cycles, Join}
 
 -- words as their bytes
 abbrev pub texts : {Y : Type 0} → List (String Y) → List (List ℕ)
@@ -26,9 +26,11 @@ abbrev pub said : Command → CommandLine
 said command.Play = Play
 said command.Listen = Listen
 said (command.Live live) = said_live live
+said (command.Soak number) = Soak number
 
--- the limits of a command: at most 16 feeds, and 1,000 cycles
+-- the limits of a command: at most 16 feeds, and 1,000 cycles; the number of a load has at most nine digits
 abbrev pub IsWithin : Command → Type 0
 IsWithin command.Play = Unit {0}
 IsWithin command.Listen = Unit {0}
 IsWithin (command.Live live) = (length live.feeds.items ≤ 16) × (live.cycles ≤ 1000)
+IsWithin (command.Soak number) = number ≤ 999999999

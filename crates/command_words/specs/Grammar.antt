@@ -80,6 +80,8 @@ pub data CommandLine : Type 0 where
   Listen : CommandLine
   -- the paths of its feeds, in order, the number of cycles, and the first packet that its monitor hears
   Live : List (List ℕ) → ℕ → ℕ → CommandLine
+  -- the number of its load
+  Soak : ℕ → CommandLine
 
 -- 1 to 16 feeds, cycles once, and join once
 abbrev pub live_with : List (List ℕ) → List ℕ → List ℕ → Option CommandLine
@@ -98,7 +100,16 @@ abbrev alone_with : List ℕ → List (List ℕ) → Option CommandLine
 alone_with word [] = alone word
 alone_with word (next ∷ words) = None
 
+-- one word, the number of a load
+abbrev pub soak_of : List (List ℕ) → Option CommandLine
+soak_of [] = None
+soak_of (word ∷ []) = option_map Soak (number_in 0 999999999 word)
+soak_of (word ∷ next ∷ words) = None
+
 -- the command that words spell
 abbrev pub command_of : List (List ℕ) → Option CommandLine
 command_of [] = None
-command_of (word ∷ words) = if bytes_eq word (codes "live") then option_and_then live_of (settings_of words) else alone_with word words
+command_of (word ∷ words) =
+    if bytes_eq word (codes "live") then option_and_then live_of (settings_of words)
+    else if bytes_eq word (codes "soak") then soak_of words
+    else alone_with word words

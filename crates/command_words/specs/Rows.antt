@@ -1,6 +1,6 @@
 -- Worked rows of the definitions.
 use Rattle.std.specs.Prelude.{◌≡◌, [], ◌∷◌, Some, None, codes, refl}
-use Rattle.command_words.specs.Grammar.{command_of, Play, Live}
+use Rattle.command_words.specs.Grammar.{command_of, Play, Live, Soak}
 
 two_feeds : command_of (codes "live" ∷ codes "--join=0" ∷ codes "--feed" ∷ codes "a" ∷ codes "--cycles" ∷ codes "3" ∷ codes "--feed=b" ∷ []) ≡ Some (Live (codes "a" ∷ codes "b" ∷ []) 3 0)
 two_feeds = refl
@@ -35,3 +35,19 @@ short = refl
 
 no_words : command_of [] ≡ None
 no_words = refl
+
+soak : command_of (codes "soak" ∷ codes "012" ∷ []) ≡ Some (Soak 12)
+soak = refl
+
+-- a number of ten digits, two numbers, or none
+soak_ten : command_of (codes "soak" ∷ codes "1000000000" ∷ []) ≡ None
+soak_ten = refl
+
+soak_two : command_of (codes "soak" ∷ codes "1" ∷ codes "1" ∷ []) ≡ None
+soak_two = refl
+
+soak_dashes : command_of (codes "soak" ∷ codes "--" ∷ codes "1" ∷ []) ≡ None
+soak_dashes = refl
+
+soak_alone : command_of (codes "soak" ∷ []) ≡ None
+soak_alone = refl

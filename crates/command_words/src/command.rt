@@ -2,10 +2,11 @@
 ghost use Rattle.std.specs.Prelude.{◌≡◌, ◌↔◌, Some, None, Err, IfOk, IfSome, option_and_then, option_map};
 ghost use Rattle.command_words.specs.declared.command.WordsStop.TheVariants.{Usage};
 ghost use Rattle.command_words.specs.Commands.{IsWithin, said, texts};
-ghost use Rattle.command_words.specs.Grammar.{alone as alone_in, command_of, live_of, settings_of};
+ghost use Rattle.command_words.specs.Grammar.{alone as alone_in, command_of, live_of, settings_of, soak_of};
 
 use crate::matches::live_words;
 use crate::uses::are_live;
+use input_lines::number;
 use std::alloc::Global;
 
 /// Paths of files, in the order in which they stood.
@@ -26,6 +27,8 @@ pub enum Command {
     Play,
     Listen,
     Live(LiveWords),
+    /// A run of a load of its own making: the number of the load, 0 to 999,999,999.
+    Soak(u64),
 }
 
 /// Why words give no command: they spell none, or memory is wanting for the paths.
@@ -37,7 +40,7 @@ pub enum WordsStop {
 
 /// The command that words spell; the program's name is not among them.
 ///
-/// `play` and `listen` have no further word. `live` has, in any order, `--feed PATH` 1 to 16 times, `--cycles N` once and
+/// `play` and `listen` have no further word. `soak` has one, the number of its load, 0 to 999,999,999. `live` has, in any order, `--feed PATH` 1 to 16 times, `--cycles N` once and
 /// `--join J` once. An option is one word with `=`, or two words, of which the second does not begin with `-`. A path is not
 /// empty and is not `-`. A number has one to nine digits and lies in its range. There are no short spellings.
 ///
@@ -47,14 +50,17 @@ pub fn parse_words(alloc: Global, words: &[String]) -> Result<Command, WordsStop
     ensures within { IfOk result IsWithin }
     ensures usage { result ≡ Err Usage ↔ (command_of (texts words.now) ≡ None) }
 {
-    let Some((word, options)) = words.split_first() else {
+    let Some((word, behind)) = words.split_first() else {
         return Err(WordsStop::Usage);
     };
     if word.as_str() == "live" {
-        return live(alloc, options);
+        return live(alloc, behind);
+    }
+    if word.as_str() == "soak" {
+        return soak(behind).ok_or(WordsStop::Usage);
     }
     match alone(word.as_str()) {
-        Some(command) if options.is_empty() => Ok(command),
+        Some(command) if behind.is_empty() => Ok(command),
         _ => Err(WordsStop::Usage),
     }
 }
@@ -71,6 +77,19 @@ fn alone(word: &str) -> Option<Command>
     } else {
         None
     }
+}
+
+// The command of the one word behind `soak`.
+fn soak(words: &[String]) -> Option<Command>
+    ensures value { option_map said result ≡ soak_of (texts words.now) }
+    ensures within { IfSome result IsWithin }
+{
+    let (word, behind) = words.split_first()?;
+    if !behind.is_empty() {
+        return None;
+    }
+    let number = number(word.as_str(), 0, 999_999_999)?;
+    Some(Command::Soak(u64::from(number)))
 }
 
 // The command of these options of `live`.

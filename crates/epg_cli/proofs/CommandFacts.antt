@@ -4,7 +4,7 @@ use Rattle.std.specs.Prelude.{Option, Some, None, Result, Err}
 use Rattle.si_causes.specs.Causes.{Rose}
 use Rattle.command_words.specs.declared.command.WordsStop.{WordsStop}
 use Rattle.command_words.specs.declared.command.WordsStop.TheVariants as words
-use Rattle.command_words.specs.Grammar.{CommandLine, Play, Listen, Live}
+use Rattle.command_words.specs.Grammar.{CommandLine, Play, Listen, Live, Soak}
 use Rattle.epg_report.specs.declared.status.Status.{Status}
 use Rattle.epg_report.specs.declared.status.Status.TheVariants.{Usage, OpenFault, ReadFault, WriteFault, Memory}
 use Rattle.epg_report.specs.declared.status.Origin.TheVariants.{Input, Feed}
@@ -12,6 +12,7 @@ use Rattle.epg_report.specs.declared.status.Outlet.TheVariants.{Air, Report}
 use Rattle.epg_play.specs.Leaves.{IsOfPlay}
 use Rattle.epg_listen.specs.Leaves.{IsOfListen}
 use Rattle.epg_live.specs.Stops.{HasStatusCause, IsOfLive}
+use Rattle.epg_soak.specs.SoakRun.{IsOfSoak}
 
 -- ---- words spell one command
 
@@ -27,9 +28,20 @@ listen_live c paths cycles join e f = cc
 pub some_none : (c : Option CommandLine) (k : CommandLine) → c ≡ Some k → c ≡ None → ⊥
 some_none c k e f = cc
 
-pub live_neither : (c : Option CommandLine) (paths : List (List ℕ)) (cycles join : ℕ) → c ≡ Some (Live paths cycles join) → (c ≡ Some Play) ⊎ (c ≡ Some Listen) → ⊥
-live_neither c paths cycles join e (inl play) = play_live c paths cycles join play e
-live_neither c paths cycles join e (inr listen) = listen_live c paths cycles join listen e
+pub play_soak : (c : Option CommandLine) (number : ℕ) → c ≡ Some Play → c ≡ Some (Soak number) → ⊥
+play_soak c number e f = cc
+
+pub listen_soak : (c : Option CommandLine) (number : ℕ) → c ≡ Some Listen → c ≡ Some (Soak number) → ⊥
+listen_soak c number e f = cc
+
+pub live_soak : (c : Option CommandLine) (paths : List (List ℕ)) (cycles join number : ℕ) → c ≡ Some (Live paths cycles join) → c ≡ Some (Soak number) → ⊥
+live_soak c paths cycles join number e f = cc
+
+pub live_others : (c : Option CommandLine) (paths : List (List ℕ)) (cycles join : ℕ) → c ≡ Some (Live paths cycles join)
+    → (c ≡ Some Play) ⊎ ((c ≡ Some Listen) ⊎ ((number : ℕ) × (c ≡ Some (Soak number)))) → ⊥
+live_others c paths cycles join e (inl play) = play_live c paths cycles join play e
+live_others c paths cycles join e (inr (inl listen)) = listen_live c paths cycles join listen e
+live_others c paths cycles join e (inr (inr (number, soak))) = live_soak c paths cycles join number e soak
 
 -- what holds of the words that were read holds of those that were spelled
 pub live_is : (P : List (List ℕ) → ℕ → ℕ → Type 0) (c : Option CommandLine) (read paths : List (List ℕ)) (n cycles j join : ℕ) → c ≡ Some (Live read n j) → c ≡ Some (Live paths cycles join) → P read n j → P paths cycles join
@@ -38,6 +50,9 @@ live_is P c read paths n cycles j join e f p =
     let second : n ≡ cycles = cc in
     let third : j ≡ join = cc in
     subst (λ (ps : List (List ℕ)). P ps cycles join) first (subst (λ (k : ℕ). P read k join) second (subst (λ (i : ℕ). P read n i) third p))
+
+pub soak_is : (P : ℕ → Type 0) (c : Option CommandLine) (read number : ℕ) → c ≡ Some (Soak read) → c ≡ Some (Soak number) → P read → P number
+soak_is P c read number e f p = let same : read ≡ number = cc in subst P same p
 
 -- ---- statuses that a command has not
 
@@ -55,6 +70,12 @@ play_open s f is e = subst IsOfPlay e is
 
 pub listen_open : (s : Status) (f : ℕ) → IsOfListen s → s ≡ OpenFault f → ⊥
 listen_open s f is e = subst IsOfListen e is
+
+pub soak_usage : (s : Status) → IsOfSoak s → s ≡ Usage → ⊥
+soak_usage s is e = subst IsOfSoak e is
+
+pub soak_open : (s : Status) (f : ℕ) → IsOfSoak s → s ≡ OpenFault f → ⊥
+soak_open s f is e = subst IsOfSoak e is
 
 pub memory_usage : (s : Status) → s ≡ Memory → s ≡ Usage → ⊥
 memory_usage s e f = cc
@@ -77,3 +98,10 @@ listen_cause i j f g a b (ReadFault (Feed k)) is read = absurd is
 listen_cause i j f g a b (WriteFault Air) is read = absurd is
 listen_cause i j f g a b (WriteFault Report) is read = tt
 listen_cause i j f g a b other is read = tt
+
+pub soak_cause : (i j f g a b : ℕ) (s : Status) → IsOfSoak s → (s ≡ WriteFault Air → Rose a b) → HasStatusCause i j f g a b s
+soak_cause i j f g a b (ReadFault Input) is air = absurd is
+soak_cause i j f g a b (ReadFault (Feed k)) is air = absurd is
+soak_cause i j f g a b (WriteFault Air) is air = air refl
+soak_cause i j f g a b (WriteFault Report) is air = tt
+soak_cause i j f g a b other is air = tt

@@ -1,7 +1,7 @@
 -- Which command the words of a run spell.
 use Rattle.std.specs.Prelude.{◌≡◌, ℕ, List, None, Some, String}
 use Rattle.command_words.specs.Commands.{texts}
-use Rattle.command_words.specs.Grammar.{Listen, Live, Play, command_of}
+use Rattle.command_words.specs.Grammar.{Listen, Live, Play, Soak, command_of}
 
 abbrev pub IsUsage : {Y : Type 0} → List (String Y) → Type 0
 IsUsage words = command_of (texts words) ≡ None
@@ -15,3 +15,11 @@ IsListen words = command_of (texts words) ≡ Some Listen
 -- over the files of these paths, with so many cycles, heard from packet `join` on
 abbrev pub IsLive : {Y : Type 0} → List (String Y) → List (List ℕ) → ℕ → ℕ → Type 0
 IsLive words paths cycles join = command_of (texts words) ≡ Some (Live paths cycles join)
+
+-- of the load with this number
+abbrev pub IsSoak : {Y : Type 0} → List (String Y) → ℕ → Type 0
+IsSoak words number = command_of (texts words) ≡ Some (Soak number)
+
+-- of a load, whatever its number
+abbrev pub SpellsSoak : {Y : Type 0} → List (String Y) → Type 0
+SpellsSoak words = (number : ℕ) × IsSoak words number

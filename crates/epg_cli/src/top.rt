@@ -8,14 +8,16 @@ ghost use Rattle.epg_play.specs.Leaves.{PlayRan};
 ghost use Rattle.epg_listen.specs.Leaves.{ListenRan};
 ghost use Rattle.epg_live.specs.LiveRun.{LiveRan};
 ghost use Rattle.epg_live.specs.Stops.{HasStatusCause};
+ghost use Rattle.epg_soak.specs.SoakRun.{SoakRan};
 ghost use Rattle.epg_cli.specs.Prints.{PrintedScript};
-ghost use Rattle.epg_cli.specs.Spelled.{IsUsage, IsPlay, IsListen, IsLive};
+ghost use Rattle.epg_cli.specs.Spelled.{IsUsage, IsPlay, IsListen, IsLive, IsSoak, SpellsSoak};
 
 use command_words::{Command, WordsStop, parse_words};
 use epg_listen::run_listen;
 use epg_live::run_live_files;
 use epg_play::run_play;
 use epg_report::{Outlet, Status, out_of_memory};
+use epg_soak::run_soak;
 use si_causes::{Gate, Opener, Sink, Source, write_all};
 use std::alloc::Global;
 use std::marker::{Send, Sync};
@@ -23,7 +25,7 @@ use std::sync::Wait;
 use std::thread::Threads;
 
 /// Does all that the program does: it takes the words of the command line without the program's name, what opens files, the input,
-/// the air, the report, and the gate that the jobs of `live` pass. Which command the words spell is told by `command_of` of `command_words`.
+/// the air, the report, and the gate that the jobs of `live` and `soak` pass. Which command the words spell is told by `command_of` of `command_words`.
 pub fn run<W: Threads + Wait + Sync, O: Opener, S: Source + Send, A: Sink + Send, R: Sink, G: Gate>(
     rt: &W,
     alloc: Global,
@@ -54,11 +56,15 @@ pub fn run<W: Threads + Wait + Sync, O: Opener, S: Source + Send, A: Sink + Send
     ensures live_again { (paths : List (List ℕ)) (cycles join : ℕ)
         → IsLive words.now paths cycles join → PrintedScript O.files opener.old
         S.left input.old R.written R.faults report.old report.new result }
-    // With `listen` nothing is sent, and only `live` opens files.
+    ensures soak { (number : ℕ) → IsSoak words.now number → SoakRan number
+        A.written A.faults air.old air.new R.written R.faults report.old report.new result }
+    // With `listen` nothing is sent, only `live` opens files, and `soak` makes its input itself.
     ensures air_kept { IsListen words.now → air.new ≡ air.old }
-    ensures opener_kept { IsPlay words.now ⊎ IsListen words.now → opener.new ≡ opener.old }
-    // With Done the input was read to its end; each fault has its cause.
-    ensures end { result ≡ Status.Done → IsAtEnd (S.left input.new) }
+    ensures opener_kept { IsPlay words.now ⊎ (IsListen words.now ⊎ SpellsSoak words.now)
+        → opener.new ≡ opener.old }
+    ensures input_kept { SpellsSoak words.now → input.new ≡ input.old }
+    // With Done the input was read to its end, but with `soak`; each fault has its cause.
+    ensures end { result ≡ Status.Done → SpellsSoak words.now ⊎ IsAtEnd (S.left input.new) }
     ensures cause { HasStatusCause (S.faults input.old) (S.faults input.new)
         (O.read_faults opener.old) (O.read_faults opener.new)
         (A.faults air.old) (A.faults air.new) result }
@@ -73,6 +79,7 @@ pub fn run<W: Threads + Wait + Sync, O: Opener, S: Source + Send, A: Sink + Send
         Ok(Command::Live(live)) => {
             run_live_files(rt, alloc, &live, opener, input, air, report, gate)
         }
+        Ok(Command::Soak(number)) => run_soak(rt, alloc, number, air, report, gate),
         Err(WordsStop::Memory) => out_of_memory(report),
         Err(WordsStop::Usage) => {
             let _ = write_all(report, b"fault: usage\n");

@@ -55,6 +55,13 @@ pub fn put_whole(out: &mut String, left: &Left) -> Result<(), AllocError> {
     put_behind(out, report_of(left))
 }
 
+/// Appends code and the whole report, without the packets: how many these are depends on the order in which the jobs ran.
+pub fn put_report(out: &mut String, left: &Left) -> Result<(), AllocError> {
+    let code = left.status.code();
+    write!(out, "{code}")?;
+    put_behind(out, report_of(left))
+}
+
 /// The caller of an entry's line of a report.
 pub fn caller_of(line: &str) -> Option<u32> {
     let (who, _) = line.split_once(',')?;

@@ -1,4 +1,4 @@
-//! Rows of whole runs of `live`, as a program.
+//! Rows of whole runs of `live` and `soak`, as a program.
 //!
 //! A row is `call arguments`, and the program prints it with what it gives: `call arguments = answer`. An empty line and a line
 //! that begins with `#` are printed as they are. The head of the rows explains their calls.

@@ -1,7 +1,7 @@
-use Rattle.std.proofs.Common.{◌≡◌, refl, [], codes, inl}
+use Rattle.std.proofs.Common.{◌≡◌, refl, [], codes, inl, inr}
 use Rattle.std.specs.Prelude.{Some, None}
 use Rattle.command_words.specs.Commands.{texts}
-use Rattle.command_words.specs.Grammar.{command_of, Play, Listen, Live}
+use Rattle.command_words.specs.Grammar.{command_of, Play, Listen, Live, Soak}
 use Rattle.epg_report.specs.Texts.{fault_line}
 use Rattle.epg_report.specs.Told.{gave, told}
 use Rattle.epg_report.proofs.Reporting.{reported}
@@ -9,8 +9,10 @@ use Rattle.epg_play.proofs.PlayRunFacts.{play_memory}
 use Rattle.epg_listen.proofs.ListenRunFacts.{listen_memory}
 use Rattle.epg_live.specs.LiveRun.{LiveRun, asked}
 use Rattle.epg_live.proofs.LiveRunFacts.{live_memory, none_asked}
+use Rattle.epg_soak.specs.SoakRun.{SoakRun}
+use Rattle.epg_soak.proofs.SoakFacts.{soak_memory}
 use Rattle.epg_cli.proofs.PrintFacts.{prints}
-use Rattle.epg_cli.proofs.CommandFacts.{play_listen, play_live, listen_live, live_neither, some_none, live_is, play_usage, listen_usage, live_usage, play_open, listen_open, play_cause, listen_cause, memory_usage, memory_read}
+use Rattle.epg_cli.proofs.CommandFacts.{play_listen, play_live, listen_live, play_soak, listen_soak, live_soak, live_others, some_none, live_is, soak_is, play_usage, listen_usage, live_usage, soak_usage, play_open, listen_open, soak_open, play_cause, listen_cause, soak_cause, memory_usage, memory_read}
 use Rattle.epg_cli.proofs.top.run.Goals as goal
 
 pub returns-in-Ok-Play : goal.returns-in-Ok-Play
@@ -25,9 +27,11 @@ returns-in-Ok-Play g c =
       listen = λ spelled. absurd (play_listen command spells spelled);
       live = λ paths cycles join spelled. absurd (play_live command paths cycles join spells spelled);
       live_again = λ paths cycles join spelled. absurd (play_live command paths cycles join spells spelled);
+      soak = λ number spelled. absurd (play_soak command number spells spelled);
       air_kept = λ spelled. absurd (play_listen command spells spelled);
       opener_kept = λ spelled. refl;
-      end = run.end;
+      input_kept = λ spelled. absurd (play_soak command spelled.0 spells spelled.1);
+      end = λ done. inr (run.end done);
       cause = play_cause (g.S.Source.faults c.args.input.now) (g.S.Source.faults c.run_play.new.input) (g.O.Opener.read_faults c.args.opener.now) (g.O.Opener.read_faults c.args.opener.now)
           (g.A.Sink.faults c.args.air.now) (g.A.Sink.faults c.run_play.new.air) c.run_play.result run.known run.input_cause run.air_cause;
       open_cause = λ feed e. absurd (play_open c.run_play.result feed run.known e);
@@ -46,9 +50,11 @@ returns-in-Ok-Listen g c =
       listen = λ spelled. run;
       live = λ paths cycles join spelled. absurd (listen_live command paths cycles join spells spelled);
       live_again = λ paths cycles join spelled. absurd (listen_live command paths cycles join spells spelled);
+      soak = λ number spelled. absurd (listen_soak command number spells spelled);
       air_kept = λ spelled. refl;
       opener_kept = λ spelled. refl;
-      end = run.end;
+      input_kept = λ spelled. absurd (listen_soak command spelled.0 spells spelled.1);
+      end = λ done. inr (run.end done);
       cause = listen_cause (g.S.Source.faults c.args.input.now) (g.S.Source.faults c.run_listen.new.input) (g.O.Opener.read_faults c.args.opener.now) (g.O.Opener.read_faults c.args.opener.now)
           (g.A.Sink.faults c.args.air.now) (g.A.Sink.faults c.args.air.now) c.run_listen.result run.known run.input_cause;
       open_cause = λ feed e. absurd (listen_open c.run_listen.result feed run.known e);
@@ -75,9 +81,11 @@ returns-in-Ok-Live g c =
           live_is (λ ps n j. LiveRun ps n j opener input air report c.run_live_files.result) command read paths words.cycles cycles words.join join spells spelled run;
       live_again = λ paths cycles join spelled text tells files known.
           prints read words.cycles words.join text files input.new opener.read_old opener.read_new air report c.run_live_files.result (run.leaves text tells files known);
+      soak = λ number spelled. absurd (live_soak command read words.cycles words.join number spells spelled);
       air_kept = λ spelled. absurd (listen_live command read words.cycles words.join spelled spells);
-      opener_kept = λ spelled. absurd (live_neither command read words.cycles words.join spells spelled);
-      end = run.end;
+      opener_kept = λ spelled. absurd (live_others command read words.cycles words.join spells spelled);
+      input_kept = λ spelled. absurd (live_soak command read words.cycles words.join spelled.0 spells spelled.1);
+      end = λ done. inr (run.end done);
       cause = run.cause;
       open_cause = run.open_cause;
       report = run.report_cause;
@@ -88,6 +96,32 @@ run_live_files-requires-clause-few g c κs within = (rw c.in-Ok-Live.field-0-is 
 
 pub run_live_files-requires-clause-cycles : goal.run_live_files-requires-clause-cycles
 run_live_files-requires-clause-cycles g c κs within = (rw c.in-Ok-Live.field-0-is at c.in-Ok-Live.ensures.within).1
+
+pub returns-in-Ok-Soak : goal.returns-in-Ok-Soak
+returns-in-Ok-Soak g c =
+    let command = command_of (texts c.args.words.now) in
+    let read = c.in-Ok-Soak.number in
+    let spells : command ≡ Some (Soak read) = rw c.in-Ok-Soak.field-0-is at c.in-Ok-Soak.ensures.command in
+    let run = c.run_soak.ensures in
+    let air = told g.A.Sink.written g.A.Sink.faults c.args.air.now c.run_soak.new.air in
+    let report = told g.R.Sink.written g.R.Sink.faults c.args.report.now c.run_soak.new.report in
+    record {
+      usage = (λ e. absurd (soak_usage c.run_soak.result run.known e), λ none. absurd (some_none command (Soak read) spells none));
+      usage_leaves = λ e. absurd (soak_usage c.run_soak.result run.known e);
+      play = λ spelled. absurd (play_soak command read spelled spells);
+      listen = λ spelled. absurd (listen_soak command read spelled spells);
+      live = λ paths cycles join spelled. absurd (live_soak command paths cycles join read spelled spells);
+      live_again = λ paths cycles join spelled. absurd (live_soak command paths cycles join read spelled spells);
+      soak = λ number spelled. soak_is (λ n. SoakRun n air report c.run_soak.result) command read number spells spelled run;
+      air_kept = λ spelled. absurd (listen_soak command read spelled spells);
+      opener_kept = λ spelled. refl;
+      input_kept = λ spelled. refl;
+      end = λ done. inl (read, spells);
+      cause = soak_cause (g.S.Source.faults c.args.input.now) (g.S.Source.faults c.args.input.now) (g.O.Opener.read_faults c.args.opener.now) (g.O.Opener.read_faults c.args.opener.now)
+          (g.A.Sink.faults c.args.air.now) (g.A.Sink.faults c.run_soak.new.air) c.run_soak.result run.known run.air_cause;
+      open_cause = λ feed e. absurd (soak_open c.run_soak.result feed run.known e);
+      report = run.report_cause;
+    }
 
 pub returns-in-Err-Memory : goal.returns-in-Err-Memory
 returns-in-Err-Memory g c =
@@ -105,9 +139,11 @@ returns-in-Err-Memory g c =
       listen = λ spelled. listen_memory input report c.out_of_memory.result is;
       live = λ paths cycles join spelled. live_memory paths cycles join opener input air report c.out_of_memory.result is (none_asked paths tried);
       live_again = λ paths cycles join spelled text tells files known. inl is;
+      soak = λ number spelled. soak_memory number air report c.out_of_memory.result is;
       air_kept = λ spelled. refl;
       opener_kept = λ spelled. refl;
-      end = run.end;
+      input_kept = λ spelled. refl;
+      end = λ done. inr (run.end done);
       cause = run.cause;
       open_cause = run.open_cause;
       report = run.report_cause;
@@ -129,8 +165,10 @@ returns-in-Err-Usage g c =
       listen = λ spelled. absurd (some_none command Listen spelled none);
       live = λ paths cycles join spelled. absurd (some_none command (Live paths cycles join) spelled none);
       live_again = λ paths cycles join spelled. absurd (some_none command (Live paths cycles join) spelled none);
+      soak = λ number spelled. absurd (some_none command (Soak number) spelled none);
       air_kept = λ spelled. absurd (some_none command Listen spelled none);
       opener_kept = λ spelled. refl;
+      input_kept = λ spelled. refl;
       end = λ e. cc;
       cause = tt;
       open_cause = λ feed e. cc;

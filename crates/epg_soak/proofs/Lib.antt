@@ -1,0 +1,3 @@
+mod Counting
+mod JournalCounts
+pub mod SoakFacts

@@ -1,0 +1,4 @@
+pub mod Files
+pub mod Summary
+pub mod SoakRun
+pub mod Load

@@ -1,0 +1,33 @@
+-- What a run over the sources of a load met.
+use Rattle.std.specs.Prelude.{◌≡◌, ℕ, List, Option, Some}
+use Rattle.epg_report.specs.declared.status.Status.{Status}
+use Rattle.epg_report.specs.declared.status.Status.TheVariants.{Done, OpenFault, WriteFault, Memory}
+use Rattle.epg_report.specs.declared.status.Outlet.TheVariants.{Air}
+use Rattle.epg_report.specs.Told.{ReportTaken}
+use Rattle.epg_live.specs.declared.reporting.LiveResult.{LiveResult}
+use Rattle.epg_live.specs.LiveRun.{OpenerAsked}
+use Rattle.epg_live.specs.Met.{LiveMet}
+use Rattle.workload_runs.specs.Runs.{soak_text}
+use Rattle.epg_soak.specs.Files.{soak_files, soak_paths}
+
+-- an opener of the load's files, none of which ever failed in a read, was asked
+pub record IsOfLoad (number : ℕ) (opener : OpenerAsked) : Type 0 where
+  pub files : opener.files ≡ Some (soak_files number)
+  pub before : opener.read_old ≡ 0
+  pub now : opener.read_new ≡ 0
+
+-- A run of `live` over the load's input and files, with three cycles, heard from packet 0 on.
+pub record LoadMet (number : ℕ) (air : ReportTaken) (run : LiveResult) : Type 0 where
+  pub opener : OpenerAsked
+  pub of_load : IsOfLoad number opener
+  pub left : Option (List ℕ)
+  pub met : LiveMet soak_paths 3 0 opener (record { old = Some soak_text; new = left; faults_old = 0; faults_new = 0 }) air run
+
+-- What such a run may meet, whose sources never fail and are whole: Done, a fault of the air, and want of memory, be it for the copy of a
+-- feed's text.
+abbrev pub IsMetByLoad : Status → Type 0
+IsMetByLoad Done = Unit {0}
+IsMetByLoad (WriteFault Air) = Unit {0}
+IsMetByLoad (OpenFault feed) = Unit {0}
+IsMetByLoad Memory = Unit {0}
+IsMetByLoad status = ⊥
