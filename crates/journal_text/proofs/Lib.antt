@@ -6,3 +6,4 @@ pub mod EntryRows
 pub mod EntryFields
 pub mod EntryBack
 pub mod Journals
+mod Quoting

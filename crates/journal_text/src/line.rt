@@ -1,15 +1,13 @@
 // One line of fields.
-ghost use Rattle.std.specs.Prelude.{◌≡◌, ◌++◌, OnOk};
-ghost use Rattle.csv.specs.Writing.{default_writer, field_text, needs_quotes};
+ghost use Rattle.std.specs.Prelude.{◌≡◌, ◌++◌, ◌∷◌, [], OnOk};
+ghost use Rattle.csv.specs.Writing.{default_writer, escaped, field_text, needs_quotes, quoted};
 
-use csv::WriterBuilder;
 use std::alloc::{AllocError, Global};
 use std::marker::Model;
 
 /// A line in the making: fields, as csv writes those of a record. It parts them by commas, and quotes those that call for it.
 #[derive(Drop)]
 pub(crate) struct LineWriter {
-    alloc: Global,
     text: Vec<u8>,
     fields: u8,
 }
@@ -31,7 +29,6 @@ impl LineWriter {
         ensures { result ≡ no_fields }
     {
         LineWriter {
-            alloc,
             text: Vec::new(alloc),
             fields: 0,
         }
@@ -45,7 +42,7 @@ impl LineWriter {
         if self.fields > 0 {
             self.text.push(b',')?;
         }
-        put_field(self.alloc, &mut self.text, bytes)?;
+        put_field(&mut self.text, bytes)?;
         self.fields += 1;
         Ok(())
     }
@@ -77,27 +74,36 @@ fn needs_quotes(bytes: &[u8]) -> bool
         .any(|b| matches!(*b, b',' | b'"' | b'\r' | b'\n'))
 }
 
-// Appends a field. One that needs no quotes is its own text: csv would clear its buffers anew for it.
-fn put_field(alloc: Global, out: &mut Vec<u8>, bytes: &[u8]) -> Result<(), AllocError>
+// Appends a field, in quotes where it calls for them.
+fn put_field(out: &mut Vec<u8>, bytes: &[u8]) -> Result<(), AllocError>
     ensures { OnOk result (out.new.items ≡ out.old.items ++ field_text default_writer bytes.now) }
 {
     if needs_quotes(bytes) {
-        put_by_csv(alloc, out, bytes)
+        put_quoted(out, bytes)
     } else {
         out.extend_from_slice(bytes)
     }
 }
 
-// Appends the text of a field as csv writes it.
-fn put_by_csv(alloc: Global, out: &mut Vec<u8>, bytes: &[u8]) -> Result<(), AllocError>
-    ensures { OnOk result (out.new.items ≡ out.old.items ++ field_text default_writer bytes.now) }
+// Appends a field in quotes, each quote in it twice.
+fn put_quoted(out: &mut Vec<u8>, bytes: &[u8]) -> Result<(), AllocError>
+    ensures { OnOk result (out.new.items ≡ out.old.items ++ quoted default_writer bytes.now) }
 {
-    let mut writer = WriterBuilder::new().from_writer(Vec::new(alloc));
-    if writer.write_field(bytes).is_err() {
-        return Err(AllocError);
+    out.push(b'"')?;
+    for b in bytes {
+        put_escaped(out, *b)?;
     }
-    let Ok(text) = writer.into_inner() else {
-        return Err(AllocError);
-    };
-    out.extend_from_slice(&text)
+    out.push(b'"')?;
+    Ok(())
+}
+
+// Appends a byte of a field in quotes.
+fn put_escaped(out: &mut Vec<u8>, b: u8) -> Result<(), AllocError>
+    ensures { OnOk result (out.new.items ≡ out.old.items ++ escaped default_writer (b ∷ [])) }
+{
+    if b == b'"' {
+        out.push(b'"')?;
+    }
+    out.push(b)?;
+    Ok(())
 }
