@@ -23,7 +23,7 @@ use Rattle.headend_live.specs.declared.watched.LiveEnd.{LiveEnd}
 use Rattle.headend_jobs.specs.Back.{lines_back}
 use Rattle.headend_jobs.specs.Callers.{CallerRead, CommandsAre, FeedsRead}
 use Rattle.headend_jobs.specs.Live.{FeedsRan, LastMade, first_stop, halts, or_feed, run_stop}
-use Rattle.headend_live.specs.Watched.{LiveRan, watched_stop}
+use Rattle.headend_live.specs.Watched.{WatchedRan, watched_stop}
 use Rattle.std.specs.Io.KnownBytes.{IsAtEnd}
 use Rattle.epg_report.specs.declared.status.Status.{Status}
 use Rattle.epg_report.specs.declared.status.Status.TheVariants.{Done, Memory}
@@ -125,7 +125,7 @@ halted_none (Err e) stop feeds who final sent last = last
 
 module _ {F S : Type 0} (left : F → Option (List ℕ)) (faults : F → ℕ) (is_same : F → F → Type 0) (leftS : S → Option (List ℕ)) (faultsS : S → ℕ) (is_sameS : S → S → Type 0) where
   pub jobs_ran : (mux : Mux) (plan : LivePlan) (feeds : List (Reading F)) (control : Reading S) (text : List ℕ) (paths : List (List ℕ)) (files : Files) (before now : Option (List ℕ)) (air_before air_now feeds_before feeds_now : ℕ)
-      (end : LiveEnd F S) (source : S) (met : Status) → LiveRan left faults is_same leftS faultsS is_sameS mux plan feeds control before now air_before air_now end → AreOpened left faults (Some files) paths feeds → control.stop ≡ None
+      (end : LiveEnd F S) (source : S) (met : Status) → WatchedRan left faults is_same leftS faultsS is_sameS mux plan feeds control before now air_before air_now end → AreOpened left faults (Some files) paths feeds → control.stop ≡ None
       → HasRead leftS text mux control → IfFailed faults (Rose feeds_before feeds_now) end.feeds.items → met ≡ live_status end.stop → source ≡ end.control.source
       → (met ≡ Memory) ⊎ Ran paths plan.cycles plan.join text files (leftS source) feeds_before feeds_now before now end.desk.entries (record { dones = end.dones; guide = end.heard }) met
   jobs_ran mux plan feeds control text paths files before now air_before air_now feeds_before feeds_now end source met ran opened going read rose is back =
@@ -174,7 +174,7 @@ module _ {F S : Type 0} (left : F → Option (List ℕ)) (faults : F → ℕ) (i
 
   -- each fault has its cause
   pub jobs_caused : (mux : Mux) (plan : LivePlan) (feeds : List (Reading F)) (control : Reading S) (paths : List (List ℕ)) (known : Option Files) (before now : Option (List ℕ)) (air_before air_now feeds_before feeds_now : ℕ)
-      (end : LiveEnd F S) (source : S) (met : Status) → LiveRan left faults is_same leftS faultsS is_sameS mux plan feeds control before now air_before air_now end → AreOpened left faults known paths feeds → control.stop ≡ None
+      (end : LiveEnd F S) (source : S) (met : Status) → WatchedRan left faults is_same leftS faultsS is_sameS mux plan feeds control before now air_before air_now end → AreOpened left faults known paths feeds → control.stop ≡ None
       → IfFailed faults (Rose feeds_before feeds_now) end.feeds.items → met ≡ live_status end.stop → source ≡ end.control.source
       → HasStatusCause (faultsS control.source) (faultsS source) feeds_before feeds_now air_before air_now met
   jobs_caused mux plan feeds control paths known before now air_before air_now feeds_before feeds_now end source met ran opened going rose is back =
@@ -189,13 +189,13 @@ module _ {F S : Type 0} (left : F → Option (List ℕ)) (faults : F → ℕ) (i
 
   -- with Done the control's lines were read to their end
   pub jobs_ended : (mux : Mux) (plan : LivePlan) (feeds : List (Reading F)) (control : Reading S) (before now : Option (List ℕ)) (air_before air_now : ℕ) (end : LiveEnd F S) (source : S) (met : Status)
-      → LiveRan left faults is_same leftS faultsS is_sameS mux plan feeds control before now air_before air_now end → met ≡ live_status end.stop → source ≡ end.control.source → met ≡ Done → IsAtEnd (leftS source)
+      → WatchedRan left faults is_same leftS faultsS is_sameS mux plan feeds control before now air_before air_now end → met ≡ live_status end.stop → source ≡ end.control.source → met ≡ Done → IsAtEnd (leftS source)
   jobs_ended mux plan feeds control before now air_before air_now end source met ran is back done =
       subst (λ (s : S). IsAtEnd (leftS s)) (sym (back ∙ ap (λ (r : Reading S). r.source) ran.control_is))
       (ran.did.control_did.end (done_control ran.wanting end.stop ran.sent ran.did.control.stop (first_stop ran.did.feeds) ran.stop_is (sym is ∙ done)))
 
   -- the input is the one that was lent
   pub jobs_same : (mux : Mux) (plan : LivePlan) (feeds : List (Reading F)) (control : Reading S) (before now : Option (List ℕ)) (air_before air_now : ℕ) (end : LiveEnd F S) (source : S)
-      → LiveRan left faults is_same leftS faultsS is_sameS mux plan feeds control before now air_before air_now end → source ≡ end.control.source → is_sameS control.source source
+      → WatchedRan left faults is_same leftS faultsS is_sameS mux plan feeds control before now air_before air_now end → source ≡ end.control.source → is_sameS control.source source
   jobs_same mux plan feeds control before now air_before air_now end source ran back =
       subst (λ (s : S). is_sameS control.source s) (sym (back ∙ ap (λ (r : Reading S). r.source) ran.control_is)) ran.did.control_did.same

@@ -56,7 +56,7 @@ watched_stop wanting stop = and_stop (wanting_stop wanting) stop
 -- air, control, feeds by number. The readers are as the jobs left them, in the order of the feeds. Where the air tells its bytes, the
 -- completions are those of its whole packets from one on, or a front of them where the stop is want of memory. The guide is told exactly where
 -- there is no stop (`told`), and then is the one that these packets give (`whole`).
-pub record LiveRan {F S : Type 0} (left : F → Option (List ℕ)) (faults : F → ℕ) (is_same : F → F → Type 0) (leftS : S → Option (List ℕ)) (faultsS : S → ℕ) (is_sameS : S → S → Type 0)
+pub record WatchedRan {F S : Type 0} (left : F → Option (List ℕ)) (faults : F → ℕ) (is_same : F → F → Type 0) (leftS : S → Option (List ℕ)) (faultsS : S → ℕ) (is_sameS : S → S → Type 0)
     (mux : Mux) (plan : LivePlan) (feeds : List (Reading F)) (control : Reading S) (before now : Option (List ℕ)) (faults_before faults_now : ℕ) (end : LiveEnd F S) : Type 0 where
   pub mux_is : end.desk.mux ≡ mux
   pub turns : TableId

@@ -10,7 +10,7 @@ ghost use Rattle.journal_screen.specs.Shown.{IsAsRead, SentExact};
 ghost use Rattle.guide_receiver.specs.Guides.{guide_of};
 ghost use Rattle.air_monitor.specs.Heard.{HasTaken, HearsBy, WasHeard};
 ghost use Rattle.headend_jobs.specs.Callers.{HasRun};
-ghost use Rattle.headend_live.specs.Watched.{LiveRan, wanting_stop, watched_stop};
+ghost use Rattle.headend_live.specs.Watched.{WatchedRan, wanting_stop, watched_stop};
 ghost use Rattle.headend_jobs.specs.Live.{run_stop};
 
 use air_monitor::{DoneLines, Monitor, MonitorLog};
@@ -186,7 +186,7 @@ pub fn run_live<
     requires sound { IsSound mux }
     requires few { length feeds.items ≤ 16 }
     requires cycles { plan.cycles ≤ 1000 }
-    ensures ran { IfOk result (λ end. LiveRan F.left F.faults F.same S.left S.faults S.same mux plan feeds.items control (A.written air.old) (A.written air.new) (A.faults air.old) (A.faults air.new) end) }
+    ensures ran { IfOk result (λ end. WatchedRan F.left F.faults F.same S.left S.faults S.same mux plan feeds.items control (A.written air.old) (A.written air.new) (A.faults air.old) (A.faults air.new) end) }
     // What was sent is coherent: of any part of its packets no content is ever completed from two airings.
     ensures coherent { IfOk result (λ end. IsSoundWithIds mux → HasTypedEdits end.desk.entries → SentCoherent (airings mux end.desk.entries) (A.written air.old) (A.written air.new)) }
     // And it is spaced: sections of tier Fast and Near repeat within their bounds.
