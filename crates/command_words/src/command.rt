@@ -40,9 +40,10 @@ pub enum WordsStop {
 
 /// The command that words spell; the program's name is not among them.
 ///
-/// `play` and `listen` have no further word. `soak` has one, the number of its load, 0 to 999,999,999. `live` has, in any order, `--feed PATH` 1 to 16 times, `--cycles N` once and
-/// `--join J` once. An option is one word with `=`, or two words, of which the second does not begin with `-`. A path is not
-/// empty and is not `-`. A number has one to nine digits and lies in its range. There are no short spellings.
+/// `play` and `listen` have no further word. `soak` has one, the number of its load, 0 to 999,999,999. `live` has, in any order,
+/// `--feed PATH` 1 to 16 times, `--cycles N` once and `--join J` once. An option is one word with `=`, or two words, of which the
+/// second does not begin with `-`. A path is not empty and is not `-`. A number has one to nine digits and lies in its range. There
+/// are no short spellings.
 ///
 /// `Usage` comes exactly where the words spell no command. `Memory` comes only where they do and memory is wanting.
 pub fn parse_words(alloc: Global, words: &[String]) -> Result<Command, WordsStop>

@@ -25,7 +25,8 @@ use std::sync::Wait;
 use std::thread::Threads;
 
 /// Does all that the program does: it takes the words of the command line without the program's name, what opens files, the input,
-/// the air, the report, and the gate that the jobs of `live` and `soak` pass. Which command the words spell is told by `command_of` of `command_words`.
+/// the air, the report, and the gate that the jobs of `live` and `soak` pass. Which command the words spell is told by `command_of` of
+/// `command_words`.
 pub fn run<W: Threads + Wait + Sync, O: Opener, S: Source + Send, A: Sink + Send, R: Sink, G: Gate>(
     rt: &W,
     alloc: Global,

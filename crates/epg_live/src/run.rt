@@ -193,7 +193,8 @@ pub fn run_files<W: Threads + Wait + Sync, O: Opener, S: Source + Send, A: Sink 
 ) -> Result<LiveResult, AllocError>
     requires few { length words.now.feeds.items ≤ 16 }
     requires cycles { words.now.cycles ≤ 1000 }
-    ensures run { IfOk result (LiveRanTo (texts words.now.feeds.items) words.now.cycles words.now.join
+    ensures run { IfOk result (LiveRanTo (texts words.now.feeds.items)
+        words.now.cycles words.now.join
         O.files O.tried O.faults O.read_faults opener.old opener.new
         S.left S.faults input.old input.new A.written A.faults air.old air.new) }
     ensures asked { OnErr result (HasAsked (texts words.now.feeds.items)

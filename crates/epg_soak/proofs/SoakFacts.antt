@@ -37,8 +37,8 @@ use Rattle.workload_runs.proofs.Texts.{made_done}
 use Rattle.workload_runs.proofs.Journals.{done_counted, runs_whole}
 use Rattle.epg_soak.specs.Files.{soak_files, soak_paths}
 use Rattle.epg_soak.specs.Summary.{count_line, guide_lines, soak_summary, summary_text}
-use Rattle.epg_soak.specs.Load.{IsMetByLoad, LoadMet}
-use Rattle.epg_soak.specs.SoakRun.{IsOfSoak, LeftSoak, SoakRun, has_ended, run_summary}
+use Rattle.epg_soak.specs.Load.{IsMetByLoad, LoadMet, is_reported}
+use Rattle.epg_soak.specs.SoakRun.{IsOfSoak, LeftSoak, SoakRun, run_summary}
 
 -- ---- what a run of the load may meet
 
@@ -132,7 +132,7 @@ module _ (number : ℕ) (air report : ReportTaken) (run : LiveResult) (status : 
   RanOfLoad met = Ran soak_paths 3 0 soak_text (soak_files number) load.left 0 0 air.old air.new journal run.heard met
 
   -- a run that met Done, or a fault of the air, has run
-  jobs_ran : (met : Status) → has_ended met ≡ true → IsMetByLoad met → MetOfLoad number load.left air run met → RanOfLoad met
+  jobs_ran : (met : Status) → is_reported met ≡ true → IsMetByLoad met → MetOfLoad number load.left air run met → RanOfLoad met
   jobs_ran Done ended is (inl memory) = cc memory
   jobs_ran Done ended is (inr (inl none)) = absurd none.why
   jobs_ran Done ended is (inr (inr ran)) = ran
@@ -175,7 +175,7 @@ module _ (number : ℕ) (air report : ReportTaken) (run : LiveResult) (status : 
   abbrev Ends : Status → Type 0
   Ends met = ReportEnds met (run_summary met journal run.heard) report status
 
-  left_soak : (met : Status) → has_ended met ≡ true → IsMetByLoad met → MetOfLoad number load.left air run met → Ends met → LeftSoak number air report status
+  left_soak : (met : Status) → is_reported met ≡ true → IsMetByLoad met → MetOfLoad number load.left air run met → Ends met → LeftSoak number air report status
   left_soak met ended is has ends =
       let ran = jobs_ran met ended is has in
       record {
@@ -189,7 +189,7 @@ module _ (number : ℕ) (air report : ReportTaken) (run : LiveResult) (status : 
         reported = ends;
       }
 
-  by : (met : Status) → has_ended met ≡ true → IsMetByLoad met → MetOfLoad number load.left air run met → HasStatusCause 0 0 0 0 air.faults_old air.faults_new met → Ends met → SoakRun number air report status
+  by : (met : Status) → is_reported met ≡ true → IsMetByLoad met → MetOfLoad number load.left air run met → HasStatusCause 0 0 0 0 air.faults_old air.faults_new met → Ends met → SoakRun number air report status
   by Done ended is has cause (inl (took, same)) = record {
     leaves = inr (left_soak Done ended is has (inl (took, same)));
     summary = λ done sent knows. subst (Appends report.old report.new) (append-nil (summary_text journal run.heard.guide) ∙ summary_said has (jobs_ran Done ended is has) sent knows) took;
@@ -236,7 +236,7 @@ soak_memory number air report status e = record {
 }
 
 pub soak_run : (number : ℕ) (air report : ReportTaken) (run : LiveResult) (status : Status) → LoadMet number air run
-    → (status ≡ Memory) ⊎ ((has_ended run.met ≡ true) × ReportEnds run.met (run_summary run.met (entries_of run.desk) run.heard) report status) → SoakRun number air report status
+    → (status ≡ Memory) ⊎ ((is_reported run.met ≡ true) × ReportEnds run.met (run_summary run.met (entries_of run.desk) run.heard) report status) → SoakRun number air report status
 soak_run number air report run status load (inl memory) = soak_memory number air report status memory
 soak_run number air report run status load (inr (ended, ends)) =
     by number air report run status load run.met ended (met_by_load number air run load) (met_of number air run load) (caused number air run load) ends

@@ -1,5 +1,5 @@
 -- What a run over the sources of a load met.
-use Rattle.std.specs.Prelude.{◌≡◌, ℕ, List, Option, Some}
+use Rattle.std.specs.Prelude.{◌≡◌, ℕ, Bool, true, false, List, Option, Some}
 use Rattle.epg_report.specs.declared.status.Status.{Status}
 use Rattle.epg_report.specs.declared.status.Status.TheVariants.{Done, OpenFault, WriteFault, Memory}
 use Rattle.epg_report.specs.declared.status.Outlet.TheVariants.{Air}
@@ -31,3 +31,9 @@ IsMetByLoad (WriteFault Air) = Unit {0}
 IsMetByLoad (OpenFault feed) = Unit {0}
 IsMetByLoad Memory = Unit {0}
 IsMetByLoad status = ⊥
+
+-- whether a run that met this has something to report; else memory was wanting
+abbrev pub is_reported : Status → Bool
+is_reported Done = true
+is_reported (WriteFault outlet) = true
+is_reported status = false

@@ -1,5 +1,5 @@
 -- What a run of `soak` promises.
-use Rattle.std.specs.Prelude.{◌≡◌, ◌⊎◌, ℕ, Bool, true, false, List, [], Option, Some}
+use Rattle.std.specs.Prelude.{◌≡◌, ◌⊎◌, ℕ, List, [], Option, Some}
 use Rattle.std.specs.Io.KnownBytes.{Appends}
 use Rattle.si_causes.specs.Causes.{Rose}
 use Rattle.journal_model.specs.declared.step.Entry.{Entry}
@@ -22,12 +22,6 @@ abbrev pub run_summary : Status → List Entry → HeardAir → List ℕ
 run_summary Done journal heard = summary_text journal heard.guide
 run_summary met journal heard = []
 
--- whether a run that met this has something to report; else memory was wanting
-abbrev pub has_ended : Status → Bool
-has_ended Done = true
-has_ended (WriteFault outlet) = true
-has_ended status = false
-
 -- only the air or the report can fail, and memory be wanting
 abbrev pub IsOfSoak : Status → Type 0
 IsOfSoak Done = Unit {0}
@@ -35,7 +29,7 @@ IsOfSoak (WriteFault outlet) = Unit {0}
 IsOfSoak Memory = Unit {0}
 IsOfSoak status = ⊥
 
--- What a run of the load with this number leaves. Its three cycles are heard from packet 0 on.
+-- What a run of the load with this number leaves. Its three cycles, and the two of its end, are heard from packet 0 on.
 pub record LeftSoak (number : ℕ) (air report : ReportTaken) (status : Status) : Type 0 where
   pub journal : List Entry
   pub heard : HeardAir

@@ -36,7 +36,7 @@ guide_lines guide = count_line (codes "events") (events_shown guide) ++ guide_li
 abbrev pub summary_text : List Entry → Option Heard → List ℕ
 summary_text journal guide = codes "services 8\n" ++ journal_lines journal ++ guide_lines guide
 
--- The summary of the load with this number: each edit is done, and the guide is whole and shows an event for each item of the feeds' texts.
+-- The summary of the load with this number: each edit is done, and the guide is whole and shows as many events as the feeds' texts have items.
 abbrev pub soak_summary : ℕ → List ℕ
 soak_summary number =
     codes "services 8\n" ++ count_line (codes "edits") 120 ++ count_line (codes "done") 120 ++ count_line (codes "refused") 0

@@ -3,8 +3,8 @@ ghost use Rattle.std.specs.Prelude.{◌≡◌, ◌≤◌, ◌⊎◌, ◌++◌, I
 ghost use Rattle.epg_report.specs.Texts.{CanBeSaid, fault_lines};
 ghost use Rattle.epg_report.specs.Told.{told};
 ghost use Rattle.epg_live.specs.Ends.{ReportEnds, entries_of};
-ghost use Rattle.epg_soak.specs.Load.{IsMetByLoad};
-ghost use Rattle.epg_soak.specs.SoakRun.{SoakRan, has_ended, run_summary};
+ghost use Rattle.epg_soak.specs.Load.{IsMetByLoad, is_reported};
+ghost use Rattle.epg_soak.specs.SoakRun.{SoakRan, run_summary};
 
 use crate::load::run_load;
 use crate::summary::put_summary;
@@ -17,9 +17,9 @@ use std::sync::Wait;
 use std::thread::Threads;
 
 // Whether a run that met this has something to report; else memory was wanting, be it for the copy of a feed's text.
-fn has_ended(met: Status) -> bool
+fn is_reported(met: Status) -> bool
     requires { IsMetByLoad met }
-    ensures { result ≡ has_ended met }
+    ensures { result ≡ is_reported met }
 {
     match met {
         Status::Done | Status::WriteFault(_) => true,
@@ -58,11 +58,11 @@ fn report_of(alloc: Global, run: &LiveResult) -> Result<Vec<u8>, AllocError>
 fn finish<R: Sink>(alloc: Global, run: &LiveResult, report: &mut R) -> Status
     requires said { CanBeSaid run.now.met }
     requires met { IsMetByLoad run.now.met }
-    ensures ends { (result ≡ Status.Memory) ⊎ ((has_ended run.now.met ≡ true)
+    ensures ends { (result ≡ Status.Memory) ⊎ ((is_reported run.now.met ≡ true)
         × ReportEnds run.now.met (run_summary run.now.met (entries_of run.now.desk) run.now.heard)
         (told R.written R.faults report.old report.new) result) }
 {
-    if !has_ended(run.met) {
+    if !is_reported(run.met) {
         return out_of_memory(report);
     }
     let Ok(text) = report_of(alloc, run) else {
@@ -73,7 +73,7 @@ fn finish<R: Sink>(alloc: Global, run: &LiveResult, report: &mut R) -> Status
 }
 
 /// Runs the load with this number, 0 to 999,999,999: makes the texts of its input and of its two feeds, runs them as `live` does, with
-/// three cycles, and reports the summary. The same number gives the same summary.
+/// three cycles, and reports the summary. With Done the same number gives the same summary.
 pub fn run_soak<W: Threads + Wait + Sync, A: Sink + Send, R: Sink, G: Gate>(
     rt: &W,
     alloc: Global,
