@@ -1,6 +1,6 @@
 -- Sections whose neighbours share packets: the first stretch and what stands behind it, and that the packets carry the sections.
 use Rattle.std.proofs.Common.{◌≡◌, ℕ, zero, suc, ◌+◌, ◌<◌, ◌≤◌, List, [], ◌∷◌, ◌++◌, Bool, true, false, Option, Some, None, length, map, refl, sym, ap, ap₂, ◌∙◌, subst, arith}
-use Rattle.std.specs.Prelude.{◌==◌, if◌then◌else◌, filter_map}
+use Rattle.std.specs.Prelude.{◌==◌, if◌then◌else◌, flat_map, filter_map}
 use Rattle.std.specs.List.{AllByRecursion, cons_option}
 use Rattle.std.proofs.lemmas.Bool.{eqb-true}
 use Rattle.std.proofs.lemmas.List.Elements.{filter_map-append}
@@ -90,22 +90,23 @@ behind_some pid (s ∷ ss) h = go (s.pid == pid) (behind_some pid ss h.1)
 front_sections : (pid q : ℕ) (b : Bool) → (q == pid) ≡ b → (ss : List Sent) → filter_map (sent_on pid) (front_on q ss) ≡ (if b then bytes_of (front_on q ss) else [])
 front_sections pid q true e [] = refl
 front_sections pid q false e [] = refl
-front_sections pid q b e (s ∷ ss) = go (s.pid == q) refl
+front_sections pid q b e (s ∷ ss) = go (s.pid == q) refl (front_sections pid q b e ss)
   where
-    go : (c : Bool) → (s.pid == q) ≡ c → filter_map (sent_on pid) (if c then s ∷ front_on q ss else []) ≡ (if b then bytes_of (if c then s ∷ front_on q ss else []) else [])
-    go true f =
+    at : (d : Bool) → (q == pid) ≡ d → filter_map (sent_on pid) (front_on q ss) ≡ (if d then bytes_of (front_on q ss) else [])
+        → cons_option (if q == pid then Some s.bytes else None) (filter_map (sent_on pid) (front_on q ss)) ≡ (if d then s.bytes ∷ bytes_of (front_on q ss) else [])
+    at true g rec = ap (λ (d : Bool). cons_option (if d then Some s.bytes else None) (filter_map (sent_on pid) (front_on q ss))) g ∙ ap (λ (l : List (List ℕ)). s.bytes ∷ l) rec
+    at false g rec = ap (λ (d : Bool). cons_option (if d then Some s.bytes else None) (filter_map (sent_on pid) (front_on q ss))) g ∙ rec
+
+    none : (d : Bool) → List (List ℕ) → [] ≡ (if d then [] else let l : List (List ℕ) = [] in l)
+    none true l = refl
+    none false l = refl
+
+    go : (c : Bool) → (s.pid == q) ≡ c → filter_map (sent_on pid) (front_on q ss) ≡ (if b then bytes_of (front_on q ss) else [])
+        → filter_map (sent_on pid) (if c then s ∷ front_on q ss else []) ≡ (if b then bytes_of (if c then s ∷ front_on q ss else []) else [])
+    go true f rec =
         ap (λ (n : ℕ). cons_option (if n == pid then Some s.bytes else None) (filter_map (sent_on pid) (front_on q ss))) (eqb-true s.pid q f)
-        ∙ at b e (front_sections pid q b e ss)
-      where
-        at : (d : Bool) → (q == pid) ≡ d → filter_map (sent_on pid) (front_on q ss) ≡ (if d then bytes_of (front_on q ss) else [])
-            → cons_option (if q == pid then Some s.bytes else None) (filter_map (sent_on pid) (front_on q ss)) ≡ (if d then s.bytes ∷ bytes_of (front_on q ss) else [])
-        at true g rec = ap (λ (d : Bool). cons_option (if d then Some s.bytes else None) (filter_map (sent_on pid) (front_on q ss))) g ∙ ap (λ (l : List (List ℕ)). s.bytes ∷ l) rec
-        at false g rec = ap (λ (d : Bool). cons_option (if d then Some s.bytes else None) (filter_map (sent_on pid) (front_on q ss))) g ∙ rec
-    go false f = none b
-      where
-        none : (d : Bool) → [] ≡ (if d then [] else [])
-        none true = refl
-        none false = refl
+        ∙ at b e rec
+    go false f rec = none b []
 
 -- on each PID the packets carry the sections of that PID, in their order; n bounds how many sections there are
 dense_within : (n pid : ℕ) (ss : List Sent) → length ss ≤ n → HaveSome ss → Carries (of_pid pid (each_dense ss)) (filter_map (sent_on pid) ss)

@@ -87,7 +87,7 @@ are_packed (suc m) [] [] all h = record { have_room = tt; ended = refl; all = re
 are_packed (suc m) [] (s ∷ ss) all h =
     one_more m [] (s ∷ ss) (begins 0 (s ∷ ss))
     (are_packed m (left_by [] (beginning 0 (s ∷ ss))) (waiting 0 (s ∷ ss)) (waiting-have 0 (s ∷ ss) all)
-      (smaller m [] (s ∷ ss) (some_begins s ss all.0) h))
+    (smaller m [] (s ∷ ss) (some_begins s ss all.0) h))
 are_packed (suc m) (b ∷ rest) ss all h =
     let n = length (b ∷ rest) in
     let some : 0 < n + length (joined (beginning n ss)) = omega arith in
