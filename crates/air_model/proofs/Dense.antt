@@ -5,7 +5,7 @@ use Rattle.std.specs.List.{AllByRecursion, cons_option}
 use Rattle.std.proofs.lemmas.Bool.{eqb-true}
 use Rattle.std.proofs.lemmas.List.Elements.{filter_map-append}
 use Rattle.ts_packets.specs.Packets.{Piece, pieces, stretch, Carries}
-use Rattle.ts_packets.specs.Bytes.{Packet, packets_dense}
+use Rattle.ts_packets.specs.Bytes.{Packet, packet_on, packets_dense}
 use Rattle.ts_packets.specs.Counting.{of_pid}
 use Rattle.ts_packets.proofs.Carrying.{Carries-none, Carries-append}
 use Rattle.ts_packets.proofs.Dense.{HaveBytes, Carries-stretch}
@@ -21,20 +21,9 @@ use Rattle.cycle_plan.specs.Sections.{planned}
 use Rattle.version_book.specs.Airings.{AiredTables, version_at}
 use Rattle.si_lists.proofs.Lists.{all_append}
 use Rattle.air_model.specs.Air.{Sent, sent_section, sections_of, table_sections, tdt, before_tdt, behind_tdt, sections_once, weights_once, cycle_sections, sent_on}
+use Rattle.air_model.proofs.Counted.{PidsFit}
 use Rattle.air_model.proofs.Planned.{all_at}
-use Rattle.air_model.specs.Making.{in_front, stretches, stretch_packets, each_dense}
-
--- the sections of a PID that stand in front, and those behind them
-abbrev pub front_on : ℕ → List Sent → List Sent
-front_on pid [] = []
-front_on pid (s ∷ ss) = if s.pid == pid then s ∷ front_on pid ss else []
-
-abbrev pub behind_on : ℕ → List Sent → List Sent
-behind_on pid [] = []
-behind_on pid (s ∷ ss) = if s.pid == pid then behind_on pid ss else s ∷ ss
-
-abbrev pub bytes_of : List Sent → List (List ℕ)
-bytes_of ss = map (λ (s : Sent). s.bytes) ss
+use Rattle.air_model.specs.Making.{bytes_of, in_front, stretches, stretch_packets, each_dense, front_on, behind_on}
 
 -- sections with a byte each
 abbrev pub HaveSome : List Sent → Type 0
@@ -62,7 +51,7 @@ both_parts pid (s ∷ ss) = go (s.pid == pid) (both_parts pid ss)
     go true e = ap (λ (l : List Sent). s ∷ l) e
     go false e = refl
 
-fewer : (pid : ℕ) (ss : List Sent) → length (behind_on pid ss) ≤ length ss
+pub fewer : (pid : ℕ) (ss : List Sent) → length (behind_on pid ss) ≤ length ss
 fewer pid [] = omega arith
 fewer pid (s ∷ ss) = go (s.pid == pid) (fewer pid ss)
   where
@@ -78,11 +67,11 @@ front_some pid (s ∷ ss) h = go (s.pid == pid) (front_some pid ss h.1)
     go true e = (h.0, e)
     go false e = tt
 
-pub behind_some : (pid : ℕ) (ss : List Sent) → HaveSome ss → HaveSome (behind_on pid ss)
-behind_some pid [] h = h
-behind_some pid (s ∷ ss) h = go (s.pid == pid) (behind_some pid ss h.1)
+pub behind_all : (P : Sent → Type 0) (pid : ℕ) (ss : List Sent) → AllByRecursion P ss → AllByRecursion P (behind_on pid ss)
+behind_all P pid [] h = h
+behind_all P pid (s ∷ ss) h = go (s.pid == pid) (behind_all P pid ss h.1)
   where
-    go : (b : Bool) → HaveSome (behind_on pid ss) → HaveSome (if b then behind_on pid ss else s ∷ ss)
+    go : (b : Bool) → AllByRecursion P (behind_on pid ss) → AllByRecursion P (if b then behind_on pid ss else s ∷ ss)
     go true e = e
     go false e = h
 
@@ -97,23 +86,23 @@ front_sections pid q b e (s ∷ ss) = go (s.pid == q) refl (front_sections pid q
     at true g rec = ap (λ (d : Bool). cons_option (if d then Some s.bytes else None) (filter_map (sent_on pid) (front_on q ss))) g ∙ ap (λ (l : List (List ℕ)). s.bytes ∷ l) rec
     at false g rec = ap (λ (d : Bool). cons_option (if d then Some s.bytes else None) (filter_map (sent_on pid) (front_on q ss))) g ∙ rec
 
-    none : (d : Bool) → List (List ℕ) → [] ≡ (if d then [] else let l : List (List ℕ) = [] in l)
-    none true l = refl
-    none false l = refl
+    none : (d : Bool) → filter_map (sent_on pid) [] ≡ (if d then bytes_of [] else [])
+    none true = refl
+    none false = refl
 
     go : (c : Bool) → (s.pid == q) ≡ c → filter_map (sent_on pid) (front_on q ss) ≡ (if b then bytes_of (front_on q ss) else [])
         → filter_map (sent_on pid) (if c then s ∷ front_on q ss else []) ≡ (if b then bytes_of (if c then s ∷ front_on q ss else []) else [])
     go true f rec =
         ap (λ (n : ℕ). cons_option (if n == pid then Some s.bytes else None) (filter_map (sent_on pid) (front_on q ss))) (eqb-true s.pid q f)
         ∙ at b e rec
-    go false f rec = none b []
+    go false f rec = none b
 
 -- on each PID the packets carry the sections of that PID, in their order; n bounds how many sections there are
 dense_within : (n pid : ℕ) (ss : List Sent) → length ss ≤ n → HaveSome ss → Carries (of_pid pid (each_dense ss)) (filter_map (sent_on pid) ss)
 dense_within n pid [] h all = Carries-none
 dense_within zero pid (s ∷ ss) h all = absurd (omega arith)
 dense_within (suc n) pid (s ∷ ss) h all =
-    go (s.pid == pid) refl (dense_within n pid behind (omega (arith, fewer s.pid ss)) (behind_some s.pid ss all.1))
+    go (s.pid == pid) refl (dense_within n pid behind (omega (arith, fewer s.pid ss)) (behind_all (λ (t : Sent). 0 < length t.bytes) s.pid ss all.1))
   where
     front : List Sent
     front = front_on s.pid ss
@@ -146,6 +135,25 @@ dense_within (suc n) pid (s ∷ ss) h all =
 
 pub Carries-each_dense : (pid : ℕ) (ss : List Sent) → HaveSome ss → Carries (of_pid pid (each_dense ss)) (filter_map (sent_on pid) ss)
 Carries-each_dense pid ss all = dense_within (length ss) pid ss (omega arith) all
+
+-- ---- the packets have the PIDs of the sections
+
+pids_on : (pid : ℕ) (ps : List Piece) → pid < 8192 → PidsFit (map (packet_on pid) ps)
+pids_on pid [] lt = tt
+pids_on pid (p ∷ ps) lt = (lt, pids_on pid ps lt)
+
+fit_within : (n : ℕ) (ss : List Sent) → length ss ≤ n → AllByRecursion (λ (s : Sent). s.pid < 8192) ss → PidsFit (each_dense ss)
+fit_within n [] h fit = tt
+fit_within zero (s ∷ ss) h fit = absurd (omega arith)
+fit_within (suc n) (s ∷ ss) h fit =
+    let here = s.bytes ∷ bytes_of (front_on s.pid ss) in
+    let behind = behind_on s.pid ss in
+    subst PidsFit (sym (first_packets s ss))
+    (all_append (λ (p : Packet). p.pid < 8192) (packets_dense s.pid here) (each_dense behind) (pids_on s.pid (pieces [] (stretch here)) fit.0)
+    (fit_within n behind (omega (arith, fewer s.pid ss)) (behind_all (λ (t : Sent). t.pid < 8192) s.pid ss fit.1)))
+
+pub pids_fit : (ss : List Sent) → AllByRecursion (λ (s : Sent). s.pid < 8192) ss → PidsFit (each_dense ss)
+pids_fit ss fit = fit_within (length ss) ss (omega arith) fit
 
 -- ---- the sections of a cycle have bytes
 

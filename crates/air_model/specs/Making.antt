@@ -1,6 +1,7 @@
 -- One way to make a cycle: its sections in their order, where neighbours of one PID share packets.
-use Rattle.std.specs.Prelude.{◌≡◌, ◌%◌, List, [], ◌∷◌, ◌++◌, ◌==◌, if◌then◌else◌, length, map, flat_map}
-use Rattle.ts_packets.specs.Bytes.{Packet, packets_dense}
+use Rattle.std.specs.Prelude.{◌≡◌, ℕ, ◌+◌, ◌%◌, List, [], ◌∷◌, ◌++◌, ◌==◌, if◌then◌else◌, length, map, flat_map}
+use Rattle.ts_packets.specs.Packets.{joined, pieces, packed}
+use Rattle.ts_packets.specs.Bytes.{Packet, packet_on, packets_dense}
 use Rattle.ts_packets.specs.Counting.{loads_on}
 use Rattle.version_book.specs.Airings.{AiredTables}
 use Rattle.air_model.specs.Air.{Sent, Aired, cycle_sections, air, airings_of}
@@ -16,13 +17,31 @@ stretches [] = []
 stretches (s ∷ []) = (s ∷ []) ∷ []
 stretches (s ∷ t ∷ ss) = if t.pid == s.pid then in_front s (stretches (t ∷ ss)) else (s ∷ []) ∷ stretches (t ∷ ss)
 
+abbrev pub bytes_of : List Sent → List (List ℕ)
+bytes_of ss = map (λ (s : Sent). s.bytes) ss
+
 -- the packets of a stretch, which has the PID of its first section
 abbrev pub stretch_packets : List Sent → List Packet
 stretch_packets [] = []
-stretch_packets (s ∷ ss) = packets_dense s.pid (map (λ (t : Sent). t.bytes) (s ∷ ss))
+stretch_packets (s ∷ ss) = packets_dense s.pid (bytes_of (s ∷ ss))
 
 abbrev pub each_dense : List Sent → List Packet
 each_dense ss = flat_map stretch_packets (stretches ss)
+
+-- the sections of a PID that stand in front, and those behind them
+abbrev pub front_on : ℕ → List Sent → List Sent
+front_on pid [] = []
+front_on pid (s ∷ ss) = if s.pid == pid then s ∷ front_on pid ss else []
+
+abbrev pub behind_on : ℕ → List Sent → List Sent
+behind_on pid [] = []
+behind_on pid (s ∷ ss) = if s.pid == pid then behind_on pid ss else s ∷ ss
+
+-- the packets that go on with the rest of a section on this PID, and those of the sections behind it
+abbrev pub goes_on : ℕ → List ℕ → List Sent → List Packet
+goes_on pid rest ss =
+    map (packet_on pid) (pieces rest (packed (length rest + length (joined (bytes_of (front_on pid ss)))) rest (bytes_of (front_on pid ss))))
+    ++ each_dense (behind_on pid ss)
 
 -- a packet with the continuity_counter that it has behind these packets
 abbrev pub count_behind : List Packet → Packet → Packet

@@ -19,14 +19,15 @@ use Rattle.cycle_plan.specs.Cycle.{cycle_of}
 use Rattle.cycle_plan.specs.Sections.{planned}
 use Rattle.air_model.specs.Air.{Sent, sent_section, sections_of, tdt, leads, before_tdt, behind_tdt, sections_once, at_places, cycle_sections}
 use Rattle.air_model.proofs.Planned.{all_at}
-use Rattle.air_model.specs.Making.{each_alone}
+use Rattle.air_model.specs.Making.{each_dense}
 use Rattle.carousel_player.specs.declared.cycle.Placed.{Placed}
 use Rattle.section_codec.specs.SubTables.{IsFit, header_of}
 use Rattle.carousel_player.specs.Laying.{IsPlaced, IsUnderWay, sent_at, places_from, AreLaid, sections_under, cycle_under}
 use Rattle.carousel_player.specs.Planning.{weights_under}
 use Rattle.carousel_player.proofs.Laid.{laid_sent}
 use Rattle.carousel_player.proofs.Steps.{can_begin}
-use Rattle.carousel_player.proofs.Weights.{eight, weights_given}
+use Rattle.air_model.proofs.Dense.{eight}
+use Rattle.carousel_player.proofs.Weights.{weights_given}
 
 -- a section that can be sent
 record IsSendable (s : Sent) : Type 0 where
@@ -110,12 +111,12 @@ map-at_places f xs (i ∷ order) = go (slice_get xs i) (map-at_places f xs order
 -- in the order of the plan they are the cycle
 pub cycle_begun : (past : List AiredTables) (moment quota : ℕ) (vs : List ℕ) (ts : List SubTable) (bytes : List ℕ) (placed : List Placed) → AreLaid (cycle_under vs ts moment) bytes placed
     → vs ≡ versions_of past ts moment (record { quota = quota })
-    → each_alone (map (sent_at bytes) (at_places placed (cycle_of (planned (weights_under ts) quota)))) ≡ each_alone (cycle_sections past (aired ts moment (record { quota = quota })))
+    → each_dense (map (sent_at bytes) (at_places placed (cycle_of (planned (weights_under ts) quota)))) ≡ each_dense (cycle_sections past (aired ts moment (record { quota = quota })))
 cycle_begun past moment quota vs ts bytes placed h is =
     let form : CycleForm = record { quota = quota } in
     let order = cycle_of (planned (weights_under ts) quota) in
     let sections : map (sent_at bytes) placed ≡ sections_once past (aired ts moment form) =
     laid_sent (cycle_under vs ts moment) bytes placed h ∙ ap (λ (l : List ℕ). cycle_under l ts moment) is ∙ sections_given past moment form ts in
-    ap each_alone
+    ap each_dense
     (map-at_places (sent_at bytes) placed order ∙ ap (λ (l : List Sent). at_places l order) sections
     ∙ ap (λ (ws : List (Tier3 × ℕ)). at_places (sections_once past (aired ts moment form)) (cycle_of (planned ws quota))) (weights_given past moment form ts))

@@ -1,3 +1,4 @@
+pub mod Packs
 pub mod Steps
 pub mod Laid
 pub mod Begun

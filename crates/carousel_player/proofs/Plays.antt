@@ -21,25 +21,15 @@ use Rattle.air_model.specs.Air.{Sent, Aired, air, airings_of, air_bytes, IsAirOf
 use Rattle.air_model.proofs.Planned.{all_at}
 use Rattle.cycle_plan.specs.Cycle.{cycle_of}
 use Rattle.cycle_plan.specs.Sections.{planned}
-use Rattle.air_model.specs.Making.{each_alone, counted}
+use Rattle.air_model.specs.Making.{each_dense, counted}
 use Rattle.air_model.proofs.Counted.{PidsFit, counted-append, length-counted}
-use Rattle.air_model.proofs.Airs.{air-push, air_bytes-push, airings_of-push, air_more-alone}
+use Rattle.air_model.proofs.Dense.{pids_fit}
+use Rattle.air_model.proofs.Airs.{air-push, air_bytes-push, airings_of-push, air_more-dense}
 use Rattle.section_codec.specs.SubTables.{IsFit}
 use Rattle.carousel_player.specs.Sending.{Sends}
 use Rattle.carousel_player.specs.Playing.{Playing, AtEnd, Within, Begins, GaveUp}
 
 -- ---- a cycle begins
-
-abbrev PidFits : Packet → Type 0
-PidFits p = p.pid < 8192
-
-pids_on : (pid : ℕ) (ps : List Piece) → pid < 8192 → PidsFit (map (packet_on pid) ps)
-pids_on pid [] lt = tt
-pids_on pid (p ∷ ps) lt = (lt, pids_on pid ps lt)
-
-pids_alone : (ss : List Sent) → AllByRecursion (λ (s : Sent). s.pid < 8192) ss → PidsFit (each_alone ss)
-pids_alone [] h = tt
-pids_alone (s ∷ ss) h = all_append PidFits (packets_alone s.pid s.bytes) (each_alone ss) (pids_on s.pid (pieces [] (alone s.bytes)) h.0) (pids_alone ss h.1)
 
 pids_of : (v : ℕ) (t : SubTable) (ss : Content) (more : List Sent) → t.key.pid < 8192 → AllByRecursion (λ (s : Sent). s.pid < 8192) more → AllByRecursion (λ (s : Sent). s.pid < 8192) (map (sent_section v t) ss ++ more)
 pids_of v t [] more lt h = h
@@ -60,18 +50,18 @@ pids_cycle past a fit =
     all_at (λ (s : Sent). s.pid < 8192) (sections_once past a) (cycle_of (planned (weights_once past a) a.form.quota)) once
 
 pub begins : (xs : List Aired) (ts : List SubTable) (moment : ℕ) (form : CycleForm) (old new : Playing) → AtEnd xs old → All IsFit ts → new.counters ≡ old.counters
-    → BookStandsFor (airings_of xs ++ aired ts moment form ∷ []) new.book → new.left ≡ each_alone (cycle_sections (airings_of xs) (aired ts moment form)) → Begins xs (aired ts moment form) new
+    → BookStandsFor (airings_of xs ++ aired ts moment form ∷ []) new.book → new.left ≡ each_dense (cycle_sections (airings_of xs) (aired ts moment form)) → Begins xs (aired ts moment form) new
 begins xs ts moment form old new end fit same stands left =
     let a = aired ts moment form in
-    let units = each_alone (cycle_sections (airings_of xs) a) in
+    let units = each_dense (cycle_sections (airings_of xs) a) in
     let x : Aired = record { airing = a; packets = counted (air xs) units } in
-    let pids : PidsFit units = pids_alone (cycle_sections (airings_of xs) a) (pids_cycle (airings_of xs) a fit) in
+    let pids : PidsFit units = pids_fit (cycle_sections (airings_of xs) a) (pids_cycle (airings_of xs) a fit) in
     let longer = airings_of-push xs x in (
       x,
       refl,
       refl,
       record {
-        is_air = subst (λ (l : List AiredTables). IsAirOf l (xs ++ x ∷ [])) (sym longer) (air_more-alone (airings_of xs) xs a end.is_air pids);
+        is_air = subst (λ (l : List AiredTables). IsAirOf l (xs ++ x ∷ [])) (sym longer) (air_more-dense (airings_of xs) xs a end.is_air pids);
         handed = [];
         parts = refl;
         sent = record {

@@ -1,29 +1,21 @@
 -- One packet further in a cycle.
-use Rattle.std.proofs.Common.{◌≡◌, ℕ, zero, suc, ◌+◌, ◌<◌, ◌≤◌, ◌⊎◌, inl, inr, List, [], ◌∷◌, ◌++◌, Bool, true, false, not, Option, Some, None, length, get_or, refl, sym, ap, ap₂, ◌∙◌, subst, arith, take, drop, map, length-take, length-drop}
-use Rattle.std.specs.Prelude.{◌==◌, slice_get, option_map, is_some, IfSome, IfNone}
+use Rattle.std.proofs.Common.{◌≡◌, ℕ, zero, suc, ◌+◌, ◌-◌, ◌<◌, ◌≤◌, ◌⊎◌, inl, inr, min, List, [], ◌∷◌, ◌++◌, Bool, true, false, not, Option, Some, None, length, get_or, refl, sym, ap, ap₂, ◌∙◌, subst, arith, take, drop, map, length-take, length-drop, length-append}
+use Rattle.std.specs.Prelude.{◌==◌, slice_get, is_some, IfSome, IfNone, if◌then◌else◌}
 use Rattle.std.specs.List.{AllByRecursion, cons_option}
 use Rattle.std.proofs.lemmas.Bool.Decides.{nat_tests}
-use Rattle.std.proofs.lemmas.Option.{slice_get-map, slice_get_read, slice_get_cases}
-use Rattle.std.proofs.lemmas.List.{length-map}
-use Rattle.std.proofs.Math.Seq.{drop-cons, drop-append_seam}
-use Rattle.ts_packets.specs.Packets.{pieces, alone, packets_of}
-use Rattle.ts_packets.specs.Bytes.{Packet, bytes_of_packet, packet_on, packets_alone}
-use Rattle.ts_packets.proofs.Carrying.{piece_at, at_alone, length-pieces, length-alone}
-use Rattle.air_model.specs.Air.{at_places}
-use Rattle.air_model.specs.Making.{each_alone}
+use Rattle.std.proofs.lemmas.Option.{slice_get_read, slice_get_cases}
+use Rattle.std.proofs.lemmas.List.{take_all, drop_all}
+use Rattle.std.proofs.Math.Seq.{drop-cons}
+use Rattle.ts_packets.specs.Bytes.{Packet, bytes_of_packet}
+use Rattle.ts_packets.specs.Packer.{Begun, empty_on, room_for, pointer_at, with_first, with_further, finished}
+use Rattle.air_model.specs.Air.{Sent, at_places}
+use Rattle.air_model.specs.Making.{each_dense, goes_on}
+use Rattle.air_model.proofs.Dense.{HaveSome}
 use Rattle.carousel_player.specs.declared.cycle.Placed.{Placed}
-use Rattle.carousel_player.specs.Laying.{IsPlaced, sent_at, order_left, packets_left, IsBegun, IsUnderWay}
+use Rattle.carousel_player.specs.Laying.{IsPlaced, sent_at, sections_left, order_left, packets_behind, IsBegun, IsUnderWay}
+use Rattle.carousel_player.specs.Packing.{not_put, packets_with, packets_from, IsOn, CanTake, Took, IsFilled}
 use Rattle.carousel_player.specs.Sending.{PutsFirst}
-
-cut_at : {X : Type 0} (xs : List X) (i : ℕ) (x : X) → slice_get xs i ≡ Some x → drop i xs ≡ x ∷ drop (suc i) xs
-cut_at [] i x e = cc
-cut_at (y ∷ xs) zero x e = let f : y ≡ x = cc in ap (λ (z : _). z ∷ xs) f
-cut_at (y ∷ xs) (suc i) x e = cut_at xs i x e
-
-at_front : {X : Type 0} (xs ys : List X) (i : ℕ) (x : X) → slice_get xs i ≡ Some x → slice_get (xs ++ ys) i ≡ Some x
-at_front [] ys i x e = cc
-at_front (y ∷ xs) ys zero x e = e
-at_front (y ∷ xs) ys (suc i) x e = at_front xs ys i x e
+use Rattle.carousel_player.proofs.Packs.{begins_empty, some_packet, takes_first, is_full, is_other, holds_all, begins_past, goes_past, goes_whole}
 
 -- the bytes of a section that is placed
 abbrev pub bytes_placed : List ℕ → Placed → List ℕ
@@ -32,33 +24,9 @@ bytes_placed bytes p = take p.len (drop p.start bytes)
 pub length-placed : (bytes : List ℕ) (p : Placed) → IsPlaced (length bytes) p → length (bytes_placed bytes p) ≡ p.len
 length-placed bytes p h = omega (arith, length-take p.len (drop p.start bytes), length-drop p.start bytes, h.within)
 
--- the packet at a place among those of a section that is placed
-abbrev pub packet_at : List ℕ → Placed → ℕ → Packet
-packet_at bytes p index = packet_on p.pid (piece_at (bytes_placed bytes p) index)
-
-sent_packet : (bytes : List ℕ) (p : Placed) (index : ℕ) → IsPlaced (length bytes) p → index < packets_of p.len → slice_get (packets_alone p.pid (bytes_placed bytes p)) index ≡ Some (packet_at bytes p index)
-sent_packet bytes p index h lt =
-    let within : index < packets_of (length (bytes_placed bytes p)) = subst (λ (n : ℕ). index < packets_of n) (sym (length-placed bytes p h)) lt in
-    slice_get-map (packet_on p.pid) (pieces [] (alone (bytes_placed bytes p))) index ∙ ap (option_map (packet_on p.pid)) (at_alone (bytes_placed bytes p) index within)
-
-length-sent : (bytes : List ℕ) (p : Placed) → IsPlaced (length bytes) p → length (packets_alone p.pid (bytes_placed bytes p)) ≡ packets_of p.len
-length-sent bytes p h =
-    let some : 0 < length (bytes_placed bytes p) = omega (arith, length-placed bytes p h, h.some) in
-    length-map (pieces [] (alone (bytes_placed bytes p))) (packet_on p.pid) ∙ length-pieces [] (alone (bytes_placed bytes p)) ∙ length-alone (bytes_placed bytes p) some ∙ ap packets_of (length-placed bytes p h)
-
--- the packets to come are the next one and those behind it
-pub left_first : (bytes : List ℕ) (p : Placed) (ps : List Placed) (index : ℕ) → IsPlaced (length bytes) p → index < packets_of p.len →
-    drop index (each_alone (map (sent_at bytes) (p ∷ ps))) ≡ packet_at bytes p index ∷ drop (suc index) (each_alone (map (sent_at bytes) (p ∷ ps)))
-left_first bytes p ps index h lt =
-    cut_at (each_alone (map (sent_at bytes) (p ∷ ps))) index (packet_at bytes p index)
-    (at_front (packets_alone p.pid (bytes_placed bytes p)) (each_alone (map (sent_at bytes) ps)) index (packet_at bytes p index) (sent_packet bytes p index h lt))
-
--- behind the last packet of a section come those of the next
-pub left_behind : (bytes : List ℕ) (p : Placed) (ps : List Placed) (n : ℕ) → IsPlaced (length bytes) p → n ≡ packets_of p.len → drop n (each_alone (map (sent_at bytes) (p ∷ ps))) ≡ each_alone (map (sent_at bytes) ps)
-left_behind bytes p ps n h e =
-    let A = packets_alone p.pid (bytes_placed bytes p) in
-    let B = each_alone (map (sent_at bytes) ps) in
-    ap (λ (k : ℕ). drop k (A ++ B)) (e ∙ sym (length-sent bytes p h)) ∙ drop-append_seam A B
+placed_some : (bytes : List ℕ) (ps : List Placed) → AllByRecursion (IsPlaced (length bytes)) ps → HaveSome (map (sent_at bytes) ps)
+placed_some bytes [] h = tt
+placed_some bytes (p ∷ ps) h = (let some = h.0.some in omega (arith, length-placed bytes p h.0), placed_some bytes ps h.1)
 
 -- what stands at a place, and the others
 pub from_place : {X : Type 0} (xs : List X) (at : ℕ) (x : X) → at < length xs → x ≡ get_or xs at x → drop at xs ≡ x ∷ drop (at + 1) xs
@@ -67,27 +35,45 @@ from_place xs at x lt is =
 
 -- ---- the order of sections
 
-drop_none : (n : ℕ) → drop n (each_alone []) ≡ []
-drop_none zero = refl
-drop_none (suc n) = refl
-
 -- the place of a section, and those behind it
 first_place : (placed : List Placed) (at : ℕ) (order : List ℕ) (p : Placed) → at < length placed → p ≡ get_or placed at p → at_places placed (at ∷ order) ≡ p ∷ at_places placed order
 first_place placed at order p lt is = ap (λ (o : Option Placed). cons_option o (at_places placed order)) (slice_get_read placed (length placed) at p refl lt is)
 
--- the section that is being sent, and how many of its packets were sent
-pub record IsSending (bytes : List ℕ) (placed : List Placed) (at : ℕ) (order : List ℕ) (index : ℕ) (p : Placed) : Type 0 where
+-- the section that is next, and how many of its bytes were sent
+pub record IsSending (bytes : List ℕ) (placed : List Placed) (at : ℕ) (order : List ℕ) (from : ℕ) (p : Placed) : Type 0 where
   pub here : at_places placed (at ∷ order) ≡ p ∷ at_places placed order
   pub fits : IsPlaced (length bytes) p
-  pub begun : index < packets_of p.len
+  pub begun : from < p.len
   pub others : AllByRecursion (IsPlaced (length bytes)) (at_places placed order)
   pub within : AllByRecursion (λ (i : ℕ). i < length placed) (at ∷ order)
 
-pub sending : (bytes : List ℕ) (placed : List Placed) (at : ℕ) (order : List ℕ) (index : ℕ) (p : Placed) → IsUnderWay (length bytes) placed (at ∷ order) index → p ≡ get_or placed at p → IsSending bytes placed at order index p
-sending bytes placed at order index p h is =
+pub sending : (bytes : List ℕ) (placed : List Placed) (at : ℕ) (order : List ℕ) (from : ℕ) (p : Placed) → IsUnderWay (length bytes) placed (at ∷ order) from → p ≡ get_or placed at p → IsSending bytes placed at order from p
+sending bytes placed at order from p h is =
     let here = first_place placed at order p h.within.0 is in
     let all = subst (AllByRecursion (IsPlaced (length bytes))) here h.sections in
-    record { here = here; fits = all.0; begun = subst (IsBegun index) here h.begun; others = all.1; within = h.within }
+    record { here = here; fits = all.0; begun = subst (IsBegun from) here h.begun; others = all.1; within = h.within }
+
+pub from_within : (bytes : List ℕ) (placed : List Placed) (at : ℕ) (order : List ℕ) (from : ℕ) (p : Placed) → IsSending bytes placed at order from p → from < length (bytes_placed bytes p)
+from_within bytes placed at order from p s = omega (arith, length-placed bytes p s.fits, s.begun)
+
+read_same : (xs : List Placed) (i : ℕ) (x y : Placed) → i < length xs → get_or xs i x ≡ get_or xs i y
+read_same [] i x y lt = absurd (omega arith)
+read_same (z ∷ xs) zero x y lt = refl
+read_same (z ∷ xs) (suc i) x y lt = read_same xs i x y (omega arith)
+
+-- as the code reads it
+pub sending_at : (bytes : List ℕ) (placed : List Placed) (at : Option ℕ) (i : ℕ) (order : List ℕ) (from : ℕ) (other : Placed) → IsUnderWay (length bytes) placed (order_left at order) from → at ≡ Some i
+    → IsSending bytes placed i order from (get_or placed i other)
+sending_at bytes placed at i order from other h is =
+    let k = subst (λ (o : Option ℕ). IsUnderWay (length bytes) placed (order_left o order) from) is h in
+    sending bytes placed i order from (get_or placed i other) k (read_same placed i other (get_or placed i other) k.within.0)
+
+-- as it is sent
+sections_here : (bytes : List ℕ) (placed : List Placed) (at : ℕ) (order : List ℕ) (from : ℕ) (p : Placed) → IsSending bytes placed at order from p → sections_left bytes placed (at ∷ order) ≡ sent_at bytes p ∷ sections_left bytes placed order
+sections_here bytes placed at order from p s = ap (map (sent_at bytes)) s.here
+
+sections_some : (bytes : List ℕ) (placed : List Placed) (at : ℕ) (order : List ℕ) (from : ℕ) (p : Placed) → IsSending bytes placed at order from p → HaveSome (sent_at bytes p ∷ sections_left bytes placed order)
+sections_some bytes placed at order from p s = placed_some bytes (p ∷ at_places placed order) (s.fits, s.others)
 
 told_none : (r : Bool) → false ≡ not r → r ≡ true
 told_none true e = refl
@@ -96,45 +82,6 @@ told_none false e = let f : false ≡ true = e in cc
 told_some : (r : Bool) → true ≡ not r → r ≡ false
 told_some false e = refl
 told_some true e = let f : true ≡ false = e in cc
-
--- nothing is to come exactly where no section is being sent
-pub ended_is : (bytes : List ℕ) (placed : List Placed) (at : Option ℕ) (order : List ℕ) (index : ℕ) (none : Bool) → IsUnderWay (length bytes) placed (order_left at order) index → is_some at ≡ not none →
-    none ≡ (length (packets_left bytes placed (order_left at order) index) == 0)
-ended_is bytes placed None order index none h told =
-    let e = told_none none told in
-    let l = ap length (drop_none index) in
-    grind (arith, nat_tests)
-ended_is bytes placed (Some at) order index none h told = go (slice_get_cases placed at).1
-  where
-    go : (((p : Placed) × (at < length placed) × (slice_get placed at ≡ Some p) × (get_or placed at p ≡ p)) ⊎ ((length placed ≤ at) × (slice_get placed at ≡ None))) → none ≡ (length (packets_left bytes placed (at ∷ order) index) == 0)
-    go (inr past) = absurd (let lt = h.within.0 in let le = past.0 in omega arith)
-    go (inl found) =
-        let p = found.0 in
-        let s = sending bytes placed at order index p h (sym found.3) in
-        let some = ap length (ap (λ (l : List Placed). drop index (each_alone (map (sent_at bytes) l))) s.here ∙ left_first bytes p (at_places placed order) index s.fits s.begun) in
-        let e = told_some none told in
-        grind (arith, nat_tests)
-
--- the next packet was written
-pub puts_first : (bytes : List ℕ) (placed : List Placed) (at : ℕ) (order : List ℕ) (index : ℕ) (p : Placed) (old : List Packet) (into : List ℕ) → IsSending bytes placed at order index p → packets_left bytes placed (at ∷ order) index ≡ old
-    → slice_get (map bytes_of_packet (packets_alone p.pid (bytes_placed bytes p))) index ≡ Some into → PutsFirst old (packets_left bytes placed (at ∷ order) (suc index)) into
-puts_first bytes placed at order index p old into s is put =
-    let q = packet_at bytes p index in
-    let units = each_alone (map (sent_at bytes) (p ∷ at_places placed order)) in
-    let back : units ≡ each_alone (map (sent_at bytes) (at_places placed (at ∷ order))) = ap (λ (l : List Placed). each_alone (map (sent_at bytes) l)) (sym s.here) in
-    let first : old ≡ q ∷ drop (suc index) units = sym is ∙ ap (drop index) (sym back) ∙ left_first bytes p (at_places placed order) index s.fits s.begun in
-    let written : Some (bytes_of_packet q) ≡ Some into =
-    sym (slice_get-map bytes_of_packet (packets_alone p.pid (bytes_placed bytes p)) index ∙ ap (option_map bytes_of_packet) (sent_packet bytes p index s.fits s.begun)) ∙ put in
-    let same : into ≡ bytes_of_packet q = cc in
-    subst (λ (l : List Packet). PutsFirst l (packets_left bytes placed (at ∷ order) (suc index)) into) (sym first) (sym (ap (drop (suc index)) back), same, record { pid = s.fits.pid; counter = refl })
-
--- one packet further within the section
-pub one_further : (bytes : List ℕ) (placed : List Placed) (at : ℕ) (order : List ℕ) (index : ℕ) (p : Placed) → IsSending bytes placed at order index p → index + 1 < packets_of p.len → IsUnderWay (length bytes) placed (at ∷ order) (index + 1)
-one_further bytes placed at order index p s lt = record {
-  within = s.within;
-  sections = subst (AllByRecursion (IsPlaced (length bytes))) (sym s.here) (s.fits, s.others);
-  begun = subst (IsBegun (index + 1)) (sym s.here) lt;
-}
 
 -- sections that can be sent can begin
 pub can_begin : (size : ℕ) (placed : List Placed) (order : List ℕ) → AllByRecursion (λ (at : ℕ). at < length placed) order → AllByRecursion (IsPlaced size) (at_places placed order) → IsUnderWay size placed order 0
@@ -149,9 +96,219 @@ pub order_goes_on : (next : Option ℕ) (old new : List ℕ) → IfSome next (λ
 order_goes_on None old new some none = sym none.0
 order_goes_on (Some i) old new some none = sym some
 
--- one section further
-pub next_section : (bytes : List ℕ) (placed : List Placed) (at : ℕ) (order : List ℕ) (index : ℕ) (p : Placed) → IsSending bytes placed at order index p → packets_of p.len ≤ index + 1 →
-    packets_left bytes placed (at ∷ order) (suc index) ≡ packets_left bytes placed order 0
-next_section bytes placed at order index p s le =
-    ap (λ (l : List Placed). drop (suc index) (each_alone (map (sent_at bytes) l))) s.here
-    ∙ left_behind bytes p (at_places placed order) (suc index) s.fits (omega (arith, s.begun))
+-- nothing is to come exactly where no section is next
+pub ended_is : (bytes : List ℕ) (placed : List Placed) (at : Option ℕ) (order : List ℕ) (from : ℕ) (none : Bool) → IsUnderWay (length bytes) placed (order_left at order) from → is_some at ≡ not none →
+    none ≡ (length (packets_behind (sections_left bytes placed (order_left at order)) from) == 0)
+ended_is bytes placed None order from none h told =
+    let e = told_none none told in
+    let l : length (packets_behind (sections_left bytes placed []) from) ≡ 0 = ap (λ (n : ℕ). length (packets_behind (let ss : List Sent = [] in ss) n)) h.begun in
+    grind (arith, nat_tests)
+ended_is bytes placed (Some at) order from none h told = go (slice_get_cases placed at).1
+  where
+    go : (((p : Placed) × (at < length placed) × (slice_get placed at ≡ Some p) × (get_or placed at p ≡ p)) ⊎ ((length placed ≤ at) × (slice_get placed at ≡ None))) → none ≡ (length (packets_behind (sections_left bytes placed (at ∷ order)) from) == 0)
+    go (inr past) = absurd (let lt = h.within.0 in let le = past.0 in omega arith)
+    go (inl found) =
+        let p = found.0 in
+        let s = sending bytes placed at order from p h (sym found.3) in
+        let packet = some_packet (sent_at bytes p) (sections_left bytes placed order) from (sections_some bytes placed at order from p s) (omega (arith, length-placed bytes p s.fits, s.begun)) in
+        let some = ap length (ap (λ (l : List Sent). packets_behind l from) (sections_here bytes placed at order from p s) ∙ packet.2) in
+        let e = told_some none told in
+        grind (arith, nat_tests)
+
+-- the next packet, from an empty one on
+pub can_take : (bytes : List ℕ) (placed : List Placed) (at : ℕ) (order : List ℕ) (from : ℕ) (p : Placed) → IsSending bytes placed at order from p → IsUnderWay (length bytes) placed (at ∷ order) from → CanTake bytes placed (empty_on p.pid) (at ∷ order) from
+can_take bytes placed at order from p s h = record {
+  under_way = h;
+  fits = refl;
+  empty = λ some. refl;
+  some = λ none. subst (IsOn p.pid) (sym s.here) refl;
+}
+
+pub taken_from : (bytes : List ℕ) (placed : List Placed) (at : ℕ) (order : List ℕ) (from : ℕ) (p : Placed) → IsSending bytes placed at order from p
+    → packets_behind (sections_left bytes placed (at ∷ order)) from ≡ packets_from (empty_on p.pid) (sections_left bytes placed (at ∷ order)) from
+taken_from bytes placed at order from p s =
+    let here = sections_here bytes placed at order from p s in
+    subst (λ (l : List Sent). packets_behind l from ≡ packets_from (empty_on p.pid) l from) (sym here) (begins_empty (sent_at bytes p) (sections_left bytes placed order) from (sections_some bytes placed at order from p s))
+
+-- the first packet to come was written
+pub puts_first : (bytes : List ℕ) (placed : List Placed) (order left : List ℕ) (from sent : ℕ) (b new : Begun) (old : List Packet) (into : List ℕ) → IsFilled bytes placed b new order left from sent → b.pid < 8192
+    → packets_from b (sections_left bytes placed order) from ≡ old → into ≡ bytes_of_packet (finished new) → PutsFirst old (packets_behind (sections_left bytes placed left) sent) into
+puts_first bytes placed order left from sent b new old into filled lt is put =
+    subst (λ (l : List Packet). PutsFirst l (packets_behind (sections_left bytes placed left) sent) into) (filled.same ∙ is)
+    (refl, put, record { pid = subst (λ (n : ℕ). n < 8192) (sym filled.pid) lt; counter = refl })
+
+-- ---- a packet takes what is next
+
+abbrev IsEmpty : Begun → Type 0
+IsEmpty b = b.bytes ≡ []
+
+has_some : (b : Begun) → (b.bytes ≡ [] → Prim.⊥) → 0 < length b.bytes
+has_some b h = go b.bytes h
+  where
+    go : (l : List ℕ) → (l ≡ [] → Prim.⊥) → 0 < length l
+    go [] none = absurd (none refl)
+    go (x ∷ xs) none = omega arith
+
+-- nothing is next
+pub filled_none : (bytes : List ℕ) (placed : List Placed) (b : Begun) (from : ℕ) → CanTake bytes placed b [] from → IsFilled bytes placed b b [] [] from from
+filled_none bytes placed b from h = record {
+  under_way = h.under_way;
+  pid = refl;
+  some = has_some b (λ none. h.some none);
+  same = subst (λ (n : ℕ). finished b ∷ packets_behind (let ss : List Sent = [] in ss) n ≡ packets_from b (let ss : List Sent = [] in ss) n) (sym h.under_way.begun) (sym (holds_all b [] h.fits));
+}
+
+empty_is : (b : Begun) → b ≡ empty_on b.pid → b.bytes ≡ []
+empty_is b e = ap (λ (x : Begun). x.bytes) e
+
+-- what is next is of another PID
+pub filled_other : (bytes : List ℕ) (placed : List Placed) (b : Begun) (at : ℕ) (order : List ℕ) (from : ℕ) (p : Placed) → CanTake bytes placed b (at ∷ order) from → IsSending bytes placed at order from p
+    → (p.pid ≡ b.pid → Prim.⊥) → IsFilled bytes placed b b (at ∷ order) (at ∷ order) from from
+filled_other bytes placed b at order from p h s other = go from h s
+  where
+    no_on : (from : ℕ) → CanTake bytes placed b (at ∷ order) from → IsSending bytes placed at order from p → b.bytes ≡ [] → Prim.⊥
+    no_on from h s none = other (subst (IsOn b.pid) s.here (h.some none))
+
+    apart : (p.pid == b.pid) ≡ false
+    apart = go (p.pid == b.pid) refl
+      where
+        go : (x : Bool) → (p.pid == b.pid) ≡ x → (p.pid == b.pid) ≡ false
+        go true e = absurd (other (let f : p.pid ≡ b.pid = grind (arith, nat_tests) in f))
+        go false e = e
+
+    go : (from : ℕ) → CanTake bytes placed b (at ∷ order) from → IsSending bytes placed at order from p → IsFilled bytes placed b b (at ∷ order) (at ∷ order) from from
+    go zero h s =
+        let here = sections_here bytes placed at order 0 p s in
+        record {
+          under_way = h.under_way;
+          pid = refl;
+          some = has_some b (no_on 0 h s);
+          same = subst (λ (l : List Sent). finished b ∷ each_dense l ≡ packets_with b l) (sym here)
+              (sym (is_other b (sent_at bytes p) (sections_left bytes placed order) apart ∙ holds_all b (sent_at bytes p ∷ sections_left bytes placed order) h.fits));
+        }
+    go (suc from) h s = absurd (no_on (suc from) h s (empty_is b (h.empty (omega arith))))
+
+-- what a call of `add` did
+pub record Added (b new : Begun) (section : List ℕ) (from count : ℕ) : Type 0 where
+  pub most : count ≡ min (length section - from) (room_for b from)
+  pub full : count ≡ 0 → new ≡ b
+  pub first : from ≡ 0 → 0 < count → new ≡ with_first b (take count section)
+  pub further : 0 < from → new ≡ with_further b (take count (drop from section))
+
+room_further : (b : Begun) (from : ℕ) → room_for b (suc from) ≡ 184
+room_further b from = ap (λ (x : Bool). if x then 183 - length b.bytes else 184) (let e : (suc from == 0) ≡ false = grind (arith, nat_tests) in e)
+
+goes_further : (bytes : List ℕ) (placed : List Placed) (at : ℕ) (order : List ℕ) (from more : ℕ) (p : Placed) → IsSending bytes placed at order from p → more < p.len → IsUnderWay (length bytes) placed (at ∷ order) more
+goes_further bytes placed at order from more p s lt = record {
+  within = s.within;
+  sections = subst (AllByRecursion (IsPlaced (length bytes))) (sym s.here) (s.fits, s.others);
+  begun = subst (IsBegun more) (sym s.here) lt;
+}
+
+-- the section goes on past the packet
+pub filled_past : (bytes : List ℕ) (placed : List Placed) (b new : Begun) (at : ℕ) (order : List ℕ) (from count : ℕ) (p : Placed) → CanTake bytes placed b (at ∷ order) from → IsSending bytes placed at order from p
+    → p.pid ≡ b.pid → Added b new (bytes_placed bytes p) from count → from + count < p.len → IsFilled bytes placed b new (at ∷ order) (at ∷ order) from (from + count)
+filled_past bytes placed b new at order zero zero p h s on did lt =
+    let size = length-placed bytes p s.fits in
+    let full : 183 ≤ length b.bytes = omega (arith, did.most, size) in
+    let same = did.full refl in
+    let S = sections_left bytes placed (at ∷ order) in
+    let begun : finished b ∷ packets_behind S 0 ≡ packets_with b S = sym (is_full b S full ∙ holds_all b S h.fits) in
+    let place : 0 ≡ 0 + 0 = omega arith in
+    record {
+      under_way = goes_further bytes placed at order 0 (0 + 0) p s lt;
+      pid = ap (λ (x : Begun). x.pid) same;
+      some = subst (λ (x : Begun). 0 < length x.bytes) (sym same) (omega arith);
+      same = subst (λ (x : Begun). finished x ∷ packets_behind S (0 + 0) ≡ packets_with b S) (sym same) (subst (λ (n : ℕ). finished b ∷ packets_behind S n ≡ packets_with b S) place begun);
+    }
+filled_past bytes placed b new at order zero (suc k) p h s on did lt =
+    let section = bytes_placed bytes p in
+    let size = length-placed bytes p s.fits in
+    let here = sections_here bytes placed at order 0 p s in
+    let room : suc k ≡ 183 - length b.bytes = omega (arith, did.most, size) in
+    let some : 0 < suc k = omega arith in
+    let same = did.first refl some in
+    let place : suc k ≡ 0 + suc k = omega arith in
+    let begun = begins_past b (sent_at bytes p) (sections_left bytes placed order) (suc k) on (omega arith) room (omega (arith, size)) in
+    record {
+      under_way = goes_further bytes placed at order 0 (0 + suc k) p s lt;
+      pid = ap (λ (x : Begun). x.pid) same;
+      some = subst (λ (x : Begun). 0 < length x.bytes) (sym same) (omega (arith, length-append b.bytes (take (suc k) section), length-take (suc k) section, size));
+      same = subst (λ (l : List Sent). finished new ∷ packets_behind l (0 + suc k) ≡ packets_with b l) (sym here)
+          (subst (λ (n : ℕ). finished new ∷ packets_behind (sent_at bytes p ∷ sections_left bytes placed order) n ≡ packets_with b (sent_at bytes p ∷ sections_left bytes placed order)) place
+          (ap (λ (x : Begun). finished x ∷ packets_behind (sent_at bytes p ∷ sections_left bytes placed order) (suc k)) same ∙ sym begun));
+    }
+filled_past bytes placed b new at order (suc from) count p h s on did lt =
+    let section = bytes_placed bytes p in
+    let size = length-placed bytes p s.fits in
+    let here = sections_here bytes placed at order (suc from) p s in
+    let all = sections_some bytes placed at order (suc from) p s in
+    let most : count ≡ 184 = omega (arith, did.most, size, room_further b from) in
+    let some : 0 < suc from = omega arith in
+    let empty : b ≡ empty_on p.pid = h.empty some ∙ ap empty_on (sym on) in
+    let same : new ≡ with_further (empty_on p.pid) (take 184 (drop (suc from) section)) =
+    did.further some ∙ ap₂ (λ (x : Begun) (n : ℕ). with_further x (take n (drop (suc from) section))) empty most in
+    let past = goes_past (sent_at bytes p) (sections_left bytes placed order) from all.1 (omega (arith, size)) in
+    let cut = length-take 184 (drop (suc from) section) in
+    let behind = length-drop (suc from) section in
+    record {
+      under_way = goes_further bytes placed at order (suc from) (suc from + count) p s lt;
+      pid = ap (λ (x : Begun). x.pid) same ∙ on;
+      some = subst (λ (x : Begun). 0 < length x.bytes) (sym same) (omega (arith, cut, behind, size));
+      same = subst (λ (l : List Sent). finished new ∷ packets_behind l (suc from + count) ≡ packets_from b l (suc from)) (sym here)
+          (ap₂ (λ (x : Begun) (n : ℕ). finished x ∷ packets_behind (sent_at bytes p ∷ sections_left bytes placed order) (suc from + n)) same most ∙ sym past);
+    }
+
+-- where all that was put into a packet has room
+held_first : (pointer : Option ℕ) (n : ℕ) (l : List ℕ) → length l ≤ 183 → not_put (pointer_at pointer n) l ≡ []
+held_first None n l le = drop_all 183 l le
+held_first (Some q) n l le = drop_all 183 l le
+
+-- the section has ended
+pub took_next : (bytes : List ℕ) (placed : List Placed) (b new : Begun) (at : ℕ) (order : List ℕ) (from count : ℕ) (p : Placed) → CanTake bytes placed b (at ∷ order) from → IsSending bytes placed at order from p
+    → p.pid ≡ b.pid → Added b new (bytes_placed bytes p) from count → p.len ≤ from + count → Took bytes placed b new (at ∷ order) order from
+took_next bytes placed b new at order zero count p h s on did le =
+    let section = bytes_placed bytes p in
+    let size = length-placed bytes p s.fits in
+    let here = sections_here bytes placed at order 0 p s in
+    let some : 0 < count = omega (arith, s.fits.some) in
+    let whole : take count section ≡ section = take_all count section (omega (arith, size)) in
+    let same : new ≡ with_first b section = did.first refl some ∙ ap (with_first b) whole in
+    let room : length b.bytes + p.len ≤ 183 = omega (arith, did.most, size, s.fits.some) in
+    let joined = length-append b.bytes section in
+    record {
+      can = record {
+        under_way = can_begin (length bytes) placed order s.within.1 s.others;
+        fits = subst (λ (x : Begun). not_put x.pointer x.bytes ≡ []) (sym same) (held_first b.pointer (length b.bytes) (b.bytes ++ section) (omega (arith, joined, size)));
+        empty = λ none. absurd (omega arith);
+        some = λ none. absurd (let e : length (b.bytes ++ section) ≡ 0 = ap length (ap (λ (x : Begun). x.bytes) (sym same) ∙ none) in omega (arith, joined, size, s.fits.some));
+      };
+      pid = ap (λ (x : Begun). x.pid) same;
+      same = subst (λ (l : List Sent). packets_with new (sections_left bytes placed order) ≡ packets_with b l) (sym here)
+          (ap (λ (x : Begun). packets_with x (sections_left bytes placed order)) same ∙ sym (takes_first b (sent_at bytes p) (sections_left bytes placed order) on (omega (arith, s.fits.some))));
+      fewer = omega arith;
+    }
+took_next bytes placed b new at order (suc from) count p h s on did le =
+    let section = bytes_placed bytes p in
+    let rest = drop (suc from) section in
+    let size = length-placed bytes p s.fits in
+    let here = sections_here bytes placed at order (suc from) p s in
+    let all = sections_some bytes placed at order (suc from) p s in
+    let some : 0 < suc from = omega arith in
+    let behind = length-drop (suc from) section in
+    let empty : b ≡ empty_on p.pid = h.empty some ∙ ap empty_on (sym on) in
+    let whole : take count rest ≡ rest = take_all count rest (omega (arith, size, behind)) in
+    let same : new ≡ with_further (empty_on p.pid) rest = did.further some ∙ ap₂ with_further empty whole in
+    let room : length rest ≤ 184 = omega (arith, did.most, size, room_further b from, behind) in
+    record {
+      can = record {
+        under_way = can_begin (length bytes) placed order s.within.1 s.others;
+        fits = subst (λ (x : Begun). not_put x.pointer x.bytes ≡ []) (sym same) (drop_all 184 rest room);
+        empty = λ none. absurd (omega arith);
+        some = λ none. absurd (let e : length rest ≡ 0 = ap length (ap (λ (x : Begun). x.bytes) (sym same) ∙ none) in let q = s.begun in omega (arith, size, behind));
+      };
+      pid = ap (λ (x : Begun). x.pid) same ∙ on;
+      same = subst (λ (l : List Sent). packets_with new (sections_left bytes placed order) ≡ packets_from b l (suc from)) (sym here)
+          (ap (λ (x : Begun). packets_with x (sections_left bytes placed order)) same ∙ sym (goes_whole (sent_at bytes p) (sections_left bytes placed order) from all.1 (let q = s.begun in omega (arith, size))));
+      fewer = omega arith;
+    }

@@ -18,15 +18,10 @@ use Rattle.cycle_plan.proofs.Order.{cycles_are_whole}
 use Rattle.version_book.specs.Airings.{CycleForm, AiredTables, version_at}
 use Rattle.version_book.specs.Book.{aired}
 use Rattle.ts_packets.specs.Packets.{packets_of}
-use Rattle.time_tables.specs.Tdt.{tdt_section}
-use Rattle.si_time.specs.Moments.{moment_bcd}
+use Rattle.air_model.proofs.Dense.{eight}
 use Rattle.air_model.specs.Air.{sent_section, tdt, leads, before_tdt, behind_tdt, weight, table_weights, weights_once}
 use Rattle.carousel_player.specs.Laying.{sections_under, cycle_under}
 use Rattle.carousel_player.specs.Planning.{weights_in, weights_of, weights_under}
-
-pub eight : (moment : ℕ) → length (tdt_section moment) ≡ 8
-unfolding moment_bcd
-eight moment = refl
 
 -- ---- they are those of the airing
 

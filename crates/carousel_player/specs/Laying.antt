@@ -1,12 +1,11 @@
 -- Sections laid end to end, and the packets of them that are still to come.
-use Rattle.std.specs.Prelude.{◌≡◌, ℕ, ◌+◌, ◌<◌, ◌≤◌, List, [], ◌∷◌, ◌++◌, Option, Some, None, length, take, drop, map, flat_map, Vec, vec_len, vec_capacity}
+use Rattle.std.specs.Prelude.{◌≡◌, ℕ, zero, suc, ◌+◌, ◌<◌, ◌≤◌, List, [], ◌∷◌, ◌++◌, Option, Some, None, length, take, drop, map, flat_map, Vec, vec_len, vec_capacity}
 use Rattle.std.specs.List.{AllByRecursion, prefix_len}
-use Rattle.ts_packets.specs.Packets.{packets_of}
 use Rattle.ts_packets.specs.Bytes.{Packet}
 use Rattle.section_codec.specs.declared.table.SubTable.{SubTable}
 use Rattle.section_codec.specs.Contents.{Content}
 use Rattle.air_model.specs.Air.{Sent, sections_of, tdt, leads, before_tdt, behind_tdt, at_places}
-use Rattle.air_model.specs.Making.{each_alone}
+use Rattle.air_model.specs.Making.{each_dense, goes_on}
 use Rattle.carousel_player.specs.declared.cycle.Placed.{Placed}
 
 -- a section stands within so many bytes, and can be sent
@@ -24,20 +23,26 @@ abbrev pub order_left : Option ℕ → List ℕ → List ℕ
 order_left None order = []
 order_left (Some at) order = at ∷ order
 
--- the packets of sections in this order, behind so many of the first of them
-abbrev pub packets_left : List ℕ → List Placed → List ℕ → ℕ → List Packet
-packets_left bytes placed order index = drop index (each_alone (map (sent_at bytes) (at_places placed order)))
+-- what is to be sent of this order
+abbrev pub sections_left : List ℕ → List Placed → List ℕ → List Sent
+sections_left bytes placed order = map (sent_at bytes) (at_places placed order)
 
--- fewer packets were sent of the first section than it has; none where there is no section
+-- the packets of these sections, behind so many bytes of the first of them
+abbrev pub packets_behind : List Sent → ℕ → List Packet
+packets_behind ss zero = each_dense ss
+packets_behind [] (suc from) = []
+packets_behind (s ∷ ss) (suc from) = goes_on s.pid (drop (suc from) s.bytes) ss
+
+-- a byte of the first section is still to be sent; where there is none, none was
 abbrev pub IsBegun : ℕ → List Placed → Type 0
-IsBegun index [] = index ≡ 0
-IsBegun index (p ∷ ps) = index < packets_of p.len
+IsBegun from [] = from ≡ 0
+IsBegun from (p ∷ ps) = from < p.len
 
 -- sections are sent in this order
-pub record IsUnderWay (size : ℕ) (placed : List Placed) (order : List ℕ) (index : ℕ) : Type 0 where
+pub record IsUnderWay (size : ℕ) (placed : List Placed) (order : List ℕ) (from : ℕ) : Type 0 where
   pub within : AllByRecursion (λ (at : ℕ). at < length placed) order
   pub sections : AllByRecursion (IsPlaced size) (at_places placed order)
-  pub begun : IsBegun index (at_places placed order)
+  pub begun : IsBegun from (at_places placed order)
 
 -- ---- laying
 

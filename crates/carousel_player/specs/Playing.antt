@@ -5,7 +5,7 @@ use Rattle.version_book.specs.Book.{GivenVersions, BookStandsFor}
 use Rattle.ts_packets.specs.Bytes.{Packet, bytes_of_packet}
 use Rattle.ts_packets.specs.Counting.{StandFor}
 use Rattle.air_model.specs.Air.{Aired, air, airings_of, IsAirOf}
-use Rattle.air_model.specs.Making.{counted, cycle_alone}
+use Rattle.air_model.specs.Making.{counted, cycle_dense}
 use Rattle.si_causes.specs.Causes.{AppendsFront}
 
 -- what contracts see of a player: its version book, its counters, the packets of the cycle that are still to come, not yet counted,
@@ -39,10 +39,10 @@ pub record Within (xs : List Aired) (x : Aired) (rest : List Packet) (player : P
   pub sent : HasSent (xs ++ x ∷ []) (air xs ++ handed) player
   pub rest_is : rest ≡ counted (air xs ++ handed) player.left
 
--- The cycle of an airing begins. Its packets are those of its sections one after the other, each section beginning in a packet of
--- its own, and their counters go on.
+-- The cycle of an airing begins. Its packets are those of its stretches one after the other, the sections of each sharing packets,
+-- and their counters go on.
 abbrev pub Begins : List Aired → AiredTables → Playing → Type 0
-Begins xs a player = (x : Aired) × (x.airing ≡ a) × (x.packets ≡ cycle_alone (airings_of xs) (air xs) a) × Within xs x x.packets player
+Begins xs a player = (x : Aired) × (x.airing ≡ a) × (x.packets ≡ cycle_dense (airings_of xs) (air xs) a) × Within xs x x.packets player
 
 -- A sink failed: some of the packets were handed out, and it took a front of their bytes.
 abbrev pub GaveUp : List Aired → Aired → List Packet → Option (List ℕ) → Option (List ℕ) → Playing → Type 0

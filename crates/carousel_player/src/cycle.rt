@@ -1,24 +1,23 @@
 // A cycle that is being sent: its sections, laid end to end, and how far it has come.
 ghost use Rattle.std.specs.Prelude.{◌≡◌, ◌+◌, ◌*◌, ◌≤◌, ◌<◌, [], ◌∷◌, ◌++◌, ◌==◌, List, ℕ, length, map, take, drop, Some, slice_get, vec_len, vec_capacity, OnOk, OnErr};
-ghost use Rattle.ts_packets.specs.Packets.{packets_of};
-ghost use Rattle.ts_packets.specs.Bytes.{bytes_of_packet, packets_alone};
 ghost use Rattle.section_codec.specs.declared.table.SubTable.{SubTable};
 ghost use Rattle.version_book.specs.Airings.{AiredTables, CycleForm};
 ghost use Rattle.version_book.specs.Book.{BookStandsFor, aired};
 ghost use Rattle.air_model.specs.Air.{cycle_sections};
-ghost use Rattle.air_model.specs.Making.{each_alone};
-ghost use Rattle.carousel_player.specs.Laying.{IsPlaced, room_for, places_for};
+ghost use Rattle.air_model.specs.Making.{each_dense};
+ghost use Rattle.carousel_player.specs.Laying.{room_for, places_for};
 ghost use Rattle.carousel_player.specs.Sending.{PutsFirst};
 ghost use Rattle.section_codec.specs.SubTables.{AreFit};
 
 use crate::laying::{lay_cycle, room_for};
+use crate::packing::{Progress, fill_packet};
 use crate::planning::plan_cycle;
 use cycle_plan::CyclePlan;
 use section_codec::{SubTable, Tables};
 use si_time::Moment;
 use std::alloc::{AllocError, Global};
 use std::marker::Model;
-use ts_packets::{packets_of, put_packet};
+use ts_packets::Packer;
 use version_book::VersionBook;
 
 /// A section of the cycle: its PID, and where its bytes stand.
@@ -29,28 +28,25 @@ pub(crate) struct Placed {
     pub(crate) len: usize,
 }
 
-// The sections, each laid once; the place of the one that is being sent, the order of those behind it, and how many packets of it
-// were sent. Contracts see the packets still to come, before they are counted.
+// The sections, each laid once, and how far they were sent. Contracts see the packets still to come, before they are counted.
 #[derive(Drop)]
 pub(crate) struct Cycle {
     alloc: Global,
     bytes: Vec<u8>,
     placed: Vec<Placed>,
-    plan: CyclePlan,
-    at: Option<usize>,
-    index: u32,
+    progress: Progress,
 }
 
 impl Model for Cycle {
     ghost use Rattle.std.specs.Prelude.{List, length};
     ghost use Rattle.ts_packets.specs.Bytes.{Packet};
-    ghost use Rattle.carousel_player.specs.Laying.{order_left, packets_left, IsUnderWay};
+    ghost use Rattle.carousel_player.specs.Laying.{order_left, sections_left, packets_behind, IsUnderWay};
 
     ghost Value = { List Packet };
 
-    ghost view = { λ c. packets_left c.bytes.items c.placed.items (order_left c.at c.plan) c.index };
+    ghost view = { λ c. packets_behind (sections_left c.bytes.items c.placed.items (order_left c.progress.at c.progress.plan)) c.progress.from };
 
-    ghost invariant = { λ c. IsUnderWay (length c.bytes.items) c.placed.items (order_left c.at c.plan) c.index };
+    ghost invariant = { λ c. IsUnderWay (length c.bytes.items) c.placed.items (order_left c.progress.at c.progress.plan) c.progress.from };
 }
 
 impl Cycle {
@@ -62,9 +58,11 @@ impl Cycle {
             alloc,
             bytes: Vec::new(alloc),
             placed: Vec::new(alloc),
-            plan: CyclePlan::ended(alloc),
-            at: None,
-            index: 0,
+            progress: Progress {
+                at: None,
+                from: 0,
+                plan: CyclePlan::ended(alloc),
+            },
         }
     }
 
@@ -72,7 +70,7 @@ impl Cycle {
     pub(crate) fn is_ended(&self) -> bool
         ensures { result ≡ (length self.now == 0) }
     {
-        self.at.is_none()
+        self.progress.at.is_none()
     }
 
     /// Begins the cycle of these sub-tables, with the versions that the book gives them, and the TDT of this moment, in the order
@@ -90,12 +88,12 @@ impl Cycle {
         ensures versions { OnOk result ((past : List AiredTables) (form : CycleForm) → BookStandsFor past book.old
             → BookStandsFor (past ++ aired tables.now.list moment.0 form ∷ []) book.new) }
         ensures begun { OnOk result ((past : List AiredTables) → BookStandsFor past book.old
-            → self.new ≡ each_alone (cycle_sections past (aired tables.now.list moment.0 (record { quota = quota })))) }
+            → self.new ≡ each_dense (cycle_sections past (aired tables.now.list moment.0 (record { quota = quota })))) }
         ensures ended { OnErr result (self.new ≡ self.old) }
         ensures kept { OnErr result (book.new ≡ book.old) }
     {
-        self.at = None;
-        self.index = 0;
+        self.progress.at = None;
+        self.progress.from = 0;
         let list = tables.list.as_slice();
         take_room(&mut self.bytes, &mut self.placed, list)?;
         let mut plan = plan_cycle(self.alloc, list, quota)?;
@@ -107,8 +105,8 @@ impl Cycle {
             versions.as_slice(),
             moment,
         );
-        self.at = plan.next();
-        self.plan = plan;
+        self.progress.at = plan.next();
+        self.progress.plan = plan;
         Ok(())
     }
 
@@ -118,30 +116,13 @@ impl Cycle {
         requires some { 0 < length self.old }
         ensures { PutsFirst self.old self.new into.new }
     {
-        let Some(at) = self.at else {
+        let Some(at) = self.progress.at else {
             return;
         };
-        let placed = self.placed[at];
-        put_placed(&self.bytes, placed, self.index, into);
-        if self.index + 1 < packets_of(placed.len) {
-            self.index += 1;
-        } else {
-            self.at = self.plan.next();
-            self.index = 0;
-        }
+        let mut packer = Packer::open(self.placed[at].pid);
+        fill_packet(&mut packer, &mut self.progress, &self.bytes, &self.placed);
+        packer.finish_into(into);
     }
-}
-
-// Writes a packet of a section over 188 bytes.
-fn put_placed(bytes: &[u8], placed: Placed, index: u32, into: &mut [u8])
-    requires room { length into.old ≡ 188 }
-    requires placed { IsPlaced (length bytes.now) placed }
-    requires index { index < packets_of placed.len }
-    ensures { slice_get (map bytes_of_packet (packets_alone placed.pid (take placed.len (drop placed.start bytes.now)))) index ≡ Some into.new }
-{
-    let (_, from) = bytes.split_at(placed.start);
-    let (section, _) = from.split_at(placed.len);
-    put_packet(into, placed.pid, section, index);
 }
 
 // Empties the buffers and takes the memory for the sections of these sub-tables, and for a TDT: 8 bytes, and one place.

@@ -10,6 +10,7 @@
 mod cycle;
 mod laws;
 mod laying;
+mod packing;
 mod planning;
 mod player;
 mod sending;

@@ -42,6 +42,13 @@ impl Packer {
         }
     }
 
+    /// The PID of its packets.
+    pub fn pid(&self) -> u16
+        ensures { result ≡ self.now.pid }
+    {
+        self.pid
+    }
+
     /// Puts the longest possible piece of a section, from this byte on, into the packet that is begun, and says how many bytes it has. A
     /// section begins (`from` 0) where the packet has less than 183 bytes, and no byte of it is behind the 183rd: the pointer_field takes
     /// one. One that goes on takes up to 184 bytes of an empty packet.

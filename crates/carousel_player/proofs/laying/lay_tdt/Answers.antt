@@ -4,7 +4,7 @@ use Rattle.air_model.specs.Air.{tdt}
 use Rattle.carousel_player.specs.declared.cycle.Placed.{Placed}
 use Rattle.carousel_player.specs.Laying.{AreLaid}
 use Rattle.carousel_player.proofs.Laid.{AreLaid-push}
-use Rattle.carousel_player.proofs.Weights.{eight}
+use Rattle.air_model.proofs.Dense.{eight}
 use Rattle.carousel_player.proofs.laying.lay_tdt.Goals as goal
 
 pub returns-clause-laid : goal.returns-clause-laid

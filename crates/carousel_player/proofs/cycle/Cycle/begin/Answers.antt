@@ -3,7 +3,7 @@ use Rattle.section_codec.specs.declared.table.SubTable.{SubTable}
 use Rattle.cycle_plan.specs.Cycle.{cycle_of}
 use Rattle.cycle_plan.specs.Sections.{planned}
 use Rattle.air_model.specs.Air.{at_places}
-use Rattle.air_model.specs.Making.{each_alone}
+use Rattle.air_model.specs.Making.{each_dense}
 use Rattle.carousel_player.specs.Laying.{AreLaid, cycle_under, sent_at, order_left, IsUnderWay}
 use Rattle.carousel_player.specs.Planning.{weights_under}
 use Rattle.carousel_player.proofs.Begun.{under_way, cycle_begun}
@@ -39,5 +39,5 @@ returns-clause-begun c past stands =
     let goes_on : order_left c.next-self-inside.result c.next-self-inside.new.self ≡ order =
     order_goes_on c.next-self-inside.result c.in_ok-plan.plan c.next-self-inside.new.self c.next-self-inside.ensures.some c.next-self-inside.ensures.none
     ∙ c.in_ok-plan.ensures ∙ ap (λ (l : List SubTable). cycle_of (planned (weights_under l) c.args.quota)) c.as_slice-list.ensures in
-    ap (λ (o : List ℕ). each_alone (map (sent_at bytes) (at_places placed o))) goes_on
+    ap (λ (o : List ℕ). each_dense (map (sent_at bytes) (at_places placed o))) goes_on
     ∙ cycle_begun past c.args.moment.0 c.args.quota vs ts bytes placed whole (c.as_slice.ensures ∙ c.in_ok-versions.ensures.versions past c.args.moment.0 (record { quota = c.args.quota }) stands)
