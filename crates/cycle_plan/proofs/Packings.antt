@@ -34,14 +34,14 @@ starts packing pid =
 -- ---- no more packets than alone
 
 -- at the end of a section a packet is begun
-used_some : (bytes : ℕ) → 0 < bytes → 0 < used_at_end bytes
+pub used_some : (bytes : ℕ) → 0 < bytes → 0 < used_at_end bytes
 used_some bytes h = go (nat_lt bytes 184)
   where
     go : (b : Bool) → 0 < (if b then bytes else bytes % 184 + 1)
     go true = h
     go false = omega arith
 
-so_far-begun : (packing : Packing) → 0 < packing.used → packets_so_far packing ≡ packing.closed + 1
+pub so_far-begun : (packing : Packing) → 0 < packing.used → packets_so_far packing ≡ packing.closed + 1
 so_far-begun packing h = ap (λ (b : Bool). if b then packing.closed else packing.closed + 1) (ne_eqb packing.used 0 (λ e. omega arith))
 
 one-more : (packing : Packing) (pid len : ℕ) → 0 < len → packets_so_far (packed_one packing pid len) ≤ packets_so_far packing + packets_of len
