@@ -10,18 +10,19 @@ use Rattle.ts_packets.specs.Counting.{of_pid, loads_on, Count}
 use Rattle.ts_packets.proofs.Carrying.{Carries-whole}
 use Rattle.air_model.specs.Air.{Aired, sent_on, cycle_sections, IsCycle, Cycles, air, airings_of, air_bytes, IsAirOf}
 use Rattle.air_model.specs.Repeating.{RepeatingCycles, IsRepeatingAirOf}
-use Rattle.air_model.specs.Making.{each_alone, counted, cycle_alone, AreMade}
+use Rattle.air_model.specs.Making.{each_dense, counted, cycle_dense, AreMade}
 use Rattle.air_model.proofs.Repeating.{airs_repeat}
-use Rattle.air_model.proofs.Counted.{PidsFit, of_pid-counted, fields-counted, count-counted, Carries-each_alone}
+use Rattle.air_model.proofs.Counted.{PidsFit, of_pid-counted, fields-counted, count-counted}
+use Rattle.air_model.proofs.Dense.{Carries-each_dense, cycle_some}
 
 -- the air of no airing
 pub IsAirOf-none : IsAirOf [] []
 IsAirOf-none = record { airings_are = refl; cycles = tt; counted = λ pid. tt; fields = tt }
 
--- sections one after the other, each alone in its packets, are a cycle
-pub IsCycle-alone : (past : List AiredTables) (sent : List Packet) (a : AiredTables) → IsCycle past (record { airing = a; packets = cycle_alone past sent a })
-IsCycle-alone past sent a pid =
-    subst (λ (x : List Piece). Carries x (filter_map (sent_on pid) (cycle_sections past a))) (sym (of_pid-counted pid sent (each_alone (cycle_sections past a)))) (Carries-each_alone pid (cycle_sections past a))
+-- sections one after the other, neighbours of one PID in packets that they share, are a cycle
+pub IsCycle-dense : (past : List AiredTables) (sent : List Packet) (a : AiredTables) → IsCycle past (record { airing = a; packets = cycle_dense past sent a })
+IsCycle-dense past sent a pid =
+    subst (λ (x : List Piece). Carries x (filter_map (sent_on pid) (cycle_sections past a))) (sym (of_pid-counted pid sent (each_dense (cycle_sections past a)))) (Carries-each_dense pid (cycle_sections past a) (cycle_some past a))
 
 pub air-push : (xs : List Aired) (x : Aired) → air (xs ++ x ∷ []) ≡ air xs ++ x.packets
 air-push xs x = flat_map-append (λ (y : Aired). y.packets) xs (x ∷ []) ∙ ap (λ (l : List Packet). air xs ++ l) (append-nil x.packets)
@@ -52,17 +53,17 @@ air_more airings xs x h cycle counts fields = record {
 }
 
 -- cycles that are made, and one more
-pub AreMade-push : (before xs : List Aired) (x : Aired) → AreMade before xs → x.packets ≡ cycle_alone (airings_of (before ++ xs)) (air (before ++ xs)) x.airing → AreMade before (xs ++ x ∷ [])
-AreMade-push before [] x made is = (subst (λ (l : List Aired). x.packets ≡ cycle_alone (airings_of l) (air l) x.airing) (append-nil before) is, tt)
+pub AreMade-push : (before xs : List Aired) (x : Aired) → AreMade before xs → x.packets ≡ cycle_dense (airings_of (before ++ xs)) (air (before ++ xs)) x.airing → AreMade before (xs ++ x ∷ [])
+AreMade-push before [] x made is = (subst (λ (l : List Aired). x.packets ≡ cycle_dense (airings_of l) (air l) x.airing) (append-nil before) is, tt)
 AreMade-push before (y ∷ ys) x made is =
-    (made.0, AreMade-push (before ++ y ∷ []) ys x made.1 (subst (λ (l : List Aired). x.packets ≡ cycle_alone (airings_of l) (air l) x.airing) (sym (append_assoc before (y ∷ []) ys)) is))
+    (made.0, AreMade-push (before ++ y ∷ []) ys x made.1 (subst (λ (l : List Aired). x.packets ≡ cycle_dense (airings_of l) (air l) x.airing) (sym (append_assoc before (y ∷ []) ys)) is))
 
 -- the cycle that is made behind an air makes a longer air
-pub air_more-alone : (airings : List AiredTables) (xs : List Aired) (a : AiredTables) → IsAirOf airings xs → PidsFit (each_alone (cycle_sections airings a))
-    → IsAirOf (airings ++ a ∷ []) (xs ++ record { airing = a; packets = cycle_alone airings (air xs) a } ∷ [])
-air_more-alone airings xs a h fit =
-    let units = each_alone (cycle_sections airings a) in
-    air_more airings xs (record { airing = a; packets = counted (air xs) units }) h (IsCycle-alone airings (air xs) a)
+pub air_more-dense : (airings : List AiredTables) (xs : List Aired) (a : AiredTables) → IsAirOf airings xs → PidsFit (each_dense (cycle_sections airings a))
+    → IsAirOf (airings ++ a ∷ []) (xs ++ record { airing = a; packets = cycle_dense airings (air xs) a } ∷ [])
+air_more-dense airings xs a h fit =
+    let units = each_dense (cycle_sections airings a) in
+    air_more airings xs (record { airing = a; packets = counted (air xs) units }) h (IsCycle-dense airings (air xs) a)
     (λ pid. count-counted (air xs) units pid (h.counted pid)) (fields-counted (air xs) units fit)
 
 whole_packets : (ps : List Packet) → ((pid : ℕ) → AllByRecursion IsWhole (of_pid pid ps)) → AllByRecursion (λ (p : Packet). IsWhole p.piece) ps

@@ -1,15 +1,13 @@
--- Packets with their counters, and sections alone in packets of their own.
+-- Packets with their counters.
 use Rattle.std.proofs.Common.{◌≡◌, ℕ, suc, ◌+◌, ◌%◌, ◌<◌, List, [], ◌∷◌, ◌++◌, Bool, true, false, Some, None, length, refl, sym, ap, ◌∙◌, subst, arith, append_assoc, append-nil}
 use Rattle.std.specs.Prelude.{◌==◌, if◌then◌else◌, filter_map}
 use Rattle.std.specs.List.{AllByRecursion, cons_option}
 use Rattle.std.proofs.lemmas.Bool.{eqb-true}
-use Rattle.ts_packets.specs.Packets.{Piece, pieces, alone, Carries}
-use Rattle.ts_packets.specs.Bytes.{Packet, HasFields, packets_alone}
+use Rattle.ts_packets.specs.Packets.{Piece}
+use Rattle.ts_packets.specs.Bytes.{Packet, HasFields}
 use Rattle.ts_packets.specs.Counting.{Load, loads_on, piece_on, of_pid, Count}
-use Rattle.ts_packets.proofs.Carrying.{Carries-none, Carries-append, Carries-alone}
-use Rattle.ts_packets.proofs.Stamps.{loads_on-append, of_pid-append, Count-append, one_pid}
-use Rattle.air_model.specs.Air.{Sent, sent_on}
-use Rattle.air_model.specs.Making.{each_alone, count_behind, counted}
+use Rattle.ts_packets.proofs.Stamps.{loads_on-append, Count-append}
+use Rattle.air_model.specs.Making.{count_behind, counted}
 
 -- counters change no piece
 pub of_pid-counted : (pid : ℕ) (past ps : List Packet) → of_pid pid (counted past ps) ≡ of_pid pid ps
@@ -59,20 +57,3 @@ count-counted past [] pid h = subst (λ (x : List Packet). Count 0 (loads_on pid
 count-counted past (p ∷ ps) pid h =
     let q = count_behind past p in
     subst (λ (x : List Packet). Count 0 (loads_on pid x)) (append_assoc past (q ∷ []) (counted (past ++ q ∷ []) ps)) (count-counted (past ++ q ∷ []) ps pid (count_one past p pid h))
-
--- Sections that are sent alone: on each PID the packets carry the sections of that PID, in their order.
-pub Carries-each_alone : (pid : ℕ) (ss : List Sent) → Carries (of_pid pid (each_alone ss)) (filter_map (sent_on pid) ss)
-Carries-each_alone pid [] = Carries-none
-Carries-each_alone pid (s ∷ ss) = go (s.pid == pid) refl (Carries-each_alone pid ss)
-  where
-    go : (b : Bool) → (s.pid == pid) ≡ b → Carries (of_pid pid (each_alone ss)) (filter_map (sent_on pid) ss) → Carries (of_pid pid (each_alone (s ∷ ss))) (filter_map (sent_on pid) (s ∷ ss))
-    go b e rec =
-        let cut : of_pid pid (each_alone (s ∷ ss)) ≡ (if b then pieces [] (alone s.bytes) else []) ++ of_pid pid (each_alone ss) =
-        of_pid-append pid (packets_alone s.pid s.bytes) (each_alone ss) ∙ ap (λ (x : List Piece). x ++ of_pid pid (each_alone ss)) (one_pid pid s.pid b e (pieces [] (alone s.bytes))) in
-        let sections : filter_map (sent_on pid) (s ∷ ss) ≡ cons_option (if b then Some s.bytes else None) (filter_map (sent_on pid) ss) =
-        ap (λ (x : Bool). cons_option (if x then Some s.bytes else None) (filter_map (sent_on pid) ss)) e in
-        subst (λ (x : List Piece). Carries x (filter_map (sent_on pid) (s ∷ ss))) (sym cut) (subst (λ (x : List (List ℕ)). Carries ((if b then pieces [] (alone s.bytes) else []) ++ of_pid pid (each_alone ss)) x) (sym sections) (at b))
-      where
-        at : (b : Bool) → Carries ((if b then pieces [] (alone s.bytes) else []) ++ of_pid pid (each_alone ss)) (cons_option (if b then Some s.bytes else None) (filter_map (sent_on pid) ss))
-        at true = Carries-append (pieces [] (alone s.bytes)) (of_pid pid (each_alone ss)) (s.bytes ∷ []) (filter_map (sent_on pid) ss) (Carries-alone s.bytes) rec
-        at false = rec

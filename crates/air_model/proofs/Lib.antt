@@ -1,5 +1,6 @@
 pub mod Elements
 pub mod Planned
 pub mod Counted
+pub mod Dense
 pub mod Airs
 pub mod Repeating

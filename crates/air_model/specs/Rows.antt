@@ -11,7 +11,7 @@ use Rattle.cycle_plan.specs.Sections.{planned}
 use Rattle.version_book.specs.Airings.{AiredTables}
 use Rattle.ts_packets.specs.Bytes.{bytes_of_packet}
 use Rattle.air_model.specs.Air.{Sent, Aired, weights_once, before_tdt, behind_tdt, cycle_sections, air_bytes}
-use Rattle.air_model.specs.Making.{cycle_alone}
+use Rattle.air_model.specs.Making.{cycle_dense}
 
 abbrev sdt_body : List ℕ
 sdt_body = 0x00 ∷ 0x01 ∷ 0xFF ∷ 0x00 ∷ 0x65 ∷ 0xFF ∷ 0x80 ∷ 0x0D ∷ 0x48 ∷ 0x0B ∷ 0x01 ∷ 0x04 ∷ 0x41 ∷ 0x63 ∷ 0x6D ∷ 0x65 ∷ 0x04 ∷ 0x4E ∷ 0x65 ∷ 0x77 ∷ 0x73 ∷ []
@@ -38,11 +38,11 @@ unfolding crc_of crc_from moments_compute
 row_sections = refl
 
 abbrev first : Aired
-first = record { airing = airing_of sdt_body annex; packets = cycle_alone [] [] (airing_of sdt_body annex) }
+first = record { airing = airing_of sdt_body annex; packets = cycle_dense [] [] (airing_of sdt_body annex) }
 
 -- the same content again, at 23:59:59: the version stays, and the counters go on
 abbrev second : Aired
-second = record { airing = airing_of sdt_body 4257273599; packets = cycle_alone (first.airing ∷ []) first.packets (airing_of sdt_body 4257273599) }
+second = record { airing = airing_of sdt_body 4257273599; packets = cycle_dense (first.airing ∷ []) first.packets (airing_of sdt_body 4257273599) }
 
 row_air : air_bytes (first ∷ second ∷ []) ≡
     0x47 ∷ 0x40 ∷ 0x11 ∷ 0x10 ∷ 0x00 ∷ sdt_section ++ replicate 150 0xFF
@@ -53,7 +53,7 @@ unfolding crc_of crc_from moments_compute
 row_air = refl
 
 -- another content, at 1970-01-01T00:00:00Z: the version is 1, and the counters are 2
-row_changed : map bytes_of_packet (cycle_alone (first.airing ∷ second.airing ∷ []) (first.packets ++ second.packets) (airing_of (0x00 ∷ 0x01 ∷ 0xFF ∷ []) 3506716800)) ≡
+row_changed : map bytes_of_packet (cycle_dense (first.airing ∷ second.airing ∷ []) (first.packets ++ second.packets) (airing_of (0x00 ∷ 0x01 ∷ 0xFF ∷ []) 3506716800)) ≡
     (0x47 ∷ 0x40 ∷ 0x11 ∷ 0x12 ∷ 0x00 ∷ 0x42 ∷ 0xF0 ∷ 0x0C ∷ 0x00 ∷ 0x01 ∷ 0xC3 ∷ 0x00 ∷ 0x00 ∷ 0x00 ∷ 0x01 ∷ 0xFF ∷ 0x32 ∷ 0x21 ∷ 0xB1 ∷ 0x33 ∷ replicate 168 0xFF)
     ∷ (0x47 ∷ 0x40 ∷ 0x14 ∷ 0x12 ∷ 0x00 ∷ 0x70 ∷ 0x70 ∷ 0x05 ∷ 0x9E ∷ 0x8B ∷ 0x00 ∷ 0x00 ∷ 0x00 ∷ replicate 175 0xFF) ∷ []
 unfolding crc_of crc_from moments_compute

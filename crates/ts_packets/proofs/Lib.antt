@@ -1,5 +1,6 @@
 pub mod Filling
 pub mod Carrying
+pub mod Dense
 pub mod Headers
 pub mod Stamps
 pub mod Joined

@@ -4,7 +4,7 @@ use Rattle.ts_packets.specs.declared.shape.Shape.{Shape}
 use Rattle.ts_packets.specs.declared.shape.Shape.TheVariants.{Pass, Gap, Load}
 use Rattle.ts_packets.specs.declared.shape.BadPacket.{BadPacket}
 use Rattle.ts_packets.specs.declared.shape.BadPacket.TheVariants.{Sync}
-use Rattle.ts_packets.specs.Packets.{Piece, pieces, alone}
+use Rattle.ts_packets.specs.Packets.{Piece, pieces, alone, stretch}
 
 -- a packet that is written: its PID, its continuity_counter, and its piece
 pub record Packet : Type 0 where
@@ -28,6 +28,10 @@ packet_on pid piece = record { pid = pid; counter = 0; piece = piece }
 -- the packets of a section that begins in a packet of its own
 abbrev pub packets_alone : ℕ → List ℕ → List Packet
 packets_alone pid section = map (packet_on pid) (pieces [] (alone section))
+
+-- the packets of a stretch of sections that share them
+abbrev pub packets_dense : ℕ → List (List ℕ) → List Packet
+packets_dense pid sections = map (packet_on pid) (pieces [] (stretch sections))
 
 -- The fields of a packet, read from its bytes.
 abbrev pub transport_error_indicator : List ℕ → Bool

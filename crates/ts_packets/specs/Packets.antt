@@ -1,5 +1,5 @@
 -- Packets of one PID, and the sections that they carry (ISO/IEC 13818-1, 2.4.3.2 and 2.4.4.2).
-use Rattle.std.specs.Prelude.{◌≡◌, ℕ, zero, suc, ◌+◌, ◌/◌, ◌<◌, List, [], ◌∷◌, ◌++◌, Bool, true, false, length, take, drop, flat_map}
+use Rattle.std.specs.Prelude.{◌≡◌, ℕ, zero, suc, ◌+◌, ◌/◌, ◌<◌, List, [], ◌∷◌, ◌++◌, Bool, true, false, if◌then◌else◌, nat_lt, length, take, drop, flat_map}
 
 -- what of a packet matters to sections: payload_unit_start_indicator and the payload
 pub record Piece : Type 0 where
@@ -88,3 +88,26 @@ alone s = (s ∷ []) ∷ goes_alone (length s) (drop 183 s)
 -- how many packets a section of len bytes has alone: the pointer and the section, by 184 bytes
 abbrev pub packets_of : ℕ → ℕ
 packets_of len = (len + 1 + 183) / 184
+
+-- ---- sections that share packets
+
+-- the sections that can begin in a packet, n bytes of which are taken, and the others
+abbrev pub beginning : ℕ → List (List ℕ) → List (List ℕ)
+beginning n [] = []
+beginning n (s ∷ ss) = if nat_lt n 183 then s ∷ beginning (n + length s) ss else []
+
+abbrev pub waiting : ℕ → List (List ℕ) → List (List ℕ)
+waiting n [] = []
+waiting n (s ∷ ss) = if nat_lt n 183 then waiting (n + length s) ss else s ∷ ss
+
+-- as many sections as can begin in each packet; m bounds the number of packets
+abbrev pub packed : ℕ → List ℕ → List (List ℕ) → List (List (List ℕ))
+packed zero rest ss = []
+packed (suc m) [] [] = []
+packed (suc m) [] (s ∷ ss) = beginning 0 (s ∷ ss) ∷ packed m (left_by [] (beginning 0 (s ∷ ss))) (waiting 0 (s ∷ ss))
+packed (suc m) (b ∷ rest) ss =
+    beginning (length (b ∷ rest)) ss ∷ packed m (left_by (b ∷ rest) (beginning (length (b ∷ rest)) ss)) (waiting (length (b ∷ rest)) ss)
+
+-- a stretch: sections that follow each other, packed from an empty packet on; each has a byte, so these packets are enough
+abbrev pub stretch : List (List ℕ) → List (List (List ℕ))
+stretch ss = packed (length (joined ss)) [] ss

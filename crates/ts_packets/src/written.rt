@@ -56,7 +56,7 @@ pub fn put_packet(into: &mut [u8], pid: u16, section: &[u8], index: u32)
 }
 
 // The first four bytes of a packet, with continuity_counter 0.
-fn put_header(header: &mut [u8], pid: u16, start: bool)
+pub(crate) fn put_header(header: &mut [u8], pid: u16, start: bool)
     requires room { length header.old ≡ 4 }
     requires pid { pid < 8192 }
     ensures { header.new ≡ 71 ∷ ((if start then 64 else 0) + pid / 256) ∷ (pid % 256) ∷ 16 ∷ [] }
@@ -69,7 +69,7 @@ fn put_header(header: &mut [u8], pid: u16, start: bool)
 }
 
 // As many of these bytes as fit, and fill behind them.
-fn put_load(payload: &mut [u8], load: &[u8])
+pub(crate) fn put_load(payload: &mut [u8], load: &[u8])
     ensures { payload.new ≡ filled (length payload.old) load.now }
 {
     let count = load.len().min(payload.len());
