@@ -60,6 +60,12 @@ ends : (x : ℕ) (a b : List ℕ) (parts : List (List ℕ)) (u v : List ℕ) →
 ends x a b [] u v la lu e = absurd (none x u v e)
 ends x a b (c ∷ parts) u v la lu e = sym ((first_same x a ((b ++ c) ++ led (a ++ x ∷ b) parts) u v (sym (led-starts x a b c (led (a ++ x ∷ b) parts)) ∙ e) la lu).0)
 
+-- what stands before x, with one part more
+past_more : (x : ℕ) (a b c : List ℕ) (past : List (List ℕ)) (front rest tail : List ℕ) → front ≡ a → rest ≡ (b ++ c) ++ tail → tail ≡ led (a ++ x ∷ b) past ++ a → front ++ x ∷ rest ≡ led (a ++ x ∷ b) (c ∷ past) ++ a
+past_more x a b c past front rest tail e f g =
+    ap₂ (λ (m k : List ℕ). m ++ x ∷ k) e (f ∙ ap (λ (m : List ℕ). (b ++ c) ++ m) g) ∙ sym (led-starts x a b c (led (a ++ x ∷ b) past ++ a))
+    ∙ sym (append_assoc ((a ++ x ∷ b) ++ c) (led (a ++ x ∷ b) past) a)
+
 pub between : (x : ℕ) (a b : List ℕ) (parts : List (List ℕ)) → Lacks x a → Lacks x b → AllByRecursion (Lacks x) parts →
     (u t v : List ℕ) → led (a ++ x ∷ b) parts ≡ u ++ x ∷ (t ++ x ∷ v) → Lacks x t → Between x a b parts u t
 between x a b [] la lb all u t v e lt = absurd (none x u (t ++ x ∷ v) e)
@@ -88,6 +94,6 @@ between x a b (c ∷ parts) la lb all u t v e lt =
           part = r.part;
           more = r.more;
           are = ap (λ (m : List (List ℕ)). c ∷ m) r.are;
-          before_is = f.are ∙ ap₂ (λ (m k : List ℕ). m ++ x ∷ k) (sym s.0) (o.1 ∙ ap (λ (m : List ℕ). (b ++ c) ++ m) r.before_is) ∙ sym (led-starts x a b c (led (a ++ x ∷ b) r.past ++ a)) ∙ sym (append_assoc ((a ++ x ∷ b) ++ c) (led (a ++ x ∷ b) r.past) a);
+          before_is = f.are ∙ past_more x a b c r.past f.before f.after o.0 (sym s.0) o.1 r.before_is;
           between_is = r.between_is;
         }
