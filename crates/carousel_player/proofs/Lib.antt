@@ -5,5 +5,7 @@ pub mod Begun
 pub mod Sendings
 pub mod Plays
 pub mod Weights
+pub mod Stretches
+pub mod DenseStarts
 pub mod Spaced
 pub mod SentSpaced

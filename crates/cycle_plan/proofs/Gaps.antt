@@ -8,21 +8,27 @@ use Rattle.std.proofs.Math.Nat.{mul-le-mul_right}
 use Rattle.si_lists.proofs.Lists.{all_append, all_at}
 use Rattle.cycle_plan.specs.Cutting.{packets_in, cut}
 use Rattle.cycle_plan.specs.Cycle.{Planned, led, fast_of, near_of, chunks_of, body_of, runs_of, cycle_of}
-use Rattle.cycle_plan.specs.Spacing.{Lacks, fast_bound, near_span, near_bound, IsWithinLimits, CyclesAreSpaced}
+use Rattle.cycle_plan.specs.Spacing.{Lacks, near_span, near_bound, IsWithinLimits}
 use Rattle.cycle_plan.proofs.Lists.{packets-append, all-numbers, numbers-lack, once}
-use Rattle.cycle_plan.proofs.Leads.{AllAre, between, led-append, all-parts, filter-led, filter-all}
+use Rattle.cycle_plan.proofs.Leads.{AllAre, Between, between, led-append, all-parts, filter-led, filter-all}
 use Rattle.std.proofs.lemmas.Bool.{le-leb, lt-leb}
 use Rattle.cycle_plan.proofs.Cuts.{is_cut}
 use Rattle.cycle_plan.proofs.Tiers.{tiers, small_runs, small_chunks, chunks_joined, runs_joined}
 use Rattle.cycle_plan.proofs.Counts.{packets-split, shorts, shorts-append, shorts-one, few-behind}
-use Rattle.cycle_plan.proofs.Places.{spaced_by}
 
 two_cycles : (p : Planned) → cycle_of p ++ cycle_of p ≡ led (fast_of p) (runs_of p ++ runs_of p)
 two_cycles p = sym (led-append (fast_of p) (runs_of p) (runs_of p))
 
 -- ---- of a Fast section: all of Fast, and a run
 
-fast_gap : (p : Planned) → IsWithinLimits p → (x : ℕ) → x < p.fasts → (before gap after : List ℕ) → cycle_of p ++ cycle_of p ≡ before ++ x ∷ (gap ++ x ∷ after) → Lacks x gap → p.size x + packets_in p.size gap ≤ fast_bound p
+pub record FastGap (p : Planned) (x : ℕ) (before gap : List ℕ) : Type 0 where
+  pub front : List ℕ
+  pub rest : List ℕ
+  pub fast : fast_of p ≡ front ++ x ∷ rest
+  pub is : Between x front rest (runs_of p ++ runs_of p) before gap
+  pub small : packets_in p.size is.part ≤ p.quota + 22
+
+pub fast_gap : (p : Planned) → IsWithinLimits p → (x : ℕ) → x < p.fasts → (before gap after : List ℕ) → cycle_of p ++ cycle_of p ≡ before ++ x ∷ (gap ++ x ∷ after) → Lacks x gap → FastGap p x before gap
 fast_gap p is x l before gap after e h =
     let o = once 0 p.fasts x (omega arith) (omega arith) in
     let runs = runs_of p in
@@ -30,12 +36,21 @@ fast_gap p is x l before gap after e h =
     let b = between x o.before o.after (runs ++ runs) o.lacks_before o.lacks_after (all_append (Lacks x) runs runs lacking lacking) before gap after
     (ap (λ (s : List ℕ). led s (runs ++ runs)) (sym o.are) ∙ sym (two_cycles p) ∙ e) h in
     let P : List ℕ → Type 0 = λ c. packets_in p.size c ≤ p.quota + 22 in
-    let small : packets_in p.size b.part ≤ p.quota + 22 = all_at P b.past b.part b.more (subst (AllByRecursion P) b.are (all_append P runs runs (small_runs p is) (small_runs p is))) in
-    let g = ap (packets_in p.size) b.between_is in
-    let a = packets-append p.size (o.after ++ b.part) o.before in
-    let c = packets-append p.size o.after b.part in
-    let f = ap (packets_in p.size) o.are in
-    let d = packets-append p.size o.before (x ∷ o.after) in
+    record {
+      front = o.before;
+      rest = o.after;
+      fast = o.are;
+      is = b;
+      small = all_at P b.past b.part b.more (subst (AllByRecursion P) b.are (all_append P runs runs (small_runs p is) (small_runs p is)));
+    }
+
+pub fast_gap-packets : (p : Planned) (x : ℕ) (before gap : List ℕ) → (g : FastGap p x before gap) → p.size x + packets_in p.size gap ≡ packets_in p.size (fast_of p) + packets_in p.size g.is.part
+fast_gap-packets p x before gap g =
+    let e = ap (packets_in p.size) g.is.between_is in
+    let a = packets-append p.size (g.rest ++ g.is.part) g.front in
+    let b = packets-append p.size g.rest g.is.part in
+    let f = ap (packets_in p.size) g.fast in
+    let c = packets-append p.size g.front (x ∷ g.rest) in
     omega arith
 
 -- ---- of a Near section: all of Near and a chunk, and what Fast sections stand between
@@ -90,7 +105,8 @@ leads count q s f some h =
     leads_below (suc zero) q s some h = omega arith
     leads_below (suc (suc c)) q s some h = let k : c ≤ s / q = le-div c s q some (omega arith) in omega arith
 
-near_gap : (p : Planned) → IsWithinLimits p → (x : ℕ) → p.fasts ≤ x → x < p.fasts + p.nears → (before gap after : List ℕ) → cycle_of p ++ cycle_of p ≡ before ++ x ∷ (gap ++ x ∷ after) → Lacks x gap → p.size x + packets_in p.size gap ≤ near_bound p
+-- with a packet to spare
+pub near_gap : (p : Planned) → IsWithinLimits p → (x : ℕ) → p.fasts ≤ x → x < p.fasts + p.nears → (before gap after : List ℕ) → cycle_of p ++ cycle_of p ≡ before ++ x ∷ (gap ++ x ∷ after) → Lacks x gap → p.size x + packets_in p.size gap < near_bound p
 near_gap p is x l m before gap after e h =
     let t : ℕ → Bool = λ i. nat_le p.fasts i in
     let slow = near_slow p is x l m before gap after e h in
@@ -109,9 +125,3 @@ near_gap p is x l m before gap after e h =
     let j : few.count * p.quota ≤ near_span p + 2 * p.quota = omega arith in
     let v : few.count * packets_in p.size (fast_of p) ≤ (near_span p / p.quota + 2) * packets_in p.size (fast_of p) = leads few.count p.quota (near_span p) (packets_in p.size (fast_of p)) is.some_quota j in
     omega arith
-
-pub cycles_are_spaced : CyclesAreSpaced
-cycles_are_spaced p is n = record {
-  fast = λ x l. spaced_by p.size n (fast_bound p) x (cycle_of p ++ cycle_of p) (fast_gap p is x l);
-  near = λ x l m. spaced_by p.size n (near_bound p) x (cycle_of p ++ cycle_of p) (near_gap p is x l m);
-}

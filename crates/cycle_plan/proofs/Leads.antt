@@ -43,11 +43,12 @@ filter-led t lead (c ∷ parts) h =
 -- ---- a section that stands once in the lead
 
 -- between two such next to each other
-pub record Between (x : ℕ) (a b : List ℕ) (parts : List (List ℕ)) (between : List ℕ) : Type 0 where
+pub record Between (x : ℕ) (a b : List ℕ) (parts : List (List ℕ)) (before between : List ℕ) : Type 0 where
   pub past : List (List ℕ)
   pub part : List ℕ
   pub more : List (List ℕ)
   pub are : parts ≡ past ++ part ∷ more
+  pub before_is : before ≡ led (a ++ x ∷ b) past ++ a
   pub between_is : between ≡ (b ++ part) ++ a
 
 led-starts : (x : ℕ) (a b c : List ℕ) (rest : List ℕ) → ((a ++ x ∷ b) ++ c) ++ rest ≡ a ++ x ∷ ((b ++ c) ++ rest)
@@ -59,8 +60,14 @@ ends : (x : ℕ) (a b : List ℕ) (parts : List (List ℕ)) (u v : List ℕ) →
 ends x a b [] u v la lu e = absurd (none x u v e)
 ends x a b (c ∷ parts) u v la lu e = sym ((first_same x a ((b ++ c) ++ led (a ++ x ∷ b) parts) u v (sym (led-starts x a b c (led (a ++ x ∷ b) parts)) ∙ e) la lu).0)
 
+-- what stands before x, with one part more
+past_more : (x : ℕ) (a b c : List ℕ) (past : List (List ℕ)) (front rest tail : List ℕ) → front ≡ a → rest ≡ (b ++ c) ++ tail → tail ≡ led (a ++ x ∷ b) past ++ a → front ++ x ∷ rest ≡ led (a ++ x ∷ b) (c ∷ past) ++ a
+past_more x a b c past front rest tail e f g =
+    ap₂ (λ (m k : List ℕ). m ++ x ∷ k) e (f ∙ ap (λ (m : List ℕ). (b ++ c) ++ m) g) ∙ sym (led-starts x a b c (led (a ++ x ∷ b) past ++ a))
+    ∙ sym (append_assoc ((a ++ x ∷ b) ++ c) (led (a ++ x ∷ b) past) a)
+
 pub between : (x : ℕ) (a b : List ℕ) (parts : List (List ℕ)) → Lacks x a → Lacks x b → AllByRecursion (Lacks x) parts →
-    (u t v : List ℕ) → led (a ++ x ∷ b) parts ≡ u ++ x ∷ (t ++ x ∷ v) → Lacks x t → Between x a b parts t
+    (u t v : List ℕ) → led (a ++ x ∷ b) parts ≡ u ++ x ∷ (t ++ x ∷ v) → Lacks x t → Between x a b parts u t
 between x a b [] la lb all u t v e lt = absurd (none x u (t ++ x ∷ v) e)
 between x a b (c ∷ parts) la lb all u t v e lt =
     go (has_or_lacks x u) (λ w f. between x a b parts la lb all.1 w t v f lt)
@@ -71,15 +78,22 @@ between x a b (c ∷ parts) la lb all u t v e lt =
     start : a ++ x ∷ ((b ++ c) ++ (led (a ++ x ∷ b) parts)) ≡ u ++ x ∷ (t ++ x ∷ v)
     start = sym (led-starts x a b c (led (a ++ x ∷ b) parts)) ∙ e
 
-    go : FirstIn x u ⊎ Lacks x u → ((w : List ℕ) → (led (a ++ x ∷ b) parts) ≡ w ++ x ∷ (t ++ x ∷ v) → Between x a b parts t) → Between x a b (c ∷ parts) t
+    go : FirstIn x u ⊎ Lacks x u → ((w : List ℕ) → (led (a ++ x ∷ b) parts) ≡ w ++ x ∷ (t ++ x ∷ v) → Between x a b parts w t) → Between x a b (c ∷ parts) u t
     go (inr lu) again =
         let s = first_same x a ((b ++ c) ++ (led (a ++ x ∷ b) parts)) u (t ++ x ∷ v) start la lu in
         let o = pass_over x (b ++ c) (led (a ++ x ∷ b) parts) t v s.1 lbc in
         let l : Lacks x o.0 = all_behind (λ (y : ℕ). y ≡ x → Prim.⊥) (b ++ c) o.0 (subst (Lacks x) o.1 lt) in
         let d = ends x a b parts o.0 v la l o.2 in
-        record { past = []; part = c; more = parts; are = refl; between_is = o.1 ∙ ap (λ (m : List ℕ). (b ++ c) ++ m) d }
+        record { past = []; part = c; more = parts; are = refl; before_is = sym s.0; between_is = o.1 ∙ ap (λ (m : List ℕ). (b ++ c) ++ m) d }
     go (inl f) again =
         let s = first_same x a ((b ++ c) ++ (led (a ++ x ∷ b) parts)) f.before (f.after ++ x ∷ (t ++ x ∷ v)) (start ∙ ap (λ (m : List ℕ). m ++ x ∷ (t ++ x ∷ v)) f.are ∙ append_assoc f.before (x ∷ f.after) (x ∷ (t ++ x ∷ v))) la f.lacks in
         let o = pass_over x (b ++ c) (led (a ++ x ∷ b) parts) f.after (t ++ x ∷ v) s.1 lbc in
         let r = again o.0 o.2 in
-        record { past = c ∷ r.past; part = r.part; more = r.more; are = ap (λ (m : List (List ℕ)). c ∷ m) r.are; between_is = r.between_is }
+        record {
+          past = c ∷ r.past;
+          part = r.part;
+          more = r.more;
+          are = ap (λ (m : List (List ℕ)). c ∷ m) r.are;
+          before_is = f.are ∙ past_more x a b c r.past f.before f.after o.0 (sym s.0) o.1 r.before_is;
+          between_is = r.between_is;
+        }

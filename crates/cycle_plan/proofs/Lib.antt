@@ -4,6 +4,8 @@ pub mod Cuts
 pub mod Tiers
 pub mod Order
 pub mod Counts
-pub mod Places
 pub mod Gaps
+pub mod Packings
+pub mod Places
+pub mod Spaced
 pub mod Cursors

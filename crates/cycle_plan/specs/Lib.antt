@@ -2,6 +2,7 @@ pub mod Cutting
 pub mod Cycle
 pub mod Sections
 pub mod Order
+pub mod Packing
 pub mod Spacing
 pub mod Cursor
 pub mod BodyView

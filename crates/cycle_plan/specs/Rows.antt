@@ -1,10 +1,12 @@
 -- Worked cycles.
-use Rattle.std.specs.Prelude.{◌≡◌, ℕ, [], ◌∷◌, ◌++◌, refl}
+use Rattle.std.specs.Prelude.{◌≡◌, ℕ, List, [], ◌∷◌, ◌++◌, slice_index, length, map, refl}
+use Rattle.section_codec.specs.Contents.{numbers_from}
 use Rattle.section_codec.specs.declared.table.Tier3.TheVariants.{Fast, Near, Far}
 use Rattle.cycle_plan.specs.Cutting.{packets_in}
 use Rattle.cycle_plan.specs.Cycle.{Planned, cycle_of, chunks_of, runs_of}
 use Rattle.cycle_plan.specs.Sections.{planned}
-use Rattle.cycle_plan.specs.Spacing.{Start, starts_alone, fast_bound, near_bound}
+use Rattle.cycle_plan.specs.Packing.{Start, begun_at, packed_all, packets_so_far, starts_dense, starts_of_cycles}
+use Rattle.cycle_plan.specs.Spacing.{fast_bound, near_bound}
 
 -- three Fast sections of a packet, two Near of five, four Far of four; a run has the packets of the quota, 6, or more
 abbrev row : Planned
@@ -69,7 +71,36 @@ row_fast = refl
 row_near : near_bound row ≡ 70
 row_near = refl
 
--- two cycles in which the Fast section repeats at its bound, 1 + 6 + 22 packets
+-- the packets in which these sections begin, where none was begun before
+abbrev packets_of_starts : List Start → List ℕ
+packets_of_starts starts = map (λ (s : Start). s.packet) starts
+
+-- sections of one PID with so many bytes
+abbrev stretch : List ℕ → List ℕ
+stretch lens = packets_of_starts (starts_dense (λ i. 18) (slice_index lens) (begun_at 0) (numbers_from 0 (length lens)))
+
+abbrev stretch_packets : List ℕ → ℕ
+stretch_packets lens = packets_so_far (packed_all (λ i. 18) (slice_index lens) (begun_at 0) (numbers_from 0 (length lens)))
+
+-- one that fills its packet is followed by none in it
+stretch_filled : stretch (183 ∷ 183 ∷ 18 ∷ []) ≡ 0 ∷ 1 ∷ 2 ∷ []
+stretch_filled = refl
+
+-- 83 bytes begin behind 100, and 182 go on, so that no pointer_field fits behind these
+stretch_shared : stretch (100 ∷ 265 ∷ []) ≡ 0 ∷ 0 ∷ []
+stretch_shared = refl
+
+stretch_shared_packets : stretch_packets (100 ∷ 265 ∷ []) ≡ 2
+stretch_shared_packets = refl
+
+-- a pointer_field and one byte of the third section
+stretch_pointed : stretch (100 ∷ 265 ∷ 18 ∷ []) ≡ 0 ∷ 0 ∷ 1 ∷ []
+stretch_pointed = refl
+
+stretch_pointed_packets : stretch_packets (100 ∷ 265 ∷ 18 ∷ []) ≡ 3
+stretch_pointed_packets = refl
+
+-- Fast on a PID of its own, in two cycles in which it repeats at its bound, 1 + 6 + 22 packets
 longest : Planned
 longest = planned ((Fast, 1) ∷ (Near, 5) ∷ (Near, 23) ∷ []) 6
 
@@ -80,7 +111,22 @@ longest_bound = refl
 abbrev start : ℕ → ℕ → Start
 start packet section = record { packet = packet; section = section }
 
-longest_starts : starts_alone longest.size 0 (cycle_of longest ++ cycle_of longest) ≡
+longest_starts : starts_of_cycles (slice_index (0 ∷ 17 ∷ 18 ∷ [])) (slice_index (16 ∷ 736 ∷ 4096 ∷ [])) 0 (cycle_of longest ∷ cycle_of longest ∷ []) ≡
     start 0 0 ∷ start 1 1 ∷ start 6 2 ∷ start 29 0 ∷ start 30 1 ∷ start 35 2 ∷ []
 unfolding longest
 longest_starts = refl
+
+-- Without `ends` the bound fails: an SDT of 183 bytes and a TDT, and in Near an SDT of another stream, 100 bytes, and an EIT of 4,096.
+-- The SDT begins behind the other stream's, in packet 2, and then in packet 28.
+shared : Planned
+shared = planned ((Fast, 1) ∷ (Fast, 1) ∷ (Near, 1) ∷ (Near, 23) ∷ []) 1
+
+shared_bound : fast_bound shared ≡ 25
+unfolding shared
+shared_bound = refl
+
+shared_starts : starts_of_cycles (slice_index (17 ∷ 20 ∷ 17 ∷ 18 ∷ [])) (slice_index (183 ∷ 8 ∷ 100 ∷ 4096 ∷ [])) 0 (cycle_of shared ∷ cycle_of shared ∷ []) ≡
+    (start 0 0 ∷ start 1 1 ∷ start 2 2 ∷ start 2 0 ∷ start 4 1 ∷ start 5 3 ∷ [])
+    ++ (start 28 0 ∷ start 29 1 ∷ start 30 2 ∷ start 30 0 ∷ start 32 1 ∷ start 33 3 ∷ [])
+unfolding shared
+shared_starts = refl

@@ -3,20 +3,11 @@ use Rattle.std.specs.Prelude.{◌≡◌, ℕ, ◌+◌, ◌*◌, ◌/◌, ◌<◌
 use Rattle.std.specs.List.{AllByRecursion}
 use Rattle.cycle_plan.specs.Cutting.{packets_in}
 use Rattle.cycle_plan.specs.Cycle.{Planned, fast_of, near_of, cycle_of}
+use Rattle.cycle_plan.specs.Packing.{Start, starts_of_cycles, IsCounted, IsPacked}
 
 -- no section of the list is x
 abbrev pub Lacks : ℕ → List ℕ → Type 0
 Lacks x xs = AllByRecursion (λ (y : ℕ). y ≡ x → Prim.⊥) xs
-
--- a section begins in a packet
-pub record Start : Type 0 where
-  pub packet : ℕ
-  pub section : ℕ
-
--- each section begins in a packet of its own, the first in packet n
-abbrev pub starts_alone : (ℕ → ℕ) → ℕ → List ℕ → List Start
-starts_alone size n [] = []
-starts_alone size n (x ∷ xs) = record { packet = n; section = x } ∷ starts_alone size (n + size x) xs
 
 -- two starts of x with none between are at most `bound` packets apart
 abbrev pub Spaced : ℕ → ℕ → List Start → Type 0
@@ -46,7 +37,13 @@ pub record IsWithinLimits (p : Planned) : Type 0 where
   pub sized : (i : ℕ) → i < p.fasts + p.nears + p.fars → (1 ≤ p.size i) × (p.size i ≤ 23)
   pub some_quota : 1 ≤ p.quota
 
--- So it is within a cycle, and from its end into a next cycle of the same sections: in two cycles, one behind the other, whichever
--- packet the first begins in.
+-- Packed sections do so within a cycle, and from its end into a next cycle of the same sections: in two cycles, one behind the other,
+-- whichever packet the first begins in;
 abbrev pub CyclesAreSpaced : Type 0
-CyclesAreSpaced = (p : Planned) → IsWithinLimits p → (n : ℕ) → AreSpaced p (starts_alone p.size n (cycle_of p ++ cycle_of p))
+CyclesAreSpaced = (p : Planned) → IsWithinLimits p → (pid len : ℕ → ℕ) → IsPacked p pid len → (n : ℕ)
+    → AreSpaced p (starts_of_cycles pid len n (cycle_of p ∷ cycle_of p ∷ []))
+
+-- and Near sections on any PIDs.
+abbrev pub NearIsSpaced : Type 0
+NearIsSpaced = (p : Planned) → IsWithinLimits p → (pid len : ℕ → ℕ) → IsCounted p len → (n x : ℕ) → p.fasts ≤ x → x < p.fasts + p.nears
+    → Spaced (near_bound p) x (starts_of_cycles pid len n (cycle_of p ∷ cycle_of p ∷ []))

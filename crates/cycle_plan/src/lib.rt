@@ -6,8 +6,9 @@
 //! that were given.
 //!
 //! A cycle has each section and no other (`cycles_are_whole`). A cut into chunks and runs is the only one by its rule
-//! (`cuts_are_unique`). Where each section begins in a packet of its own, Fast and Near sections repeat within bounds, also from
-//! the end of a cycle into a next one of the same sections (`cycles_are_spaced`).
+//! (`cuts_are_unique`). Where neighbours of one PID share packets within a cycle (`specs/Packing.antt`), they take no more packets
+//! than alone (`packing_is_dense`), and Fast and Near sections repeat within bounds, also from the end of a cycle into a next one of
+//! the same sections (`cycles_are_spaced`).
 #![tactic(auto)]
 
 mod body;
@@ -15,4 +16,4 @@ mod cycle;
 mod laws;
 
 pub use cycle::{CyclePlan, plan};
-pub use laws::{cuts_are_unique, cycles_are_spaced, cycles_are_whole};
+pub use laws::{cuts_are_unique, cycles_are_spaced, cycles_are_whole, packing_is_dense};

@@ -69,17 +69,17 @@ smaller m rest ss some h =
 pub some_begins : (s : List ℕ) (ss : List (List ℕ)) → 0 < length s → 0 < 0 + length (joined (beginning 0 (s ∷ ss)))
 some_begins s ss some = omega (arith, some, length-append s (joined (beginning (0 + length s) ss)))
 
-record ArePacked (rest : List ℕ) (ss : List (List ℕ)) (gs : List (List (List ℕ))) : Type 0 where
-  have_room : HaveSectionBytes rest gs
-  ended : left rest gs ≡ []
-  all : all_of gs ≡ ss
+pub record ArePacked (rest : List ℕ) (ss : List (List ℕ)) (gs : List (List (List ℕ))) : Type 0 where
+  pub have_room : HaveSectionBytes rest gs
+  pub ended : left rest gs ≡ []
+  pub all : all_of gs ≡ ss
 
 one_more : (m : ℕ) (rest : List ℕ) (ss : List (List ℕ)) → HasSectionByte rest (beginning (length rest) ss) →
     ArePacked (left_by rest (beginning (length rest) ss)) (waiting (length rest) ss) (packed m (left_by rest (beginning (length rest) ss)) (waiting (length rest) ss))
     → ArePacked rest ss (beginning (length rest) ss ∷ packed m (left_by rest (beginning (length rest) ss)) (waiting (length rest) ss))
 one_more m rest ss room p = record { have_room = (room, p.have_room); ended = p.ended; all = ap (λ (x : List (List ℕ)). beginning (length rest) ss ++ x) p.all ∙ both (length rest) ss }
 
-are_packed : (m : ℕ) (rest : List ℕ) (ss : List (List ℕ)) → HaveBytes ss → length rest + length (joined ss) ≤ m → ArePacked rest ss (packed m rest ss)
+pub are_packed : (m : ℕ) (rest : List ℕ) (ss : List (List ℕ)) → HaveBytes ss → length rest + length (joined ss) ≤ m → ArePacked rest ss (packed m rest ss)
 are_packed zero [] [] all h = record { have_room = tt; ended = refl; all = refl }
 are_packed zero [] (s ∷ ss) all h = absurd (omega (arith, all.0, length-append s (joined ss)))
 are_packed zero (b ∷ rest) ss all h = absurd (omega arith)
