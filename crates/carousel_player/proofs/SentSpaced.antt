@@ -6,23 +6,21 @@ use Rattle.std.specs.Io.KnownBytes.{Appends}
 use Rattle.std.proofs.lemmas.List.{take_all}
 use Rattle.std.proofs.Math.Seq.{take-append-add}
 use Rattle.si_lists.proofs.Lists.{all_front}
-use Rattle.section_codec.specs.SubTables.{AreFit}
 use Rattle.version_book.specs.Airings.{CycleForm, AiredTables}
 use Rattle.ts_packets.specs.Bytes.{bytes_of_packet}
 use Rattle.air_model.specs.Air.{Aired, IsAirOf, airings_of, air_bytes}
 use Rattle.air_model.specs.Making.{AreMade}
 use Rattle.air_model.proofs.Airs.{air_bytes-push}
 use Rattle.carousel_player.specs.Spaced.{SentSpaced}
+use Rattle.carousel_player.specs.Spacing.{CanBeSpaced}
 use Rattle.carousel_player.proofs.Spaced.{made_airs_are_spaced}
 
--- the sub-tables of an airing can be sent, and its cycle has this form
+-- an airing that can be spaced, in a cycle of this form
 abbrev pub IsFitAs : CycleForm → AiredTables → Type 0
-IsFitAs form a = AreFit a.tables × (a.form ≡ form)
+IsFitAs form a = CanBeSpaced a × (a.form ≡ form)
 
--- airings that can be sent, in cycles of one form, which has a quota
-pub record AreFitAs (form : CycleForm) (airings : List AiredTables) : Type 0 where
-  pub quota : 1 ≤ form.quota
-  pub each : AllByRecursion (IsFitAs form) airings
+abbrev pub AreFitAs : CycleForm → List AiredTables → Type 0
+AreFitAs form airings = AllByRecursion (IsFitAs form) airings
 
 each_cycle : (P : AiredTables → Type 0) (xs : List Aired) → AllByRecursion P (airings_of xs) → AllByRecursion (λ (x : Aired). P x.airing) xs
 each_cycle P [] all = tt
@@ -41,7 +39,7 @@ module _ (form : CycleForm) (airings : List AiredTables) (fit : AreFitAs form ai
     size = size;
     bytes = bytes;
     spaced = made_airs_are_spaced form cycles made
-        (each_cycle (IsFitAs form) cycles (all_front (IsFitAs form) (airings_of cycles) others (subst (AllByRecursion (IsFitAs form)) are fit.each))) fit.quota;
+        (each_cycle (IsFitAs form) cycles (all_front (IsFitAs form) (airings_of cycles) others (subst (AllByRecursion (IsFitAs form)) are fit)));
   }
 
   all_of : (cycles : List Aired) → IsAirOf airings cycles → airings ≡ airings_of cycles ++ []

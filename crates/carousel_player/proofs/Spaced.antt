@@ -1,106 +1,45 @@
--- Sections of an air that is made begin where the plan says, and are spaced.
-use Rattle.std.proofs.Common.{◌≡◌, ℕ, ◌+◌, ◌<◌, ◌≤◌, ◌⊎◌, inl, inr, List, [], ◌∷◌, ◌++◌, Option, Some, None, length, map, get_or, refl, sym, ap, ap₂, ◌∙◌, subst, arith, append_assoc, append-nil, length-append}
-use Rattle.std.specs.Prelude.{slice_get, slice_index, option_map}
-use Rattle.std.specs.List.{All, AllByRecursion, prefix_len, cons_option}
-use Rattle.std.proofs.lemmas.Option.{slice_get-map, slice_get_cases, get_or_from_slice_get}
-use Rattle.std.proofs.lemmas.List.{length-map, get_or-map}
+-- Sections of an air that is made begin where the packing of the plan says, and are spaced.
+use Rattle.std.proofs.Common.{◌≡◌, ℕ, zero, suc, ◌+◌, ◌<◌, ◌≤◌, ◌⊎◌, inl, inr, List, [], ◌∷◌, ◌++◌, Bool, true, false, cond, Option, Some, None, length, map, get_or, refl, sym, ap, ap₂, ◌∙◌, subst, arith, append_assoc, append-nil, length-append}
+use Rattle.std.specs.Prelude.{slice_get, slice_index, option_map, count_by, take, drop, flat_map, not, ◌&&◌, if◌then◌else◌}
+use Rattle.std.specs.List.{All, AllByRecursion, prefix_len}
+use Rattle.std.proofs.lemmas.Option.{slice_get-map, get_or_from_slice_get}
+use Rattle.std.proofs.lemmas.List.{length-map, get_or-map, map-append}
 use Rattle.std.proofs.lemmas.List.Concat.{flat_map-append}
 use Rattle.std.proofs.lemmas.List.Elements.{recursion_from_All, All-from_recursion, All-take, All-drop}
 use Rattle.si_lists.proofs.Lists.{all_append, all_at}
 use Rattle.section_codec.specs.declared.table.NumberedBody.{NumberedBody}
 use Rattle.section_codec.specs.declared.table.SubTable.{SubTable}
 use Rattle.section_codec.specs.declared.table.Tier3.{Tier3}
-use Rattle.section_codec.specs.declared.table.Tier3.TheVariants.{Fast}
+use Rattle.section_codec.specs.declared.table.Tier3.TheVariants.{Fast, Near, Far}
 use Rattle.section_codec.specs.Contents.{Content}
 use Rattle.section_codec.specs.SubTables.{IsFit, AreFit, header_of}
+use Rattle.section_codec.specs.Tables.{tier_rank}
 use Rattle.section_codec.proofs.ReadBack.{length-section_bytes}
-use Rattle.cycle_plan.specs.Cutting.{packets_in}
 use Rattle.cycle_plan.specs.Cycle.{Planned, cycle_of}
-use Rattle.cycle_plan.specs.Sections.{AreInTiers, planned}
-use Rattle.cycle_plan.specs.Spacing.{Start, starts_alone, Spaced, fast_bound, near_bound, AreSpaced, IsWithinLimits}
+use Rattle.cycle_plan.specs.Sections.{is_fast, AreInTiers, planned}
+use Rattle.cycle_plan.specs.Packing.{Start, begun_at, packed_all, packets_so_far, starts_dense, starts_of_cycles, IsPacked}
+use Rattle.cycle_plan.specs.Spacing.{AreSpaced, IsWithinLimits}
 use Rattle.cycle_plan.proofs.Cursors.{planned_all}
 use Rattle.cycle_plan.proofs.Order.{cycles_are_whole}
-use Rattle.cycle_plan.proofs.Gaps.{cycles_are_spaced}
+use Rattle.cycle_plan.proofs.Spaced.{cycles_are_spaced, one_cycle_is_spaced}
 use Rattle.version_book.specs.Airings.{CycleForm, AiredTables, version_at}
-use Rattle.ts_packets.specs.Packets.{pieces, alone, packets_of}
-use Rattle.ts_packets.specs.Bytes.{Packet, packet_on, packets_alone}
-use Rattle.ts_packets.proofs.Carrying.{length-pieces, length-alone}
-use Rattle.air_model.specs.Air.{Sent, Aired, sent_section, sections_of, table_sections, tdt, leads, before_tdt, behind_tdt, sections_once, weight, table_weights, weights_once, at_places, air, airings_of}
-use Rattle.air_model.specs.Making.{each_alone, counted, cycle_alone, AreMade}
-use Rattle.air_model.proofs.Counted.{counted-append, length-counted}
+use Rattle.ts_packets.specs.Packets.{packets_of}
+use Rattle.ts_packets.specs.Bytes.{Packet}
+use Rattle.air_model.specs.Air.{Sent, Aired, sent_section, sections_of, table_sections, tdt, leads, before_tdt, behind_tdt, sections_once, cycle_sections, weight, table_weights, weights_once, air, airings_of}
+use Rattle.air_model.specs.Making.{each_dense, counted, cycle_dense, AreMade}
+use Rattle.air_model.proofs.Counted.{length-counted}
+use Rattle.air_model.proofs.Dense.{HaveSome, once_some, eight}
 use Rattle.air_model.proofs.Airs.{air-push}
 use Rattle.air_model.proofs.Planned.{all_got, weights_each}
 use Rattle.carousel_player.specs.Planning.{weights_in, weights_of, weights_under}
-use Rattle.carousel_player.specs.Spacing.{plan_of, starts_of_two, AreStarts, MadeAirsAreSpaced, MadeCyclesAreSpaced, MadeNeighboursAreSpaced}
+use Rattle.carousel_player.specs.Spacing.{plan_of, pid_at, length_at, starts_of, starts_of_two, AreStarts, RunsBeginAlone, CanBeSpaced, MadeAirsAreSpaced, MadeCyclesAreSpaced, MadeNeighboursAreSpaced}
 use Rattle.section_codec.specs.Section.{longest_body}
 use Rattle.section_codec.specs.Tables.{is_eit}
 use Rattle.carousel_player.proofs.Begun.{longest}
-use Rattle.carousel_player.proofs.Weights.{eight, in_tiers, weights_given}
-
--- ---- starts of some sections and then of others
-
-starts-append : (size : ℕ → ℕ) (n : ℕ) (xs ys : List ℕ) → starts_alone size n (xs ++ ys) ≡ starts_alone size n xs ++ starts_alone size (n + packets_in size xs) ys
-starts-append size n [] ys = ap (λ (m : ℕ). starts_alone size m ys) (let e : n ≡ n + 0 = omega arith in e)
-starts-append size n (x ∷ xs) ys =
-    ap (λ (t : List Start). record { packet = n; section = x } ∷ t)
-    (starts-append size (n + size x) xs ys ∙ ap (λ (m : ℕ). starts_alone size (n + size x) xs ++ starts_alone size m ys) (let e : n + size x + packets_in size xs ≡ n + (size x + packets_in size xs) = omega arith in e))
-
--- ---- sections that are sent one after the other
-
--- each size is that of the section with this place
-abbrev AreSizes : List Sent → (ℕ → ℕ) → Type 0
-AreSizes ss size = (i : ℕ) (s : Sent) → slice_get ss i ≡ Some s → size i ≡ length (packets_alone s.pid s.bytes)
-
-record Along (packets : List Packet) (ss : List Sent) (size : ℕ → ℕ) (order : List ℕ) (front : List Packet) : Type 0 where
-  pub starts : AreStarts packets ss (starts_alone size (length front) order)
-  pub many : length (each_alone (at_places ss order)) ≡ packets_in size order
-
-along : (packets : List Packet) (ss : List Sent) (size : ℕ → ℕ) → AreSizes ss size → (order : List ℕ) → AllByRecursion (λ (i : ℕ). i < length ss) order → (front rest : List Packet)
-    → packets ≡ front ++ (counted front (each_alone (at_places ss order)) ++ rest) → Along packets ss size order front
-along packets ss size sizes [] within front rest e = record { starts = tt; many = refl }
-along packets ss size sizes (i ∷ order) within front rest e =
-    go (slice_get_cases ss i).1 (λ next others f. along packets ss size sizes order within.1 next others f)
-  where
-    go : (((s : Sent) × (i < length ss) × (slice_get ss i ≡ Some s) × (get_or ss i s ≡ s)) ⊎ ((length ss ≤ i) × (slice_get ss i ≡ None)))
-        → ((next others : List Packet) → packets ≡ next ++ (counted next (each_alone (at_places ss order)) ++ others) → Along packets ss size order next) → Along packets ss size (i ∷ order) front
-    go (inr past) again = absurd (let lt = within.0 in let le = past.0 in omega arith)
-    go (inl found) again =
-        let s = found.0 in
-        let own = packets_alone s.pid s.bytes in
-        let others = each_alone (at_places ss order) in
-        let here : each_alone (at_places ss (i ∷ order)) ≡ own ++ others = ap (λ (o : Option Sent). each_alone (cons_option o (at_places ss order))) found.2 in
-        let next = front ++ counted front own in
-        let behind = counted next others in
-        let cut : packets ≡ front ++ (counted front own ++ (behind ++ rest)) =
-        e ∙ ap (λ (l : List Packet). front ++ (counted front l ++ rest)) here ∙ ap (λ (l : List Packet). front ++ (l ++ rest)) (counted-append front own others)
-        ∙ ap (λ (l : List Packet). front ++ l) (append_assoc (counted front own) behind rest) in
-        let r = again next rest (cut ∙ sym (append_assoc front (counted front own) (behind ++ rest))) in
-        let fits : size i ≡ length own = sizes i s found.2 in
-        let further : length next ≡ length front + size i = omega (arith, length-append front (counted front own), length-counted front own) in
-        record {
-          starts = (
-            (s, found.2, record { before = front; after = behind ++ rest; place = refl; are = cut }),
-            subst (λ (n : ℕ). AreStarts packets ss (starts_alone size n order)) further r.starts,
-          );
-          many = ap length here ∙ omega (arith, length-append own others, r.many);
-        }
+use Rattle.carousel_player.proofs.DenseStarts.{AreOf, CycleStarts, cycle_starts}
+use Rattle.carousel_player.proofs.Weights.{in_tiers, weights_given}
 
 -- ---- the sections of an airing
-
-some_sections : (v : ℕ) (t : SubTable) (ss : Content) → AllByRecursion (λ (s : Sent). 0 < length s.bytes) (map (sent_section v t) ss)
-some_sections v t [] = tt
-some_sections v t (s ∷ ss) = let size = length-section_bytes (header_of v t s) s.body in (omega (arith, size), some_sections v t ss)
-
-some_tables : (airings : List AiredTables) (ts : List SubTable) → AllByRecursion (λ (s : Sent). 0 < length s.bytes) (table_sections airings ts)
-some_tables airings [] = tt
-some_tables airings (t ∷ ts) =
-    all_append (λ (s : Sent). 0 < length s.bytes) (sections_of (version_at t.key airings) t) (table_sections airings ts) (some_sections (version_at t.key airings) t t.sections) (some_tables airings ts)
-
-some_once : (past : List AiredTables) (a : AiredTables) → AllByRecursion (λ (s : Sent). 0 < length s.bytes) (sections_once past a)
-some_once past a =
-    let all = past ++ a ∷ [] in
-    all_append (λ (s : Sent). 0 < length s.bytes) (table_sections all (before_tdt a.tables)) (tdt a.moment ∷ table_sections all (behind_tdt a.tables)) (some_tables all (before_tdt a.tables))
-    (omega (arith, eight a.moment), some_tables all (behind_tdt a.tables))
 
 -- their sizes are those of the plan
 size_of : Sent → ℕ
@@ -130,14 +69,14 @@ sizes_once past a =
     ∙ ap₂ (λ (x y : List ℕ). x ++ size_of (tdt a.moment) ∷ y) (sizes_tables all (before_tdt a.tables)) (sizes_tables all (behind_tdt a.tables))
     ∙ sym (map-both size_of (table_sections all (before_tdt a.tables)) (tdt a.moment ∷ table_sections all (behind_tdt a.tables)))
 
-are_sizes : (past : List AiredTables) (a : AiredTables) → AreSizes (sections_once past a) (plan_of past a).size
-unfolding size_of
-are_sizes past a i s e =
+-- the PIDs and lengths that the starts are counted with are those of the sections
+are_of : (past : List AiredTables) (a : AiredTables) → AreOf (sections_once past a) (pid_at past a) (length_at past a)
+are_of past a i s e =
     let ss = sections_once past a in
-    let some : 0 < length s.bytes = all_got (λ (x : Sent). 0 < length x.bytes) ss i s (some_once past a) e in
-    let own : length (packets_alone s.pid s.bytes) ≡ packets_of (length s.bytes) = length-map (pieces [] (alone s.bytes)) (packet_on s.pid) ∙ length-pieces [] (alone s.bytes) ∙ length-alone s.bytes some in
-    let at : slice_get (map size_of ss) i ≡ Some (size_of s) = slice_get-map size_of ss i ∙ ap (λ (o : Option Sent). option_map size_of o) e in
-    ap (λ (l : List ℕ). slice_index l i) (sizes_once past a) ∙ get_or_from_slice_get (map size_of ss) i (size_of s) 0 at ∙ sym own
+    let at : (f : Sent → ℕ) → slice_get (map f ss) i ≡ Some (f s) = λ f. slice_get-map f ss i ∙ ap (λ (o : Option Sent). option_map f o) e in (
+      get_or_from_slice_get (map (λ (x : Sent). x.pid) ss) i s.pid 0 (at (λ x. x.pid)),
+      get_or_from_slice_get (map (λ (x : Sent). length x.bytes) ss) i (length s.bytes) 0 (at (λ x. length x.bytes)),
+    )
 
 within_once : (past : List AiredTables) (a : AiredTables) → AllByRecursion (λ (i : ℕ). i < length (sections_once past a)) (cycle_of (plan_of past a))
 within_once past a =
@@ -184,7 +123,189 @@ within_limits past a fit quota =
 tiers_once : (past : List AiredTables) (a : AiredTables) → AreFit a.tables → AreInTiers (weights_once past a)
 tiers_once past a fit = subst AreInTiers (weights_given past a.moment a.form a.tables) (in_tiers a.tables fit.ordered)
 
+-- ---- each run begins with a packet of its own
+
+fast_leads : (t : SubTable) → leads t ≡ true → is_fast t.tier ≡ true
+fast_leads t h = go (is_fast t.tier) (not (is_eit t.key.table)) h
+  where
+    go : (fast other : Bool) → (fast && other) ≡ true → fast ≡ true
+    go true other e = refl
+    go false other e = let f : false ≡ true = e in cc
+
+-- each section is Fast, or is not on this PID
+abbrev Apart : ℕ → List (Tier3 × ℕ) → List Sent → Type 0
+Apart q [] [] = Unit {0}
+Apart q [] (s ∷ ss) = Prim.⊥
+Apart q (w ∷ ws) [] = Prim.⊥
+Apart q (w ∷ ws) (s ∷ ss) = ((is_fast w.0 ≡ true) ⊎ (s.pid ≡ q → Prim.⊥)) × Apart q ws ss
+
+apart-append : (q : ℕ) (vs ws : List (Tier3 × ℕ)) (rs ss : List Sent) → Apart q vs rs → Apart q ws ss → Apart q (vs ++ ws) (rs ++ ss)
+apart-append q [] ws [] ss h k = k
+apart-append q [] ws (r ∷ rs) ss h k = absurd h
+apart-append q (v ∷ vs) ws [] ss h k = absurd h
+apart-append q (v ∷ vs) ws (r ∷ rs) ss h k = (h.0, apart-append q vs ws rs ss h.1 k)
+
+abbrev IsApart : ℕ → SubTable → Type 0
+IsApart q t = (is_fast t.tier ≡ true) ⊎ (t.key.pid ≡ q → Prim.⊥)
+
+apart_table : (q v : ℕ) (t : SubTable) (ss : Content) → IsApart q t → Apart q (map (weight t.tier) (map (sent_section v t) ss)) (map (sent_section v t) ss)
+apart_table q v t [] h = tt
+apart_table q v t (s ∷ ss) h = (h, apart_table q v t ss h)
+
+apart_tables : (q : ℕ) (airings : List AiredTables) (ts : List SubTable) → AllByRecursion (IsApart q) ts → Apart q (table_weights airings ts) (table_sections airings ts)
+apart_tables q airings [] h = tt
+apart_tables q airings (t ∷ ts) h =
+    let v = version_at t.key airings in
+    apart-append q (map (weight t.tier) (sections_of v t)) (table_weights airings ts) (sections_of v t) (table_sections airings ts) (apart_table q v t t.sections h.0) (apart_tables q airings ts h.1)
+
+apart_once : (q : ℕ) (past : List AiredTables) (a : AiredTables) → All (IsApart q) a.tables → Apart q (weights_once past a) (sections_once past a)
+apart_once q past a h =
+    let all = past ++ a ∷ [] in
+    let n = prefix_len leads a.tables in
+    apart-append q (table_weights all (before_tdt a.tables)) (weight Fast (tdt a.moment) ∷ table_weights all (behind_tdt a.tables))
+    (table_sections all (before_tdt a.tables)) (tdt a.moment ∷ table_sections all (behind_tdt a.tables))
+    (apart_tables q all (before_tdt a.tables) (recursion_from_All (IsApart q) (before_tdt a.tables) (All-take (IsApart q) n a.tables h)))
+    (inl refl, apart_tables q all (behind_tdt a.tables) (recursion_from_All (IsApart q) (behind_tdt a.tables) (All-drop (IsApart q) n a.tables h)))
+
+-- behind a section that is not Fast none is
+not_fast : (t u : Tier3) → tier_rank t ≤ tier_rank u → is_fast t ≡ false → is_fast u ≡ false
+not_fast t Near le e = refl
+not_fast t Far le e = refl
+not_fast Fast Fast le e = e
+not_fast Near Fast le e = absurd (omega (arith, le))
+not_fast Far Fast le e = absurd (omega (arith, le))
+
+none_fast : (w : Tier3 × ℕ) (ws : List (Tier3 × ℕ)) → AreInTiers (w ∷ ws) → is_fast w.0 ≡ false → count_by (λ (s : Tier3 × ℕ). is_fast s.0) ws ≡ 0
+none_fast w [] h e = refl
+none_fast w (v ∷ ws) h e =
+    let slow = not_fast w.0 v.0 h.0 e in
+    let rest = none_fast v ws h.1 slow in
+    ap (λ (b : Bool). cond b 1 0 + count_by (λ (s : Tier3 × ℕ). is_fast s.0) ws) slow ∙ omega (arith, rest)
+
+in_tiers_behind : (w : Tier3 × ℕ) (ws : List (Tier3 × ℕ)) → AreInTiers (w ∷ ws) → AreInTiers ws
+in_tiers_behind w [] h = tt
+in_tiers_behind w (v ∷ ws) h = h.1
+
+apart_at : (q : ℕ) (ws : List (Tier3 × ℕ)) (ss : List Sent) (i : ℕ) → Apart q ws ss → AreInTiers ws → count_by (λ (s : Tier3 × ℕ). is_fast s.0) ws ≤ i → i < length ws
+    → slice_index (map (λ (s : Sent). s.pid) ss) i ≡ q → Prim.⊥
+apart_at q [] ss i h tiers le lt e = omega (arith, lt)
+apart_at q (w ∷ ws) [] i h tiers le lt e = h
+apart_at q (w ∷ ws) (s ∷ ss) i h tiers le lt e = go (is_fast w.0) refl i le lt e
+  where
+    others : ℕ
+    others = count_by (λ (x : Tier3 × ℕ). is_fast x.0) ws
+
+    go : (b : Bool) → is_fast w.0 ≡ b → (i : ℕ) → cond (is_fast w.0) 1 0 + others ≤ i → i < suc (length ws) → slice_index (s.pid ∷ map (λ (x : Sent). x.pid) ss) i ≡ q → Prim.⊥
+    go true f zero le lt e = let k : cond (is_fast w.0) 1 0 ≡ 1 = ap (λ (b : Bool). cond b 1 0) f in omega (arith, le, k)
+    go true f (suc i) le lt e =
+        let k : cond (is_fast w.0) 1 0 ≡ 1 = ap (λ (b : Bool). cond b 1 0) f in
+        apart_at q ws ss i h.1 (in_tiers_behind w ws tiers) (omega (arith, le, k)) (omega (arith, lt)) e
+    go false f zero le lt e = here h.0
+      where
+        here : ((is_fast w.0 ≡ true) ⊎ (s.pid ≡ q → Prim.⊥)) → Prim.⊥
+        here (inl fast) = let b : false ≡ true = sym f ∙ fast in cc
+        here (inr apart) = apart e
+    go false f (suc i) le lt e = apart_at q ws ss i h.1 (in_tiers_behind w ws tiers) (omega (arith, none_fast w ws tiers f)) (omega (arith, lt)) e
+
+-- the first section has the PID of the first sub-table
+first_pid : (past : List AiredTables) (a : AiredTables) (first : SubTable) (others : List SubTable) → a.tables ≡ first ∷ others → leads first ≡ true → 0 < length first.sections → pid_at past a 0 ≡ first.key.pid
+first_pid past a first others are lead some = ap (λ (l : List Sent). slice_index (map (λ (s : Sent). s.pid) l) 0) front ∙ at first.sections some
+  where
+    all : List AiredTables
+    all = past ++ a ∷ []
+
+    v : ℕ
+    v = version_at first.key all
+
+    more : List Sent
+    more = table_sections all (before_tdt others) ++ tdt a.moment ∷ table_sections all (behind_tdt a.tables)
+
+    led : before_tdt (first ∷ others) ≡ first ∷ before_tdt others
+    led = ap (λ (b : Bool). if b then first ∷ before_tdt others else []) lead
+
+    front : sections_once past a ≡ sections_of v first ++ more
+    front =
+        ap (λ (ts : List SubTable). table_sections all (before_tdt ts) ++ tdt a.moment ∷ table_sections all (behind_tdt a.tables)) are
+        ∙ ap (λ (ts : List SubTable). table_sections all ts ++ tdt a.moment ∷ table_sections all (behind_tdt a.tables)) led
+        ∙ append_assoc (sections_of v first) (table_sections all (before_tdt others)) (tdt a.moment ∷ table_sections all (behind_tdt a.tables))
+
+    at : (ss : Content) → 0 < length ss → slice_index (map (λ (s : Sent). s.pid) (map (sent_section v first) ss ++ more)) 0 ≡ first.key.pid
+    at [] lt = absurd (omega (arith, lt))
+    at (s ∷ ss) lt = refl
+
+runs_end : (past : List AiredTables) (a : AiredTables) → AreFit a.tables → RunsBeginAlone a.tables → (i : ℕ) → (plan_of past a).fasts ≤ i → i < (plan_of past a).fasts + (plan_of past a).nears + (plan_of past a).fars
+    → pid_at past a i ≡ pid_at past a 0 → Prim.⊥
+runs_end past a fit alone i le lt e =
+    let q = alone.first.key.pid in
+    let ws = weights_once past a in
+    let each : AllByRecursion IsFit (alone.first ∷ alone.others) = subst (AllByRecursion IsFit) alone.are (recursion_from_All IsFit a.tables fit.each) in
+    let apart : AllByRecursion (IsApart q) a.tables = subst (AllByRecursion (IsApart q)) (sym alone.are) (inl (fast_leads alone.first alone.leads), alone.apart) in
+    let first = first_pid past a alone.first alone.others alone.are alone.leads each.0.some in
+    apart_at q ws (sections_once past a) i (apart_once q past a (All-from_recursion (IsApart q) a.tables apart)) (tiers_once past a fit) le (omega (arith, planned_all ws a.form.quota, lt)) (e ∙ first)
+
+packed_so : (past : List AiredTables) (a : AiredTables) → CanBeSpaced a → IsPacked (plan_of past a) (pid_at past a) (length_at past a)
+packed_so past a can = record {
+  counted = record {
+    some = λ i lt. (
+        let k = placed_at i lt in
+        subst (λ (n : ℕ). 0 < n) (sym (get_or-map (λ (s : Sent). length s.bytes) ss i time 0 k)) (All-from_recursion (λ (s : Sent). 0 < length s.bytes) ss (once_some past a) i time k));
+    size = λ i lt. (
+        let k = placed_at i lt in
+        ap (λ (l : List ℕ). slice_index l i) (sizes_once past a) ∙ get_or-map size_of ss i time 0 k ∙ ap packets_of (sym (get_or-map (λ (s : Sent). length s.bytes) ss i time 0 k)));
+  };
+  ends = runs_end past a can.fit can.alone;
+}
+  where
+    ss : List Sent
+    ss = sections_once past a
+
+    time : Sent
+    time = tdt a.moment
+
+    placed_at : (i : ℕ) → i < (plan_of past a).fasts + (plan_of past a).nears + (plan_of past a).fars → i < length (sections_once past a)
+    placed_at i lt = omega (arith, planned_all (weights_once past a) a.form.quota, weights_each past a, lt)
+
 -- ---- two cycles
+
+-- what is counted with is the same whatever the versions and the moment are
+abbrev pids_of : List SubTable → List ℕ
+pids_of ts = flat_map (λ (t : SubTable). map (λ (s : NumberedBody). t.key.pid) t.sections) ts
+
+abbrev lengths_of : List SubTable → List ℕ
+lengths_of ts = flat_map (λ (t : SubTable). map (λ (s : NumberedBody). 12 + length s.body) t.sections) ts
+
+pids_section : (v : ℕ) (t : SubTable) (ss : Content) → map (λ (s : Sent). s.pid) (map (sent_section v t) ss) ≡ map (λ (s : NumberedBody). t.key.pid) ss
+pids_section v t [] = refl
+pids_section v t (s ∷ ss) = ap (λ (l : List ℕ). t.key.pid ∷ l) (pids_section v t ss)
+
+lengths_section : (v : ℕ) (t : SubTable) (ss : Content) → map (λ (s : Sent). length s.bytes) (map (sent_section v t) ss) ≡ map (λ (s : NumberedBody). 12 + length s.body) ss
+lengths_section v t [] = refl
+lengths_section v t (s ∷ ss) = ap₂ (λ (n : ℕ) (l : List ℕ). n ∷ l) (length-section_bytes (header_of v t s) s.body) (lengths_section v t ss)
+
+pids_tables : (airings : List AiredTables) (ts : List SubTable) → map (λ (s : Sent). s.pid) (table_sections airings ts) ≡ pids_of ts
+pids_tables airings [] = refl
+pids_tables airings (t ∷ ts) =
+    let v = version_at t.key airings in
+    map-append (λ (s : Sent). s.pid) (sections_of v t) (table_sections airings ts) ∙ ap₂ (λ (x y : List ℕ). x ++ y) (pids_section v t t.sections) (pids_tables airings ts)
+
+lengths_tables : (airings : List AiredTables) (ts : List SubTable) → map (λ (s : Sent). length s.bytes) (table_sections airings ts) ≡ lengths_of ts
+lengths_tables airings [] = refl
+lengths_tables airings (t ∷ ts) =
+    let v = version_at t.key airings in
+    map-append (λ (s : Sent). length s.bytes) (sections_of v t) (table_sections airings ts) ∙ ap₂ (λ (x y : List ℕ). x ++ y) (lengths_section v t t.sections) (lengths_tables airings ts)
+
+pids_given : (past : List AiredTables) (a : AiredTables) → map (λ (s : Sent). s.pid) (sections_once past a) ≡ pids_of (before_tdt a.tables) ++ 20 ∷ pids_of (behind_tdt a.tables)
+pids_given past a =
+    let all = past ++ a ∷ [] in
+    map-append (λ (s : Sent). s.pid) (table_sections all (before_tdt a.tables)) (tdt a.moment ∷ table_sections all (behind_tdt a.tables))
+    ∙ ap₂ (λ (x y : List ℕ). x ++ 20 ∷ y) (pids_tables all (before_tdt a.tables)) (pids_tables all (behind_tdt a.tables))
+
+lengths_given : (past : List AiredTables) (a : AiredTables) → map (λ (s : Sent). length s.bytes) (sections_once past a) ≡ lengths_of (before_tdt a.tables) ++ 8 ∷ lengths_of (behind_tdt a.tables)
+lengths_given past a =
+    let all = past ++ a ∷ [] in
+    map-append (λ (s : Sent). length s.bytes) (table_sections all (before_tdt a.tables)) (tdt a.moment ∷ table_sections all (behind_tdt a.tables))
+    ∙ ap (λ (n : ℕ). map (λ (s : Sent). length s.bytes) (table_sections all (before_tdt a.tables)) ++ n ∷ map (λ (s : Sent). length s.bytes) (table_sections all (behind_tdt a.tables))) (eight a.moment)
+    ∙ ap₂ (λ (x y : List ℕ). x ++ 8 ∷ y) (lengths_tables all (before_tdt a.tables)) (lengths_tables all (behind_tdt a.tables))
 
 same_plan : (past later : List AiredTables) (a b : AiredTables) → b.tables ≡ a.tables → b.form ≡ a.form → plan_of later b ≡ plan_of past a
 same_plan past later a b tables form =
@@ -192,65 +313,72 @@ same_plan past later a b tables form =
     (sym (weights_given later b.moment b.form b.tables) ∙ ap weights_under tables ∙ weights_given past a.moment a.form a.tables)
     (ap (λ (f : CycleForm). f.quota) form)
 
-made_at : (front before : List Aired) (x : Aired) (after : List Aired) → AreMade front (before ++ x ∷ after) → x.packets ≡ cycle_alone (airings_of (front ++ before)) (air (front ++ before)) x.airing
-made_at front [] x after made = subst (λ (l : List Aired). x.packets ≡ cycle_alone (airings_of l) (air l) x.airing) (sym (append-nil front)) made.0
+same_pids : (past later : List AiredTables) (a b : AiredTables) → b.tables ≡ a.tables → pid_at later b ≡ pid_at past a
+same_pids past later a b tables =
+    ap slice_index (pids_given later b ∙ ap (λ (ts : List SubTable). pids_of (before_tdt ts) ++ 20 ∷ pids_of (behind_tdt ts)) tables ∙ sym (pids_given past a))
+
+same_lengths : (past later : List AiredTables) (a b : AiredTables) → b.tables ≡ a.tables → length_at later b ≡ length_at past a
+same_lengths past later a b tables =
+    ap slice_index (lengths_given later b ∙ ap (λ (ts : List SubTable). lengths_of (before_tdt ts) ++ 8 ∷ lengths_of (behind_tdt ts)) tables ∙ sym (lengths_given past a))
+
+made_at : (front before : List Aired) (x : Aired) (after : List Aired) → AreMade front (before ++ x ∷ after) → x.packets ≡ cycle_dense (airings_of (front ++ before)) (air (front ++ before)) x.airing
+made_at front [] x after made = subst (λ (l : List Aired). x.packets ≡ cycle_dense (airings_of l) (air l) x.airing) (sym (append-nil front)) made.0
 made_at front (y ∷ before) x after made =
-    subst (λ (l : List Aired). x.packets ≡ cycle_alone (airings_of l) (air l) x.airing) (append_assoc front (y ∷ []) before) (made_at (front ++ y ∷ []) before x after made.1)
+    subst (λ (l : List Aired). x.packets ≡ cycle_dense (airings_of l) (air l) x.airing) (append_assoc front (y ∷ []) before) (made_at (front ++ y ∷ []) before x after made.1)
 
 -- the cycle of an airing within an air
-cycle_along : (before : List Aired) (x : Aired) (after : List Aired) → AreMade [] (before ++ x ∷ after) →
-    Along (air (before ++ x ∷ after)) (sections_once (airings_of before) x.airing) (plan_of (airings_of before) x.airing).size (cycle_of (plan_of (airings_of before) x.airing)) (air before)
-cycle_along before x after made =
+cycle_along : (before : List Aired) (x : Aired) (after : List Aired) →
+    CycleStarts (sections_once (airings_of before) x.airing) (pid_at (airings_of before) x.airing) (length_at (airings_of before) x.airing) (cycle_of (plan_of (airings_of before) x.airing)) (air before) (air after)
+cycle_along before x after =
     let past = airings_of before in
-    along (air (before ++ x ∷ after)) (sections_once past x.airing) (plan_of past x.airing).size (are_sizes past x.airing) (cycle_of (plan_of past x.airing)) (within_once past x.airing) (air before) (air after)
-    (flat_map-append (λ (z : Aired). z.packets) before (x ∷ after) ∙ ap (λ (l : List Packet). air before ++ (l ++ air after)) (made_at [] before x after made))
-
--- what holds of two cycles holds of the first
-spaced-front : (bound x : ℕ) (a b : List Start) → Spaced bound x (a ++ b) → Spaced bound x a
-spaced-front bound x a b h before between after one two e =
-    h before between (after ++ b) one two (ap (λ (t : List Start). t ++ b) e ∙ append_assoc before (one ∷ (between ++ two ∷ after)) b ∙ ap (λ (t : List Start). before ++ one ∷ t) (append_assoc between (two ∷ after) b))
+    cycle_starts (sections_once past x.airing) (pid_at past x.airing) (length_at past x.airing) (are_of past x.airing) (once_some past x.airing) (cycle_of (plan_of past x.airing)) (within_once past x.airing) (air before) (air after)
 
 pub made_cycles_are_spaced : MadeCyclesAreSpaced
-made_cycles_are_spaced before x after made fit quota =
-    let p = plan_of (airings_of before) x.airing in
-    let order = cycle_of p in
+made_cycles_are_spaced before x after made can =
+    let past = airings_of before in
+    let p = plan_of past x.airing in
     let n = length (air before) in
-    let first = starts_alone p.size n order in
-    let second = starts_alone p.size (n + packets_in p.size order) order in
-    let two = subst (AreSpaced p) (starts-append p.size n order order) (cycles_are_spaced p (within_limits (airings_of before) x.airing fit quota) n) in
+    let parts : air (before ++ x ∷ after) ≡ air before ++ (cycle_dense past (air before) x.airing ++ air after) =
+    flat_map-append (λ (z : Aired). z.packets) before (x ∷ after) ∙ ap (λ (l : List Packet). air before ++ (l ++ air after)) (made_at [] before x after made) in
     record {
-      tiers = tiers_once (airings_of before) x.airing fit;
-      starts = (cycle_along before x after made).starts;
-      spaced = record { fast = λ i l. spaced-front (fast_bound p) i first second (two.fast i l); near = λ i l m. spaced-front (near_bound p) i first second (two.near i l m) };
+      tiers = tiers_once past x.airing can.fit;
+      starts = subst (λ (l : List Packet). AreStarts l (sections_once past x.airing) (starts_of n past x.airing)) (sym parts) (cycle_along before x after).starts;
+      spaced = subst (AreSpaced p) (append-nil (starts_of n past x.airing))
+          (one_cycle_is_spaced p (within_limits past x.airing can.fit can.quota) (pid_at past x.airing) (length_at past x.airing) (packed_so past x.airing can) n);
     }
 
 pub made_neighbours_are_spaced : MadeNeighboursAreSpaced
-made_neighbours_are_spaced before x y after made fit quota tables form =
+made_neighbours_are_spaced before x y after made can tables form =
     let past = airings_of before in
     let later = airings_of (before ++ x ∷ []) in
     let p = plan_of past x.airing in
     let order = cycle_of p in
+    let pid = pid_at past x.airing in
+    let len = length_at past x.airing in
     let n = length (air before) in
     let m = length (air (before ++ x ∷ [])) in
-    let many = (cycle_along before x (y ∷ after) made).many in
-    let packets : x.packets ≡ cycle_alone past (air before) x.airing = made_at [] before x (y ∷ after) made in
-    let size : length x.packets ≡ packets_in p.size order = ap length packets ∙ length-counted (air before) (each_alone (at_places (sections_once past x.airing) order)) ∙ many in
-    let end : n + packets_in p.size order ≡ m = omega (arith, size, ap length (air-push before x), length-append (air before) x.packets) in
-    let same = same_plan past later x.airing y.airing tables form in
-    let starts : starts_alone p.size n (order ++ order) ≡ starts_of_two before x y =
-    starts-append p.size n order order ∙ ap (λ (k : ℕ). starts_alone p.size n order ++ starts_alone p.size k order) end
-    ∙ ap (λ (q : Planned). starts_alone p.size n order ++ starts_alone q.size m (cycle_of q)) (sym same) in
-    subst (AreSpaced p) starts (cycles_are_spaced p (within_limits past x.airing fit quota) n)
+    let packets : x.packets ≡ cycle_dense past (air before) x.airing = made_at [] before x (y ∷ after) made in
+    let size : length x.packets ≡ length (each_dense (cycle_sections past x.airing)) = ap length packets ∙ length-counted (air before) (each_dense (cycle_sections past x.airing)) in
+    let end : packets_so_far (packed_all pid len (begun_at n) order) ≡ m =
+    sym (cycle_along before x (y ∷ after)).count ∙ omega (arith, size, ap length (air-push before x), length-append (air before) x.packets) in
+    let starts : starts_of_cycles pid len n (order ∷ order ∷ []) ≡ starts_of_two before x y =
+    ap (λ (k : ℕ). starts_dense pid len (begun_at n) order ++ (starts_dense pid len (begun_at k) order ++ [])) end
+    ∙ ap (λ (l : List Start). starts_dense pid len (begun_at n) order ++ l) (append-nil (starts_dense pid len (begun_at m) order))
+    ∙ ap (λ (q : Planned). starts_dense pid len (begun_at n) order ++ starts_dense pid len (begun_at m) (cycle_of q)) (sym (same_plan past later x.airing y.airing tables form))
+    ∙ ap₂ (λ (f g : ℕ → ℕ). starts_dense pid len (begun_at n) order ++ starts_dense f g (begun_at m) (cycle_of (plan_of later y.airing)))
+      (sym (same_pids past later x.airing y.airing tables)) (sym (same_lengths past later x.airing y.airing tables)) in
+    subst (AreSpaced p) starts (cycles_are_spaced p (within_limits past x.airing can.fit can.quota) pid len (packed_so past x.airing can) n)
 
 pub made_airs_are_spaced : MadeAirsAreSpaced
-made_airs_are_spaced form xs made all quota = record {
+made_airs_are_spaced form xs made all = record {
   cycles = λ before x after e. (
-      let here = all_at (λ (z : Aired). AreFit z.airing.tables × (z.airing.form ≡ form)) before x after (subst (AllByRecursion (λ (z : Aired). AreFit z.airing.tables × (z.airing.form ≡ form))) e all) in
-      made_cycles_are_spaced before x after (subst (AreMade []) e made) here.0 (subst (λ (f : CycleForm). 1 ≤ f.quota) (sym here.1) quota));
+      made_cycles_are_spaced before x after (subst (AreMade []) e made) (all_at Can before x after (subst (AllByRecursion Can) e all)).0);
   neighbours = λ before x y after e tables. (
-      let each = subst (AllByRecursion (λ (z : Aired). AreFit z.airing.tables × (z.airing.form ≡ form))) e all in
-      let here = all_at (λ (z : Aired). AreFit z.airing.tables × (z.airing.form ≡ form)) before x (y ∷ after) each in
-      let next = all_at (λ (z : Aired). AreFit z.airing.tables × (z.airing.form ≡ form)) (before ++ x ∷ []) y after
-      (subst (AllByRecursion (λ (z : Aired). AreFit z.airing.tables × (z.airing.form ≡ form))) (sym (append_assoc before (x ∷ []) (y ∷ after))) each) in
-      made_neighbours_are_spaced before x y after (subst (AreMade []) e made) here.0 (subst (λ (f : CycleForm). 1 ≤ f.quota) (sym here.1) quota) tables (next.1 ∙ sym here.1));
+      let each = subst (AllByRecursion Can) e all in
+      let here = all_at Can before x (y ∷ after) each in
+      let next = all_at Can (before ++ x ∷ []) y after (subst (AllByRecursion Can) (sym (append_assoc before (x ∷ []) (y ∷ after))) each) in
+      made_neighbours_are_spaced before x y after (subst (AreMade []) e made) here.0 tables (next.1 ∙ sym here.1));
 }
+  where
+    Can : Aired → Type 0
+    Can z = CanBeSpaced z.airing × (z.airing.form ≡ form)

@@ -6,8 +6,8 @@ use Rattle.air_model.specs.Air.{Aired, IsAirOf, airings_of, air_bytes}
 use Rattle.air_model.specs.Making.{AreMade}
 use Rattle.carousel_player.specs.Spacing.{IsSpacedAir}
 
--- What was sent, from before to now, are the first bytes of an air of the first of these airings, each section in packets of its own, and
--- that air is spaced. Packets are counted from the first of these bytes on.
+-- What was sent, from before to now, are the first bytes of an air of the first of these airings, in which neighbours of one PID share
+-- packets, and that air is spaced. Packets are counted from the first of these bytes on.
 pub record SentSpaced (airings : List AiredTables) (before now : Option (List ℕ)) : Type 0 where
   pub cycles : List Aired
   pub others : List AiredTables

@@ -1,29 +1,47 @@
--- How far apart an air repeats a section, where each begins in packets of its own.
-use Rattle.std.specs.Prelude.{◌≡◌, ℕ, ◌≤◌, List, [], ◌∷◌, ◌++◌, length, Some, slice_get}
+-- How far apart an air repeats a section, where neighbours of one PID share packets.
+use Rattle.std.specs.Prelude.{◌≡◌, ◌⊎◌, ℕ, ◌+◌, ◌<◌, ◌≤◌, List, [], ◌∷◌, ◌++◌, true, length, map, Some, slice_get, slice_index}
 use Rattle.std.specs.List.{AllByRecursion}
+use Rattle.section_codec.specs.declared.table.SubTable.{SubTable}
 use Rattle.section_codec.specs.SubTables.{AreFit}
 use Rattle.cycle_plan.specs.Cycle.{Planned, cycle_of}
-use Rattle.cycle_plan.specs.Sections.{AreInTiers, planned}
-use Rattle.cycle_plan.specs.Spacing.{Start, starts_alone, AreSpaced}
+use Rattle.cycle_plan.specs.Sections.{is_fast, AreInTiers, planned}
+use Rattle.cycle_plan.specs.Packing.{Start, begun_at, starts_dense}
+use Rattle.cycle_plan.specs.Spacing.{AreSpaced}
 use Rattle.version_book.specs.Airings.{AiredTables, CycleForm}
-use Rattle.ts_packets.specs.Bytes.{Packet, packets_alone}
-use Rattle.air_model.specs.Air.{Sent, Aired, sections_once, weights_once, air, airings_of}
-use Rattle.air_model.specs.Making.{counted, AreMade}
+use Rattle.ts_packets.specs.Packets.{joined, piece_of}
+use Rattle.ts_packets.specs.Bytes.{Packet}
+use Rattle.air_model.specs.Air.{Sent, Aired, leads, sections_once, weights_once, air, airings_of}
+use Rattle.air_model.specs.Making.{AreMade}
 
 -- what is planned of an airing behind others
 abbrev pub plan_of : List AiredTables → AiredTables → Planned
 plan_of past a = planned (weights_once past a) a.form.quota
 
--- the starts of the sections of its cycle, each named by its place among those of the airing, where the first begins in packet n
-abbrev pub starts_of : ℕ → List AiredTables → AiredTables → List Start
-starts_of n past a = starts_alone (plan_of past a).size n (cycle_of (plan_of past a))
+-- the PID and the length of each section of it, by its place among those of the airing
+abbrev pub pid_at : List AiredTables → AiredTables → ℕ → ℕ
+pid_at past a = slice_index (map (λ (s : Sent). s.pid) (sections_once past a))
 
--- From packet n on stand the packets of a section that begins in a packet of its own, counted behind those before.
+abbrev pub length_at : List AiredTables → AiredTables → ℕ → ℕ
+length_at past a = slice_index (map (λ (s : Sent). length s.bytes) (sections_once past a))
+
+-- the starts of the sections of its cycle, each named by its place, where the cycle begins with packet n
+abbrev pub starts_of : ℕ → List AiredTables → AiredTables → List Start
+starts_of n past a = starts_dense (pid_at past a) (length_at past a) (begun_at n) (cycle_of (plan_of past a))
+
+-- A section begins in packet n: that is of its PID, and goes on with the rest of a section, or of none, and in it sections begin, this one
+-- among them, with its first byte.
 pub record BeginsAt (packets : List Packet) (n : ℕ) (s : Sent) : Type 0 where
   pub before : List Packet
+  pub packet : Packet
   pub after : List Packet
   pub place : length before ≡ n
-  pub are : packets ≡ before ++ (counted before (packets_alone s.pid s.bytes) ++ after)
+  pub are : packets ≡ before ++ packet ∷ after
+  pub pid : packet.pid ≡ s.pid
+  pub rest : List ℕ
+  pub front : List (List ℕ)
+  pub behind : List (List ℕ)
+  pub piece : packet.piece ≡ piece_of rest (front ++ s.bytes ∷ behind)
+  pub begins : length (rest ++ joined front) < 183
 
 -- At each of these starts a section of the airing begins.
 abbrev pub AreStarts : List Packet → List Sent → List Start → Type 0
@@ -35,10 +53,25 @@ pub record IsSpacedIn (before : List Aired) (x : Aired) (after : List Aired) : T
   pub starts : AreStarts (air (before ++ x ∷ after)) (sections_once (airings_of before) x.airing) (starts_of (length (air before)) (airings_of before) x.airing)
   pub spaced : AreSpaced (plan_of (airings_of before) x.airing) (starts_of (length (air before)) (airings_of before) x.airing)
 
+-- The first sub-table is sent before the TDT, and none of tier Near or Far has its PID: so each run begins with a packet of its own, and
+-- shares none with the run before. Without this the bound of Fast would not hold.
+pub record RunsBeginAlone (tables : List SubTable) : Type 0 where
+  pub first : SubTable
+  pub others : List SubTable
+  pub are : tables ≡ first ∷ others
+  pub leads : leads first ≡ true
+  pub apart : AllByRecursion (λ (t : SubTable). (is_fast t.tier ≡ true) ⊎ (t.key.pid ≡ first.key.pid → Prim.⊥)) others
+
+-- An airing whose sub-tables can be sent so, in a cycle with a quota.
+pub record CanBeSpaced (a : AiredTables) : Type 0 where
+  pub fit : AreFit a.tables
+  pub alone : RunsBeginAlone a.tables
+  pub quota : 1 ≤ a.form.quota
+
 -- So is each cycle of an air that is made,
 abbrev pub MadeCyclesAreSpaced : Type 0
 MadeCyclesAreSpaced =
-    (before : List Aired) (x : Aired) (after : List Aired) → AreMade [] (before ++ x ∷ after) → AreFit x.airing.tables → 1 ≤ x.airing.form.quota → IsSpacedIn before x after
+    (before : List Aired) (x : Aired) (after : List Aired) → AreMade [] (before ++ x ∷ after) → CanBeSpaced x.airing → IsSpacedIn before x after
 
 -- the starts of a cycle within an air, and of the one behind it
 abbrev pub starts_of_two : List Aired → Aired → Aired → List Start
@@ -48,7 +81,7 @@ starts_of_two before x y =
 -- and from its end into the one behind it, where that has equal sub-tables and the same form.
 abbrev pub MadeNeighboursAreSpaced : Type 0
 MadeNeighboursAreSpaced =
-    (before : List Aired) (x y : Aired) (after : List Aired) → AreMade [] (before ++ x ∷ y ∷ after) → AreFit x.airing.tables → 1 ≤ x.airing.form.quota
+    (before : List Aired) (x y : Aired) (after : List Aired) → AreMade [] (before ++ x ∷ y ∷ after) → CanBeSpaced x.airing
     → y.airing.tables ≡ x.airing.tables → y.airing.form ≡ x.airing.form → AreSpaced (plan_of (airings_of before) x.airing) (starts_of_two before x y)
 
 -- Of an air all cycles are spaced, and all neighbours that have equal sub-tables.
@@ -57,8 +90,7 @@ pub record IsSpacedAir (xs : List Aired) : Type 0 where
   pub neighbours : (before : List Aired) (x y : Aired) (after : List Aired) → xs ≡ before ++ x ∷ y ∷ after → y.airing.tables ≡ x.airing.tables
       → AreSpaced (plan_of (airings_of before) x.airing) (starts_of_two before x y)
 
--- So is an air that is made, all of whose airings have one form and sub-tables that can be sent.
+-- So is an air that is made, all of whose airings can be and have one form.
 abbrev pub MadeAirsAreSpaced : Type 0
 MadeAirsAreSpaced =
-    (form : CycleForm) (xs : List Aired) → AreMade [] xs → AllByRecursion (λ (x : Aired). AreFit x.airing.tables × (x.airing.form ≡ form)) xs → 1 ≤ form.quota
-    → IsSpacedAir xs
+    (form : CycleForm) (xs : List Aired) → AreMade [] xs → AllByRecursion (λ (x : Aired). CanBeSpaced x.airing × (x.airing.form ≡ form)) xs → IsSpacedAir xs
