@@ -15,7 +15,7 @@ use Rattle.cycle_plan.specs.Packing.{Start, Packing, begun_at, begins, packed_on
 use Rattle.cycle_plan.proofs.Packings.{IsFresh, fresh-begins}
 use Rattle.air_model.specs.Air.{Sent, at_places}
 use Rattle.air_model.specs.Making.{bytes_of, each_dense, front_on, behind_on, count_behind, counted}
-use Rattle.air_model.proofs.Dense.{HaveSome, first_packets, both_parts, front_some, behind_all}
+use Rattle.air_model.proofs.Dense.{HaveSome, first_packets, both_parts, fewer, front_some, behind_all}
 use Rattle.air_model.proofs.Planned.{all_at}
 use Rattle.carousel_player.specs.Spacing.{BeginsAt, AreStarts}
 use Rattle.carousel_player.proofs.Stretches.{starts_in, places, ending, Alike, alike-places, stretch_at}
@@ -264,8 +264,8 @@ begin_all (suc k) packets before after packing (s ∷ ss) l all f n e =
     ap (λ (m : ℕ). length before + m) many ∙ (stretch_at s.pid (length before) here have).count ∙ same.1 ∙ ap packets_so_far own_pid.end in
     let nf : FreshFor next behind = behind_fresh s.pid next ss (pid_after s.pid (packed_one packing s.pid (length s.bytes)) front refl (front_all s.pid ss)) in
     let nl : length (before ++ own) ≡ packets_so_far next = length-append before own ∙ count in
-    let fewer : length behind ≤ k = omega (arith, ap length (both_parts s.pid ss), length-append front behind) in
-    let r = begin_all k packets (before ++ own) after next behind fewer (behind_all (λ (t : Sent). 0 < length t.bytes) s.pid ss all.1) nf nl (parts ∙ sym (append_assoc before own (each_dense behind ++ after))) in
+    let few : length behind ≤ k = omega (arith, fewer s.pid ss) in
+    let r = begin_all k packets (before ++ own) after next behind few (behind_all (λ (t : Sent). 0 < length t.bytes) s.pid ss all.1) nf nl (parts ∙ sym (append_assoc before own (each_dense behind ++ after))) in
     record {
       starts = subst (λ (t : List Sent). EachBegins packets (sent_places packing t) t) both
           (subst (λ (ns : List ℕ). EachBegins packets ns ((s ∷ front) ++ behind)) (sym (places_append packing (s ∷ front) behind))
