@@ -36,8 +36,8 @@ IsCoherentIn join end xs packets = (k : Key) → AllByRecursion (IsAiredIn join 
 abbrev pub IsCoherent : List Aired → List (List ℕ) → Type 0
 IsCoherent xs packets = (join end : ℕ) → end ≤ length packets → IsCoherentIn join end xs packets
 
--- What was sent, from before to now, are the first bytes of an air of the first of these airings, each section in packets of its own, and its
--- whole packets are coherent.
+-- What was sent, from before to now, are the first bytes of an air of the first of these airings, in which neighbours of one PID share
+-- packets, and its whole packets are coherent.
 pub record SentCoherent (airings : List AiredTables) (before now : Option (List ℕ)) : Type 0 where
   pub cycles : List Aired
   pub others : List AiredTables

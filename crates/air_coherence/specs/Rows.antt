@@ -9,7 +9,7 @@ use Rattle.section_codec.specs.Contents.{Content}
 use Rattle.version_book.specs.Airings.{AiredTables}
 use Rattle.ts_packets.specs.Bytes.{Packet, bytes_of_packet}
 use Rattle.sub_collect.specs.declared.completed.Completed.{Completed}
-use Rattle.air_model.specs.Making.{cycle_alone}
+use Rattle.air_model.specs.Making.{cycle_dense}
 use Rattle.air_coherence.specs.Coherence.{completed_of}
 
 abbrev sdt : Key
@@ -31,11 +31,11 @@ airing_of content = record { tables = table_of content ∷ []; moment = 42572331
 
 -- a cycle of three packets: the two sections, and the TDT
 abbrev one : List Packet
-one = cycle_alone [] [] (airing_of (both 101 102))
+one = cycle_dense [] [] (airing_of (both 101 102))
 
 -- and one of another content behind it
 abbrev packets : List (List ℕ)
-packets = map bytes_of_packet (one ++ cycle_alone (airing_of (both 101 102) ∷ []) one (airing_of (both 103 104)))
+packets = map bytes_of_packet (one ++ cycle_dense (airing_of (both 101 102) ∷ []) one (airing_of (both 103 104)))
 
 abbrev done : ℕ → Content → Completed
 done version content = record { key = sdt; version = version; sections = content }

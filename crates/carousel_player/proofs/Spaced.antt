@@ -5,6 +5,7 @@ use Rattle.std.specs.List.{All, AllByRecursion, prefix_len}
 use Rattle.std.proofs.lemmas.Option.{slice_get-map, get_or_from_slice_get}
 use Rattle.std.proofs.lemmas.List.{length-map, get_or-map, map-append}
 use Rattle.std.proofs.lemmas.List.Concat.{flat_map-append}
+use Rattle.std.proofs.lemmas.List.Sums.{sum_by-cons}
 use Rattle.std.proofs.lemmas.List.Elements.{recursion_from_All, All-from_recursion, All-take, All-drop}
 use Rattle.si_lists.proofs.Lists.{all_append, all_at}
 use Rattle.section_codec.specs.declared.table.NumberedBody.{NumberedBody}
@@ -167,6 +168,12 @@ apart_once q past a h =
     (apart_tables q all (before_tdt a.tables) (recursion_from_All (IsApart q) (before_tdt a.tables) (All-take (IsApart q) n a.tables h)))
     (inl refl, apart_tables q all (behind_tdt a.tables) (recursion_from_All (IsApart q) (behind_tdt a.tables) (All-drop (IsApart q) n a.tables h)))
 
+counted_one : (b : Bool) (n : ℕ) → b ≡ true → cond b 1 0 + n ≡ suc n
+counted_one b n e = ap (λ (x : Bool). cond x 1 0 + n) e ∙ (let f : 1 + n ≡ suc n = omega arith in f)
+
+counted_none : (b : Bool) (n : ℕ) → b ≡ false → cond b 1 0 + n ≡ n
+counted_none b n e = ap (λ (x : Bool). cond x 1 0 + n) e ∙ (let f : 0 + n ≡ n = omega arith in f)
+
 -- behind a section that is not Fast none is
 not_fast : (t u : Tier3) → tier_rank t ≤ tier_rank u → is_fast t ≡ false → is_fast u ≡ false
 not_fast t Near le e = refl
@@ -180,7 +187,7 @@ none_fast w [] h e = refl
 none_fast w (v ∷ ws) h e =
     let slow = not_fast w.0 v.0 h.0 e in
     let rest = none_fast v ws h.1 slow in
-    ap (λ (b : Bool). cond b 1 0 + count_by (λ (s : Tier3 × ℕ). is_fast s.0) ws) slow ∙ omega (arith, rest)
+    sum_by-cons (λ (s : Tier3 × ℕ). cond (is_fast s.0) 1 0) v ws ∙ counted_none (is_fast v.0) (count_by (λ (s : Tier3 × ℕ). is_fast s.0) ws) slow ∙ rest
 
 in_tiers_behind : (w : Tier3 × ℕ) (ws : List (Tier3 × ℕ)) → AreInTiers (w ∷ ws) → AreInTiers ws
 in_tiers_behind w [] h = tt
@@ -190,22 +197,22 @@ apart_at : (q : ℕ) (ws : List (Tier3 × ℕ)) (ss : List Sent) (i : ℕ) → A
     → slice_index (map (λ (s : Sent). s.pid) ss) i ≡ q → Prim.⊥
 apart_at q [] ss i h tiers le lt e = omega (arith, lt)
 apart_at q (w ∷ ws) [] i h tiers le lt e = h
-apart_at q (w ∷ ws) (s ∷ ss) i h tiers le lt e = go (is_fast w.0) refl i le lt e
+apart_at q (w ∷ ws) (s ∷ ss) i h tiers le lt e =
+    go (is_fast w.0) refl (λ j k l f. apart_at q ws ss j h.1 (in_tiers_behind w ws tiers) k l f) i (omega (arith, le, sum_by-cons (λ (x : Tier3 × ℕ). cond (is_fast x.0) 1 0) w ws)) lt e
   where
     others : ℕ
     others = count_by (λ (x : Tier3 × ℕ). is_fast x.0) ws
 
-    go : (b : Bool) → is_fast w.0 ≡ b → (i : ℕ) → cond (is_fast w.0) 1 0 + others ≤ i → i < suc (length ws) → slice_index (s.pid ∷ map (λ (x : Sent). x.pid) ss) i ≡ q → Prim.⊥
-    go true f zero le lt e = let k : cond (is_fast w.0) 1 0 ≡ 1 = ap (λ (b : Bool). cond b 1 0) f in omega (arith, le, k)
-    go true f (suc i) le lt e =
-        let k : cond (is_fast w.0) 1 0 ≡ 1 = ap (λ (b : Bool). cond b 1 0) f in
-        apart_at q ws ss i h.1 (in_tiers_behind w ws tiers) (omega (arith, le, k)) (omega (arith, lt)) e
-    go false f zero le lt e = here h.0
+    go : (b : Bool) → is_fast w.0 ≡ b → ((j : ℕ) → others ≤ j → j < length ws → slice_index (map (λ (x : Sent). x.pid) ss) j ≡ q → Prim.⊥)
+        → (i : ℕ) → cond (is_fast w.0) 1 0 + others ≤ i → i < suc (length ws) → slice_index (s.pid ∷ map (λ (x : Sent). x.pid) ss) i ≡ q → Prim.⊥
+    go true f again zero le lt e = omega (arith, le, counted_one (is_fast w.0) others f)
+    go true f again (suc i) le lt e = again i (omega (arith, le, counted_one (is_fast w.0) others f)) (omega (arith, lt)) e
+    go false f again zero le lt e = here h.0
       where
         here : ((is_fast w.0 ≡ true) ⊎ (s.pid ≡ q → Prim.⊥)) → Prim.⊥
         here (inl fast) = let b : false ≡ true = sym f ∙ fast in cc
         here (inr apart) = apart e
-    go false f (suc i) le lt e = apart_at q ws ss i h.1 (in_tiers_behind w ws tiers) (omega (arith, none_fast w ws tiers f)) (omega (arith, lt)) e
+    go false f again (suc i) le lt e = again i (omega (arith, none_fast w ws tiers f)) (omega (arith, lt)) e
 
 -- the first section has the PID of the first sub-table
 first_pid : (past : List AiredTables) (a : AiredTables) (first : SubTable) (others : List SubTable) → a.tables ≡ first ∷ others → leads first ≡ true → 0 < length first.sections → pid_at past a 0 ≡ first.key.pid
@@ -221,7 +228,9 @@ first_pid past a first others are lead some = ap (λ (l : List Sent). slice_inde
     more = table_sections all (before_tdt others) ++ tdt a.moment ∷ table_sections all (behind_tdt a.tables)
 
     led : before_tdt (first ∷ others) ≡ first ∷ before_tdt others
-    led = ap (λ (b : Bool). if b then first ∷ before_tdt others else []) lead
+    led =
+        let n = prefix_len leads others in
+        ap (λ (b : Bool). take (cond b (1 + n) 0) (first ∷ others)) lead ∙ ap (λ (k : ℕ). take k (first ∷ others)) (let e : 1 + n ≡ suc n = omega arith in e)
 
     front : sections_once past a ≡ sections_of v first ++ more
     front =
@@ -244,6 +253,7 @@ runs_end past a fit alone i le lt e =
     apart_at q ws (sections_once past a) i (apart_once q past a (All-from_recursion (IsApart q) a.tables apart)) (tiers_once past a fit) le (omega (arith, planned_all ws a.form.quota, lt)) (e ∙ first)
 
 packed_so : (past : List AiredTables) (a : AiredTables) → CanBeSpaced a → IsPacked (plan_of past a) (pid_at past a) (length_at past a)
+unfolding size_of
 packed_so past a can = record {
   counted = record {
     some = λ i lt. (
@@ -366,7 +376,7 @@ made_neighbours_are_spaced before x y after made can tables form =
     ∙ ap (λ (l : List Start). starts_dense pid len (begun_at n) order ++ l) (append-nil (starts_dense pid len (begun_at m) order))
     ∙ ap (λ (q : Planned). starts_dense pid len (begun_at n) order ++ starts_dense pid len (begun_at m) (cycle_of q)) (sym (same_plan past later x.airing y.airing tables form))
     ∙ ap₂ (λ (f g : ℕ → ℕ). starts_dense pid len (begun_at n) order ++ starts_dense f g (begun_at m) (cycle_of (plan_of later y.airing)))
-      (sym (same_pids past later x.airing y.airing tables)) (sym (same_lengths past later x.airing y.airing tables)) in
+    (sym (same_pids past later x.airing y.airing tables)) (sym (same_lengths past later x.airing y.airing tables)) in
     subst (AreSpaced p) starts (cycles_are_spaced p (within_limits past x.airing can.fit can.quota) pid len (packed_so past x.airing can) n)
 
 pub made_airs_are_spaced : MadeAirsAreSpaced

@@ -30,8 +30,8 @@ row_weights = refl
 abbrev start : ℕ → ℕ → Start
 start packet section = record { packet = packet; section = section }
 
--- in a cycle that begins with packet 100
-row_starts : starts_of 100 [] airing ≡ start 100 0 ∷ start 101 1 ∷ start 102 2 ∷ start 103 1 ∷ start 104 0 ∷ start 105 3 ∷ []
+-- in a cycle that begins with packet 100: a Near section and Far ones of a run have one PID, and share a packet
+row_starts : starts_of 100 [] airing ≡ start 100 0 ∷ start 101 1 ∷ start 101 2 ∷ start 101 1 ∷ start 102 0 ∷ start 103 3 ∷ []
 unfolding moments_compute
 row_starts = refl
 

@@ -57,8 +57,8 @@ impl Player {
 
     /// Begins the cycle of one airing more: of these sub-tables, of the publication with this number, at the moment of
     /// the swap (EN 300 468, 5.1.1), in a cycle of the player's quota. The moment is sent as the cycle's TDT (EN 300 468,
-    /// 5.2.5); no packet tells the number. Each section is laid once, is sent as often as its tier and the quota say
-    /// (`cycle_plan`), and begins in a packet of its own. It needs a player at its end, a moment whose day has 16 bits, and
+    /// 5.2.5); no packet tells the number. Each section is laid once, and is sent as often as its tier and the quota say
+    /// (`cycle_plan`); sections of one PID that follow each other share packets (ISO/IEC 13818-1, 2.4.4). It needs a player at its end, a moment whose day has 16 bits, and
     /// sub-tables whose keys differ, in the order of their tiers (TR 101 211, 4.4), with PIDs below 8,191, each with at least
     /// one section, ascending numbers and bodies that fit a section in the long form, and none with the table_id 0xFF, which
     /// is fill. All memory is taken first: where it is wanting, the player stays as it was, at its end.

@@ -11,7 +11,7 @@ use Rattle.version_book.specs.Airings.{CycleForm, AiredTables}
 use Rattle.version_book.specs.Book.{aired}
 use Rattle.ts_packets.specs.Bytes.{Packet, bytes_of_packet}
 use Rattle.air_model.specs.Air.{Aired, IsAirOf, air, airings_of}
-use Rattle.air_model.specs.Making.{cycle_alone}
+use Rattle.air_model.specs.Making.{cycle_dense}
 use Rattle.carousel_player.specs.Playing.{Playing, AtEnd, GaveUp}
 use Rattle.publication.specs.Tables.{HasServicesOf, tables_of}
 use Rattle.journal_air.proofs.Published.{published_services}
@@ -44,20 +44,20 @@ joined_bytes [] ys = refl
 joined_bytes (x ∷ xs) ys = ap (λ l. bytes_of_packet x ++ l) (joined_bytes xs ys) ∙ sym (append_assoc (bytes_of_packet x) (flat_map bytes_of_packet xs) (flat_map bytes_of_packet ys))
 
 -- a cycle was sent whole
-pub cycle_sent : (xs : List Aired) (x : Aired) (a : AiredTables) (b : AiredTables) (player : Playing) (old new : Option (List ℕ)) → x.airing ≡ b → x.packets ≡ cycle_alone (airings_of xs) (air xs) b → b ≡ a
+pub cycle_sent : (xs : List Aired) (x : Aired) (a : AiredTables) (b : AiredTables) (player : Playing) (old new : Option (List ℕ)) → x.airing ≡ b → x.packets ≡ cycle_dense (airings_of xs) (air xs) b → b ≡ a
     → AtEnd (xs ++ x ∷ []) player → Appends old new (flat_map bytes_of_packet x.packets)
-    → (x' : Aired) × (x'.airing ≡ a) × (x'.packets ≡ cycle_alone (airings_of xs) (air xs) a) × AtEnd (xs ++ x' ∷ []) player × Appends old new (cycle_bytes x')
-cycle_sent xs x a b player old new e made f end bytes = (x, e ∙ f, made ∙ ap (cycle_alone (airings_of xs) (air xs)) f, end, bytes)
+    → (x' : Aired) × (x'.airing ≡ a) × (x'.packets ≡ cycle_dense (airings_of xs) (air xs) a) × AtEnd (xs ++ x' ∷ []) player × Appends old new (cycle_bytes x')
+cycle_sent xs x a b player old new e made f end bytes = (x, e ∙ f, made ∙ ap (cycle_dense (airings_of xs) (air xs)) f, end, bytes)
 
 -- a cycle was sent in part
-pub cycle_cut : (xs : List Aired) (x : Aired) (a : AiredTables) (b : AiredTables) (player : Playing) (old new : Option (List ℕ)) → x.airing ≡ b → x.packets ≡ cycle_alone (airings_of xs) (air xs) b → b ≡ a
+pub cycle_cut : (xs : List Aired) (x : Aired) (a : AiredTables) (b : AiredTables) (player : Playing) (old new : Option (List ℕ)) → x.airing ≡ b → x.packets ≡ cycle_dense (airings_of xs) (air xs) b → b ≡ a
     → GaveUp xs x x.packets old new player
-    → (x' : Aired) × (x'.airing ≡ a) × (x'.packets ≡ cycle_alone (airings_of xs) (air xs) a) × IsAirOf (airings_of (xs ++ x' ∷ [])) (xs ++ x' ∷ []) × ((n : ℕ) × (n < length (cycle_bytes x')) × Appends old new (take n (cycle_bytes x')))
+    → (x' : Aired) × (x'.airing ≡ a) × (x'.packets ≡ cycle_dense (airings_of xs) (air xs) a) × IsAirOf (airings_of (xs ++ x' ∷ [])) (xs ++ x' ∷ []) × ((n : ℕ) × (n < length (cycle_bytes x')) × Appends old new (take n (cycle_bytes x')))
 cycle_cut xs x a b player old new e made f (handed, left, parts, within, front) =
     let all : cycle_bytes x ≡ flat_map bytes_of_packet handed ++ flat_map bytes_of_packet left = ap (flat_map bytes_of_packet) parts ∙ joined_bytes handed left in (
       x,
       e ∙ f,
-      made ∙ ap (cycle_alone (airings_of xs) (air xs)) f,
+      made ∙ ap (cycle_dense (airings_of xs) (air xs)) f,
       within.is_air,
       (
         front.0,

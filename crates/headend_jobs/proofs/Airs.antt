@@ -8,7 +8,7 @@ use Rattle.guide_model.specs.declared.guide.Guide.{Guide}
 use Rattle.mux_model.specs.declared.mux.Mux.{Mux}
 use Rattle.version_book.specs.Airings.{CycleForm, AiredTables}
 use Rattle.air_model.specs.Air.{Aired, air, airings_of, air_bytes}
-use Rattle.air_model.specs.Making.{cycle_alone}
+use Rattle.air_model.specs.Making.{cycle_dense}
 use Rattle.air_model.proofs.Airs.{AreMade-push}
 use Rattle.carousel_player.specs.Playing.{Playing, form_of}
 use Rattle.publication.specs.Tables.{tables_of, HasServicesOf}
@@ -94,7 +94,7 @@ sent_whole mux v w old new mid now u s = λ front before (xs, end, are, made, qu
       xs ++ x ∷ [],
       ended,
       one_more mux s.airing v w front xs x s.made s.airing_is are (e ∙ own_form mux s.airing old quota),
-      AreMade-push [] xs x made (packets ∙ ap (cycle_alone (airings_of xs) (air xs)) (sym e)),
+      AreMade-push [] xs x made (packets ∙ ap (cycle_dense (airings_of xs) (air xs)) (sym e)),
       s.quota ∙ quota,
       subst (Appends before now) (sym (air_bytes-push xs x)) (Appends-trans before mid now (air_bytes xs) (cycle_bytes x) bytes took),
     )
@@ -109,7 +109,7 @@ sent_front mux v w old new mid now s = λ front before (xs, end, are, made, quot
       cut = x;
       is_air = is_air;
       airings_are = one_more mux s.airing v w front xs x s.made s.airing_is are (e ∙ own_form mux s.airing old quota);
-      made = AreMade-push [] xs x made (packets ∙ ap (cycle_alone (airings_of xs) (air xs)) (sym e));
+      made = AreMade-push [] xs x made (packets ∙ ap (cycle_dense (airings_of xs) (air xs)) (sym e));
       taken = n;
       proper = proper;
       bytes = Appends-trans before mid now (air_bytes xs) (take n (cycle_bytes x)) bytes took;

@@ -12,7 +12,7 @@ use Rattle.mux_model.specs.declared.mux.Mux.{Mux}
 use Rattle.version_book.specs.Airings.{CycleForm, AiredTables}
 use Rattle.ts_packets.specs.Bytes.{Packet, bytes_of_packet}
 use Rattle.air_model.specs.Air.{Aired, IsAirOf, airings_of, air, air_bytes}
-use Rattle.air_model.specs.Making.{cycle_alone}
+use Rattle.air_model.specs.Making.{cycle_dense}
 use Rattle.air_model.proofs.Airs.{AreMade-push}
 use Rattle.carousel_player.specs.Playing.{Playing, AtEnd, form_of}
 use Rattle.journal_model.specs.declared.step.Step.{Step}
@@ -152,12 +152,12 @@ own_form desk after player quota = ap (λ (q : ℕ). airing_on after (let form :
 
 -- one more cycle was sent
 swap_sent : (desk : DeskState) (who : ℕ) (step : Step) (old new : Playing) (xs : List Aired) (x : Aired) → Legal desk.mux desk.entries → is_swap step ≡ true → HasSentAll desk old xs → new.quota ≡ old.quota
-    → x.airing ≡ airing_on (and_step desk who step) (form_of old) → x.packets ≡ cycle_alone (airings_of xs) (air xs) (airing_on (and_step desk who step) (form_of old)) → AtEnd (xs ++ x ∷ []) new
+    → x.airing ≡ airing_on (and_step desk who step) (form_of old) → x.packets ≡ cycle_dense (airings_of xs) (air xs) (airing_on (and_step desk who step) (form_of old)) → AtEnd (xs ++ x ∷ []) new
     → HasSentAll (and_step desk who step) new (xs ++ x ∷ [])
 swap_sent desk who step old new xs x legal h sent kept e made at_end = record {
   at_end = at_end;
   airings_are = swap_airings desk who step xs x legal h sent.airings_are (e ∙ own_form desk (and_step desk who step) old sent.quota);
-  made = AreMade-push [] xs x sent.made (made ∙ ap (cycle_alone (airings_of xs) (air xs)) (sym e));
+  made = AreMade-push [] xs x sent.made (made ∙ ap (cycle_dense (airings_of xs) (air xs)) (sym e));
   quota = kept ∙ sent.quota;
 }
 
@@ -180,7 +180,7 @@ swap_aired desk who step old new before mid now (Err OnFault) legal h kept (xs, 
       whole = xs;
       cut = x;
       is_air = subst (λ (l : List AiredTables). IsAirOf l (xs ++ x ∷ [])) (swap_airings desk who step xs x legal h sent.airings_are (e ∙ own_form desk (and_step desk who step) old sent.quota)) is_air;
-      made = AreMade-push [] xs x sent.made (made ∙ ap (cycle_alone (airings_of xs) (air xs)) (sym e));
+      made = AreMade-push [] xs x sent.made (made ∙ ap (cycle_dense (airings_of xs) (air xs)) (sym e));
       taken = n;
       proper = proper;
       bytes = Appends-trans before mid now (air_bytes xs) (take n (cycle_bytes x)) bytes took;

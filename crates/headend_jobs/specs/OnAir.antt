@@ -6,7 +6,7 @@ use Rattle.ts_packets.specs.Bytes.{bytes_of_packet}
 use Rattle.version_book.specs.Book.{aired}
 use Rattle.version_book.specs.Airings.{CycleForm, AiredTables}
 use Rattle.air_model.specs.Air.{Aired, IsAirOf, air, airings_of, air_bytes}
-use Rattle.air_model.specs.Making.{AreMade, cycle_alone}
+use Rattle.air_model.specs.Making.{AreMade, cycle_dense}
 use Rattle.mux_model.specs.declared.mux.Mux.{Mux}
 use Rattle.carousel_player.specs.Playing.{Playing, AtEnd}
 use Rattle.publication.specs.Tables.{tables_of}
@@ -32,8 +32,8 @@ airing_by mux form on = aired (tables_of mux on.guide) on.moment.0 form
 abbrev pub airing_on : DeskState → CycleForm → AiredTables
 airing_on desk form = airing_by desk.mux form (on_air_of desk)
 
--- The player has sent these cycles and is at its end: those of the desk's journal, each section in packets of its own. Its quota is that
--- of the multiplex.
+-- The player has sent these cycles and is at its end: those of the desk's journal, neighbours of one PID in packets that they
+-- share. Its quota is that of the multiplex.
 pub record HasSentAll (desk : DeskState) (player : Playing) (xs : List Aired) : Type 0 where
   pub at_end : AtEnd xs player
   pub airings_are : airings_of xs ≡ airings desk.mux desk.entries
@@ -62,11 +62,11 @@ pub record HasAiredFront (desk : DeskState) (before now : Option (List ℕ)) : T
   pub proper : taken < length (cycle_bytes cut)
   pub bytes : Appends before now (air_bytes whole ++ take taken (cycle_bytes cut))
 
--- What sending the cycle of an airing leaves: the whole cycle, or a proper front of it. Each of its sections begins in a packet of its own.
+-- What sending the cycle of an airing leaves: the whole cycle, or a proper front of it. Its neighbours of one PID share packets.
 abbrev pub SentCycle : List Aired → AiredTables → Playing → Option (List ℕ) → Option (List ℕ) → Result (Unit {0}) SendStop → Type 0
-SentCycle xs a player old new (Ok u) = (x : Aired) × (x.airing ≡ a) × (x.packets ≡ cycle_alone (airings_of xs) (air xs) a) × AtEnd (xs ++ x ∷ []) player × Appends old new (cycle_bytes x)
+SentCycle xs a player old new (Ok u) = (x : Aired) × (x.airing ≡ a) × (x.packets ≡ cycle_dense (airings_of xs) (air xs) a) × AtEnd (xs ++ x ∷ []) player × Appends old new (cycle_bytes x)
 SentCycle xs a player old new (Err Air) =
-    (x : Aired) × (x.airing ≡ a) × (x.packets ≡ cycle_alone (airings_of xs) (air xs) a) × IsAirOf (airings_of (xs ++ x ∷ [])) (xs ++ x ∷ []) × ((n : ℕ) × (n < length (cycle_bytes x)) × Appends old new (take n (cycle_bytes x)))
+    (x : Aired) × (x.airing ≡ a) × (x.packets ≡ cycle_dense (airings_of xs) (air xs) a) × IsAirOf (airings_of (xs ++ x ∷ [])) (xs ++ x ∷ []) × ((n : ℕ) × (n < length (cycle_bytes x)) × Appends old new (take n (cycle_bytes x)))
 SentCycle xs a player old new (Err Memory) = Unit {0}
 
 -- the desk with one more step of a caller

@@ -27,8 +27,8 @@ airing_with_tables mux airing = airing_by mux (mux_form mux) airing
 abbrev pub ArePutOnAir : Mux → List Entry → List Entry → List AiredTables → Type 0
 ArePutOnAir mux seen entries airings = (journal : List Entry) → IsPrefix seen journal → airings ≡ airings_by mux journal entries
 
--- The player has sent a whole cycle for each airing of these entries, each section in packets of its own, and no others, and the air
--- took them, from `before` to `now`. Its quota is that of the multiplex.
+-- The player has sent a whole cycle for each airing of these entries, neighbours of one PID in packets that they share, and no others,
+-- and the air took them, from `before` to `now`. Its quota is that of the multiplex.
 abbrev pub HasPlayedTo : Mux → List Entry → List Entry → Playing → Option (List ℕ) → Option (List ℕ) → Type 0
 HasPlayedTo mux seen entries player before now =
     (xs : List Aired) × AtEnd xs player × ArePutOnAir mux seen entries (airings_of xs) × AreMade [] xs × (player.quota ≡ mux.quota) × Appends before now (air_bytes xs)

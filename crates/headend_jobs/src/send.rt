@@ -30,9 +30,9 @@ impl From<AllocError> for SendStop {
     }
 }
 
-/// Sends one whole cycle of a publication of this multiplex: of its sub-tables at the moment at which it went on air, each section
-/// beginning in a packet of its own, with the versions and continuity counters that go on from the cycles before (EN 300 468, 5.1;
-/// ISO/IEC 13818-1, 2.4.3). The cycle has the form of the player. It needs a player at its end, a moment whose day has 16 bits,
+/// Sends one whole cycle of a publication of this multiplex: of its sub-tables at the moment at which it went on air, sections of
+/// one PID that follow each other sharing packets, with the versions and continuity counters that go on from the cycles before
+/// (EN 300 468, 5.1; ISO/IEC 13818-1, 2.4.3). The cycle has the form of the player. It needs a player at its end, a moment whose day has 16 bits,
 /// and a guide within its limits that has the services of the multiplex in their order, as each publication of a desk has.
 ///
 /// `Air` comes only where the air's count of faults rose, or stands at its last value: the air then has a proper front of the cycle.
