@@ -39,9 +39,9 @@ fn has_versions(packets: &[u8], count: usize, last: usize) -> bool {
 }
 
 // The PIDs of a cycle but for that of the SDT, and how many packets it has on each. Where versions stand, the TDT has its hour.
-const OTHERS: [(u16, usize); 5] = [(0x00, 1), (0x100, 1), (0x10, 1), (0x14, 1), (0x12, 3)];
+const OTHERS: [(u16, usize); 5] = [(0x00, 1), (0x100, 1), (0x10, 1), (0x14, 1), (0x12, 1)];
 
-// Whether an air has so many cycles of eight packets, in which the versions of the SDT rise up to the last and then stay, and those
+// Whether an air has so many cycles of six packets, in which the versions of the SDT rise up to the last and then stay, and those
 // of the others are 0.
 fn has_cycles(alloc: Global, air: &[u8], cycles: usize, last: usize) -> Result<bool, AllocError> {
     for (pid, count) in OTHERS {
@@ -110,8 +110,8 @@ fn a_swap_without_a_publication_repeats_the_sections(rt: HostRuntime) -> Result<
     let text = renamed(rt.alloc(), &many_swaps())?;
     let air = air_of(&rt, rt.alloc(), &text)?;
     assert!(rt; air.len() == 34 * CYCLE);
-    for i in 256..264_usize {
-        assert!(rt; payload(&air, i) == payload(&air, i + 8), "{i}");
+    for i in 192..198_usize {
+        assert!(rt; payload(&air, i) == payload(&air, i + 6), "{i}");
     }
     Ok(())
 }
@@ -153,22 +153,23 @@ fn five_services(alloc: Global) -> Result<String, AllocError> {
     Ok(text)
 }
 
-// Whether an SDT has four entries of 210 bytes in five packets, and then one in two: the heads of its two sections.
+// Whether an SDT has four entries of 210 bytes in a section of 855 bytes, and one in another, which begins in the fifth packet behind 120
+// bytes of the first: the heads of its two sections.
 fn has_two_sections(packets: &[u8]) -> bool {
-    packets.len() == 7 * 188
+    packets.len() == 6 * 188
         && packets.get(5..13) == Some([0x42, 0xF3, 0x54, 0x00, 0x01, 0xC1, 0x00, 0x01].as_slice())
-        && packets.get(945..953)
+        && packets.get(877..885)
             == Some([0x42, 0xF0, 0xDE, 0x00, 0x01, 0xC1, 0x01, 0x01].as_slice())
 }
 
-// Before it stand the PAT, five PMTs and the NIT, behind it the TDT and three packets of each service.
+// Before it stand the PAT, five PMTs and the NIT, behind it the TDT, and the fifteen sections of the services' events in two packets.
 #[test]
 fn a_table_of_two_sections(rt: HostRuntime) -> Result<(), Fail> {
     let text = five_services(rt.alloc())?;
     let air = air_of(&rt, rt.alloc(), &text)?;
     let services = packets_on(rt.alloc(), &air, 0x11)?;
     let events = packets_on(rt.alloc(), &air, 0x12)?;
-    assert!(rt; air.len() == 30 * 188 && air.get(7 * 188..14 * 188) == Some(services.as_slice()));
-    assert!(rt; has_two_sections(&services) && has_versions(&events, 15, 0));
+    assert!(rt; air.len() == 16 * 188 && air.get(7 * 188..13 * 188) == Some(services.as_slice()));
+    assert!(rt; has_two_sections(&services) && events.len() == 2 * 188);
     Ok(())
 }

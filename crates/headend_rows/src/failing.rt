@@ -47,9 +47,9 @@ const LAST_LINES: [usize; 6] = [8, 13, 15, 16, 18, 20];
 
 const CYCLES: [usize; 7] = [0, 0, 0, 0, 0, 1, 2];
 
-// How many bytes a cycle has: PAT, PMT, NIT, SDT and TDT in a packet each, two of present and following, and five of a schedule up to
-// 15:00.
-const CYCLE: usize = 12 * 188;
+// How many bytes a cycle has: PAT, PMT, NIT, SDT and TDT in a packet each, and 206 bytes of present, following and a schedule up to 15:00
+// in two.
+const CYCLE: usize = 7 * 188;
 
 // Which end fails in a run.
 #[derive(Clone, Copy)]

@@ -25,16 +25,16 @@ pub(crate) const PACKET: &str = "\
 ";
 
 // The packets behind it: the TDT of the start of 1970 (5.2.5), and of a service without an event present, following, and a section of
-// its schedule (5.2.4).
+// its schedule (5.2.4), which share one (ISO/IEC 13818-1, 2.4.4.2).
 pub(crate) const NO_EVENTS: &str = "\
      47 40 14 10  00  70 70 05 9E 8B 00 00 00  FF*175
-     47 40 12 10  00  4E F0 0F 00 65 C1 00 01  00 01 00 01 01 4E  6A A2 D6 07  FF*165
-     47 40 12 11  00  4E F0 0F 00 65 C1 01 01  00 01 00 01 01 4E  31 03 0A CD  FF*165
-     47 40 12 12  00  50 F0 0F 00 65 C1 00 00  00 01 00 01 00 50  49 C6 68 2B  FF*165
+     47 40 12 10  00  4E F0 0F 00 65 C1 00 01  00 01 00 01 01 4E  6A A2 D6 07
+                      4E F0 0F 00 65 C1 01 01  00 01 00 01 01 4E  31 03 0A CD
+                      50 F0 0F 00 65 C1 00 00  00 01 00 01 00 50  49 C6 68 2B  FF*129
 ";
 
 // How many bytes they have together.
-pub(crate) const CYCLE: usize = 8 * 188;
+pub(crate) const CYCLE: usize = 6 * 188;
 
 // No call has this number.
 pub(crate) const NEVER: u64 = 1_000_000_000;

@@ -97,13 +97,13 @@ fn plays_so<W: Threads + Wait + Sync>(
     leaves(rt, alloc, &run, &left)
 }
 
-// It sends the one cycle; where a write takes a packet and the seventh fails, six packets.
+// It sends the one cycle; where a write takes a packet and the fifth fails, four packets.
 #[test]
 fn the_word_play(rt: HostRuntime) -> Result<(), Fail> {
     let failed = Status::WriteFault(Outlet::Air);
     for (calls, sent, status, fault) in [
         ((1, NEVER), CYCLE, Status::Done, ""),
-        ((188, 6), 6 * 188, failed, "fault: air not written\n"),
+        ((188, 4), 4 * 188, failed, "fault: air not written\n"),
     ] {
         let is_so = plays_so(&rt, rt.alloc(), calls, sent, status, fault)?;
         assert!(rt; is_so, "{sent}");

@@ -26,6 +26,7 @@ fn answer(row: &mut Row) {
     match row.word() {
         "packets_of" => packets::count(row),
         "packets" => packets::cut(row),
+        "stretch" => packets::share(row),
         "read_packet" => packets::read(row),
         "demux" => hearing::demux(row),
         "receive" => hearing::receive(row),
