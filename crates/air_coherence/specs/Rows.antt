@@ -1,5 +1,5 @@
 -- Worked packets: an SDT of two sections, aired with one content and then with another.
-use Rattle.std.specs.Prelude.{◌≡◌, ℕ, List, [], ◌∷◌, ◌++◌, map, slice_range, refl}
+use Rattle.std.specs.Prelude.{◌≡◌, ℕ, List, [], ◌∷◌, ◌++◌, map, flat_map, slice_range, refl}
 use Rattle.si_base.specs.Crc.{crc_of, crc_from}
 use Rattle.si_time.specs.Moments.{moments_compute}
 use Rattle.section_codec.specs.declared.table.Key.{Key}
@@ -7,9 +7,10 @@ use Rattle.section_codec.specs.declared.table.SubTable.{SubTable}
 use Rattle.section_codec.specs.declared.table.Tier3.TheVariants.{Fast}
 use Rattle.section_codec.specs.Contents.{Content}
 use Rattle.version_book.specs.Airings.{AiredTables}
-use Rattle.ts_packets.specs.Bytes.{Packet, bytes_of_packet}
+use Rattle.ts_packets.specs.Bytes.{Packet, bytes_of_packet, packets_alone}
 use Rattle.sub_collect.specs.declared.completed.Completed.{Completed}
-use Rattle.air_model.specs.Making.{cycle_dense}
+use Rattle.air_model.specs.Air.{Sent, cycle_sections}
+use Rattle.air_model.specs.Making.{counted}
 use Rattle.air_coherence.specs.Coherence.{completed_of}
 
 abbrev sdt : Key
@@ -29,13 +30,17 @@ table_of content = record { key = sdt; tier = Fast; sections = content }
 abbrev airing_of : Content → AiredTables
 airing_of content = record { tables = table_of content ∷ []; moment = 4257233100; form = record { quota = 200 } }
 
+-- a cycle whose sections each begin in a packet of their own, as an air may have one
+abbrev alone : List AiredTables → List Packet → AiredTables → List Packet
+alone past sent a = counted sent (flat_map (λ (s : Sent). packets_alone s.pid s.bytes) (cycle_sections past a))
+
 -- a cycle of three packets: the two sections, and the TDT
 abbrev one : List Packet
-one = cycle_dense [] [] (airing_of (both 101 102))
+one = alone [] [] (airing_of (both 101 102))
 
 -- and one of another content behind it
 abbrev packets : List (List ℕ)
-packets = map bytes_of_packet (one ++ cycle_dense (airing_of (both 101 102) ∷ []) one (airing_of (both 103 104)))
+packets = map bytes_of_packet (one ++ alone (airing_of (both 101 102) ∷ []) one (airing_of (both 103 104)))
 
 abbrev done : ℕ → Content → Completed
 done version content = record { key = sdt; version = version; sections = content }
