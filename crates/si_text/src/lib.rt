@@ -13,7 +13,7 @@ mod decoding;
 mod shown;
 mod txt;
 
-pub use coding::{append_text, coded_len, encode_text, is_plain_byte};
+pub use coding::{append_text, coded_len, encode_text, is_all_plain, is_plain_byte};
 pub use cutting::{cut_len, pieces_join, plain_cut_len};
 pub use decoding::{coded_texts_decode, decode_text};
 pub use shown::Shown;

@@ -1,5 +1,5 @@
 // Texts that are kept.
-ghost use Rattle.std.specs.Prelude.{◌≡◌, IfOk, Some, None, false, if◌then◌else◌, IsUtf8};
+ghost use Rattle.std.specs.Prelude.{◌≡◌, IfOk, Some, None, true, false, if◌then◌else◌, IsUtf8};
 ghost use Rattle.std.specs.Str.{chars};
 ghost use Rattle.std.specs.List.{list_any};
 ghost use Rattle.si_text.specs.Coding.{all_plain, coded_size};
@@ -48,6 +48,18 @@ impl Txt {
         let is_plain = is_all_plain(text.as_bytes());
         let text = String::from_str(alloc, text)?;
         Ok(Txt { text, is_plain })
+    }
+
+    /// The text, which is known to be all of the plain set: it is not looked at.
+    pub fn of_plain(alloc: Global, text: &str) -> Result<Txt, AllocError>
+        requires { all_plain text.now ≡ true }
+        ensures { IfOk result (λ made. made ≡ text.now) }
+    {
+        let text = String::from_str(alloc, text)?;
+        Ok(Txt {
+            text,
+            is_plain: true,
+        })
     }
 
     /// A copy.
