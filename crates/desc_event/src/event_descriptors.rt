@@ -1,9 +1,9 @@
 // The descriptors of an event.
-ghost use Rattle.std.specs.Prelude.{◌≡◌, ◌+◌, ◌<◌, ◌≤◌, ◌∷◌, ◌++◌, length, OnOk, OnErr, IsUtf8};
+ghost use Rattle.std.specs.Prelude.{◌≡◌, ◌+◌, ◌<◌, ◌≤◌, ◌∷◌, ◌++◌, true, length, take, OnOk, OnErr, IsCharBoundary, IsUtf8};
 ghost use Rattle.std.specs.List.{All};
 ghost use Rattle.si_base.specs.Room.{Appended, HasRoom};
-ghost use Rattle.si_text.specs.Coding.{coded_size};
-ghost use Rattle.si_text.specs.Cutting.{pieces};
+ghost use Rattle.si_text.specs.Coding.{all_plain, coded_size, coded_text};
+ghost use Rattle.si_text.specs.Cutting.{cut_size, pieces};
 ghost use Rattle.desc_event.specs.Content.{HasNibbles};
 ghost use Rattle.desc_event.specs.EventDescriptors.{event_descriptors, extended_events, content_of, rating_of, entry_size, IsWithinLimits};
 
@@ -13,7 +13,7 @@ use crate::parental_rating::put_parental_rating;
 use crate::short_event::{put_short_event, short_event_len};
 use desc_parts::Coded;
 use guide_model::{Event, Genre, Rating};
-use si_text::{coded_len, cut_len};
+use si_text::{Txt, cut_len, plain_cut_len};
 use std::alloc::AllocError;
 
 /// The bytes of an event's entry before its descriptors (EN 300 468, 5.2.4).
@@ -21,8 +21,8 @@ const HEAD: usize = 12;
 
 /// The size of the event's entry in an event information section: 12 bytes and its descriptors (EN 300 468, 5.2.4).
 /// It needs an event within the limits: a name of at most 100 coded bytes, a short text of at most 150, an extended text
-/// of at most 1,000 bytes and at most 8 genres with levels below 16. It takes no memory, and its work is linear in the
-/// lengths of the texts.
+/// of at most 1,000 bytes and at most 8 genres with levels below 16. It takes no memory, and looks at no text that is
+/// all of the plain set.
 pub fn event_len(event: &Event) -> u32
     requires { IsWithinLimits event.now }
     ensures size { result ≡ entry_size event.now }
@@ -40,10 +40,10 @@ pub fn write_event_descriptors(event: &Event, out: &mut Vec<u8>) -> Result<(), A
     ensures memory { OnErr result (out.new.items ≡ out.old.items) }
 {
     out.reserve(descriptors_len(event))?;
-    let name = Coded::of_text(event.name.as_str());
-    let short = Coded::of_text(event.short.as_str());
+    let name = Coded::of_txt(&event.name);
+    let short = Coded::of_txt(&event.short);
     put_short_event(&event.language, &name, &short, out);
-    put_extended_events(&event.language, event.extended.as_str(), out);
+    put_extended_events(&event.language, &event.extended, out);
     put_genres(event.genres.as_slice(), out);
     put_rating(event.rating, out);
     Ok(())
@@ -54,10 +54,10 @@ fn descriptors_len(event: &Event) -> usize
     ensures size { result ≡ length (event_descriptors event.now) }
     ensures at_most { result ≤ 1326 }
 {
-    let name = Coded::of_text(event.name.as_str());
-    let short = Coded::of_text(event.short.as_str());
+    let name = Coded::of_txt(&event.name);
+    let short = Coded::of_txt(&event.short);
     short_event_len(&event.language, &name, &short)
-        + extended_len(&event.language, event.extended.as_str())
+        + extended_len(&event.language, &event.extended)
         + genres_len(event.genres.as_slice())
         + rating_len(event.rating)
 }
@@ -107,43 +107,74 @@ fn put_rating(rating: Option<Rating>, out: &mut Vec<u8>)
 
 // ---- pieces of the extended text
 
+// The length of the first piece of a text. It reads nothing of one that is known to be plain.
+fn piece_len(text: &str, is_plain: bool) -> usize
+    requires { is_plain ≡ true → all_plain text.now ≡ true }
+    ensures size { result ≡ cut_size text.now }
+    ensures whole { IsCharBoundary text.now result }
+    ensures fits { coded_size (take result text.now) ≤ 249 }
+{
+    if is_plain {
+        plain_cut_len(text)
+    } else {
+        cut_len(text)
+    }
+}
+
 // The first piece of a text, and what is left behind it.
-fn cut(text: &str) -> (&str, &str)
-    requires { 0 < length text.now }
+fn cut(text: &str, is_plain: bool) -> (&str, &str)
+    requires some { 0 < length text.now }
+    requires plain { is_plain ≡ true → all_plain text.now ≡ true }
     ensures pieces { pieces text.now ≡ result.0.now ∷ pieces result.1.now }
     ensures fits { coded_size result.0.now ≤ 249 }
     ensures utf8 { IsUtf8 result.1.now }
     ensures less { length result.1.now < length text.now }
+    ensures front { is_plain ≡ true → all_plain result.0.now ≡ true }
+    ensures back { is_plain ≡ true → all_plain result.1.now ≡ true }
 {
-    text.split_at(cut_len(text))
+    text.split_at(piece_len(text, is_plain))
+}
+
+// The bytes that a piece is coded as.
+fn coded_piece(piece: &str, is_plain: bool) -> Coded<'_>
+    requires { is_plain ≡ true → all_plain piece.now ≡ true }
+    ensures { result ≡ coded_text piece.now }
+{
+    if is_plain {
+        Coded::of_bytes(piece.as_bytes())
+    } else {
+        Coded::of_text(piece)
+    }
 }
 
 // How many bytes the extended_event descriptors of a text have.
-fn extended_len(language: &[u8; 3], text: &str) -> usize
+fn extended_len(language: &[u8; 3], text: &Txt) -> usize
     requires { length text.now ≤ 1000 }
     ensures size { result ≡ length (extended_events language.now text.now) }
     ensures at_most { result ≤ 1045 }
 {
+    let is_plain = text.is_plain();
     let mut size = 0;
-    let mut rest = text;
+    let mut rest = text.as_str();
     while !rest.is_empty() {
-        let (piece, more) = cut(rest);
-        size += 5 + language.len() + coded_len(piece);
+        let (piece, more) = cut(rest, is_plain);
+        size += 5 + language.len() + coded_piece(piece, is_plain).len();
         rest = more;
     }
     size
 }
 
 // How many pieces a text has.
-fn piece_count(text: &str) -> u8
+fn piece_count(text: &Txt) -> u8
     requires { length text.now ≤ 1000 }
     ensures count { result ≡ length (pieces text.now) }
     ensures at_most { result ≤ 5 }
 {
+    let is_plain = text.is_plain();
     let mut count = 0;
-    let mut rest = text;
+    let mut rest = text.as_str();
     while !rest.is_empty() {
-        let (_, more) = cut(rest);
+        let (_, more) = cut(rest, is_plain);
         count += 1;
         rest = more;
     }
@@ -151,18 +182,19 @@ fn piece_count(text: &str) -> u8
 }
 
 // Appends the extended_event descriptors of a text to a buffer that has room for them.
-fn put_extended_events(language: &[u8; 3], text: &str, out: &mut Vec<u8>)
+fn put_extended_events(language: &[u8; 3], text: &Txt, out: &mut Vec<u8>)
     requires length { length text.now ≤ 1000 }
     requires room { HasRoom out.old (length (extended_events language.now text.now)) }
     ensures { Appended out.old out.new (extended_events language.now text.now) }
 {
     let count = piece_count(text);
+    let is_plain = text.is_plain();
     let mut number = 0;
-    let mut rest = text;
+    let mut rest = text.as_str();
     while !rest.is_empty() {
-        let (piece, more) = cut(rest);
-        let text = Coded::of_text(piece);
-        put_extended_event(number, count - 1, language, &text, out);
+        let (piece, more) = cut(rest, is_plain);
+        let coded = coded_piece(piece, is_plain);
+        put_extended_event(number, count - 1, language, &coded, out);
         number += 1;
         rest = more;
     }

@@ -40,6 +40,16 @@ impl<'a> Coded<'a> {
         }
     }
 
+    /// The bytes that a kept text is coded as. It looks at none of its characters.
+    pub fn of_txt(text: &'a Txt) -> Coded<'a>
+        ensures { result ≡ coded_text text.now }
+    {
+        Coded {
+            is_utf8: !text.is_plain(),
+            bytes: text.as_str().as_bytes(),
+        }
+    }
+
     /// These bytes, which are coded.
     pub fn of_bytes(bytes: &'a [u8]) -> Coded<'a>
         ensures { result ≡ bytes.now }
@@ -55,7 +65,7 @@ impl<'a> Coded<'a> {
         ensures { result ≡ shown_bytes shown.now }
     {
         match shown {
-            Shown::Text(text) => Coded::of_text(text.as_str()),
+            Shown::Text(text) => Coded::of_txt(text),
             Shown::Hex(bytes) => Coded::of_bytes(bytes.as_slice()),
         }
     }

@@ -1,11 +1,9 @@
 -- Bodies, by computing, can be read.
-use Rattle.std.proofs.Common.{◌≡◌, ℕ, zero, suc, ◌+◌, ◌*◌, ◌/◌, ◌%◌, ◌<◌, ◌≤◌, Bool, true, false, ◌&&◌, List, [], ◌∷◌, ◌++◌, Option, Some, None, length, take, drop, refl, sym, ap, ap₂, subst, ◌∙◌, arith}
+use Rattle.std.proofs.Common.{◌≡◌, ℕ, zero, suc, ◌+◌, ◌*◌, ◌/◌, ◌%◌, ◌≤◌, Bool, true, false, ◌&&◌, List, [], ◌∷◌, ◌++◌, Option, Some, None, length, take, drop, refl, sym, ap, ap₂, subst, ◌∙◌, arith}
 use Rattle.std.specs.Prelude.{nat_le, is_some}
 use Rattle.std.proofs.lemmas.Bool.{leb-true}
 use Rattle.std.proofs.lemmas.List.{take-append-drop, length-take-le}
 use Rattle.si_time.specs.Readings.{moment_from_bcd, duration_from_bcd}
-use Rattle.desc_parts.specs.declared.descriptors.RawDesc.{RawDesc}
-use Rattle.desc_parts.specs.Descriptors.{AreDescriptors}
 use Rattle.table_entries.specs.Loops.{are_descriptors, AreBytes}
 use Rattle.table_entries.proofs.Looks.{bytes_behind, bytes_before, descriptors_of}
 use Rattle.guide_model.specs.declared.screen.ScreenEvent.{ScreenEvent}

@@ -7,7 +7,6 @@ use Rattle.std.specs.Cmp.Derive.{both_true}
 use Rattle.si_lists.proofs.Lists.{three_of, five_of}
 use Rattle.si_base.specs.Fields.{two}
 use Rattle.si_time.specs.Readings.{moment_from_bcd, duration_from_bcd}
-use Rattle.desc_parts.specs.declared.descriptors.RawDesc.{RawDesc}
 use Rattle.desc_parts.specs.Descriptors.{descriptor_bytes}
 use Rattle.table_entries.specs.Loops.{are_descriptors}
 use Rattle.table_entries.proofs.Looks.{descriptors_within}

@@ -10,8 +10,12 @@ use si_base::{Bytes, Items};
 use si_time::{duration_bcd, to_bcd};
 use std::alloc::{AllocError, Global};
 
+/// The bytes of a body before its entries (EN 300 468, 5.2.4).
+const HEAD: usize = 6;
+
 /// The body of a section of event information: its head, and for each event the entry with this running_status and
 /// free_CA_mode 0 (EN 300 468, 5.2.4). It needs a running_status below 8 and events within the limits of their coded form.
+/// Memory is taken once, as much as the body has.
 pub fn write_eit(
     alloc: Global,
     head: &EitHead,
@@ -22,10 +26,21 @@ pub fn write_eit(
     requires events { All IsCodable events.now }
     ensures { IfOk result (λ body. body ≡ eit_body head.now status events.now) }
 {
-    let mut out = Vec::new(alloc);
+    let mut out = Vec::with_capacity(alloc, body_len(events))?;
     write_head(head, &mut out)?;
     write_entries(status, events, &mut out)?;
     Ok(Items::of(out))
+}
+
+// The size of the body of these events, or the greatest number. It takes no memory.
+fn body_len(events: &[Event]) -> usize
+    requires { All IsCodable events.now }
+{
+    let mut len: usize = HEAD;
+    for event in events {
+        len = len.saturating_add(event_len(event) as usize);
+    }
+    len
 }
 
 // Appends the head; want of memory may leave a part of it.

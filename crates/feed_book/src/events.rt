@@ -1,5 +1,7 @@
 // A service's events in order of start, and their index in step with them.
-ghost use Rattle.std.specs.Prelude.{◌≡◌, ℕ, ◌+◌, ◌<◌, ◌≤◌, length, map, insert, vec_len, vec_capacity};
+ghost use Rattle.std.specs.Prelude.{◌≡◌, ℕ, ◌==◌, ◌+◌, ◌<◌, ◌≤◌, length, map, insert, vec_len, vec_capacity};
+ghost use Rattle.std.specs.List.{position_or_len};
+ghost use Rattle.feed_book.specs.declared.index.IndexedEvent.{IndexedEvent as Shape};
 ghost use Rattle.feed_book.specs.Replies.{without, put};
 ghost use Rattle.guide_limits.specs.Standing.{placed};
 ghost use Rattle.guide_limits.specs.Sound.{AreApart};
@@ -30,6 +32,24 @@ fn insert_at<T: Drop>(list: &mut Vec<T>, at: usize, item: T)
     }
 }
 
+// Takes the event of an id out, which stands at this place, or nowhere if that is the length.
+fn take_out_at(events: &mut Vec<Event>, slots: &mut Vec<IndexedEvent>, id: u16, at: usize)
+    requires apart { AreApart events.old.items }
+    requires index { slots.old.items ≡ map slot_of_event events.old.items }
+    requires place { at ≡ position_or_len (λ (slot : Shape). slot.id == id) slots.old.items }
+    ensures events { events.new.items ≡ without id events.old.items }
+    ensures index { slots.new.items ≡ map slot_of_event (without id events.old.items) }
+    ensures events_len { vec_len events.new ≤ vec_len events.old }
+    ensures slots_len { vec_len slots.new ≤ vec_len slots.old }
+    ensures events_capacity { vec_capacity events.new ≡ vec_capacity events.old }
+    ensures slots_capacity { vec_capacity slots.new ≡ vec_capacity slots.old }
+{
+    if at < slots.len() {
+        let _gone = events.remove(at);
+        slots.remove(at);
+    }
+}
+
 /// Takes the event of an id out, if there is one.
 pub(crate) fn take_out(events: &mut Vec<Event>, slots: &mut Vec<IndexedEvent>, id: u16)
     requires apart { AreApart events.old.items }
@@ -42,10 +62,7 @@ pub(crate) fn take_out(events: &mut Vec<Event>, slots: &mut Vec<IndexedEvent>, i
     ensures slots_capacity { vec_capacity slots.new ≡ vec_capacity slots.old }
 {
     let at = place_of_id(slots, id);
-    if at < slots.len() {
-        let _gone = events.remove(at);
-        slots.remove(at);
-    }
+    take_out_at(events, slots, id, at);
 }
 
 /// Places an event for which there is room.
@@ -98,7 +115,7 @@ pub(crate) fn put_in(
         events[at] = event;
         slots[at] = slot;
     } else {
-        take_out(events, slots, slot.id);
+        take_out_at(events, slots, slot.id, at);
         place_in(events, slots, event, slot);
     }
 }

@@ -121,6 +121,17 @@ fn block_size(slots: &[IndexedEvent], slot: &IndexedEvent) -> u32
     total
 }
 
+// Whether more than 2,000 stand with one of this id. They are counted only where so many stand already.
+fn are_too_many(slots: &[IndexedEvent], id: u16) -> bool
+    requires { length slots.now ≤ 2000 }
+    ensures { result ≡ nat_lt 2000 (1 + count_by (other_ids id) slots.now) }
+{
+    if slots.len() < 2000 {
+        return false;
+    }
+    2000 <= count_others(slots, id)
+}
+
 /// What the slot breaks among the others.
 pub(crate) fn place_fault(slots: &[IndexedEvent], slot: &IndexedEvent) -> Option<DayFault>
     requires early { slot.now.start < 2 ^ 63 }
@@ -135,8 +146,8 @@ pub(crate) fn place_fault(slots: &[IndexedEvent], slot: &IndexedEvent) -> Option
     if let Some(other) = first_in_the_way(slots, slot) {
         return Some(DayFault::Overlap(other.id));
     }
-    let count = 1 + count_others(slots, slot.id) as u32;
-    if 2000 < count {
+    if are_too_many(slots, slot.id) {
+        let count = 1 + count_others(slots, slot.id) as u32;
         return Some(DayFault::Range(Field::Count(count)));
     }
     let size = slot.size + block_size(slots, slot);

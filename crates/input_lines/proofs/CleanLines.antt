@@ -1,5 +1,5 @@
 -- Facts on the fields of a clean line.
-use Rattle.std.proofs.Common.{◌≡◌, ◌==◌, ◌&&◌, ◌||◌, ◌++◌, ◌∷◌, ◌∙◌, [], ℕ, suc, zero, List, Option, Some, None, refl, ap, subst, true, false, inl, inr, take, length, get_or, not, ◌<◌, arith}
+use Rattle.std.proofs.Common.{◌≡◌, ◌==◌, ◌&&◌, ◌++◌, ◌∷◌, ◌∙◌, [], ℕ, suc, zero, List, Option, Some, None, refl, ap, subst, true, false, inl, inr, take, length, get_or, not, ◌<◌, arith}
 use Rattle.std.specs.List.{list_all, list_any}
 use Rattle.std.specs.Prelude.{nat_le}
 use Rattle.std.specs.Str.{IsUtf8, chars, is_utf8}

@@ -3,6 +3,7 @@ pub mod Clean
 pub mod CleanBytes
 pub mod CleanLines
 mod Unquoted
+mod PlainParts
 pub mod Numerals
 pub mod Steps
 pub mod LastLines

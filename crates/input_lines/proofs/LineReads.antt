@@ -1,5 +1,5 @@
 -- Values that are read from the lines ahead, one after another: what a call of a reader tells, put together of what its parts tell.
-use Rattle.std.proofs.Common.{◌≡◌, ◌≤◌, ◌<◌, ℕ, zero, suc, ◌+◌, ◌-◌, List, [], ◌∷◌, ◌++◌, length, refl, sym, ap, subst, ◌∙◌, inl, inr, arith, append-nil, append_assoc, length-append}
+use Rattle.std.proofs.Common.{◌≡◌, ◌≤◌, ◌<◌, ℕ, ◌+◌, List, [], ◌∷◌, ◌++◌, length, refl, sym, ap, subst, ◌∙◌, inl, inr, arith, append-nil, append_assoc, length-append}
 use Rattle.std.specs.Prelude.{true, Option, Some, None, Ok, Err, Result, IfOk, IfSome, OnOk}
 use Rattle.std.specs.List.{list_all}
 use Rattle.si_causes.proofs.CauseFacts.{Rose-from}
@@ -11,7 +11,7 @@ use Rattle.input_lines.specs.Going.{LineCame, NoneCame, FaultCame, RecordCame}
 use Rattle.input_lines.specs.Records.{FirstRecord, NoRecord, NoneInLimit, GivesRecord, NextRecord}
 use Rattle.input_lines.specs.declared.stop.EditStop.{EditStop}
 use Rattle.input_lines.specs.declared.stop.EditStop.TheVariants.{NoCommand as Refused, Read, Memory}
-use Rattle.input_lines.specs.Ahead.{Ahead, Row, Tail, Ends, Exceeds, Breaks, Found, Came, Stopped, Stop, End, NoCommand, TooLong, Unread, and_then, first_row, row_of, tail_of, stop_at, missing_at, on_line, ahead}
+use Rattle.input_lines.specs.Ahead.{Ahead, Row, Tail, Ends, Exceeds, Breaks, Found, Came, Stopped, Stop, NoCommand, TooLong, Unread, and_then, first_row, row_of, tail_of, stop_at, missing_at, on_line, ahead}
 use Rattle.input_lines.specs.Reads.{Leaves, Gives, Looked, Passes, RefusesEnd, Faulted, Takes, Says, ahead_with, none_ahead, stopped_by, ReadsStopped, ReadOf, GivesNext, TakesNext, NextOf}
 use Rattle.input_lines.proofs.LastLines.{none_last, last_split, before_last, front_passed}
 use Rattle.input_lines.proofs.Steps.{handed_none, handed_more, whole_more, records_past, record_first, stuck_at, if_none, no_stop}

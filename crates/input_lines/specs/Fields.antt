@@ -1,5 +1,5 @@
 -- The fields of an input line, by the words of csv.
-use Rattle.std.specs.Prelude.{◌≤◌, ℕ, ◌==◌, Bool, ◌&&◌, not, nat_le, List, [], length, slice_index, Option, Some, None, if◌then◌else◌}
+use Rattle.std.specs.Prelude.{◌≡◌, ◌≤◌, true, ℕ, ◌==◌, Bool, ◌&&◌, not, nat_le, List, [], length, slice_index, Option, Some, None, if◌then◌else◌}
 use Rattle.std.specs.List.{list_any, slice_split}
 use Rattle.std.specs.Str.{chars, is_utf8}
 use Rattle.csv.specs.Machine.{Read}
@@ -7,6 +7,7 @@ unfoldable pub use Rattle.csv.specs.Machine.{next_record}
 use Rattle.csv.specs.Reading.{default_config}
 unfoldable pub use Rattle.csv.specs.Reading.{strip_bom}
 use Rattle.csv.specs.declared.parser.State.TheVariants.{StartRecord}
+use Rattle.si_text.specs.Coding.{all_plain}
 use Rattle.si_text.specs.Control.{has_control}
 use Rattle.si_text.specs.Decoding.{IsKept}
 
@@ -21,6 +22,10 @@ line_fields line = fields_or_none (next_record default_config StartRecord [] [] 
 -- the parts between the commas of a line
 abbrev pub comma_parts : List ℕ → List (List ℕ)
 comma_parts line = slice_split (λ b. b == 44) line
+
+-- all its characters are of the plain set
+abbrev pub IsPlain : List ℕ → Type 0
+IsPlain text = all_plain text ≡ true
 
 abbrev pub has_quote : List ℕ → Bool
 has_quote line = list_any (λ b. b == 34) line

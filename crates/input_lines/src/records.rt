@@ -1,14 +1,16 @@
 // The fields of a line.
-ghost use Rattle.std.specs.Prelude.{◌≡◌, IfOk, IfSome, IfNone};
+ghost use Rattle.std.specs.Prelude.{◌≡◌, true, false, IfOk, IfSome, IfNone};
 ghost use Rattle.std.specs.List.{AllByRecursion};
 ghost use Rattle.csv.specs.Records.{fields_of};
+ghost use Rattle.si_text.specs.Coding.{all_plain};
+ghost use Rattle.si_text.specs.Control.{has_control};
 ghost use Rattle.si_text.specs.Decoding.{IsKept};
-ghost use Rattle.input_lines.specs.Fields.{IsLine, comma_parts, has_quote, is_bare, line_fields, record_of};
+ghost use Rattle.input_lines.specs.Fields.{IsLine, IsPlain, comma_parts, has_quote, is_bare, line_fields, record_of};
 
 use csv::{ReaderBuilder, StringRecord};
 use memchr::{memchr, memchr_iter};
 use si_base::Items;
-use si_text::{Txt, has_control};
+use si_text::{Txt, has_control, is_all_plain};
 use std::alloc::{AllocError, Global};
 
 /// The most bytes that a line may have.
@@ -66,29 +68,52 @@ fn is_bare(line: &[u8]) -> bool
     !has_quote(line)
 }
 
+// The text of a part of a line; one that is known to be plain is not looked at.
+fn text_of(alloc: Global, part: &str, is_plain: bool) -> Result<Txt, AllocError>
+    requires kept { has_control part.now ≡ false }
+    requires plain { is_plain ≡ true → all_plain part.now ≡ true }
+    ensures { IfOk result (λ text. text ≡ part.now) }
+{
+    if is_plain {
+        Txt::of_plain(alloc, part)
+    } else {
+        Txt::of_kept(alloc, part)
+    }
+}
+
 // The parts between the commas of a line. The list takes memory once, and each part once.
-fn parts(alloc: Global, line: &str) -> Result<LineFields, AllocError>
-    requires { AllByRecursion IsKept (comma_parts line.now) }
+fn parts(alloc: Global, line: &str, is_plain: bool) -> Result<LineFields, AllocError>
+    requires kept { AllByRecursion IsKept (comma_parts line.now) }
+    requires plain { is_plain ≡ true → AllByRecursion IsPlain (comma_parts line.now) }
     ensures { IfOk result (λ parts. parts ≡ comma_parts line.now) }
 {
     let commas = memchr_iter(b',', line.as_bytes()).count();
     let mut parts = Vec::with_capacity(alloc, commas + 1)?;
     for part in line.split(',') {
-        parts.push(Txt::of_kept(alloc, part)?)?;
+        parts.push(text_of(alloc, part, is_plain)?)?;
     }
     Ok(Items::of(parts))
 }
 
 // The fields of a line that may be kept: those of a bare one are its parts, and csv is asked of any other.
-fn kept_fields(alloc: Global, line: &str) -> Result<LineFields, AllocError>
-    requires { IsKept line.now }
+fn kept_fields(alloc: Global, line: &str, is_plain: bool) -> Result<LineFields, AllocError>
+    requires kept { IsKept line.now }
+    requires plain { is_plain ≡ true → all_plain line.now ≡ true }
     ensures { IfOk result (λ fields. fields ≡ line_fields line.now) }
 {
     if is_bare(line.as_bytes()) {
-        return parts(alloc, line);
+        return parts(alloc, line, is_plain);
     }
     let row = line_record(alloc, line.as_bytes())?;
     texts(alloc, &row)
+}
+
+// Whether a text has a control character. One that is known to be plain has none, and is not looked at.
+fn is_refused(text: &str, is_plain: bool) -> bool
+    requires { is_plain ≡ true → all_plain text.now ≡ true }
+    ensures { result ≡ has_control text.now }
+{
+    !is_plain && has_control(text)
 }
 
 /// The fields of the one record that csv reads of a line, without header and with any number of fields; none where csv
@@ -105,8 +130,9 @@ pub fn fields(alloc: Global, line: &[u8]) -> Result<Option<LineFields>, AllocErr
     let Ok(text) = str::from_utf8(line) else {
         return Ok(None);
     };
-    if has_control(text) {
+    let is_plain = is_all_plain(line);
+    if is_refused(text, is_plain) {
         return Ok(None);
     }
-    Ok(Some(kept_fields(alloc, text)?))
+    Ok(Some(kept_fields(alloc, text, is_plain)?))
 }

@@ -5,6 +5,9 @@ ghost use Rattle.csv.specs.Writing.{default_writer, escaped, field_text, needs_q
 use std::alloc::{AllocError, Global};
 use std::marker::Model;
 
+/// The bytes of most lines.
+const ROOM: usize = 512;
+
 /// A line in the making: fields, as csv writes those of a record. It parts them by commas, and quotes those that call for it.
 #[derive(Drop)]
 pub(crate) struct LineWriter {
@@ -24,12 +27,12 @@ impl LineWriter {
     ghost use Rattle.std.specs.Prelude.{◌≡◌, ◌++◌, OnOk, decimal};
     ghost use Rattle.journal_text.specs.Edits.{no_fields, and_field, ended, IsOpenFor};
 
-    /// A line without a field. It takes no memory.
+    /// A line without a field, with room for its text where there is memory for it.
     pub(crate) fn open(alloc: Global) -> LineWriter
         ensures { result ≡ no_fields }
     {
         LineWriter {
-            text: Vec::new(alloc),
+            text: room(alloc),
             fields: 0,
         }
     }
@@ -62,6 +65,16 @@ impl LineWriter {
     {
         out.extend_from_slice(&self.text)?;
         out.extend_from_slice(b"\n")
+    }
+}
+
+// No byte, with room for those of most lines where there is memory for them.
+fn room(alloc: Global) -> Vec<u8>
+    ensures { result.items ≡ [] }
+{
+    match Vec::with_capacity(alloc, ROOM) {
+        Ok(text) => text,
+        Err(_) => Vec::new(alloc),
     }
 }
 

@@ -76,6 +76,16 @@ fn keep(items: &mut DayItems, item: Item) -> Result<(), EditStop>
     }
 }
 
+// No item, with room for so many where there is memory for them.
+fn no_items(alloc: Global, count: u32) -> DayItems
+    ensures { result ≡ [] }
+{
+    match Vec::with_capacity(alloc, count as usize) {
+        Ok(items) => DayItems::of(items),
+        Err(_) => DayItems::new(alloc),
+    }
+}
+
 // So many items, each on the next line.
 fn next_items<S: Source>(
     alloc: Global,
@@ -86,7 +96,7 @@ fn next_items<S: Source>(
     ensures shaped { IfOk result (All IsShapedItem) }
     ensures counted { IfOk result (λ items. length items ≡ count) }
 {
-    let mut items = DayItems::new(alloc);
+    let mut items = no_items(alloc, count);
     'items: for _ in 0..count {
         let item = match next_item(alloc, lines) {
             Ok(item) => item,

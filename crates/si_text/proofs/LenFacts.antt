@@ -1,7 +1,7 @@
 -- Where `cut_len` cuts: behind 249 bytes of the plain set, and else at the last boundary up to 248.
 use Rattle.std.proofs.Common.{◌≡◌, ℕ, ◌+◌, ◌<◌, ◌≤◌, true, false, List, length, take, drop, sym, ap, ◌∙◌, subst, arith, inl, inr}
 use Rattle.std.specs.Prelude.{◌&&◌, min, IsUtf8, IsCharBoundary}
-use Rattle.std.proofs.lemmas.Bool.{cases_lt}
+use Rattle.std.proofs.lemmas.Bool.{cases_lt, and_parts}
 use Rattle.std.proofs.lemmas.List.{length-take-le, take-append-drop, take-append-le, get_or-take}
 use Rattle.std.proofs.lemmas.List.Folds.{list_all-append}
 use Rattle.std.proofs.lemmas.Str.{IsCharBoundary-end, IsCharBoundary-after_ascii}
@@ -54,3 +54,15 @@ other_cut text k r most h le b nearest = record {
 
 pub plain_cut-min : (text : List ℕ) (k : ℕ) → IsUtf8 text → k ≡ min 249 (length text) → all_plain (take k text) ≡ true → IsLongestCut text k
 plain_cut-min text k u e h = plain_cut text k u (omega arith) (omega arith) (λ lt. omega arith) h
+
+-- each front of plain bytes is plain, and so is what stands behind it
+pub plain_front : (text : List ℕ) (k : ℕ) → all_plain text ≡ true → all_plain (take k text) ≡ true
+plain_front text k h =
+    (and_parts (all_plain (take k text)) (all_plain (drop k text)) (sym (list_all-append is_plain (take k text) (drop k text)) ∙ ap all_plain (take-append-drop k text) ∙ h)).0
+
+pub plain_back : (text : List ℕ) (k : ℕ) → all_plain text ≡ true → all_plain (drop k text) ≡ true
+plain_back text k h =
+    (and_parts (all_plain (take k text)) (all_plain (drop k text)) (sym (list_all-append is_plain (take k text) (drop k text)) ∙ ap all_plain (take-append-drop k text) ∙ h)).1
+
+pub plain_cut-all : (text : List ℕ) (k : ℕ) → IsUtf8 text → k ≡ min 249 (length text) → all_plain text ≡ true → IsLongestCut text k
+plain_cut-all text k u e h = plain_cut-min text k u e (plain_front text k h)

@@ -1,6 +1,6 @@
 -- Text of the plain set, and text of printing characters of ASCII, is ASCII, and has no control character.
 use Rattle.std.proofs.Common.{◌≡◌, ℕ, zero, suc, ◌<◌, ◌≤◌, true, false, List, [], ◌∷◌, arith, lit<, refl, ap, ◌∙◌}
-use Rattle.std.specs.Prelude.{IsAscii, ◌&&◌, ◌||◌}
+use Rattle.std.specs.Prelude.{IsAscii, ◌||◌}
 use Rattle.std.specs.List.{list_any}
 use Rattle.std.proofs.lemmas.Str.{chars-IsAscii}
 use Rattle.std.proofs.lemmas.Bool.Decides.{nat_tests}

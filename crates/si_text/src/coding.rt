@@ -27,7 +27,8 @@ pub fn is_plain_byte(b: u8) -> bool
     PLAIN[usize::from(b)] == 1
 }
 
-pub(crate) fn is_all_plain(bytes: &[u8]) -> bool
+/// Whether all bytes are characters of the plain set. It takes no memory.
+pub fn is_all_plain(bytes: &[u8]) -> bool
     ensures { result ≡ all_plain bytes.now }
 {
     bytes.iter().all(|b| is_plain_byte(*b))

@@ -1,7 +1,7 @@
 // The pieces of a text that is too long for one descriptor.
-ghost use Rattle.std.specs.Prelude.{◌≡◌, ℕ, ◌<◌, ◌≤◌, ◌+◌, ◌*◌, List, [], ◌∷◌, length, take, drop, IsUtf8, IsCharBoundary};
+ghost use Rattle.std.specs.Prelude.{◌≡◌, true, ℕ, ◌<◌, ◌≤◌, ◌+◌, ◌*◌, List, [], ◌∷◌, length, take, drop, IsUtf8, IsCharBoundary};
 ghost use Rattle.std.specs.List.{concat, AllByRecursion};
-ghost use Rattle.si_text.specs.Coding.{coded_size};
+ghost use Rattle.si_text.specs.Coding.{all_plain, coded_size};
 ghost use Rattle.si_text.specs.Cutting.{cut_size, pieces, ArePieces};
 ghost use Rattle.si_text.specs.Decoding.{IsKept};
 
@@ -25,6 +25,16 @@ pub fn cut_len(text: &str) -> usize
     } else {
         text.floor_char_boundary(PIECE - 1)
     }
+}
+
+/// The same of a text whose characters are all of the plain set: it reads none of them.
+pub fn plain_cut_len(text: &str) -> usize
+    requires { all_plain text.now ≡ true }
+    ensures size { result ≡ cut_size text.now }
+    ensures whole { IsCharBoundary text.now result }
+    ensures fits { coded_size (take result text.now) ≤ 249 }
+{
+    PIECE.min(text.len())
 }
 
 /// The pieces of a text: the empty text has none; another has its longest front and the pieces of the rest. They

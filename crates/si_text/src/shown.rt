@@ -2,7 +2,7 @@
 ghost use Rattle.std.specs.Prelude.{◌≡◌, ◌++◌, length, IfOk, OnOk, OnErr};
 ghost use Rattle.si_text.specs.Decoding.{shown_bytes};
 
-use crate::coding::{append_text, coded_len};
+use crate::coding::append_text;
 use crate::txt::Txt;
 use si_base::{Bytes, Copies};
 use std::alloc::AllocError;
@@ -21,7 +21,7 @@ impl Shown {
         ensures { result ≡ length (shown_bytes self.now) }
     {
         match self {
-            Shown::Text(text) => coded_len(text.as_str()),
+            Shown::Text(text) => text.coded_len(),
             Shown::Hex(bytes) => bytes.len(),
         }
     }

@@ -1,28 +1,32 @@
 // Texts that are kept.
-ghost use Rattle.std.specs.Prelude.{◌≡◌, IfOk, Some, None, false, if◌then◌else◌, IsUtf8};
+ghost use Rattle.std.specs.Prelude.{◌≡◌, IfOk, Some, None, true, false, if◌then◌else◌, IsUtf8};
 ghost use Rattle.std.specs.Str.{chars};
 ghost use Rattle.std.specs.List.{list_any};
+ghost use Rattle.si_text.specs.Coding.{all_plain, coded_size};
 ghost use Rattle.si_text.specs.Control.{all_printing, is_control, has_control, is_printing};
 
+use crate::coding::is_all_plain;
 use std::alloc::{AllocError, Global};
 use std::marker::Model;
 
 /// A text without control characters (U+0000 to U+001F, U+007F to U+009F and U+E080 to U+E09F), which contracts
-/// see as its UTF-8 bytes.
+/// see as its UTF-8 bytes. It knows whether all its characters are of the plain set.
 #[derive(Drop)]
 pub struct Txt {
     text: String,
+    is_plain: bool,
 }
 
 impl Model for Txt {
     ghost use Rattle.std.specs.Prelude.{◌≡◌, List, ℕ, string_bytes, false};
+    ghost use Rattle.si_text.specs.Coding.{all_plain};
     ghost use Rattle.si_text.specs.Control.{has_control};
 
     ghost Value = { List ℕ };
 
     ghost view = { λ t. string_bytes t.text };
 
-    ghost invariant = { λ t. has_control (string_bytes t.text) ≡ false };
+    ghost invariant = { λ t. (has_control (string_bytes t.text) ≡ false) × (t.is_plain ≡ all_plain (string_bytes t.text)) };
 }
 
 impl Txt {
@@ -36,13 +40,26 @@ impl Txt {
         Ok(Some(Txt::of_kept(alloc, text)?))
     }
 
-    /// The text, which is known to have no control character: it is not looked at again.
+    /// The text, which is known to have no control character: for these it is not looked at again.
     pub fn of_kept(alloc: Global, text: &str) -> Result<Txt, AllocError>
         requires { has_control text.now ≡ false }
         ensures { IfOk result (λ made. made ≡ text.now) }
     {
+        let is_plain = is_all_plain(text.as_bytes());
         let text = String::from_str(alloc, text)?;
-        Ok(Txt { text })
+        Ok(Txt { text, is_plain })
+    }
+
+    /// The text, which is known to be all of the plain set: it is not looked at.
+    pub fn of_plain(alloc: Global, text: &str) -> Result<Txt, AllocError>
+        requires { all_plain text.now ≡ true }
+        ensures { IfOk result (λ made. made ≡ text.now) }
+    {
+        let text = String::from_str(alloc, text)?;
+        Ok(Txt {
+            text,
+            is_plain: true,
+        })
     }
 
     /// A copy.
@@ -51,7 +68,26 @@ impl Txt {
     {
         Ok(Txt {
             text: self.text.clone()?,
+            is_plain: self.is_plain,
         })
+    }
+
+    /// Whether all its characters are of the plain set. It looks at none of them.
+    pub fn is_plain(&self) -> bool
+        ensures { result ≡ all_plain self.now }
+    {
+        self.is_plain
+    }
+
+    /// The number of bytes that it is coded as. It looks at no character.
+    pub fn coded_len(&self) -> usize
+        ensures { result ≡ coded_size self.now }
+    {
+        if self.is_plain {
+            self.text.len()
+        } else {
+            1 + self.text.len()
+        }
     }
 
     /// The text.

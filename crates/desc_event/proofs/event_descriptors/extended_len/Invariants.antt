@@ -1,5 +1,6 @@
-use Rattle.std.proofs.Common.{◌≡◌, ◌+◌, length}
+use Rattle.std.proofs.Common.{◌≡◌, true, ◌+◌, length}
 use Rattle.std.specs.Prelude.{IsUtf8}
+use Rattle.si_text.specs.Coding.{all_plain}
 use Rattle.si_text.specs.Cutting.{pieces}
 use Rattle.desc_event.proofs.Pieces.{extended_size}
 use Rattle.desc_event.proofs.event_descriptors.extended_len.Given as goal
@@ -7,6 +8,7 @@ use Rattle.desc_event.proofs.event_descriptors.extended_len.Given as goal
 abbrev pub invariant-loop-rest : goal.invariant-loop-rest
 invariant-loop-rest l = record {
   utf8 : IsUtf8 l.rest;
+  plain : l.is_plain ≡ true → all_plain l.rest ≡ true;
   size : l.size + extended_size (pieces l.rest) ≡ extended_size (pieces l.text);
 }
 

@@ -5,11 +5,12 @@ use Rattle.desc_event.proofs.event_descriptors.piece_count.Goals as goal
 
 pub overflow_add-count : goal.overflow_add-count
 overflow_add-count c =
-    omega (arith, c.loop-rest.invariant.count, ap length c.cut.ensures.pieces, few_pieces c.args.text.now c.utf8.text c.requires)
+    omega (arith, c.loop-rest.invariant.count, ap length c.cut.ensures.pieces, few_pieces c.args.text.now c.as_str-rest.ensures.utf8 c.requires)
 
 pub loop-rest-preserved : goal.loop-rest-preserved
 loop-rest-preserved c = record {
   utf8 = c.cut.ensures.utf8;
+  plain = c.cut.ensures.back;
   count = omega (arith, c.loop-rest.invariant.count, ap length c.cut.ensures.pieces);
 }
 
@@ -18,4 +19,4 @@ returns-clause-count c =
     omega (arith, c.loop-rest.invariant.count, ap length (no_pieces c.loop-rest.rest.now (eqb-true _ _ (sym c.loop-rest-test.ensures))))
 
 pub returns-clause-at_most : goal.returns-clause-at_most
-returns-clause-at_most c = omega (arith, c.loop-rest.invariant.count, few_pieces c.args.text.now c.utf8.text c.requires)
+returns-clause-at_most c = omega (arith, c.loop-rest.invariant.count, few_pieces c.args.text.now c.as_str-rest.ensures.utf8 c.requires)

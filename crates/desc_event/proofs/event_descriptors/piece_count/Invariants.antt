@@ -1,11 +1,13 @@
-use Rattle.std.proofs.Common.{◌≡◌, ◌+◌, length}
+use Rattle.std.proofs.Common.{◌≡◌, true, ◌+◌, length}
 use Rattle.std.specs.Prelude.{IsUtf8}
+use Rattle.si_text.specs.Coding.{all_plain}
 use Rattle.si_text.specs.Cutting.{pieces}
 use Rattle.desc_event.proofs.event_descriptors.piece_count.Given as goal
 
 abbrev pub invariant-loop-rest : goal.invariant-loop-rest
 invariant-loop-rest l = record {
   utf8 : IsUtf8 l.rest;
+  plain : l.is_plain ≡ true → all_plain l.rest ≡ true;
   count : l.count + length (pieces l.rest) ≡ length (pieces l.text);
 }
 

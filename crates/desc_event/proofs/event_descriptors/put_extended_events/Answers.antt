@@ -25,17 +25,18 @@ put_extended_event-requires-clause-room c =
       length-append c.args.out.now.items whole,
       length-numbered c.loop-rest.number last c.args.language.now (pieces c.loop-rest.rest.now) c.told-language,
       ap extended_size c.cut.ensures.pieces,
-      ap length c.of_text-text.ensures,
+      ap length c.coded_piece-coded.ensures,
       length-coded_text c.cut.result.0.now,
     )
 
 pub loop-rest-preserved : goal.loop-rest-preserved
 loop-rest-preserved c = record {
   utf8 = c.cut.ensures.utf8;
+  plain = c.cut.ensures.back;
   number = omega (arith, c.loop-rest.invariant.number, ap length c.cut.ensures.pieces);
   items = numbered-next c.loop-rest.number (c.piece_count-count.result - 1) c.args.language.now c.loop-rest.out.items c.put_extended_event.new.out.items c.cut.result.0.now (pieces c.loop-rest.rest.now) (pieces c.cut.result.1.now) _
       c.cut.ensures.pieces c.loop-rest.invariant.items
-      (c.put_extended_event.ensures.items ∙ ap (λ text. c.loop-rest.out.items ++ descriptor 0x4E (extended_event_fields c.loop-rest.number (c.piece_count-count.result - 1) c.args.language.now text)) c.of_text-text.ensures);
+      (c.put_extended_event.ensures.items ∙ ap (λ text. c.loop-rest.out.items ++ descriptor 0x4E (extended_event_fields c.loop-rest.number (c.piece_count-count.result - 1) c.args.language.now text)) c.coded_piece-coded.ensures);
   capacity = omega (arith, c.loop-rest.invariant.capacity, c.put_extended_event.ensures.capacity);
 }
 

@@ -6,9 +6,9 @@ use Rattle.script_lines.proofs.edits.next_items.Goals as goal
 
 pub items-init : goal.items-init
 items-init g c = record {
-  reads = items_none g.S.Source.left g.S.Source.faults g.S.Source.same g.met.S.Source.same_at_once g.met.S.Source.same_later c.args.count c.new-items.result c.args.lines.now c.new-items.ensures;
-  counted = ap length c.new-items.ensures;
-  shaped = rw c.new-items.ensures (All-nil IsShapedItem);
+  reads = items_none g.S.Source.left g.S.Source.faults g.S.Source.same g.met.S.Source.same_at_once g.met.S.Source.same_later c.args.count c.no_items-items.result c.args.lines.now c.no_items-items.ensures;
+  counted = ap length c.no_items-items.ensures;
+  shaped = rw c.no_items-items.ensures (All-nil IsShapedItem);
 }
 
 pub items-preserved : goal.items-preserved

@@ -1,0 +1,10 @@
+use Rattle.std.proofs.Common.{ap, sym, ◌∙◌}
+use Rattle.si_text.specs.Coding.{all_plain}
+use Rattle.si_text.specs.Control.{has_control}
+use Rattle.si_text.proofs.PlainFacts.{plain_clean}
+use Rattle.si_text.proofs.txt.Txt.of_plain.Goals as goal
+
+pub invariant_of-result : goal.invariant_of-result
+invariant_of-result c =
+    let same = c.in_ok-text.ensures.ok in
+    (ap has_control same ∙ plain_clean c.args.text.now c.requires, sym (ap all_plain same ∙ c.requires))
