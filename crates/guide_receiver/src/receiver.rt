@@ -87,6 +87,9 @@ impl Receiver {
         let Ok(sections) = self.demux.hear(packet, &shape) else {
             return Err(HearStop::Memory);
         };
+        if sections.is_empty() {
+            return Ok(Items::new(self.alloc));
+        }
         let Ok(clock) = clock_behind(self.alloc, self.clock, sections.as_slice()) else {
             return Err(HearStop::Memory);
         };
