@@ -1,4 +1,5 @@
 pub mod Latest
 pub mod Heard
+pub mod Known
 pub mod Guides
 mod Rows

@@ -1,14 +1,18 @@
 // The sections that counted last.
-ghost use Rattle.std.specs.Prelude.{◌≡◌, ◌≤◌, Some, IfOk, IfSome, length, option_map};
+ghost use Rattle.std.specs.Prelude.{◌≡◌, ◌≤◌, ◌<◌, Some, IfOk, IfSome, length, option_map, true};
 ghost use Rattle.section_codec.specs.Section.{long_body};
 ghost use Rattle.sub_collect.specs.Runs.{counted};
+ghost use Rattle.sub_collect.specs.Collectors.{KeysHeard, IsRepeated};
 ghost use Rattle.heard_completions.specs.Counting.{counted_in};
+ghost use Rattle.guide_receiver.specs.Heard.{CountsAgain};
+ghost use Rattle.guide_receiver.specs.Known.{IsKnown, AreKnown};
 
+use crate::known_section::KnownSection;
 use heard_completions::{CountedSection, counted_section};
-use section_codec::{Key, LongHeader};
 use si_base::Items;
 use std::alloc::{AllocError, Global};
 use std::collections::HashMap;
+use sub_collect::Collector;
 use ts_demux::RawSection;
 
 // What names a section in the long form: its PID, table_id, table_id_extension and section_number.
@@ -20,37 +24,58 @@ struct SectionName {
     number: u8,
 }
 
-// A section that counted, with its key and its header.
-#[derive(Drop)]
-pub(crate) struct KnownSection {
-    pub(crate) key: Key,
-    pub(crate) header: LongHeader,
-    raw: RawSection,
-    ghost counts: { counted_in raw ≡ Some (counted key header (long_body raw.bytes)) },
-}
-
-// Of each name the section that counted last. The same bytes heard once more need no CRC and no reading.
+// Of each name the section that counted last. The same bytes heard once more need no CRC and no reading. A round ends where the
+// collector may change: what it was seen to hold in the present one it holds still, and is not compared with it again.
 #[derive(Drop)]
 pub(crate) struct KnownSections {
     sections: HashMap<SectionName, KnownSection>,
+    round: u64,
 }
 
 impl KnownSections {
     // None. It takes no memory.
-    pub(crate) fn none(alloc: Global) -> KnownSections {
+    pub(crate) fn none(alloc: Global) -> KnownSections
+        ensures { (collector : KeysHeard) → AreKnown collector result }
+    {
         KnownSections {
             sections: HashMap::new(alloc),
+            round: 1,
+        }
+    }
+
+    // Begins a round: the collector may change.
+    pub(crate) fn next_round(&mut self, alloc: Global)
+        ensures { (before : KeysHeard) → AreKnown before self.old → (behind : KeysHeard) → AreKnown behind self.new }
+    {
+        match self.round.checked_add(1) {
+            Some(round) => self.round = round,
+            None => self.sections = HashMap::new(alloc),
+        }
+    }
+
+    // Whether a section counted last under its name, and is held already.
+    pub(crate) fn counts_again(&mut self, collector: &Collector, section: &RawSection) -> bool
+        ensures known { AreKnown collector.now self.old → AreKnown collector.now self.new }
+        ensures again { AreKnown collector.now self.old → result ≡ true → CountsAgain collector.now section.now }
+    {
+        let Some(name) = name_in(section) else {
+            return false;
+        };
+        let round = self.round;
+        match self.sections.get_mut(&name) {
+            Some(known) => known.is_of(section) && is_held(known, collector, round),
+            None => false,
         }
     }
 
     // The section with these bytes, where it counted last under its name.
-    pub(crate) fn find(&self, section: &RawSection) -> Option<&KnownSection>
+    fn find(&self, section: &RawSection) -> Option<&KnownSection>
         ensures same { IfSome result (λ known. known.now.raw ≡ section.now) }
         ensures long { IfSome result (λ known. 12 ≤ length known.now.raw.bytes) }
     {
         let name = name_in(section)?;
         let known = self.sections.get(&name)?;
-        if known.raw.pid == section.pid && known.raw.bytes.as_slice() == section.bytes.as_slice() {
+        if known.is_of(section) {
             Some(known)
         } else {
             None
@@ -64,6 +89,7 @@ impl KnownSections {
         section: &RawSection,
     ) -> Result<Option<CountedSection>, AllocError>
         ensures counts { IfOk result (λ found. option_map (λ s. counted s.key s.header s.body) found ≡ counted_in section.now) }
+        ensures known { (collector : KeysHeard) → AreKnown collector self.old → AreKnown collector self.new }
     {
         if let Some(same) = self.find(section) {
             return Ok(Some(same.copy(alloc)?));
@@ -83,6 +109,7 @@ impl KnownSections {
         counts: &CountedSection,
     ) -> Result<(), AllocError>
         requires { counted_in section.now ≡ Some (counted counts.now.key counts.now.header (long_body section.now.bytes)) }
+        ensures { (collector : KeysHeard) → AreKnown collector self.old → AreKnown collector self.new }
     {
         let name = SectionName {
             pid: section.pid,
@@ -98,36 +125,28 @@ impl KnownSections {
                 pid: section.pid,
                 bytes,
             },
+            round: 0,
         };
         self.sections.insert(name, known)?;
         Ok(())
     }
 }
 
-impl KnownSection {
-    // The section that counted. It is not read again.
-    fn copy(&self, alloc: Global) -> Result<CountedSection, AllocError>
-        requires { 12 ≤ length self.now.raw.bytes }
-        ensures { IfOk result (λ s. counted_in self.now.raw ≡ Some (counted s.key s.header s.body)) }
-    {
-        let body = Items::of(Vec::from_slice(alloc, self.body())?);
-        Ok(CountedSection {
-            key: self.key,
-            header: self.header,
-            body,
-        })
+// Whether the collector holds a section: it was seen to in this round, or is seen to now.
+fn is_held(known: &mut KnownSection, collector: &Collector, round: u64) -> bool
+    requires { 12 ≤ length known.old.raw.bytes }
+    ensures same { (known.new.key ≡ known.old.key) × (known.new.header ≡ known.old.header) × (known.new.raw ≡ known.old.raw) }
+    ensures kept { IsKnown collector.now round known.old → IsKnown collector.now round known.new }
+    ensures held { IsKnown collector.now round known.old → result ≡ true → IsRepeated collector.now (counted known.old.key known.old.header (long_body known.old.raw.bytes)) }
+{
+    if known.round == round {
+        return true;
     }
-
-    // What stands between the header and the CRC.
-    pub(crate) fn body(&self) -> &[u8]
-        requires { 12 ≤ length self.now.raw.bytes }
-        ensures { result.now ≡ long_body self.now.raw.bytes }
-    {
-        let bytes = self.raw.bytes.as_slice();
-        let (_, behind) = bytes.split_at(8);
-        let (body, _) = behind.split_at(bytes.len() - 12);
-        body
+    if !collector.repeats(known.key, &known.header, known.body()) {
+        return false;
     }
+    known.round = round;
+    true
 }
 
 // The name of a section of 12 bytes or more.

@@ -10,6 +10,7 @@
 
 mod clock;
 mod known;
+mod known_section;
 mod latest_keys;
 mod receiver;
 

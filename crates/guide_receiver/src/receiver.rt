@@ -1,5 +1,5 @@
 // The receiver.
-ghost use Rattle.std.specs.Prelude.{◌≡◌, ◌≢◌, ◌↔◌, ◌++◌, ◌∷◌, [], List, ℕ, Option, Err, IfOk, OnOk, map, option_map, option_to_list, slice_index, true};
+ghost use Rattle.std.specs.Prelude.{◌≡◌, ◌≢◌, ◌↔◌, ◌++◌, ◌∷◌, [], List, ℕ, Option, Err, IfOk, OnOk, map, option_map, option_to_list, slice_index};
 ghost use Rattle.section_codec.specs.declared.table.Key.{Key};
 ghost use Rattle.sub_collect.specs.Runs.{Counted};
 ghost use Rattle.sub_collect.specs.Completions.{dones};
@@ -7,7 +7,8 @@ ghost use Rattle.sub_collect.specs.Collectors.{CollectorStandsFor};
 ghost use Rattle.heard_completions.specs.declared.done.DoneKey.{DoneKey};
 ghost use Rattle.heard_completions.specs.Counting.{counted_in, counted_among};
 ghost use Rattle.guide_receiver.specs.Latest.{keys_shown, kept_keys, AreLatest};
-ghost use Rattle.guide_receiver.specs.Heard.{CountsAgain, ReceiverStandsFor};
+ghost use Rattle.guide_receiver.specs.Heard.{ReceiverStandsFor};
+ghost use Rattle.guide_receiver.specs.Known.{AreKnown};
 ghost use Rattle.heard_completions.specs.Dones.{done_key, dones_by};
 ghost use Rattle.guide_receiver.specs.Guides.{guide_of};
 
@@ -47,10 +48,13 @@ pub struct Receiver {
 impl Model for Receiver {
     ghost use Rattle.guide_receiver.specs.Latest.{kept_keys};
     ghost use Rattle.guide_receiver.specs.Heard.{Hearing};
+    ghost use Rattle.guide_receiver.specs.Known.{AreKnown};
 
     ghost Value = { Hearing };
 
     ghost view = { λ r. record { demux = r.demux; collector = r.collector; latest = kept_keys r.latest; clock = r.clock } };
+
+    ghost invariant = { λ r. AreKnown r.collector r.known };
 }
 
 impl Receiver {
@@ -83,6 +87,9 @@ impl Receiver {
         let Ok(sections) = self.demux.hear(packet, &shape) else {
             return Err(HearStop::Memory);
         };
+        if sections.is_empty() {
+            return Ok(Items::new(self.alloc));
+        }
         let Ok(clock) = clock_behind(self.alloc, self.clock, sections.as_slice()) else {
             return Err(HearStop::Memory);
         };
@@ -125,6 +132,8 @@ fn count_all(
     sections: &[RawSection],
     shown: &mut Dones,
 ) -> Result<(), AllocError>
+    requires known { AreKnown collector.old known.old }
+    ensures known { AreKnown collector.new known.new }
     ensures dones { (past : List Counted) → CollectorStandsFor past collector.old → OnOk result (shown.new ≡ shown.old ++ map done_key (dones past (counted_among sections.now))) }
     ensures stands { (past : List Counted) → CollectorStandsFor past collector.old → OnOk result (CollectorStandsFor (past ++ counted_among sections.now) collector.new) }
     ensures latest { (past : List Counted) → CollectorStandsFor past collector.old → AreLatest (keys_shown past) (kept_keys latest.old)
@@ -145,31 +154,24 @@ fn count(
     collector: &mut Collector,
     section: &RawSection,
 ) -> Result<Option<DoneKey>, AllocError>
+    requires known { AreKnown collector.old known.old }
+    ensures known { AreKnown collector.new known.new }
     ensures done { (past : List Counted) → CollectorStandsFor past collector.old → IfOk result (λ done. option_to_list done ≡ map done_key (dones past (option_to_list (counted_in section.now)))) }
     ensures stands { (past : List Counted) → CollectorStandsFor past collector.old → OnOk result (CollectorStandsFor (past ++ option_to_list (counted_in section.now)) collector.new) }
 {
-    if is_held(known, collector, section) {
+    if known.counts_again(collector, section) {
         return Ok(None);
     }
     let Some(counts) = known.counted_section(alloc, section)? else {
         return Ok(None);
     };
     let CountedSection { key, header, body } = counts;
+    known.next_round(alloc);
     let shown = collector.take(key, &header, body)?;
     Ok(match shown {
         Some(version) => Some(DoneKey { key, version }),
         None => None,
     })
-}
-
-// Whether a section counted last under its name, and is held already.
-fn is_held(known: &KnownSections, collector: &Collector, section: &RawSection) -> bool
-    ensures { result ≡ true → CountsAgain collector.now section.now }
-{
-    match known.find(section) {
-        Some(same) => collector.repeats(same.key, &same.header, same.body()),
-        None => false,
-    }
 }
 
 // Appends a completion, where there is one, and keeps its key.

@@ -11,15 +11,15 @@ use Rattle.heard_completions.specs.declared.counting.CountedSection.{CountedSect
 use Rattle.heard_completions.proofs.Shown.{one_shown}
 use Rattle.guide_receiver.proofs.receiver.count.Goals as goal
 
-pub returns-then-is_held-clause-done : goal.returns-then-is_held-clause-done
-returns-then-is_held-clause-done c = λ past stands.
-    let again = c.is_held.ensures c.if-is_held.true in
+pub returns-then-counts_again-clause-done : goal.returns-then-counts_again-clause-done
+returns-then-counts_again-clause-done c = λ past stands.
+    let again = c.counts_again.ensures.again c.requires.known c.if-counts_again.true in
     ap (λ (o : Option Completed). map done_key (cons_option o [])) (sym (again.repeats.quiet past stands))
     ∙ ap (λ (o : Option Counted). map done_key (dones past (option_to_list o))) (sym again.is)
 
-pub returns-then-is_held-clause-stands : goal.returns-then-is_held-clause-stands
-returns-then-is_held-clause-stands c = λ past stands.
-    let again = c.is_held.ensures c.if-is_held.true in
+pub returns-then-counts_again-clause-stands : goal.returns-then-counts_again-clause-stands
+returns-then-counts_again-clause-stands c = λ past stands.
+    let again = c.counts_again.ensures.again c.requires.known c.if-counts_again.true in
     subst (λ (o : Option Counted). CollectorStandsFor (past ++ option_to_list o) c.args.collector.now) (sym again.is) (again.repeats.stands past stands)
 
 pub returns-in-Some-shown-clause-done : goal.returns-in-Some-shown-clause-done
@@ -42,3 +42,21 @@ returns-in-None-clause-stands c =
     let s = counted counts.key counts.header counts.body in
     let is : Some s ≡ counted_in c.args.section.now = ap (option_map (λ (x : CountedSection). counted x.key x.header x.body)) (sym c.in-Some.is) ∙ c.in_ok-counts.ensures.counts in
     λ past stands. subst (λ o. CollectorStandsFor (past ++ option_to_list o) c.take.new.self) is (c.in_ok-shown.ensures.stands past stands)
+
+pub returns-in_err-counts-clause-known : goal.returns-in_err-counts-clause-known
+returns-in_err-counts-clause-known c = c.counted_section.ensures.known c.args.collector.now (c.counts_again.ensures.known c.requires.known)
+
+pub returns-in_default-clause-known : goal.returns-in_default-clause-known
+returns-in_default-clause-known c = c.counted_section.ensures.known c.args.collector.now (c.counts_again.ensures.known c.requires.known)
+
+pub returns-in_err-shown-clause-known : goal.returns-in_err-shown-clause-known
+returns-in_err-shown-clause-known c =
+    c.next_round.ensures c.args.collector.now (c.counted_section.ensures.known c.args.collector.now (c.counts_again.ensures.known c.requires.known)) c.take.new.self
+
+pub returns-in-Some-shown-clause-known : goal.returns-in-Some-shown-clause-known
+returns-in-Some-shown-clause-known c =
+    c.next_round.ensures c.args.collector.now (c.counted_section.ensures.known c.args.collector.now (c.counts_again.ensures.known c.requires.known)) c.take.new.self
+
+pub returns-in-None-clause-known : goal.returns-in-None-clause-known
+returns-in-None-clause-known c =
+    c.next_round.ensures c.args.collector.now (c.counted_section.ensures.known c.args.collector.now (c.counts_again.ensures.known c.requires.known)) c.take.new.self

@@ -17,31 +17,39 @@ loop-section-preserved c =
     let sections = c.args.sections.now in
     let front = counted_among (take c.loop-section.section-index sections) in
     let one = option_to_list (counted_in c.section-item.result) in
-    let next = among-next sections c.loop-section.section-index c.section-item.result c.loop-section-test.true c.section-item.is in
-    λ past stands.
-    let i = c.loop-section.invariant past stands in
-    let shown = map done_key (dones past front) in (
-      subst (λ t. CollectorStandsFor t c.count.new.collector) (append_assoc past front one ∙ ap (λ t. past ++ t) (sym next)) (c.in_ok-done.ensures.stands (past ++ front) i.0),
-      c.in_ok-keep_shown.ensures.shown ∙ ap (λ t. t ++ option_to_list c.in_ok-done.done) i.1 ∙ append_assoc c.args.shown.now shown (option_to_list c.in_ok-done.done)
-          ∙ ap (λ t. c.args.shown.now ++ (shown ++ t)) (c.in_ok-done.ensures.done (past ++ front) i.0)
-          ∙ ap (λ t. c.args.shown.now ++ t) (sym (more_shown past front one))
-          ∙ ap (λ t. c.args.shown.now ++ map done_key (dones past t)) (sym next),
-      λ latest.
-          let keys = keys_shown (past ++ front) in
-          subst (λ ks. AreLatest ks (kept_keys c.keep_shown.new.latest))
-          (ap (λ (ds : List DoneKey). keys ++ map (λ (d : DoneKey). d.key) ds) (c.in_ok-done.ensures.done (past ++ front) i.0)
-          ∙ sym (keys-more (past ++ front) one) ∙ ap keys_shown (append_assoc past front one ∙ ap (λ t. past ++ t) (sym next)))
-          (c.in_ok-keep_shown.ensures.latest keys (i.2 latest)),
+    let next = among-next sections c.loop-section.section-index c.section-item.result c.loop-section-test.true c.section-item.is in (
+      c.count.ensures.known,
+      λ past stands.
+          let i = c.loop-section.invariant.1 past stands in
+          let shown = map done_key (dones past front) in (
+            subst (λ t. CollectorStandsFor t c.count.new.collector) (append_assoc past front one ∙ ap (λ t. past ++ t) (sym next)) (c.in_ok-done.ensures.stands (past ++ front) i.0),
+            c.in_ok-keep_shown.ensures.shown ∙ ap (λ t. t ++ option_to_list c.in_ok-done.done) i.1 ∙ append_assoc c.args.shown.now shown (option_to_list c.in_ok-done.done)
+                ∙ ap (λ t. c.args.shown.now ++ (shown ++ t)) (c.in_ok-done.ensures.done (past ++ front) i.0)
+                ∙ ap (λ t. c.args.shown.now ++ t) (sym (more_shown past front one))
+                ∙ ap (λ t. c.args.shown.now ++ map done_key (dones past t)) (sym next),
+            λ latest.
+                let keys = keys_shown (past ++ front) in
+                subst (λ ks. AreLatest ks (kept_keys c.keep_shown.new.latest))
+                (ap (λ (ds : List DoneKey). keys ++ map (λ (d : DoneKey). d.key) ds) (c.in_ok-done.ensures.done (past ++ front) i.0)
+                ∙ sym (keys-more (past ++ front) one) ∙ ap keys_shown (append_assoc past front one ∙ ap (λ t. past ++ t) (sym next)))
+                (c.in_ok-keep_shown.ensures.latest keys (i.2 latest)),
+          ),
     )
+
+pub count-requires : goal.count-requires
+count-requires c = record { known = c.loop-section.invariant.0 }
+
+pub returns-clause-known : goal.returns-clause-known
+returns-clause-known c = c.loop-section.invariant.0
 
 pub returns-clause-stands : goal.returns-clause-stands
 returns-clause-stands c =
     let sections = c.args.sections.now in
     let whole = take_all c.loop-section.section-index sections (omega (arith, c.loop-section-test.false)) in
-    λ past stands. subst (λ (t : List RawSection). CollectorStandsFor (past ++ counted_among t) c.loop-section.collector) whole (c.loop-section.invariant past stands).0
+    λ past stands. subst (λ (t : List RawSection). CollectorStandsFor (past ++ counted_among t) c.loop-section.collector) whole (c.loop-section.invariant.1 past stands).0
 
 pub returns-clause-latest : goal.returns-clause-latest
 returns-clause-latest c =
     let sections = c.args.sections.now in
     let whole = take_all c.loop-section.section-index sections (omega (arith, c.loop-section-test.false)) in
-    λ past stands latest. subst (λ (t : List RawSection). AreLatest (keys_shown (past ++ counted_among t)) (kept_keys c.loop-section.latest)) whole ((c.loop-section.invariant past stands).2 latest)
+    λ past stands latest. subst (λ (t : List RawSection). AreLatest (keys_shown (past ++ counted_among t)) (kept_keys c.loop-section.latest)) whole ((c.loop-section.invariant.1 past stands).2 latest)

@@ -1,4 +1,6 @@
-use Rattle.std.proofs.Common.{◌≡◌, ◌++◌, List, [], map, subst, sym, ap, ◌∙◌}
+use Rattle.std.proofs.Common.{◌≡◌, ◌++◌, ◌∷◌, List, [], map, length, true, refl, subst, sym, ap, ◌∙◌, append-nil, arith}
+use Rattle.std.specs.Prelude.{◌==◌}
+use Rattle.std.proofs.lemmas.Bool.{eqb-true}
 use Rattle.ts_demux.specs.declared.section.RawSection.{RawSection}
 use Rattle.ts_demux.specs.Sections.{ended_by, heard_all}
 use Rattle.sub_collect.specs.Runs.{Counted}
@@ -10,6 +12,32 @@ use Rattle.guide_receiver.specs.Heard.{ReceiverStandsFor}
 use Rattle.heard_completions.specs.Dones.{counted_heard, done_key}
 use Rattle.heard_completions.proofs.Shown.{counted-push, heard-push}
 use Rattle.guide_receiver.proofs.receiver.Receiver.hear.Goals as goal
+
+none-listed : (sections : List RawSection) → (length sections == 0) ≡ true → sections ≡ []
+none-listed [] is = refl
+none-listed (section ∷ sections) is = absurd (let none = eqb-true (length (section ∷ sections)) 0 is in let z : Prim.⊥ = omega (arith, none) in z)
+
+pub returns-then-is_empty-clause-dones : goal.returns-then-is_empty-clause-dones
+returns-then-is_empty-clause-dones c =
+    λ past stands.
+    let kept = subst (ReceiverStandsFor past) (sym c.self.view_is) stands in
+    let none = sym (none-listed c.in-Ok-hear.sections (sym c.is_empty.ensures ∙ c.if-is_empty.true)) ∙ c.in-Ok-hear.ensures.heard past kept.sections in
+    c.new.ensures ∙ ap (λ (t : List RawSection). map done_key (dones (counted_heard past) (counted_among t))) none
+
+pub returns-then-is_empty-clause-stands : goal.returns-then-is_empty-clause-stands
+returns-then-is_empty-clause-stands c =
+    λ past stands.
+    let kept = subst (ReceiverStandsFor past) (sym c.self.view_is) stands in
+    let packet = c.args.packet.now in
+    let none = sym (none-listed c.in-Ok-hear.sections (sym c.is_empty.ensures ∙ c.if-is_empty.true)) ∙ c.in-Ok-hear.ensures.heard past kept.sections in
+    let counted = sym (append-nil (counted_heard past)) ∙ ap (λ (t : List RawSection). counted_heard past ++ counted_among t) none ∙ sym (counted-push past packet) in
+    let all = sym (append-nil (heard_all [] past)) ∙ ap (λ (t : List RawSection). heard_all [] past ++ t) none ∙ sym (heard-push past packet) in
+    record {
+      sections = c.in-Ok-hear.ensures.stands past kept.sections;
+      completions = subst (λ (t : List Counted). CollectorStandsFor t c.self.inside.collector) counted kept.completions;
+      latest = subst (λ (t : List Counted). AreLatest (keys_shown t) (kept_keys c.self.inside.latest)) counted kept.latest;
+      clock = subst (λ (t : List RawSection). IsClock t c.self.inside.clock) all kept.clock;
+    }
 
 pub returns-clause-dones : goal.returns-clause-dones
 returns-clause-dones c =
