@@ -1,0 +1,4 @@
+pub mod Posts
+pub mod Lines
+pub mod History
+pub mod Books
