@@ -14,8 +14,7 @@ use Rattle.section_codec.specs.declared.table.SubTable.{SubTable}
 use Rattle.section_codec.specs.Contents.{Content}
 use Rattle.version_book.specs.Airings.{CycleForm, AiredTables, version_at}
 use Rattle.version_book.specs.Book.{BookStandsFor, aired}
-use Rattle.ts_packets.specs.Packets.{Piece, pieces, alone}
-use Rattle.ts_packets.specs.Bytes.{Packet, HasFields, bytes_of_packet, packet_on, packets_alone}
+use Rattle.ts_packets.specs.Bytes.{Packet, HasFields, bytes_of_packet}
 use Rattle.ts_packets.specs.Counting.{StandFor}
 use Rattle.air_model.specs.Air.{Sent, Aired, air, airings_of, air_bytes, IsAirOf, sent_section, sections_of, table_sections, tdt, leads, before_tdt, behind_tdt, sections_once, weights_once, cycle_sections}
 use Rattle.air_model.proofs.Planned.{all_at}

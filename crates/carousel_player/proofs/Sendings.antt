@@ -5,7 +5,7 @@ use Rattle.std.specs.List.{AllByRecursion}
 use Rattle.std.proofs.lemmas.List.{map-append}
 use Rattle.std.proofs.Math.Seq.{take-append-add, take-append_seam}
 use Rattle.std.proofs.lemmas.List.Concat.{flat_map-append}
-use Rattle.si_lists.proofs.Lists.{all_append, all_front}
+use Rattle.si_lists.proofs.Lists.{all_append}
 use Rattle.ts_packets.specs.Bytes.{Packet, HasFields, bytes_of_packet, pid_in, with_counter}
 use Rattle.ts_packets.specs.Counting.{StandFor, count_on, loads_on}
 use Rattle.ts_packets.proofs.Headers.{pid_in-bytes}

@@ -1,9 +1,9 @@
 -- Sections of an air that is made begin where the packing of the plan says, and are spaced.
-use Rattle.std.proofs.Common.{◌≡◌, ℕ, zero, suc, ◌+◌, ◌<◌, ◌≤◌, ◌⊎◌, inl, inr, List, [], ◌∷◌, ◌++◌, Bool, true, false, cond, Option, Some, None, length, map, get_or, refl, sym, ap, ap₂, ◌∙◌, subst, arith, append_assoc, append-nil, length-append}
-use Rattle.std.specs.Prelude.{slice_get, slice_index, option_map, count_by, take, drop, flat_map, not, ◌&&◌, if◌then◌else◌}
+use Rattle.std.proofs.Common.{◌≡◌, ℕ, zero, suc, ◌+◌, ◌<◌, ◌≤◌, ◌⊎◌, inl, inr, List, [], ◌∷◌, ◌++◌, Bool, true, false, cond, Option, Some, length, map, get_or, refl, sym, ap, ap₂, ◌∙◌, subst, arith, append_assoc, append-nil, length-append}
+use Rattle.std.specs.Prelude.{slice_get, slice_index, option_map, count_by, take, flat_map, not, ◌&&◌}
 use Rattle.std.specs.List.{All, AllByRecursion, prefix_len}
 use Rattle.std.proofs.lemmas.Option.{slice_get-map, get_or_from_slice_get}
-use Rattle.std.proofs.lemmas.List.{length-map, get_or-map, map-append}
+use Rattle.std.proofs.lemmas.List.{get_or-map, map-append}
 use Rattle.std.proofs.lemmas.List.Concat.{flat_map-append}
 use Rattle.std.proofs.lemmas.List.Sums.{sum_by-cons}
 use Rattle.std.proofs.lemmas.List.Elements.{recursion_from_All, All-from_recursion, All-take, All-drop}
@@ -27,11 +27,11 @@ use Rattle.version_book.specs.Airings.{CycleForm, AiredTables, version_at}
 use Rattle.ts_packets.specs.Packets.{packets_of}
 use Rattle.ts_packets.specs.Bytes.{Packet}
 use Rattle.air_model.specs.Air.{Sent, Aired, sent_section, sections_of, table_sections, tdt, leads, before_tdt, behind_tdt, sections_once, cycle_sections, weight, table_weights, weights_once, air, airings_of}
-use Rattle.air_model.specs.Making.{each_dense, counted, cycle_dense, AreMade}
+use Rattle.air_model.specs.Making.{each_dense, cycle_dense, AreMade}
 use Rattle.air_model.proofs.Counted.{length-counted}
-use Rattle.air_model.proofs.Dense.{HaveSome, once_some, eight}
+use Rattle.air_model.proofs.Dense.{once_some, eight}
 use Rattle.air_model.proofs.Airs.{air-push}
-use Rattle.air_model.proofs.Planned.{all_got, weights_each}
+use Rattle.air_model.proofs.Planned.{weights_each}
 use Rattle.carousel_player.specs.Planning.{weights_in, weights_of, weights_under}
 use Rattle.carousel_player.specs.Spacing.{plan_of, pid_at, length_at, starts_of, starts_of_two, AreStarts, RunsBeginAlone, CanBeSpaced, MadeAirsAreSpaced, MadeCyclesAreSpaced, MadeNeighboursAreSpaced}
 use Rattle.section_codec.specs.Section.{longest_body}

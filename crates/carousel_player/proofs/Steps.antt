@@ -9,7 +9,7 @@ use Rattle.std.proofs.Math.Seq.{drop-cons}
 use Rattle.ts_packets.specs.Bytes.{Packet, bytes_of_packet}
 use Rattle.ts_packets.specs.Packer.{Begun, empty_on, room_for, pointer_at, with_first, with_further, finished}
 use Rattle.air_model.specs.Air.{Sent, at_places}
-use Rattle.air_model.specs.Making.{each_dense, goes_on}
+use Rattle.air_model.specs.Making.{each_dense}
 use Rattle.air_model.proofs.Dense.{HaveSome}
 use Rattle.carousel_player.specs.declared.cycle.Placed.{Placed}
 use Rattle.carousel_player.specs.Laying.{IsPlaced, sent_at, sections_left, order_left, packets_behind, IsBegun, IsUnderWay}
@@ -115,15 +115,7 @@ ended_is bytes placed (Some at) order from none h told = go (slice_get_cases pla
         let e = told_some none told in
         grind (arith, nat_tests)
 
--- the next packet, from an empty one on
-pub can_take : (bytes : List ℕ) (placed : List Placed) (at : ℕ) (order : List ℕ) (from : ℕ) (p : Placed) → IsSending bytes placed at order from p → IsUnderWay (length bytes) placed (at ∷ order) from → CanTake bytes placed (empty_on p.pid) (at ∷ order) from
-can_take bytes placed at order from p s h = record {
-  under_way = h;
-  fits = refl;
-  empty = λ some. refl;
-  some = λ none. subst (IsOn p.pid) (sym s.here) refl;
-}
-
+-- what is to come is taken from an empty packet on
 pub taken_from : (bytes : List ℕ) (placed : List Placed) (at : ℕ) (order : List ℕ) (from : ℕ) (p : Placed) → IsSending bytes placed at order from p
     → packets_behind (sections_left bytes placed (at ∷ order)) from ≡ packets_from (empty_on p.pid) (sections_left bytes placed (at ∷ order)) from
 taken_from bytes placed at order from p s =
@@ -138,9 +130,6 @@ puts_first bytes placed order left from sent b new old into filled lt is put =
     (refl, put, record { pid = subst (λ (n : ℕ). n < 8192) (sym filled.pid) lt; counter = refl })
 
 -- ---- a packet takes what is next
-
-abbrev IsEmpty : Begun → Type 0
-IsEmpty b = b.bytes ≡ []
 
 has_some : (b : Begun) → (b.bytes ≡ [] → Prim.⊥) → 0 < length b.bytes
 has_some b h = go b.bytes h

@@ -1,5 +1,5 @@
 -- A packet that pieces of sections are put into, one behind the other (ISO/IEC 13818-1, 2.4.4.2).
-use Rattle.std.specs.Prelude.{ℕ, ◌-◌, List, [], ◌∷◌, ◌++◌, Option, Some, None, Bool, true, false, ◌==◌, if◌then◌else◌, length}
+use Rattle.std.specs.Prelude.{ℕ, ◌-◌, List, [], ◌∷◌, ◌++◌, Option, Some, None, true, false, ◌==◌, if◌then◌else◌, length}
 use Rattle.ts_packets.specs.Packets.{Piece, filled}
 use Rattle.ts_packets.specs.Bytes.{Packet, packet_on}
 

@@ -1,7 +1,7 @@
-use Rattle.std.proofs.Common.{◌≡◌, ◌+◌, ◌-◌, ◌<◌, ◌≤◌, ℕ, List, Option, Some, min, length, refl, sym, ap, ◌∙◌, subst, subst₂, arith}
-use Rattle.carousel_player.specs.Laying.{IsPlaced, order_left}
+use Rattle.std.proofs.Common.{◌+◌, ◌<◌, ℕ, List, Option, length, refl, sym, ◌∙◌, subst, subst₂, arith}
+use Rattle.carousel_player.specs.Laying.{order_left}
 use Rattle.carousel_player.specs.Packing.{CanTake, Took, IsFilled}
-use Rattle.carousel_player.proofs.Steps.{Added, sending_at, from_within, filled_none, filled_other, filled_past, took_next, order_goes_on}
+use Rattle.carousel_player.proofs.Steps.{Added, sending_at, from_within, filled_other, filled_past, took_next, order_goes_on}
 use Rattle.carousel_player.proofs.packing.take_next.Goals as goal
 
 pub returns-then-next-pid : goal.returns-then-next-pid

@@ -1,10 +1,8 @@
-use Rattle.std.proofs.Common.{◌≡◌, ◌∷◌, ℕ, List, Option, length, sym, ap, ◌∙◌, subst, subst₂}
-use Rattle.ts_packets.specs.Bytes.{Packet}
+use Rattle.std.proofs.Common.{ℕ, List, Option, length, sym, ap, ◌∙◌, subst, subst₂}
 use Rattle.ts_packets.specs.Packer.{Begun, empty_on}
 use Rattle.carousel_player.specs.declared.cycle.Placed.{Placed}
 use Rattle.carousel_player.specs.Laying.{sections_left, order_left, packets_behind, IsUnderWay}
 use Rattle.carousel_player.specs.Packing.{IsFilled, packets_from}
-use Rattle.carousel_player.specs.Sending.{PutsFirst}
 use Rattle.carousel_player.proofs.Steps.{sending, taken_from, puts_first}
 use Rattle.carousel_player.proofs.cycle.Cycle.put_next.Goals as goal
 
