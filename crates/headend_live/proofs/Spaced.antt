@@ -56,7 +56,7 @@ runs_begin_alone mux guide =
       are = refl;
       leads = refl;
       apart = all_append IsApart (pmt_tables mux) (nit_table mux ∷ sdt_table mux guide ∷ (present_tables mux guide ++ (all_near_tables mux guide ++ all_far_tables mux guide)))
-          (each_apart pmt_table (λ s. inl refl) mux.services) (inl refl, inl refl, eit);
+          (each_apart pmt_table (λ s. inl refl) mux.services) (inl refl, (inl refl, eit));
     }
 
 -- the airings of a journal can be spaced, in cycles of the form of its multiplex
