@@ -13,7 +13,7 @@ use Rattle.clap.specs.declared.parser.matches.ValueSource.{ValueSource}
 use Rattle.clap.specs.declared.parser.matches.ValueSource.TheVariants.{CommandLine}
 use Rattle.command_words.specs.declared.setting.LiveOption.{LiveOption}
 use Rattle.command_words.specs.declared.setting.LiveOption.TheVariants as option
-use Rattle.command_words.specs.Matches.{live, required}
+use Rattle.command_words.specs.Matches.{live, optional, required}
 use Rattle.command_words.proofs.Spelled.{Given, id_of, values}
 
 abbrev pub rules : List Rule
@@ -23,6 +23,7 @@ abbrev pub rule : LiveOption → Rule
 rule option.Feed = filled (required (codes "feed") Append)
 rule option.Cycles = filled (required (codes "cycles") Set)
 rule option.Join = filled (required (codes "join") Set)
+rule option.View = filled (optional (codes "view") Append)
 
 -- the row of this id
 abbrev pub row_at : Text → List Row → Option Row
@@ -67,6 +68,7 @@ pub use_stays : (o : LiveOption) (other v : Text) (rows : List Row) → bytes_eq
 use_stays option.Feed other v rows apart = with_stays (codes "feed") other _ _ (v ∷ []) rows apart
 use_stays option.Cycles other v rows apart = with_stays (codes "cycles") other _ _ (v ∷ []) (without (codes "cycles") rows) apart ∙ without_stays (codes "cycles") other rows apart
 use_stays option.Join other v rows apart = with_stays (codes "join") other _ _ (v ∷ []) (without (codes "join") rows) apart ∙ without_stays (codes "join") other rows apart
+use_stays option.View other v rows apart = with_stays (codes "view") other _ _ (v ∷ []) rows apart
 
 with_here : (id : Text) (how : Reading) (s : ValueSource) (vs : List Text) (rows : List Row) → bytes_eq id id ≡ true → row_at id (with_values id how s vs rows) ≡ Some (one_row id how s vs (row_at id rows))
 with_here id how s vs [] e = rw e refl
@@ -94,11 +96,12 @@ AtMostOne [] = ⊤
 AtMostOne (v ∷ []) = ⊤
 AtMostOne (v ∷ w ∷ vs) = ⊥
 
--- only `--feed` may have several values
+-- only `--feed` and `--view` may have several values
 abbrev pub MayHave : LiveOption → List Text → Type 0
 MayHave option.Feed vs = ⊤
 MayHave option.Cycles vs = AtMostOne vs
 MayHave option.Join vs = AtMostOne vs
+MayHave option.View vs = ⊤
 
 -- a use of `--cycles` or of `--join` where it has no row
 first_use : (id : Text) (how : Reading) (v : Text) (rows : List Row) → bytes_eq id id ≡ true → row_at id rows ≡ None → row_at id (with_values id how CommandLine (v ∷ []) (without id rows)) ≡ Some (one_row id how CommandLine (v ∷ []) None)
@@ -113,6 +116,8 @@ use_here option.Cycles v (w ∷ x ∷ vs) more rows is may = absurd may
 use_here option.Join v [] more rows is may = first_use (codes "join") (reading_by (rule option.Join)) v rows refl is
 use_here option.Join v (w ∷ []) more rows is may = absurd may
 use_here option.Join v (w ∷ x ∷ vs) more rows is may = absurd may
+use_here option.View v [] more rows is may = with_here (codes "view") (reading_by (rule option.View)) CommandLine (v ∷ []) rows refl ∙ ap (λ (o : Option Row). Some (one_row (codes "view") (reading_by (rule option.View)) CommandLine (v ∷ []) o)) is
+use_here option.View v (w ∷ vs) more rows is may = with_here (codes "view") (reading_by (rule option.View)) CommandLine (v ∷ []) rows refl ∙ ap (λ (o : Option Row). Some (one_row (codes "view") (reading_by (rule option.View)) CommandLine (v ∷ []) o)) is
 
 -- the rows are those of these options
 abbrev pub Holds : List Row → List Given → Type 0
@@ -140,6 +145,13 @@ after_one option.Cycles option.Join v vs gs rows is may = after_other option.Cyc
 after_one option.Join option.Feed v vs gs rows is may = after_other option.Join option.Feed v vs rows refl is
 after_one option.Join option.Cycles v vs gs rows is may = after_other option.Join option.Cycles v vs rows refl is
 after_one option.Join option.Join v vs gs rows is may = use_here option.Join v vs (values option.Join gs) rows is may
+after_one option.Feed option.View v vs gs rows is may = after_other option.Feed option.View v vs rows refl is
+after_one option.Cycles option.View v vs gs rows is may = after_other option.Cycles option.View v vs rows refl is
+after_one option.Join option.View v vs gs rows is may = after_other option.Join option.View v vs rows refl is
+after_one option.View option.Feed v vs gs rows is may = after_other option.View option.Feed v vs rows refl is
+after_one option.View option.Cycles v vs gs rows is may = after_other option.View option.Cycles v vs rows refl is
+after_one option.View option.Join v vs gs rows is may = after_other option.View option.Join v vs rows refl is
+after_one option.View option.View v vs gs rows is may = use_here option.View v vs (values option.View gs) rows is may
 
 pub values_on : (o : LiveOption) (before gs : List Given) → values o (before ++ gs) ≡ values o before ++ values o gs
 values_on o before gs = filter_map-append _ before gs

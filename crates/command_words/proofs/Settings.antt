@@ -9,7 +9,7 @@ use Rattle.command_words.specs.declared.setting.LiveOption.{LiveOption}
 use Rattle.command_words.specs.declared.setting.LiveOption.TheVariants as option
 use Rattle.command_words.specs.Commands.{option_of, texts}
 use Rattle.command_words.specs.Counts.{Counted, counted}
-use Rattle.command_words.specs.Grammar.{Setting, Feed, Cycles, Join, feed_of, cycles_of, join_of, settings_of, setting_of, setting_in, is_equals, is_dashed, and_setting}
+use Rattle.command_words.specs.Grammar.{Setting, Feed, Cycles, Join, View, feed_of, cycles_of, join_of, view_of, settings_of, setting_of, setting_in, is_equals, is_dashed, and_setting}
 
 -- ---- how often each option came
 
@@ -28,9 +28,11 @@ feed_more before (Feed path) old c e = record {
   feeds = more feed_of before (Feed path) path old.feeds c.feeds refl;
   cycles = same cycles_of before (Feed path) old.cycles c.cycles refl;
   joins = same join_of before (Feed path) old.joins c.joins refl;
+  views = same view_of before (Feed path) old.views c.views refl;
 }
 feed_more before (Cycles n) old c e = cc e
 feed_more before (Join j) old c e = cc e
+feed_more before (View s) old c e = cc e
 
 pub cycles_more : (before : List Setting) (setting : Setting) (old : Uses) → Counted before old → option.Cycles ≡ option_of setting → Counted (before ++ setting ∷ []) (record old { cycles = min (old.cycles + 1) 255 })
 cycles_more before (Feed path) old c e = cc e
@@ -38,8 +40,10 @@ cycles_more before (Cycles n) old c e = record {
   feeds = same feed_of before (Cycles n) old.feeds c.feeds refl;
   cycles = more cycles_of before (Cycles n) n old.cycles c.cycles refl;
   joins = same join_of before (Cycles n) old.joins c.joins refl;
+  views = same view_of before (Cycles n) old.views c.views refl;
 }
 cycles_more before (Join j) old c e = cc e
+cycles_more before (View s) old c e = cc e
 
 pub join_more : (before : List Setting) (setting : Setting) (old : Uses) → Counted before old → option.Join ≡ option_of setting → Counted (before ++ setting ∷ []) (record old { joins = min (old.joins + 1) 255 })
 join_more before (Feed path) old c e = cc e
@@ -48,6 +52,19 @@ join_more before (Join j) old c e = record {
   feeds = same feed_of before (Join j) old.feeds c.feeds refl;
   cycles = same cycles_of before (Join j) old.cycles c.cycles refl;
   joins = more join_of before (Join j) j old.joins c.joins refl;
+  views = same view_of before (Join j) old.views c.views refl;
+}
+join_more before (View s) old c e = cc e
+
+pub view_more : (before : List Setting) (setting : Setting) (old : Uses) → Counted before old → option.View ≡ option_of setting → Counted (before ++ setting ∷ []) (record old { views = min (old.views + 1) 255 })
+view_more before (Feed path) old c e = cc e
+view_more before (Cycles n) old c e = cc e
+view_more before (Join j) old c e = cc e
+view_more before (View s) old c e = record {
+  feeds = same feed_of before (View s) old.feeds c.feeds refl;
+  cycles = same cycles_of before (View s) old.cycles c.cycles refl;
+  joins = same join_of before (View s) old.joins c.joins refl;
+  views = more view_of before (View s) s old.views c.views refl;
 }
 
 -- ---- the option at the front of words

@@ -1,6 +1,6 @@
 -- Words of the grammar as options, each with a value that is text.
 use Rattle.std.proofs.Common.{◌≡◌, ◌≢◌, ◌⊎◌, inl, inr, ◌∙◌, refl, ap, ap₂, sym, true, false, ℕ, List, [], ◌∷◌, ◌++◌, length, map, Some, None, Option, codes, arith, ◌<◌}
-use Rattle.std.specs.Prelude.{Bool, bytes_eq, filter_map, get_or, option_map, if◌then◌else◌, ◌||◌}
+use Rattle.std.specs.Prelude.{Bool, bytes_eq, filter_map, get_or, option_map, if◌then◌else◌, ◌||◌, ◌&&◌, nat_le}
 use Rattle.std.specs.List.{list_any, position_or_len, before_first, after_first}
 use Rattle.std.proofs.lemmas.Bool.{cases_Bool, eqb-true}
 use Rattle.std.proofs.lemmas.List.Sums.{passes_at_first, split_at_first}
@@ -8,13 +8,14 @@ use Rattle.std.proofs.lemmas.Slice.Eq.{bytes_eq-Decides}
 use Rattle.input_lines.specs.Numbers.{in_range, number_in}
 use Rattle.command_words.specs.declared.setting.LiveOption.{LiveOption}
 use Rattle.command_words.specs.declared.setting.LiveOption.TheVariants as option
-use Rattle.command_words.specs.Grammar.{CommandLine, Live, Setting, Feed, Cycles, Join, and_setting, cycles_of, feed_of, is_dashed, is_empty, is_equals, join_of, live_of, live_with, setting_in, setting_of, settings_of}
+use Rattle.command_words.specs.Grammar.{CommandLine, Live, Setting, Feed, Cycles, Join, View, and_setting, cycles_of, feed_of, is_dashed, is_empty, is_equals, join_of, view_of, live_of, live_with, setting_in, setting_of, settings_of}
 
 -- its name behind `--`
 abbrev pub id_of : LiveOption → List ℕ
 id_of option.Feed = codes "feed"
 id_of option.Cycles = codes "cycles"
 id_of option.Join = codes "join"
+id_of option.View = codes "view"
 
 abbrev pub dashed : LiveOption → List ℕ
 dashed o = 45 ∷ 45 ∷ id_of o
@@ -42,7 +43,7 @@ AreSaid (g ∷ gs) settings = (setting : Setting) × (rest : List Setting)
 
 -- ---- the option at the front of words
 
--- a name that has settings is one of the three
+-- a name that has settings is one of the four
 named : (name value : List ℕ) (setting : Setting) → setting_of name value ≡ Some setting → (o : LiveOption) × (name ≡ dashed o)
 named name value setting e = elim (cases_Bool (bytes_eq name (codes "--feed"))) [
   | inl is ↦ (option.Feed, (bytes_eq-Decides name (codes "--feed")).0 is)
@@ -50,7 +51,10 @@ named name value setting e = elim (cases_Bool (bytes_eq name (codes "--feed"))) 
     | inl is ↦ (option.Cycles, (bytes_eq-Decides name (codes "--cycles")).0 is)
     | inr nor ↦ elim (cases_Bool (bytes_eq name (codes "--join"))) [
       | inl is ↦ (option.Join, (bytes_eq-Decides name (codes "--join")).0 is)
-      | inr none ↦ (let bad : None ≡ Some setting = rw (not, nor, none) at e in cc bad)
+      | inr none ↦ elim (cases_Bool (bytes_eq name (codes "--view"))) [
+        | inl is ↦ (option.View, (bytes_eq-Decides name (codes "--view")).0 is)
+        | inr one ↦ (let bad : None ≡ Some setting = rw (not, nor, none, one) at e in cc bad)
+      ]
     ]
   ]
 ]
@@ -140,20 +144,24 @@ pub record Values (gs : List Given) (settings : List Setting) : Type 0 where
   pub feeds : values option.Feed gs ≡ filter_map feed_of settings
   pub cycles : map (number_in 1 1000) (values option.Cycles gs) ≡ map (λ n. Some n) (filter_map cycles_of settings)
   pub join : map (number_in 0 999999999) (values option.Join gs) ≡ map (λ n. Some n) (filter_map join_of settings)
+  pub views : map (number_in 0 65535) (values option.View gs) ≡ map (λ n. Some n) (filter_map view_of settings)
 
 one_more : (o : LiveOption) (v : List ℕ) (gs : List Given) (setting : Setting) (rest : List Setting) → setting_of (dashed o) v ≡ Some setting → Values gs rest → Values ((o, v) ∷ gs) (setting ∷ rest)
 one_more option.Feed v gs setting rest e vs =
     let is : setting ≡ Feed v = else_some (is_empty v || bytes_eq v (codes "-")) (Feed v) setting e in
-    rw is (record { feeds = ap (λ l. v ∷ l) vs.feeds; cycles = vs.cycles; join = vs.join })
+    rw is (record { feeds = ap (λ l. v ∷ l) vs.feeds; cycles = vs.cycles; join = vs.join; views = vs.views })
 one_more option.Cycles v gs setting rest e vs =
     let (n, number, is) = map_some Cycles (number_in 1 1000 v) setting e in
-    rw is (record { feeds = vs.feeds; cycles = ap₂ (λ a l. a ∷ l) number vs.cycles; join = vs.join })
+    rw is (record { feeds = vs.feeds; cycles = ap₂ (λ a l. a ∷ l) number vs.cycles; join = vs.join; views = vs.views })
 one_more option.Join v gs setting rest e vs =
     let (n, number, is) = map_some Join (number_in 0 999999999 v) setting e in
-    rw is (record { feeds = vs.feeds; cycles = vs.cycles; join = ap₂ (λ a l. a ∷ l) number vs.join })
+    rw is (record { feeds = vs.feeds; cycles = vs.cycles; join = ap₂ (λ a l. a ∷ l) number vs.join; views = vs.views })
+one_more option.View v gs setting rest e vs =
+    let (n, number, is) = map_some View (number_in 0 65535 v) setting e in
+    rw is (record { feeds = vs.feeds; cycles = vs.cycles; join = vs.join; views = ap₂ (λ a l. a ∷ l) number vs.views })
 
 pub values_said : (gs : List Given) (settings : List Setting) → AreSaid gs settings → Values gs settings
-values_said [] settings e = rw e (record { feeds = refl; cycles = refl; join = refl })
+values_said [] settings e = rw e (record { feeds = refl; cycles = refl; join = refl; views = refl })
 values_said (g ∷ gs) settings (setting, rest, is, here, more) = rw is (one_more g.0 g.1 gs setting rest here (values_said gs rest more))
 
 -- a `live`: its feeds, and one number each
@@ -165,16 +173,17 @@ pub record Parts (settings : List Setting) (line : CommandLine) : Type 0 where
   pub feeds_are : filter_map feed_of settings ≡ feed ∷ feeds
   pub cycles_are : filter_map cycles_of settings ≡ cycles ∷ []
   pub join_is : filter_map join_of settings ≡ join ∷ []
-  pub line_is : line ≡ Live (feed ∷ feeds) cycles join
+  pub line_is : line ≡ Live (feed ∷ feeds) cycles join (filter_map view_of settings)
 
 pub parts_of : (settings : List Setting) (line : CommandLine) → live_of settings ≡ Some line → Parts settings line
-parts_of settings line e = by (filter_map feed_of settings) (filter_map cycles_of settings) (filter_map join_of settings) refl refl refl e
+parts_of settings line e = by (filter_map feed_of settings) (filter_map cycles_of settings) (filter_map join_of settings) (filter_map view_of settings) refl refl refl refl e
   where
-    by : (feeds : List (List ℕ)) (ns js : List ℕ) → filter_map feed_of settings ≡ feeds → filter_map cycles_of settings ≡ ns → filter_map join_of settings ≡ js → live_with feeds ns js ≡ Some line → Parts settings line
-    by feeds [] js f n j is = cc is
-    by feeds (n ∷ []) [] f c j is = cc is
-    by [] (n ∷ []) (i ∷ []) f c j is = cc is
-    by (p ∷ ps) (n ∷ []) (i ∷ []) f c j is = record {
+    by : (feeds : List (List ℕ)) (ns js vs : List ℕ) → filter_map feed_of settings ≡ feeds → filter_map cycles_of settings ≡ ns → filter_map join_of settings ≡ js → filter_map view_of settings ≡ vs → live_with feeds ns js vs ≡ Some line
+        → Parts settings line
+    by feeds [] js vs f n j v is = cc is
+    by feeds (n ∷ []) [] vs f c j v is = cc is
+    by [] (n ∷ []) (i ∷ []) vs f c j v is = cc is
+    by (p ∷ ps) (n ∷ []) (i ∷ []) vs f c j v is = record {
       feed = p;
       feeds = ps;
       cycles = n;
@@ -182,7 +191,7 @@ parts_of settings line e = by (filter_map feed_of settings) (filter_map cycles_o
       feeds_are = f;
       cycles_are = c;
       join_is = j;
-      line_is = if_some (in_range 1 16 (length (p ∷ ps))) (Live (p ∷ ps) n i) line is;
+      line_is = if_some (in_range 1 16 (length (p ∷ ps)) && nat_le (length vs) 8) (Live (p ∷ ps) n i vs) line is ∙ ap (Live (p ∷ ps) n i) (sym v);
     }
-    by feeds (n ∷ []) (i ∷ k ∷ js) f c j is = cc is
-    by feeds (m ∷ n ∷ ns) js f c j is = cc is
+    by feeds (n ∷ []) (i ∷ k ∷ js) vs f c j v is = cc is
+    by feeds (m ∷ n ∷ ns) js vs f c j v is = cc is

@@ -1,9 +1,10 @@
 -- Clap takes the words of the grammar, and finds in them what they say.
 use Rattle.std.proofs.Common.{◌≡◌, ◌∙◌, refl, ap, sym, subst, true, false, ℕ, List, [], ◌∷◌, ◌++◌, map, Some, None, Option, codes}
-use Rattle.std.specs.Prelude.{Bool, ◌&&◌, IsSome, is_some, option_and_then, option_map, slice_get}
+use Rattle.std.specs.Prelude.{Bool, ◌&&◌, filter_map, IsSome, is_some, option_and_then, option_map, slice_get}
 use Rattle.std.specs.List.{list_all}
 use Rattle.si_lists.proofs.Truths.{and_true}
 use Rattle.clap.proofs.WalkLemmas.{first_value-rows, raw_values-rows}
+use Rattle.clap.specs.Matches.{matched_of, raw_values}
 use Rattle.clap.specs.Simple.{built, entered, is_simple, matches_of}
 use Rattle.clap.specs.Takes.{default_passes, entered_passes, is_given, is_valid, settle_passes, takes, use_passes, walk_passes}
 use Rattle.clap.specs.Walk.{Row, Text, Walk, finished, nothing_held, rows_of, used, walk_from}
@@ -11,8 +12,8 @@ use Rattle.clap.specs.declared.parser.matches.Found.{Found}
 use Rattle.input_lines.specs.Numbers.{number_in}
 use Rattle.command_words.specs.declared.setting.LiveOption.{LiveOption}
 use Rattle.command_words.specs.declared.setting.LiveOption.TheVariants as option
-use Rattle.command_words.specs.Grammar.{CommandLine, Live, Setting, live_of, settings_of}
-use Rattle.command_words.specs.Matches.{Say, live}
+use Rattle.command_words.specs.Grammar.{CommandLine, Live, Setting, live_of, settings_of, view_of}
+use Rattle.command_words.specs.Matches.{Say, live, values_or_none}
 use Rattle.command_words.proofs.Spelled.{Given, Gives, Parts, Values, id_of, parts_of, spelled, values, values_said}
 use Rattle.command_words.proofs.Found.{Holds, MayCome, MayHave, come_on, holds_all, holds_more, none_there, row_at, row_for, rows_with, rule, rules, values_on}
 use Rattle.command_words.proofs.Walking.{Walks, finish, top, uses_pass, walks}
@@ -27,12 +28,14 @@ use_passes_now option.Cycles v (w ∷ x ∷ vs) more rows is may = absurd may
 use_passes_now option.Join v [] more rows is may = rw (none_there (codes "join") rows is) refl
 use_passes_now option.Join v (w ∷ []) more rows is may = absurd may
 use_passes_now option.Join v (w ∷ x ∷ vs) more rows is may = absurd may
+use_passes_now option.View v vs more rows is may = refl
 
 -- the option that comes next among these
 next_may : (o : LiveOption) (v : Text) (before gs : List Given) → MayCome (before ++ (o, v) ∷ gs) → MayHave o (values o before ++ v ∷ values o gs)
 next_may option.Feed v before gs may = tt
 next_may option.Cycles v before gs may = subst (MayHave option.Cycles) (values_on option.Cycles before ((option.Cycles, v) ∷ gs)) (may option.Cycles)
 next_may option.Join v before gs may = subst (MayHave option.Join) (values_on option.Join before ((option.Join, v) ∷ gs)) (may option.Join)
+next_may option.View v before gs may = tt
 
 all_pass : (gs before : List Given) (rows : List Row) → Holds rows before → MayCome (before ++ gs) → uses_pass rows gs ≡ true
 all_pass [] before rows is may = refl
@@ -42,7 +45,7 @@ all_pass (g ∷ gs) before rows is may =
 
 -- ---- the words of a `live`
 
--- each option has a value, `--cycles` and `--join` one
+-- each option but `--view` has a value, `--cycles` and `--join` one
 pub record Whole (words : List Text) (line : CommandLine) : Type 0 where
   pub gs : List Given
   pub gives : Gives words gs
@@ -52,12 +55,14 @@ pub record Whole (words : List Text) (line : CommandLine) : Type 0 where
   pub join_text : Text
   pub cycles : ℕ
   pub join : ℕ
+  pub views : List ℕ
   pub feeds_are : values option.Feed gs ≡ feed ∷ feeds
   pub cycles_are : values option.Cycles gs ≡ cycles_text ∷ []
   pub join_is : values option.Join gs ≡ join_text ∷ []
   pub cycles_read : number_in 1 1000 cycles_text ≡ Some cycles
   pub join_read : number_in 0 999999999 join_text ≡ Some join
-  pub line_is : line ≡ Live (feed ∷ feeds) cycles join
+  pub views_read : map (number_in 0 65535) (values option.View gs) ≡ map (λ (n : ℕ). Some n) views
+  pub line_is : line ≡ Live (feed ∷ feeds) cycles join views
 
 one_value : (read : Text → Option ℕ) (vs : List Text) (n : ℕ) → map read vs ≡ Some n ∷ [] → (v : Text) × (vs ≡ v ∷ []) × (read v ≡ Some n)
 one_value read [] n e = cc e
@@ -85,11 +90,13 @@ whole words line e =
       join_text = j;
       cycles = p.cycles;
       join = p.join;
+      views = filter_map view_of settings;
       feeds_are = vs.feeds ∙ p.feeds_are;
       cycles_are = c_is;
       join_is = j_is;
       cycles_read = c_reads;
       join_read = j_reads;
+      views_read = vs.views;
       line_is = p.line_is;
     }
 
@@ -100,11 +107,13 @@ may_come words line w = by
     by option.Feed = tt
     by option.Cycles = subst (MayHave option.Cycles) (sym w.cycles_are) tt
     by option.Join = subst (MayHave option.Join) (sym w.join_is) tt
+    by option.View = tt
 
 holds_none : Holds [] []
 holds_none option.Feed = refl
 holds_none option.Cycles = refl
 holds_none option.Join = refl
+holds_none option.View = refl
 
 holds_end : (words : List Text) (line : CommandLine) (w : Whole words line) → Holds (rows_with [] w.gs) w.gs
 holds_end words line w = holds_all w.gs [] [] holds_none (may_come words line w)
@@ -146,6 +155,11 @@ found_rows words line w =
     let walk : Walks nothing_held words w.gs = walks_all words line w in
     ap (λ (z : Walk). finished rules z.held) walk.there ∙ finish walk.end ∙ walk.rows
 
+-- the values of the row of views
+row_values : (vs : List Text) → values_or_none (option_map (λ (r : Row). r.values) (row_for option.View vs)) ≡ vs
+row_values [] = refl
+row_values (v ∷ vs) = refl
+
 pub says : (words : List Text) (line : CommandLine) (found : Found) → option_and_then live_of (settings_of words) ≡ Some line → rows_of found ≡ matches_of live words → Say found line
 says words line found e rows =
     let w : Whole words line = whole words line e in
@@ -157,7 +171,10 @@ says words line found e rows =
     let feeds = raw_values-rows found (codes "feed") ∙ ap (option_map (λ (r : Row). r.values)) (row option.Feed w.feed w.feeds w.feeds_are) in
     let cycles = ap (option_and_then (number_in 1 1000)) (first_value-rows found (codes "cycles") ∙ ap first (row option.Cycles w.cycles_text [] w.cycles_are)) ∙ w.cycles_read in
     let join = ap (option_and_then (number_in 0 999999999)) (first_value-rows found (codes "join") ∙ ap first (row option.Join w.join_text [] w.join_is)) ∙ w.join_read in
-    subst (Say found) (sym w.line_is) (feeds, cycles, join)
+    let views : map (number_in 0 65535) (values_or_none (option_map raw_values (matched_of found (codes "view")))) ≡ map (λ (n : ℕ). Some n) w.views =
+    ap (λ (o : Option (List Text)). map (number_in 0 65535) (values_or_none o)) (raw_values-rows found (codes "view") ∙ ap (option_map (λ (r : Row). r.values)) (ap (row_at (id_of option.View)) all ∙ holds option.View))
+    ∙ ap (map (number_in 0 65535)) (row_values (values option.View w.gs)) ∙ w.views_read in
+    subst (Say found) (sym w.line_is) (feeds, cycles, join, views)
 
 pub simple : is_simple live ≡ true
 simple = refl

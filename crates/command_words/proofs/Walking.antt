@@ -31,6 +31,7 @@ unfolding walked
 attached option.Feed h v = refl
 attached option.Cycles h v = refl
 attached option.Join h v = refl
+attached option.View h v = refl
 
 bare_plain : (v : Text) → IsBare v → (bytes_eq v (45 ∷ 45 ∷ []) ≡ false) × (long_of v ≡ None) × (short_of v ≡ None)
 bare_plain [] b = (refl, refl, refl)
@@ -41,11 +42,13 @@ unfolding walked
 apart option.Feed h v b = let (p, l, s) = bare_plain v b in rw (p, l, s) refl
 apart option.Cycles h v b = let (p, l, s) = bare_plain v b in rw (p, l, s) refl
 apart option.Join h v b = let (p, l, s) = bare_plain v b in rw (p, l, s) refl
+apart option.View h v b = let (p, l, s) = bare_plain v b in rw (p, l, s) refl
 
 waiting_rows : (o : LiveOption) (h : Held) (v : Text) → (settled rules (waiting o h v)).rows ≡ used (rule o) (v ∷ []) (settled rules h).rows
 waiting_rows option.Feed h v = refl
 waiting_rows option.Cycles h v = refl
 waiting_rows option.Join h v = refl
+waiting_rows option.View h v = refl
 
 -- ---- it passes
 
@@ -61,22 +64,26 @@ turn_attached : (o : LiveOption) (h : Held) (v : Text) → settles h ≡ true �
 turn_attached option.Feed h v s u = rw (s, u) refl
 turn_attached option.Cycles h v s u = rw (s, u) refl
 turn_attached option.Join h v s u = rw (s, u) refl
+turn_attached option.View h v s u = rw (s, u) refl
 
 turn_name : (o : LiveOption) (h : Held) → settles h ≡ true → turn_passes top [] (between h) (dashed o) ≡ true
 turn_name option.Feed h s = rw s refl
 turn_name option.Cycles h s = rw s refl
 turn_name option.Join h s = rw s refl
+turn_name option.View h s = rw s refl
 
 turn_value : (o : LiveOption) (h : Held) (v : Text) → IsBare v → turn_passes top [] (walked rules [] (between h) (dashed o)) v ≡ true
 unfolding walked
 turn_value option.Feed h v b = let (p, l, s) = bare_plain v b in rw (p, l, s) refl
 turn_value option.Cycles h v b = let (p, l, s) = bare_plain v b in rw (p, l, s) refl
 turn_value option.Join h v b = let (p, l, s) = bare_plain v b in rw (p, l, s) refl
+turn_value option.View h v b = let (p, l, s) = bare_plain v b in rw (p, l, s) refl
 
 settles_waiting : (o : LiveOption) (h : Held) (v : Text) → use_passes false (rule o) (v ∷ []) (settled rules h).rows ≡ true → settles (waiting o h v) ≡ true
 settles_waiting option.Feed h v u = u
 settles_waiting option.Cycles h v u = u
 settles_waiting option.Join h v u = u
+settles_waiting option.View h v u = u
 
 abbrev pub Passes : Walk → List Text → Type 0
 Passes w words = walk_passes top [] w words ≡ true
@@ -145,6 +152,7 @@ no_default rows a e = elim (cases_Bool (has_row a.id rows)) [
 pub finish : (h : Held) → finished rules h ≡ (settled rules h).rows
 finish h =
     let r = (settled rules h).rows in
-    ap (λ (z : List Row). with_default (with_default z (rule option.Cycles)) (rule option.Join)) (no_default r (rule option.Feed) refl)
-    ∙ ap (λ (z : List Row). with_default z (rule option.Join)) (no_default r (rule option.Cycles) refl)
-    ∙ no_default r (rule option.Join) refl
+    ap (λ (z : List Row). with_default (with_default (with_default z (rule option.Cycles)) (rule option.Join)) (rule option.View)) (no_default r (rule option.Feed) refl)
+    ∙ ap (λ (z : List Row). with_default (with_default z (rule option.Join)) (rule option.View)) (no_default r (rule option.Cycles) refl)
+    ∙ ap (λ (z : List Row). with_default z (rule option.View)) (no_default r (rule option.Join) refl)
+    ∙ no_default r (rule option.View) refl

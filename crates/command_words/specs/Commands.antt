@@ -5,7 +5,7 @@ use Rattle.command_words.specs.declared.command.Command.TheVariants as command
 use Rattle.command_words.specs.declared.command.LiveWords.{LiveWords}
 use Rattle.command_words.specs.declared.setting.LiveOption.{LiveOption}
 use Rattle.command_words.specs.declared.setting.LiveOption.TheVariants as option
-use Rattle.command_words.specs.Grammar.{CommandLine, Play, Listen, Live, Soak, Setting, Feed, Cycles, Join}
+use Rattle.command_words.specs.Grammar.{CommandLine, Play, Listen, Live, Soak, Setting, Feed, Cycles, Join, View}
 
 -- words as their bytes
 abbrev pub texts : {Y : Type 0} → List (String Y) → List (List ℕ)
@@ -16,10 +16,11 @@ abbrev pub option_of : Setting → LiveOption
 option_of (Feed path) = option.Feed
 option_of (Cycles n) = option.Cycles
 option_of (Join j) = option.Join
+option_of (View s) = option.View
 
 -- the words of this `live` say this
 abbrev pub said_live : LiveWords → CommandLine
-said_live live = Live (texts live.feeds.items) live.cycles live.join
+said_live live = Live (texts live.feeds.items) live.cycles live.join live.views
 
 -- the words of this command say this
 abbrev pub said : Command → CommandLine
@@ -28,9 +29,9 @@ said command.Listen = Listen
 said (command.Live live) = said_live live
 said (command.Soak number) = Soak number
 
--- the limits of a command: at most 16 feeds, and 1,000 cycles; the number of a load has at most nine digits
+-- the limits of a command: at most 16 feeds, 1,000 cycles, and 8 views; the number of a load has at most nine digits
 abbrev pub IsWithin : Command → Type 0
 IsWithin command.Play = Unit {0}
 IsWithin command.Listen = Unit {0}
-IsWithin (command.Live live) = (length live.feeds.items ≤ 16) × (live.cycles ≤ 1000)
+IsWithin (command.Live live) = (length live.feeds.items ≤ 16) × (live.cycles ≤ 1000) × (length live.views ≤ 8)
 IsWithin (command.Soak number) = number ≤ 999999999

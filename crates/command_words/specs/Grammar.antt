@@ -1,15 +1,16 @@
 -- The words of a command line, without the program's name, each as its bytes, and the command that they spell.
-use Rattle.std.specs.Prelude.{ℕ, ◌==◌, ◌||◌, Bool, true, false, List, [], ◌∷◌, length, Option, Some, None, option_map, option_and_then, filter_map, codes, bytes_eq, if◌then◌else◌}
+use Rattle.std.specs.Prelude.{ℕ, ◌==◌, ◌||◌, ◌&&◌, nat_le, Bool, true, false, List, [], ◌∷◌, length, Option, Some, None, option_map, option_and_then, filter_map, codes, bytes_eq, if◌then◌else◌}
 use Rattle.std.specs.List.{list_any, before_first, after_first}
 use Rattle.input_lines.specs.Numbers.{in_range, number_in}
 
 -- ---- one option of `live`
 
--- a path, a number of cycles, or the number of the packet from which the monitor hears
+-- a path, a number of cycles, the number of the packet from which the monitor hears, or the service for which a viewer asks
 pub data Setting : Type 0 where
   Feed : List ℕ → Setting
   Cycles : ℕ → Setting
   Join : ℕ → Setting
+  View : ℕ → Setting
 
 -- whether a byte is `=`
 abbrev pub is_equals : ℕ → Bool
@@ -34,6 +35,7 @@ setting_of name value =
     if bytes_eq name (codes "--feed") then path_of value
     else if bytes_eq name (codes "--cycles") then option_map Cycles (number_in 1 1000 value)
     else if bytes_eq name (codes "--join") then option_map Join (number_in 0 999999999 value)
+    else if bytes_eq name (codes "--view") then option_map View (number_in 0 65535 value)
     else None
 
 -- an option in one word: its name, `=`, and its value
@@ -62,34 +64,43 @@ abbrev pub feed_of : Setting → Option (List ℕ)
 feed_of (Feed path) = Some path
 feed_of (Cycles n) = None
 feed_of (Join j) = None
+feed_of (View s) = None
 
 abbrev pub cycles_of : Setting → Option ℕ
 cycles_of (Feed path) = None
 cycles_of (Cycles n) = Some n
 cycles_of (Join j) = None
+cycles_of (View s) = None
 
 abbrev pub join_of : Setting → Option ℕ
 join_of (Feed path) = None
 join_of (Cycles n) = None
 join_of (Join j) = Some j
+join_of (View s) = None
+
+abbrev pub view_of : Setting → Option ℕ
+view_of (Feed path) = None
+view_of (Cycles n) = None
+view_of (Join j) = None
+view_of (View s) = Some s
 
 -- ---- commands
 
 pub data CommandLine : Type 0 where
   Play : CommandLine
   Listen : CommandLine
-  -- the paths of its feeds, in order, the number of cycles, and the first packet that its monitor hears
-  Live : List (List ℕ) → ℕ → ℕ → CommandLine
+  -- the paths of its feeds, in order, the number of cycles, the first packet that its monitor hears, and the services of its views, in order
+  Live : List (List ℕ) → ℕ → ℕ → List ℕ → CommandLine
   -- the number of its load
   Soak : ℕ → CommandLine
 
--- 1 to 16 feeds, cycles once, and join once
-abbrev pub live_with : List (List ℕ) → List ℕ → List ℕ → Option CommandLine
-live_with feeds (cycles ∷ []) (join ∷ []) = if in_range 1 16 (length feeds) then Some (Live feeds cycles join) else None
-live_with feeds cycles joins = None
+-- 1 to 16 feeds, cycles once, join once, and at most 8 views
+abbrev pub live_with : List (List ℕ) → List ℕ → List ℕ → List ℕ → Option CommandLine
+live_with feeds (cycles ∷ []) (join ∷ []) views = if in_range 1 16 (length feeds) && nat_le (length views) 8 then Some (Live feeds cycles join views) else None
+live_with feeds cycles joins views = None
 
 abbrev pub live_of : List Setting → Option CommandLine
-live_of settings = live_with (filter_map feed_of settings) (filter_map cycles_of settings) (filter_map join_of settings)
+live_of settings = live_with (filter_map feed_of settings) (filter_map cycles_of settings) (filter_map join_of settings) (filter_map view_of settings)
 
 -- a command without options
 abbrev pub alone : List ℕ → Option CommandLine

@@ -2,7 +2,7 @@
 use Rattle.std.specs.Prelude.{◌≡◌, [], ◌∷◌, Some, None, codes, refl}
 use Rattle.command_words.specs.Grammar.{command_of, Play, Live, Soak}
 
-two_feeds : command_of (codes "live" ∷ codes "--join=0" ∷ codes "--feed" ∷ codes "a" ∷ codes "--cycles" ∷ codes "3" ∷ codes "--feed=b" ∷ []) ≡ Some (Live (codes "a" ∷ codes "b" ∷ []) 3 0)
+two_feeds : command_of (codes "live" ∷ codes "--join=0" ∷ codes "--feed" ∷ codes "a" ∷ codes "--cycles" ∷ codes "3" ∷ codes "--feed=b" ∷ []) ≡ Some (Live (codes "a" ∷ codes "b" ∷ []) 3 0 [])
 two_feeds = refl
 
 one_word : command_of (codes "play" ∷ []) ≡ Some Play
@@ -19,15 +19,21 @@ no_cycles = refl
 dashed : command_of (codes "live" ∷ codes "--feed" ∷ codes "-a" ∷ codes "--cycles=1" ∷ codes "--join=1" ∷ []) ≡ None
 dashed = refl
 
-dashed_behind_equals : command_of (codes "live" ∷ codes "--feed=-a" ∷ codes "--cycles=1" ∷ codes "--join=1" ∷ []) ≡ Some (Live (codes "-a" ∷ []) 1 1)
+dashed_behind_equals : command_of (codes "live" ∷ codes "--feed=-a" ∷ codes "--cycles=1" ∷ codes "--join=1" ∷ []) ≡ Some (Live (codes "-a" ∷ []) 1 1 [])
 dashed_behind_equals = refl
 
 -- a path may have a `=`
-equals_in_path : command_of (codes "live" ∷ codes "--feed=a=b" ∷ codes "--cycles=1" ∷ codes "--join=1" ∷ []) ≡ Some (Live (codes "a=b" ∷ []) 1 1)
+equals_in_path : command_of (codes "live" ∷ codes "--feed=a=b" ∷ codes "--cycles=1" ∷ codes "--join=1" ∷ []) ≡ Some (Live (codes "a=b" ∷ []) 1 1 [])
 equals_in_path = refl
 
 twice : command_of (codes "live" ∷ codes "--feed=a" ∷ codes "--cycles=1" ∷ codes "--cycles=1" ∷ codes "--join=1" ∷ []) ≡ None
 twice = refl
+
+two_views : command_of (codes "live" ∷ codes "--view=101" ∷ codes "--feed=a" ∷ codes "--cycles=1" ∷ codes "--view" ∷ codes "007" ∷ codes "--join=1" ∷ []) ≡ Some (Live (codes "a" ∷ []) 1 1 (101 ∷ 7 ∷ []))
+two_views = refl
+
+view_past : command_of (codes "live" ∷ codes "--view=65536" ∷ codes "--feed=a" ∷ codes "--cycles=1" ∷ codes "--join=1" ∷ []) ≡ None
+view_past = refl
 
 -- no short spellings, and no words
 short : command_of (codes "live" ∷ codes "-f" ∷ codes "a" ∷ codes "--cycles=1" ∷ codes "--join=1" ∷ []) ≡ None

@@ -7,18 +7,20 @@ ghost use Rattle.command_words.specs.Grammar.{alone as alone_in, command_of, liv
 use crate::matches::live_words;
 use crate::uses::are_live;
 use input_lines::number;
+use si_base::Items;
 use std::alloc::Global;
 
 /// Paths of files, in the order in which they stood.
 pub type Paths = Vec<String>;
 
-/// The options of `live`: the paths of its feeds, 1 to 16, how many cycles its player sends, 1 to 1,000, and the number of the
-/// first packet that its monitor hears, 0 to 999,999,999.
+/// The options of `live`: the paths of its feeds, 1 to 16, how many cycles its player sends, 1 to 1,000, the number of the first
+/// packet that its monitor hears, 0 to 999,999,999, and the services of its views, none to 8.
 #[derive(Drop)]
 pub struct LiveWords {
     pub feeds: Paths,
     pub cycles: u64,
     pub join: u64,
+    pub views: Items<u16>,
 }
 
 /// What the program is to do.
@@ -41,7 +43,7 @@ pub enum WordsStop {
 /// The command that words spell; the program's name is not among them.
 ///
 /// `play` and `listen` have no further word. `soak` has one, the number of its load, 0 to 999,999,999. `live` has, in any order,
-/// `--feed PATH` 1 to 16 times, `--cycles N` once and `--join J` once. An option is one word with `=`, or two words, of which the
+/// `--feed PATH` 1 to 16 times, `--cycles N` once, `--join J` once and `--view SERVICE`, 0 to 65,535, at most 8 times. An option is one word with `=`, or two words, of which the
 /// second does not begin with `-`. A path is not empty and is not `-`. A number has one to nine digits and lies in its range. There
 /// are no short spellings.
 ///

@@ -12,6 +12,7 @@ pub(crate) enum LiveOption {
     Feed,
     Cycles,
     Join,
+    View,
 }
 
 fn feed_of(path: &str) -> Option<LiveOption>
@@ -36,6 +37,9 @@ pub(crate) fn option_of(name: &str, value: &str) -> Option<LiveOption>
     } else if name == "--join" {
         number(value, 0, 999_999_999)?;
         Some(LiveOption::Join)
+    } else if name == "--view" {
+        number(value, 0, 65_535)?;
+        Some(LiveOption::View)
     } else {
         None
     }

@@ -12,6 +12,7 @@ struct Uses {
     feeds: u8,
     cycles: u8,
     joins: u8,
+    views: u8,
 }
 
 impl Uses {
@@ -22,6 +23,7 @@ impl Uses {
             feeds: 0,
             cycles: 0,
             joins: 0,
+            views: 0,
         }
     }
 
@@ -34,6 +36,7 @@ impl Uses {
             LiveOption::Feed => self.feeds = self.feeds.saturating_add(1),
             LiveOption::Cycles => self.cycles = self.cycles.saturating_add(1),
             LiveOption::Join => self.joins = self.joins.saturating_add(1),
+            LiveOption::View => self.views = self.views.saturating_add(1),
         }
     }
 
@@ -41,7 +44,8 @@ impl Uses {
     fn are_live(self) -> bool
         ensures { (settings : List Setting) → Counted settings self → result ≡ is_some (live_of settings) }
     {
-        1 <= self.feeds && self.feeds <= 16 && self.cycles == 1 && self.joins == 1
+        let feeds = 1 <= self.feeds && self.feeds <= 16;
+        feeds && self.cycles == 1 && self.joins == 1 && self.views <= 8
     }
 }
 

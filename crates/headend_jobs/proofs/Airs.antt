@@ -45,7 +45,7 @@ publication_front mux xs (z ∷ zs) n le =
     ∙ publication-kept mux xs z n le
 
 -- the number of a swap is the number of a publication that its pass has seen
-swap_number : (n : ℕ) (airing : Airing) (v w : View) → (m : Made Swap (Swapped airing.number airing.moment) v w) → airing.number ≤ publishes w.seen
+pub swap_number : (n : ℕ) (airing : Airing) (v w : View) → (m : Made Swap (Swapped airing.number airing.moment) v w) → airing.number ≤ publishes w.seen
 swap_number n airing v w m =
     let same : airing.number ≡ publishes m.before = ap (λ p. p.0) (some_same _ _ (ap aired_by m.outcome_is)) in
     omega (arith, same, publishes-front m.before (entry_of v.own.low Swap (Swapped airing.number airing.moment) ∷ []), ap publishes m.seen)

@@ -2,13 +2,13 @@
 use Rattle.std.proofs.Common.{◌≡◌, ◌≢◌, ◌⊎◌, inl, inr, ℕ, zero, suc, List, [], ◌∷◌, ◌++◌, map, refl, sym, ap, ◌∙◌, subst, append-nil, append_assoc}
 use Rattle.std.specs.List.{AllByRecursion}
 use Rattle.mux_model.specs.declared.mux.Mux.{Mux}
-use Rattle.version_book.specs.Airings.{AiredTables}
+use Rattle.si_time.specs.declared.moment.Moment.{Moment}
 use Rattle.journal_model.specs.declared.step.Step.TheVariants.{Publish, Swap}
 use Rattle.journal_model.specs.declared.step.Outcome.TheVariants.{Published}
 use Rattle.journal_model.specs.declared.step.Entry.{Entry}
 use Rattle.desk_core.specs.Journal.{Legal, LegalAfter}
 use Rattle.journal_model.specs.Steps.{Command, command_of}
-use Rattle.desk_core.specs.Publications.{aired_by}
+use Rattle.desk_core.specs.Publications.{swaps}
 use Rattle.journal_air.specs.Air.{airings_by}
 use Rattle.turn_lock.specs.declared.known.Caller.{Caller}
 use Rattle.turn_lock.specs.Knowledge.{Closes, numbers}
@@ -16,8 +16,8 @@ use Rattle.desk_hall.specs.Turn.{View, caller_of, entry_of, Made, Knows, Did}
 use Rattle.headend_jobs.specs.Playing.{swaps_by}
 use Rattle.headend_jobs.specs.Whole.{IsWhole, JournalDid, SwapsNot}
 use Rattle.desk_hall.proofs.Passes.{made_knows}
-use Rattle.headend_jobs.proofs.SwapFacts.{airings-append}
-use Rattle.headend_jobs.proofs.WholeJournal.{of, rest_is, front_whole, airs_part, of_mine, of_other}
+use Rattle.headend_jobs.proofs.SwapFacts.{airings-append, swaps-append}
+use Rattle.headend_jobs.proofs.WholeJournal.{of, rest_is, front_whole, swaps_part, of_mine, of_other}
 
 -- ---- entries of one caller
 
@@ -59,8 +59,8 @@ closed_plain mux v w player feeds journal c legal same fin one none =
       legal = legal;
       front = journal;
       ends = sym (append-nil journal);
-      airings_are = airs_part 1 mux journal journal player.made (v.own ∷ player ∷ feeds) legal whole none (ap (λ (k : ℕ). of k journal) (sym one) ∙ whole.made.1.0)
-          ∙ ap (airings_by mux journal) (sym (append-nil player.made));
+      swaps_are = swaps_part 1 mux journal player.made (v.own ∷ player ∷ feeds) legal whole none (ap (λ (k : ℕ). of k journal) (sym one) ∙ whole.made.1.0)
+          ∙ ap swaps (sym (append-nil player.made));
     }
 
 -- ---- where the control published and swapped behind the jobs
@@ -107,8 +107,8 @@ closed_final mux v m w n k player feeds journal c legal p d fin one none apart =
     front_whole v.own w.own cs p.before final (low_w ∙ low_m) made_f (own_of v.own.low final (refl, of_low))
     (nothing_of v.own.low final (refl, of_low) cs apart)
     (subst (λ (l : List Entry). IsWhole l (w.own ∷ cs)) ends whole) in
-    let airs_front : airings_by mux journal p.before ≡ airings_by mux journal player.made =
-    airs_part 1 mux journal p.before player.made (v.own ∷ cs) (legal_front mux [] p.before final (subst (Legal mux) ends legal)) front none (ap (λ (i : ℕ). of i p.before) (sym one) ∙ front.made.1.0) in
+    let swaps_front : swaps p.before ≡ swaps player.made =
+    swaps_part 1 mux p.before player.made (v.own ∷ cs) (legal_front mux [] p.before final (subst (Legal mux) ends legal)) front none (ap (λ (i : ℕ). of i p.before) (sym one) ∙ front.made.1.0) in
     record {
       mine = ap (λ (i : ℕ). of i journal) (sym (low_w ∙ low_m)) ∙ whole.made.0 ∙ made_f;
       each = whole.made.1;
@@ -116,7 +116,7 @@ closed_final mux v m w n k player feeds journal c legal p d fin one none apart =
       legal = legal;
       front = p.before;
       ends = ends;
-      airings_are = ap (airings_by mux journal) ends ∙ airings-append mux journal p.before final ∙ ap (λ (l : List AiredTables). l ++ airings_by mux journal final) airs_front ∙ sym (airings-append mux journal player.made final);
+      swaps_are = ap swaps ends ∙ swaps-append p.before final ∙ ap (λ (l : List (ℕ × Moment)). l ++ swaps final) swaps_front ∙ sym (swaps-append player.made final);
     }
 
 -- the publish itself puts nothing on air

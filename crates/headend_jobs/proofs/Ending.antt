@@ -14,7 +14,7 @@ use Rattle.desk_core.specs.Journal.{Legal}
 use Rattle.journal_model.specs.Steps.{Command, command_of}
 use Rattle.headend_jobs.specs.declared.send.SendStop.{SendStop}
 use Rattle.headend_jobs.specs.declared.send.SendStop.TheVariants.{Air, Memory}
-use Rattle.journal_air.specs.Air.{airings, airings_by}
+use Rattle.journal_air.specs.Air.{airing_at, airings, airings_by}
 use Rattle.turn_lock.specs.declared.known.Caller.{Caller}
 use Rattle.turn_lock.specs.Knowledge.{Closes}
 use Rattle.turn_lock.proofs.Lists.{prefix_self, prefix_trans}
@@ -122,6 +122,11 @@ front_final who (suc zero) le = refl
 front_final who (suc (suc zero)) le = refl
 front_final who (suc (suc (suc k))) le = absurd (omega arith)
 
+-- what a whole journal puts on air
+airs_are : {control player : Caller Entry} {feeds : List (Caller Entry)} {final : List Entry} {mux : Mux} {journal : List Entry} → JournalDid control player feeds final mux journal
+    → airings mux journal ≡ airings_by mux journal (player.made ++ final)
+airs_are {mux = mux} {journal = journal} did = ap (map (airing_at mux journal)) did.swaps_are
+
 module _ (mux : Mux) (control player : View) (feeds : List (Caller Entry)) (old : Playing) (mid now : Known) (journal : List Entry) (v w : View) where
   -- what the ending rests on
   pub record Ready : Type 0 where
@@ -156,7 +161,7 @@ module _ (mux : Mux) (control player : View) (feeds : List (Caller Entry)) (old 
         final = [];
         journal_did = did;
         last = refl;
-        aired = λ before h. air_as mux journal player.seen player.own.made old before now end (did.airings_are ∙ ap (airings_by mux journal) (append-nil player.own.made)) (plain_air r (prefix_same e))
+        aired = λ before h. air_as mux journal player.seen player.own.made old before now end (airs_are did ∙ ap (airings_by mux journal) (append-nil player.own.made)) (plain_air r (prefix_same e))
             (subst (λ (k : Known). PlayedAs mux player.seen player.own.made old before k end) (sym same) h);
       }
 
@@ -173,7 +178,7 @@ module _ (mux : Mux) (control player : View) (feeds : List (Caller Entry)) (old 
         (subst (λ (c : Caller Entry). AllByRecursion (λ (x : Caller Entry). x.low ≢ c.low) (player.own ∷ feeds)) (sym r.own) r.apart))
 
     final_airs : Ready → airings mux journal ≡ airings_by mux journal (player.own.made ++ d.added)
-    final_airs r = (final_did r).airings_are ∙ sym (airs_final mux journal player.own.made d.added v.own.low n)
+    final_airs r = airs_are (final_did r) ∙ sym (airs_final mux journal player.own.made d.added v.own.low n)
 
     -- what was played before is played still
     played_on : Ready → (before : Known) → HasPlayedTo mux player.seen player.own.made old before mid → HasPlayedTo mux m.seen player.own.made old before mid
@@ -219,7 +224,7 @@ module _ (mux : Mux) (control player : View) (feeds : List (Caller Entry)) (old 
         final = [];
         journal_did = did;
         last = (0, refl);
-        aired = λ before h. air_some mux journal player.seen player.own.made before now (did.airings_are ∙ ap (airings_by mux journal) (append-nil player.own.made)) (plain_air r i.began)
+        aired = λ before h. air_some mux journal player.seen player.own.made before now (airs_are did ∙ ap (airings_by mux journal) (append-nil player.own.made)) (plain_air r i.began)
             (subst (λ (k : Known). HasPlayedSome mux player.seen player.own.made before k) (sym same) (to_some mux player.seen player.seen player.own.made old before mid (prefix_self player.seen) h));
       }
 

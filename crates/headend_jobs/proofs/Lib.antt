@@ -11,3 +11,5 @@ pub mod CallerFacts
 pub mod Swaps
 pub mod HandedBack
 pub mod TypedJournals
+pub mod Posts
+pub mod Viewing

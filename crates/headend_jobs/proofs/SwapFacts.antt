@@ -36,10 +36,14 @@ abbrev IsKnown : ℕ → Option (ℕ × Moment) → Type 0
 IsKnown k None = Unit {0}
 IsKnown k (Some aired) = aired.0 ≤ k
 
+-- the swaps of entries, part by part
+pub swaps-append : (xs ys : List Entry) → swaps (xs ++ ys) ≡ swaps xs ++ swaps ys
+swaps-append xs ys = filter_map-append (λ (y : Entry). aired_by y.outcome) xs ys
+
 -- what entries put on air, part by part
 pub airings-append : (mux : Mux) (journal xs ys : List Entry) → airings_by mux journal (xs ++ ys) ≡ airings_by mux journal xs ++ airings_by mux journal ys
 airings-append mux journal xs ys =
-    ap (map (airing_at mux journal)) (filter_map-append (λ (y : Entry). aired_by y.outcome) xs ys) ∙ map-append (airing_at mux journal) (swaps xs) (swaps ys)
+    ap (map (airing_at mux journal)) (swaps-append xs ys) ∙ map-append (airing_at mux journal) (swaps xs) (swaps ys)
 
 pub publishes-front : (xs ys : List Entry) → publishes xs ≤ publishes (xs ++ ys)
 publishes-front [] ys = omega arith

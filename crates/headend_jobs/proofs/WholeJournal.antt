@@ -1,4 +1,4 @@
--- A whole journal by its callers: what stands behind a part of it, and what it puts on air.
+-- A whole journal by its callers: what stands behind a part of it, and which swaps it has.
 use Rattle.std.proofs.Common.{◌≡◌, ◌≢◌, ◌⊎◌, ⊎_elim, inl, inr, ℕ, ◌==◌, List, [], ◌∷◌, ◌++◌, Bool, false, refl, sym, ap, ◌∙◌, subst, append-nil, eq-eqb, ne_eqb}
 use Rattle.std.specs.Prelude.{None, if◌then◌else◌}
 use Rattle.std.specs.List.{AllByRecursion}
@@ -7,21 +7,20 @@ use Rattle.std.proofs.lemmas.List.Elements.{filter-append}
 use native.Mathlib.Decide.{ℕ_discrete}
 use mathlib.Core.Logic.{dite}
 use Rattle.mux_model.specs.declared.mux.Mux.{Mux}
-use Rattle.version_book.specs.Airings.{AiredTables}
+use Rattle.si_time.specs.declared.moment.Moment.{Moment}
 use Rattle.journal_model.specs.declared.step.Step.{Step}
 use Rattle.journal_model.specs.declared.step.Step.TheVariants.{Edit as edit, Tick, Publish, Swap}
 use Rattle.journal_model.specs.declared.step.Entry.{Entry}
 use Rattle.desk_core.specs.Journal.{Legal, LegalAfter, moment_of, outcome_of}
-use Rattle.desk_core.specs.Publications.{aired_by}
+use Rattle.desk_core.specs.Publications.{aired_by, swaps}
 use Rattle.desk_core.proofs.DerivedFacts.{not_aired}
-use Rattle.journal_air.specs.Air.{airings_by}
 use Rattle.headend_jobs.specs.OnAir.{is_swap}
 use Rattle.turn_lock.specs.declared.known.Caller.{Caller}
 use Rattle.turn_lock.specs.Journal.{entries_of}
 use Rattle.turn_lock.specs.Knowledge.{NotLowest}
 use Rattle.desk_hall.specs.Turn.{caller_of}
 use Rattle.headend_jobs.specs.Whole.{IsWhole, NoSwaps, SwapsNot}
-use Rattle.headend_jobs.proofs.SwapFacts.{airings-append}
+use Rattle.headend_jobs.proofs.SwapFacts.{swaps-append}
 
 abbrev pub of : ℕ → List Entry → List Entry
 of k journal = entries_of caller_of k journal
@@ -120,7 +119,7 @@ swaps_of_one n journal cs whole none =
     (find (λ k. k ≢ n → NoSwaps (of k journal)) cs k
     (both (SwapsNot n) (λ c. of c.low journal ≡ c.made) (λ c. c.low ≢ n → NoSwaps (of c.low journal)) (λ c s e ne. subst NoSwaps (sym e) (s ne)) cs none whole.made))))
 
--- ---- what is on air
+-- ---- swaps
 
 no_swap_airs : (mux : Mux) (before : List Entry) (step : Step) → is_swap step ≡ false → aired_by (outcome_of mux before step) ≡ None
 no_swap_airs mux before Swap h = cc h
@@ -134,21 +133,18 @@ others_none n mux before [] legal none = tt
 others_none n mux before (e ∷ es) legal none =
     ((λ ne. ap aired_by legal.0 ∙ no_swap_airs mux before e.step (none.0 ne)), others_none n mux (before ++ e ∷ []) es legal.1 none.1)
 
-airs_by : (mux : Mux) (journal : List Entry) (e : Entry) (es : List Entry) → airings_by mux journal (e ∷ es) ≡ airings_by mux journal (e ∷ []) ++ airings_by mux journal es
-airs_by mux journal e es = airings-append mux journal (e ∷ []) es
+pub swaps_none : (e : Entry) → aired_by e.outcome ≡ None → swaps (e ∷ []) ≡ []
+swaps_none e none = rw none refl
 
-pub airs_none : (mux : Mux) (journal : List Entry) (e : Entry) → aired_by e.outcome ≡ None → airings_by mux journal (e ∷ []) ≡ []
-airs_none mux journal e none = rw none refl
+-- so the swaps are those of one caller's entries
+pub swaps_by_one : (n : ℕ) (entries : List Entry) → AllByRecursion (λ (e : Entry). e.who ≢ n → aired_by e.outcome ≡ None) entries → swaps entries ≡ swaps (of n entries)
+swaps_by_one n [] none = refl
+swaps_by_one n (e ∷ es) none = dite (ℕ_discrete e.who n)
+    (λ is. swaps-append (e ∷ []) es ∙ ap (λ (l : List (ℕ × Moment)). swaps (e ∷ []) ++ l) (swaps_by_one n es none.1) ∙ sym (swaps-append (e ∷ []) (of n es)) ∙ ap swaps (sym (of_mine n e es is)))
+    (λ ne. swaps-append (e ∷ []) es ∙ ap (λ (l : List (ℕ × Moment)). l ++ swaps es) (swaps_none e (none.0 ne)) ∙ swaps_by_one n es none.1 ∙ ap swaps (sym (of_other n e es ne)))
 
--- so the airings are those of one caller's entries
-pub airs_of_one : (n : ℕ) (mux : Mux) (journal entries : List Entry) → AllByRecursion (λ (e : Entry). e.who ≢ n → aired_by e.outcome ≡ None) entries → airings_by mux journal entries ≡ airings_by mux journal (of n entries)
-airs_of_one n mux journal [] none = refl
-airs_of_one n mux journal (e ∷ es) none = dite (ℕ_discrete e.who n)
-    (λ is. airs_by mux journal e es ∙ ap (λ (l : List AiredTables). airings_by mux journal (e ∷ []) ++ l) (airs_of_one n mux journal es none.1) ∙ sym (airs_by mux journal e (of n es)) ∙ ap (airings_by mux journal) (sym (of_mine n e es is)))
-    (λ ne. airs_by mux journal e es ∙ ap (λ (l : List AiredTables). l ++ airings_by mux journal es) (airs_none mux journal e (none.0 ne)) ∙ airs_of_one n mux journal es none.1 ∙ ap (airings_by mux journal) (sym (of_other n e es ne)))
-
--- What a part of a journal puts on air, in which one caller alone made swaps.
-pub airs_part : (n : ℕ) (mux : Mux) (journal front made : List Entry) (cs : List (Caller Entry)) → Legal mux front → IsWhole front cs → AllByRecursion (SwapsNot n) cs → of n front ≡ made
-    → airings_by mux journal front ≡ airings_by mux journal made
-airs_part n mux journal front made cs legal whole none is =
-    airs_of_one n mux journal front (others_none n mux [] front legal (swaps_of_one n front cs whole none)) ∙ ap (airings_by mux journal) is
+-- The swaps of a part of a journal, in which one caller alone made any.
+pub swaps_part : (n : ℕ) (mux : Mux) (front made : List Entry) (cs : List (Caller Entry)) → Legal mux front → IsWhole front cs → AllByRecursion (SwapsNot n) cs → of n front ≡ made
+    → swaps front ≡ swaps made
+swaps_part n mux front made cs legal whole none is =
+    swaps_by_one n front (others_none n mux [] front legal (swaps_of_one n front cs whole none)) ∙ ap swaps is

@@ -1,5 +1,6 @@
 -- What the jobs of a run leave, each of what it was given.
-use Rattle.std.specs.Prelude.{◌≡◌, ℕ, ◌^◌, ◌<◌, ◌≤◌, List, [], ◌∷◌, Option, Some, None, OnOk}
+use Rattle.std.specs.Prelude.{◌≡◌, ℕ, ◌^◌, ◌<◌, ◌≤◌, List, [], ◌∷◌, Option, Some, None, OnOk, length, slice_index_or}
+use Rattle.std.specs.List.{All}
 use Rattle.std.specs.Io.KnownBytes.{IsAtEnd}
 use Rattle.si_causes.specs.Reading.{Reading, text_left}
 use Rattle.mux_model.specs.Sound.{IsSound}
@@ -15,6 +16,10 @@ use Rattle.air_model.specs.Air.{Aired}
 use Rattle.carousel_player.specs.Playing.{AtEnd}
 use Rattle.headend_jobs.specs.OnAir.{HasAirCause}
 use Rattle.headend_jobs.specs.Playing.{SwapsPlayed}
+use Rattle.headend_jobs.specs.declared.views.ViewJob.{ViewJob}
+use Rattle.guide_board.specs.Posts.{Sight}
+use Rattle.headend_jobs.specs.Posting.{HasPosted, HaveServicesOf, KeepsBoard}
+use Rattle.headend_jobs.specs.Views.{ViewReady, ViewsDid}
 use Rattle.desk_hall.specs.Turn.{View}
 use Rattle.desk_hall.specs.Reads.{DidEach, ToldDid, TakenDid, HasReadCause, edit_step, control_step, controls_ahead}
 
@@ -37,13 +42,14 @@ module _ {S : Type 0} (left : S → Option (List ℕ)) (faults : S → ℕ) (is_
   abbrev pub ControlDid : ControlJob S → ControlJob S → Type 0
   ControlDid old new = ReaderDid control_step controls_ahead left faults is_same old.pass new.pass old.lines new.lines new.stop
 
--- the player has a pass of these turns, and may begin
-pub record PlayerReady (turns : TableId) (job : PlayerJob) : Type 0 where
+-- the player has a pass of these turns, and may begin; the board has the services of its multiplex
+pub record PlayerReady (turns : TableId) (job : PlayerJob) (board : Sight) : Type 0 where
   pub turns_are : job.pass.turns ≡ turns
   pub sound : IsSound job.mux
   pub stands : job.pass.on ≡ Some job.mux
   pub ready : (xs : List Aired) × AtEnd xs job.player
   pub few : job.cycles < 2 ^ 32
+  pub served : HaveServicesOf job.mux board.posts
 
 -- it made its swaps, and what it sent is what the air took from mid to now
 pub record PlayerDid (old new : PlayerJob) (mid now : Option (List ℕ)) (faults_before faults_now : ℕ) : Type 0 where
@@ -57,3 +63,22 @@ pub record PlayerDid (old new : PlayerJob) (mid now : Option (List ℕ)) (faults
 abbrev pub AllOf : {S : Type 0} → TableId → List (FeedJob S) → Type 0
 AllOf turns [] = Unit {0}
 AllOf turns (job ∷ jobs) = (job.pass.turns ≡ turns) × AllOf turns jobs
+
+-- The feeds, the control and the viewers may begin.
+pub record OthersReady {F S : Type 0} (turns : TableId) (feeds : List (FeedJob F)) (control : ControlJob S) (views : List ViewJob) : Type 0 where
+  pub feeds_are : AllOf turns feeds
+  pub control_is : control.pass.turns ≡ turns
+  pub views_are : All ViewReady views
+
+-- The feeds, the control and the viewers each did what was ahead of them.
+pub record OthersDid {F S : Type 0} (left : F → Option (List ℕ)) (faults : F → ℕ) (is_same : F → F → Type 0) (leftS : S → Option (List ℕ)) (faultsS : S → ℕ) (is_sameS : S → S → Type 0)
+    (feeds_old feeds_new : List (FeedJob F)) (control_old control_new : ControlJob S) (views_old views_new : List ViewJob) : Type 0 where
+  pub len : length feeds_new ≡ length feeds_old
+  pub each : (i : ℕ) (d : FeedJob F) → i < length feeds_old → FeedDid left faults is_same (slice_index_or feeds_old i d) (slice_index_or feeds_new i d)
+  pub control : ControlDid leftS faultsS is_sameS control_old control_new
+  pub views : ViewsDid views_old views_new
+
+-- The player posted what it put on air, where it made all its swaps.
+pub record PlayerPosted (old new : PlayerJob) (board_old board_new : Sight) : Type 0 where
+  pub posted : OnOk new.end (HasPosted old.mux old.pass new.pass board_old board_new)
+  pub board : KeepsBoard board_old board_new

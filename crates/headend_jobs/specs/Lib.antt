@@ -5,3 +5,5 @@ pub mod Whole
 pub mod Callers
 pub mod Live
 pub mod Back
+pub mod Posting
+pub mod Views

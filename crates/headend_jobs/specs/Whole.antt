@@ -6,7 +6,7 @@ use Rattle.journal_model.specs.declared.step.Step.TheVariants.{Publish, Swap}
 use Rattle.journal_model.specs.declared.step.Entry.{Entry}
 use Rattle.desk_core.specs.Journal.{Legal}
 use Rattle.journal_model.specs.Steps.{Command}
-use Rattle.journal_air.specs.Air.{airings, airings_by}
+use Rattle.desk_core.specs.Publications.{swaps}
 use Rattle.headend_jobs.specs.OnAir.{is_swap}
 use Rattle.turn_lock.specs.declared.known.Caller.{Caller}
 use Rattle.turn_lock.specs.Journal.{entries_of}
@@ -19,8 +19,8 @@ pub record IsWhole (journal : List Entry) (cs : List (Caller Entry)) : Type 0 wh
   pub others : (k : ℕ) → NotLowest cs k → entries_of caller_of k journal ≡ []
 
 -- What the journal of a run is, where the control made `final` behind all jobs: each caller has made just what it made, in order, and
--- no one else made anything; the journal is legal and ends with `final`; and it puts on air what the player's entries
--- and `final` put on air, for no other caller swapped.
+-- no one else made anything; the journal is legal and ends with `final`; and its swaps are those of the player's entries and of
+-- `final`, for no other caller swapped.
 pub record JournalDid (control player : Caller Entry) (feeds : List (Caller Entry)) (final : List Entry) (mux : Mux) (journal : List Entry) : Type 0 where
   pub mine : entries_of caller_of control.low journal ≡ control.made ++ final
   pub each : AllByRecursion (λ c. entries_of caller_of c.low journal ≡ c.made) (player ∷ feeds)
@@ -28,7 +28,7 @@ pub record JournalDid (control player : Caller Entry) (feeds : List (Caller Entr
   pub legal : Legal mux journal
   pub front : List Entry
   pub ends : journal ≡ front ++ final
-  pub airings_are : airings mux journal ≡ airings_by mux journal (player.made ++ final)
+  pub swaps_are : swaps journal ≡ swaps (player.made ++ final)
 
 -- a publish and two swaps of a caller
 abbrev pub final_commands : ℕ → List Command

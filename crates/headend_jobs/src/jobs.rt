@@ -1,12 +1,16 @@
 // The jobs of a run, side by side.
 ghost use Rattle.std.specs.Prelude.{◌≡◌, ◌<◌, ℕ, List, length, slice_index_or};
 ghost use Rattle.std.specs.Thread.{IsSync, IsSend};
-ghost use Rattle.headend_jobs.specs.Jobs.{AllOf, ControlDid, FeedDid, PlayerReady, PlayerDid};
+ghost use Rattle.std.specs.List.{All};
+ghost use Rattle.headend_jobs.specs.Jobs.{AllOf, ControlDid, FeedDid, OthersDid, OthersReady, PlayerDid, PlayerPosted, PlayerReady};
+ghost use Rattle.headend_jobs.specs.Views.{ViewReady, ViewsDid};
 
 use crate::player::play;
 use crate::send::SendStop;
+use crate::views::{ViewJob, run_views};
 use carousel_player::Player;
 use desk_hall::{Hall, HallPass};
+use guide_board::BoardWriter;
 use mux_model::Mux;
 use script_lines::EditStop;
 use si_causes::{Gate, LineReader, Sink, Source};
@@ -88,11 +92,13 @@ fn run_player<W: Wait, A: Sink, G: Gate>(
     alloc: Global,
     hall: &Hall,
     job: &mut PlayerJob,
+    board: &mut BoardWriter,
     air: &mut A,
     gate: &G,
 )
-    requires { PlayerReady hall.now.turns job.old }
+    requires { PlayerReady hall.now.turns job.old board.old }
     ensures did { PlayerDid job.old job.new (A.written air.old) (A.written air.new) (A.faults air.old) (A.faults air.new) }
+    ensures posted { PlayerPosted job.old job.new board.old board.new }
     ensures same { A.same air.old air.new }
 {
     job.end = play(
@@ -103,6 +109,7 @@ fn run_player<W: Wait, A: Sink, G: Gate>(
         job.cycles,
         &mut job.pass,
         &mut job.player,
+        board,
         air,
         gate,
     );
@@ -137,7 +144,35 @@ fn run_readers<W: Threads + Wait + Sync, F: Source + Send, S: Source + Send, G: 
     );
 }
 
-/// The feeds, the control and the player side by side.
+// The control and the feeds, and the viewers.
+fn run_others<W: Threads + Wait + Sync, F: Source + Send, S: Source + Send, G: Gate>(
+    rt: &W,
+    alloc: Global,
+    hall: &Hall,
+    control: &mut ControlJob<S>,
+    feeds: &mut [FeedJob<F>],
+    views: &mut [ViewJob],
+    gate: &G,
+)
+    requires { OthersReady hall.now.turns feeds.old control.old views.old }
+    ensures { OthersDid F.left F.faults F.same S.left S.faults S.same feeds.old feeds.new control.old control.new views.old views.new }
+{
+    join_mut(
+        rt,
+        &mut ||
+            requires { IsSend F.row × IsSend S.row × IsSync W.row × IsSync G.row × AllOf hall.now.turns feeds.now × (control.now.pass.turns ≡ hall.now.turns) }
+            ensures len { length feeds.exit.now ≡ length feeds.entry.now }
+            ensures each { (i : ℕ) (d : _) → i < length feeds.entry.now → FeedDid F.left F.faults F.same (slice_index_or feeds.entry.now i d) (slice_index_or feeds.exit.now i d) }
+            ensures control { ControlDid S.left S.faults S.same control.entry.now control.exit.now }
+        { run_readers(rt, alloc, hall, control, feeds, gate) },
+        &mut ||
+            requires { All ViewReady views.now }
+            ensures { ViewsDid views.entry.now views.exit.now }
+        { run_views(rt, views) },
+    );
+}
+
+/// The feeds, the control, the player and the viewers side by side.
 pub(crate) fn run_side_by_side<
     W: Threads + Wait + Sync,
     F: Source + Send,
@@ -151,30 +186,29 @@ pub(crate) fn run_side_by_side<
     feeds: &mut [FeedJob<F>],
     control: &mut ControlJob<S>,
     player: &mut PlayerJob,
+    views: &mut [ViewJob],
+    board: &mut BoardWriter,
     air: &mut A,
     gate: &G,
 )
-    requires feeds { AllOf hall.now.turns feeds.old }
-    requires control { control.old.pass.turns ≡ hall.now.turns }
-    requires player { PlayerReady hall.now.turns player.old }
-    ensures len { length feeds.new ≡ length feeds.old }
-    ensures each { (i : ℕ) (d : _) → i < length feeds.old → FeedDid F.left F.faults F.same (slice_index_or feeds.old i d) (slice_index_or feeds.new i d) }
-    ensures control { ControlDid S.left S.faults S.same control.old control.new }
+    requires player { PlayerReady hall.now.turns player.old board.old }
+    requires others { OthersReady hall.now.turns feeds.old control.old views.old }
     ensures player { PlayerDid player.old player.new (A.written air.old) (A.written air.new) (A.faults air.old) (A.faults air.new) }
+    ensures posted { PlayerPosted player.old player.new board.old board.new }
+    ensures others { OthersDid F.left F.faults F.same S.left S.faults S.same feeds.old feeds.new control.old control.new views.old views.new }
     ensures same { A.same air.old air.new }
 {
     join_mut(
         rt,
         &mut ||
-            requires { PlayerReady hall.now.turns player.now }
+            requires { PlayerReady hall.now.turns player.now board.now }
             ensures did { PlayerDid player.entry.now player.exit.now (A.written air.entry.now) (A.written air.exit.now) (A.faults air.entry.now) (A.faults air.exit.now) }
+            ensures posted { PlayerPosted player.entry.now player.exit.now board.entry.now board.exit.now }
             ensures same { A.same air.entry.now air.exit.now }
-        { run_player(rt, alloc, hall, player, air, gate) },
+        { run_player(rt, alloc, hall, player, board, air, gate) },
         &mut ||
-            requires { IsSend F.row × IsSend S.row × IsSync W.row × IsSync G.row × AllOf hall.now.turns feeds.now × (control.now.pass.turns ≡ hall.now.turns) }
-            ensures len { length feeds.exit.now ≡ length feeds.entry.now }
-            ensures each { (i : ℕ) (d : _) → i < length feeds.entry.now → FeedDid F.left F.faults F.same (slice_index_or feeds.entry.now i d) (slice_index_or feeds.exit.now i d) }
-            ensures control { ControlDid S.left S.faults S.same control.entry.now control.exit.now }
-        { run_readers(rt, alloc, hall, control, feeds, gate) },
+            requires { IsSend F.row × IsSend S.row × IsSync W.row × IsSync G.row × OthersReady hall.now.turns feeds.now control.now views.now }
+            ensures { OthersDid F.left F.faults F.same S.left S.faults S.same feeds.entry.now feeds.exit.now control.entry.now control.exit.now views.entry.now views.exit.now }
+        { run_others(rt, alloc, hall, control, feeds, views, gate) },
     );
 }

@@ -6,22 +6,26 @@ ghost use Rattle.mux_model.specs.declared.mux.Mux.{Mux as AMux};
 ghost use Rattle.air_model.specs.Air.{Aired};
 ghost use Rattle.carousel_player.specs.Playing.{AtEnd, Playing};
 ghost use Rattle.turn_lock.specs.Knowledge.{HasAny, TableId, first_pass, numbers};
-ghost use Rattle.std.specs.List.{AllByRecursion};
+ghost use Rattle.std.specs.List.{All, AllByRecursion};
 ghost use Rattle.headend_jobs.specs.Whole.{SwapsNot};
 ghost use Rattle.si_causes.specs.Reading.{Reading};
 ghost use Rattle.headend_jobs.specs.Jobs.{AllOf};
 ghost use Rattle.headend_jobs.specs.OnAir.{HasAirCause};
 ghost use Rattle.headend_jobs.specs.declared.send.SendStop.{SendStop as AStop};
 ghost use Rattle.headend_jobs.specs.Callers.{HasRun};
+ghost use Rattle.headend_jobs.specs.Posting.{HasPosted, HasPostedAll, HaveServicesOf, KeepsBoard, opening_of, posts_of};
+ghost use Rattle.headend_jobs.specs.Views.{ViewReady, ViewsDid};
 ghost use Rattle.headend_jobs.specs.Back.{lines_back};
 ghost use Rattle.headend_jobs.specs.Live.{callers_back, FinalDid, LastDid, SentDid, EndDid, LiveDid, and_stop, control_stop, feed_stop, first_stop, halts, jobs_back, or_feed, run_stop, sent_stop, new_control, new_player};
 
 use crate::jobs::{ControlJob, FeedJob, PlayerJob, run_side_by_side};
 use crate::player::play;
 use crate::send::SendStop;
+use crate::views::ViewJob;
 use carousel_player::Player;
 use desk_core::Desk;
 use desk_hall::{Hall, HallPass, HallState};
+use guide_board::BoardWriter;
 use mux_model::Mux;
 use script_lines::EditStop;
 use si_causes::{Gate, LineReader, Sink, Source};
@@ -156,20 +160,24 @@ fn finish<W: Wait, A: Sink, G: Gate>(
     mux: &Mux,
     pass: &mut HallPass,
     player: &mut Player,
+    board: &mut BoardWriter,
     air: &mut A,
     gate: &G,
 ) -> Result<(), SendStop>
     requires turns { pass.old.turns ≡ hall.now.turns }
     requires sound { IsSound mux.now }
+    requires board { HaveServicesOf mux.now board.old.posts }
     requires stands { pass.old.on ≡ Some mux.now }
     requires ready { (xs : List Aired) × AtEnd xs player.old }
     ensures did { FinalDid mux.now pass.old pass.new player.old player.new (A.written air.old) (A.written air.new) result }
     ensures cause { HasAirCause (A.faults air.old) (A.faults air.new) result }
+    ensures posted { OnOk result (HasPosted mux.now pass.old pass.new board.old board.new) }
+    ensures board { KeepsBoard board.old board.new }
     ensures later { A.faults air.old ≤ A.faults air.new }
     ensures same { A.same air.old air.new }
 {
     match hall.publish(rt, pass) {
-        Ok(_) => play(rt, alloc, hall, mux, 2, pass, player, air, gate),
+        Ok(_) => play(rt, alloc, hall, mux, 2, pass, player, board, air, gate),
         Err(_) => Err(SendStop::Memory),
     }
 }
@@ -183,20 +191,24 @@ fn finish_unless<W: Wait, A: Sink, G: Gate>(
     mux: &Mux,
     pass: &mut HallPass,
     player: &mut Player,
+    board: &mut BoardWriter,
     air: &mut A,
     gate: &G,
 ) -> Result<(), SendStop>
     requires turns { pass.old.turns ≡ hall.now.turns }
     requires sound { IsSound mux.now }
+    requires board { HaveServicesOf mux.now board.old.posts }
     requires stands { pass.old.on ≡ Some mux.now }
     requires ready { (stopped ≡ false) → (xs : List Aired) × AtEnd xs player.old }
     ensures did { LastDid stopped mux.now pass.old pass.new player.old player.new (A.written air.old) (A.written air.new) result }
     ensures cause { HasAirCause (A.faults air.old) (A.faults air.new) result }
+    ensures posted { OnOk result (HasPosted mux.now pass.old pass.new board.old board.new) }
+    ensures board { KeepsBoard board.old board.new }
     ensures later { A.faults air.old ≤ A.faults air.new }
     ensures same { A.same air.old air.new }
 {
     match stopped {
-        false => finish(rt, alloc, hall, mux, pass, player, air, gate),
+        false => finish(rt, alloc, hall, mux, pass, player, board, air, gate),
         true => Ok(()),
     }
 }
@@ -211,15 +223,19 @@ fn finish_after<W: Wait, A: Sink, G: Gate>(
     mux: &Mux,
     pass: &mut HallPass,
     player: &mut Player,
+    board: &mut BoardWriter,
     air: &mut A,
     gate: &G,
 ) -> Result<(), SendStop>
     requires turns { pass.old.turns ≡ hall.now.turns }
     requires sound { IsSound mux.now }
+    requires board { HaveServicesOf mux.now board.old.posts }
     requires stands { pass.old.on ≡ Some mux.now }
     requires ready { OnOk end ((xs : List Aired) × AtEnd xs player.old) }
     ensures did { SentDid end stopped mux.now pass.old pass.new player.old player.new (A.written air.old) (A.written air.new) result }
     ensures cause { OnOk end (HasAirCause (A.faults air.old) (A.faults air.new) result) }
+    ensures posted { OnOk result (HasPosted mux.now pass.old pass.new board.old board.new) }
+    ensures board { KeepsBoard board.old board.new }
     ensures later { A.faults air.old ≤ A.faults air.new }
     ensures same { A.same air.old air.new }
     ensures same_on { (a : _) → A.same a air.old → A.same a air.new }
@@ -229,7 +245,9 @@ fn finish_after<W: Wait, A: Sink, G: Gate>(
     ensures stands { pass.new.on ≡ pass.old.on }
 {
     match end {
-        Ok(()) => finish_unless(rt, alloc, hall, stopped, mux, pass, player, air, gate),
+        Ok(()) => finish_unless(
+            rt, alloc, hall, stopped, mux, pass, player, board, air, gate,
+        ),
         Err(stop) => Err(stop),
     }
 }
@@ -257,11 +275,14 @@ fn end_live<W: Wait, F: Source, S: Source, A: Sink, G: Gate>(
     mut back: Vec<LineReader<F>>,
     mut pass: HallPass,
     player: PlayerJob,
+    board: &mut BoardWriter,
     air: &mut A,
     gate: &G,
 ) -> Ended<F, S>
     requires turns { (pass.turns ≡ hall.turns) × (player.pass.turns ≡ hall.turns) × AllOf hall.turns feeds.items }
     requires sound { IsSound player.mux }
+    requires board { HaveServicesOf player.mux board.old.posts }
+    requires posted { OnOk player.end (HasPostedAll player.mux player.pass board.old) }
     requires stands { pass.on ≡ Some player.mux }
     requires ready { OnOk player.end ((xs : List Aired) × AtEnd xs player.player) }
     requires alone { (pass.finished ≡ []) × (player.pass.finished ≡ []) }
@@ -274,6 +295,8 @@ fn end_live<W: Wait, F: Source, S: Source, A: Sink, G: Gate>(
     ensures lines { result.lines ≡ lines }
     ensures did { EndDid player.mux pass player.pass (callers_back feeds.items) player.player player.end (halts player.end control (first_stop feeds.items)) (A.written air.old) (A.written air.new) result.desk.entries result.sent }
     ensures mux { result.desk.mux ≡ player.mux }
+    ensures posted { OnOk result.sent (board.new.posts ≡ posts_of player.mux result.desk.entries) }
+    ensures board { KeepsBoard board.old board.new }
     ensures cause { OnOk player.end (HasAirCause (A.faults air.old) (A.faults air.new) result.sent) }
     ensures later { A.faults air.old ≤ A.faults air.new }
     ensures same_on { (a : _) → A.same a air.old → A.same a air.new }
@@ -300,6 +323,7 @@ fn end_live<W: Wait, F: Source, S: Source, A: Sink, G: Gate>(
         &mux,
         &mut pass,
         &mut player,
+        board,
         air,
         gate,
     );
@@ -351,6 +375,8 @@ fn run_jobs<W: Threads + Wait + Sync, F: Source + Send, S: Source + Send, A: Sin
     mut control: ControlJob<S>,
     mut player: PlayerJob,
     back: Vec<LineReader<F>>,
+    views: &mut [ViewJob],
+    board: &mut BoardWriter,
     air: &mut A,
     gate: &G,
 ) -> Ended<F, S>
@@ -361,12 +387,17 @@ fn run_jobs<W: Threads + Wait + Sync, F: Source + Send, S: Source + Send, A: Sin
     requires ready { AtEnd [] player.player }
     requires quota { player.player.quota ≡ player.mux.quota }
     requires few { player.cycles < 2 ^ 32 }
+    requires opening { board.old.posts ≡ opening_of player.mux ∷ [] }
+    requires views { All ViewReady views.old }
     requires room { (vec_len back ≡ 0) × (back.items ≡ []) × (length feeds.items ≤ vec_capacity back) }
     ensures did { (readers : List _) → feeds.items ≡ jobs_back hall.turns player.mux 1 readers → (d : LiveDid F.left F.faults F.same S.left S.faults S.same hall.turns player.mux player.cycles readers control.lines player.player (A.written air.old) (A.written air.new) result.desk.entries result.sent) × (result.feeds.items ≡ lines_back d.feeds) × (result.lines ≡ d.control.lines) × (result.control ≡ d.control.stop) × (result.feed ≡ first_stop d.feeds) }
     ensures cause { HasAirCause (A.faults air.old) (A.faults air.new) result.sent }
     ensures later { A.faults air.old ≤ A.faults air.new }
     ensures same { A.same air.old air.new }
     ensures mux { result.desk.mux ≡ player.mux }
+    ensures posted { OnOk result.sent (board.new.posts ≡ posts_of player.mux result.desk.entries) }
+    ensures board { KeepsBoard board.old board.new }
+    ensures views { ViewsDid views.old views.new }
     ensures stop { result.stop ≡ run_stop result.sent result.control result.feed }
 {
     run_side_by_side(
@@ -376,17 +407,20 @@ fn run_jobs<W: Threads + Wait + Sync, F: Source + Send, S: Source + Send, A: Sin
         feeds.as_mut_slice(),
         &mut control,
         &mut player,
+        views,
+        board,
         air,
         gate,
     );
     let ControlJob { pass, lines, stop } = control;
     end_live(
-        rt, alloc, hall, feeds, stop, lines, back, pass, player, air, gate,
+        rt, alloc, hall, feeds, stop, lines, back, pass, player, board, air, gate,
     )
 }
 
-/// Runs feeds, control and player side by side over a fresh desk: the control is caller 0, the player caller 1, and feed f caller
-/// f + 1. `AllocError` is want of memory before any job has started, and leaves the air as it was.
+/// Runs feeds, control, player and viewers side by side over a fresh desk: the control is caller 0, the player caller 1, and feed f
+/// caller f + 1. Before each cycle the publication that it sends is posted on the board; where all was sent, its posts are those of
+/// the journal. `AllocError` is want of memory before any job has started, and leaves the air as it was.
 pub fn run_hall<
     W: Threads + Wait + Sync,
     F: Source + Send,
@@ -400,15 +434,22 @@ pub fn run_hall<
     cycles: u64,
     feeds: Vec<LineReader<F>>,
     control: LineReader<S>,
+    views: &mut [ViewJob],
+    board: &mut BoardWriter,
     air: &mut A,
     gate: &G,
 ) -> Result<Ended<F, S>, AllocError>
     requires sound { IsSound mux }
     requires few { length feeds.items ≤ 16 }
     requires cycles { cycles ≤ 1000 }
+    requires opening { board.old.posts ≡ opening_of mux ∷ [] }
+    requires views { All ViewReady views.old }
     ensures did { IfOk result (λ end. HasRun F.left F.faults F.same S.left S.faults S.same mux cycles feeds.items control (A.written air.old) (A.written air.new) end) }
     ensures mux { IfOk result (λ end. end.desk.mux ≡ mux) }
     ensures stop { IfOk result (λ end. end.stop ≡ run_stop end.sent end.control end.feed) }
+    ensures posted { IfOk result (λ end. OnOk end.sent (board.new.posts ≡ posts_of mux end.desk.entries)) }
+    ensures board { KeepsBoard board.old board.new }
+    ensures views { OnOk result (ViewsDid views.old views.new) }
     ensures cause { IfOk result (λ end. HasAirCause (A.faults air.old) (A.faults air.new) end.sent) }
     ensures memory { OnErr result (air.new ≡ air.old) }
     ensures same { OnOk result (A.same air.old air.new) }
@@ -433,5 +474,7 @@ pub fn run_hall<
         player,
         end: Ok(()),
     };
-    Ok(run_jobs(rt, alloc, hall, jobs, control, player, back, air, gate))
+    Ok(run_jobs(
+        rt, alloc, hall, jobs, control, player, back, views, board, air, gate,
+    ))
 }

@@ -1,20 +1,22 @@
-// The job of the player, which swaps, and sends a cycle after each swap.
+// The job of the player, which swaps, posts what each swap puts on air, and sends its cycle.
 ghost use Rattle.std.specs.Prelude.{◌≡◌, ◌≤◌, ◌<◌, ◌^◌, [], List, Some, OnOk};
 ghost use Rattle.air_model.specs.Air.{Aired};
 ghost use Rattle.carousel_player.specs.Playing.{AtEnd};
 ghost use Rattle.mux_model.specs.Sound.{IsSound};
 ghost use Rattle.headend_jobs.specs.OnAir.{HasAirCause};
 ghost use Rattle.headend_jobs.specs.Playing.{SwapPlayed, SwapsPlayed};
+ghost use Rattle.headend_jobs.specs.Posting.{HasPosted, HaveServicesOf, KeepsBoard};
 
 use crate::send::{SendStop, send_cycle};
 use carousel_player::Player;
 use desk_hall::{Hall, HallPass};
+use guide_board::BoardWriter;
 use mux_model::Mux;
 use si_causes::{Gate, Place, Sink};
 use std::alloc::Global;
 use std::sync::Wait;
 
-// One swap, and the cycle of what it puts on air.
+// One swap, the post of what it puts on air, and its cycle.
 fn swap_and_send<W: Wait, A: Sink>(
     rt: &W,
     alloc: Global,
@@ -22,13 +24,17 @@ fn swap_and_send<W: Wait, A: Sink>(
     mux: &Mux,
     pass: &mut HallPass,
     player: &mut Player,
+    board: &mut BoardWriter,
     air: &mut A,
 ) -> Result<(), SendStop>
     requires turns { pass.old.turns ≡ hall.now.turns }
     requires sound { IsSound mux.now }
     requires stands { pass.old.on ≡ Some mux.now }
     requires at_end { player.old.left ≡ [] }
+    requires board { HaveServicesOf mux.now board.old.posts }
     ensures played { SwapPlayed mux.now pass.old pass.new player.old player.new (A.written air.old) (A.written air.new) result }
+    ensures posted { OnOk result (HasPosted mux.now pass.old pass.new board.old board.new) }
+    ensures board { KeepsBoard board.old board.new }
     ensures cause { HasAirCause (A.faults air.old) (A.faults air.new) result }
     ensures later { A.faults air.old ≤ A.faults air.new }
     ensures same { A.same air.old air.new }
@@ -37,10 +43,11 @@ fn swap_and_send<W: Wait, A: Sink>(
         Ok(airing) => airing,
         Err(_) => return Err(SendStop::Memory),
     };
+    board.post(rt, airing.number, &airing.guide)?;
     send_cycle(alloc, mux, &airing, player, air)
 }
 
-/// Makes so many swaps, and sends a whole cycle after each.
+/// Makes so many swaps, posts what each puts on air, and sends a whole cycle of it.
 pub(crate) fn play<W: Wait, A: Sink, G: Gate>(
     rt: &W,
     alloc: Global,
@@ -49,6 +56,7 @@ pub(crate) fn play<W: Wait, A: Sink, G: Gate>(
     cycles: u64,
     pass: &mut HallPass,
     player: &mut Player,
+    board: &mut BoardWriter,
     air: &mut A,
     gate: &G,
 ) -> Result<(), SendStop>
@@ -57,15 +65,18 @@ pub(crate) fn play<W: Wait, A: Sink, G: Gate>(
     requires stands { pass.old.on ≡ Some mux.now }
     requires ready { (xs : List Aired) × AtEnd xs player.old }
     requires few { cycles < 2 ^ 32 }
+    requires board { HaveServicesOf mux.now board.old.posts }
     ensures played { SwapsPlayed mux.now cycles pass.old pass.new player.old player.new (A.written air.old) (A.written air.new) result }
     ensures ready { OnOk result ((xs : List Aired) × AtEnd xs player.new) }
+    ensures posted { OnOk result (HasPosted mux.now pass.old pass.new board.old board.new) }
+    ensures board { KeepsBoard board.old board.new }
     ensures cause { HasAirCause (A.faults air.old) (A.faults air.new) result }
     ensures later { A.faults air.old ≤ A.faults air.new }
     ensures same { A.same air.old air.new }
 {
     'swaps: for made in 0..cycles {
         gate.pass(Place::BeforeSwap(made + 1));
-        match swap_and_send(rt, alloc, hall, mux, pass, player, air) {
+        match swap_and_send(rt, alloc, hall, mux, pass, player, board, air) {
             Ok(()) => gate.pass(Place::AfterSwap(made + 1)),
             Err(stop) => return Err(stop),
         }

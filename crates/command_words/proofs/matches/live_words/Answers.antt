@@ -1,9 +1,11 @@
 use Rattle.std.proofs.Common.{◌≡◌, ◌∙◌, ap, refl, sym, ℕ, List, Bor, Some, map}
-use Rattle.std.specs.Prelude.{is_some}
+use Rattle.std.specs.Prelude.{codes, is_some, option_map}
+use Rattle.clap.specs.Matches.{matched_of, raw_values}
+use Rattle.command_words.specs.Matches.{values_or_none}
 use Rattle.clap.specs.Words.{found_of}
 use Rattle.input_lines.specs.Numbers.{number_in}
 use Rattle.command_words.specs.Commands.{texts}
-use Rattle.command_words.proofs.Getting.{got, mapped, said}
+use Rattle.command_words.proofs.Getting.{all_read, got, mapped, said, views_got}
 use Rattle.command_words.proofs.matches.live_words.Goals as goal
 
 pub unwrap-cycles-requires : goal.unwrap-cycles-requires
@@ -45,4 +47,8 @@ returns c =
     got (λ (b : Bor (List (Bor (List ℕ)))). map now b.now) c.get_strs.result c.unwrap.result s.feeds (c.get_strs.ensures ∙ s.feeds_are) c.unwrap.ensures ∙ sym c.in_ok-copies.ensures in
     let cycles : s.cycles ≡ c.from.result = (let same : s.cycles ≡ c.unwrap-2.result = cc cycles_are in same) ∙ sym c.from.ensures in
     let join : s.join ≡ c.from-2.result = (let same : s.join ≡ c.unwrap-3.result = cc join_is in same) ∙ sym c.from-2.ensures in
-    s.line_is ∙ rw (feeds, cycles, join) refl
+    let views : s.views ≡ c.in_ok-views.field-0 =
+    sym (all_read (number_in 0 65535) (values_or_none (option_map raw_values (matched_of (found_of c.in_ok-matches.matches) (codes "view")))) s.views s.views_read)
+    ∙ sym (views_got (number_in 0 65535) (λ (b : Bor (List (Bor (List ℕ)))). map now b.now) c.get_strs-2.result (option_map raw_values (matched_of (found_of c.in_ok-matches.matches) (codes "view"))) c.in_ok-views.field-0
+    c.get_strs-2.ensures c.in_ok-views.ensures.some c.in_ok-views.ensures.none) in
+    s.line_is ∙ rw (feeds, cycles, join, views) refl

@@ -1,14 +1,16 @@
-use Rattle.std.proofs.Common.{◌≡◌, ◌∙◌, ap, sym, subst}
+use Rattle.std.proofs.Common.{◌≡◌, ◌∙◌, ap, refl, sym, subst}
+use Rattle.turn_lock.specs.Journal.{entries_of}
 use Rattle.std.specs.Prelude.{Option, Some, ◌||◌, is_some}
 use Rattle.headend_jobs.specs.declared.live.LiveStop.{LiveStop}
 use Rattle.mux_model.specs.declared.mux.Mux.{Mux}
 use Rattle.desk_core.specs.Journal.{Legal}
 use Rattle.turn_lock.proofs.Lists.{prefix_trans}
-use Rattle.desk_hall.specs.Turn.{View}
+use Rattle.desk_hall.specs.Turn.{View, caller_of}
 use Rattle.headend_jobs.specs.Live.{callers_back, first_stop}
 use Rattle.desk_hall.proofs.Turns.{some_same}
 use Rattle.headend_jobs.proofs.ManyJobs.{finished_is, has_same}
 use Rattle.headend_jobs.proofs.Ending.{ended}
+use Rattle.headend_jobs.proofs.Posts.{ok_before, ok_both, posted_whole}
 use Rattle.headend_jobs.proofs.live.end_live.Goals as goal
 
 pub close-desk-requires-clause-whole : goal.close-desk-requires-clause-whole
@@ -38,3 +40,19 @@ returns-clause-did g c =
     })
     c.finish_after-sent.new.player c.args.player.end c.any_stop-stopped.result c.args.control (first_stop c.args.feeds.items) c.finish_after-sent.result
     (c.any_stop-stopped.ensures ∙ ap (λ (o : Option LiveStop). is_some c.args.control || is_some o) c.join_all-feed.ensures.stop) c.finish_after-sent.ensures.did
+
+pub returns-clause-posted : goal.returns-clause-posted
+returns-clause-posted g c =
+    let mux = c.args.player.mux in
+    let v = c.join_all-feed.new.pass in
+    let w = c.finish_after-sent.new.pass in
+    let journal = c.close-desk.result.entries in
+    let own = c.join_all-feed.ensures.own ∙ ap (λ (z : View). z.own) c.join.ensures.joined in
+    let low : w.own.low ≡ c.args.pass.own.low = c.finish_after-sent.ensures.numbers.0 ∙ ap (λ z. z.low) own in
+    let end = returns-clause-did g c in
+    ok_both _ _ _ c.finish_after-sent.result
+    (posted_whole mux c.args.pass.own c.args.player.pass.own (callers_back c.args.feeds.items) end.final journal c.args.player.pass v w c.args.board.now c.finish_after-sent.new.board end.journal_did
+    refl own (ap (λ k. entries_of caller_of k journal) (sym low) ∙ c.close-desk.ensures.closes.exact.made.0)
+    (prefix_trans c.args.player.pass.seen c.join.new.self.seen v.seen c.join.ensures.told c.join_all-feed.ensures.began) c.close-desk.ensures.closes.began)
+    (ok_before _ c.args.player.end c.finish_after-sent.result c.finish_after-sent.ensures.failed c.requires.posted)
+    c.finish_after-sent.ensures.posted

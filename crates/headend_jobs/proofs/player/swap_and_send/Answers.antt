@@ -1,4 +1,7 @@
-use Rattle.std.proofs.Common.{ap, inl}
+use Rattle.std.proofs.Common.{◌≡◌, ◌∙◌, ap, inl, subst, sym}
+use Rattle.guide_board.specs.Posts.{IsInOrder, services_in, services_of, with_post}
+use Rattle.desk_core.specs.declared.airing.Airing.{Airing}
+use Rattle.headend_jobs.proofs.Posts.{guide_in_order, if_ok, post_services, posted_swap}
 use Rattle.headend_jobs.proofs.Airs.{airing_services, stands_still}
 use Rattle.headend_jobs.proofs.player.swap_and_send.Goals as goal
 
@@ -16,3 +19,21 @@ returns-clause-played g c = inl (record {
   quota = c.send_cycle.ensures.quota;
   wanting = λ e. ap g.A.Sink.written (c.send_cycle.ensures.memory e).0;
 })
+
+pub post-requires-clause-order : goal.post-requires-clause-order
+post-requires-clause-order g c = subst (λ (a : Airing). IsInOrder a.guide) (sym c.airing.view_is) (guide_in_order c.in-Ok.airing.guide c.in-Ok.ensures.within)
+
+pub post-requires-clause-services : goal.post-requires-clause-services
+post-requires-clause-services g c =
+    subst (λ (a : Airing). services_of a.guide ≡ services_in c.args.board.now.posts) (sym c.airing.view_is)
+    (post_services c.args.mux.now c.in-Ok.airing.guide c.args.board.now.posts
+    (airing_services c.args.mux.now c.in-Ok.airing c.swap.new.pass
+    (c.in-Ok.ensures.airing c.args.mux.now (stands_still c.args.mux.now _ _ c.args.pass.now c.swap.new.pass c.requires.stands c.in-Ok.ensures.made)))
+    c.requires.board)
+
+pub returns-clause-posted : goal.returns-clause-posted
+returns-clause-posted g c =
+    if_ok _ c.send_cycle.result
+    (posted_swap c.args.mux.now c.in-Ok.airing c.args.pass.now c.swap.new.pass c.args.board.now c.post.new.self c.in-Ok.ensures.made
+    (c.in-Ok.ensures.airing c.args.mux.now (stands_still c.args.mux.now _ _ c.args.pass.now c.swap.new.pass c.requires.stands c.in-Ok.ensures.made))
+    (c.in_ok-post.ensures.posted ∙ ap (λ (a : Airing). with_post c.args.board.now a.number a.guide) c.airing.view_is))
