@@ -1,5 +1,5 @@
 -- A run whose air is heard.
-use Rattle.std.specs.Prelude.{◌≡◌, ◌≢◌, ◌↔◌, ℕ, Bool, true, false, List, drop, Option, Some, None, IfSome, IsSome, Result}
+use Rattle.std.specs.Prelude.{◌≡◌, ◌≢◌, ◌↔◌, ◌+◌, ℕ, Bool, true, false, List, [], drop, Option, Some, None, IfSome, IsSome, Result}
 use Rattle.std.specs.Io.KnownBytes.{Appends}
 use Rattle.mux_model.specs.declared.mux.Mux.{Mux}
 use Rattle.si_causes.specs.Reading.{Reading}
@@ -19,6 +19,8 @@ use Rattle.headend_jobs.specs.declared.send.SendStop.{SendStop}
 use Rattle.headend_jobs.specs.OnAir.{HasAirCause}
 use Rattle.headend_jobs.specs.Back.{lines_back}
 use Rattle.headend_jobs.specs.Callers.{HaveTheirCommands}
+use Rattle.headend_jobs.specs.Posting.{posts_of}
+use Rattle.headend_live.specs.Viewing.{AreViewed}
 use Rattle.headend_jobs.specs.Live.{LiveDid, and_stop, first_stop, run_stop}
 
 -- the guide that the whole packets of an air give, from packet `join` on
@@ -55,7 +57,8 @@ watched_stop wanting stop = and_stop (wanting_stop wanting) stop
 -- air has the cycles of that journal, or a front of them. The stop is want of memory, whoever met it, or else the first in the order
 -- air, control, feeds by number. The readers are as the jobs left them, in the order of the feeds. Where the air tells its bytes, the
 -- completions are those of its whole packets from one on, or a front of them where the stop is want of memory. The guide is told exactly where
--- there is no stop (`told`), and then is the one that these packets give (`whole`).
+-- there is no stop (`told`), and then is the one that these packets give (`whole`). Where there is none, each view has its lines, over
+-- the posts of that journal (`viewed`), and else none has any (`unviewed`).
 pub record WatchedRan {F S : Type 0} (left : F → Option (List ℕ)) (faults : F → ℕ) (is_same : F → F → Type 0) (leftS : S → Option (List ℕ)) (faultsS : S → ℕ) (is_sameS : S → S → Type 0)
     (mux : Mux) (plan : LivePlan) (feeds : List (Reading F)) (control : Reading S) (before now : Option (List ℕ)) (faults_before faults_now : ℕ) (end : LiveEnd F S) : Type 0 where
   pub mux_is : end.desk.mux ≡ mux
@@ -73,3 +76,5 @@ pub record WatchedRan {F S : Type 0} (left : F → Option (List ℕ)) (faults : 
   pub heard : (bytes : List ℕ) → before ≡ Some bytes → HeardOfAir plan.join before now wanting receiver end.dones
   pub whole : (bytes : List ℕ) → before ≡ Some bytes → end.stop ≢ Some live.Memory → HeardWhole plan.join before now receiver end.dones end.heard
   pub told : IsSome end.heard ↔ (end.stop ≡ None)
+  pub viewed : end.stop ≡ None → AreViewed (posts_of mux end.desk.entries) (plan.cycles + 1) plan.views end.viewers end.views
+  pub unviewed : end.stop ≢ None → end.views ≡ []

@@ -1,5 +1,5 @@
-// A run of feeds, control and player, whose air is heard.
-ghost use Rattle.std.specs.Prelude.{◌≡◌, ◌≤◌, ◌↔◌, Bool, true, false, List, ℕ, Option, None, Some, OnErr, IfOk, IfSome, IsSome, [], length};
+// A run of feeds, control, player and viewers, whose air is heard.
+ghost use Rattle.std.specs.Prelude.{◌≡◌, ◌≤◌, ◌↔◌, ◌≢◌, ◌+◌, ◌∷◌, Bool, true, false, List, ℕ, Option, None, Some, OnOk, OnErr, IfOk, IfSome, IsSome, [], length};
 ghost use Rattle.mux_model.specs.Sound.{IsSound, IsSoundWithIds};
 ghost use Rattle.air_coherence.specs.Coherence.{SentCoherent};
 ghost use Rattle.carousel_player.specs.Spaced.{SentSpaced};
@@ -10,36 +10,45 @@ ghost use Rattle.journal_screen.specs.Shown.{IsAsRead, SentExact};
 ghost use Rattle.guide_receiver.specs.Guides.{guide_of};
 ghost use Rattle.air_monitor.specs.Heard.{HasTaken, HearsBy, WasHeard};
 ghost use Rattle.headend_jobs.specs.Callers.{HasRun};
+ghost use Rattle.std.specs.List.{All, AllByRecursion};
+ghost use Rattle.headend_jobs.specs.Posting.{KeepsBoard, opening_of, posts_of};
+ghost use Rattle.headend_jobs.specs.Views.{ViewReady, ViewsDid};
+ghost use Rattle.headend_live.specs.Viewing.{AreViewed, IsAsked, IsServiceOf, asked_for};
 ghost use Rattle.headend_live.specs.Watched.{WatchedRan, wanting_stop, watched_stop};
 ghost use Rattle.headend_jobs.specs.Live.{run_stop};
 
+use crate::views::{Numbers, ViewLines, Views, gather, open_views};
 use air_monitor::{DoneLines, Monitor, MonitorLog};
 use desk_core::Desk;
+use guide_board::{BoardWriter, Viewers};
 use guide_receiver::Heard;
-use headend_jobs::{Ended, LiveStop, and_stop, run_hall};
+use headend_jobs::{Ended, LiveStop, ViewJob, and_stop, run_hall};
 use mux_model::Mux;
 use si_causes::{Gate, LineReader, Sink, Source};
 use std::alloc::{AllocError, Global};
 use std::sync::Wait;
 use std::thread::Threads;
 
-/// How many cycles the player sends, and from which packet on, counted from 0, the air is heard.
-#[derive(Clone, Copy, PartialEq, Eq)]
+/// How many cycles the player sends, from which packet on, counted from 0, the air is heard, and for which services viewers ask.
+#[derive(Drop)]
 pub struct LivePlan {
     pub cycles: u64,
     pub join: u64,
+    pub views: Numbers,
 }
 
 /// The readers of the feeds, in the order of their numbers.
 pub type Readers<F> = Vec<LineReader<F>>;
 
-/// What a run leaves: the desk with its journal, the completions that were heard, the guide that was heard where nothing stopped it, why
-/// it stopped, and the readers as its jobs left them.
+/// What a run leaves: the desk with its journal, the completions that were heard, the guide that was heard where nothing stopped it, the
+/// lines of the views and the viewer of each, why it stopped, and the readers as its jobs left them.
 #[derive(Drop)]
 pub struct LiveEnd<F: Source, S: Source> {
     pub desk: Desk,
     pub dones: DoneLines,
     pub heard: Option<Heard>,
+    pub views: ViewLines,
+    pub viewers: Viewers,
     pub stop: Option<LiveStop>,
     pub feeds: Readers<F>,
     pub control: LineReader<S>,
@@ -87,6 +96,55 @@ fn guide_and_stop(log: &MonitorLog, stop: Option<LiveStop>) -> (Option<Heard>, O
     }
 }
 
+// What the views leave, where nothing stopped the run.
+fn views_unless(
+    stop: Option<LiveStop>,
+    board: &mut BoardWriter,
+    jobs: Vec<ViewJob>,
+    room: Views,
+) -> Result<Views, AllocError>
+    requires asked { (cycles : ℕ) × AllByRecursion (IsAsked board.old cycles) jobs.items }
+    requires none { (room.lines ≡ []) × (room.viewers ≡ []) }
+    ensures { (cycles : ℕ) → AllByRecursion (IsAsked board.old cycles) jobs.items → stop ≡ None
+        → IfOk result (λ views. AreViewed board.old.posts (cycles + 1) (asked_for jobs.items) views.viewers views.lines) }
+{
+    match stop {
+        None => gather(board, jobs, room),
+        Some(_) => Ok(room),
+    }
+}
+
+// What the views leave, and the stop of a run, where want of memory for them is a stop too.
+fn views_and_stop(
+    alloc: Global,
+    board: &mut BoardWriter,
+    jobs: Vec<ViewJob>,
+    room: Views,
+    stop: Option<LiveStop>,
+) -> (Views, Option<LiveStop>)
+    requires asked { (cycles : ℕ) × AllByRecursion (IsAsked board.old cycles) jobs.items }
+    requires none { (room.lines ≡ []) × (room.viewers ≡ []) }
+    ensures stop { (wanting : Bool) × (result.1 ≡ watched_stop wanting stop) }
+    ensures viewed { (cycles : ℕ) → AllByRecursion (IsAsked board.old cycles) jobs.items → result.1 ≡ None
+        → AreViewed board.old.posts (cycles + 1) (asked_for jobs.items) result.0.viewers result.0.lines }
+{
+    match views_unless(stop, board, jobs, room) {
+        Ok(views) => (views, stop),
+        Err(_) => (Views::none(alloc), Some(LiveStop::Memory)),
+    }
+}
+
+// These views, where nothing stopped the run.
+fn shown_views(alloc: Global, stop: Option<LiveStop>, views: Views) -> Views
+    ensures shown { stop ≡ None → result ≡ views }
+    ensures none { stop ≢ None → result.lines ≡ [] }
+{
+    match stop {
+        None => views,
+        Some(_) => Views::none(alloc),
+    }
+}
+
 // The end of a run, or that it did not begin, and what was heard.
 #[derive(Drop)]
 struct Ran<F: Source, S: Source> {
@@ -108,21 +166,30 @@ fn run_through<
     cycles: u64,
     feeds: Vec<LineReader<F>>,
     control: LineReader<S>,
+    views: &mut [ViewJob],
+    board: &mut BoardWriter,
     monitor: &mut Monitor<&mut A>,
     gate: &G,
 ) -> Result<Ended<F, S>, AllocError>
     requires sound { IsSound mux }
     requires few { length feeds.items ≤ 16 }
     requires cycles { cycles ≤ 1000 }
+    requires opening { board.old.posts ≡ opening_of mux ∷ [] }
+    requires views { All ViewReady views.old }
     ensures did { IfOk result (λ end. HasRun F.left F.faults F.same S.left S.faults S.same mux cycles feeds.items control (A.written monitor.old.air.now) (A.written monitor.new.air.now) end) }
     ensures mux { IfOk result (λ end. end.desk.mux ≡ mux) }
     ensures stop { IfOk result (λ end. end.stop ≡ run_stop end.sent end.control end.feed) }
+    ensures posted { IfOk result (λ end. OnOk end.sent (board.new.posts ≡ posts_of mux end.desk.entries)) }
+    ensures board { KeepsBoard board.old board.new }
+    ensures views { OnOk result (ViewsDid views.old views.new) }
     ensures cause { IfOk result (λ end. HasAirCause (A.faults monitor.old.air.now) (A.faults monitor.new.air.now) end.sent) }
     ensures memory { OnErr result (monitor.new.air ≡ monitor.old.air) }
     ensures reference { monitor.new.air.ghost_name ≡ monitor.old.air.ghost_name }
     ensures watched { HasTaken [] monitor.old.part monitor.old.listener → WasHeard monitor.old.listener.join (A.written monitor.old.air.now) (A.written monitor.new.air.now) monitor.new.listener.wanting monitor.new.listener.receiver monitor.new.listener.dones }
 {
-    run_hall(rt, alloc, mux, cycles, feeds, control, monitor, gate)
+    run_hall(
+        rt, alloc, mux, cycles, feeds, control, views, board, monitor, gate,
+    )
 }
 
 // Runs, and gives back what was heard.
@@ -140,31 +207,53 @@ fn run_and_hear<
     join: u64,
     feeds: Vec<LineReader<F>>,
     control: LineReader<S>,
+    views: &mut [ViewJob],
+    board: &mut BoardWriter,
     air: &mut A,
     gate: &G,
 ) -> Ran<F, S>
     requires sound { IsSound mux }
     requires few { length feeds.items ≤ 16 }
     requires cycles { cycles ≤ 1000 }
+    requires opening { board.old.posts ≡ opening_of mux ∷ [] }
+    requires views { All ViewReady views.old }
     ensures did { IfOk result.end (λ end. HasRun F.left F.faults F.same S.left S.faults S.same mux cycles feeds.items control (A.written air.old) (A.written air.new) end) }
     ensures mux { IfOk result.end (λ end. end.desk.mux ≡ mux) }
     ensures stop { IfOk result.end (λ end. end.stop ≡ run_stop end.sent end.control end.feed) }
+    ensures posted { IfOk result.end (λ end. OnOk end.sent (board.new.posts ≡ posts_of mux end.desk.entries)) }
+    ensures board { KeepsBoard board.old board.new }
+    ensures views { OnOk result.end (ViewsDid views.old views.new) }
     ensures cause { IfOk result.end (λ end. HasAirCause (A.faults air.old) (A.faults air.new) end.sent) }
     ensures memory { OnErr result.end (air.new ≡ air.old) }
     ensures heard { WasHeard join (A.written air.old) (A.written air.new) result.heard.wanting result.heard.receiver result.heard.dones }
 {
     let mut monitor = Monitor::open(alloc, &mut *air, join);
-    let end = run_through(rt, alloc, mux, cycles, feeds, control, &mut monitor, gate);
+    let end = run_through(
+        rt,
+        alloc,
+        mux,
+        cycles,
+        feeds,
+        control,
+        views,
+        board,
+        &mut monitor,
+        gate,
+    );
     let heard = monitor.take_log();
     let _air = monitor.close();
     Ran { end, heard }
 }
 
-/// Runs feeds, control and player side by side over a fresh desk, in threads where they can be had: the control is caller 0, the
-/// player caller 1, and feed f caller f + 1. The player makes its swaps, each followed by its whole cycle; the others do the lines
+/// Runs feeds, control, player and viewers side by side over a fresh desk, in threads where they can be had: the control is caller 0,
+/// the player caller 1, and feed f caller f + 1. The player makes its swaps, each followed by its whole cycle; the others do the lines
 /// that their readers still have. A job that meets a fault ends, and the others go on. Where none met one, caller 0 then publishes,
 /// swaps, and swaps again, with a cycle behind each swap. The packets of the air are heard from packet `plan.join` on; where nothing
 /// stopped the run, the guide of these packets is told.
+///
+/// Each publication is posted on a board before its cycle, the multiplex's own before any. For each of `plan.views` a viewer asks the
+/// board for the present and the following event of its service, as often as there are cycles. Where nothing stopped the run, it then
+/// learns what was posted and asks once more.
 ///
 /// `AllocError` is want of memory before any job has started, and leaves the air as it was.
 pub fn run_live<
@@ -186,6 +275,7 @@ pub fn run_live<
     requires sound { IsSound mux }
     requires few { length feeds.items ≤ 16 }
     requires cycles { plan.cycles ≤ 1000 }
+    requires views { (length plan.views ≤ 8) × AllByRecursion (IsServiceOf mux) plan.views }
     ensures ran { IfOk result (λ end. WatchedRan F.left F.faults F.same S.left S.faults S.same mux plan feeds.items control (A.written air.old) (A.written air.new) (A.faults air.old) (A.faults air.new) end) }
     // What was sent is coherent: of any part of its packets no content is ever completed from two airings.
     ensures coherent { IfOk result (λ end. IsSoundWithIds mux → HasTypedEdits end.desk.entries → SentCoherent (airings mux end.desk.entries) (A.written air.old) (A.written air.new)) }
@@ -196,29 +286,46 @@ pub fn run_live<
     ensures exact { IfOk result (λ end. IsAsRead mux end.desk.entries → SentExact mux end.desk.entries (A.written air.old) (A.written air.new)) }
     ensures memory { OnErr result (air.new ≡ air.old) }
 {
+    let LivePlan {
+        cycles,
+        join,
+        views,
+    } = plan;
+    let room = Views::room(alloc, views.len(), cycles)?;
+    let (mut board, mut jobs) = open_views(rt, alloc, &mux, views.as_slice(), cycles)?;
     let Ran { end, heard } = run_and_hear(
         rt,
         alloc,
         mux,
-        plan.cycles,
-        plan.join,
+        cycles,
+        join,
         feeds,
         control,
+        jobs.as_mut_slice(),
+        &mut board,
         air,
         gate,
     );
     match end {
         Ok(end) => {
-            let (guide, stop) = guide_and_stop(&heard, end.stop);
+            let (views, stop) = views_and_stop(alloc, &mut board, jobs, room, end.stop);
+            board.close(rt);
+            let (guide, stop) = guide_and_stop(&heard, stop);
+            let views = shown_views(alloc, stop, views);
             Ok(LiveEnd {
                 desk: end.desk,
                 dones: heard.dones,
                 heard: guide,
+                views: views.lines,
+                viewers: views.viewers,
                 stop,
                 feeds: end.feeds,
                 control: end.lines,
             })
         }
-        Err(error) => Err(error),
+        Err(error) => {
+            board.close(rt);
+            Err(error)
+        }
     }
 }
