@@ -113,14 +113,11 @@ line_if feeds cycles join views true true few less c = (few refl, c, less refl)
 line_if feeds cycles join views true false few less c = tt
 line_if feeds cycles join views false less few more c = tt
 
-nat_le_holds : (m n : ℕ) → nat_le m n ≡ true → m ≤ n
-nat_le_holds m n e = grind (arith, nat_tests)
-
 with_within : (feeds : List (List ℕ)) (cycles joins views : List ℕ) → AllByRecursion (λ (n : ℕ). n ≤ 1000) cycles → IfLine (live_with feeds cycles joins views)
 with_within feeds [] joins views all = tt
 with_within feeds (n ∷ []) [] views all = tt
 with_within feeds (n ∷ []) (j ∷ []) views all =
-    line_if feeds n j views (in_range 1 16 (length feeds)) (nat_le (length views) 8) (in_range_high 1 16 (length feeds)) (nat_le_holds (length views) 8) all.0
+    line_if feeds n j views (in_range 1 16 (length feeds)) (nat_le (length views) 8) (in_range_high 1 16 (length feeds)) (λ (e : nat_le (length views) 8 ≡ true). grind (arith, nat_tests)) all.0
 with_within feeds (n ∷ []) (i ∷ j ∷ joins) views all = tt
 with_within feeds (m ∷ n ∷ cycles) joins views all = tt
 

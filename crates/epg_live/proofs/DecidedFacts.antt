@@ -2,6 +2,7 @@
 use Rattle.std.proofs.Common.{◌≡◌, ◌⊎◌, inl, inr, ℕ, ◌+◌, List, [], ◌∷◌, ◌++◌, map, refl, sym, ap, ◌∙◌, subst}
 use Rattle.std.specs.Prelude.{Option, Some, None, Ok, Err, Result}
 use Rattle.std.specs.List.{AllByRecursion}
+use Rattle.headend_live.specs.declared.watched.LivePlan.{LivePlan}
 use Rattle.si_causes.specs.Causes.{Rose}
 use Rattle.si_causes.specs.Opening.{Files, file_at}
 use Rattle.si_causes.specs.declared.stop.ReadStop.TheVariants.{Failed, TooLong as Overlong}
@@ -21,15 +22,15 @@ use Rattle.headend_jobs.specs.declared.live.LiveStop.TheVariants as live
 use Rattle.headend_jobs.specs.declared.send.SendStop.{SendStop}
 use Rattle.headend_jobs.specs.declared.send.SendStop.TheVariants as send
 use Rattle.headend_jobs.specs.Live.{after, and_stop, control_stop, or_feed, run_stop}
-use Rattle.epg_live.specs.declared.reporting.HeardAir.{HeardAir}
+use Rattle.epg_live.specs.declared.reporting.Observed.{Observed}
 use Rattle.epg_report.specs.declared.status.Status.{Status}
-use Rattle.epg_report.specs.declared.status.Status.TheVariants.{Done, BadMux, TooLong, OpenFault, ReadFault, WriteFault, Memory}
+use Rattle.epg_report.specs.declared.status.Status.TheVariants.{Done, BadMux, TooLong, OpenFault, ReadFault, WriteFault, Memory, NoView}
 use Rattle.epg_report.specs.declared.status.Origin.TheVariants.{Input, Feed}
 use Rattle.epg_report.specs.declared.status.Outlet.TheVariants.{Air}
 use Rattle.epg_report.specs.Told.{ReportTaken}
 use Rattle.epg_live.specs.Stops.{HasStatusCause, HaveReadCauses, feeds_stop, live_status}
 use Rattle.epg_live.specs.Runs.{EndsBefore, FeedsDid, JobsRan, ahead_of, described}
-use Rattle.epg_live.specs.Decided.{AreWhole, HasEdits, feed_text_stop, job_stop, jobs_status, text_status, description_status}
+use Rattle.epg_live.specs.Decided.{AreWhole, HasEdits, feed_text_stop, job_stop, jobs_status, text_status, description_status, views_status}
 use Rattle.epg_live.specs.Ends.{HasMet, ReportEnds, run_text}
 use Rattle.epg_live.specs.Leaves.{LeavesLive}
 
@@ -112,55 +113,57 @@ module _ (status : Status) (no_input : status ≡ ReadFault Input → ⊥) (no_a
   run_decided (Ok u) control ahead feeds fed is (inr (inr same)) (inr found) =
       inr (is ∙ ap (λ (o : Option LiveStop). live_status (and_stop (control_stop control) o)) found ∙ ap (λ (o : Option EditStop). live_status (and_stop (control_stop o) fed)) same)
 
-  jobs_decided : (mux : Mux) (cycles join : ℕ) (text : List ℕ) (left : Option (List ℕ)) (behind : Ahead) (paths : List (List ℕ)) (files : Files) (feeds_before feeds_now : ℕ) (before now : Option (List ℕ)) (journal : List Entry) (heard : HeardAir)
-      → (Rose feeds_before feeds_now → ⊥) → JobsRan mux cycles join text left behind paths files feeds_before feeds_now before now journal heard status → (status ≡ Memory) ⊎ (status ≡ jobs_status behind paths files)
-  jobs_decided mux cycles join text left behind paths files feeds_before feeds_now before now journal heard none ran =
+  jobs_decided : (mux : Mux) (plan : LivePlan) (text : List ℕ) (left : Option (List ℕ)) (behind : Ahead) (paths : List (List ℕ)) (files : Files) (feeds_before feeds_now : ℕ) (before now : Option (List ℕ)) (journal : List Entry) (observed : Observed)
+      → (Rose feeds_before feeds_now → ⊥) → JobsRan mux plan text left behind paths files feeds_before feeds_now before now journal observed status → (status ≡ Memory) ⊎ (status ≡ jobs_status behind paths files)
+  jobs_decided mux plan text left behind paths files feeds_before feeds_now before now journal observed none ran =
       run_decided ran.sent ran.control_stop (controls_ahead behind).1 (feeds_stop None 1 ran.feed_stops) (feeds_stop None 1 (map (λ path. feed_text_stop (file_at path files)) paths)) ran.status_is
       (as_ahead (λ values. CommandsAre journal 0 (commands_by 0 control_step values ++ map command_of ran.final)) (controls_ahead behind) ran.control_stop ran.journal_is.control_did)
       (feeds_decided files journal feeds_before feeds_now none None 1 paths ran.feed_stops ran.journal_is.feeds_did ran.causes)
 
 -- ---- the run
 
-fault_status : (paths : List (List ℕ)) (files : Files) (fault : MuxFault) (found : Found Description) → fault_in found ≡ Some fault → description_status found paths files ≡ BadMux fault
-fault_status paths files fault (Came (Ok mux) behind) e = cc e
-fault_status paths files fault (Came (Err here) behind) e = ap BadMux (cc e)
-fault_status paths files fault (Stopped (NoCommand n)) e = ap BadMux (cc e)
-fault_status paths files fault (Stopped other) e = cc e
+fault_status : (views : List ℕ) (paths : List (List ℕ)) (files : Files) (fault : MuxFault) (found : Found Description) → fault_in found ≡ Some fault → description_status found views paths files ≡ BadMux fault
+fault_status views paths files fault (Came (Ok mux) behind) e = cc e
+fault_status views paths files fault (Came (Err here) behind) e = ap BadMux (cc e)
+fault_status views paths files fault (Stopped (NoCommand n)) e = ap BadMux (cc e)
+fault_status views paths files fault (Stopped other) e = cc e
 
-before_decided : (text : List ℕ) (left : Option (List ℕ)) (paths : List (List ℕ)) (files : Files) (status : Status) → EndsBefore text left status → ((f : ℕ) → status ≡ OpenFault f → ⊥) → (status ≡ ReadFault Input → ⊥)
-    → status ≡ text_status text paths files
-before_decided text left paths files (BadMux fault) why no_open no_input = sym (fault_status paths files fault (described text) why)
-before_decided text left paths files (TooLong Input) why no_open no_input = sym (ap (λ (d : Found Description). description_status d paths files) why)
-before_decided text left paths files (ReadFault Input) why no_open no_input = absurd (no_input refl)
-before_decided text left paths files (OpenFault f) why no_open no_input = absurd (no_open f refl)
-before_decided text left paths files (TooLong (Feed f)) why no_open no_input = absurd why
-before_decided text left paths files (ReadFault (Feed f)) why no_open no_input = absurd why
-before_decided text left paths files other why no_open no_input = absurd why
+before_decided : (plan : LivePlan) (text : List ℕ) (left : Option (List ℕ)) (paths : List (List ℕ)) (files : Files) (status : Status) → EndsBefore plan text left status → ((f : ℕ) → status ≡ OpenFault f → ⊥) → (status ≡ ReadFault Input → ⊥)
+    → status ≡ text_status text plan.views paths files
+before_decided plan text left paths files (BadMux fault) why no_open no_input = sym (fault_status plan.views paths files fault (described text) why)
+before_decided plan text left paths files (TooLong Input) why no_open no_input = sym (ap (λ (d : Found Description). description_status d plan.views paths files) why)
+before_decided plan text left paths files (ReadFault Input) why no_open no_input = absurd (no_input refl)
+before_decided plan text left paths files (OpenFault f) why no_open no_input = absurd (no_open f refl)
+before_decided plan text left paths files (NoView service) why no_open no_input =
+    sym (ap (λ (d : Found Description). description_status d plan.views paths files) why.2 ∙ ap (λ (o : Option ℕ). views_status o why.1 paths files) why.3)
+before_decided plan text left paths files (TooLong (Feed f)) why no_open no_input = absurd why
+before_decided plan text left paths files (ReadFault (Feed f)) why no_open no_input = absurd why
+before_decided plan text left paths files other why no_open no_input = absurd why
 
 -- a run that met neither a failed source nor a failed air met what the texts decide
-pub met_decided : (paths : List (List ℕ)) (cycles join : ℕ) (text : List ℕ) (files : Files) (left : Option (List ℕ)) (feeds_before feeds_now : ℕ) (before now : Option (List ℕ)) (journal : List Entry) (heard : HeardAir) (met : Status)
-    → HasMet paths cycles join text files left feeds_before feeds_now before now journal heard met → ((f : ℕ) → met ≡ OpenFault f → ⊥) → (met ≡ ReadFault Input → ⊥) → (met ≡ WriteFault Air → ⊥) → (Rose feeds_before feeds_now → ⊥)
-    → (met ≡ Memory) ⊎ (met ≡ text_status text paths files)
-met_decided paths cycles join text files left feeds_before feeds_now before now journal heard met (inl memory) no_open no_input no_air no_feed = inl memory
-met_decided paths cycles join text files left feeds_before feeds_now before now journal heard met (inr (inl none)) no_open no_input no_air no_feed =
-    inr (before_decided text left paths files met none.why no_open no_input)
-met_decided paths cycles join text files left feeds_before feeds_now before now journal heard met (inr (inr (mux, behind, whole, ran))) no_open no_input no_air no_feed =
-    elim (jobs_decided met no_input no_air mux cycles join text left behind paths files feeds_before feeds_now before now journal heard no_feed ran) [
+pub met_decided : (paths : List (List ℕ)) (plan : LivePlan) (text : List ℕ) (files : Files) (left : Option (List ℕ)) (feeds_before feeds_now : ℕ) (before now : Option (List ℕ)) (journal : List Entry) (observed : Observed) (met : Status)
+    → HasMet paths plan text files left feeds_before feeds_now before now journal observed met → ((f : ℕ) → met ≡ OpenFault f → ⊥) → (met ≡ ReadFault Input → ⊥) → (met ≡ WriteFault Air → ⊥) → (Rose feeds_before feeds_now → ⊥)
+    → (met ≡ Memory) ⊎ (met ≡ text_status text plan.views paths files)
+met_decided paths plan text files left feeds_before feeds_now before now journal observed met (inl memory) no_open no_input no_air no_feed = inl memory
+met_decided paths plan text files left feeds_before feeds_now before now journal observed met (inr (inl none)) no_open no_input no_air no_feed =
+    inr (before_decided plan text left paths files met none.why no_open no_input)
+met_decided paths plan text files left feeds_before feeds_now before now journal observed met (inr (inr (mux, behind, whole, ran))) no_open no_input no_air no_feed =
+    elim (jobs_decided met no_input no_air mux plan text left behind paths files feeds_before feeds_now before now journal observed no_feed ran) [
       | inl memory ↦ inl memory
-      | inr ends ↦ inr (ends ∙ sym (ap (λ (d : Found Description). description_status d paths files) whole))
+      | inr ends ↦ inr (ends ∙ sym (ap (λ (d : Found Description). description_status d plan.views paths files) whole ∙ ap (λ (o : Option ℕ). views_status o behind paths files) ran.served))
     ]
 
-pub decided : (paths : List (List ℕ)) (cycles join : ℕ) (text : List ℕ) (files : Files) (left : Option (List ℕ)) (input_before input_now feeds_before feeds_now : ℕ) (air report : ReportTaken) (status : Status)
-    → LeavesLive paths cycles join text files left feeds_before feeds_now air report status → HasStatusCause input_before input_now feeds_before feeds_now air.faults_old air.faults_new status → ((f : ℕ) → status ≡ OpenFault f → ⊥)
-    → (Rose input_before input_now → ⊥) → (Rose feeds_before feeds_now → ⊥) → (Rose air.faults_old air.faults_new → ⊥) → (Rose report.faults_old report.faults_new → ⊥) → (status ≡ Memory) ⊎ (status ≡ text_status text paths files)
-decided paths cycles join text files left input_before input_now feeds_before feeds_now air report status (inl memory) cause no_open no_read no_feed no_air no_report = inl memory
-decided paths cycles join text files left input_before input_now feeds_before feeds_now air report status (inr run) cause no_open no_read no_feed no_air no_report = by run.reported
+pub decided : (paths : List (List ℕ)) (plan : LivePlan) (text : List ℕ) (files : Files) (left : Option (List ℕ)) (input_before input_now feeds_before feeds_now : ℕ) (air report : ReportTaken) (status : Status)
+    → LeavesLive paths plan text files left feeds_before feeds_now air report status → HasStatusCause input_before input_now feeds_before feeds_now air.faults_old air.faults_new status → ((f : ℕ) → status ≡ OpenFault f → ⊥)
+    → (Rose input_before input_now → ⊥) → (Rose feeds_before feeds_now → ⊥) → (Rose air.faults_old air.faults_new → ⊥) → (Rose report.faults_old report.faults_new → ⊥) → (status ≡ Memory) ⊎ (status ≡ text_status text plan.views paths files)
+decided paths plan text files left input_before input_now feeds_before feeds_now air report status (inl memory) cause no_open no_read no_feed no_air no_report = inl memory
+decided paths plan text files left input_before input_now feeds_before feeds_now air report status (inr run) cause no_open no_read no_feed no_air no_report = by run.reported
   where
-    by : ReportEnds run.met (run_text run.journal run.heard) report status → (status ≡ Memory) ⊎ (status ≡ text_status text paths files)
+    by : ReportEnds run.met (run_text run.journal run.observed) report status → (status ≡ Memory) ⊎ (status ≡ text_status text plan.views paths files)
     by (inr (rose, took, same)) = absurd (no_report rose)
     by (inl (took, same)) =
         let caused : (s : Status) → run.met ≡ s → HasStatusCause input_before input_now feeds_before feeds_now air.faults_old air.faults_new s = (λ s e. subst (λ (t : Status). HasStatusCause input_before input_now feeds_before feeds_now air.faults_old air.faults_new t) (same ∙ e) cause) in
-        elim (met_decided paths cycles join text files left feeds_before feeds_now air.old air.new run.journal run.heard run.met run.ran (λ f e. no_open f (same ∙ e)) (λ e. no_read (caused (ReadFault Input) e)) (λ e. no_air (caused (WriteFault Air) e)) no_feed) [
+        elim (met_decided paths plan text files left feeds_before feeds_now air.old air.new run.journal run.observed run.met run.ran (λ f e. no_open f (same ∙ e)) (λ e. no_read (caused (ReadFault Input) e)) (λ e. no_air (caused (WriteFault Air) e)) no_feed) [
           | inl memory ↦ inl (same ∙ memory)
           | inr ends ↦ inr (same ∙ ends)
         ]
@@ -173,12 +176,13 @@ none_fed files n (path ∷ paths) (here, whole) =
     ap (λ (o : Option EditStop). feeds_stop (or_feed None n o) (n + 1) (map (λ path. feed_text_stop (file_at path files)) paths)) (ap feed_text_stop here.file ∙ ap job_stop here.end)
     ∙ none_fed files (n + 1) paths whole
 
-pub whole_done : (text : List ℕ) (paths : List (List ℕ)) (files : Files) → AreWhole text paths files → text_status text paths files ≡ Done
-whole_done text paths files are =
-    ap (λ (d : Found Description). description_status d paths files) are.whole
+pub whole_done : (text views : List ℕ) (paths : List (List ℕ)) (files : Files) → AreWhole text views paths files → text_status text views paths files ≡ Done
+whole_done text views paths files are =
+    ap (λ (d : Found Description). description_status d views paths files) are.whole
+    ∙ ap (λ (o : Option ℕ). views_status o are.behind paths files) are.served
     ∙ ap (λ (s : Stop). live_status (run_stop (Ok tt) (job_stop s) (feeds_stop None 1 (map (λ path. feed_text_stop (file_at path files)) paths)))) are.control
     ∙ ap (λ (o : Option LiveStop). live_status (run_stop (Ok tt) None o)) (none_fed files 1 paths are.feeds)
 
-pub whole : (text : List ℕ) (paths : List (List ℕ)) (files : Files) (status : Status) → AreWhole text paths files → (status ≡ Memory) ⊎ (status ≡ text_status text paths files) → (status ≡ Done) ⊎ (status ≡ Memory)
-whole text paths files status are (inl memory) = inr memory
-whole text paths files status are (inr ends) = inl (ends ∙ whole_done text paths files are)
+pub whole : (text views : List ℕ) (paths : List (List ℕ)) (files : Files) (status : Status) → AreWhole text views paths files → (status ≡ Memory) ⊎ (status ≡ text_status text views paths files) → (status ≡ Done) ⊎ (status ≡ Memory)
+whole text views paths files status are (inl memory) = inr memory
+whole text views paths files status are (inr ends) = inl (ends ∙ whole_done text views paths files are)

@@ -21,10 +21,11 @@ use Rattle.journal_model.specs.declared.step.Entry.{Entry}
 use Rattle.journal_model.specs.Steps.{Command}
 use Rattle.desk_hall.specs.Reads.{TakenDid, commands_by, control_step, controls_ahead}
 use Rattle.headend_jobs.specs.Callers.{CommandsAre}
-use Rattle.epg_live.specs.declared.reporting.HeardAir.{HeardAir}
+use Rattle.headend_live.specs.declared.watched.LivePlan.{LivePlan}
+use Rattle.epg_live.specs.declared.reporting.Observed.{Observed}
 use Rattle.epg_report.specs.declared.status.Status.TheVariants.{Memory}
 use Rattle.epg_live.specs.Stops.{mux_status}
-use Rattle.epg_live.specs.Runs.{ControlTook, HasRead, NoJobs, ahead_taken, nothing_heard}
+use Rattle.epg_live.specs.Runs.{ControlTook, HasRead, NoJobs, ahead_taken, nothing_observed}
 
 -- of known bytes some were taken, and the others are left
 bytes_left : (left : Option (List ℕ)) (text taken : List ℕ) → Consumes (Some text) left taken → (rest : List ℕ) × (text ≡ taken ++ rest) × (left ≡ Some rest)
@@ -36,24 +37,24 @@ module _ {S : Type 0} (left : S → Option (List ℕ)) (faults : S → ℕ) (ali
   unread_going old source e = ap (λ (r : Reading S). r.stop) e
 
   -- why there is no multiplex
-  pub not_described : (old new : Reading S) (source : S) (text : List ℕ) (before now : Option (List ℕ)) (journal : List Entry) (heard : HeardAir) (stop : MuxStop) → old ≡ fresh source → left source ≡ Some text
-      → ReadMux left faults alike old new (Err stop) → journal ≡ [] → heard ≡ nothing_heard → now ≡ before → (mux_status stop ≡ Memory) ⊎ NoJobs text (left new.source) before now journal heard (mux_status stop)
-  not_described old new source text before now journal heard (mux.Fault fault) e tells read none quiet same =
+  pub not_described : (plan : LivePlan) (old new : Reading S) (source : S) (text : List ℕ) (before now : Option (List ℕ)) (journal : List Entry) (observed : Observed) (stop : MuxStop) → old ≡ fresh source → left source ≡ Some text
+      → ReadMux left faults alike old new (Err stop) → journal ≡ [] → observed ≡ nothing_observed → now ≡ before → (mux_status stop ≡ Memory) ⊎ NoJobs plan text (left new.source) before now journal observed (mux_status stop)
+  not_described plan old new source text before now journal observed (mux.Fault fault) e tells read none quiet same =
       let here = subst (λ (r : Reading S). ReadMux left faults alike r new (Err (mux.Fault fault))) e read in
-      inr (record { why = fault_read left faults alike (fresh source) new fault text refl (fresh_text left source ∙ tells) here; journal_is = none; heard_is = quiet; sent = same })
-  not_described old new source text before now journal heard (mux.Read Overlong) e tells read none quiet same =
+      inr (record { why = fault_read left faults alike (fresh source) new fault text refl (fresh_text left source ∙ tells) here; journal_is = none; observed_is = quiet; sent = same })
+  not_described plan old new source text before now journal observed (mux.Read Overlong) e tells read none quiet same =
       let here = read_stopped left faults alike (fresh source) new Overlong (subst (λ (r : Reading S). ReadMux left faults alike r new (Err (mux.Read Overlong))) e read) in
-      inr (record { why = here.gives refl text (fresh_text left source ∙ tells); journal_is = none; heard_is = quiet; sent = same })
-  not_described old new source text before now journal heard (mux.Read Failed) e tells read none quiet same =
+      inr (record { why = here.gives refl text (fresh_text left source ∙ tells); journal_is = none; observed_is = quiet; sent = same })
+  not_described plan old new source text before now journal observed (mux.Read Failed) e tells read none quiet same =
       let fault = (read_stopped left faults alike (fresh source) new Failed (subst (λ (r : Reading S). ReadMux left faults alike r new (Err (mux.Read Failed))) e read)).takes refl in
       let b = bytes_left (left new.source) text fault.whole.more (subst (λ (o : Option (List ℕ)). Consumes o (left new.source) fault.whole.more) tells fault.whole.gave) in
       inr (record {
         why = record { taken = fault.whole.more; rest = b.0; text_is = b.1; left_is = b.2; unended = ap (λ l. description_ahead (ahead_with (fresh source) l Breaks)) fault.whole.whole ∙ fault.reads };
         journal_is = none;
-        heard_is = quiet;
+        observed_is = quiet;
         sent = same;
       })
-  not_described old new source text before now journal heard mux.Memory e tells read none quiet same = inl refl
+  not_described plan old new source text before now journal observed mux.Memory e tells read none quiet same = inl refl
 
   -- a multiplex was described, and the reader has what is behind it still to give
   pub has_read : (old new : Reading S) (source : S) (text : List ℕ) (mux : Mux) → old ≡ fresh source → left source ≡ Some text → ReadMux left faults alike old new (Ok mux) → HasRead left text mux new

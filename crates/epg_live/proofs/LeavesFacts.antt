@@ -1,6 +1,7 @@
 -- What a run leaves, from what it met and how its report ended: what it sent is heard as it should be, and its monitor shows what is on air at its end.
 use Rattle.std.proofs.Common.{◌≡◌, inl, inr, ℕ, true, false, List, refl, sym, ap, ◌∙◌, subst, map, drop}
 use Rattle.std.specs.Prelude.{Option, Some, None, IfSome, IsSome, Ok, Err, Result}
+use Rattle.headend_live.specs.declared.watched.LivePlan.{LivePlan}
 use Rattle.si_causes.specs.Opening.{Files}
 use Rattle.mux_model.specs.declared.mux.Mux.{Mux}
 use Rattle.mux_config.proofs.FineLines.{described_texts_are_kept, whole_descriptions_are_sound}
@@ -26,7 +27,7 @@ use Rattle.headend_jobs.specs.Whole.{final_commands}
 use Rattle.epg_report.specs.declared.status.Status.{Status}
 use Rattle.epg_report.specs.declared.status.Status.TheVariants.{Done, Memory}
 use Rattle.epg_report.specs.Told.{ReportTaken}
-use Rattle.epg_live.specs.declared.reporting.HeardAir.{HeardAir}
+use Rattle.epg_live.specs.declared.reporting.Observed.{Observed}
 use Rattle.epg_live.specs.Stops.{feeds_stop}
 use Rattle.epg_live.specs.Runs.{EndsBefore, JobsRan, NoJobs, described, ahead_of}
 use Rattle.epg_live.specs.Ends.{HasMet, ReportEnds, or_report, run_text}
@@ -58,15 +59,15 @@ told_guide : (guide : Option Heard) (heard : Heard) → IsSome guide → IfSome 
 told_guide None heard some is = (let no : false ≡ true = some in cc no)
 told_guide (Some h) heard some is = ap (λ (x : Heard). Some x) is
 
-module _ (mux : Mux) (cycles join : ℕ) (text : List ℕ) (left : Option (List ℕ)) (behind : Ahead) (paths : List (List ℕ)) (files : Files) (feeds_before feeds_now : ℕ)
-    (before now : Option (List ℕ)) (journal : List Entry) (heard : HeardAir) (status : Status) (whole : described text ≡ Came (Ok mux) behind)
-    (ran : JobsRan mux cycles join text left behind paths files feeds_before feeds_now before now journal heard status) where
+module _ (mux : Mux) (plan : LivePlan) (text : List ℕ) (left : Option (List ℕ)) (behind : Ahead) (paths : List (List ℕ)) (files : Files) (feeds_before feeds_now : ℕ)
+    (before now : Option (List ℕ)) (journal : List Entry) (observed : Observed) (status : Status) (whole : described text ≡ Came (Ok mux) behind)
+    (ran : JobsRan mux plan text left behind paths files feeds_before feeds_now before now journal observed status) where
   abbrev fed : Option LiveStop
   fed = feeds_stop None 1 ran.feed_stops
 
   pub as_read : IsAsRead mux journal
   as_read =
-      let typed = run_typed mux cycles text left behind paths files journal ran.player ran.control_stop ran.feed_stops ran.final (halts ran.player ran.control_stop fed) ran.sent
+      let typed = run_typed mux plan.cycles text left behind paths files journal ran.player ran.control_stop ran.feed_stops ran.final (halts ran.player ran.control_stop fed) ran.sent
       ran.journal_is ran.last in
       let kept = described_texts_are_kept (ahead_of text) mux behind whole in
       record {
@@ -77,7 +78,7 @@ module _ (mux : Mux) (cycles join : ℕ) (text : List ℕ) (left : Option (List 
         steps = typed.1;
       }
 
-  pub ran_shown : status ≡ Done → (sent : List ℕ) → before ≡ Some sent → IsShownLast join mux journal before now heard.guide
+  pub ran_shown : status ≡ Done → (sent : List ℕ) → before ≡ Some sent → IsShownLast plan.join mux journal before now observed.guide
   ran_shown done sent knows =
       let none = done_none (run_stop ran.sent ran.control_stop fed) (sym ran.status_is ∙ done) in
       let stops = and_none (sent_stop ran.sent) (and_stop (control_stop ran.control_stop) fed) none in
@@ -85,15 +86,15 @@ module _ (mux : Mux) (cycles join : ℕ) (text : List ℕ) (left : Option (List 
       let air = all_aired mux journal before now ran.sent stops.0 ran.air_is in
       let was = ran.was_heard sent knows in
       let taken = told_taken before now sent was.taken (air_bytes air.cycles) knows was.gave air.bytes in
-      let guide = told_guide heard.guide (guide_of_air join was.taken) (ran.told.1 done) was.guide in
-      journals_last 0 join mux journal as_read ran.journal_is.legal
+      let guide = told_guide observed.guide (guide_of_air plan.join was.taken) (ran.told.1 done) was.guide in
+      journals_last 0 plan.join mux journal as_read ran.journal_is.legal
       (record {
         front = ran.journal_is.front;
         final = ran.final;
         ends = ran.journal_is.ends;
         commands = last_made ran.player ran.sent ran.control_stop fed ran.final ran.failed stops.0 (no_control ran.control_stop jobs.0) jobs.1 ran.last;
       })
-      air.cycles air.is_air before now air.bytes heard.guide (guide ∙ ap (λ (bytes : List ℕ). Some (guide_of (drop join (whole_packets bytes)))) taken)
+      air.cycles air.is_air before now air.bytes observed.guide (guide ∙ ap (λ (bytes : List ℕ). Some (guide_of (drop plan.join (whole_packets bytes)))) taken)
 
 -- ---- the run
 
@@ -101,30 +102,30 @@ pub by_memory : (text : List ℕ) (report : ReportTaken) (met status : Status) �
 by_memory text report met status is (inl (took, same)) = same ∙ is
 by_memory text report met status is (inr (rose, took, same)) = same ∙ ap or_report is
 
-none_done : (text : List ℕ) (left before now : Option (List ℕ)) (journal : List Entry) (heard : HeardAir) (met : Status) → NoJobs text left before now journal heard met → met ≡ Done → Prim.⊥
-none_done text left before now journal heard met none done = subst (λ (s : Status). EndsBefore text left s) done none.why
+none_done : (plan : LivePlan) (text : List ℕ) (left before now : Option (List ℕ)) (journal : List Entry) (observed : Observed) (met : Status) → NoJobs plan text left before now journal observed met → met ≡ Done → Prim.⊥
+none_done plan text left before now journal observed met none done = subst (λ (s : Status). EndsBefore plan text left s) done none.why
 
-pub leaves : (paths : List (List ℕ)) (cycles join : ℕ) (text : List ℕ) (files : Files) (left : Option (List ℕ)) (feeds_before feeds_now : ℕ) (air report : ReportTaken) (journal : List Entry) (heard : HeardAir) (met status : Status)
-    → HasMet paths cycles join text files left feeds_before feeds_now air.old air.new journal heard met → ReportEnds met (run_text journal heard) report status
-    → LeavesLive paths cycles join text files left feeds_before feeds_now air report status
-leaves paths cycles join text files left feeds_before feeds_now air report journal heard met status (inl memory) ends = inl (by_memory (run_text journal heard) report met status memory ends)
-leaves paths cycles join text files left feeds_before feeds_now air report journal heard met status (inr (inl none)) ends = inr (record {
+pub leaves : (paths : List (List ℕ)) (plan : LivePlan) (text : List ℕ) (files : Files) (left : Option (List ℕ)) (feeds_before feeds_now : ℕ) (air report : ReportTaken) (journal : List Entry) (observed : Observed) (met status : Status)
+    → HasMet paths plan text files left feeds_before feeds_now air.old air.new journal observed met → ReportEnds met (run_text journal observed) report status
+    → LeavesLive paths plan text files left feeds_before feeds_now air report status
+leaves paths plan text files left feeds_before feeds_now air report journal observed met status (inl memory) ends = inl (by_memory (run_text journal observed) report met status memory ends)
+leaves paths plan text files left feeds_before feeds_now air report journal observed met status (inr (inl none)) ends = inr (record {
   journal = journal;
-  heard = heard;
+  observed = observed;
   met = met;
   ran = inr (inl none);
   reported = ends;
   sent = inl none.sent;
-  shown = λ done sent knows. absurd (none_done text left air.old air.new journal heard met none done);
+  shown = λ done sent knows. absurd (none_done plan text left air.old air.new journal observed met none done);
 })
-leaves paths cycles join text files left feeds_before feeds_now air report journal heard met status (inr (inr (mux, behind, whole, ran))) ends =
-    let read = as_read mux cycles join text left behind paths files feeds_before feeds_now air.old air.new journal heard met whole ran in
+leaves paths plan text files left feeds_before feeds_now air report journal observed met status (inr (inr (mux, behind, whole, ran))) ends =
+    let read = as_read mux plan text left behind paths files feeds_before feeds_now air.old air.new journal observed met whole ran in
     inr (record {
       journal = journal;
-      heard = heard;
+      observed = observed;
       met = met;
       ran = inr (inr (mux, behind, whole, ran));
       reported = ends;
       sent = inr (mux, behind, whole, air_sent mux journal air.old air.new ran.sent read ran.journal_is.legal ran.air_is);
-      shown = λ done sent knows. (mux, behind, whole, ran_shown mux cycles join text left behind paths files feeds_before feeds_now air.old air.new journal heard met whole ran done sent knows);
+      shown = λ done sent knows. (mux, behind, whole, ran_shown mux plan text left behind paths files feeds_before feeds_now air.old air.new journal observed met whole ran done sent knows);
     })

@@ -8,3 +8,4 @@ mod ControlFacts
 mod TypedFacts
 pub mod LeavesFacts
 pub mod LiveRunFacts
+pub mod ViewFacts

@@ -2,6 +2,7 @@
 use Rattle.std.proofs.Common.{◌≡◌, ◌⊎◌, ◌∙◌, ℕ, List, inl, inr, ap, sym, subst}
 use Rattle.std.specs.Prelude.{Option, Some}
 use Rattle.std.specs.Io.KnownBytes.{IsAtEnd}
+use Rattle.headend_live.specs.declared.watched.LivePlan.{LivePlan}
 use Rattle.si_causes.specs.Causes.{Rose}
 use Rattle.si_causes.specs.Opening.{Files}
 use Rattle.epg_report.specs.declared.status.Status.{Status}
@@ -21,16 +22,16 @@ use Rattle.epg_live.proofs.OpenFacts.{tried_none}
 use Rattle.epg_live.proofs.LeavesFacts.{leaves}
 use Rattle.epg_live.proofs.MetFacts.{ends_asked, ends_caused, ends_done, ends_of_live, ends_open, ends_rose}
 
-pub live_run : (paths : List (List ℕ)) (cycles join : ℕ) (opener : OpenerAsked) (input : SourceGave) (air report : ReportTaken) (status : Status)
-    → ((text : List ℕ) → input.old ≡ Some text → (files : Files) → opener.files ≡ Some files → LeavesLive paths cycles join text files input.new opener.read_old opener.read_new air report status)
+pub live_run : (paths : List (List ℕ)) (plan : LivePlan) (opener : OpenerAsked) (input : SourceGave) (air report : ReportTaken) (status : Status)
+    → ((text : List ℕ) → input.old ≡ Some text → (files : Files) → opener.files ≡ Some files → LeavesLive paths plan text files input.new opener.read_old opener.read_new air report status)
     → IsOfLive status → HasAsked paths opener.tried_old opener.tried_new status → (status ≡ Done → IsAtEnd input.new)
     → HasStatusCause input.faults_old input.faults_new opener.read_old opener.read_new air.faults_old air.faults_new status
     → ((feed : ℕ) → status ≡ OpenFault feed → Rose opener.faults_old opener.faults_new) → (status ≡ WriteFault Report → Rose report.faults_old report.faults_new)
-    → LiveRun paths cycles join opener input air report status
-live_run paths cycles join opener input air report status leaves known asked_for end cause open_rose report_rose = record {
+    → LiveRun paths plan opener input air report status
+live_run paths plan opener input air report status leaves known asked_for end cause open_rose report_rose = record {
   leaves = leaves;
   completes = completes;
-  whole = λ text tells files told are none. whole text paths files status are (completes text tells files told none);
+  whole = λ text tells files told are none. whole text plan.views paths files status are (completes text tells files told none);
   known = known;
   asked_for = asked_for;
   end = end;
@@ -39,18 +40,18 @@ live_run paths cycles join opener input air report status leaves known asked_for
   report_cause = report_rose;
 }
   where
-    completes : (text : List ℕ) → input.old ≡ Some text → (files : Files) → opener.files ≡ Some files → IsUnfailing opener input air report → (status ≡ Memory) ⊎ (status ≡ text_status text paths files)
+    completes : (text : List ℕ) → input.old ≡ Some text → (files : Files) → opener.files ≡ Some files → IsUnfailing opener input air report → (status ≡ Memory) ⊎ (status ≡ text_status text plan.views paths files)
     completes text tells files told none =
-        decided paths cycles join text files input.new input.faults_old input.faults_new opener.read_old opener.read_new air report status (leaves text tells files told) cause
+        decided paths plan text files input.new input.faults_old input.faults_new opener.read_old opener.read_new air report status (leaves text tells files told) cause
         (λ feed e. none.no_opening (open_rose feed e)) none.no_input none.no_reading none.no_air none.no_report
 
 -- from what it met, and how its report ended
-pub live_ends : (paths : List (List ℕ)) (cycles join : ℕ) (opener : OpenerAsked) (input : SourceGave) (air report : ReportTaken) (run : LiveResult) (status : Status)
-    → LiveMet paths cycles join opener input air run → (status ≡ Memory) ⊎ ReportEnds run.met (run_text (entries_of run.desk) run.heard) report status
-    → LiveRun paths cycles join opener input air report status
-live_ends paths cycles join opener input air report run status m ends =
-    let text = run_text (entries_of run.desk) run.heard in
-    live_run paths cycles join opener input air report status
+pub live_ends : (paths : List (List ℕ)) (plan : LivePlan) (opener : OpenerAsked) (input : SourceGave) (air report : ReportTaken) (run : LiveResult) (status : Status)
+    → LiveMet paths plan opener input air run → (status ≡ Memory) ⊎ ReportEnds run.met (run_text (entries_of run.desk) run.observed) report status
+    → LiveRun paths plan opener input air report status
+live_ends paths plan opener input air report run status m ends =
+    let text = run_text (entries_of run.desk) run.observed in
+    live_run paths plan opener input air report status
     (λ said tells files known. left said files (m.met said tells files known) ends)
     (ends_of_live run.met text report status m.known ends)
     (ends_asked paths opener.tried_old opener.tried_new run.met text report status m.known m.asked_for ends)
@@ -59,26 +60,26 @@ live_ends paths cycles join opener input air report run status m ends =
     (λ feed e. m.open_cause feed (ends_open run.met text report status feed ends e))
     (ends_rose run.met text report status m.known ends)
   where
-    left : (said : List ℕ) (files : Files) → HasMet paths cycles join said files input.new opener.read_old opener.read_new air.old air.new (entries_of run.desk) run.heard run.met
-        → (status ≡ Memory) ⊎ ReportEnds run.met (run_text (entries_of run.desk) run.heard) report status
-        → LeavesLive paths cycles join said files input.new opener.read_old opener.read_new air report status
+    left : (said : List ℕ) (files : Files) → HasMet paths plan said files input.new opener.read_old opener.read_new air.old air.new (entries_of run.desk) run.observed run.met
+        → (status ≡ Memory) ⊎ ReportEnds run.met (run_text (entries_of run.desk) run.observed) report status
+        → LeavesLive paths plan said files input.new opener.read_old opener.read_new air report status
     left said files has (inl memory) = inl memory
-    left said files has (inr ends) = leaves paths cycles join said files input.new opener.read_old opener.read_new air report (entries_of run.desk) run.heard run.met status has ends
+    left said files has (inr ends) = leaves paths plan said files input.new opener.read_old opener.read_new air report (entries_of run.desk) run.observed run.met status has ends
 
 -- no path was asked for
 pub none_asked : (paths : List (List ℕ)) (tried : Option (List (List ℕ))) → HasAsked paths tried tried Memory
 none_asked paths tried = (0, tried_none tried, tt)
 
 -- What a run met whose input is the source that its reader had first, and gave back.
-pub live_met : {S : Type 0} (left : S → Option (List ℕ)) (faults : S → ℕ) (old first source new : S) (paths : List (List ℕ)) (cycles join : ℕ) (opener : OpenerAsked) (air : ReportTaken) (run : LiveResult)
+pub live_met : {S : Type 0} (left : S → Option (List ℕ)) (faults : S → ℕ) (old first source new : S) (paths : List (List ℕ)) (plan : LivePlan) (opener : OpenerAsked) (air : ReportTaken) (run : LiveResult)
     → first ≡ old → new ≡ source
     → ((text : List ℕ) → left first ≡ Some text → (files : Files) → opener.files ≡ Some files
-    → HasMet paths cycles join text files (left source) opener.read_old opener.read_new air.old air.new (entries_of run.desk) run.heard run.met)
+    → HasMet paths plan text files (left source) opener.read_old opener.read_new air.old air.new (entries_of run.desk) run.observed run.met)
     → IsMet run.met → CanBeSaid run.met → HasAsked paths opener.tried_old opener.tried_new run.met → (run.met ≡ Done → IsAtEnd (left source))
     → HasStatusCause (faults first) (faults source) opener.read_old opener.read_new air.faults_old air.faults_new run.met
-    → ((feed : ℕ) → run.met ≡ OpenFault feed → Rose opener.faults_old opener.faults_new) → LiveMet paths cycles join opener (gave left faults old new) air run
-live_met {S = S} left faults old first source new paths cycles join opener air run begins gives met known said asked_for end cause open_cause =
-    subst (λ (s : S). LiveMet paths cycles join opener (gave left faults old s) air run) (sym gives) (record {
+    → ((feed : ℕ) → run.met ≡ OpenFault feed → Rose opener.faults_old opener.faults_new) → LiveMet paths plan opener (gave left faults old new) air run
+live_met {S = S} left faults old first source new paths plan opener air run begins gives met known said asked_for end cause open_cause =
+    subst (λ (s : S). LiveMet paths plan opener (gave left faults old s) air run) (sym gives) (record {
       met = λ text tells files told. met text (ap left begins ∙ tells) files told;
       known = known;
       said = said;
@@ -89,10 +90,10 @@ live_met {S = S} left faults old first source new paths cycles join opener air r
     })
 
 -- where memory was wanting
-pub live_memory : (paths : List (List ℕ)) (cycles join : ℕ) (opener : OpenerAsked) (input : SourceGave) (air report : ReportTaken) (status : Status) → status ≡ Memory
-    → HasAsked paths opener.tried_old opener.tried_new Memory → LiveRun paths cycles join opener input air report status
-live_memory paths cycles join opener input air report status e asked_for =
-    live_run paths cycles join opener input air report status (λ text tells files told. inl e) (subst IsOfLive (sym e) tt)
+pub live_memory : (paths : List (List ℕ)) (plan : LivePlan) (opener : OpenerAsked) (input : SourceGave) (air report : ReportTaken) (status : Status) → status ≡ Memory
+    → HasAsked paths opener.tried_old opener.tried_new Memory → LiveRun paths plan opener input air report status
+live_memory paths plan opener input air report status e asked_for =
+    live_run paths plan opener input air report status (λ text tells files told. inl e) (subst IsOfLive (sym e) tt)
     (subst (λ (s : Status). HasAsked paths opener.tried_old opener.tried_new s) (sym e) asked_for) (λ h. absurd (no_end h))
     (subst (λ (s : Status). HasStatusCause input.faults_old input.faults_new opener.read_old opener.read_new air.faults_old air.faults_new s) (sym e) tt)
     (λ feed h. absurd (no_open feed h)) (λ h. absurd (no_report h))

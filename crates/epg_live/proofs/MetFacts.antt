@@ -1,6 +1,7 @@
 -- What a run met, from what its parts tell.
 use Rattle.std.proofs.Common.{◌≡◌, ◌⊎◌, inl, inr, ℕ, ◌≤◌, List, [], length, take, refl, sym, ◌∙◌, subst}
-use Rattle.std.specs.Prelude.{Option, None, Ok, Err, Result, IfOk, OnErr}
+use Rattle.std.specs.Prelude.{Option, None, Some, Ok, Err, Result, IfOk, OnErr}
+use Rattle.headend_live.specs.declared.watched.LivePlan.{LivePlan}
 use Rattle.si_causes.specs.Causes.{Rose}
 use Rattle.si_causes.specs.Opening.{Files}
 use Rattle.si_causes.specs.Reading.{Reading}
@@ -13,18 +14,19 @@ use Rattle.mux_config.specs.Reads.{ReadMux}
 use Rattle.mux_config.proofs.Reading.{read_stopped}
 use Rattle.input_lines.specs.Ahead.{Ahead, Came}
 use Rattle.journal_model.specs.declared.step.Entry.{Entry}
-use Rattle.epg_live.specs.declared.reporting.HeardAir.{HeardAir}
+use Rattle.epg_live.specs.declared.reporting.Observed.{Observed}
 use Rattle.epg_report.specs.declared.status.Status.{Status}
-use Rattle.epg_report.specs.declared.status.Status.TheVariants.{Done, Usage, Disagrees, BadMux, BadStream, TooLong, OpenFault, ReadFault, WriteFault, Memory}
+use Rattle.epg_report.specs.declared.status.Status.TheVariants.{Done, Usage, Disagrees, BadMux, BadStream, TooLong, OpenFault, ReadFault, WriteFault, Memory, NoView}
 use Rattle.epg_report.specs.declared.status.Origin.TheVariants.{Input, Feed}
 use Rattle.epg_report.specs.declared.status.Outlet.TheVariants.{Air, Report}
 use Rattle.epg_live.specs.declared.feeds.OpenStop.{OpenStop}
 use Rattle.epg_live.specs.declared.feeds.OpenStop.TheVariants as opening
 use Rattle.epg_live.specs.Opened.{HasOpenCause, HasTried, OpenedTo}
 use Rattle.epg_live.specs.Stops.{HasStatusCause, IsMet, IsOfLive, IsOfRun, mux_status, open_status}
-use Rattle.epg_live.specs.Runs.{NoJobs, Ran, described, nothing_heard}
+use Rattle.epg_live.specs.Runs.{NoJobs, Ran, described, nothing_observed}
 use Rattle.epg_live.specs.Ends.{AskedFor, HasAsked, HasMet, ReportEnds, or_report}
 use Rattle.epg_report.specs.Told.{ReportTaken}
+use Rattle.epg_live.specs.Views.{unserved}
 use Rattle.epg_live.proofs.OpenFacts.{tried_none}
 
 -- ---- where the description was not read
@@ -59,10 +61,16 @@ mux_not_open other f e = cc
 
 -- ---- where the files were not opened
 
-pub not_opened : (text : List ℕ) (left before now : Option (List ℕ)) (journal : List Entry) (heard : HeardAir) (stop : OpenStop) (mux : Mux) (behind : Ahead) → described text ≡ Came (Ok mux) behind → journal ≡ [] → heard ≡ nothing_heard → now ≡ before
-    → (open_status stop ≡ Memory) ⊎ NoJobs text left before now journal heard (open_status stop)
-not_opened text left before now journal heard (opening.Feed f) mux behind whole none quiet same = inr (record { why = (mux, behind, whole); journal_is = none; heard_is = quiet; sent = same })
-not_opened text left before now journal heard opening.Memory mux behind whole none quiet same = inl refl
+pub not_opened : (plan : LivePlan) (text : List ℕ) (left before now : Option (List ℕ)) (journal : List Entry) (observed : Observed) (stop : OpenStop) (mux : Mux) (behind : Ahead) → described text ≡ Came (Ok mux) behind → unserved mux plan.views ≡ None → journal ≡ [] → observed ≡ nothing_observed → now ≡ before
+    → (open_status stop ≡ Memory) ⊎ NoJobs plan text left before now journal observed (open_status stop)
+not_opened plan text left before now journal observed (opening.Feed f) mux behind whole served none quiet same = inr (record { why = (mux, behind, whole, served); journal_is = none; observed_is = quiet; sent = same })
+not_opened plan text left before now journal observed opening.Memory mux behind whole served none quiet same = inl refl
+
+-- ---- where the multiplex lacks a service that is viewed
+
+pub not_served : (paths : List (List ℕ)) (plan : LivePlan) (text : List ℕ) (files : Files) (left : Option (List ℕ)) (feeds : ℕ) (before : Option (List ℕ)) (journal : List Entry) (observed : Observed) (service : ℕ) (mux : Mux) (behind : Ahead)
+    → described text ≡ Came (Ok mux) behind → unserved mux plan.views ≡ Some service → journal ≡ [] → observed ≡ nothing_observed → HasMet paths plan text files left feeds feeds before before journal observed (NoView service)
+not_served paths plan text files left feeds before journal observed service mux behind whole lacks none quiet = inr (inl (record { why = (mux, behind, whole, lacks); journal_is = none; observed_is = quiet; sent = refl }))
 
 pub open_caused : (stop : OpenStop) (input_before input_now feeds_before feeds_now air_before air_now : ℕ) → HasStatusCause input_before input_now feeds_before feeds_now air_before air_now (open_status stop)
 open_caused (opening.Feed f) input_before input_now feeds_before feeds_now air_before air_now = tt
@@ -89,6 +97,7 @@ open_not_done opening.Memory e = cc
 pub of_run : (met : Status) → IsOfRun met → IsMet met
 of_run (BadMux fault) is = absurd is
 of_run (OpenFault f) is = absurd is
+of_run (NoView service) is = absurd is
 of_run (WriteFault Air) is = is
 of_run (WriteFault Report) is = is
 of_run other is = is
@@ -104,6 +113,7 @@ run_asked n k (BadStream m) is e = absurd is
 run_asked n k (TooLong Input) is e = inr e
 run_asked n k (TooLong (Feed f)) is e = e
 run_asked n k (OpenFault f) is e = absurd is
+run_asked n k (NoView service) is e = absurd is
 run_asked n k (ReadFault Input) is e = inr e
 run_asked n k (ReadFault (Feed f)) is e = e
 run_asked n k (WriteFault Air) is e = e
@@ -117,13 +127,14 @@ all_asked r paths old mid new n feeds met is count same of (k, tried, to) =
     let all : k ≡ n = subst (OpenedTo k n) is to in
     (k, subst (λ (o : Option (List (List ℕ))). HasTried old o (take k paths)) (sym same) tried, run_asked (length paths) k met of (all ∙ sym count))
 
-pub ran_met : {S E : Type 0} (left : S → Option (List ℕ)) (r : Result S E) (paths : List (List ℕ)) (cycles join : ℕ) (text : List ℕ) (files : Files) (feeds_old feeds_mid feeds_now : ℕ) (before now : Option (List ℕ)) (journal : List Entry) (heard : HeardAir)
-    (met : Status) → feeds_mid ≡ feeds_old → IfOk r (λ s. (met ≡ Memory) ⊎ Ran paths cycles join text files (left s) feeds_mid feeds_now before now journal heard met)
-    → IfOk r (λ s. HasMet paths cycles join text files (left s) feeds_old feeds_now before now journal heard met)
-ran_met left (Err e) paths cycles join text files feeds_old feeds_mid feeds_now before now journal heard met same did = tt
-ran_met left (Ok s) paths cycles join text files feeds_old feeds_mid feeds_now before now journal heard met same (inl memory) = inl memory
-ran_met left (Ok s) paths cycles join text files feeds_old feeds_mid feeds_now before now journal heard met same (inr ran) =
-    inr (inr (subst (λ (n : ℕ). Ran paths cycles join text files (left s) n feeds_now before now journal heard met) same ran))
+pub ran_met : {S E : Type 0} (left : S → Option (List ℕ)) (r : Result S E) (paths : List (List ℕ)) (said plan : LivePlan) (text : List ℕ) (files : Files) (feeds_old feeds_mid feeds_now : ℕ) (before now : Option (List ℕ)) (journal : List Entry) (observed : Observed)
+    (met : Status) → said ≡ plan → feeds_mid ≡ feeds_old → IfOk r (λ s. (met ≡ Memory) ⊎ Ran paths said text files (left s) feeds_mid feeds_now before now journal observed met)
+    → IfOk r (λ s. HasMet paths plan text files (left s) feeds_old feeds_now before now journal observed met)
+ran_met left (Err e) paths said plan text files feeds_old feeds_mid feeds_now before now journal observed met is same did = tt
+ran_met left (Ok s) paths said plan text files feeds_old feeds_mid feeds_now before now journal observed met is same (inl memory) = inl memory
+ran_met left (Ok s) paths said plan text files feeds_old feeds_mid feeds_now before now journal observed met is same (inr ran) =
+    inr (inr (subst (λ (p : LivePlan). Ran paths p text files (left s) feeds_old feeds_now before now journal observed met) is
+    (subst (λ (n : ℕ). Ran paths said text files (left s) n feeds_now before now journal observed met) same ran)))
 
 cause_from : (old mid now feeds_old feeds_mid feeds_now air_before air_now : ℕ) (met : Status) → old ≤ mid → feeds_mid ≡ feeds_old → HasStatusCause mid now feeds_mid feeds_now air_before air_now met → HasStatusCause old now feeds_old feeds_now air_before air_now met
 cause_from old mid now feeds_old feeds_mid feeds_now air_before air_now (ReadFault Input) le same cause = Rose-from old mid now le cause
@@ -142,16 +153,21 @@ pub if_ok : {S E : Type 0} (P Q : S → Type 0) (r : Result S E) → ((s : S) �
 if_ok P Q (Err e) f p = tt
 if_ok P Q (Ok s) f p = f s p
 
-pub as_met : (paths : List (List ℕ)) (cycles join : ℕ) (text : List ℕ) (files : Files) (left : Option (List ℕ)) (feeds_old feeds_now : ℕ) (before now : Option (List ℕ)) (journal : List Entry) (heard : HeardAir) (met : Status)
-    → (met ≡ Memory) ⊎ NoJobs text left before now journal heard met → HasMet paths cycles join text files left feeds_old feeds_now before now journal heard met
-as_met paths cycles join text files left feeds_old feeds_now before now journal heard met (inl memory) = inl memory
-as_met paths cycles join text files left feeds_old feeds_now before now journal heard met (inr none) = inr (inl none)
+pub as_met : (paths : List (List ℕ)) (plan : LivePlan) (text : List ℕ) (files : Files) (left : Option (List ℕ)) (feeds_old feeds_now : ℕ) (before now : Option (List ℕ)) (journal : List Entry) (observed : Observed) (met : Status)
+    → (met ≡ Memory) ⊎ NoJobs plan text left before now journal observed met → HasMet paths plan text files left feeds_old feeds_now before now journal observed met
+as_met paths plan text files left feeds_old feeds_now before now journal observed met (inl memory) = inl memory
+as_met paths plan text files left feeds_old feeds_now before now journal observed met (inr none) = inr (inl none)
 
 -- where memory was wanting behind the opening, all were asked for
 pub some_asked : {S E T : Type 0} (r : Result S E) (opened : Result T OpenStop) (paths : List (List ℕ)) (old mid new : Option (List (List ℕ))) (n : ℕ) → new ≡ mid → (k : ℕ) × HasTried old mid (take k paths) × OpenedTo k n opened
     → OnErr r (HasAsked paths old new Memory)
 some_asked (Ok s) opened paths old mid new n same asked = tt
 some_asked (Err e) opened paths old mid new n same (k, tried, to) = (k, subst (λ (o : Option (List (List ℕ))). HasTried old o (take k paths)) (sym same) tried, tt)
+
+-- a fault of memory before any path was asked for
+pub none_asked : {S E : Type 0} (r : Result S E) (paths : List (List ℕ)) (tried : Option (List (List ℕ))) → OnErr r (HasAsked paths tried tried Memory)
+none_asked (Ok s) paths tried = tt
+none_asked (Err e) paths tried = (0, tried_none tried, tt)
 
 -- ---- the report
 

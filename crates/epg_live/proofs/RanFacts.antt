@@ -27,12 +27,13 @@ use Rattle.headend_live.specs.Watched.{WatchedRan, watched_stop}
 use Rattle.std.specs.Io.KnownBytes.{IsAtEnd}
 use Rattle.epg_report.specs.declared.status.Status.{Status}
 use Rattle.epg_report.specs.declared.status.Status.TheVariants.{Done, Memory}
+use Rattle.epg_live.specs.Views.{unserved}
 use Rattle.epg_live.specs.Opened.{AreOpened, IfFailed, IsOpened}
 use Rattle.epg_live.specs.Stops.{HasStatusCause, HaveReadCauses, feeds_stop, live_status}
 use Rattle.epg_live.specs.Runs.{CallerDid, ControlTook, FeedsDid, HasRead, Ran, ahead_of}
 use Rattle.epg_live.proofs.DescribedFacts.{control_took}
 use Rattle.epg_live.proofs.OpenFacts.{opened_length}
-use Rattle.epg_live.proofs.StopFacts.{done_control, done_told, memory_or, run_caused, unless_wanting}
+use Rattle.epg_live.proofs.StopFacts.{done_control, done_none, done_told, memory_or, run_caused, unless_wanting}
 
 -- ---- the stops of the feeds, in the order of their numbers
 
@@ -126,9 +127,9 @@ halted_none (Err e) stop feeds who final sent last = last
 module _ {F S : Type 0} (left : F → Option (List ℕ)) (faults : F → ℕ) (is_same : F → F → Type 0) (leftS : S → Option (List ℕ)) (faultsS : S → ℕ) (is_sameS : S → S → Type 0) where
   pub jobs_ran : (mux : Mux) (plan : LivePlan) (feeds : List (Reading F)) (control : Reading S) (text : List ℕ) (paths : List (List ℕ)) (files : Files) (before now : Option (List ℕ)) (air_before air_now feeds_before feeds_now : ℕ)
       (end : LiveEnd F S) (source : S) (met : Status) → WatchedRan left faults is_same leftS faultsS is_sameS mux plan feeds control before now air_before air_now end → AreOpened left faults (Some files) paths feeds → control.stop ≡ None
-      → HasRead leftS text mux control → IfFailed faults (Rose feeds_before feeds_now) end.feeds.items → met ≡ live_status end.stop → source ≡ end.control.source
-      → (met ≡ Memory) ⊎ Ran paths plan.cycles plan.join text files (leftS source) feeds_before feeds_now before now end.desk.entries (record { dones = end.dones; guide = end.heard }) met
-  jobs_ran mux plan feeds control text paths files before now air_before air_now feeds_before feeds_now end source met ran opened going read rose is back =
+      → HasRead leftS text mux control → IfFailed faults (Rose feeds_before feeds_now) end.feeds.items → met ≡ live_status end.stop → source ≡ end.control.source → unserved mux plan.views ≡ None
+      → (met ≡ Memory) ⊎ Ran paths plan text files (leftS source) feeds_before feeds_now before now end.desk.entries (record { dones = end.dones; views = end.views; guide = end.heard }) met
+  jobs_ran mux plan feeds control text paths files before now air_before air_now feeds_before feeds_now end source met ran opened going read rose is back served =
       let jobs = ran.did.feeds in
       let stop = ran.did.control.stop in
       let then = map command_of ran.did.final in
@@ -168,6 +169,9 @@ module _ {F S : Type 0} (left : F → Option (List ℕ)) (faults : F → ℕ) (i
             air_is = ran.did.air;
             was_heard = λ sent knows. let heard = ran.whole sent knows other in record { taken = heard.taken; gave = heard.gave; lines = heard.lines; guide = heard.guide };
             told = done_told end.heard end.stop met is ran.told;
+            served = served;
+            viewed = λ done. (end.viewers, ran.viewed (done_none end.stop (sym is ∙ done)));
+            unviewed = λ other. ran.unviewed (λ none. other (is ∙ ap live_status none));
           },
         )
       ]

@@ -13,6 +13,7 @@ use Rattle.headend_jobs.specs.OnAir.{HasAirCause}
 use Rattle.headend_jobs.specs.Live.{after, and_stop, control_stop, feed_stop, or_feed, run_stop, sent_stop}
 use Rattle.headend_live.specs.Watched.{watched_stop}
 use Rattle.guide_screen.specs.declared.need.Heard.{Heard}
+use Rattle.headend_live.proofs.Viewed.{no_stop}
 use Rattle.epg_report.specs.declared.status.Status.{Status}
 use Rattle.epg_report.specs.declared.status.Status.TheVariants.{Done}
 use Rattle.epg_report.specs.declared.status.Origin.TheVariants.{Feed}
@@ -68,15 +69,11 @@ done_none (Some (live.Feed f edit.Memory)) e = cc
 pub done_told : (heard : Option Heard) (end : Option LiveStop) (met : Status) → met ≡ live_status end → IsSome heard ↔ (end ≡ None) → IsSome heard ↔ (met ≡ Done)
 done_told heard end met is told = (λ some. is ∙ ap live_status (told.0 some), λ done. told.1 (done_none end (sym is ∙ done)))
 
-none_watched : (wanting : Bool) (stop : Option LiveStop) → watched_stop wanting stop ≡ None → stop ≡ None
-none_watched true stop e = cc
-none_watched false stop e = e
-
 -- with Done the control met no stop
 pub done_control : (wanting : Bool) (end : Option LiveStop) (sent : Result (Unit {0}) SendStop) (control : Option EditStop) (feeds : Option LiveStop)
     → end ≡ watched_stop wanting (run_stop sent control feeds) → live_status end ≡ Done → control ≡ None
 done_control wanting end sent control feeds is done =
-    no_control control (and_none (control_stop control) feeds (and_none (sent_stop sent) (and_stop (control_stop control) feeds) (none_watched wanting (run_stop sent control feeds) (sym is ∙ done_none end done))).1).0
+    no_control control (and_none (control_stop control) feeds (and_none (sent_stop sent) (and_stop (control_stop control) feeds) (no_stop wanting (run_stop sent control feeds) (sym is ∙ done_none end done))).1).0
 
 pub memory_or : (stop : Option LiveStop) → (stop ≡ Some live.Memory) ⊎ (stop ≡ Some live.Memory → ⊥)
 memory_or None = inr (λ e. cc)

@@ -14,10 +14,11 @@ use Rattle.script_lines.specs.Edits.{edits_ahead}
 use Rattle.desk_hall.specs.Reads.{controls_ahead}
 use Rattle.headend_jobs.specs.Live.{run_stop}
 use Rattle.epg_report.specs.declared.status.Status.{Status}
-use Rattle.epg_report.specs.declared.status.Status.TheVariants.{BadMux, TooLong as PastLimit}
+use Rattle.epg_report.specs.declared.status.Status.TheVariants.{BadMux, TooLong as PastLimit, NoView}
 use Rattle.epg_report.specs.declared.status.Origin.TheVariants.{Input}
 use Rattle.epg_live.specs.Runs.{ahead_of, described}
 use Rattle.epg_live.specs.Stops.{feeds_stop, live_status}
+use Rattle.epg_live.specs.Views.{unserved}
 
 -- ---- the status
 
@@ -37,15 +38,20 @@ abbrev pub jobs_status : Ahead → List (List ℕ) → Files → Status
 jobs_status control paths files =
     live_status (run_stop (Ok tt) (job_stop (controls_ahead control).1) (feeds_stop None 1 (map (λ path. feed_text_stop (file_at path files)) paths)))
 
-abbrev pub description_status : Found Description → List (List ℕ) → Files → Status
-description_status (Came (Ok mux) behind) paths files = jobs_status behind paths files
-description_status (Came (Err fault) behind) paths files = BadMux fault
-description_status (Stopped (NoCommand n)) paths files = BadMux (Missing EndWord)
-description_status (Stopped stop) paths files = PastLimit Input
+-- where the multiplex lacks a service that is viewed, that; else what the jobs' texts decide
+abbrev pub views_status : Option ℕ → Ahead → List (List ℕ) → Files → Status
+views_status (Some service) behind paths files = NoView service
+views_status None behind paths files = jobs_status behind paths files
 
--- The status that the texts decide: the fault of the description, or else the first stop of the jobs that read.
-abbrev pub text_status : List ℕ → List (List ℕ) → Files → Status
-text_status text paths files = description_status (described text) paths files
+abbrev pub description_status : Found Description → List ℕ → List (List ℕ) → Files → Status
+description_status (Came (Ok mux) behind) views paths files = views_status (unserved mux views) behind paths files
+description_status (Came (Err fault) behind) views paths files = BadMux fault
+description_status (Stopped (NoCommand n)) views paths files = BadMux (Missing EndWord)
+description_status (Stopped stop) views paths files = PastLimit Input
+
+-- The status that the texts decide: the fault of the description, or a service that it lacks, or else the first stop of the jobs that read.
+abbrev pub text_status : List ℕ → List ℕ → List (List ℕ) → Files → Status
+text_status text views paths files = description_status (described text) views paths files
 
 -- ---- Done
 
@@ -55,10 +61,12 @@ pub record HasEdits (files : Files) (path : List ℕ) : Type 0 where
   pub file : file_at path files ≡ Some text
   pub end : (edits_ahead (ahead_of text)).1 ≡ End
 
--- The input describes a multiplex, and behind it has control lines alone, up to its end; each path has a file of edits alone.
-pub record AreWhole (text : List ℕ) (paths : List (List ℕ)) (files : Files) : Type 0 where
+-- The input describes a multiplex that has each of these services, and behind it has control lines alone, up to its end; each path has a
+-- file of edits alone.
+pub record AreWhole (text : List ℕ) (views : List ℕ) (paths : List (List ℕ)) (files : Files) : Type 0 where
   pub mux : Mux
   pub behind : Ahead
   pub whole : described text ≡ Came (Ok mux) behind
+  pub served : unserved mux views ≡ None
   pub control : (controls_ahead behind).1 ≡ End
   pub feeds : AllByRecursion (HasEdits files) paths

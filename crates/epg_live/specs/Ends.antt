@@ -1,6 +1,7 @@
 -- What a run of `live` leaves.
 use Rattle.std.specs.Prelude.{◌≡◌, ◌⊎◌, ℕ, List, [], ◌++◌, length, take, flat_map, Option, Some, None, Ok, Err, Result}
 use Rattle.std.specs.Io.KnownBytes.{Appends}
+use Rattle.headend_live.specs.declared.watched.LivePlan.{LivePlan}
 use Rattle.si_causes.specs.Causes.{Rose, AppendsFront}
 use Rattle.si_causes.specs.Opening.{Files}
 use Rattle.journal_model.specs.declared.step.Entry.{Entry}
@@ -13,15 +14,16 @@ use Rattle.guide_text.specs.Fields.{optional}
 use Rattle.guide_text.specs.Guides.{guide_text}
 use Rattle.air_monitor.specs.declared.done_line.DoneLine.{DoneLine}
 use Rattle.epg_report.specs.declared.status.Status.{Status}
-use Rattle.epg_report.specs.declared.status.Status.TheVariants.{Done, BadMux, OpenFault, ReadFault, TooLong, WriteFault, Memory}
+use Rattle.epg_report.specs.declared.status.Status.TheVariants.{Done, BadMux, OpenFault, ReadFault, TooLong, WriteFault, Memory, NoView}
 use Rattle.epg_report.specs.declared.status.Origin.TheVariants.{Input}
 use Rattle.epg_report.specs.declared.status.Outlet.TheVariants.{Report}
 use Rattle.epg_report.specs.Texts.{fault_lines}
 use Rattle.epg_report.specs.Told.{ReportTaken}
-use Rattle.epg_live.specs.declared.reporting.HeardAir.{HeardAir}
+use Rattle.epg_live.specs.declared.reporting.Observed.{Observed}
 use Rattle.epg_live.specs.declared.reporting.LiveResult.{LiveResult}
 use Rattle.epg_live.specs.Opened.{HasTried}
-use Rattle.epg_live.specs.Runs.{NoJobs, Ran, nothing_heard}
+use Rattle.epg_live.specs.Views.{views_text}
+use Rattle.epg_live.specs.Runs.{NoJobs, Ran, nothing_observed}
 
 -- ---- the report
 
@@ -33,13 +35,13 @@ line_done line = record { key = line.key; version = line.version }
 abbrev pub done_text : List DoneLine → List ℕ
 done_text dones = flat_map (λ (line : DoneLine). done_line (at_packet line.packet (line_done line))) dones
 
--- those lines, and the text of the guide, where there is one
-abbrev pub heard_text : HeardAir → List ℕ
-heard_text heard = done_text heard.dones ++ optional guide_text heard.guide
+-- those lines, then those of the views, and the text of the guide, where there is one
+abbrev pub observed_text : Observed → List ℕ
+observed_text observed = done_text observed.dones ++ views_text observed.views ++ optional guide_text observed.guide
 
--- the journal, and what was heard
-abbrev pub run_text : List Entry → HeardAir → List ℕ
-run_text journal heard = journal_text journal ++ heard_text heard
+-- the journal, and what was observed
+abbrev pub run_text : List Entry → Observed → List ℕ
+run_text journal observed = journal_text journal ++ observed_text observed
 
 -- the status of a run that met this, and whose report failed: the first fault decides
 abbrev pub or_report : Status → Status
@@ -60,9 +62,9 @@ ReportEnds met text report status =
 -- ---- the whole run
 
 -- what was met, and done until then: want of memory; or no job started; or they ran
-abbrev pub HasMet : List (List ℕ) → ℕ → ℕ → List ℕ → Files → Option (List ℕ) → ℕ → ℕ → Option (List ℕ) → Option (List ℕ) → List Entry → HeardAir → Status → Type 0
-HasMet paths cycles join text files left faults_before faults_now before now journal heard met =
-    (met ≡ Memory) ⊎ (NoJobs text left before now journal heard met ⊎ Ran paths cycles join text files left faults_before faults_now before now journal heard met)
+abbrev pub HasMet : List (List ℕ) → LivePlan → List ℕ → Files → Option (List ℕ) → ℕ → ℕ → Option (List ℕ) → Option (List ℕ) → List Entry → Observed → Status → Type 0
+HasMet paths plan text files left faults_before faults_now before now journal observed met =
+    (met ≡ Memory) ⊎ (NoJobs plan text left before now journal observed met ⊎ Ran paths plan text files left faults_before faults_now before now journal observed met)
 
 -- ---- inside a run
 
@@ -74,6 +76,7 @@ entries_of (Some desk) = desk.entries
 abbrev pub AskedFor : ℕ → ℕ → Status → Type 0
 AskedFor n k (OpenFault f) = k ≡ f
 AskedFor n k (BadMux fault) = k ≡ 0
+AskedFor n k (NoView service) = k ≡ 0
 AskedFor n k (TooLong Input) = (k ≡ 0) ⊎ (k ≡ n)
 AskedFor n k (ReadFault Input) = (k ≡ 0) ⊎ (k ≡ n)
 AskedFor n k Memory = Unit {0}
@@ -86,4 +89,4 @@ HasAsked paths old new status = (k : ℕ) × HasTried old new (take k paths) × 
 -- nothing has run
 pub record IsBlank (run : LiveResult) : Type 0 where
   pub desk : run.desk ≡ None
-  pub heard : run.heard ≡ nothing_heard
+  pub observed : run.observed ≡ nothing_observed

@@ -1,5 +1,6 @@
 -- What a run of `live` leaves, for each status.
 use Rattle.std.specs.Prelude.{◌≡◌, ◌⊎◌, ℕ, List, Option, Some, Ok}
+use Rattle.headend_live.specs.declared.watched.LivePlan.{LivePlan}
 use Rattle.si_causes.specs.Opening.{Files}
 use Rattle.mux_model.specs.declared.mux.Mux.{Mux}
 use Rattle.input_lines.specs.Ahead.{Ahead, Came}
@@ -10,7 +11,7 @@ use Rattle.headend_live.specs.SentAir.{SentAir}
 use Rattle.epg_report.specs.declared.status.Status.{Status}
 use Rattle.epg_report.specs.declared.status.Status.TheVariants.{Done, Memory}
 use Rattle.epg_report.specs.Told.{ReportTaken}
-use Rattle.epg_live.specs.declared.reporting.HeardAir.{HeardAir}
+use Rattle.epg_live.specs.declared.reporting.Observed.{Observed}
 use Rattle.epg_live.specs.Runs.{described}
 use Rattle.epg_live.specs.Ends.{HasMet, ReportEnds, run_text}
 
@@ -25,22 +26,22 @@ MonitorShows join text journal before now guide =
     (mux : Mux) × (behind : Ahead) × (described text ≡ Came (Ok mux) behind) × IsShownLast join mux journal before now guide
 
 -- What a run over the files of these paths leaves, of the text of its input and the files of its opener, and of what is left of that text.
-pub record LeftLive (paths : List (List ℕ)) (cycles join : ℕ) (text : List ℕ) (files : Files) (left : Option (List ℕ)) (feeds_before feeds_now : ℕ)
+pub record LeftLive (paths : List (List ℕ)) (plan : LivePlan) (text : List ℕ) (files : Files) (left : Option (List ℕ)) (feeds_before feeds_now : ℕ)
     (air report : ReportTaken) (status : Status) : Type 0 where
   pub journal : List Entry
-  pub heard : HeardAir
+  pub observed : Observed
   pub met : Status
   -- the journal has just the commands of each caller, each once, in order, with the replies of a desk of one thread; what was sent is its air
-  pub ran : HasMet paths cycles join text files left feeds_before feeds_now air.old air.new journal heard met
-  -- the report is the text of the journal, of the completions and of the guide, and a fault line, if there is one
-  pub reported : ReportEnds met (run_text journal heard) report status
+  pub ran : HasMet paths plan text files left feeds_before feeds_now air.old air.new journal observed met
+  -- the report is the text of the journal, of the completions, of the views and of the guide, and a fault line, if there is one
+  pub reported : ReportEnds met (run_text journal observed) report status
   -- whoever joins that air at any packet, and loses none: each completion is of one airing, and once a cycle was heard whole the guide is that
   -- of its publication, as long as that stays on air; and sections of tier Fast and Near repeat within their bounds
   pub sent : JournalIsSent text journal air.old air.new
   -- with Done, a monitor that joined before the last cycle shows, whole, the publication on air, which has each accepted edit of each feed
-  pub shown : met ≡ Done → (sent : List ℕ) → air.old ≡ Some sent → MonitorShows join text journal air.old air.new heard.guide
+  pub shown : met ≡ Done → (sent : List ℕ) → air.old ≡ Some sent → MonitorShows plan.join text journal air.old air.new observed.guide
 
 -- So does each run; but want of memory, whoever met it, goes before all.
-abbrev pub LeavesLive : List (List ℕ) → ℕ → ℕ → List ℕ → Files → Option (List ℕ) → ℕ → ℕ → ReportTaken → ReportTaken → Status → Type 0
-LeavesLive paths cycles join text files left feeds_before feeds_now air report status =
-    (status ≡ Memory) ⊎ LeftLive paths cycles join text files left feeds_before feeds_now air report status
+abbrev pub LeavesLive : List (List ℕ) → LivePlan → List ℕ → Files → Option (List ℕ) → ℕ → ℕ → ReportTaken → ReportTaken → Status → Type 0
+LeavesLive paths plan text files left feeds_before feeds_now air report status =
+    (status ≡ Memory) ⊎ LeftLive paths plan text files left feeds_before feeds_now air report status

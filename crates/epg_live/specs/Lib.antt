@@ -1,5 +1,6 @@
 pub mod Opened
 pub mod Stops
+pub mod Views
 pub mod Runs
 pub mod Decided
 pub mod Ends

@@ -1,6 +1,7 @@
 -- What a run of `live` promises.
 use Rattle.std.specs.Prelude.{◌≡◌, ◌⊎◌, ℕ, List, Option, Some}
 use Rattle.std.specs.Io.KnownBytes.{IsAtEnd}
+use Rattle.headend_live.specs.declared.watched.LivePlan.{LivePlan}
 use Rattle.si_causes.specs.Causes.{Rose}
 use Rattle.si_causes.specs.Opening.{Files}
 use Rattle.epg_report.specs.declared.status.Status.{Status}
@@ -44,16 +45,16 @@ pub record IsUnfailing (opener : OpenerAsked) (input : SourceGave) (air report :
 
 -- A run of `live` over the files of these paths: what its opener was asked, what its input gave, what its air and its report took, and its
 -- status.
-pub record LiveRun (paths : List (List ℕ)) (cycles join : ℕ) (opener : OpenerAsked) (input : SourceGave) (air report : ReportTaken) (status : Status) : Type 0 where
+pub record LiveRun (paths : List (List ℕ)) (plan : LivePlan) (opener : OpenerAsked) (input : SourceGave) (air report : ReportTaken) (status : Status) : Type 0 where
   -- what is left with each status: one journal of all callers, however their threads interleave, its air, how that can be heard, and what
-  -- was heard of it
+  -- was observed of it
   pub leaves : (text : List ℕ) → input.old ≡ Some text → (files : Files) → opener.files ≡ Some files
-      → LeavesLive paths cycles join text files input.new opener.read_old opener.read_new air report status
+      → LeavesLive paths plan text files input.new opener.read_old opener.read_new air report status
   -- where nothing fails, the texts of the input and of the files decide the status, but for want of memory
   pub completes : (text : List ℕ) → input.old ≡ Some text → (files : Files) → opener.files ≡ Some files → IsUnfailing opener input air report
-      → (status ≡ Memory) ⊎ (status ≡ text_status text paths files)
+      → (status ≡ Memory) ⊎ (status ≡ text_status text plan.views paths files)
   -- and so texts that are whole are run to their ends
-  pub whole : (text : List ℕ) → input.old ≡ Some text → (files : Files) → opener.files ≡ Some files → AreWhole text paths files
+  pub whole : (text : List ℕ) → input.old ≡ Some text → (files : Files) → opener.files ≡ Some files → AreWhole text plan.views paths files
       → IsUnfailing opener input air report → (status ≡ Done) ⊎ (status ≡ Memory)
   -- no other status comes
   pub known : IsOfLive status
@@ -68,9 +69,9 @@ pub record LiveRun (paths : List (List ℕ)) (cycles join : ℕ) (opener : Opene
 
 -- So a call ran with this opener, this input, this air and this report: of each what tells what it has and its faults, and how it was
 -- before and behind.
-abbrev pub LiveRan : {O S A R : Type 0} → List (List ℕ) → ℕ → ℕ → (O → Option Files) → (O → Option (List (List ℕ))) → (O → ℕ) → (O → ℕ) → O → O
+abbrev pub LiveRan : {O S A R : Type 0} → List (List ℕ) → LivePlan → (O → Option Files) → (O → Option (List (List ℕ))) → (O → ℕ) → (O → ℕ) → O → O
     → (S → Option (List ℕ)) → (S → ℕ) → S → S → (A → Option (List ℕ)) → (A → ℕ) → A → A → (R → Option (List ℕ)) → (R → ℕ) → R → R → Status → Type 0
-LiveRan paths cycles join files tried open_faults file_faults opener opener_then left read_faults input input_then sent air_faults air air_then
+LiveRan paths plan files tried open_faults file_faults opener opener_then left read_faults input input_then sent air_faults air air_then
     taken report_faults report report_then status =
-    LiveRun paths cycles join (asked files tried open_faults file_faults opener opener_then) (gave left read_faults input input_then)
+    LiveRun paths plan (asked files tried open_faults file_faults opener opener_then) (gave left read_faults input input_then)
     (told sent air_faults air air_then) (told taken report_faults report report_then) status

@@ -1,6 +1,7 @@
 -- What a run of `live` met, before it is reported.
 use Rattle.std.specs.Prelude.{◌≡◌, ℕ, List, Option, Some}
 use Rattle.std.specs.Io.KnownBytes.{IsAtEnd}
+use Rattle.headend_live.specs.declared.watched.LivePlan.{LivePlan}
 use Rattle.si_causes.specs.Causes.{Rose}
 use Rattle.si_causes.specs.Opening.{Files}
 use Rattle.epg_report.specs.declared.status.Status.TheVariants.{Done, OpenFault}
@@ -13,10 +14,10 @@ use Rattle.epg_live.specs.LiveRun.{OpenerAsked, asked}
 
 -- What a run over the files of these paths met: what its opener was asked, what its input gave, what its air took, and what it leaves to be
 -- reported.
-pub record LiveMet (paths : List (List ℕ)) (cycles join : ℕ) (opener : OpenerAsked) (input : SourceGave) (air : ReportTaken) (run : LiveResult) : Type 0 where
-  -- the journal of all callers, its air and what was heard of it; or why no job started
+pub record LiveMet (paths : List (List ℕ)) (plan : LivePlan) (opener : OpenerAsked) (input : SourceGave) (air : ReportTaken) (run : LiveResult) : Type 0 where
+  -- the journal of all callers, its air and what was observed of it; or why no job started
   pub met : (text : List ℕ) → input.old ≡ Some text → (files : Files) → opener.files ≡ Some files
-      → HasMet paths cycles join text files input.new opener.read_old opener.read_new air.old air.new (entries_of run.desk) run.heard run.met
+      → HasMet paths plan text files input.new opener.read_old opener.read_new air.old air.new (entries_of run.desk) run.observed run.met
   -- no other status comes, and its line can be written
   pub known : IsMet run.met
   pub said : CanBeSaid run.met
@@ -29,8 +30,8 @@ pub record LiveMet (paths : List (List ℕ)) (cycles join : ℕ) (opener : Opene
   pub open_cause : (feed : ℕ) → run.met ≡ OpenFault feed → Rose opener.faults_old opener.faults_new
 
 -- So a call ran with this opener, this input and this air: of each what tells what it has and its faults, and how it was before and behind.
-abbrev pub LiveRanTo : {O S A : Type 0} → List (List ℕ) → ℕ → ℕ → (O → Option Files) → (O → Option (List (List ℕ))) → (O → ℕ) → (O → ℕ) → O → O
+abbrev pub LiveRanTo : {O S A : Type 0} → List (List ℕ) → LivePlan → (O → Option Files) → (O → Option (List (List ℕ))) → (O → ℕ) → (O → ℕ) → O → O
     → (S → Option (List ℕ)) → (S → ℕ) → S → S → (A → Option (List ℕ)) → (A → ℕ) → A → A → LiveResult → Type 0
-LiveRanTo paths cycles join files tried open_faults file_faults opener opener_then left read_faults input input_then sent air_faults air air_then run =
-    LiveMet paths cycles join (asked files tried open_faults file_faults opener opener_then) (gave left read_faults input input_then)
+LiveRanTo paths plan files tried open_faults file_faults opener opener_then left read_faults input input_then sent air_faults air air_then run =
+    LiveMet paths plan (asked files tried open_faults file_faults opener opener_then) (gave left read_faults input input_then)
     (told sent air_faults air air_then) run

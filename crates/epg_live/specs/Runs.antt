@@ -1,6 +1,7 @@
 -- A run over the text of its input and the files of its feeds.
-use Rattle.std.specs.Prelude.{◌≡◌, ◌↔◌, ℕ, ◌+◌, ◌≤◌, List, [], ◌∷◌, ◌++◌, length, map, Option, Some, None, IfSome, IsSome, Ok, Err, Result}
+use Rattle.std.specs.Prelude.{◌≡◌, ◌≢◌, ◌↔◌, ℕ, ◌+◌, ◌≤◌, List, [], ◌∷◌, ◌++◌, length, map, Option, Some, None, IfSome, IsSome, Ok, Err, Result}
 use Rattle.std.specs.Io.KnownBytes.{Appends}
+use Rattle.headend_live.specs.declared.watched.LivePlan.{LivePlan}
 use Rattle.si_causes.specs.Opening.{Files, file_at}
 use Rattle.si_causes.specs.Reading.{Reading, fresh}
 use Rattle.si_causes.specs.Text.{text_lines}
@@ -26,11 +27,13 @@ use Rattle.air_monitor.specs.Heard.{lines_of_air}
 use Rattle.headend_jobs.specs.declared.send.SendStop.{SendStop}
 use Rattle.headend_jobs.specs.Callers.{CommandsAre, PlayerSwapped}
 use Rattle.headend_jobs.specs.Live.{AirDid, LastMade, halts, run_stop}
+use Rattle.headend_jobs.specs.Posting.{posts_of}
 use Rattle.headend_live.specs.Watched.{guide_of_air}
 use Rattle.epg_report.specs.declared.status.Status.{Status}
-use Rattle.epg_report.specs.declared.status.Status.TheVariants.{Done, BadMux, TooLong, OpenFault, ReadFault}
+use Rattle.epg_report.specs.declared.status.Status.TheVariants.{Done, BadMux, TooLong, OpenFault, ReadFault, NoView}
 use Rattle.epg_report.specs.declared.status.Origin.TheVariants.{Input}
-use Rattle.epg_live.specs.declared.reporting.HeardAir.{HeardAir}
+use Rattle.epg_live.specs.declared.reporting.Observed.{Observed}
+use Rattle.epg_live.specs.Views.{HaveViews, unserved}
 use Rattle.epg_live.specs.Stops.{HaveReadCauses, feeds_stop, live_status}
 
 -- ---- what was asked for
@@ -83,8 +86,8 @@ FeedsDid files journal f (path ∷ paths) (stop ∷ stops) =
 
 -- ---- a run whose jobs started
 
-abbrev pub nothing_heard : HeardAir
-nothing_heard = record { dones = []; guide = None }
+abbrev pub nothing_observed : Observed
+nothing_observed = record { dones = []; views = []; guide = None }
 
 -- The journal: each caller's commands stand in it once, in order, whatever other jobs met, each with the reply of a desk of one thread
 -- (`legal`), and no one else's. Caller 0 is the control, caller 1 the player. `final` is what the control made behind all jobs.
@@ -101,37 +104,40 @@ pub record IsJournal (mux : Mux) (cycles : ℕ) (text : List ℕ) (left : Option
 
 -- The completions are those that the whole packets show which the air took, from packet `join` on; a guide that is told is the one that
 -- they give.
-pub record WasHeard (join : ℕ) (before now : Option (List ℕ)) (heard : HeardAir) : Type 0 where
+pub record WasHeard (join : ℕ) (before now : Option (List ℕ)) (observed : Observed) : Type 0 where
   pub taken : List ℕ
   pub gave : Appends before now taken
-  pub lines : heard.dones ≡ lines_of_air join taken
-  pub guide : IfSome heard.guide (λ (h : Heard). h ≡ guide_of_air join taken)
+  pub lines : observed.dones ≡ lines_of_air join taken
+  pub guide : IfSome observed.guide (λ (h : Heard). h ≡ guide_of_air join taken)
 
 -- The jobs started, and all have ended. The status is that of the first stop in the order air, control, feeds by number; Done exactly
 -- where there is none, and then the control's publish, swap and swap end the journal (`last`). `sent` says how the last cycle ended; where the
 -- player failed, that was its last (`failed`). A feed was not read to its own stop only where the opener's count of read faults rose (`causes`). A guide is told exactly with
 -- Done (`told`); what it and the completions are is known where the air tells its bytes.
-pub record JobsRan (mux : Mux) (cycles join : ℕ) (text : List ℕ) (left : Option (List ℕ)) (behind : Ahead) (paths : List (List ℕ)) (files : Files) (faults_before faults_now : ℕ) (before now : Option (List ℕ))
-    (journal : List Entry) (heard : HeardAir) (status : Status) : Type 0 where
+pub record JobsRan (mux : Mux) (plan : LivePlan) (text : List ℕ) (left : Option (List ℕ)) (behind : Ahead) (paths : List (List ℕ)) (files : Files) (faults_before faults_now : ℕ) (before now : Option (List ℕ))
+    (journal : List Entry) (observed : Observed) (status : Status) : Type 0 where
   pub player : Result (Unit {0}) SendStop
   pub sent : Result (Unit {0}) SendStop
   pub control_stop : Option EditStop
   pub feed_stops : List (Option EditStop)
   pub final : List Entry
-  pub journal_is : IsJournal mux cycles text left behind paths files journal player control_stop feed_stops final
+  pub journal_is : IsJournal mux plan.cycles text left behind paths files journal player control_stop feed_stops final
   pub last : LastMade (halts player control_stop (feeds_stop None 1 feed_stops)) 0 final sent
   pub failed : (stop : SendStop) → player ≡ Err stop → sent ≡ Err stop
   pub status_is : status ≡ live_status (run_stop sent control_stop (feeds_stop None 1 feed_stops))
   pub causes : HaveReadCauses faults_before faults_now feed_stops
   pub air_is : AirDid mux journal before now sent
-  pub was_heard : (sent : List ℕ) → before ≡ Some sent → WasHeard join before now heard
-  pub told : IsSome heard.guide ↔ (status ≡ Done)
+  pub was_heard : (sent : List ℕ) → before ≡ Some sent → WasHeard plan.join before now observed
+  pub told : IsSome observed.guide ↔ (status ≡ Done)
+  pub served : unserved mux plan.views ≡ None
+  pub viewed : status ≡ Done → HaveViews (posts_of mux journal) (plan.cycles + 1) plan.views observed.views
+  pub unviewed : status ≢ Done → observed.views ≡ []
 
 -- jobs ran over the multiplex of the text
-abbrev pub Ran : List (List ℕ) → ℕ → ℕ → List ℕ → Files → Option (List ℕ) → ℕ → ℕ → Option (List ℕ) → Option (List ℕ) → List Entry → HeardAir → Status → Type 0
-Ran paths cycles join text files left faults_before faults_now before now journal heard met =
+abbrev pub Ran : List (List ℕ) → LivePlan → List ℕ → Files → Option (List ℕ) → ℕ → ℕ → Option (List ℕ) → Option (List ℕ) → List Entry → Observed → Status → Type 0
+Ran paths plan text files left faults_before faults_now before now journal observed met =
     (mux : Mux) × (behind : Ahead) × (described text ≡ Came (Ok mux) behind)
-    × JobsRan mux cycles join text left behind paths files faults_before faults_now before now journal heard met
+    × JobsRan mux plan text left behind paths files faults_before faults_now before now journal observed met
 
 -- a reader behind the description that it read of the text of its source
 pub record HasRead {S : Type 0} (left : S → Option (List ℕ)) (text : List ℕ) (mux : Mux) (reader : Reading S) : Type 0 where
@@ -151,16 +157,18 @@ pub record IsUnread (text : List ℕ) (left : Option (List ℕ)) : Type 0 where
   pub unended : description_ahead (ahead_taken taken) ≡ Stopped Unread
 
 -- why no job started
-abbrev pub EndsBefore : List ℕ → Option (List ℕ) → Status → Type 0
-EndsBefore text left (BadMux fault) = fault_in (described text) ≡ Some fault
-EndsBefore text left (TooLong Input) = described text ≡ Stopped Exceeded
-EndsBefore text left (ReadFault Input) = IsUnread text left
-EndsBefore text left (OpenFault f) = (mux : Mux) × (behind : Ahead) × (described text ≡ Came (Ok mux) behind)
-EndsBefore text left status = ⊥
+abbrev pub EndsBefore : LivePlan → List ℕ → Option (List ℕ) → Status → Type 0
+EndsBefore plan text left (BadMux fault) = fault_in (described text) ≡ Some fault
+EndsBefore plan text left (TooLong Input) = described text ≡ Stopped Exceeded
+EndsBefore plan text left (ReadFault Input) = IsUnread text left
+EndsBefore plan text left (NoView service) = (mux : Mux) × (behind : Ahead) × (described text ≡ Came (Ok mux) behind) × (unserved mux plan.views ≡ Some service)
+EndsBefore plan text left (OpenFault f) =
+    (mux : Mux) × (behind : Ahead) × (described text ≡ Came (Ok mux) behind) × (unserved mux plan.views ≡ None)
+EndsBefore plan text left status = ⊥
 
 -- no job started: nothing was sent
-pub record NoJobs (text : List ℕ) (left : Option (List ℕ)) (before now : Option (List ℕ)) (journal : List Entry) (heard : HeardAir) (status : Status) : Type 0 where
-  pub why : EndsBefore text left status
+pub record NoJobs (plan : LivePlan) (text : List ℕ) (left : Option (List ℕ)) (before now : Option (List ℕ)) (journal : List Entry) (observed : Observed) (status : Status) : Type 0 where
+  pub why : EndsBefore plan text left status
   pub journal_is : journal ≡ []
-  pub heard_is : heard ≡ nothing_heard
+  pub observed_is : observed ≡ nothing_observed
   pub sent : now ≡ before

@@ -11,7 +11,7 @@ use Rattle.headend_jobs.specs.declared.live.LiveStop.{LiveStop}
 use Rattle.headend_jobs.specs.declared.live.LiveStop.TheVariants as live
 use Rattle.headend_jobs.specs.Live.{or_feed}
 use Rattle.epg_report.specs.declared.status.Status.{Status}
-use Rattle.epg_report.specs.declared.status.Status.TheVariants.{Done, Usage, BadScript, Disagrees, BadMux, BadFeed, BadStream, TooLong, OpenFault, ReadFault, WriteFault, Memory}
+use Rattle.epg_report.specs.declared.status.Status.TheVariants.{Done, Usage, BadScript, Disagrees, BadMux, BadFeed, BadStream, TooLong, OpenFault, ReadFault, WriteFault, Memory, NoView}
 use Rattle.epg_report.specs.declared.status.Origin.{Origin}
 use Rattle.epg_report.specs.declared.status.Origin.TheVariants.{Input, Feed}
 use Rattle.epg_report.specs.declared.status.Outlet.TheVariants.{Air, Report}
@@ -78,4 +78,5 @@ IsMet status = IsOfLive status
 abbrev pub IsOfRun : Status → Type 0
 IsOfRun (BadMux fault) = ⊥
 IsOfRun (OpenFault f) = ⊥
+IsOfRun (NoView service) = ⊥
 IsOfRun status = IsMet status

@@ -4,41 +4,46 @@ ghost use Rattle.guide_text.specs.Fields.{optional};
 ghost use Rattle.guide_text.specs.Guides.{guide_text};
 ghost use Rattle.epg_report.specs.Texts.{CanBeSaid, fault_lines};
 ghost use Rattle.epg_report.specs.Told.{told};
-ghost use Rattle.epg_live.specs.Ends.{ReportEnds, done_text, ended_by, entries_of, heard_text, line_done, run_text};
-ghost use Rattle.epg_live.specs.Runs.{nothing_heard};
+ghost use Rattle.epg_live.specs.Ends.{ReportEnds, done_text, ended_by, entries_of, observed_text, line_done, run_text};
+ghost use Rattle.epg_live.specs.Runs.{nothing_observed};
+ghost use Rattle.epg_live.specs.Views.{id_text, view_head, view_text, views_text};
 
 use desk_core::Desk;
 use epg_report::{Outlet, Status, journal_of, out_of_memory, put_fault_line};
 use guide_receiver::{DoneKey, write_done};
 use guide_text::print_heard;
-use headend_live::{DoneLine, DoneLines, Heard};
+use headend_live::{DoneLine, DoneLines, Heard, Slot, ViewLine, ViewLines};
+use si_base::put_number;
 use si_causes::{Failed, Sink, write_all};
 use std::alloc::{AllocError, Global};
 
-/// What was heard of the air: the completions, and where no fault was met the guide.
+/// What was observed of a run: the completions that were heard of its air, and where no fault was met the lines of its views, and the
+/// guide that was heard.
 #[derive(Drop)]
-pub struct HeardAir {
+pub struct Observed {
     pub dones: DoneLines,
+    pub views: ViewLines,
     pub guide: Option<Heard>,
 }
 
-impl HeardAir {
+impl Observed {
     /// Nothing. It takes no memory.
-    pub(crate) fn nothing(alloc: Global) -> HeardAir
-        ensures { result ≡ nothing_heard }
+    pub(crate) fn nothing(alloc: Global) -> Observed
+        ensures { result ≡ nothing_observed }
     {
-        HeardAir {
+        Observed {
             dones: DoneLines::new(alloc),
+            views: ViewLines::new(alloc),
             guide: None,
         }
     }
 }
 
-/// What ran: the desk, where jobs started, what was heard, and the status that was met; Done where no fault was.
+/// What ran: the desk, where jobs started, what was observed, and the status that was met; Done where no fault was.
 #[derive(Drop)]
 pub struct LiveResult {
     pub desk: Option<Desk>,
-    pub heard: HeardAir,
+    pub observed: Observed,
     pub met: Status,
 }
 
@@ -71,24 +76,67 @@ fn put_guide(alloc: Global, out: &mut Vec<u8>, guide: &Option<Heard>) -> Result<
     }
 }
 
-// Appends the lines of what was heard: the completions, and then the guide.
-fn put_heard(alloc: Global, out: &mut Vec<u8>, heard: &HeardAir) -> Result<(), AllocError>
-    ensures { OnOk result (out.new.items ≡ out.old.items ++ heard_text heard.now) }
+// Appends the id of an event, or nothing.
+fn put_id(alloc: Global, out: &mut Vec<u8>, slot: Option<Slot>) -> Result<(), AllocError>
+    ensures { OnOk result (out.new.items ≡ out.old.items ++ id_text slot) }
 {
-    put_dones(alloc, out, heard.dones.as_slice())?;
-    put_guide(alloc, out, &heard.guide)
+    match slot {
+        Some(slot) => put_number(alloc, out, u64::from(slot.event)),
+        None => Ok(()),
+    }
+}
+
+// Appends what the line of a view begins with.
+fn put_view_head(alloc: Global, out: &mut Vec<u8>, line: ViewLine) -> Result<(), AllocError>
+    ensures { OnOk result (out.new.items ≡ out.old.items ++ view_head line) }
+{
+    out.extend_from_slice(b"view\t")?;
+    put_number(alloc, out, u64::from(line.service))?;
+    out.extend_from_slice(b"\t")?;
+    put_number(alloc, out, line.read.number)
+}
+
+// Appends the line of a view.
+fn put_view(alloc: Global, out: &mut Vec<u8>, line: ViewLine) -> Result<(), AllocError>
+    ensures { OnOk result (out.new.items ≡ out.old.items ++ view_text line) }
+{
+    put_view_head(alloc, out, line)?;
+    out.extend_from_slice(b"\t")?;
+    put_id(alloc, out, line.read.now)?;
+    out.extend_from_slice(b"\t")?;
+    put_id(alloc, out, line.read.next)?;
+    out.extend_from_slice(b"\n")
+}
+
+// Appends the lines of views.
+fn put_views(alloc: Global, out: &mut Vec<u8>, lines: &[ViewLine]) -> Result<(), AllocError>
+    ensures { OnOk result (out.new.items ≡ out.old.items ++ views_text lines.now) }
+{
+    for line in lines {
+        put_view(alloc, out, *line)?;
+    }
+    Ok(())
+}
+
+// Appends the lines of what was observed: the completions, the views, and then the guide.
+fn put_observed(alloc: Global, out: &mut Vec<u8>, observed: &Observed) -> Result<(), AllocError>
+    ensures { OnOk result (out.new.items ≡ out.old.items ++ observed_text observed.now) }
+{
+    put_dones(alloc, out, observed.dones.as_slice())?;
+    put_views(alloc, out, observed.views.as_slice())?;
+    put_guide(alloc, out, &observed.guide)
 }
 
 // The whole report.
 fn report_of(alloc: Global, run: &LiveResult) -> Result<Vec<u8>, AllocError>
     requires { CanBeSaid run.now.met }
-    ensures { IfOk result (λ text. text.items ≡ run_text (entries_of run.now.desk) run.now.heard ++ fault_lines run.now.met) }
+    ensures { IfOk result (λ text. text.items ≡ run_text (entries_of run.now.desk) run.now.observed ++ fault_lines run.now.met) }
 {
     let mut text = match &run.desk {
         Some(desk) => journal_of(alloc, desk)?,
         None => Vec::new(alloc),
     };
-    put_heard(alloc, &mut text, &run.heard)?;
+    put_observed(alloc, &mut text, &run.observed)?;
     put_fault_line(alloc, &mut text, run.met)?;
     Ok(text)
 }
@@ -96,7 +144,7 @@ fn report_of(alloc: Global, run: &LiveResult) -> Result<Vec<u8>, AllocError>
 /// Reports what ran, and says how the run ends. A report that fails changes the status of a run without a fault alone.
 pub(crate) fn finish<R: Sink>(alloc: Global, run: &LiveResult, report: &mut R) -> Status
     requires { CanBeSaid run.now.met }
-    ensures ends { (result ≡ Status.Memory) ⊎ ReportEnds run.now.met (run_text (entries_of run.now.desk) run.now.heard) (told R.written R.faults report.old report.new) result }
+    ensures ends { (result ≡ Status.Memory) ⊎ ReportEnds run.now.met (run_text (entries_of run.now.desk) run.now.observed) (told R.written R.faults report.old report.new) result }
 {
     let Ok(text) = report_of(alloc, run) else {
         return out_of_memory(report);

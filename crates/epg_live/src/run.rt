@@ -1,5 +1,5 @@
 // A run of feeds, control and player over files.
-ghost use Rattle.std.specs.Prelude.{◌≡◌, ◌≤◌, ◌⊎◌, List, ℕ, IfOk, OnErr, None, Some, length};
+ghost use Rattle.std.specs.Prelude.{◌≡◌, ◌==◌, ◌≤◌, ◌⊎◌, List, ℕ, IfOk, OnErr, None, Some, length, not, option_copied};
 ghost use Rattle.std.specs.Io.KnownBytes.{IsAtEnd};
 ghost use Rattle.si_causes.specs.Causes.{Rose};
 ghost use Rattle.si_causes.specs.Opening.{Files};
@@ -10,17 +10,19 @@ ghost use Rattle.epg_report.specs.Texts.{CanBeSaid};
 ghost use Rattle.epg_live.specs.Ends.{HasAsked, HasMet, IsBlank, entries_of};
 ghost use Rattle.epg_live.specs.Runs.{HasRead, Ran};
 ghost use Rattle.epg_live.specs.Opened.{AreOpened};
+ghost use Rattle.epg_live.specs.Views.{has_service, plan_of, unserved};
 ghost use Rattle.epg_live.specs.Met.{LiveRanTo};
 ghost use Rattle.epg_live.specs.Stops.{HasStatusCause, IsMet, IsOfRun, live_status, mux_status, open_status, read_status};
 
 use crate::feeds::{OpenStop, close_feeds, open_feeds};
-use crate::reporting::{HeardAir, LiveResult};
+use crate::reporting::{LiveResult, Observed};
 use command_words::LiveWords;
 use epg_report::{Origin, Outlet, Status};
 use headend_live::{LivePlan, LiveStop, Readers, run_live};
 use mux_config::{MuxStop, read_mux};
-use mux_model::Mux;
+use mux_model::{Mux, MuxService};
 use script_lines::EditStop;
+use si_base::Items;
 use si_causes::{Gate, LineReader, Opener, ReadStop, Sink, Source};
 use std::alloc::{AllocError, Global};
 use std::marker::{Send, Sync};
@@ -90,6 +92,48 @@ fn live_status(stop: Option<LiveStop>) -> Status
     }
 }
 
+// Whether the multiplex has a service with this number.
+fn has_service(mux: &Mux, service: u16) -> bool
+    ensures { result ≡ has_service mux.now service }
+{
+    mux.services.as_slice().iter().any(
+        |s: &MuxService| -> bool
+            ensures { result ≡ (s.now.service == service) }
+        { s.service == service },
+    )
+}
+
+// The first of these services that the multiplex has not.
+fn first_unserved<'v>(mux: &Mux, views: &'v [u16]) -> Option<&'v u16>
+    ensures { option_copied result ≡ unserved mux.now views.now }
+{
+    views.iter().find(
+        |service: &&u16| -> bool
+            ensures { result ≡ not (has_service mux.entry.now service.now.now) }
+        { !has_service(mux, **service) },
+    )
+}
+
+// The same by itself.
+fn unserved(mux: &Mux, views: &[u16]) -> Option<u16>
+    ensures { result ≡ unserved mux.now views.now }
+{
+    first_unserved(mux, views).copied()
+}
+
+// What the words say of a run.
+fn plan_of(alloc: Global, words: &LiveWords) -> Result<LivePlan, AllocError>
+    ensures { IfOk result (λ plan. plan ≡ plan_of words.now) }
+{
+    let mut views = Vec::with_capacity(alloc, words.views.len())?;
+    views.extend_from_slice(words.views.as_slice())?;
+    Ok(LivePlan {
+        cycles: words.cycles,
+        join: words.join,
+        views: Items::of(views),
+    })
+}
+
 // Runs the jobs, closes the files, and gives the input back.
 fn run_jobs<W: Threads + Wait + Sync, O: Opener, S: Source + Send, A: Sink + Send, G: Gate>(
     rt: &W,
@@ -106,12 +150,14 @@ fn run_jobs<W: Threads + Wait + Sync, O: Opener, S: Source + Send, A: Sink + Sen
     requires sound { IsSound mux }
     requires few { length feeds.items ≤ 16 }
     requires cycles { plan.cycles ≤ 1000 }
+    requires few_views { length plan.views ≤ 8 }
+    requires served { unserved mux plan.views ≡ None }
     requires going { lines.stop ≡ None }
     requires opened { (paths : List (List ℕ)) × AreOpened O.From.left O.From.faults (O.files opener.old) paths feeds.items }
     ensures ran { (paths : List (List ℕ)) → AreOpened O.From.left O.From.faults (O.files opener.old) paths feeds.items
         → (text : List ℕ) → HasRead S.left text mux lines → (files : Files) → O.files opener.old ≡ Some files
-        → IfOk result (λ source. (run.new.met ≡ Status.Memory) ⊎ Ran paths plan.cycles plan.join text files (S.left source) (O.read_faults opener.old) (O.read_faults opener.new)
-        (A.written air.old) (A.written air.new) (entries_of run.new.desk) run.new.heard run.new.met) }
+        → IfOk result (λ source. (run.new.met ≡ Status.Memory) ⊎ Ran paths plan text files (S.left source) (O.read_faults opener.old) (O.read_faults opener.new)
+        (A.written air.old) (A.written air.new) (entries_of run.new.desk) run.new.observed run.new.met) }
     ensures cause { IfOk result (λ source. HasStatusCause (S.faults lines.source) (S.faults source) (O.read_faults opener.old) (O.read_faults opener.new) (A.faults air.old) (A.faults air.new) run.new.met) }
     ensures end { IfOk result (λ source. run.new.met ≡ Status.Done → IsAtEnd (S.left source)) }
     ensures said { IfOk result (λ _. CanBeSaid run.new.met) }
@@ -123,8 +169,9 @@ fn run_jobs<W: Threads + Wait + Sync, O: Opener, S: Source + Send, A: Sink + Sen
 {
     let end = run_live(rt, alloc, mux, plan, feeds, lines, air, gate)?;
     run.desk = Some(end.desk);
-    run.heard = HeardAir {
+    run.observed = Observed {
         dones: end.dones,
+        views: end.views,
         guide: end.heard,
     };
     run.met = live_status(end.stop);
@@ -145,11 +192,12 @@ fn run_described<W: Threads + Wait + Sync, O: Opener, S: Source + Send, A: Sink 
 ) -> Result<S, AllocError>
     requires few { length words.now.feeds.items ≤ 16 }
     requires cycles { words.now.cycles ≤ 1000 }
+    requires views { length words.now.views ≤ 8 }
     requires unread { lines ≡ fresh lines.source }
     requires blank { IsBlank run.old }
     ensures met { (text : List ℕ) → S.left lines.source ≡ Some text → (files : Files) → O.files opener.old ≡ Some files
-        → IfOk result (λ source. HasMet (texts words.now.feeds.items) words.now.cycles words.now.join text files (S.left source) (O.read_faults opener.old) (O.read_faults opener.new)
-        (A.written air.old) (A.written air.new) (entries_of run.new.desk) run.new.heard run.new.met) }
+        → IfOk result (λ source. HasMet (texts words.now.feeds.items) (plan_of words.now) text files (S.left source) (O.read_faults opener.old) (O.read_faults opener.new)
+        (A.written air.old) (A.written air.new) (entries_of run.new.desk) run.new.observed run.new.met) }
     ensures cause { IfOk result (λ source. HasStatusCause (S.faults lines.source) (S.faults source) (O.read_faults opener.old) (O.read_faults opener.new) (A.faults air.old) (A.faults air.new) run.new.met) }
     ensures open_cause { IfOk result (λ _. (f : ℕ) → run.new.met ≡ Status.OpenFault f → Rose (O.faults opener.old) (O.faults opener.new)) }
     ensures asked { IfOk result (λ _. HasAsked (texts words.now.feeds.items) (O.tried opener.old) (O.tried opener.new) run.new.met) }
@@ -166,16 +214,20 @@ fn run_described<W: Threads + Wait + Sync, O: Opener, S: Source + Send, A: Sink 
             return Ok(lines.close());
         }
     };
+    match unserved(&mux, words.views.as_slice()) {
+        Some(service) => {
+            run.met = Status::NoView(service);
+            return Ok(lines.close());
+        }
+        None => {}
+    }
+    let plan = plan_of(alloc, words)?;
     let feeds = match open_feeds(alloc, opener, &words.feeds) {
         Ok(feeds) => feeds,
         Err(stop) => {
             run.met = open_status(stop);
             return Ok(lines.close());
         }
-    };
-    let plan = LivePlan {
-        cycles: words.cycles,
-        join: words.join,
     };
     run_jobs(rt, alloc, mux, plan, feeds, lines, opener, air, gate, run)
 }
@@ -193,8 +245,9 @@ pub fn run_files<W: Threads + Wait + Sync, O: Opener, S: Source + Send, A: Sink 
 ) -> Result<LiveResult, AllocError>
     requires few { length words.now.feeds.items ≤ 16 }
     requires cycles { words.now.cycles ≤ 1000 }
+    requires views { length words.now.views ≤ 8 }
     ensures run { IfOk result (LiveRanTo (texts words.now.feeds.items)
-        words.now.cycles words.now.join
+        (plan_of words.now)
         O.files O.tried O.faults O.read_faults opener.old opener.new
         S.left S.faults input.old input.new A.written A.faults air.old air.new) }
     ensures asked { OnErr result (HasAsked (texts words.now.feeds.items)
@@ -203,7 +256,7 @@ pub fn run_files<W: Threads + Wait + Sync, O: Opener, S: Source + Send, A: Sink 
     let lines = LineReader::open(alloc, &mut *input)?;
     let mut run = LiveResult {
         desk: None,
-        heard: HeardAir::nothing(alloc),
+        observed: Observed::nothing(alloc),
         met: Status::Done,
     };
     let _source = run_described(rt, alloc, words, opener, lines, air, gate, &mut run)?;

@@ -2,6 +2,7 @@
 ghost use Rattle.std.specs.Prelude.{◌≤◌, length};
 ghost use Rattle.command_words.specs.Commands.{texts};
 ghost use Rattle.epg_live.specs.LiveRun.{LiveRan};
+ghost use Rattle.epg_live.specs.Views.{plan_of};
 
 use crate::reporting::finish;
 use crate::run::run_files;
@@ -33,7 +34,8 @@ pub fn run_live_files<
 ) -> Status
     requires few { length words.now.feeds.items ≤ 16 }
     requires cycles { words.now.cycles ≤ 1000 }
-    ensures run { LiveRan (texts words.now.feeds.items) words.now.cycles words.now.join
+    requires views { length words.now.views ≤ 8 }
+    ensures run { LiveRan (texts words.now.feeds.items) (plan_of words.now)
         O.files O.tried O.faults O.read_faults opener.old opener.new
         S.left S.faults input.old input.new
         A.written A.faults air.old air.new R.written R.faults report.old report.new result }

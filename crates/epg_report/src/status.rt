@@ -46,6 +46,8 @@ pub enum Status {
     WriteFault(Outlet),
     /// Want of memory.
     Memory,
+    /// The multiplex has no service with this number, for which a viewer was to ask.
+    NoView(u16),
 }
 
 impl Status {
@@ -65,6 +67,7 @@ impl Status {
             Status::ReadFault(_) => 9,
             Status::WriteFault(_) => 10,
             Status::Memory => 12,
+            Status::NoView(_) => 14,
         }
     }
 }

@@ -8,9 +8,10 @@ use Rattle.epg_report.specs.declared.status.Status.{Status}
 use Rattle.epg_live.specs.Ends.{HasAsked, HasMet, entries_of}
 use Rattle.epg_live.specs.Opened.{AreOpened, HasTried, OpenedTo}
 use Rattle.epg_live.specs.Stops.{HasStatusCause, IsMet, IsOfRun, mux_status, open_status}
+use Rattle.epg_live.specs.Views.{plan_of, unserved}
 use Rattle.epg_live.proofs.DescribedFacts.{has_read, not_described, unread_going}
-use Rattle.epg_live.proofs.OpenFacts.{opened_length}
-use Rattle.epg_live.proofs.MetFacts.{all_asked, as_met, if_ok, mux_asked, mux_caused, mux_not_done, mux_not_open, mux_of_live, not_opened, ran_met, some_asked}
+use Rattle.epg_live.proofs.OpenFacts.{opened_length, tried_none}
+use Rattle.epg_live.proofs.MetFacts.{all_asked, as_met, not_served, if_ok, mux_asked, mux_caused, mux_not_done, mux_not_open, mux_of_live, none_asked, not_opened, ran_met, some_asked}
 use Rattle.epg_live.proofs.run.run_described.Goals as goal
 
 -- ---- the description was not read
@@ -24,10 +25,10 @@ returns-in-Err-clause-met g c = λ text tells files known.
     let air = g.A.Sink.written c.args.air.now in
     let faults = g.O.Opener.read_faults c.args.opener.now in
     let journal = entries_of c.args.run.now.desk in
-    let met = not_described g.S.Source.left g.S.Source.faults g.S.Source.same old mid old.source text air air journal c.args.run.now.heard c.in-Err.stop unread tells c.in-Err.ensures.read (ap entries_of c.requires.blank.desk) c.requires.blank.heard refl in
-    subst (λ (s : Status). HasMet paths c.args.words.now.cycles c.args.words.now.join text files (g.S.Source.left c.close.result) faults faults air air journal c.args.run.now.heard s) (sym c.mux_status-run.ensures.value)
-    (subst (λ s. HasMet paths c.args.words.now.cycles c.args.words.now.join text files (g.S.Source.left s) faults faults air air journal c.args.run.now.heard (mux_status c.in-Err.stop)) (sym c.close.ensures)
-    (as_met paths c.args.words.now.cycles c.args.words.now.join text files (g.S.Source.left mid.source) faults faults air air journal c.args.run.now.heard (mux_status c.in-Err.stop) met))
+    let met = not_described g.S.Source.left g.S.Source.faults g.S.Source.same (plan_of c.args.words.now) old mid old.source text air air journal c.args.run.now.observed c.in-Err.stop unread tells c.in-Err.ensures.read (ap entries_of c.requires.blank.desk) c.requires.blank.observed refl in
+    subst (λ (s : Status). HasMet paths (plan_of c.args.words.now) text files (g.S.Source.left c.close.result) faults faults air air journal c.args.run.now.observed s) (sym c.mux_status-run.ensures.value)
+    (subst (λ s. HasMet paths (plan_of c.args.words.now) text files (g.S.Source.left s) faults faults air air journal c.args.run.now.observed (mux_status c.in-Err.stop)) (sym c.close.ensures)
+    (as_met paths (plan_of c.args.words.now) text files (g.S.Source.left mid.source) faults faults air air journal c.args.run.now.observed (mux_status c.in-Err.stop) met))
 
 pub returns-in-Err-clause-cause : goal.returns-in-Err-clause-cause
 returns-in-Err-clause-cause g c =
@@ -65,9 +66,9 @@ returns-in-Err-open_feeds-clause-met g c = λ text tells files known.
     let air = g.A.Sink.written c.args.air.now in
     let journal = entries_of c.args.run.now.desk in
     let read = has_read g.S.Source.left g.S.Source.faults g.S.Source.same old mid old.source text c.in-Ok.mux unread tells c.in-Ok.ensures.read in
-    subst (λ (s : Status). HasMet paths c.args.words.now.cycles c.args.words.now.join text files (g.S.Source.left c.close-in-Err-open_feeds.result) (g.O.Opener.read_faults c.args.opener.now) (g.O.Opener.read_faults c.open_feeds.new.opener) air air journal c.args.run.now.heard s) (sym c.open_status-run.ensures.value)
-    (as_met paths c.args.words.now.cycles c.args.words.now.join text files (g.S.Source.left c.close-in-Err-open_feeds.result) (g.O.Opener.read_faults c.args.opener.now) (g.O.Opener.read_faults c.open_feeds.new.opener) air air journal c.args.run.now.heard (open_status c.in-Err-open_feeds.stop)
-    (not_opened text (g.S.Source.left c.close-in-Err-open_feeds.result) air air journal c.args.run.now.heard c.in-Err-open_feeds.stop c.in-Ok.mux (ahead mid read.read.rest) read.read.reads (ap entries_of c.requires.blank.desk) c.requires.blank.heard refl))
+    subst (λ (s : Status). HasMet paths (plan_of c.args.words.now) text files (g.S.Source.left c.close-in-Err-open_feeds.result) (g.O.Opener.read_faults c.args.opener.now) (g.O.Opener.read_faults c.open_feeds.new.opener) air air journal c.args.run.now.observed s) (sym c.open_status-run.ensures.value)
+    (as_met paths (plan_of c.args.words.now) text files (g.S.Source.left c.close-in-Err-open_feeds.result) (g.O.Opener.read_faults c.args.opener.now) (g.O.Opener.read_faults c.open_feeds.new.opener) air air journal c.args.run.now.observed (open_status c.in-Err-open_feeds.stop)
+    (not_opened (plan_of c.args.words.now) text (g.S.Source.left c.close-in-Err-open_feeds.result) air air journal c.args.run.now.observed c.in-Err-open_feeds.stop c.in-Ok.mux (ahead mid read.read.rest) read.read.reads (ap (unserved c.in-Ok.mux) (sym c.as_slice.ensures) ∙ sym c.unserved.ensures ∙ c.in-None.is) (ap entries_of c.requires.blank.desk) c.requires.blank.observed refl))
 
 -- ---- jobs ran
 
@@ -91,8 +92,8 @@ returns-clause-met g c = λ text tells files known.
     let opened : AreOpened g.O.From.Source.left g.O.From.Source.faults (g.O.Opener.files c.open_feeds.new.opener) (texts items) feeds =
     subst (λ (o : Option Files). AreOpened g.O.From.Source.left g.O.From.Source.faults o (texts items) feeds) (sym c.open_feeds.ensures.files)
     (subst (λ l. AreOpened g.O.From.Source.left g.O.From.Source.faults (g.O.Opener.files c.args.opener.now) (texts l) feeds) c.deref.ensures.value c.in-Ok-open_feeds.ensures.opened) in
-    ran_met g.S.Source.left c.run_jobs.result (texts items) c.args.words.now.cycles c.args.words.now.join text files (g.O.Opener.read_faults c.args.opener.now) (g.O.Opener.read_faults c.open_feeds.new.opener) (g.O.Opener.read_faults c.run_jobs.new.opener)
-    (g.A.Sink.written c.args.air.now) (g.A.Sink.written c.run_jobs.new.air) (entries_of c.run_jobs.new.run.desk) c.run_jobs.new.run.heard c.run_jobs.new.run.met c.open_feeds.ensures.read_faults
+    ran_met g.S.Source.left c.run_jobs.result (texts items) c.in_ok-plan.plan (plan_of c.args.words.now) text files (g.O.Opener.read_faults c.args.opener.now) (g.O.Opener.read_faults c.open_feeds.new.opener) (g.O.Opener.read_faults c.run_jobs.new.opener)
+    (g.A.Sink.written c.args.air.now) (g.A.Sink.written c.run_jobs.new.air) (entries_of c.run_jobs.new.run.desk) c.run_jobs.new.run.observed c.run_jobs.new.run.met c.in_ok-plan.ensures c.open_feeds.ensures.read_faults
     (c.run_jobs.ensures.ran (texts items) opened text read files (c.open_feeds.ensures.files ∙ known))
 
 pub returns-clause-asked : goal.returns-clause-asked
@@ -116,3 +117,27 @@ returns-clause-asked_some g c =
     let new = g.O.Opener.tried c.run_jobs.new.opener in
     some_asked c.run_jobs.result c.open_feeds.result (texts items) old mid new (length paths) c.run_jobs.ensures.tried
     (subst (λ l. (k : ℕ) × HasTried old mid (take k (texts l)) × OpenedTo k (length paths) c.open_feeds.result) c.deref.ensures.value c.open_feeds.ensures.tried)
+
+-- ---- the multiplex lacks a service that is viewed
+
+pub returns-in-Some-clause-met : goal.returns-in-Some-clause-met
+returns-in-Some-clause-met g c = λ text tells files known.
+    let old = c.args.lines in
+    let mid = c.read_mux.new.lines in
+    let unread = c.requires.unread in
+    let paths = texts c.args.words.now.feeds.items in
+    let read = has_read g.S.Source.left g.S.Source.faults g.S.Source.same old mid old.source text c.in-Ok.mux unread tells c.in-Ok.ensures.read in
+    not_served paths (plan_of c.args.words.now) text files (g.S.Source.left c.close-in-Some.result) (g.O.Opener.read_faults c.args.opener.now) (g.A.Sink.written c.args.air.now) (entries_of c.args.run.now.desk) c.args.run.now.observed c.in-Some.service c.in-Ok.mux
+    (ahead mid read.read.rest) read.read.reads (ap (unserved c.in-Ok.mux) (sym c.as_slice.ensures) ∙ sym c.unserved.ensures ∙ c.in-Some.is) (ap entries_of c.requires.blank.desk) c.requires.blank.observed
+
+pub returns-in-Some-clause-asked : goal.returns-in-Some-clause-asked
+returns-in-Some-clause-asked g c = (0, tried_none (g.O.Opener.tried c.args.opener.now), refl)
+
+pub returns-in_err-plan-clause-asked_some : goal.returns-in_err-plan-clause-asked_some
+returns-in_err-plan-clause-asked_some g c = none_asked c.from_residual.result (texts c.args.words.now.feeds.items) (g.O.Opener.tried c.args.opener.now)
+
+pub returns-clause-same : goal.returns-clause-same
+returns-clause-same g c =
+    let source = g.met.S.Source g.world.𝓛 g.world.𝓜 g.world.𝓡 ((λ s x. x), (λ x. x), (λ x. x), λ x. x) in
+    if_ok (λ s. g.S.Source.same c.read_mux.new.lines.source s) (λ s. g.S.Source.same c.args.lines.source s) c.run_jobs.result
+    (λ s same. source.same_later _ _ _ c.in-Ok.ensures.read.reads.same same) c.run_jobs.ensures.same
