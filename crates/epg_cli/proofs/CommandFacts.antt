@@ -1,6 +1,7 @@
 -- The command that the words of a run spell, and the statuses that a command has not.
 use Rattle.std.proofs.Common.{◌≡◌, ℕ, List, refl, subst, inl, inr, ◌⊎◌}
 use Rattle.std.specs.Prelude.{Option, Some, None, Result, Err}
+use Rattle.headend_live.specs.declared.watched.LivePlan.{LivePlan}
 use Rattle.si_causes.specs.Causes.{Rose}
 use Rattle.command_words.specs.declared.command.WordsStop.{WordsStop}
 use Rattle.command_words.specs.declared.command.WordsStop.TheVariants as words
@@ -19,11 +20,11 @@ use Rattle.epg_soak.specs.SoakRun.{IsOfSoak}
 pub play_listen : (c : Option CommandLine) → c ≡ Some Play → c ≡ Some Listen → ⊥
 play_listen c e f = cc
 
-pub play_live : (c : Option CommandLine) (paths : List (List ℕ)) (cycles join : ℕ) → c ≡ Some Play → c ≡ Some (Live paths cycles join) → ⊥
-play_live c paths cycles join e f = cc
+pub play_live : (c : Option CommandLine) (paths : List (List ℕ)) (plan : LivePlan) → c ≡ Some Play → c ≡ Some (Live paths plan.cycles plan.join plan.views) → ⊥
+play_live c paths plan e f = cc
 
-pub listen_live : (c : Option CommandLine) (paths : List (List ℕ)) (cycles join : ℕ) → c ≡ Some Listen → c ≡ Some (Live paths cycles join) → ⊥
-listen_live c paths cycles join e f = cc
+pub listen_live : (c : Option CommandLine) (paths : List (List ℕ)) (plan : LivePlan) → c ≡ Some Listen → c ≡ Some (Live paths plan.cycles plan.join plan.views) → ⊥
+listen_live c paths plan e f = cc
 
 pub some_none : (c : Option CommandLine) (k : CommandLine) → c ≡ Some k → c ≡ None → ⊥
 some_none c k e f = cc
@@ -34,22 +35,24 @@ play_soak c number e f = cc
 pub listen_soak : (c : Option CommandLine) (number : ℕ) → c ≡ Some Listen → c ≡ Some (Soak number) → ⊥
 listen_soak c number e f = cc
 
-pub live_soak : (c : Option CommandLine) (paths : List (List ℕ)) (cycles join number : ℕ) → c ≡ Some (Live paths cycles join) → c ≡ Some (Soak number) → ⊥
-live_soak c paths cycles join number e f = cc
+pub live_soak : (c : Option CommandLine) (paths : List (List ℕ)) (plan : LivePlan) (number : ℕ) → c ≡ Some (Live paths plan.cycles plan.join plan.views) → c ≡ Some (Soak number) → ⊥
+live_soak c paths plan number e f = cc
 
-pub live_others : (c : Option CommandLine) (paths : List (List ℕ)) (cycles join : ℕ) → c ≡ Some (Live paths cycles join)
+pub live_others : (c : Option CommandLine) (paths : List (List ℕ)) (plan : LivePlan) → c ≡ Some (Live paths plan.cycles plan.join plan.views)
     → (c ≡ Some Play) ⊎ ((c ≡ Some Listen) ⊎ ((number : ℕ) × (c ≡ Some (Soak number)))) → ⊥
-live_others c paths cycles join e (inl play) = play_live c paths cycles join play e
-live_others c paths cycles join e (inr (inl listen)) = listen_live c paths cycles join listen e
-live_others c paths cycles join e (inr (inr (number, soak))) = live_soak c paths cycles join number e soak
+live_others c paths plan e (inl play) = play_live c paths plan play e
+live_others c paths plan e (inr (inl listen)) = listen_live c paths plan listen e
+live_others c paths plan e (inr (inr (number, soak))) = live_soak c paths plan number e soak
 
 -- what holds of the words that were read holds of those that were spelled
-pub live_is : (P : List (List ℕ) → ℕ → ℕ → Type 0) (c : Option CommandLine) (read paths : List (List ℕ)) (n cycles j join : ℕ) → c ≡ Some (Live read n j) → c ≡ Some (Live paths cycles join) → P read n j → P paths cycles join
-live_is P c read paths n cycles j join e f p =
+pub live_is : (P : List (List ℕ) → LivePlan → Type 0) (c : Option CommandLine) (read paths : List (List ℕ)) (said plan : LivePlan) → c ≡ Some (Live read said.cycles said.join said.views) → c ≡ Some (Live paths plan.cycles plan.join plan.views) → P read said → P paths plan
+live_is P c read paths said plan e f p =
     let first : read ≡ paths = cc in
-    let second : n ≡ cycles = cc in
-    let third : j ≡ join = cc in
-    subst (λ (ps : List (List ℕ)). P ps cycles join) first (subst (λ (k : ℕ). P read k join) second (subst (λ (i : ℕ). P read n i) third p))
+    let second : said.cycles ≡ plan.cycles = cc in
+    let third : said.join ≡ plan.join = cc in
+    let fourth : said.views ≡ plan.views = cc in
+    let same : said ≡ plan = rw (second, third, fourth) refl in
+    subst (λ (ps : List (List ℕ)). P ps plan) first (subst (P read) same p)
 
 pub soak_is : (P : ℕ → Type 0) (c : Option CommandLine) (read number : ℕ) → c ≡ Some (Soak read) → c ≡ Some (Soak number) → P read → P number
 soak_is P c read number e f p = let same : read ≡ number = cc in subst P same p

@@ -1,6 +1,7 @@
 -- The journal of a run of `live`, read as a script.
 use Rattle.std.proofs.Common.{◌≡◌, ℕ, List, [], sym, subst, inl, inr}
 use Rattle.std.specs.Prelude.{Option, Ok}
+use Rattle.headend_live.specs.declared.watched.LivePlan.{LivePlan}
 use Rattle.si_causes.specs.Opening.{Files}
 use Rattle.mux_model.specs.declared.mux.Mux.{Mux}
 use Rattle.input_lines.specs.Ahead.{Ahead, Came}
@@ -9,7 +10,7 @@ use Rattle.desk_core.specs.Journal.{Legal}
 use Rattle.epg_report.specs.declared.status.Status.{Status}
 use Rattle.epg_report.specs.Told.{ReportTaken}
 use Rattle.epg_play.proofs.AgainFacts.{journals-again}
-use Rattle.epg_live.specs.declared.reporting.HeardAir.{HeardAir}
+use Rattle.epg_live.specs.declared.reporting.Observed.{Observed}
 use Rattle.epg_live.specs.Ends.{HasMet, ReportEnds, run_text}
 use Rattle.epg_live.specs.Leaves.{LeavesLive}
 use Rattle.epg_live.specs.Runs.{described}
@@ -28,15 +29,15 @@ is_script text mux rows journal whole legal other behind block is d readable le 
 none_is_script : (text : List ℕ) (journal : List Entry) → journal ≡ [] → IsScript text journal
 none_is_script text journal none mux rows block is d readable le = journals-again mux block journal d (subst (λ (es : List Entry). Legal mux es) (sym none) tt) readable le
 
-prints_met : (paths : List (List ℕ)) (cycles join : ℕ) (text : List ℕ) (files : Files) (left : Option (List ℕ)) (feeds_before feeds_now : ℕ) (before now : Option (List ℕ)) (report : ReportTaken) (journal : List Entry) (heard : HeardAir) (met status : Status)
-    → HasMet paths cycles join text files left feeds_before feeds_now before now journal heard met → ReportEnds met (run_text journal heard) report status → PrintsScript text report status
-prints_met paths cycles join text files left feeds_before feeds_now before now report journal heard met status (inl memory) ends = inl (by_memory (run_text journal heard) report met status memory ends)
-prints_met paths cycles join text files left feeds_before feeds_now before now report journal heard met status (inr (inl none)) ends = inr (journal, heard, met, ends, none_is_script text journal none.journal_is)
-prints_met paths cycles join text files left feeds_before feeds_now before now report journal heard met status (inr (inr (mux, rows, whole, ran))) ends =
-    inr (journal, heard, met, ends, is_script text mux rows journal whole ran.journal_is.legal)
+prints_met : (paths : List (List ℕ)) (plan : LivePlan) (text : List ℕ) (files : Files) (left : Option (List ℕ)) (feeds_before feeds_now : ℕ) (before now : Option (List ℕ)) (report : ReportTaken) (journal : List Entry) (observed : Observed) (met status : Status)
+    → HasMet paths plan text files left feeds_before feeds_now before now journal observed met → ReportEnds met (run_text journal observed) report status → PrintsScript text report status
+prints_met paths plan text files left feeds_before feeds_now before now report journal observed met status (inl memory) ends = inl (by_memory (run_text journal observed) report met status memory ends)
+prints_met paths plan text files left feeds_before feeds_now before now report journal observed met status (inr (inl none)) ends = inr (journal, observed, met, ends, none_is_script text journal none.journal_is)
+prints_met paths plan text files left feeds_before feeds_now before now report journal observed met status (inr (inr (mux, rows, whole, ran))) ends =
+    inr (journal, observed, met, ends, is_script text mux rows journal whole ran.journal_is.legal)
 
-pub prints : (paths : List (List ℕ)) (cycles join : ℕ) (text : List ℕ) (files : Files) (left : Option (List ℕ)) (feeds_before feeds_now : ℕ) (air report : ReportTaken) (status : Status)
-    → LeavesLive paths cycles join text files left feeds_before feeds_now air report status → PrintsScript text report status
-prints paths cycles join text files left feeds_before feeds_now air report status (inl memory) = inl memory
-prints paths cycles join text files left feeds_before feeds_now air report status (inr run) =
-    prints_met paths cycles join text files left feeds_before feeds_now air.old air.new report run.journal run.heard run.met status run.ran run.reported
+pub prints : (paths : List (List ℕ)) (plan : LivePlan) (text : List ℕ) (files : Files) (left : Option (List ℕ)) (feeds_before feeds_now : ℕ) (air report : ReportTaken) (status : Status)
+    → LeavesLive paths plan text files left feeds_before feeds_now air report status → PrintsScript text report status
+prints paths plan text files left feeds_before feeds_now air report status (inl memory) = inl memory
+prints paths plan text files left feeds_before feeds_now air report status (inr run) =
+    prints_met paths plan text files left feeds_before feeds_now air.old air.new report run.journal run.observed run.met status run.ran run.reported

@@ -13,7 +13,7 @@ use Rattle.epg_report.specs.declared.status.Status.TheVariants.{Memory}
 use Rattle.epg_report.specs.Told.{ReportTaken, told}
 use Rattle.epg_play.specs.Script.{script_in}
 use Rattle.epg_play.specs.Again.{Describes, PlaysAgain}
-use Rattle.epg_live.specs.declared.reporting.HeardAir.{HeardAir}
+use Rattle.epg_live.specs.declared.reporting.Observed.{Observed}
 use Rattle.epg_live.specs.Runs.{described}
 use Rattle.epg_live.specs.Ends.{ReportEnds, run_text}
 
@@ -28,7 +28,7 @@ IsScript text journal =
 abbrev pub PrintsScript : List ℕ → ReportTaken → Status → Type 0
 PrintsScript text report status =
     (status ≡ Memory)
-    ⊎ ((journal : List Entry) × (heard : HeardAir) × (met : Status) × ReportEnds met (run_text journal heard) report status × IsScript text journal)
+    ⊎ ((journal : List Entry) × (observed : Observed) × (met : Status) × ReportEnds met (run_text journal observed) report status × IsScript text journal)
 
 -- So does the report of a call, where the opener's files and the text that was left in the input are known.
 abbrev pub PrintedScript : {O S R : Type 0} → (O → Option Files) → O → (S → Option (List ℕ)) → S → (R → Option (List ℕ)) → (R → ℕ) → R → R → Status → Type 0

@@ -1,4 +1,5 @@
 -- Which command the words of a run spell.
+use Rattle.headend_live.specs.declared.watched.LivePlan.{LivePlan}
 use Rattle.std.specs.Prelude.{◌≡◌, ℕ, List, None, Some, String}
 use Rattle.command_words.specs.Commands.{texts}
 use Rattle.command_words.specs.Grammar.{Listen, Live, Play, Soak, command_of}
@@ -12,9 +13,9 @@ IsPlay words = command_of (texts words) ≡ Some Play
 abbrev pub IsListen : {Y : Type 0} → List (String Y) → Type 0
 IsListen words = command_of (texts words) ≡ Some Listen
 
--- over the files of these paths, with so many cycles, heard from packet `join` on
-abbrev pub IsLive : {Y : Type 0} → List (String Y) → List (List ℕ) → ℕ → ℕ → Type 0
-IsLive words paths cycles join = command_of (texts words) ≡ Some (Live paths cycles join)
+-- over the files of these paths, with so many cycles, heard from a packet on, and these views
+abbrev pub IsLive : {Y : Type 0} → List (String Y) → List (List ℕ) → LivePlan → Type 0
+IsLive words paths plan = command_of (texts words) ≡ Some (Live paths plan.cycles plan.join plan.views)
 
 -- of the load with this number
 abbrev pub IsSoak : {Y : Type 0} → List (String Y) → ℕ → Type 0

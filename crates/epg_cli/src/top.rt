@@ -9,6 +9,7 @@ ghost use Rattle.epg_listen.specs.Leaves.{ListenRan};
 ghost use Rattle.epg_live.specs.LiveRun.{LiveRan};
 ghost use Rattle.epg_live.specs.Stops.{HasStatusCause};
 ghost use Rattle.epg_soak.specs.SoakRun.{SoakRan};
+ghost use Rattle.headend_live.specs.declared.watched.LivePlan.{LivePlan};
 ghost use Rattle.epg_cli.specs.Prints.{PrintedScript};
 ghost use Rattle.epg_cli.specs.Spelled.{IsUsage, IsPlay, IsListen, IsLive, IsSoak, SpellsSoak};
 
@@ -47,15 +48,15 @@ pub fn run<W: Threads + Wait + Sync, O: Opener, S: Source + Send, A: Sink + Send
         A.written A.faults air.old air.new R.written R.faults report.old report.new result }
     ensures listen { IsListen words.now → ListenRan S.left S.faults input.old input.new
         R.written R.faults report.old report.new result }
-    ensures live { (paths : List (List ℕ)) (cycles join : ℕ)
-        → IsLive words.now paths cycles join → LiveRan paths cycles join
+    ensures live { (paths : List (List ℕ)) (plan : LivePlan)
+        → IsLive words.now paths plan → LiveRan paths plan
         O.files O.tried O.faults O.read_faults opener.old opener.new
         S.left S.faults input.old input.new
         A.written A.faults air.old air.new R.written R.faults report.old report.new result }
     // The journal that the report of `live` has is a script: behind its description `play` plays it
     // to this journal again.
-    ensures live_again { (paths : List (List ℕ)) (cycles join : ℕ)
-        → IsLive words.now paths cycles join → PrintedScript O.files opener.old
+    ensures live_again { (paths : List (List ℕ)) (plan : LivePlan)
+        → IsLive words.now paths plan → PrintedScript O.files opener.old
         S.left input.old R.written R.faults report.old report.new result }
     ensures soak { (number : ℕ) → IsSoak words.now number → SoakRan number
         A.written A.faults air.old air.new R.written R.faults report.old report.new result }

@@ -1,5 +1,5 @@
 -- What a run of `soak` promises, from what it met and how its report ended.
-use Rattle.std.proofs.Common.{◌≡◌, ◌⊎◌, inl, inr, ℕ, ◌+◌, ◌-◌, ◌^◌, ◌<◌, true, List, ◌++◌, length, refl, sym, ap, ap₂, ◌∙◌, subst, arith, lit<, append-nil, append_assoc}
+use Rattle.std.proofs.Common.{◌≡◌, ◌⊎◌, inl, inr, ℕ, ◌+◌, ◌-◌, ◌^◌, ◌<◌, true, List, [], ◌++◌, length, refl, sym, ap, ap₂, ◌∙◌, subst, arith, lit<, append-nil, append_assoc}
 use Rattle.std.specs.Prelude.{Option, Some, Ok, codes}
 use Rattle.std.specs.Io.KnownBytes.{Appends}
 use Rattle.si_causes.specs.Causes.{Rose}
@@ -15,7 +15,7 @@ use Rattle.publication_screen.specs.Screen.{screen_of}
 use Rattle.headend_live.specs.SentAir.{SentAir}
 use Rattle.headend_live.proofs.Sent.{air_sent}
 use Rattle.epg_report.specs.declared.status.Status.{Status}
-use Rattle.epg_report.specs.declared.status.Status.TheVariants.{Done, Usage, BadScript, Disagrees, BadMux, BadFeed, BadStream, TooLong, OpenFault, ReadFault, WriteFault, Memory}
+use Rattle.epg_report.specs.declared.status.Status.TheVariants.{Done, Usage, BadScript, Disagrees, BadMux, BadFeed, BadStream, TooLong, OpenFault, ReadFault, WriteFault, Memory, NoView}
 use Rattle.epg_report.specs.declared.status.Origin.TheVariants.{Input, Feed}
 use Rattle.epg_report.specs.declared.status.Outlet.TheVariants.{Air, Report}
 use Rattle.epg_report.specs.Told.{ReportTaken}
@@ -37,7 +37,7 @@ use Rattle.workload_runs.proofs.Texts.{made_done}
 use Rattle.workload_runs.proofs.Journals.{done_counted, runs_whole}
 use Rattle.epg_soak.specs.Files.{soak_files, soak_paths}
 use Rattle.epg_soak.specs.Summary.{count_line, guide_lines, soak_summary, summary_text}
-use Rattle.epg_soak.specs.Load.{IsMetByLoad, LoadMet, is_reported}
+use Rattle.epg_soak.specs.Load.{IsMetByLoad, LoadMet, is_reported, soak_plan}
 use Rattle.epg_soak.specs.SoakRun.{IsOfSoak, LeftSoak, SoakRun, run_summary}
 
 -- ---- what a run of the load may meet
@@ -51,12 +51,12 @@ have_texts number = record { first_is = refl; second_is = refl }
 
 -- what a run over the load's files met
 abbrev MetOfLoad : ℕ → Option (List ℕ) → ReportTaken → LiveResult → Status → Type 0
-MetOfLoad number left air run met = HasMet soak_paths 3 0 soak_text (soak_files number) left 0 0 air.old air.new (entries_of run.desk) run.heard met
+MetOfLoad number left air run met = HasMet soak_paths soak_plan soak_text (soak_files number) left 0 0 air.old air.new (entries_of run.desk) run.observed met
 
 met_of : (number : ℕ) (air : ReportTaken) (run : LiveResult) (load : LoadMet number air run) → MetOfLoad number load.left air run run.met
 met_of number air run load =
-    subst (λ (n : ℕ). HasMet soak_paths 3 0 soak_text (soak_files number) load.left 0 n air.old air.new (entries_of run.desk) run.heard run.met) load.of_load.now
-    (subst (λ (n : ℕ). HasMet soak_paths 3 0 soak_text (soak_files number) load.left n load.opener.read_new air.old air.new (entries_of run.desk) run.heard run.met) load.of_load.before
+    subst (λ (n : ℕ). HasMet soak_paths soak_plan soak_text (soak_files number) load.left 0 n air.old air.new (entries_of run.desk) run.observed run.met) load.of_load.now
+    (subst (λ (n : ℕ). HasMet soak_paths soak_plan soak_text (soak_files number) load.left n load.opener.read_new air.old air.new (entries_of run.desk) run.observed run.met) load.of_load.before
     (load.met.met soak_text refl (soak_files number) load.of_load.files))
 
 caused : (number : ℕ) (air : ReportTaken) (run : LiveResult) (load : LoadMet number air run) → HasStatusCause 0 0 0 0 air.faults_old air.faults_new run.met
@@ -68,7 +68,7 @@ caused number air run load =
 decided : (number : ℕ) (left : Option (List ℕ)) (air : ReportTaken) (run : LiveResult) (met : Status) → MetOfLoad number left air run met
     → ((f : ℕ) → met ≡ OpenFault f → ⊥) → (met ≡ ReadFault Input → ⊥) → (met ≡ WriteFault Air → ⊥) → (met ≡ Memory) ⊎ (met ≡ Done)
 decided number left air run met has no_open no_input no_air =
-    elim (met_decided soak_paths 3 0 soak_text (soak_files number) left 0 0 air.old air.new (entries_of run.desk) run.heard met has no_open no_input no_air never_rose) [
+    elim (met_decided soak_paths soak_plan soak_text (soak_files number) left 0 0 air.old air.new (entries_of run.desk) run.observed met has no_open no_input no_air never_rose) [
       | inl memory ↦ inl memory
       | inr ends ↦ inr (ends ∙ made_done number (codes "1") (codes "2") (soak_files number) (have_texts number))
     ]
@@ -90,6 +90,7 @@ met_by_load number air run load = by run.met load.met.known (caused number air r
     by (BadScript n) known cause has = elim (decided number load.left air run (BadScript n) has (λ f e. cc e) (λ e. cc e) (λ e. cc e)) [ inl e ↦ cc e | inr e ↦ cc e ]
     by (BadMux fault) known cause has = elim (decided number load.left air run (BadMux fault) has (λ f e. cc e) (λ e. cc e) (λ e. cc e)) [ inl e ↦ cc e | inr e ↦ cc e ]
     by (BadFeed f n) known cause has = elim (decided number load.left air run (BadFeed f n) has (λ f e. cc e) (λ e. cc e) (λ e. cc e)) [ inl e ↦ cc e | inr e ↦ cc e ]
+    by (NoView service) known cause has = elim (decided number load.left air run (NoView service) has (λ f e. cc e) (λ e. cc e) (λ e. cc e)) [ inl e ↦ cc e | inr e ↦ cc e ]
     by (TooLong origin) known cause has = elim (decided number load.left air run (TooLong origin) has (λ f e. cc e) (λ e. cc e) (λ e. cc e)) [ inl e ↦ cc e | inr e ↦ cc e ]
 
 -- ---- the summary
@@ -129,7 +130,7 @@ module _ (number : ℕ) (air report : ReportTaken) (run : LiveResult) (status : 
   journal = entries_of run.desk
 
   abbrev RanOfLoad : Status → Type 0
-  RanOfLoad met = Ran soak_paths 3 0 soak_text (soak_files number) load.left 0 0 air.old air.new journal run.heard met
+  RanOfLoad met = Ran soak_paths soak_plan soak_text (soak_files number) load.left 0 0 air.old air.new journal run.observed met
 
   -- a run that met Done, or a fault of the air, has run
   jobs_ran : (met : Status) → is_reported met ≡ true → IsMetByLoad met → MetOfLoad number load.left air run met → RanOfLoad met
@@ -149,38 +150,39 @@ module _ (number : ℕ) (air report : ReportTaken) (run : LiveResult) (status : 
     files = soak_files number;
     feeds = have_texts number;
     join = 0;
+    views = [];
     left = load.left;
     faults_before = 0;
     faults_now = 0;
     before = air.old;
     now = air.new;
-    heard = run.heard;
+    observed = run.observed;
     met = has;
   }
 
   sent_air : (met : Status) → RanOfLoad met → SentAir soak_mux journal air.old air.new
   sent_air met (mux, behind, whole, ran) =
       subst (λ (m : Mux). SentAir m journal air.old air.new) (same_mux mux soak_mux behind control_behind (described soak_text) description_read.1 whole)
-      (air_sent mux journal air.old air.new ran.sent (as_read mux 3 0 soak_text load.left behind soak_paths (soak_files number) 0 0 air.old air.new journal run.heard met whole ran) ran.journal_is.legal ran.air_is)
+      (air_sent mux journal air.old air.new ran.sent (as_read mux soak_plan soak_text load.left behind soak_paths (soak_files number) 0 0 air.old air.new journal run.observed met whole ran) ran.journal_is.legal ran.air_is)
 
-  summary_said : MetOfLoad number load.left air run Done → RanOfLoad Done → (sent : List ℕ) → air.old ≡ Some sent → summary_text journal run.heard.guide ≡ soak_summary number
+  summary_said : MetOfLoad number load.left air run Done → RanOfLoad Done → (sent : List ℕ) → air.old ≡ Some sent → summary_text journal run.observed.guide ≡ soak_summary number
   summary_said has (mux, behind, whole, ran) sent knows =
       let same = same_mux mux soak_mux behind control_behind (described soak_text) description_read.1 whole in
-      let last = ran_shown mux 3 0 soak_text load.left behind soak_paths (soak_files number) 0 0 air.old air.new journal run.heard Done whole ran refl sent knows in
+      let last = ran_shown mux soak_plan soak_text load.left behind soak_paths (soak_files number) 0 0 air.old air.new journal run.observed Done whole ran refl sent knows in
       let shown = last.shown (omega arith) in
       let counted = done_counted number journal (whole_run has) in
-      summary_is number journal run.heard.guide shown.0 counted.0 counted.2.edits counted.2.done (runs_whole number journal (whole_run has))
+      summary_is number journal run.observed.guide shown.0 counted.0 counted.2.edits counted.2.done (runs_whole number journal (whole_run has))
       (shown.2 ∙ ap (λ (m : Mux). Some (Whole (screen_of m (guide_after m journal) shown.0))) same)
 
   abbrev Ends : Status → Type 0
-  Ends met = ReportEnds met (run_summary met journal run.heard) report status
+  Ends met = ReportEnds met (run_summary met journal run.observed) report status
 
   left_soak : (met : Status) → is_reported met ≡ true → IsMetByLoad met → MetOfLoad number load.left air run met → Ends met → LeftSoak number air report status
   left_soak met ended is has ends =
       let ran = jobs_ran met ended is has in
       record {
         journal = journal;
-        heard = run.heard;
+        observed = run.observed;
         met = met;
         left = load.left;
         ran = ran;
@@ -192,7 +194,7 @@ module _ (number : ℕ) (air report : ReportTaken) (run : LiveResult) (status : 
   by : (met : Status) → is_reported met ≡ true → IsMetByLoad met → MetOfLoad number load.left air run met → HasStatusCause 0 0 0 0 air.faults_old air.faults_new met → Ends met → SoakRun number air report status
   by Done ended is has cause (inl (took, same)) = record {
     leaves = inr (left_soak Done ended is has (inl (took, same)));
-    summary = λ done sent knows. subst (Appends report.old report.new) (append-nil (summary_text journal run.heard.guide) ∙ summary_said has (jobs_ran Done ended is has) sent knows) took;
+    summary = λ done sent knows. subst (Appends report.old report.new) (append-nil (summary_text journal run.observed.guide) ∙ summary_said has (jobs_ran Done ended is has) sent knows) took;
     completes = λ no_air no_report. inl same;
     known = subst IsOfSoak (sym same) tt;
     air_cause = λ e. absurd (let bad : Done ≡ WriteFault Air = sym same ∙ e in cc bad);
@@ -236,7 +238,7 @@ soak_memory number air report status e = record {
 }
 
 pub soak_run : (number : ℕ) (air report : ReportTaken) (run : LiveResult) (status : Status) → LoadMet number air run
-    → (status ≡ Memory) ⊎ ((is_reported run.met ≡ true) × ReportEnds run.met (run_summary run.met (entries_of run.desk) run.heard) report status) → SoakRun number air report status
+    → (status ≡ Memory) ⊎ ((is_reported run.met ≡ true) × ReportEnds run.met (run_summary run.met (entries_of run.desk) run.observed) report status) → SoakRun number air report status
 soak_run number air report run status load (inl memory) = soak_memory number air report status memory
 soak_run number air report run status load (inr (ended, ends)) =
     by number air report run status load run.met ended (met_by_load number air run load) (met_of number air run load) (caused number air run load) ends

@@ -1,5 +1,6 @@
 -- What a run over the sources of a load met.
-use Rattle.std.specs.Prelude.{◌≡◌, ℕ, Bool, true, false, List, Option, Some}
+use Rattle.std.specs.Prelude.{◌≡◌, ℕ, Bool, true, false, List, [], Option, Some}
+use Rattle.headend_live.specs.declared.watched.LivePlan.{LivePlan}
 use Rattle.epg_report.specs.declared.status.Status.{Status}
 use Rattle.epg_report.specs.declared.status.Status.TheVariants.{Done, OpenFault, WriteFault, Memory}
 use Rattle.epg_report.specs.declared.status.Outlet.TheVariants.{Air}
@@ -16,12 +17,16 @@ pub record IsOfLoad (number : ℕ) (opener : OpenerAsked) : Type 0 where
   pub before : opener.read_old ≡ 0
   pub now : opener.read_new ≡ 0
 
+-- three cycles, heard from packet 0 on, and no view
+abbrev pub soak_plan : LivePlan
+soak_plan = record { cycles = 3; join = 0; views = [] }
+
 -- A run of `live` over the load's input and files, with three cycles, heard from packet 0 on.
 pub record LoadMet (number : ℕ) (air : ReportTaken) (run : LiveResult) : Type 0 where
   pub opener : OpenerAsked
   pub of_load : IsOfLoad number opener
   pub left : Option (List ℕ)
-  pub met : LiveMet soak_paths 3 0 opener (record { old = Some soak_text; new = left; faults_old = 0; faults_new = 0 }) air run
+  pub met : LiveMet soak_paths soak_plan opener (record { old = Some soak_text; new = left; faults_old = 0; faults_new = 0 }) air run
 
 -- What such a run may meet, whose sources never fail and are whole: Done, a fault of the air, and want of memory, be it for the copy of a
 -- feed's text.

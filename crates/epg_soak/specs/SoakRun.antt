@@ -8,19 +8,20 @@ use Rattle.epg_report.specs.declared.status.Status.{Status}
 use Rattle.epg_report.specs.declared.status.Status.TheVariants.{Done, WriteFault, Memory}
 use Rattle.epg_report.specs.declared.status.Outlet.TheVariants.{Air, Report}
 use Rattle.epg_report.specs.Told.{ReportTaken, told}
-use Rattle.epg_live.specs.declared.reporting.HeardAir.{HeardAir}
+use Rattle.epg_live.specs.declared.reporting.Observed.{Observed}
 use Rattle.epg_live.specs.Runs.{Ran}
 use Rattle.epg_live.specs.Ends.{ReportEnds}
 use Rattle.workload_laws.specs.Load.{soak_mux}
 use Rattle.workload_laws.specs.Callers.{IsSoakRun}
 use Rattle.workload_runs.specs.Runs.{soak_text}
 use Rattle.epg_soak.specs.Files.{soak_files, soak_paths}
+use Rattle.epg_soak.specs.Load.{soak_plan}
 use Rattle.epg_soak.specs.Summary.{soak_summary, summary_text}
 
 -- what the report says of a run that met this: with Done the summary, and else nothing but the fault
-abbrev pub run_summary : Status → List Entry → HeardAir → List ℕ
-run_summary Done journal heard = summary_text journal heard.guide
-run_summary met journal heard = []
+abbrev pub run_summary : Status → List Entry → Observed → List ℕ
+run_summary Done journal observed = summary_text journal observed.guide
+run_summary met journal observed = []
 
 -- only the air or the report can fail, and memory be wanting
 abbrev pub IsOfSoak : Status → Type 0
@@ -32,17 +33,17 @@ IsOfSoak status = ⊥
 -- What a run of the load with this number leaves. Its three cycles, and the two of its end, are heard from packet 0 on.
 pub record LeftSoak (number : ℕ) (air report : ReportTaken) (status : Status) : Type 0 where
   pub journal : List Entry
-  pub heard : HeardAir
+  pub observed : Observed
   pub met : Status
   pub left : Option (List ℕ)
   -- the journal has just the commands of each caller that the made texts give, as with `live`; what was sent is its air
-  pub ran : Ran soak_paths 3 0 soak_text (soak_files number) left 0 0 air.old air.new journal heard met
+  pub ran : Ran soak_paths soak_plan soak_text (soak_files number) left 0 0 air.old air.new journal observed met
   -- with Done all of them: those of a whole run of the load
   pub whole : met ≡ Done → IsSoakRun number journal
   -- what was sent is heard as it should be: coherent, exact and spaced
   pub sent : SentAir soak_mux journal air.old air.new
   -- the report is the summary, or the line of the fault
-  pub reported : ReportEnds met (run_summary met journal heard) report status
+  pub reported : ReportEnds met (run_summary met journal observed) report status
 
 -- So does each run; but want of memory, whoever met it, goes before all.
 abbrev pub LeavesSoak : ℕ → ReportTaken → ReportTaken → Status → Type 0

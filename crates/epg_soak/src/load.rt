@@ -9,6 +9,7 @@ ghost use Rattle.epg_soak.specs.Load.{LoadMet};
 use crate::feed_texts::FeedTexts;
 use command_words::{LiveWords, Paths};
 use epg_live::{LiveResult, run_files};
+use si_base::Items;
 use si_causes::{Gate, NeverFails, Sink};
 use si_workload::{made_control, made_mux};
 use std::alloc::{AllocError, Global};
@@ -50,6 +51,7 @@ pub(crate) fn run_load<W: Threads + Wait + Sync, A: Sink + Send, G: Gate>(
         feeds: feed_paths(alloc)?,
         cycles: 3,
         join: 0,
+        views: Items::new(alloc),
     };
     let mut opener = FeedTexts::of_load(alloc, number)?;
     let mut input = NeverFails::open(input_text(alloc, number)?);

@@ -31,14 +31,14 @@ fn is_reported(met: Status) -> bool
 // Appends the summary, where Done was met.
 fn put_run(alloc: Global, out: &mut Vec<u8>, run: &LiveResult) -> Result<(), AllocError>
     ensures { OnOk result (out.new.items
-        ≡ out.old.items ++ run_summary run.now.met (entries_of run.now.desk) run.now.heard) }
+        ≡ out.old.items ++ run_summary run.now.met (entries_of run.now.desk) run.now.observed) }
 {
     if run.met != Status::Done {
         return Ok(());
     }
     match &run.desk {
-        Some(desk) => put_summary(alloc, out, desk.entries(), &run.heard.guide),
-        None => put_summary(alloc, out, &[], &run.heard.guide),
+        Some(desk) => put_summary(alloc, out, desk.entries(), &run.observed.guide),
+        None => put_summary(alloc, out, &[], &run.observed.guide),
     }
 }
 
@@ -46,7 +46,7 @@ fn put_run(alloc: Global, out: &mut Vec<u8>, run: &LiveResult) -> Result<(), All
 fn report_of(alloc: Global, run: &LiveResult) -> Result<Vec<u8>, AllocError>
     requires { CanBeSaid run.now.met }
     ensures { IfOk result (λ text. text.items
-        ≡ run_summary run.now.met (entries_of run.now.desk) run.now.heard ++ fault_lines run.now.met) }
+        ≡ run_summary run.now.met (entries_of run.now.desk) run.now.observed ++ fault_lines run.now.met) }
 {
     let mut text = Vec::new(alloc);
     put_run(alloc, &mut text, run)?;
@@ -59,7 +59,7 @@ fn finish<R: Sink>(alloc: Global, run: &LiveResult, report: &mut R) -> Status
     requires said { CanBeSaid run.now.met }
     requires met { IsMetByLoad run.now.met }
     ensures ends { (result ≡ Status.Memory) ⊎ ((is_reported run.now.met ≡ true)
-        × ReportEnds run.now.met (run_summary run.now.met (entries_of run.now.desk) run.now.heard)
+        × ReportEnds run.now.met (run_summary run.now.met (entries_of run.now.desk) run.now.observed)
         (told R.written R.faults report.old report.new) result) }
 {
     if !is_reported(run.met) {

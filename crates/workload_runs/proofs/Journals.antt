@@ -1,5 +1,5 @@
 -- The journal of a run over the made texts that met Done.
-use Rattle.std.proofs.Common.{◌≡◌, inl, inr, ℕ, List, [], ◌∷◌, ◌++◌, sym, ap, ◌∙◌, subst, map, append-nil, lit≤}
+use Rattle.std.proofs.Common.{◌≡◌, inl, inr, ℕ, List, [], ◌∷◌, ◌++◌, refl, sym, ap, ◌∙◌, subst, map, append-nil, lit≤}
 use Rattle.std.specs.Prelude.{Option, Some, None, Ok}
 use Rattle.si_causes.specs.Opening.{Files, file_at}
 use Rattle.mux_model.specs.declared.mux.Mux.{Mux}
@@ -13,9 +13,12 @@ use Rattle.journal_model.specs.Steps.{Command, command_of}
 use Rattle.script_lines.specs.Edits.{edits_of}
 use Rattle.desk_core.specs.Journal.{Legal}
 use Rattle.desk_hall.specs.Reads.{commands_by, control_step, controls_ahead, edit_step}
+use Rattle.headend_jobs.specs.Callers.{CommandsAre}
+use Rattle.headend_jobs.specs.Playing.{swaps_by}
 use Rattle.headend_jobs.specs.Whole.{final_commands}
+use Rattle.headend_live.specs.declared.watched.LivePlan.{LivePlan}
 use Rattle.epg_report.specs.declared.status.Status.TheVariants.{Done}
-use Rattle.epg_live.specs.declared.reporting.HeardAir.{HeardAir}
+use Rattle.epg_live.specs.declared.reporting.Observed.{Observed}
 use Rattle.epg_live.specs.Stops.{feeds_stop}
 use Rattle.epg_live.specs.Runs.{CallerDid, FeedsDid, JobsRan, described}
 use Rattle.epg_live.specs.Ends.{HasMet}
@@ -72,10 +75,10 @@ feeds_did number first second files journal (a ∷ b ∷ []) have none did =
 
 -- ---- the run
 
-module _ (number : ℕ) (first second text : List ℕ) (files : Files) (have : HaveFeedTexts number first second files) (is : described text ≡ Came (Ok soak_mux) control_behind) (join : ℕ) (left : Option (List ℕ))
-    (faults_before faults_now : ℕ) (before now : Option (List ℕ)) (journal : List Entry) (heard : HeardAir) where
+module _ (number : ℕ) (first second text : List ℕ) (files : Files) (have : HaveFeedTexts number first second files) (is : described text ≡ Came (Ok soak_mux) control_behind) (plan : LivePlan) (three : plan.cycles ≡ 3) (left : Option (List ℕ))
+    (faults_before faults_now : ℕ) (before now : Option (List ℕ)) (journal : List Entry) (observed : Observed) where
   jobs_ran : (mux : Mux) (behind : Ahead) → described text ≡ Came (Ok mux) behind
-      → JobsRan mux 3 join text left behind (first ∷ second ∷ []) files faults_before faults_now before now journal heard Done → IsSoakRun number journal
+      → JobsRan mux plan text left behind (first ∷ second ∷ []) files faults_before faults_now before now journal observed Done → IsSoakRun number journal
   jobs_ran mux behind whole ran =
       let same = same_mux mux soak_mux behind control_behind (described text) is whole in
       let stops = done_stops ran.sent ran.control_stop (feeds_stop None 1 ran.feed_stops) (sym ran.status_is) in
@@ -84,20 +87,20 @@ module _ (number : ℕ) (first second text : List ℕ) (files : Files) (have : H
       record {
         legal = subst (λ (m : Mux). Legal m journal) same.0 ran.journal_is.legal;
         control = control_did journal ran.final behind control_behind soak_controls ran.control_stop same.1 control_read stops.1 last ran.journal_is.control_did;
-        player = all_swapped ran.player ran.sent journal 3 ran.failed stops.0 ran.journal_is.player_did;
+        player = subst (λ (n : ℕ). CommandsAre journal 1 (swaps_by 1 n)) three (all_swapped ran.player ran.sent journal plan.cycles ran.failed stops.0 ran.journal_is.player_did);
         first = fed.0;
         second = fed.1;
         others = ran.journal_is.others;
       }
 
-  whole_run : HasMet (first ∷ second ∷ []) 3 join text files left faults_before faults_now before now journal heard Done → IsSoakRun number journal
+  whole_run : HasMet (first ∷ second ∷ []) plan text files left faults_before faults_now before now journal observed Done → IsSoakRun number journal
   whole_run (inl memory) = cc
   whole_run (inr (inl none)) = absurd none.why
   whole_run (inr (inr (mux, behind, whole, ran))) = jobs_ran mux behind whole ran
 
 pub runs_whole : DoneRunsAreWhole
 runs_whole number journal done =
-    whole_run number done.first done.second soak_text done.files done.feeds description_read.1 done.join done.left done.faults_before done.faults_now done.before done.now journal done.heard done.met
+    whole_run number done.first done.second soak_text done.files done.feeds description_read.1 (record { cycles = 3; join = done.join; views = done.views }) refl done.left done.faults_before done.faults_now done.before done.now journal done.observed done.met
 
 pub done_counted : DoneRunsAreCounted
 done_counted number journal done = runs_counted number journal (runs_whole number journal done)

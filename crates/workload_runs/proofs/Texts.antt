@@ -1,5 +1,5 @@
 -- The made texts are whole, and whole texts decide that a run ends with Done.
-use Rattle.std.proofs.Common.{List, [], ◌∷◌, ap, lit≤}
+use Rattle.std.proofs.Common.{List, [], ◌∷◌, refl, ap, lit≤}
 use Rattle.input_lines.specs.Ahead.{Stop}
 use Rattle.journal_model.specs.declared.edit.Edit.{Edit}
 use Rattle.si_workload.specs.Texts.{feed_text}
@@ -17,6 +17,7 @@ made_whole number first second files have = record {
   mux = soak_mux;
   behind = control_behind;
   whole = description_read.1;
+  served = refl;
   control = ap (λ r. r.1) control_read;
   feeds = (
     record { text = feed_text number 1; file = have.first_is; end = ap (λ (r : List Edit × Stop). r.1) (feeds_read number 1 (lit≤ tt) (lit≤ tt)) },
@@ -28,4 +29,4 @@ made_whole number first second files have = record {
 }
 
 pub made_done : MadeTextsAreDone
-made_done number first second files have = whole_done soak_text (first ∷ second ∷ []) files (made_whole number first second files have)
+made_done number first second files have = whole_done soak_text [] (first ∷ second ∷ []) files (made_whole number first second files have)

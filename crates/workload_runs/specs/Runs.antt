@@ -3,7 +3,7 @@ use Rattle.std.specs.Prelude.{◌≡◌, ℕ, List, [], ◌∷◌, ◌++◌, len
 use Rattle.si_causes.specs.Opening.{Files, file_at}
 use Rattle.journal_model.specs.declared.step.Entry.{Entry}
 use Rattle.epg_report.specs.declared.status.Status.TheVariants.{Done}
-use Rattle.epg_live.specs.declared.reporting.HeardAir.{HeardAir}
+use Rattle.epg_live.specs.declared.reporting.Observed.{Observed}
 use Rattle.epg_live.specs.Decided.{AreWhole, text_status}
 use Rattle.epg_live.specs.Ends.{HasMet}
 use Rattle.si_workload.specs.Texts.{mux_text, control_text, feed_text}
@@ -22,13 +22,13 @@ pub record HaveFeedTexts (number : ℕ) (first second : List ℕ) (files : Files
 -- The input and the files of the feeds are whole,
 abbrev pub MadeTextsAreWhole : Type 0
 MadeTextsAreWhole =
-    (number : ℕ) (first second : List ℕ) (files : Files) → HaveFeedTexts number first second files → AreWhole soak_text (first ∷ second ∷ []) files
+    (number : ℕ) (first second : List ℕ) (files : Files) → HaveFeedTexts number first second files → AreWhole soak_text [] (first ∷ second ∷ []) files
 
 -- and so decide that a run ends with Done, where nothing fails.
 abbrev pub MadeTextsAreDone : Type 0
 MadeTextsAreDone =
     (number : ℕ) (first second : List ℕ) (files : Files) → HaveFeedTexts number first second files
-    → text_status soak_text (first ∷ second ∷ []) files ≡ Done
+    → text_status soak_text [] (first ∷ second ∷ []) files ≡ Done
 
 -- A run of three cycles over these texts, heard from packet `join` on, met Done, and this is its journal.
 pub record HasMetDone (number : ℕ) (journal : List Entry) : Type 0 where
@@ -37,13 +37,14 @@ pub record HasMetDone (number : ℕ) (journal : List Entry) : Type 0 where
   pub files : Files
   pub feeds : HaveFeedTexts number first second files
   pub join : ℕ
+  pub views : List ℕ
   pub left : Option (List ℕ)
   pub faults_before : ℕ
   pub faults_now : ℕ
   pub before : Option (List ℕ)
   pub now : Option (List ℕ)
-  pub heard : HeardAir
-  pub met : HasMet (first ∷ second ∷ []) 3 join soak_text files left faults_before faults_now before now journal heard Done
+  pub observed : Observed
+  pub met : HasMet (first ∷ second ∷ []) (record { cycles = 3; join = join; views = views }) soak_text files left faults_before faults_now before now journal observed Done
 
 -- That journal is one of a whole run of the load;
 abbrev pub DoneRunsAreWhole : Type 0

@@ -1,6 +1,7 @@
 use Rattle.std.proofs.Common.{◌≡◌, refl, [], codes, inl, inr}
 use Rattle.std.specs.Prelude.{Some, None}
 use Rattle.command_words.specs.Commands.{texts}
+use Rattle.epg_live.specs.Views.{plan_of}
 use Rattle.command_words.specs.Grammar.{command_of, Play, Listen, Live, Soak}
 use Rattle.epg_report.specs.Texts.{fault_line}
 use Rattle.epg_report.specs.Told.{gave, told}
@@ -25,8 +26,8 @@ returns-in-Ok-Play g c =
       usage_leaves = λ e. absurd (play_usage c.run_play.result run.known e);
       play = λ spelled. run;
       listen = λ spelled. absurd (play_listen command spells spelled);
-      live = λ paths cycles join spelled. absurd (play_live command paths cycles join spells spelled);
-      live_again = λ paths cycles join spelled. absurd (play_live command paths cycles join spells spelled);
+      live = λ paths plan spelled. absurd (play_live command paths plan spells spelled);
+      live_again = λ paths plan spelled. absurd (play_live command paths plan spells spelled);
       soak = λ number spelled. absurd (play_soak command number spells spelled);
       air_kept = λ spelled. absurd (play_listen command spells spelled);
       opener_kept = λ spelled. refl;
@@ -48,8 +49,8 @@ returns-in-Ok-Listen g c =
       usage_leaves = λ e. absurd (listen_usage c.run_listen.result run.known e);
       play = λ spelled. absurd (play_listen command spelled spells);
       listen = λ spelled. run;
-      live = λ paths cycles join spelled. absurd (listen_live command paths cycles join spells spelled);
-      live_again = λ paths cycles join spelled. absurd (listen_live command paths cycles join spells spelled);
+      live = λ paths plan spelled. absurd (listen_live command paths plan spells spelled);
+      live_again = λ paths plan spelled. absurd (listen_live command paths plan spells spelled);
       soak = λ number spelled. absurd (listen_soak command number spells spelled);
       air_kept = λ spelled. refl;
       opener_kept = λ spelled. refl;
@@ -66,25 +67,25 @@ returns-in-Ok-Live g c =
     let command = command_of (texts c.args.words.now) in
     let words = c.in-Ok-Live.live in
     let read = texts words.feeds.items in
-    let spells : command ≡ Some (Live read words.cycles words.join) = rw c.in-Ok-Live.field-0-is at c.in-Ok-Live.ensures.command in
+    let spells : command ≡ Some (Live read words.cycles words.join words.views) = rw c.in-Ok-Live.field-0-is at c.in-Ok-Live.ensures.command in
     let run = c.run_live_files.ensures.run in
     let opener = asked g.O.Opener.files g.O.Opener.tried g.O.Opener.faults g.O.Opener.read_faults c.args.opener.now c.run_live_files.new.opener in
     let input = gave g.S.Source.left g.S.Source.faults c.args.input.now c.run_live_files.new.input in
     let air = told g.A.Sink.written g.A.Sink.faults c.args.air.now c.run_live_files.new.air in
     let report = told g.R.Sink.written g.R.Sink.faults c.args.report.now c.run_live_files.new.report in
     record {
-      usage = (λ e. absurd (live_usage c.run_live_files.result run.known e), λ none. absurd (some_none command (Live read words.cycles words.join) spells none));
+      usage = (λ e. absurd (live_usage c.run_live_files.result run.known e), λ none. absurd (some_none command (Live read words.cycles words.join words.views) spells none));
       usage_leaves = λ e. absurd (live_usage c.run_live_files.result run.known e);
-      play = λ spelled. absurd (play_live command read words.cycles words.join spelled spells);
-      listen = λ spelled. absurd (listen_live command read words.cycles words.join spelled spells);
-      live = λ paths cycles join spelled.
-          live_is (λ ps n j. LiveRun ps n j opener input air report c.run_live_files.result) command read paths words.cycles cycles words.join join spells spelled run;
-      live_again = λ paths cycles join spelled text tells files known.
-          prints read words.cycles words.join text files input.new opener.read_old opener.read_new air report c.run_live_files.result (run.leaves text tells files known);
-      soak = λ number spelled. absurd (live_soak command read words.cycles words.join number spells spelled);
-      air_kept = λ spelled. absurd (listen_live command read words.cycles words.join spelled spells);
-      opener_kept = λ spelled. absurd (live_others command read words.cycles words.join spells spelled);
-      input_kept = λ spelled. absurd (live_soak command read words.cycles words.join spelled.0 spells spelled.1);
+      play = λ spelled. absurd (play_live command read (plan_of words) spelled spells);
+      listen = λ spelled. absurd (listen_live command read (plan_of words) spelled spells);
+      live = λ paths plan spelled.
+          live_is (λ ps p. LiveRun ps p opener input air report c.run_live_files.result) command read paths (plan_of words) plan spells spelled run;
+      live_again = λ paths plan spelled text tells files known.
+          prints read (plan_of words) text files input.new opener.read_old opener.read_new air report c.run_live_files.result (run.leaves text tells files known);
+      soak = λ number spelled. absurd (live_soak command read (plan_of words) number spells spelled);
+      air_kept = λ spelled. absurd (listen_live command read (plan_of words) spelled spells);
+      opener_kept = λ spelled. absurd (live_others command read (plan_of words) spells spelled);
+      input_kept = λ spelled. absurd (live_soak command read (plan_of words) spelled.0 spells spelled.1);
       end = λ done. inr (run.end done);
       cause = run.cause;
       open_cause = run.open_cause;
@@ -96,6 +97,9 @@ run_live_files-requires-clause-few g c κs within = (rw c.in-Ok-Live.field-0-is 
 
 pub run_live_files-requires-clause-cycles : goal.run_live_files-requires-clause-cycles
 run_live_files-requires-clause-cycles g c κs within = (rw c.in-Ok-Live.field-0-is at c.in-Ok-Live.ensures.within).1
+
+pub run_live_files-requires-clause-views : goal.run_live_files-requires-clause-views
+run_live_files-requires-clause-views g c κs within = (rw c.in-Ok-Live.field-0-is at c.in-Ok-Live.ensures.within).2
 
 pub returns-in-Ok-Soak : goal.returns-in-Ok-Soak
 returns-in-Ok-Soak g c =
@@ -110,8 +114,8 @@ returns-in-Ok-Soak g c =
       usage_leaves = λ e. absurd (soak_usage c.run_soak.result run.known e);
       play = λ spelled. absurd (play_soak command read spelled spells);
       listen = λ spelled. absurd (listen_soak command read spelled spells);
-      live = λ paths cycles join spelled. absurd (live_soak command paths cycles join read spelled spells);
-      live_again = λ paths cycles join spelled. absurd (live_soak command paths cycles join read spelled spells);
+      live = λ paths plan spelled. absurd (live_soak command paths plan read spelled spells);
+      live_again = λ paths plan spelled. absurd (live_soak command paths plan read spelled spells);
       soak = λ number spelled. soak_is (λ n. SoakRun n air report c.run_soak.result) command read number spells spelled run;
       air_kept = λ spelled. absurd (listen_soak command read spelled spells);
       opener_kept = λ spelled. refl;
@@ -131,14 +135,14 @@ returns-in-Err-Memory g c =
     let input = gave g.S.Source.left g.S.Source.faults c.args.input.now c.args.input.now in
     let air = told g.A.Sink.written g.A.Sink.faults c.args.air.now c.args.air.now in
     let report = told g.R.Sink.written g.R.Sink.faults c.args.report.now c.out_of_memory.new.report in
-    let run = live_memory [] 0 0 opener input air report c.out_of_memory.result is (none_asked [] tried) in
+    let run = live_memory [] (record { cycles = 0; join = 0; views = [] }) opener input air report c.out_of_memory.result is (none_asked [] tried) in
     record {
       usage = (λ e. absurd (memory_usage c.out_of_memory.result is e), λ none. absurd (memory_read ((rw c.in-Err-Memory.field-0-is at c.in-Err-Memory.ensures.usage).1 none)));
       usage_leaves = λ e. absurd (memory_usage c.out_of_memory.result is e);
       play = λ spelled. play_memory input air report c.out_of_memory.result is;
       listen = λ spelled. listen_memory input report c.out_of_memory.result is;
-      live = λ paths cycles join spelled. live_memory paths cycles join opener input air report c.out_of_memory.result is (none_asked paths tried);
-      live_again = λ paths cycles join spelled text tells files known. inl is;
+      live = λ paths plan spelled. live_memory paths plan opener input air report c.out_of_memory.result is (none_asked paths tried);
+      live_again = λ paths plan spelled text tells files known. inl is;
       soak = λ number spelled. soak_memory number air report c.out_of_memory.result is;
       air_kept = λ spelled. refl;
       opener_kept = λ spelled. refl;
@@ -163,8 +167,8 @@ returns-in-Err-Usage g c =
       );
       play = λ spelled. absurd (some_none command Play spelled none);
       listen = λ spelled. absurd (some_none command Listen spelled none);
-      live = λ paths cycles join spelled. absurd (some_none command (Live paths cycles join) spelled none);
-      live_again = λ paths cycles join spelled. absurd (some_none command (Live paths cycles join) spelled none);
+      live = λ paths plan spelled. absurd (some_none command (Live paths plan.cycles plan.join plan.views) spelled none);
+      live_again = λ paths plan spelled. absurd (some_none command (Live paths plan.cycles plan.join plan.views) spelled none);
       soak = λ number spelled. absurd (some_none command (Soak number) spelled none);
       air_kept = λ spelled. absurd (some_none command Listen spelled none);
       opener_kept = λ spelled. refl;
