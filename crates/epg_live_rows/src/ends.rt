@@ -62,6 +62,18 @@ pub fn put_report(out: &mut String, left: &Left) -> Result<(), AllocError> {
     put_behind(out, report_of(left))
 }
 
+/// Appends code, and the lines of views that the report has.
+pub fn put_views(out: &mut String, left: &Left) -> Result<(), AllocError> {
+    let code = left.status.code();
+    write!(out, "{code}")?;
+    for line in report_of(left).lines() {
+        if line.starts_with("view\t") {
+            put_behind(out, line)?;
+        }
+    }
+    Ok(())
+}
+
 /// The caller of an entry's line of a report.
 pub fn caller_of(line: &str) -> Option<u32> {
     let (who, _) = line.split_once(',')?;

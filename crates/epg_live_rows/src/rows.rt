@@ -1,5 +1,5 @@
 // A row and its answer.
-use crate::ends::{put_counts, put_end, put_report, put_whole};
+use crate::ends::{put_counts, put_end, put_report, put_views, put_whole};
 use crate::faults::faults_of;
 use crate::orders::tell_order;
 use crate::run::{Given, Left, run_row};
@@ -104,6 +104,7 @@ fn tell<W: Threads + Wait + Sync>(
         "reports" => put_whole(out, &left_of(rt, alloc, row)?),
         "says" => put_report(out, &left_of(rt, alloc, row)?),
         "counts" => put_counts(out, &left_of(rt, alloc, row)?),
+        "views" => put_views(out, &left_of(rt, alloc, row)?),
         "each" => tell_each(rt, alloc, row, out),
         "order" => tell_held(rt, alloc, row, out),
         "week" => tell_week(rt, alloc, &week_of(row), out),

@@ -1,12 +1,12 @@
 // What a run of two feeds, a control and a player leaves.
-ghost use Rattle.std.specs.Prelude.{◌≤◌};
+ghost use Rattle.std.specs.Prelude.{◌≡◌, ◌≤◌, []};
 ghost use Rattle.mux_model.specs.Sound.{IsSound};
 
 use crate::halls::two_services;
 use crate::journals::{put_others, put_steps_of};
 use crate::lines::{Lines, WHOLE, reader};
 use crate::words::put_stop;
-use headend_live::{DoneLine, LiveEnd, LivePlan, LiveStop, run_live};
+use headend_live::{DoneLine, LiveEnd, LivePlan, LiveStop, Numbers, run_live};
 use mux_model::Mux;
 use row_gates::Holding;
 use si_causes::{MemSink, MemSource};
@@ -43,6 +43,7 @@ fn ended<W: Threads + Wait + Sync>(
 ) -> Result<Left, AllocError>
     requires sound { IsSound mux }
     requires cycles { plan.cycles ≤ 1000 }
+    requires views { plan.views ≡ [] }
 {
     let mut feeds = Vec::new(alloc);
     feeds.push(first)?;
@@ -63,6 +64,7 @@ fn ended_of<W: Threads + Wait + Sync>(
     let plan = LivePlan {
         cycles: u64::from(run.cycles).min(1000),
         join: u64::from(run.join),
+        views: Numbers::new(alloc),
     };
     let first = reader(alloc, run.first, WHOLE)?;
     let second = reader(alloc, run.second, WHOLE)?;
