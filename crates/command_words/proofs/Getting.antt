@@ -7,7 +7,7 @@ use Rattle.std.specs.Prelude.{IfNone, IfSome, ◌+◌, ◌<◌, ◌++◌, length
 use Rattle.clap.specs.Matches.{first_value, matched_of, raw_values}
 use Rattle.clap.specs.declared.parser.matches.Found.{Found}
 use Rattle.input_lines.specs.Numbers.{number_in}
-use Rattle.command_words.specs.Grammar.{CommandLine, Play, Listen, Live, Soak, live_of, settings_of}
+use Rattle.command_words.specs.Grammar.{CommandLine, Play, Listen, Live, Soak, Audit, live_of, settings_of}
 use Rattle.command_words.specs.Matches.{Say, values_or_none}
 
 pub record Said (found : Found) (words : List (List ℕ)) : Type 0 where
@@ -37,6 +37,7 @@ said found words some say = by (option_and_then live_of (settings_of words)) ref
     by (Some Play) e is = absurd (say Play e)
     by (Some Listen) e is = absurd (say Listen e)
     by (Some (Soak number)) e is = absurd (say (Soak number) e)
+    by (Some (Audit path)) e is = absurd (say (Audit path) e)
     by (Some (Live feeds cycles join views)) e is =
         let (f, c, j, v) = say (Live feeds cycles join views) e in
         let (cycles_text, cycles_are, cycles_read) = then_some (number_in 1 1000) (first_value found (codes "cycles")) cycles c in

@@ -8,7 +8,7 @@ use Rattle.std.proofs.lemmas.List.{length-map}
 use Rattle.input_lines.specs.Numbers.{in_range, is_numeral, number_in, value_from}
 use Rattle.command_words.specs.declared.command.LiveWords.{LiveWords}
 use Rattle.command_words.specs.Commands.{said_live}
-use Rattle.command_words.specs.Grammar.{CommandLine, Play, Listen, Live, Soak, Setting, Feed, Cycles, Join, View, and_setting, cycles_of, feed_of, join_of, view_of, is_dashed, is_equals, live_of, live_with, path_of, setting_in, setting_in_two, setting_of, settings_of}
+use Rattle.command_words.specs.Grammar.{CommandLine, Play, Listen, Live, Soak, Audit, Setting, Feed, Cycles, Join, View, and_setting, cycles_of, feed_of, join_of, view_of, is_dashed, is_equals, live_of, live_with, path_of, setting_in, setting_in_two, setting_of, settings_of}
 
 -- a number of cycles is at most 1,000
 abbrev IsSettingWithin : Setting → Type 0
@@ -102,6 +102,7 @@ IsLineWithin Play = Unit {0}
 IsLineWithin Listen = Unit {0}
 IsLineWithin (Live feeds cycles join views) = (length feeds ≤ 16) × (cycles ≤ 1000) × (length views ≤ 8)
 IsLineWithin (Soak number) = Unit {0}
+IsLineWithin (Audit path) = Unit {0}
 
 abbrev IfLine : Option CommandLine → Type 0
 IfLine None = Unit {0}

@@ -1,5 +1,5 @@
 -- Options of `live`, one more, and those that words spell.
-use Rattle.std.proofs.Common.{◌≡◌, ◌<◌, ℕ, ◌+◌, true, false, List, [], ◌∷◌, ◌++◌, length, Option, Some, None, refl, sym, ap, ◌∙◌, subst, arith, append-nil, append_assoc, length-append, inl, inr}
+use Rattle.std.proofs.Common.{◌≡◌, ◌<◌, ℕ, ◌+◌, true, false, List, [], ◌∷◌, ◌++◌, length, Option, Some, None, refl, sym, ap, ◌∙◌, subst, arith, append-nil, append_assoc, length-append, inl, inr, ap₂}
 use Rattle.std.specs.Prelude.{◌==◌, filter_map, min, option_map, String}
 use Rattle.std.specs.List.{list_any, position_or_len, before_first, after_first}
 use Rattle.std.proofs.lemmas.List.Elements.{filter_map-append}
@@ -9,7 +9,7 @@ use Rattle.command_words.specs.declared.setting.LiveOption.{LiveOption}
 use Rattle.command_words.specs.declared.setting.LiveOption.TheVariants as option
 use Rattle.command_words.specs.Commands.{option_of, texts}
 use Rattle.command_words.specs.Counts.{Counted, counted}
-use Rattle.command_words.specs.Grammar.{Setting, Feed, Cycles, Join, View, feed_of, cycles_of, join_of, view_of, settings_of, setting_of, setting_in, is_equals, is_dashed, and_setting}
+use Rattle.command_words.specs.Grammar.{Setting, Feed, Cycles, Join, View, feed_of, cycles_of, join_of, view_of, settings_of, setting_of, setting_in, is_equals, is_dashed, and_setting, front_option}
 
 -- ---- how often each option came
 
@@ -107,6 +107,31 @@ in_none word value words none d = dashed_value word value words (none_found word
 
 pub in_alone : (word : List ℕ) → position_or_len is_equals word ≡ length word → settings_of (word ∷ []) ≡ None
 in_alone word none = rw (none_found word none) refl
+
+-- the same, apart from what the option is
+front_with_equals : (word : List ℕ) (words : List (List ℕ)) → list_any is_equals word ≡ true → front_option (word ∷ words) ≡ Some (before_first is_equals word, after_first is_equals word, words)
+front_with_equals word [] e = rw e refl
+front_with_equals word (next ∷ words) e = rw e refl
+
+front_name_and_value : (word value : List ℕ) (words : List (List ℕ)) → list_any is_equals word ≡ false → is_dashed value ≡ false → front_option (word ∷ value ∷ words) ≡ Some (word, value, words)
+front_name_and_value word value words e d = rw (e, d) refl
+
+front_dashed : (word value : List ℕ) (words : List (List ℕ)) → list_any is_equals word ≡ false → is_dashed value ≡ true → front_option (word ∷ value ∷ words) ≡ None
+front_dashed word value words e d = rw (e, d) refl
+
+pub front_in_one : (word name value : List ℕ) (words : List (List ℕ)) → name ≡ before_first is_equals word → value ≡ after_first is_equals word → position_or_len is_equals word < length word
+    → front_option (word ∷ words) ≡ Some (name, value, words)
+front_in_one word name value words n v found = front_with_equals word words (any_found word found) ∙ ap₂ (λ (a b : List ℕ). let q : List ℕ × List ℕ × List (List ℕ) = (a, b, words) in Some q) (sym n) (sym v)
+
+pub front_in_two : (word value : List ℕ) (words : List (List ℕ)) → position_or_len is_equals word ≡ length word → is_dashed value ≡ false → front_option (word ∷ value ∷ words) ≡ Some (word, value, words)
+front_in_two word value words none d = front_name_and_value word value words (none_found word none) d
+
+pub front_in_none : (word value : List ℕ) (words : List (List ℕ)) → position_or_len is_equals word ≡ length word → is_dashed value ≡ true → front_option (word ∷ value ∷ words) ≡ None
+front_in_none word value words none d = front_dashed word value words (none_found word none) d
+
+pub front_alone : (word : List ℕ) (words : List (List ℕ)) → position_or_len is_equals word ≡ length word → length words ≡ 0 → front_option (word ∷ words) ≡ None
+front_alone word [] none no_more = rw (none_found word none) refl
+front_alone word (next ∷ words) none no_more = absurd (omega (arith, no_more))
 
 -- ---- options, one after another
 

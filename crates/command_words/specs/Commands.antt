@@ -5,7 +5,7 @@ use Rattle.command_words.specs.declared.command.Command.TheVariants as command
 use Rattle.command_words.specs.declared.command.LiveWords.{LiveWords}
 use Rattle.command_words.specs.declared.setting.LiveOption.{LiveOption}
 use Rattle.command_words.specs.declared.setting.LiveOption.TheVariants as option
-use Rattle.command_words.specs.Grammar.{CommandLine, Play, Listen, Live, Soak, Setting, Feed, Cycles, Join, View}
+use Rattle.command_words.specs.Grammar.{CommandLine, Play, Listen, Live, Soak, Audit, Setting, Feed, Cycles, Join, View}
 
 -- words as their bytes
 abbrev pub texts : {Y : Type 0} → List (String Y) → List (List ℕ)
@@ -28,6 +28,7 @@ said command.Play = Play
 said command.Listen = Listen
 said (command.Live live) = said_live live
 said (command.Soak number) = Soak number
+said (command.Audit path) = Audit (string_bytes path)
 
 -- the limits of a command: at most 16 feeds, 1,000 cycles, and 8 views; the number of a load has at most nine digits
 abbrev pub IsWithin : Command → Type 0
@@ -35,3 +36,4 @@ IsWithin command.Play = Unit {0}
 IsWithin command.Listen = Unit {0}
 IsWithin (command.Live live) = (length live.feeds.items ≤ 16) × (live.cycles ≤ 1000) × (length live.views ≤ 8)
 IsWithin (command.Soak number) = number ≤ 999999999
+IsWithin (command.Audit path) = Unit {0}

@@ -1,5 +1,5 @@
 -- The words of a command line, without the program's name, each as its bytes, and the command that they spell.
-use Rattle.std.specs.Prelude.{ℕ, ◌==◌, ◌||◌, ◌&&◌, nat_le, Bool, true, false, List, [], ◌∷◌, length, Option, Some, None, option_map, option_and_then, filter_map, codes, bytes_eq, if◌then◌else◌}
+use Rattle.std.specs.Prelude.{ℕ, ◌==◌, ◌||◌, ◌&&◌, nat_le, not, Bool, true, false, List, [], ◌∷◌, length, Option, Some, None, option_map, option_and_then, filter_map, codes, bytes_eq, if◌then◌else◌}
 use Rattle.std.specs.List.{list_any, before_first, after_first}
 use Rattle.input_lines.specs.Numbers.{in_range, number_in}
 
@@ -26,6 +26,9 @@ is_dashed [] = false
 is_dashed (b ∷ bs) = b == 45
 
 -- a path is not empty, and is not `-`
+abbrev pub is_path : List ℕ → Bool
+is_path value = not (is_empty value || bytes_eq value (codes "-"))
+
 abbrev pub path_of : List ℕ → Option Setting
 path_of value = if is_empty value || bytes_eq value (codes "-") then None else Some (Feed value)
 
@@ -93,6 +96,8 @@ pub data CommandLine : Type 0 where
   Live : List (List ℕ) → ℕ → ℕ → List ℕ → CommandLine
   -- the number of its load
   Soak : ℕ → CommandLine
+  -- the path of its recording
+  Audit : List ℕ → CommandLine
 
 -- 1 to 16 feeds, cycles once, join once, and at most 8 views
 abbrev pub live_with : List (List ℕ) → List ℕ → List ℕ → List ℕ → Option CommandLine
@@ -117,10 +122,29 @@ soak_of [] = None
 soak_of (word ∷ []) = option_map Soak (number_in 0 999999999 word)
 soak_of (word ∷ next ∷ words) = None
 
+-- name and value of the option at the front of words, and the words behind it
+abbrev pub front_option : List (List ℕ) → Option (List ℕ × List ℕ × List (List ℕ))
+front_option [] = None
+front_option (word ∷ []) = if list_any is_equals word then Some (before_first is_equals word, after_first is_equals word, []) else None
+front_option (word ∷ next ∷ words) =
+    if list_any is_equals word then Some (before_first is_equals word, after_first is_equals word, next ∷ words)
+    else if is_dashed next then None
+    else Some (word, next, words)
+
+-- the option `--air` with a path, behind which no word stands
+abbrev pub air_alone : List ℕ × List ℕ × List (List ℕ) → Option CommandLine
+air_alone (name, value, []) = if bytes_eq name (codes "--air") && is_path value then Some (Audit value) else None
+air_alone (name, value, word ∷ words) = None
+
+-- one option, the path of a recording
+abbrev pub audit_of : List (List ℕ) → Option CommandLine
+audit_of words = option_and_then air_alone (front_option words)
+
 -- the command that words spell
 abbrev pub command_of : List (List ℕ) → Option CommandLine
 command_of [] = None
 command_of (word ∷ words) =
     if bytes_eq word (codes "live") then option_and_then live_of (settings_of words)
     else if bytes_eq word (codes "soak") then soak_of words
+    else if bytes_eq word (codes "audit") then audit_of words
     else alone_with word words

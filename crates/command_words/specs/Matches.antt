@@ -7,7 +7,7 @@ use Rattle.clap.specs.declared.builder.action.ArgAction.{ArgAction}
 use Rattle.clap.specs.declared.builder.action.ArgAction.TheVariants.{Append, Set}
 use Rattle.clap.specs.declared.parser.matches.Found.{Found}
 use Rattle.input_lines.specs.Numbers.{number_in}
-use Rattle.command_words.specs.Grammar.{CommandLine, Play, Listen, Live, Soak}
+use Rattle.command_words.specs.Grammar.{CommandLine, Play, Listen, Live, Soak, Audit}
 
 -- an option that has to stand, and has a value
 abbrev pub required : Text → ArgAction → Rule
@@ -39,6 +39,7 @@ abbrev pub Say : Found → CommandLine → Type 0
 Say found Play = ⊥
 Say found Listen = ⊥
 Say found (Soak number) = ⊥
+Say found (Audit path) = ⊥
 Say found (Live feeds cycles join views) = (option_map raw_values (matched_of found (codes "feed")) ≡ Some feeds)
     × (option_and_then (number_in 1 1000) (first_value found (codes "cycles")) ≡ Some cycles)
     × (option_and_then (number_in 0 999999999) (first_value found (codes "join")) ≡ Some join)

@@ -1,6 +1,6 @@
 -- Worked rows of the definitions.
 use Rattle.std.specs.Prelude.{◌≡◌, [], ◌∷◌, Some, None, codes, refl}
-use Rattle.command_words.specs.Grammar.{command_of, Play, Live, Soak}
+use Rattle.command_words.specs.Grammar.{command_of, Play, Live, Soak, Audit}
 
 two_feeds : command_of (codes "live" ∷ codes "--join=0" ∷ codes "--feed" ∷ codes "a" ∷ codes "--cycles" ∷ codes "3" ∷ codes "--feed=b" ∷ []) ≡ Some (Live (codes "a" ∷ codes "b" ∷ []) 3 0 [])
 two_feeds = refl
@@ -57,3 +57,22 @@ soak_dashes = refl
 
 soak_alone : command_of (codes "soak" ∷ []) ≡ None
 soak_alone = refl
+
+-- the one option of `audit`, in two words or in one
+audit : command_of (codes "audit" ∷ codes "--air" ∷ codes "week.ts" ∷ []) ≡ Some (Audit (codes "week.ts"))
+audit = refl
+
+audit_in_one : command_of (codes "audit" ∷ codes "--air=-a=b" ∷ []) ≡ Some (Audit (codes "-a=b"))
+audit_in_one = refl
+
+audit_alone : command_of (codes "audit" ∷ []) ≡ None
+audit_alone = refl
+
+audit_dashed : command_of (codes "audit" ∷ codes "--air" ∷ codes "-a" ∷ []) ≡ None
+audit_dashed = refl
+
+audit_twice : command_of (codes "audit" ∷ codes "--air=a" ∷ codes "--air=a" ∷ []) ≡ None
+audit_twice = refl
+
+audit_of_nothing : command_of (codes "audit" ∷ codes "--air=" ∷ []) ≡ None
+audit_of_nothing = refl

@@ -1,10 +1,11 @@
 // Commands.
-ghost use Rattle.std.specs.Prelude.{◌≡◌, ◌↔◌, Some, None, Err, IfOk, IfSome, option_and_then, option_map};
+ghost use Rattle.std.specs.Prelude.{◌≡◌, ◌↔◌, Some, None, Err, IfNone, IfOk, IfSome, option_and_then, option_map};
 ghost use Rattle.command_words.specs.declared.command.WordsStop.TheVariants.{Usage};
 ghost use Rattle.command_words.specs.Commands.{IsWithin, said, texts};
-ghost use Rattle.command_words.specs.Grammar.{alone as alone_in, command_of, live_of, settings_of, soak_of};
+ghost use Rattle.command_words.specs.Grammar.{Audit, alone as alone_in, audit_of, command_of, live_of, settings_of, soak_of};
 
 use crate::matches::live_words;
+use crate::setting::{first_option, is_path};
 use crate::uses::are_live;
 use input_lines::number;
 use si_base::Items;
@@ -31,9 +32,11 @@ pub enum Command {
     Live(LiveWords),
     /// A run of a load of its own making: the number of the load, 0 to 999,999,999.
     Soak(u64),
+    /// A recording held against the air of a journal: the path of the recording.
+    Audit(String),
 }
 
-/// Why words give no command: they spell none, or memory is wanting for the paths.
+/// Why words give no command: they spell none, or memory is wanting for a path.
 #[derive(Debug, Clone, Copy, PartialEq, Eq)]
 pub enum WordsStop {
     Usage,
@@ -43,8 +46,8 @@ pub enum WordsStop {
 /// The command that words spell; the program's name is not among them.
 ///
 /// `play` and `listen` have no further word. `soak` has one, the number of its load, 0 to 999,999,999. `live` has, in any order,
-/// `--feed PATH` 1 to 16 times, `--cycles N` once, `--join J` once and `--view SERVICE`, 0 to 65,535, at most 8 times. An option is one word with `=`, or two words, of which the
-/// second does not begin with `-`. A path is not empty and is not `-`. A number has one to nine digits and lies in its range. There
+/// `--feed PATH` 1 to 16 times, `--cycles N` once, `--join J` once and `--view SERVICE`, 0 to 65,535, at most 8 times. `audit` has
+/// `--air PATH` once. An option is one word with `=`, or two words, of which the second does not begin with `-`. A path is not empty and is not `-`. A number has one to nine digits and lies in its range. There
 /// are no short spellings.
 ///
 /// `Usage` comes exactly where the words spell no command. `Memory` comes only where they do and memory is wanting.
@@ -61,6 +64,9 @@ pub fn parse_words(alloc: Global, words: &[String]) -> Result<Command, WordsStop
     }
     if word.as_str() == "soak" {
         return soak(behind).ok_or(WordsStop::Usage);
+    }
+    if word.as_str() == "audit" {
+        return audit(alloc, behind);
     }
     match alone(word.as_str()) {
         Some(command) if behind.is_empty() => Ok(command),
@@ -93,6 +99,36 @@ fn soak(words: &[String]) -> Option<Command>
     }
     let number = number(word.as_str(), 0, 999_999_999)?;
     Some(Command::Soak(u64::from(number)))
+}
+
+// The path that the one option of `audit` gives.
+fn air_path(words: &[String]) -> Option<&str>
+    ensures some { IfSome result (λ path. audit_of (texts words.now) ≡ Some (Audit path.now)) }
+    ensures none { IfNone result (audit_of (texts words.now) ≡ None) }
+{
+    if words.is_empty() {
+        return None;
+    }
+    let (name, path, behind) = first_option(words)?;
+    if !behind.is_empty() || name != "--air" || !is_path(path) {
+        return None;
+    }
+    Some(path)
+}
+
+// The command of this option of `audit`.
+fn audit(alloc: Global, words: &[String]) -> Result<Command, WordsStop>
+    ensures command { IfOk result (λ command. audit_of (texts words.now) ≡ Some (said command)) }
+    ensures within { IfOk result IsWithin }
+    ensures usage { result ≡ Err Usage ↔ (audit_of (texts words.now) ≡ None) }
+{
+    let Some(path) = air_path(words) else {
+        return Err(WordsStop::Usage);
+    };
+    match String::from_str(alloc, path) {
+        Ok(path) => Ok(Command::Audit(path)),
+        Err(_) => Err(WordsStop::Memory),
+    }
 }
 
 // The command of these options of `live`.

@@ -2,7 +2,7 @@
 ghost use Rattle.std.specs.Prelude.{◌≡◌, ◌<◌, IfNone, IfSome, None, Some, length, option_map};
 ghost use Rattle.std.specs.List.{list_any};
 ghost use Rattle.command_words.specs.Commands.{option_of as option_in, texts};
-ghost use Rattle.command_words.specs.Grammar.{and_setting, is_dashed as is_a_dashed, is_equals, path_of as path_in, setting_of as setting_named, settings_of};
+ghost use Rattle.command_words.specs.Grammar.{and_setting, front_option, is_dashed as is_a_dashed, is_equals, is_path as is_a_path, path_of as path_in, setting_of as setting_named, settings_of};
 
 use input_lines::number;
 
@@ -15,13 +15,20 @@ pub(crate) enum LiveOption {
     View,
 }
 
+// A path is not empty, and is not `-`.
+pub(crate) fn is_path(path: &str) -> bool
+    ensures { result ≡ is_a_path path.now }
+{
+    !path.is_empty() && path != "-"
+}
+
 fn feed_of(path: &str) -> Option<LiveOption>
     ensures { result ≡ option_map option_in (path_in path.now) }
 {
-    if path.is_empty() || path == "-" {
-        None
-    } else {
+    if is_path(path) {
         Some(LiveOption::Feed)
+    } else {
+        None
     }
 }
 
@@ -58,6 +65,7 @@ pub(crate) fn first_option(words: &[String]) -> Option<(&str, &str, &[String])>
         ≡ and_setting (setting_named r.0.now r.1.now) (settings_of (texts r.2.now))) }
     ensures shorter { IfSome result (λ r. length r.2.now < length words.now) }
     ensures none { IfNone result (settings_of (texts words.now) ≡ None) }
+    ensures front { option_map (λ r. (r.0.now, r.1.now, texts r.2.now)) result ≡ front_option (texts words.now) }
 {
     let (word, behind) = words.split_first()?;
     match word.as_str().split_once('=') {

@@ -63,6 +63,13 @@ told_behind (Some xs) (Some ys) held_old held_new bytes e g =
     let same : held_old ++ xs ≡ bytes = cc in
     (ys, refl, sym same ∙ ap (λ t. held_old ++ t) g.2 ∙ sym (append_assoc held_old g.0 ys) ∙ ap (λ t. t ++ ys) (sym g.1))
 
+-- and these are left where nothing of them is taken
+pub all_left : (left_old left_new : Option (List ℕ)) (held_old held_new bytes : List ℕ) → prepend_known held_old left_old ≡ Some bytes → Gathers left_old left_new held_old held_new
+    → prepend_known held_new left_new ≡ Some bytes
+all_left left_old left_new held_old held_new bytes told gathers =
+    let t = told_behind left_old left_new held_old held_new bytes told gathers in
+    ap (prepend_known held_new) t.1 ∙ ap Some (sym t.2)
+
 -- bytes begin with some, so they are some
 not_empty : (held rest : List ℕ) → length held ≢ 0 → held ++ rest ≢ []
 not_empty held rest some e = some (omega (arith, ap length e, length-append held rest))

@@ -1,6 +1,6 @@
 -- What `next` of a reader of packets does.
 use Rattle.std.specs.Prelude.{◌≡◌, ℕ, ◌+◌, ◌-◌, ◌<◌, List, [], ◌∷◌, ◌++◌, true, Bool, false, length, slice_index, Option, Some, None, Ok, Err, Result}
-use Rattle.std.specs.Io.KnownBytes.{Consumes, prepend_known}
+use Rattle.std.specs.Io.KnownBytes.{Consumes, IsAtEnd, prepend_known}
 use Rattle.si_causes.specs.Causes.{Rose}
 use Rattle.packet_reader.specs.Recordings.{RecordingEnd, RecordingEnd.AtEnd, RecordingEnd.Broken, RecordingEnd.PastLimit, packet_limit, packets_in}
 use Rattle.packet_reader.specs.declared.stop.PacketStop.{PacketStop}
@@ -57,6 +57,13 @@ Counts old new (Ok None) = (new.number ≡ old.number) × (new.ended ≡ true) �
 Counts old new (Err (stop.Broken n)) = (n ≡ old.number) × (new.number ≡ old.number) × (new.stop ≡ Some (stop.Broken n))
 Counts old new (Err stop.TooLong) = (new.number ≡ old.number) × (new.stop ≡ Some stop.TooLong)
 Counts old new (Err stop.Failed) = (new.number ≡ old.number) × (new.stop ≡ Some stop.Failed)
+
+-- At a piece that is no packet nothing is taken: it stands first of what is held, and where that is shorter than a packet, the source is at
+-- its end.
+abbrev pub KeepsPiece : {S : Type 0} → (S → Option (List ℕ)) → PacketReading S → PacketReading S → Result (Option ℕ) PacketStop → Type 0
+KeepsPiece left old new (Err (stop.Broken n)) =
+    ((bytes : List ℕ) → bytes_left left old ≡ Some bytes → bytes_left left new ≡ Some bytes) × (length new.held < 188 → IsAtEnd (left new.source))
+KeepsPiece left old new result = Unit {0}
 
 -- a read that failed raised the count
 abbrev pub HasCause : {T : Type 0} → ℕ → ℕ → Result T PacketStop → Type 0

@@ -1,9 +1,9 @@
 // A reader of packets.
-ghost use Rattle.std.specs.Prelude.{◌≡◌, ◌≤◌, ◌<◌, true, [], ℕ, List, Option, None, Some, Ok, Err, IfOk, OnOk, OnErr, IfSome, length, take};
+ghost use Rattle.std.specs.Prelude.{◌≡◌, ◌≤◌, ◌<◌, ◌↔◌, true, [], ℕ, List, Option, None, Some, Ok, Err, IfOk, OnOk, OnErr, IfSome, IsNone, length, take};
 ghost use Rattle.std.specs.Io.KnownBytes.{IsAtEnd};
 ghost use Rattle.si_causes.specs.Causes.{HasCause as Faulted};
 ghost use Rattle.packet_reader.specs.Recordings.{is_packet, packets_in};
-ghost use Rattle.packet_reader.specs.Reading.{GivesPacket, TakesPacket, Counts, HasCause, Gathers, fresh, packets_to_come, bytes_left};
+ghost use Rattle.packet_reader.specs.Reading.{GivesPacket, TakesPacket, KeepsPiece, Counts, HasCause, Gathers, fresh, packets_to_come, bytes_left};
 
 use crate::stop::PacketStop;
 use si_causes::{Failed, ReadBuffer, Source};
@@ -95,7 +95,7 @@ impl<S: Source> PacketReader<S> {
 
     /// Goes on to the next packet and gives its number, from 0 on, or `None` exactly at the end.
     ///
-    /// `Broken` comes exactly where the next piece does not begin with 0x47, or is shorter than 188 bytes; `TooLong` exactly where the
+    /// `Broken` comes exactly where the next piece does not begin with 0x47, or is shorter than 188 bytes: nothing is taken then, and [`PacketReader::broken_piece`] gives it; `TooLong` exactly where the
     /// source gave a byte behind its 4,294,967,295th packet. `Failed` comes only where a read of the source failed in this call. After
     /// any of them, and after the end, each later call answers the same. The source is read only where no whole packet is held. It
     /// takes no memory.
@@ -103,6 +103,7 @@ impl<S: Source> PacketReader<S> {
         ensures packets { self.old.stop ≡ None → (bytes : List ℕ) → bytes_left S.left self.old ≡ Some bytes
             → GivesPacket S.left self.old self.new (packets_in (packets_to_come self.old) bytes) result }
         ensures takes { self.old.stop ≡ None → TakesPacket S.left self.old self.new result }
+        ensures broken { self.old.stop ≡ None → KeepsPiece S.left self.old self.new result }
         ensures counts { self.old.stop ≡ None → Counts self.old self.new result }
         ensures end { result ≡ Ok None → IsAtEnd (S.left self.new.source) }
         ensures cause { self.old.stop ≡ None → HasCause (S.faults self.old.source) (S.faults self.new.source) result }
@@ -160,6 +161,23 @@ impl<S: Source> PacketReader<S> {
             Some(packet) => packet,
             None => unreachable!(),
         }
+    }
+
+    /// The piece at which `next` answered `Broken`, where it has the 188 bytes of a packet, and None where the recording ends in it. It
+    /// takes no memory.
+    pub fn broken_piece(&self) -> Option<&[u8; 188]>
+        ensures whole { IfSome result (λ piece. piece.now ≡ take 188 self.now.held) }
+        ensures short { IsNone result ↔ (length self.now.held < 188) }
+    {
+        let (_, held) = self.held.bytes().split_at(self.handed);
+        held.first_chunk()
+    }
+
+    /// How many packets `next` gave. It takes no memory.
+    pub fn number(&self) -> u64
+        ensures { result ≡ self.now.number }
+    {
+        self.number
     }
 
     /// Gives the source back. It takes no memory.

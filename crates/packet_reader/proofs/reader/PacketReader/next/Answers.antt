@@ -1,9 +1,11 @@
-use Rattle.std.proofs.Common.{◌≡◌, ◌≢◌, ◌+◌, ◌-◌, suc, true, false, refl, sym, ◌∙◌, arith, length, take, drop, subst}
+use Rattle.std.proofs.Common.{◌≡◌, ◌≢◌, ◌+◌, ◌-◌, suc, true, false, refl, sym, ◌∙◌, arith, List, ℕ, length, take, drop, subst}
 use Rattle.std.proofs.lemmas.Grind.{common_steps}
 use Rattle.std.proofs.lemmas.Bool.Decides.{nat_tests}
+use Rattle.std.specs.Prelude.{Some}
+use Rattle.std.specs.Io.KnownBytes.{prepend_known}
 use Rattle.packet_reader.specs.Recordings.{is_packet}
-use Rattle.packet_reader.specs.Reading.{Gathers}
-use Rattle.packet_reader.proofs.RecordingFacts.{past_limit, broken, goes_on, is_long, taken}
+use Rattle.packet_reader.specs.Reading.{Gathers, bytes_left}
+use Rattle.packet_reader.proofs.RecordingFacts.{past_limit, all_left, broken, goes_on, is_long, taken}
 use Rattle.packet_reader.proofs.reader.PacketReader.next.Goals as goal
 
 false-true : false ≡ true → ⊥
@@ -33,6 +35,16 @@ returns-then-not-begins_with_packet-clause-packets g c =
       broken (left inside.source) (left c.gather.new.source) (drop inside.handed inside.held) c.gather.new.held bytes told gathers c.in-Ok.ensures.end some none (4294967295 - (inside.number + 1)),
       c.stopped-then-not-begins_with_packet-2.ensures.result,
     ) tt)
+
+pub returns-then-not-begins_with_packet-clause-broken : goal.returns-then-not-begins_with_packet-clause-broken
+returns-then-not-begins_with_packet-clause-broken g c =
+    let inside = c.self.inside in
+    let left = g.S.Source.left in
+    let gathers = subst (λ h. Gathers (left inside.source) (left c.gather.new.source) h c.gather.new.held) c.consume.ensures c.gather.ensures.gathers in
+    let kept = λ (bytes : List ℕ). λ (told : bytes_left left c.args.self.now ≡ Some bytes).
+        let was : prepend_known (drop inside.handed inside.held) (left inside.source) ≡ Some bytes = rw (← c.self.view_is) at told in
+        all_left (left inside.source) (left c.gather.new.source) (drop inside.handed inside.held) c.gather.new.held bytes was gathers in
+    rw (c.stopped-then-not-begins_with_packet-2.ensures.result, c.stopped-then-not-begins_with_packet-2.ensures.stop) (λ going. (kept, c.in-Ok.ensures.end))
 
 pub invariant_of-self-2 : goal.invariant_of-self-2
 invariant_of-self-2 g c =

@@ -1,0 +1,66 @@
+-- The items of a script, one after another: what each does at a desk, and how far the script has come.
+use Rattle.std.specs.Prelude.{◌≡◌, ◌<◌, ◌×◌, ℕ, false, true, List, [], ◌++◌, Option, Some, None, Ok, Err, Result}
+use Rattle.si_causes.specs.Reading.{Reading, room, text_left}
+use Rattle.input_lines.specs.Ahead.{Ahead, Tail, ahead}
+use Rattle.input_lines.specs.Going.{HandedOut}
+use Rattle.input_lines.specs.Reads.{ahead_with}
+use Rattle.journal_model.specs.declared.step.Step.{Step}
+use Rattle.journal_model.specs.declared.step.Outcome.{Outcome}
+use Rattle.journal_model.specs.Steps.{Command}
+use Rattle.desk_core.specs.Desks.{DeskState}
+use Rattle.headend_jobs.specs.OnAir.{and_step, is_swap}
+use Rattle.epg_play.specs.declared.item.ItemDone.{ItemDone}
+use Rattle.epg_play.specs.declared.item.ItemDone.TheVariants as item
+use Rattle.epg_play.specs.declared.stop.PlayStop.{PlayStop}
+use Rattle.epg_play.specs.Script.{Stop}
+use Rattle.epg_play.specs.Played.{RestDid, RestTaken, course, desk_after}
+
+-- a step was done at a desk, a swap or another
+pub record StepAt (swap : Bool) (old new : DeskState) : Type 0 where
+  pub who : ℕ
+  pub step : Step
+  pub is : is_swap step ≡ swap
+  pub did : new ≡ and_step old who step
+
+-- what an item does at a desk
+abbrev pub ItemDid : DeskState → DeskState → Result ItemDone PlayStop → Type 0
+ItemDid old new (Ok item.Swap) = StepAt true old new
+ItemDid old new (Ok item.Step) = StepAt false old new
+ItemDid old new (Ok item.Kept) = new ≡ old
+ItemDid old new (Ok item.End) = new ≡ old
+ItemDid old new (Err stop) = Unit {0}
+
+-- with each item but the last less of the script is left
+abbrev pub Falls : {S : Type 0} → Reading S → Reading S → Result ItemDone PlayStop → Type 0
+Falls old new (Ok item.End) = Unit {0}
+Falls old new (Ok done) = room new < room old
+Falls old new (Err stop) = Unit {0}
+
+-- what is played of what is ahead of a desk; `made` is the outcome of its last entry, where it was made just before
+abbrev pub course_at : DeskState → Option Outcome → Ahead → List Command × Stop
+course_at desk made lines = course desk.mux desk.entries made lines
+
+-- Of what was ahead these commands were done, and this is what is played behind them.
+abbrev pub AreDone : DeskState → DeskState → Option Outcome → Ahead → Ahead → List Command → Type 0
+AreDone old desk made lines behind done = course_at old None lines ≡ (done ++ (course_at desk made behind).0, (course_at desk made behind).1)
+
+-- From old to now the lines gave the steps that the desk did.
+pub record Went {S : Type 0} (left : S → Option (List ℕ)) (old now : Reading S) (before desk : DeskState) (made : Option Outcome) : Type 0 where
+  pub done : List Command
+  pub did : desk ≡ desk_after before done
+  pub told : (text : List ℕ) → text_left left old ≡ Some text → (rest : List ℕ) × (text_left left now ≡ Some rest) × AreDone before desk made (ahead old text) (ahead now rest) done
+  pub lines : List (List ℕ)
+  pub handed : HandedOut left old now lines
+  pub reads : (more : List (List ℕ)) (tail : Tail) → AreDone before desk made (ahead_with old (lines ++ more) tail) (ahead_with now more tail) done
+
+-- a script stops, for what was ahead of it when it began
+abbrev pub Stops : {S : Type 0} → (S → Option (List ℕ)) → Reading S → Reading S → DeskState → DeskState → Result (Unit {0}) PlayStop → Type 0
+Stops left old now before desk result =
+    ((text : List ℕ) → text_left left old ≡ Some text → RestDid (course_at before None (ahead old text)) before desk result)
+    × RestTaken left old now before desk result
+
+-- a script that has come so far goes on by an item, or stops
+abbrev pub GoesOn : {S : Type 0} → (S → Option (List ℕ)) → Reading S → Reading S → DeskState → DeskState → Option Outcome → Result ItemDone PlayStop → Type 0
+GoesOn left old now before desk made (Ok item.End) = Stops left old now before desk (Ok tt)
+GoesOn left old now before desk made (Ok done) = Went left old now before desk made
+GoesOn left old now before desk made (Err stop) = Stops left old now before desk (Err stop)
