@@ -29,7 +29,8 @@ use Rattle.epg_play.specs.Outcomes.{is_outcome}
 use Rattle.epg_play.specs.Script.{Script, Stop, Ended, Disagreed, difference, script_in, script_of_lines, script_with}
 use Rattle.epg_play.specs.Leaves.{whole_journal}
 use Rattle.epg_play.specs.Again.{Describes, JournalsPlayAgain}
-use Rattle.epg_play.proofs.CourseFacts.{Rest, and_command, course_at, step_ahead, agreed_ahead, stop_ahead}
+use Rattle.epg_play.specs.Items.{course_at}
+use Rattle.epg_play.proofs.CourseFacts.{Rest, and_command, step_ahead, agreed_ahead, stop_ahead}
 
 -- ---- an outcome agrees with itself
 

@@ -26,9 +26,14 @@ use Rattle.script_lines.specs.Script.{asked_by, first_script_item, items_ahead, 
 use Rattle.script_lines.proofs.ItemsAhead.{items_step, items_kept, items_stop}
 use Rattle.headend_jobs.specs.OnAir.{and_step}
 use Rattle.epg_play.specs.declared.stop.PlayStop.{PlayStop}
-use Rattle.epg_play.specs.declared.stop.PlayStop.TheVariants.{Disagrees, Read, Air, Memory}
+use Rattle.headend_jobs.specs.OnAir.{HasAired, AiredTo as OnAirTo}
+use Rattle.headend_jobs.specs.declared.send.SendStop.{SendStop}
+use Rattle.headend_jobs.specs.declared.send.SendStop.TheVariants as send
+use Rattle.carousel_player.specs.Playing.{Playing}
+use Rattle.epg_play.specs.declared.stop.PlayStop.TheVariants.{NoMux, NoCommand as Refused, Disagrees, Read, Air, Memory}
 use Rattle.epg_play.specs.Script.{Stop, Ended, NoCommand, Disagreed, TooLong, Unread, commands_of, difference, first_difference, first_of, played_items, stop_of, up_to}
-use Rattle.epg_play.specs.Played.{HasReadCause, IsDifference, PlayedWhole, RestDid, RestTaken, StepDid, course, course_of, desk_after, late_difference, read_stop, unless_late}
+use Rattle.epg_play.specs.Played.{AiredTo, HasAirCause, HasReadCause, IsDifference, PlayedWhole, RestDid, RestTaken, course, course_of, desk_after, late_difference, read_stop, send_stop, unless_late}
+use Rattle.epg_play.specs.Items.{AreDone, ItemDid, Stops, Went, course_at}
 
 -- commands and a stop
 abbrev pub Rest : Type 0
@@ -58,10 +63,6 @@ course_step mux before made who s items =
     let commands = commands_of (asked_by items.0) in
     none_late made _
     ∙ up_first (difference (kept_first items.0) (outcome_of mux before s)) (first_difference (asked_by items.0) (journal_after mux front commands)) (who, s) commands (stop_of items.1)
-
--- what is ahead of a desk
-abbrev pub course_at : DeskState → Option Outcome → Ahead → Rest
-course_at desk made lines = course desk.mux desk.entries made lines
 
 pub step_ahead : (desk : DeskState) (made : Option Outcome) (lines behind : Ahead) (who : ℕ) (s : Step) → first_script_item (is_some made) lines ≡ Came (step who s) behind
     → course_at desk made lines ≡ and_command (who, s) (course_at (and_step desk who s) (Some (outcome_of desk.mux desk.entries s)) behind)
@@ -93,21 +94,17 @@ pub desk_more : (desk : DeskState) (commands : List Command) (who : ℕ) (s : St
 desk_more desk commands who s =
     ap (λ (l : List Entry). let d : DeskState = record { mux = desk.mux; entries = l } in d) (append_assoc desk.entries (journal_after desk.mux desk.entries commands) _ ∙ ap (λ l. desk.entries ++ l) (sym (journal_more desk.mux desk.entries commands ((who, s) ∷ []))))
 
--- of what was ahead these commands were done, and this is what is played behind them
-abbrev pub Done : DeskState → DeskState → Option Outcome → Ahead → Ahead → List Command → Type 0
-Done old desk made lines behind done = course_at old None lines ≡ (done ++ (course_at desk made behind).0, (course_at desk made behind).1)
-
-done_more : (old desk new : DeskState) (made after : Option Outcome) (lines now behind : Ahead) (done : List Command) (command : Command) → Done old desk made lines now done
-    → course_at desk made now ≡ and_command command (course_at new after behind) → Done old new after lines behind (done ++ command ∷ [])
+done_more : (old desk new : DeskState) (made after : Option Outcome) (lines now behind : Ahead) (done : List Command) (command : Command) → AreDone old desk made lines now done
+    → course_at desk made now ≡ and_command command (course_at new after behind) → AreDone old new after lines behind (done ++ command ∷ [])
 done_more old desk new made after lines now behind done command d e =
     d ∙ ap (λ (p : Rest). let q : Rest = (done ++ p.0, p.1) in q) e
     ∙ ap (λ (l : List Command). let q : Rest = (l, (course_at new after behind).1) in q) (sym (append_assoc done (command ∷ []) (course_at new after behind).0))
 
-done_same : (old desk : DeskState) (made after : Option Outcome) (lines now behind : Ahead) (done : List Command) → Done old desk made lines now done
-    → course_at desk made now ≡ course_at desk after behind → Done old desk after lines behind done
+done_same : (old desk : DeskState) (made after : Option Outcome) (lines now behind : Ahead) (done : List Command) → AreDone old desk made lines now done
+    → course_at desk made now ≡ course_at desk after behind → AreDone old desk after lines behind done
 done_same old desk made after lines now behind done d e = d ∙ ap (λ (p : Rest). let q : Rest = (done ++ p.0, p.1) in q) e
 
-done_last : (old desk : DeskState) (made : Option Outcome) (lines now : Ahead) (done : List Command) (stop : Stop) → Done old desk made lines now done
+done_last : (old desk : DeskState) (made : Option Outcome) (lines now : Ahead) (done : List Command) (stop : Stop) → AreDone old desk made lines now done
     → course_at desk made now ≡ ([], stop) → course_at old None lines ≡ (done, stop)
 done_last old desk made lines now done stop d e =
     d ∙ ap (λ (p : Rest). let q : Rest = (done ++ p.0, p.1) in q) e ∙ ap (λ (l : List Command). let q : Rest = (l, stop) in q) (append-nil done)
@@ -116,15 +113,6 @@ done_last old desk made lines now done stop d e =
 
 abbrev Known : Type 0
 Known = Option (List ℕ)
-
--- From old to now the lines gave the steps that the desk did.
-pub record Went {S : Type 0} (left : S → Known) (old now : Reading S) (before desk : DeskState) (made : Option Outcome) : Type 0 where
-  pub done : List Command
-  pub did : desk ≡ desk_after before done
-  pub told : (text : List ℕ) → text_left left old ≡ Some text → (rest : List ℕ) × (text_left left now ≡ Some rest) × Done before desk made (ahead old text) (ahead now rest) done
-  pub lines : List (List ℕ)
-  pub handed : HandedOut left old now lines
-  pub reads : (more : List (List ℕ)) (tail : Tail) → Done before desk made (ahead_with old (lines ++ more) tail) (ahead_with now more tail) done
 
 pub went_none : {S : Type 0} (left : S → Known) (reader : Reading S) (desk : DeskState) → Went left reader reader desk desk None
 went_none left reader desk = record {
@@ -148,7 +136,7 @@ item_read left now new after made item e gives takes = subst (λ (b : Bool). Ite
 -- what is played of what is ahead, before an item and behind it
 went_item : {S : Type 0} (left : S → Known) (old now new : Reading S) (before desk next : DeskState) (made after : Option Outcome) (item : ScriptItem) (done : List Command)
     → (w : Went left old now before desk made) → ItemRead left now new (is_some made) item → next ≡ desk_after before done
-    → ((lines behind : Ahead) → first_script_item (is_some made) lines ≡ Came item behind → (a : Ahead) → Done before desk made a lines w.done → Done before next after a behind done)
+    → ((lines behind : Ahead) → first_script_item (is_some made) lines ≡ Came item behind → (a : Ahead) → AreDone before desk made a lines w.done → AreDone before next after a behind done)
     → Went left old new before next after
 went_item left old now new before desk next made after item done w r did step_on = record {
   done = done;
@@ -160,7 +148,7 @@ went_item left old now new before desk next made after item done w r did step_on
   lines = w.lines ++ r.takes.looked.lines;
   handed = handed_more left old now new w.lines r.takes.looked.lines w.handed r.takes.looked.handed;
   reads = λ more tail.
-      subst (λ (l : List (List ℕ)). Done before next after (ahead_with old l tail) (ahead_with new more tail) done) (sym (append_assoc w.lines r.takes.looked.lines more))
+      subst (λ (l : List (List ℕ)). AreDone before next after (ahead_with old l tail) (ahead_with new more tail) done) (sym (append_assoc w.lines r.takes.looked.lines more))
       (step_on (ahead_with now (r.takes.looked.lines ++ more) tail) (ahead_with new more tail) (r.takes.reads more tail) (ahead_with old (w.lines ++ (r.takes.looked.lines ++ more)) tail) (w.reads (r.takes.looked.lines ++ more) tail));
 }
 
@@ -225,25 +213,49 @@ differed left old now new before desk made n m kept asked found w r differ text 
     (λ rest is. let g = r.gives rest is in differs_ahead desk made (ahead now rest) (ahead new g.rest) n kept (Disagreed m asked found) g.reads differ) text told) w.did
 
 pub differed_at : {S : Type 0} (left : S → Known) (old now new : Reading S) (before desk : DeskState) (made : Option Outcome) (n : ℕ) (kept : Outcome) (stop : PlayStop) → Went left old now before desk made
-    → ItemRead left now new (is_some made) (Kept n kept) → IsDifference (late_difference made (Some (n, kept))) (Some stop) → (text : List ℕ) → text_left left old ≡ Some text
-    → RestDid (course_at before None (ahead old text)) before desk (Err stop)
-differed_at left old now new before desk made n kept (Disagrees m asked found) w r differ text told = differed left old now new before desk made n m kept asked found w r differ text told
-differed_at left old now new before desk made n kept other w r differ text told = absurd differ
+    → ItemRead left now new (is_some made) (Kept n kept) → IsDifference (late_difference made (Some (n, kept))) (Some stop) → Stops left old new before desk (Err stop)
+differed_at left old now new before desk made n kept (Disagrees m asked found) w r differ = (λ text told. differed left old now new before desk made n m kept asked found w r differ text told, tt)
+differed_at left old now new before desk made n kept other w r differ = absurd differ
 
 -- a step was done, and its cycle failed
 front_of : (all x : Rest) (done : List Command) → all ≡ (done ++ x.0, x.1) → take (length done) all.0 ≡ done
 front_of all x done e = ap (λ (p : Rest). take (length done) p.0) e ∙ take-append_seam done x.0
 
-pub step_failed : {S : Type 0} (left : S → Known) (old now new : Reading S) (before desk next : DeskState) (made : Option Outcome) (who : ℕ) (s : Step) (stop : PlayStop)
-    → Went left old now before desk made → ItemRead left now new (is_some made) (step who s) → StepDid who s desk next (Err stop)
-    → (text : List ℕ) → text_left left old ≡ Some text → RestDid (course_at before None (ahead old text)) before next (Err stop)
-step_failed left old now new before desk next made who s Air w r did text told =
-    let made_now = Some (outcome_of desk.mux desk.entries s) in
-    let more = went_step left old now new before desk next made made_now who s w r did refl in
-    let t = more.told text told in
-    (length more.done, more.did ∙ ap (desk_after before) (sym (front_of (course_at before None (ahead old text)) (course_at next made_now (ahead new t.0)) more.done t.2)))
-step_failed left old now new before desk next made who s Memory w r did text told = tt
-step_failed left old now new before desk next made who s other w r did text told = absurd did
+pub cut_at : {S : Type 0} (left : S → Known) (old now : Reading S) (before desk : DeskState) (made : Option Outcome) → Went left old now before desk made
+    → (text : List ℕ) → text_left left old ≡ Some text → (k : ℕ) × (desk ≡ desk_after before (take k (course_at before None (ahead old text)).0))
+cut_at left old now before desk made w text told =
+    let t = w.told text told in
+    (length w.done, w.did ∙ ap (desk_after before) (sym (front_of (course_at before None (ahead old text)) (course_at desk made (ahead now t.0)) w.done t.2)))
+
+-- what is on air at a desk that is as it was
+pub stopped_aired : (old desk : DeskState) (player : Playing) (before now : Option (List ℕ)) (stop : PlayStop) → ItemDid old desk (Err stop) → HasAired old player before now
+    → AiredTo {T = Unit {0}} desk player before now (Err stop)
+stopped_aired old desk player before now (NoMux fault) did has = absurd did
+stopped_aired old desk player before now (Refused n) did has = subst (λ (d : DeskState). HasAired d player before now) (sym did) has
+stopped_aired old desk player before now (Disagrees n kept found) did has = subst (λ (d : DeskState). HasAired d player before now) (sym did) has
+stopped_aired old desk player before now (Read stop) did has = subst (λ (d : DeskState). HasAired d player before now) (sym did) has
+stopped_aired old desk player before now Air did has = absurd did
+stopped_aired old desk player before now Memory did has = tt
+
+-- and no such stop is the air's
+pub stopped_no_air : (old desk : DeskState) (faults later : ℕ) (stop : PlayStop) → ItemDid old desk (Err stop) → HasAirCause {T = Unit {0}} faults later (Err stop)
+stopped_no_air old desk faults later (NoMux fault) did = absurd did
+stopped_no_air old desk faults later (Refused n) did = tt
+stopped_no_air old desk faults later (Disagrees n kept found) did = tt
+stopped_no_air old desk faults later (Read stop) did = tt
+stopped_no_air old desk faults later Air did = absurd did
+stopped_no_air old desk faults later Memory did = tt
+
+-- the cycle of a swap was not sent whole
+pub cut_stop : {S : Type 0} (left : S → Known) (old now : Reading S) (before desk : DeskState) (made : Option Outcome) (stop : SendStop) → Went left old now before desk made
+    → Stops left old now before desk (Err (send_stop stop))
+cut_stop left old now before desk made send.Air w = (λ text told. cut_at left old now before desk made w text told, tt)
+cut_stop left old now before desk made send.Memory w = (λ text told. tt, tt)
+
+pub cut_aired : (desk : DeskState) (player : Playing) (before now : Option (List ℕ)) (stop : SendStop) → OnAirTo desk player before now (Err stop)
+    → AiredTo {T = Unit {0}} desk player before now (Err (send_stop stop))
+cut_aired desk player before now send.Air has = has
+cut_aired desk player before now send.Memory has = tt
 
 -- ---- a read that failed
 

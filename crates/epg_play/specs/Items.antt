@@ -1,5 +1,5 @@
 -- The items of a script, one after another: what each does at a desk, and how far the script has come.
-use Rattle.std.specs.Prelude.{◌≡◌, ◌<◌, ◌×◌, ℕ, false, true, List, [], ◌++◌, Option, Some, None, Ok, Err, Result}
+use Rattle.std.specs.Prelude.{◌≡◌, ◌⊎◌, ◌<◌, ℕ, Bool, false, true, List, [], ◌++◌, Option, Some, None, Ok, Err, Result}
 use Rattle.si_causes.specs.Reading.{Reading, room, text_left}
 use Rattle.input_lines.specs.Ahead.{Ahead, Tail, ahead}
 use Rattle.input_lines.specs.Going.{HandedOut}
@@ -12,6 +12,7 @@ use Rattle.headend_jobs.specs.OnAir.{and_step, is_swap}
 use Rattle.epg_play.specs.declared.item.ItemDone.{ItemDone}
 use Rattle.epg_play.specs.declared.item.ItemDone.TheVariants as item
 use Rattle.epg_play.specs.declared.stop.PlayStop.{PlayStop}
+use Rattle.epg_play.specs.declared.stop.PlayStop.TheVariants.{Air, Memory, NoMux}
 use Rattle.epg_play.specs.Script.{Stop}
 use Rattle.epg_play.specs.Played.{RestDid, RestTaken, course, desk_after}
 
@@ -22,13 +23,15 @@ pub record StepAt (swap : Bool) (old new : DeskState) : Type 0 where
   pub is : is_swap step ≡ swap
   pub did : new ≡ and_step old who step
 
--- what an item does at a desk
+-- what an item does at a desk; a stop but want of memory leaves the desk as it was
 abbrev pub ItemDid : DeskState → DeskState → Result ItemDone PlayStop → Type 0
 ItemDid old new (Ok item.Swap) = StepAt true old new
-ItemDid old new (Ok item.Step) = StepAt false old new
-ItemDid old new (Ok item.Kept) = new ≡ old
+ItemDid old new (Ok item.Other) = StepAt false old new ⊎ (new ≡ old)
 ItemDid old new (Ok item.End) = new ≡ old
-ItemDid old new (Err stop) = Unit {0}
+ItemDid old new (Err Memory) = Unit {0}
+ItemDid old new (Err Air) = ⊥
+ItemDid old new (Err (NoMux fault)) = ⊥
+ItemDid old new (Err stop) = new ≡ old
 
 -- with each item but the last less of the script is left
 abbrev pub Falls : {S : Type 0} → Reading S → Reading S → Result ItemDone PlayStop → Type 0

@@ -1,6 +1,7 @@
 pub mod Outcomes
 pub mod Script
 pub mod Played
+pub mod Items
 pub mod Leaves
 pub mod Ending
 pub mod Hearing

@@ -19,22 +19,19 @@ use Rattle.journal_model.specs.Steps.{Command, IsInWindow}
 use Rattle.desk_core.specs.Desks.{DeskState}
 use Rattle.script_lines.specs.declared.script.ScriptItem.{ScriptItem}
 use Rattle.script_lines.specs.Script.{items_ahead, kept_first}
-use Rattle.headend_jobs.specs.OnAir.{HasAired, HasAiredFront, and_step}
+use Rattle.headend_jobs.specs.OnAir.{HasAired, HasAiredFront}
+use Rattle.headend_jobs.specs.declared.send.SendStop.{SendStop}
+use Rattle.headend_jobs.specs.declared.send.SendStop.TheVariants as send
 use Rattle.epg_play.specs.declared.stop.PlayStop.{PlayStop}
 use Rattle.epg_play.specs.declared.stop.PlayStop.TheVariants.{NoMux as Undescribed, NoCommand as Refused, Disagrees, Read, Air, Memory}
 use Rattle.epg_play.specs.Script.{Stop, Ended, NoCommand, Disagreed, TooLong, Unread, difference, played_items}
 
--- ---- one step
+-- ---- one cycle
 
--- what doing a step leaves of a desk
-abbrev pub StepDid : ℕ → Step → DeskState → DeskState → Result (Unit {0}) PlayStop → Type 0
-StepDid who step old new (Ok u) = new ≡ and_step old who step
-StepDid who step old new (Err Air) = new ≡ and_step old who step
-StepDid who step old new (Err Memory) = Unit {0}
-StepDid who step old new (Err (Undescribed fault)) = ⊥
-StepDid who step old new (Err (Refused n)) = ⊥
-StepDid who step old new (Err (Disagrees n kept found)) = ⊥
-StepDid who step old new (Err (Read stop)) = ⊥
+-- the stop where a cycle was not sent whole
+abbrev pub send_stop : SendStop → PlayStop
+send_stop send.Air = Air
+send_stop send.Memory = Memory
 
 -- what the air has, once a script is played as far as this
 abbrev pub AiredTo : {T : Type 0} → DeskState → Playing → Option (List ℕ) → Option (List ℕ) → Result T PlayStop → Type 0

@@ -20,7 +20,8 @@ pub(crate) struct Played {
     pub(crate) stop: Option<PlayStop>,
 }
 
-fn status_of(stop: PlayStop) -> Status
+/// The status of a run that stopped so.
+pub fn status_of(stop: PlayStop) -> Status
     ensures { result ≡ status_for stop }
 {
     match stop {

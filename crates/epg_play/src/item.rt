@@ -24,10 +24,8 @@ use std::alloc::Global;
 pub enum ItemDone {
     /// The desk did a swap.
     Swap,
-    /// The desk did another step.
-    Step,
-    /// The outcome that is kept is the desk's.
-    Kept,
+    /// The desk did another step, or the outcome that is kept is its.
+    Other,
     /// There is no further item.
     End,
 }
@@ -110,14 +108,18 @@ pub fn do_item<S: Source>(
             let is_swap = swaps(&step);
             desk.step(who, step)?;
             *made = last_outcome(desk);
-            Ok(if is_swap { ItemDone::Swap } else { ItemDone::Step })
+            if is_swap {
+                Ok(ItemDone::Swap)
+            } else {
+                Ok(ItemDone::Other)
+            }
         }
         Ok(ScriptItem::Kept(number, kept)) => {
             if let Some(stop) = disagreement(*made, number, kept) {
                 return Err(stop);
             }
             *made = None;
-            Ok(ItemDone::Kept)
+            Ok(ItemDone::Other)
         }
         Ok(ScriptItem::End) => Ok(ItemDone::End),
         Err(stop) => Err(stop_of(stop)),

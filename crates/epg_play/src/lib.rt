@@ -8,10 +8,13 @@
 #![tactic(auto)]
 
 mod ending;
+mod item;
 mod laws;
 mod play;
 mod run;
 mod stop;
 
+pub use item::{ItemDone, do_item};
 pub use laws::{journals_play_again, outcomes_are_compared, play_is_heard, reports_tell_journals};
 pub use run::run_play;
+pub use stop::PlayStop;

@@ -10,7 +10,7 @@ use std::alloc::AllocError;
 /// Why a script is not played on: the description of the multiplex has a fault; a line that is no command there; an outcome line
 /// that keeps another outcome (the first) than the desk's; the input; the air; or want of memory.
 #[derive(Clone, Copy, PartialEq, Eq)]
-pub(crate) enum PlayStop {
+pub enum PlayStop {
     NoMux(MuxFault),
     NoCommand(u64),
     Disagrees(u64, Outcome, Outcome),

@@ -3,7 +3,7 @@ use Rattle.mux_model.specs.declared.mux.Mux.{Mux}
 use Rattle.desk_core.specs.Journal.{Legal}
 use Rattle.desk_core.proofs.WindowFacts.{legal_window}
 use Rattle.epg_play.proofs.WindowFacts.{entry_window}
-use Rattle.epg_play.proofs.play.last_outcome.Goals as goal
+use Rattle.epg_play.proofs.item.last_outcome.Goals as goal
 
 pub returns-clause-window : goal.returns-clause-window
 returns-clause-window c =
