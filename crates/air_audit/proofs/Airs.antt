@@ -13,11 +13,12 @@ use Rattle.air_model.specs.Making.{counted}
 use Rattle.air_model.proofs.Counted.{of_pid-counted, count-counted, fields-counted}
 use Rattle.air_model.proofs.Airs.{air_more, air-push}
 use Rattle.air_audit.specs.Fronts.{ToCome, nothing, all_waiting, CarrySoFar, GoesTo, IsApart}
-use Rattle.air_audit.specs.Audits.{AreAnAir, BeginAnAir, AiringFits, on_pid, last_cycle, and_last, SoFar}
+use Rattle.air_audit.specs.Audits.{AreAnAir, BeginAnAir, on_pid, last_cycle, and_last, SoFar}
 use Rattle.air_audit.specs.Laws.{IsConsistent, ConsistentIsPrefix}
-use Rattle.air_audit.proofs.Lists.{all_front, all_behind, all_both, Count-front, none_on_any, bytes_front, laid_out, laid-inside, laid-outside, laid-fit, of_own_pid, of_other_pid, own_load, other_load}
+use Rattle.si_lists.proofs.Lists.{all_front, all_behind, all_append}
+use Rattle.air_audit.proofs.Lists.{Count-front, none_on_any, bytes_front, laid_out, laid-inside, laid-outside, laid-fit, of_own_pid, of_other_pid, own_load, other_load}
 use Rattle.air_audit.proofs.Runs.{Run, so_far-Run, Run-so_far, Carries-so_far, so_far-Carries, none_so_far, Run-append, Run-cut, run_one_way, nothing_stays, nothing_runs, rest_pieces, Carries-completed}
-use Rattle.air_audit.proofs.Cycles.{cycle_apart, cycle_beyond, Follow, same_cycles}
+use Rattle.air_audit.proofs.Cycles.{AiringFits, cycle_apart, cycle_beyond, Follow, same_cycles}
 
 -- the finished airings of packets that are consistent so far
 pub finished : (airings : List AiredTables) (packets : List Packet) (f : ℕ → ToCome) → (h : SoFar airings packets f) → IsAirOf (airings_of h.xs) h.xs
@@ -82,7 +83,7 @@ so_far-begins airings packets f told h = go h.last h.airings_are h.carried
         let joined : packets ++ M ≡ air h.xs ++ (h.handed ++ M) = ap (λ (l : List Packet). l ++ M) h.packets_are ∙ append_assoc (air h.xs) h.handed M in
         let counts = λ (pid : ℕ). subst (λ (l : List Packet). Count 0 (loads_on pid l)) joined (count-counted packets units pid (h.counted pid)) in
         let handed_fields : AllByRecursion HasFields h.handed = all_behind HasFields (air h.xs) h.handed (subst (AllByRecursion HasFields) h.packets_are h.fields) in
-        let fields = all_both HasFields h.handed M handed_fields (fields-counted packets units (laid-fit 8192 (λ (pid : ℕ). rest_pieces (f pid)) (omega arith))) in
+        let fields = all_append HasFields h.handed M handed_fields (fields-counted packets units (laid-fit 8192 (λ (pid : ℕ). rest_pieces (f pid)) (omega arith))) in
         let is = air_more (airings_of h.xs) h.xs x (finished airings packets f h) (rest_on f packets (airings_of h.xs) a h.handed told_last carried) counts fields in
         record {
           more = map bytes_of_packet M;
@@ -203,7 +204,7 @@ goes-packet airings packets f g p h fields counter goes others = record {
   cycles = h.cycles;
   carried = carried;
   counted = counts;
-  fields = all_both HasFields packets (p ∷ []) h.fields (fields, tt);
+  fields = all_append HasFields packets (p ∷ []) h.fields (fields, tt);
 }
   where
     carried : (pid : ℕ) → CarrySoFar (of_pid pid (h.handed ++ p ∷ [])) (on_pid pid (last_cycle (airings_of h.xs) h.last)) (g pid)
@@ -315,7 +316,7 @@ prefix-consistent : (xs : List Aired) (a : AiredTables) (handed : List Packet) �
 prefix-consistent xs a handed is told fit b = of (bytes_front (air xs ++ handed) (air b.whole.xs) b.more fields b.whole.is_air.fields b.whole.packets_are)
   where
     fields : AllByRecursion HasFields (air xs ++ handed)
-    fields = all_both HasFields (air xs) handed is.fields fit
+    fields = all_append HasFields (air xs) handed is.fields fit
 
     of : (rs : List Packet) × (air b.whole.xs ≡ (air xs ++ handed) ++ rs) × (map bytes_of_packet rs ≡ b.more) → IsConsistent xs a handed
     of (rs, e, m) =
@@ -323,7 +324,7 @@ prefix-consistent xs a handed is told fit b = of (bytes_front (air xs ++ handed)
         let follow = same_cycles [] xs b.whole.xs (a ∷ []) (handed ++ rs) (all_front AiringFits past (a ∷ []) told) is.cycles b.whole.is_air.cycles b.whole.is_air.airings_are (e ∙ append_assoc (air xs) handed rs) in
         record {
           counted = λ pid. Count-front 0 (loads_on pid (air xs ++ handed)) (loads_on pid rs) (subst (Count 0) (ap (loads_on pid) e ∙ loads_on-append pid (air xs ++ handed) rs) (b.whole.is_air.counted pid));
-          fields = all_both HasFields (air xs) handed is.fields fit;
+          fields = all_append HasFields (air xs) handed is.fields fit;
           carried = front_carried past a handed rs (all_behind AiringFits past (a ∷ []) told).0 follow;
         }
 

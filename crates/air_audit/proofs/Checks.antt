@@ -1,52 +1,32 @@
 -- A packet that is checked.
-use Rattle.std.proofs.Common.{◌≡◌, ℕ, ◌+◌, ◌/◌, ◌%◌, ◌<◌, List, [], ◌∷◌, ◌++◌, Bool, true, false, Option, Some, None, length, refl, sym, ap, ap₂, ◌∙◌, subst, arith, drop, eq-eqb, length-drop}
+use Rattle.std.proofs.Common.{◌≡◌, ℕ, ◌%◌, ◌<◌, List, [], ◌∷◌, ◌++◌, Bool, true, false, Option, Some, None, length, refl, sym, ap, ap₂, ◌∙◌, subst, arith, drop, eq-eqb, length-drop}
 use Rattle.std.specs.Prelude.{◌==◌, ◌&&◌, ◌||◌, ◌↔◌, not, if◌then◌else◌, slice_index, IsNone, Result, Ok, Err}
 use Rattle.std.specs.List.{AllByRecursion}
 use Rattle.std.proofs.lemmas.Bool.{eqb-true}
-use Rattle.std.proofs.lemmas.Bool.Decides.{nat_tests}
 use Rattle.std.proofs.lemmas.List.{map-append}
 use Rattle.version_book.specs.Airings.{AiredTables}
-use Rattle.version_book.specs.Book.{Stands}
+use Rattle.version_book.specs.Book.{BookStandsFor}
 use Rattle.ts_packets.specs.Packets.{Piece, all_of}
 use Rattle.ts_packets.specs.Bytes.{Packet, HasFields, HasWrittenHeader, bytes_of_packet, packet_in, pid_in, payload_unit_start_indicator, continuity_counter, transport_error_indicator, transport_priority, transport_scrambling_control, adaptation_field_control}
 use Rattle.ts_packets.specs.Counting.{StandFor, count_on, loads_on, of_pid}
-use Rattle.ts_packets.proofs.Headers.{packet_in-bytes, bytes-packet_in}
+use Rattle.ts_packets.proofs.Headers.{packet_in-bytes, bytes-packet_in, fixed-written}
 use Rattle.ts_packets.proofs.Stamps.{count_on-written}
 use Rattle.air_model.specs.Air.{airings_of, cycle_sections}
 use Rattle.air_audit.specs.declared.rule.Rule.{Rule}
 use Rattle.air_audit.specs.declared.rule.Rule.TheVariants.{Shape, Pid, Counter, Pointer, Bytes}
-use Rattle.air_audit.specs.Fronts.{ToCome, nothing, CarrySoFar, GoesTo, IsApart, all_waiting, OnPid, to_come_on}
+use Rattle.air_audit.specs.Fronts.{ToCome, nothing, CarrySoFar, GoesTo, IsApart, all_waiting, to_come_on}
 use Rattle.air_audit.specs.Telling.{is_none, is_front, is_fill, is_pointer, begins_in, begun_in, told_start, told_further, told}
-use Rattle.air_audit.specs.Audits.{AiringFits, AreAnAir, BeginAnAir, SoFar, on_pid, last_cycle, and_last}
+use Rattle.air_audit.specs.Audits.{AreAnAir, BeginAnAir, SoFar, on_pid, last_cycle, and_last}
 use Rattle.air_audit.specs.Progress.{HasMoved}
 use Rattle.air_audit.specs.Checking.{Checking, StandsFor, IsAtEnd, has_shape, is_nothing, is_misplaced, rule_broken}
-use Rattle.air_audit.proofs.Lists.{all_behind, all_both}
+use Rattle.si_lists.proofs.Lists.{all_behind, all_append}
 use Rattle.air_audit.proofs.Telling.{goes-told, told-goes}
 use Rattle.air_audit.proofs.Runs.{nothing_goes}
-use Rattle.air_audit.proofs.Cycles.{cycle_apart}
+use Rattle.air_audit.proofs.Cycles.{AiringFits, cycle_apart}
 use Rattle.air_audit.proofs.Airs.{GoesOn, begins-goes, goes-packet, so_far-begins, so_far-air, air-nothing, next_airing, none_aired}
-use Rattle.air_audit.proofs.Begins.{is_nothing-is}
+use Rattle.air_audit.proofs.Ways.{is_nothing-is}
 
 -- ---- the header
-
-second : Bool → ℕ → ℕ
-second start pid = (if start then 64 else 0) + pid / 256
-
-no_error : (start : Bool) (pid : ℕ) → pid < 8192 → (second start pid / 128 == 1) ≡ false
-unfolding second
-no_error true pid lt = grind (arith, nat_tests)
-no_error false pid lt = grind (arith, nat_tests)
-
-no_priority : (start : Bool) (pid : ℕ) → pid < 8192 → ((second start pid / 32) % 2 == 1) ≡ false
-unfolding second
-no_priority true pid lt = grind (arith, nat_tests)
-no_priority false pid lt = grind (arith, nat_tests)
-
-clear : (counter : ℕ) → counter < 16 → ((16 + counter) / 64 == 0) ≡ true
-clear counter lt = grind (arith, nat_tests)
-
-payload_alone : (counter : ℕ) → counter < 16 → (((16 + counter) / 16) % 4 == 1) ≡ true
-payload_alone counter lt = grind (arith, nat_tests)
 
 all_five : (a b c d : Bool) → a ≡ false → b ≡ false → c ≡ true → d ≡ true → (true && not a && not b && c && d) ≡ true
 all_five true b c d p q r s = cc
@@ -57,10 +37,11 @@ all_five false false true true p q r s = refl
 
 -- the header of a packet that is written
 shape_of_written : (p : Packet) → HasFields p → has_shape (bytes_of_packet p) ≡ true
-unfolding second
 shape_of_written p h =
-    all_five (transport_error_indicator (bytes_of_packet p)) (transport_priority (bytes_of_packet p)) (transport_scrambling_control (bytes_of_packet p) == 0) (adaptation_field_control (bytes_of_packet p) == 1)
-    (no_error p.piece.start p.pid h.pid) (no_priority p.piece.start p.pid h.pid) (clear p.counter h.counter) (payload_alone p.counter h.counter)
+    let bytes = bytes_of_packet p in
+    let f = fixed-written p h in
+    all_five (transport_error_indicator bytes) (transport_priority bytes) (transport_scrambling_control bytes == 0) (adaptation_field_control bytes == 1)
+    f.sound f.no_priority (eq-eqb (transport_scrambling_control bytes) 0 f.clear) (eq-eqb (adaptation_field_control bytes) 1 f.payload_alone)
 
 five_parts : (z a b c d : Bool) → (z && not a && not b && c && d) ≡ true → (z ≡ true) × (a ≡ false) × (b ≡ false) × (c ≡ true) × (d ≡ true)
 five_parts false a b c d h = cc
@@ -93,7 +74,7 @@ Exactly airings accepted bytes o = IsNone o ↔ BeginAnAir airings (accepted ++ 
 unless_goes : (airings : List AiredTables) (accepted : List (List ℕ)) (c : Checking) (bytes : List ℕ) (rule : Rule) (s : StandsFor airings accepted c) → (GoesOn s.packets (to_come_on c.on_pids) bytes → ⊥) → Exactly airings accepted bytes (Some rule)
 unless_goes airings accepted c bytes rule s none = (
   λ e. cc,
-  λ b. absurd (none (begins-goes airings s.packets (to_come_on c.on_pids) bytes s.told s.so_far (subst (λ (l : List (List ℕ)). BeginAnAir airings (l ++ bytes ∷ [])) s.accepted_are b))),
+  λ b. absurd (none (begins-goes airings s.packets (to_come_on c.on_pids) bytes s.can_be_sent s.so_far (subst (λ (l : List (List ℕ)). BeginAnAir airings (l ++ bytes ∷ [])) s.accepted_are b))),
 )
 
 pub wrong_shape : (airings : List AiredTables) (accepted : List (List ℕ)) (c : Checking) (bytes : List ℕ) → StandsFor airings accepted c → has_shape bytes ≡ false → Exactly airings accepted bytes (Some Shape)
@@ -147,7 +128,7 @@ wrong_told airings accepted c bytes rule s e = unless_goes airings accepted c by
     wrong : GoesOn s.packets (to_come_on c.on_pids) bytes → ⊥
     wrong g =
         let same = is_read s.packets (to_come_on c.on_pids) bytes g in
-        let ok : told (to_come_on c.on_pids g.packet.pid) g.packet.piece ≡ Ok g.behind = goes-told (to_come_on c.on_pids g.packet.pid) g.behind g.packet.piece g.goes (waiting_apart airings s.packets (to_come_on c.on_pids) s.told s.so_far g.packet.pid) in
+        let ok : told (to_come_on c.on_pids g.packet.pid) g.packet.piece ≡ Ok g.behind = goes-told (to_come_on c.on_pids g.packet.pid) g.behind g.packet.piece g.goes (waiting_apart airings s.packets (to_come_on c.on_pids) s.can_be_sent s.so_far g.packet.pid) in
         let read : told (to_come_on c.on_pids (pid_in bytes)) (packet_in bytes).piece ≡ Ok g.behind = subst (λ (p : Packet). told (to_come_on c.on_pids p.pid) p.piece ≡ Ok g.behind) same ok in
         let both : (let x : Result ToCome Rule = Err rule in x) ≡ Ok g.behind = sym e ∙ read in
         cc
@@ -218,22 +199,22 @@ last_rule t next bytes rule size shape some counter e =
 -- ---- accepted
 
 -- a move on the PID and with the payload of a packet
-pub moved_at : (os new : List OnPid) (pid : ℕ) (start : Bool) (payload bytes : List ℕ) (o : Option Rule) → pid ≡ pid_in bytes → start ≡ payload_unit_start_indicator bytes → payload ≡ drop 4 bytes
+pub moved_at : (os new : List ToCome) (pid : ℕ) (start : Bool) (payload bytes : List ℕ) (o : Option Rule) → pid ≡ pid_in bytes → start ≡ payload_unit_start_indicator bytes → payload ≡ drop 4 bytes
     → HasMoved (told (to_come_on os pid) (record { start = start; payload = payload })) pid os new o → HasMoved (told (to_come_on os (pid_in bytes)) (packet_in bytes).piece) (pid_in bytes) os new o
 moved_at os new pid start payload bytes o a b d h =
     subst (λ (l : List ℕ). HasMoved (told (to_come_on os (pid_in bytes)) (record { start = payload_unit_start_indicator bytes; payload = l })) (pid_in bytes) os new o) d
     (subst (λ (x : Bool). HasMoved (told (to_come_on os (pid_in bytes)) (record { start = x; payload = payload })) (pid_in bytes) os new o) b
     (subst (λ (n : ℕ). HasMoved (told (to_come_on os n) (record { start = start; payload = payload })) n os new o) a h))
 
-pub moved_rule : (r : Result ToCome Rule) (pid : ℕ) (old new : List OnPid) (rule : Rule) → HasMoved r pid old new (Some rule) → r ≡ Err rule
+pub moved_rule : (r : Result ToCome Rule) (pid : ℕ) (old new : List ToCome) (rule : Rule) → HasMoved r pid old new (Some rule) → r ≡ Err rule
 moved_rule (Ok t) pid old new rule h = absurd h
 moved_rule (Err x) pid old new rule h = ap Err (sym h)
 
-record GoesNow (t : ToCome) (pid : ℕ) (old new : List OnPid) (piece : Piece) : Type 0 where
+record GoesNow (t : ToCome) (pid : ℕ) (old new : List ToCome) (piece : Piece) : Type 0 where
   told_is : told t piece ≡ Ok (to_come_on new pid)
   others : (q : ℕ) → (pid ≡ q → ⊥) → to_come_on new q ≡ to_come_on old q
 
-moved_now : (t : ToCome) (pid : ℕ) (old new : List OnPid) (piece : Piece) → HasMoved (told t piece) pid old new None → GoesNow t pid old new piece
+moved_now : (t : ToCome) (pid : ℕ) (old new : List ToCome) (piece : Piece) → HasMoved (told t piece) pid old new None → GoesNow t pid old new piece
 moved_now t pid old new piece h = go (told t piece) refl h
   where
     go : (r : Result ToCome Rule) → told t piece ≡ r → HasMoved r pid old new None → GoesNow t pid old new piece
@@ -252,8 +233,8 @@ accept airings accepted c new bytes s header small counter book counters h =
     let goes = told-goes (to_come_on c.on_pids (pid_in bytes)) (to_come_on new.on_pids (pid_in bytes)) p.piece.start p.piece.payload size g.told_is in
     let fields : HasFields p = record { pid = small; counter = omega arith } in
     record {
-      told = s.told;
-      versions = subst (Stands airings) (sym book) s.versions;
+      can_be_sent = s.can_be_sent;
+      versions = subst (BookStandsFor airings) (sym book) s.versions;
       counters = counters;
       packets = s.packets ++ p ∷ [];
       accepted_are = ap₂ (λ (l : List (List ℕ)) (b : List ℕ). l ++ b ∷ []) s.accepted_are (sym back) ∙ sym (map-append bytes_of_packet s.packets (p ∷ []));
@@ -262,24 +243,24 @@ accept airings accepted c new bytes s header small counter book counters h =
 
 -- what an auditor stands for is a prefix of an air
 pub stands_begins : (airings : List AiredTables) (accepted : List (List ℕ)) (c : Checking) → StandsFor airings accepted c → BeginAnAir airings accepted
-stands_begins airings accepted c s = subst (BeginAnAir airings) (sym s.accepted_are) (so_far-begins airings s.packets (to_come_on c.on_pids) s.told s.so_far)
+stands_begins airings accepted c s = subst (BeginAnAir airings) (sym s.accepted_are) (so_far-begins airings s.packets (to_come_on c.on_pids) s.can_be_sent s.so_far)
 
 -- ---- airings
 
-pub first_stands : (c : Checking) → c.on_pids ≡ [] → Stands [] c.book → StandFor [] c.counters → StandsFor [] [] c
+pub first_stands : (c : Checking) → c.on_pids ≡ [] → BookStandsFor [] c.book → StandFor [] c.counters → StandsFor [] [] c
 first_stands c none book counters = record {
-  told = tt;
+  can_be_sent = tt;
   versions = book;
   counters = counters;
   packets = [];
   accepted_are = refl;
-  so_far = subst (λ (l : List OnPid). SoFar [] [] (to_come_on l)) (sym none) none_aired;
+  so_far = subst (λ (l : List ToCome). SoFar [] [] (to_come_on l)) (sym none) none_aired;
 }
 
-pub next_stands : (airings : List AiredTables) (accepted : List (List ℕ)) (c new : Checking) (a : AiredTables) → StandsFor airings accepted c → IsAtEnd c → AiringFits a → Stands (airings ++ a ∷ []) new.book → new.counters ≡ c.counters
+pub next_stands : (airings : List AiredTables) (accepted : List (List ℕ)) (c new : Checking) (a : AiredTables) → StandsFor airings accepted c → IsAtEnd c → AiringFits a → BookStandsFor (airings ++ a ∷ []) new.book → new.counters ≡ c.counters
     → ((pid : ℕ) → to_come_on new.on_pids pid ≡ all_waiting (on_pid pid (cycle_sections airings a))) → StandsFor (airings ++ a ∷ []) accepted new
 next_stands airings accepted c new a s end told_last book counters begins = record {
-  told = all_both AiringFits airings (a ∷ []) s.told (told_last, tt);
+  can_be_sent = all_append AiringFits airings (a ∷ []) s.can_be_sent (told_last, tt);
   versions = book;
   counters = subst (StandFor accepted) (sym counters) s.counters;
   packets = s.packets;
@@ -290,5 +271,5 @@ next_stands airings accepted c new a s end told_last book counters begins = reco
 pub end_is_air : (airings : List AiredTables) (accepted : List (List ℕ)) (c : Checking) → StandsFor airings accepted c → IsAtEnd c ↔ AreAnAir airings accepted
 end_is_air airings accepted c s = (
   λ end. subst (AreAnAir airings) (sym s.accepted_are) (so_far-air airings s.packets (to_come_on c.on_pids) s.so_far end),
-  λ is. air-nothing airings s.packets (to_come_on c.on_pids) s.told s.so_far (subst (AreAnAir airings) s.accepted_are is),
+  λ is. air-nothing airings s.packets (to_come_on c.on_pids) s.can_be_sent s.so_far (subst (AreAnAir airings) s.accepted_are is),
 )

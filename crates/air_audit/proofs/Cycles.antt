@@ -1,39 +1,41 @@
 -- A packet list is an air in one way.
-use Rattle.std.proofs.Common.{◌≡◌, ℕ, ◌<◌, ◌≤◌, inl, inr, List, [], ◌∷◌, ◌++◌, Bool, true, false, Some, None, refl, sym, ap, ◌∙◌, subst, arith, map, append_assoc, append-nil, ne_eqb}
-use Rattle.std.specs.Prelude.{◌==◌, if◌then◌else◌, flat_map}
-use Rattle.std.specs.List.{AllByRecursion, cons_option}
+use Rattle.std.proofs.Common.{◌≡◌, ℕ, ◌<◌, ◌≤◌, inl, inr, List, [], ◌∷◌, ◌++◌, Bool, true, false, Some, None, refl, sym, ap, ◌∙◌, subst, arith, append_assoc, append-nil, ne_eqb}
+use Rattle.std.specs.Prelude.{◌==◌, if◌then◌else◌}
+use Rattle.std.specs.List.{All, AllByRecursion, cons_option}
 use Rattle.std.proofs.lemmas.List.{append_cancel_left}
-use Rattle.section_codec.specs.declared.table.SubTable.{SubTable}
-use Rattle.version_book.specs.Airings.{AiredTables, version_at}
+use Rattle.std.proofs.lemmas.List.Elements.{recursion_from_All}
+use Rattle.section_codec.specs.SubTables.{IsFit}
+use Rattle.version_book.specs.Airings.{AiredTables}
 use Rattle.ts_packets.specs.Packets.{Piece, Carries}
 use Rattle.ts_packets.specs.Bytes.{Packet}
 use Rattle.ts_packets.specs.Counting.{of_pid}
 use Rattle.ts_packets.proofs.Stamps.{of_pid-append}
-use Rattle.air_model.specs.Air.{Sent, sent_section, sections_of, cycle_sections, Aired, IsCycle, Cycles, air, airings_of}
+use Rattle.air_model.specs.Repeating.{IsSentOf}
+use Rattle.air_model.proofs.Repeating.{of_element, cycle_is_sent}
+use Rattle.air_model.specs.Air.{Sent, cycle_sections, Aired, IsCycle, Cycles, air, airings_of}
 use Rattle.air_audit.specs.Fronts.{nothing, all_waiting, ToCome, IsApart}
-use Rattle.air_audit.specs.Audits.{IsTold, AiringFits, on_pid}
-use Rattle.air_audit.proofs.Lists.{two_fronts, none_on_any}
+use Rattle.air_audit.specs.Audits.{on_pid}
+use Rattle.si_lists.proofs.Lists.{all_map, two_fronts}
+use Rattle.air_audit.proofs.Lists.{none_on_any}
 use Rattle.air_audit.proofs.Runs.{Run, so_far-Run, Carries-so_far, Run-cut, run_one_way, nothing_runs}
 
 -- ---- the sections of a cycle
 
+-- the sub-tables of an airing can be sent
+abbrev pub AiringFits : AiredTables → Type 0
+AiringFits a = All IsFit a.tables
+
 abbrev pub Sendable : Sent → Type 0
 Sendable s = (s.pid < 8192) × IsApart s.bytes
 
-sections_sendable : (v : ℕ) (t : SubTable) (ss : Content) → IsTold t → AllByRecursion Sendable (map (sent_section v t) ss)
-sections_sendable v t [] h = tt
-sections_sendable v t (s ∷ ss) h = ((h.pid, h.table), sections_sendable v t ss h)
-
-both_sendable : (xs ys : List Sent) → AllByRecursion Sendable xs → AllByRecursion Sendable ys → AllByRecursion Sendable (xs ++ ys)
-both_sendable [] ys p q = q
-both_sendable (x ∷ xs) ys p q = (p.0, both_sendable xs ys p.1 q)
-
-tables_sendable : (f : SubTable → ℕ) (ts : List SubTable) → AllByRecursion IsTold ts → AllByRecursion Sendable (flat_map (λ (t : SubTable). sections_of (f t) t) ts)
-tables_sendable f [] h = tt
-tables_sendable f (t ∷ ts) h = both_sendable (sections_of (f t) t) (flat_map (λ (u : SubTable). sections_of (f u) u) ts) (sections_sendable (f t) t t.sections h.0) (tables_sendable f ts h.1)
+one_sendable : (past : List AiredTables) (a : AiredTables) (s : Sent) → AiringFits a → IsSentOf past a s → Sendable s
+one_sendable past a s fit (inl of) =
+    let t_fit = of_element IsFit a.tables of.0 (recursion_from_All IsFit a.tables fit) of.2 in
+    subst Sendable (sym of.4) (let pid = t_fit.pid in omega arith, t_fit.no_fill)
+one_sendable past a s fit (inr is) = subst Sendable (sym is) (omega arith, λ e. omega arith)
 
 pub cycle_sendable : (past : List AiredTables) (a : AiredTables) → AiringFits a → AllByRecursion Sendable (cycle_sections past a)
-cycle_sendable past a h = tables_sendable (λ (t : SubTable). version_at t.key (past ++ a ∷ [])) a.tables h
+cycle_sendable past a fit = all_map (IsSentOf past a) Sendable (λ s h. one_sendable past a s fit h) (cycle_sections past a) (cycle_is_sent past a).each
 
 on_pid_apart : (pid : ℕ) (ss : List Sent) → AllByRecursion Sendable ss → AllByRecursion IsApart (on_pid pid ss)
 on_pid_apart pid [] h = tt
@@ -74,7 +76,7 @@ cycle_once past a ps zs told c d =
 
 -- two cycles of one airing that begin one packet list are one
 same_cycle : (past : List AiredTables) (a : AiredTables) (ps qs r s : List Packet) → AiringFits a → IsCycle past (record { airing = a; packets = ps }) → IsCycle past (record { airing = a; packets = qs }) → ps ++ r ≡ qs ++ s → ps ≡ qs
-same_cycle past a ps qs r s told c d e = elim (two_fronts ps qs r s e) [
+same_cycle past a ps qs r s told c d e = elim (two_fronts qs s ps r (sym e)) [
   | inl h ↦
       let none : h.0 ≡ [] = cycle_once past a ps h.0 told c (subst (λ (l : List Packet). IsCycle past (record { airing = a; packets = l })) h.1 d) in
       sym (h.1 ∙ ap (λ (l : List Packet). ps ++ l) none ∙ append-nil ps)

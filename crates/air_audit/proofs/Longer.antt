@@ -4,41 +4,34 @@ use Rattle.std.specs.Prelude.{◌==◌, if◌then◌else◌}
 use Rattle.std.specs.List.{AllByRecursion}
 use Rattle.std.proofs.lemmas.List.{append_cancel_left, map-append}
 use Rattle.version_book.specs.Airings.{AiredTables}
-use Rattle.ts_packets.specs.Packets.{Piece, pieces, alone, Carries}
-use Rattle.ts_packets.specs.Bytes.{Packet, HasFields, bytes_of_packet, packet_on, packets_alone}
+use Rattle.ts_packets.specs.Packets.{Piece, Carries}
+use Rattle.ts_packets.specs.Bytes.{Packet, HasFields, bytes_of_packet}
 use Rattle.ts_packets.specs.Counting.{Load, of_pid, loads_on, Count}
 use Rattle.ts_packets.proofs.Stamps.{of_pid-append, loads_on-append, counter_at}
 use Rattle.air_model.specs.Air.{Sent, cycle_sections, Aired, IsCycle, Cycles, air, airings_of}
-use Rattle.air_model.specs.Making.{each_alone, cycle_alone}
-use Rattle.air_model.proofs.Counted.{PidsFit}
-use Rattle.air_model.proofs.Airs.{air_more-alone, air-push}
+use Rattle.air_model.specs.Making.{cycle_dense}
+use Rattle.air_model.proofs.Dense.{pids_fit}
+use Rattle.air_model.proofs.Airs.{air_more-dense, air-push}
 use Rattle.air_audit.specs.Fronts.{ToCome, nothing, all_waiting, CarrySoFar, GoesTo, IsApart, to_come_on}
-use Rattle.air_audit.specs.Audits.{BeginAnAir, AiringFits, on_pid, last_cycle, SoFar}
+use Rattle.air_audit.specs.Audits.{BeginAnAir, on_pid, last_cycle, SoFar}
 use Rattle.air_audit.specs.Laws.{LongerBegins, LongerListsAgree}
-use Rattle.air_audit.proofs.Lists.{all_front, all_behind, all_both, two_fronts, bytes_front, of_own_pid, own_load}
+use Rattle.si_lists.proofs.Lists.{all_map, all_front, all_behind, two_fronts}
+use Rattle.air_audit.proofs.Lists.{bytes_front, of_own_pid, own_load}
 use Rattle.air_audit.proofs.Runs.{Run, so_far-Run, Carries-so_far, Run-cut, run_one_way, nothing_stays}
-use Rattle.air_audit.proofs.Cycles.{Sendable, cycle_sendable, cycle_apart, Follow, same_cycles}
+use Rattle.air_audit.proofs.Cycles.{AiringFits, Sendable, cycle_sendable, cycle_apart, Follow, same_cycles}
 use Rattle.air_audit.proofs.Airs.{GoesOn, goes-packet, so_far-begins, list_of, last_behind}
 
 -- ---- each air can be gone on with
 
-pids_on : (pid : ℕ) (ps : List Piece) → pid < 8192 → PidsFit (map (packet_on pid) ps)
-pids_on pid [] h = tt
-pids_on pid (p ∷ ps) h = (h, pids_on pid ps h)
-
-pids_alone : (ss : List Sent) → AllByRecursion Sendable ss → PidsFit (each_alone ss)
-pids_alone [] h = tt
-pids_alone (s ∷ ss) h = all_both (λ (p : Packet). p.pid < 8192) (packets_alone s.pid s.bytes) (each_alone ss) (pids_on s.pid (pieces [] (alone s.bytes)) h.0.0) (pids_alone ss h.1)
-
 one_longer : (airings : List AiredTables) (a : AiredTables) (packets : List (List ℕ)) → AiringFits a → BeginAnAir airings packets → BeginAnAir (airings ++ a ∷ []) packets
 one_longer airings a packets told b =
     let xs = b.whole.xs in
-    let x : Aired = record { airing = a; packets = cycle_alone airings (air xs) a } in
+    let x : Aired = record { airing = a; packets = cycle_dense airings (air xs) a } in
     record {
       more = b.more ++ map bytes_of_packet x.packets;
       whole = record {
         xs = xs ++ x ∷ [];
-        is_air = air_more-alone airings xs a b.whole.is_air (pids_alone (cycle_sections airings a) (cycle_sendable airings a told));
+        is_air = air_more-dense airings xs a b.whole.is_air (pids_fit (cycle_sections airings a) (all_map Sendable (λ (s : Sent). s.pid < 8192) (λ s h. h.0) (cycle_sections airings a) (cycle_sendable airings a told)));
         packets_are =
             ap (map bytes_of_packet) (air-push xs x) ∙ map-append bytes_of_packet (air xs) x.packets ∙ ap (λ (l : List (List ℕ)). l ++ map bytes_of_packet x.packets) b.whole.packets_are
             ∙ append_assoc packets b.more (map bytes_of_packet x.packets);
@@ -103,7 +96,7 @@ cycle_goes past (Some a) more handed p rest f told carried not_end w = go w.zs w
     go [] e cycles are = cc
     go (z ∷ zs) e cycles are =
         let same : z.airing ≡ a = cc in
-        elim (two_fronts handed z.packets (p ∷ rest) (air zs) are) [
+        elim (two_fronts z.packets (air zs) handed (p ∷ rest) (sym are)) [
           | inl h ↦ within z h.0 (air zs) same cycles.0 h.1 are
           | inr h ↦ absurd (ended z h.0 same cycles.0 h.1)
         ]
@@ -146,6 +139,6 @@ goes-begins airings packets f bytes told h g =
 pub longer_lists_agree : LongerListsAgree
 longer_lists_agree airings more accepted c bytes s not_end told = (
   λ b. subst (λ (l : List (List ℕ)). BeginAnAir airings (l ++ bytes ∷ [])) (sym s.accepted_are)
-      (goes-begins airings s.packets (to_come_on c.on_pids) bytes s.told s.so_far (longer_goes airings more s.packets (to_come_on c.on_pids) bytes s.told s.so_far not_end (subst (λ (l : List (List ℕ)). BeginAnAir (airings ++ more) (l ++ bytes ∷ [])) s.accepted_are b))),
+      (goes-begins airings s.packets (to_come_on c.on_pids) bytes s.can_be_sent s.so_far (longer_goes airings more s.packets (to_come_on c.on_pids) bytes s.can_be_sent s.so_far not_end (subst (λ (l : List (List ℕ)). BeginAnAir (airings ++ more) (l ++ bytes ∷ [])) s.accepted_are b))),
   λ b. longer_begins airings more (accepted ++ bytes ∷ []) told b,
 )

@@ -1,23 +1,19 @@
 -- Lanes that move.
-use Rattle.std.proofs.Common.{◌≡◌, ℕ, zero, suc, ◌+◌, ◌-◌, ◌<◌, ◌≤◌, min, inl, inr, List, [], ◌∷◌, Bool, true, false, Option, Some, None, length, get_or, refl, sym, ap, ap₂, ◌∙◌, subst, arith, take, drop, map, length-take, length-drop, eq-eqb, ne_eqb}
-use Rattle.std.specs.Prelude.{◌==◌, ◌&&◌, ◌||◌, not, if◌then◌else◌, Result, Ok, Err, MatchOption, is_some}
+use Rattle.std.proofs.Common.{◌≡◌, ℕ, ◌+◌, ◌-◌, ◌≤◌, min, inl, inr, List, [], ◌∷◌, Bool, true, false, Option, Some, None, length, get_or, refl, sym, ap, ap₂, ◌∙◌, subst, arith, take, drop, length-take, length-drop}
+use Rattle.std.specs.Prelude.{◌==◌, ◌&&◌, ◌||◌, not, if◌then◌else◌, Result, Ok, Err}
 use Rattle.std.specs.Option.{ok_or}
 use Rattle.std.proofs.lemmas.Bool.{cases_lt}
 use Rattle.std.proofs.lemmas.List.{drop-take, drop-drop, drop_all}
-use Rattle.std.specs.List.{cons_option}
 use Rattle.cycle_laying.specs.declared.placed.Placed.{Placed}
-use Rattle.cycle_laying.specs.Laying.{sent_at}
-use Rattle.carousel_player.proofs.Steps.{from_place}
 use Rattle.air_audit.specs.declared.rule.Rule.{Rule}
 use Rattle.air_audit.specs.declared.rule.Rule.TheVariants.{Pointer, Bytes}
 use Rattle.air_audit.specs.declared.lanes.Lane.{Lane}
 use Rattle.air_audit.specs.Fronts.{ToCome}
-use Rattle.air_audit.specs.Audits.{on_pid}
 use Rattle.air_audit.specs.Telling.{is_fill, is_front, is_none, is_at_fill, begun_in, begins_in, is_pointer, told_start, told_further}
-use Rattle.air_audit.specs.Progress.{rest_of, waiting_from, laid_at, to_come_of, IsWithin, IsMoved, HasBegun, IsNextPlace}
+use Rattle.air_audit.specs.Progress.{rest_of, waiting_from, laid_at, to_come_of, IsWithin, IsMoved, HasBegun}
 
-pub length-rest : (bytes : List ℕ) (l : Lane) (places : ℕ) → IsWithin (length bytes) places l → length (rest_of bytes l) ≡ l.end - l.at
-length-rest bytes l places h = omega (arith, length-take (l.end - l.at) (drop l.at bytes), length-drop l.at bytes, h.order, h.end)
+pub length-rest : (bytes : List ℕ) (placed : List Placed) (l : Lane) → IsWithin (length bytes) placed l → length (rest_of bytes l) ≡ l.end - l.at
+length-rest bytes placed l h = omega (arith, length-take (l.end - l.at) (drop l.at bytes), length-drop l.at bytes, h.order, h.end)
 
 -- a range without its first bytes
 range_behind : (bytes : List ℕ) (at end n count : ℕ) → at ≤ end → count ≡ min (end - at) n → take (end - (at + count)) (drop (at + count) bytes) ≡ drop n (take (end - at) (drop at bytes))
@@ -34,53 +30,29 @@ range_behind bytes at end n count le e = elim (cases_lt n (end - at)) [
 ]
 
 -- a lane whose open section went on
-pub moved_further : (bytes : List ℕ) (placed : List Placed) (l : Lane) (payload : List ℕ) (count : ℕ) → IsWithin (length bytes) (length placed) l → (length (rest_of bytes l) == 0) ≡ false
+pub moved_further : (bytes : List ℕ) (placed : List Placed) (l : Lane) (payload : List ℕ) (count : ℕ) → IsWithin (length bytes) placed l → (length (rest_of bytes l) == 0) ≡ false
     → is_front (rest_of bytes l) payload ≡ true → is_fill (drop (length (rest_of bytes l)) payload) ≡ true → count ≡ min (length (rest_of bytes l)) (length payload)
     → IsMoved bytes placed l (told_further (to_come_of bytes placed l) payload) (Ok (record { pid = l.pid; at = l.at + count; end = l.end; next = l.next }))
 moved_further bytes placed l payload count h some front fill e =
     let rest = rest_of bytes l in
     let u : ToCome = record { rest = drop (length payload) rest; waiting = waiting_from l.pid bytes placed l.next } in
-    let size = length-rest bytes l (length placed) h in
+    let size = length-rest bytes placed l h in
     let told : told_further (to_come_of bytes placed l) payload ≡ Ok u =
     ap (λ (b : Bool). if b then Err Pointer else if is_front rest payload && is_fill (drop (length rest) payload) then Ok u else Err Bytes) (not_none rest some)
     ∙ ap₂ (λ (x y : Bool). if x && y then Ok u else Err Bytes) front fill in
     let range = range_behind bytes l.at l.end (length payload) count h.order (e ∙ ap (λ (k : ℕ). min k (length payload)) size) in
     let new : Lane = record { pid = l.pid; at = l.at + count; end = l.end; next = l.next } in
     subst (λ (r : Result ToCome Rule). IsMoved bytes placed l r (Ok new)) (sym told)
-    (refl, ap (λ (r : List ℕ). let t : ToCome = record { rest = r; waiting = waiting_from l.pid bytes placed l.next } in t) range, record { order = omega (arith, h.order); end = h.end; next = h.next })
+    (refl, ap (λ (r : List ℕ). let t : ToCome = record { rest = r; waiting = waiting_from l.pid bytes placed l.next } in t) range, record { order = omega (arith, h.order); end = h.end; next = h.next; first = h.first })
   where
     not_none : (xs : List ℕ) → (length xs == 0) ≡ false → is_none xs ≡ false
     not_none [] e = e
     not_none (x ∷ xs) e = refl
 
--- ---- places of a PID
-
-pub get_any : {X : Type 0} (xs : List X) (i : ℕ) (d e : X) → i < length xs → get_or xs i d ≡ get_or xs i e
-get_any [] i d e lt = absurd (omega arith)
-get_any (x ∷ xs) zero d e lt = refl
-get_any (x ∷ xs) (suc i) d e lt = get_any xs i d e (omega arith)
-
-waiting_at : (pid : ℕ) (bytes : List ℕ) (placed : List Placed) (at : ℕ) (p : Placed) → at < length placed → p ≡ get_or placed at p →
-    waiting_from pid bytes placed at ≡ cons_option (if p.pid == pid then Some (laid_at bytes p) else None) (waiting_from pid bytes placed (at + 1))
-waiting_at pid bytes placed at p lt is = ap (λ (l : List Placed). on_pid pid (map (sent_at bytes) l)) (from_place placed at p lt is)
-
-pub waiting_here : (pid : ℕ) (bytes : List ℕ) (placed : List Placed) (at : ℕ) (p : Placed) → at < length placed → p ≡ get_or placed at p → p.pid ≡ pid →
-    waiting_from pid bytes placed at ≡ laid_at bytes p ∷ waiting_from pid bytes placed (at + 1)
-waiting_here pid bytes placed at p lt is same =
-    waiting_at pid bytes placed at p lt is ∙ ap (λ (b : Bool). cons_option (if b then Some (laid_at bytes p) else None) (waiting_from pid bytes placed (at + 1))) (eq-eqb p.pid pid same)
-
-pub waiting_past : (pid : ℕ) (bytes : List ℕ) (placed : List Placed) (at : ℕ) (p : Placed) → at < length placed → p ≡ get_or placed at p → (p.pid ≡ pid → ⊥) →
-    waiting_from pid bytes placed at ≡ waiting_from pid bytes placed (at + 1)
-waiting_past pid bytes placed at p lt is apart =
-    waiting_at pid bytes placed at p lt is ∙ ap (λ (b : Bool). cons_option (if b then Some (laid_at bytes p) else None) (waiting_from pid bytes placed (at + 1))) (ne_eqb p.pid pid apart)
-
-pub waiting_none : (pid : ℕ) (bytes : List ℕ) (placed : List Placed) (at : ℕ) → length placed ≤ at → waiting_from pid bytes placed at ≡ []
-waiting_none pid bytes placed at past = ap (λ (l : List Placed). on_pid pid (map (sent_at bytes) l)) (drop_all at placed past)
-
 -- ---- sections that begin
 
 -- the sections that begin end at fill
-pub begun_fill : (bytes : List ℕ) (placed : List Placed) (l : Lane) (left : List ℕ) → IsWithin (length bytes) (length placed) l → is_at_fill left ≡ true → is_fill left ≡ true
+pub begun_fill : (bytes : List ℕ) (placed : List Placed) (l : Lane) (left : List ℕ) → IsWithin (length bytes) placed l → is_at_fill left ≡ true → is_fill left ≡ true
     → HasBegun bytes placed l (begun_in (rest_of bytes l) left (waiting_from l.pid bytes placed l.next)) (Some l)
 begun_fill bytes placed l left h at fill = go left (waiting_from l.pid bytes placed l.next) refl at fill
   where
@@ -112,23 +84,23 @@ begun_wrong bytes placed l left at fill = subst (λ (r : Result ToCome Rule). Ha
         ∙ ap (λ (x : Bool). if x then Ok (record { rest = rest; waiting = s ∷ ss }) else Err Bytes) fill
 
 -- one section more begins
-pub begun_more : (bytes : List ℕ) (placed : List Placed) (l : Lane) (left : List ℕ) (place : ℕ) (p : Placed) (count : ℕ) (r : Option Lane) → is_at_fill left ≡ false → IsNextPlace l.pid placed l.next place → p ≡ get_or placed place p
-    → is_front (laid_at bytes p) left ≡ true → count ≡ min p.len (length left)
-    → HasBegun bytes placed (record { pid = l.pid; at = p.start + count; end = p.start + p.len; next = place + 1 })
-    (begun_in (rest_of bytes (record { pid = l.pid; at = p.start + count; end = p.start + p.len; next = place + 1 })) (drop (length (laid_at bytes p)) left) (waiting_from l.pid bytes placed (place + 1))) r
+pub begun_more : (bytes : List ℕ) (placed : List Placed) (l : Lane) (left : List ℕ) (p : Placed) (count link : ℕ) (r : Option Lane) → is_at_fill left ≡ false
+    → waiting_from l.pid bytes placed l.next ≡ laid_at bytes p ∷ waiting_from l.pid bytes placed link → is_front (laid_at bytes p) left ≡ true → count ≡ min p.len (length left)
+    → HasBegun bytes placed (record { pid = l.pid; at = p.start + count; end = p.start + p.len; next = link })
+    (begun_in (rest_of bytes (record { pid = l.pid; at = p.start + count; end = p.start + p.len; next = link })) (drop (length (laid_at bytes p)) left) (waiting_from l.pid bytes placed link)) r
     → HasBegun bytes placed l (begun_in (rest_of bytes l) left (waiting_from l.pid bytes placed l.next)) r
-begun_more bytes placed l left place p count r at next is front e h =
-    subst (λ (x : Result ToCome Rule). HasBegun bytes placed l x r) (sym (ap (begun_in (rest_of bytes l) left) (next.waiting bytes p is) ∙ told left at front)) (same_pid bytes placed begun l (begun_in (drop (length left) s) (drop (length s) left) ss) r refl
+begun_more bytes placed l left p count link r at waits front e h =
+    subst (λ (x : Result ToCome Rule). HasBegun bytes placed l x r) (sym (ap (begun_in (rest_of bytes l) left) waits ∙ told left at front)) (same_pid bytes placed begun l (begun_in (drop (length left) s) (drop (length s) left) ss) r refl
     (subst (λ (x : List ℕ). HasBegun bytes placed begun (begun_in x (drop (length s) left) ss) r) rest h))
   where
     s : List ℕ
     s = laid_at bytes p
 
     ss : List (List ℕ)
-    ss = waiting_from l.pid bytes placed (place + 1)
+    ss = waiting_from l.pid bytes placed link
 
     begun : Lane
-    begun = record { pid = l.pid; at = p.start + count; end = p.start + p.len; next = place + 1 }
+    begun = record { pid = l.pid; at = p.start + count; end = p.start + p.len; next = link }
 
     rest : rest_of bytes begun ≡ drop (length left) s
     rest =
@@ -157,6 +129,26 @@ pub payload_is : (payload front body : List ℕ) (pointer : ℕ) → length payl
 payload_is [] front body pointer size a b c = absurd (omega arith)
 payload_is (p ∷ payload) front body pointer size a b c =
     ap₂ (λ (x : ℕ) (l : List ℕ). x ∷ l) (sym (c ∙ ap (λ (l : List ℕ). get_or l 0 0) a)) (sym b)
+
+-- where none waits, no section begins
+pub started_none : (bytes : List ℕ) (placed : List Placed) (l : Lane) (payload : List ℕ) → is_none (waiting_from l.pid bytes placed l.next) ≡ true → IsMoved bytes placed l (told_start (to_come_of bytes placed l) payload) (Err Pointer)
+started_none bytes placed l [] none = refl
+started_none bytes placed l (pointer ∷ body) none =
+    let t = to_come_of bytes placed l in
+    subst (λ (r : Result ToCome Rule). IsMoved bytes placed l r (Err Pointer))
+    (sym (ap (λ (x : Bool). if x || not (is_pointer pointer t.rest) then Err Pointer else if is_front t.rest body then begins_in (drop (length t.rest) body) t.waiting else Err Bytes) none)) refl
+
+-- at a wrong pointer, neither
+pub started_wrong : (bytes : List ℕ) (placed : List Placed) (l : Lane) (pointer : ℕ) (body : List ℕ) → is_pointer pointer (rest_of bytes l) ≡ false → IsMoved bytes placed l (told_start (to_come_of bytes placed l) (pointer ∷ body)) (Err Pointer)
+started_wrong bytes placed l pointer body wrong =
+    let t = to_come_of bytes placed l in
+    let goes : Result ToCome Rule = if is_front t.rest body then begins_in (drop (length t.rest) body) t.waiting else Err Bytes in
+    subst (λ (r : Result ToCome Rule). IsMoved bytes placed l r (Err Pointer))
+    (sym (ap (λ (x : Bool). if is_none t.waiting || not x then Err Pointer else goes) wrong ∙ either (is_none t.waiting) goes)) refl
+  where
+    either : (b : Bool) (r : Result ToCome Rule) → (if b || true then Err Pointer else r) ≡ Err Pointer
+    either true r = refl
+    either false r = refl
 
 -- what a lane with sections to begin is told, once the pointer is right
 start_is : (t : ToCome) (pointer : ℕ) (body : List ℕ) → is_none t.waiting ≡ false → is_pointer pointer t.rest ≡ true →
@@ -207,27 +199,28 @@ started bytes placed l pointer body behind o some right front is at h =
     moved (Err rule) None h = sym h
 
 -- as `begun_more`, by the section and what is behind it
-pub begun_section : (bytes : List ℕ) (placed : List Placed) (l : Lane) (left : List ℕ) (place : ℕ) (p : Placed) (count : ℕ) (section behind : List ℕ) (r : Option Lane) → is_at_fill left ≡ false → IsNextPlace l.pid placed l.next place → p ≡ get_or placed place p
-    → section ≡ laid_at bytes p → is_front section left ≡ true → behind ≡ drop (length section) left → count ≡ min p.len (length left)
-    → HasBegun bytes placed (record { pid = l.pid; at = p.start + count; end = p.start + p.len; next = place + 1 })
-    (begun_in (rest_of bytes (record { pid = l.pid; at = p.start + count; end = p.start + p.len; next = place + 1 })) behind (waiting_from l.pid bytes placed (place + 1))) r
+pub begun_section : (bytes : List ℕ) (placed : List Placed) (l : Lane) (left : List ℕ) (p : Placed) (count link : ℕ) (section behind : List ℕ) (r : Option Lane) → is_at_fill left ≡ false
+    → waiting_from l.pid bytes placed l.next ≡ laid_at bytes p ∷ waiting_from l.pid bytes placed link → section ≡ laid_at bytes p → is_front section left ≡ true → behind ≡ drop (length section) left → count ≡ min p.len (length left)
+    → HasBegun bytes placed (record { pid = l.pid; at = p.start + count; end = p.start + p.len; next = link })
+    (begun_in (rest_of bytes (record { pid = l.pid; at = p.start + count; end = p.start + p.len; next = link })) behind (waiting_from l.pid bytes placed link)) r
     → HasBegun bytes placed l (begun_in (rest_of bytes l) left (waiting_from l.pid bytes placed l.next)) r
-begun_section bytes placed l left place p count section behind r at next is here front is_behind e h =
-    let begun : Lane = record { pid = l.pid; at = p.start + count; end = p.start + p.len; next = place + 1 } in
-    begun_more bytes placed l left place p count r at next is (subst (λ (s : List ℕ). is_front s left ≡ true) here front) e
-    (subst (λ (x : List ℕ). HasBegun bytes placed begun (begun_in (rest_of bytes begun) x (waiting_from l.pid bytes placed (place + 1))) r) (is_behind ∙ ap (λ (s : List ℕ). drop (length s) left) here) h)
+begun_section bytes placed l left p count link section behind r at waits here front is_behind e h =
+    let begun : Lane = record { pid = l.pid; at = p.start + count; end = p.start + p.len; next = link } in
+    begun_more bytes placed l left p count link r at waits (subst (λ (s : List ℕ). is_front s left ≡ true) here front) e
+    (subst (λ (x : List ℕ). HasBegun bytes placed begun (begun_in (rest_of bytes begun) x (waiting_from l.pid bytes placed link)) r) (is_behind ∙ ap (λ (s : List ℕ). drop (length s) left) here) h)
+
+-- where none waits, no section begins
+pub begun_past : (bytes : List ℕ) (placed : List Placed) (l : Lane) (left : List ℕ) → is_at_fill left ≡ false → is_none (waiting_from l.pid bytes placed l.next) ≡ true
+    → HasBegun bytes placed l (begun_in (rest_of bytes l) left (waiting_from l.pid bytes placed l.next)) None
+begun_past bytes placed l left at none = go left (waiting_from l.pid bytes placed l.next) at none
+  where
+    go : (left : List ℕ) (ss : List (List ℕ)) → is_at_fill left ≡ false → is_none ss ≡ true → HasBegun bytes placed l (begun_in (rest_of bytes l) left ss) None
+    go [] ss at none = cc
+    go (b ∷ left) (s ∷ ss) at none = cc
+    go (b ∷ left) [] at none = subst (λ (r : Result ToCome Rule). HasBegun bytes placed l r None) (sym (ap (λ (x : Bool). if x && is_fill left then Ok (record { rest = rest_of bytes l; waiting = [] }) else Err Bytes) at)) refl
 
 pub section_at : (bytes : List ℕ) (p : Placed) → take (p.start + p.len - p.start) (drop p.start bytes) ≡ laid_at bytes p
 section_at bytes p = ap (λ (k : ℕ). take k (drop p.start bytes)) (let e : p.start + p.len - p.start ≡ p.len = omega arith in e)
-
--- where there is a next place, a section waits
-pub some_waits : (pid : ℕ) (bytes : List ℕ) (placed : List Placed) (from : ℕ) (o : Option ℕ) → MatchOption o ((b : List ℕ) → waiting_from pid b placed from ≡ []) (λ place. IsNextPlace pid placed from place) → is_some o ≡ true
-    → is_none (waiting_from pid bytes placed from) ≡ false
-some_waits pid bytes placed from None h e = cc
-some_waits pid bytes placed from (Some place) h e =
-    let p : Placed = get_or placed place (record { pid = 0; start = 0; len = 0 }) in
-    let is : p ≡ get_or placed place p = get_any placed place (record { pid = 0; start = 0; len = 0 }) p h.inside in
-    ap is_none (h.waiting bytes p is)
 
 -- the answer where there is no lane
 pub ok_or_is : (o : Option Lane) → ok_or o Bytes ≡ ok_or_bytes o

@@ -7,11 +7,11 @@ use Rattle.ts_packets.specs.Bytes.{Packet}
 use Rattle.ts_packets.specs.Counting.{of_pid}
 use Rattle.air_model.specs.Air.{cycle_sections, Aired, Cycles, air, airings_of}
 use Rattle.air_audit.specs.Fronts.{ToCome, nothing, all_waiting, CarrySoFar}
-use Rattle.air_audit.specs.Audits.{AiringFits, on_pid, last_cycle, and_last}
+use Rattle.air_audit.specs.Audits.{on_pid, last_cycle, and_last}
 use Rattle.air_audit.specs.Laws.{OneToCome}
-use Rattle.air_audit.proofs.Lists.{all_front, all_behind, two_fronts}
+use Rattle.si_lists.proofs.Lists.{all_front, all_behind, two_fronts}
 use Rattle.air_audit.proofs.Runs.{so_far-Run, run_one_way, nothing_stays}
-use Rattle.air_audit.proofs.Cycles.{cycle_apart, Follow, same_cycles}
+use Rattle.air_audit.proofs.Cycles.{AiringFits, cycle_apart, Follow, same_cycles}
 use Rattle.air_audit.proofs.Airs.{so_far-air, air-nothing}
 
 same_ends : (cs bs : List AiredTables) (a b : AiredTables) → cs ++ a ∷ [] ≡ bs ++ b ∷ [] → (cs ≡ bs) × (a ≡ b)
@@ -28,7 +28,7 @@ same_ends (x ∷ cs) (y ∷ bs) a b e =
 
 -- fronts of one packet list that are cycles of the same airings are one
 same_front : (xs ys : List Aired) (r s : List Packet) → AllByRecursion AiringFits (airings_of xs) → Cycles [] xs → Cycles [] ys → airings_of ys ≡ airings_of xs → air xs ++ r ≡ air ys ++ s → AllByRecursion AiringFits (airings_of ys) → air xs ≡ air ys
-same_front xs ys r s told c d e f told_ys = elim (two_fronts (air xs) (air ys) r s f) [
+same_front xs ys r s told c d e f told_ys = elim (two_fronts (air ys) s (air xs) r (sym f)) [
   | inl h ↦ sym (h.1 ∙ ap (λ (l : List Packet). air xs ++ l) (none (airings_of xs) h.0 (same_cycles [] xs ys [] h.0 told c d (e ∙ sym (append-nil (airings_of xs))) h.1)) ∙ append-nil (air xs))
   | inr h ↦ h.1 ∙ ap (λ (l : List Packet). air ys ++ l) (none (airings_of ys) h.0 (same_cycles [] ys xs [] h.0 told_ys d c (sym e ∙ sym (append-nil (airings_of ys))) h.1)) ∙ append-nil (air ys)
 ]

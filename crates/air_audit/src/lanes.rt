@@ -1,5 +1,5 @@
 // Lanes: how far a cycle has come on each PID.
-ghost use Rattle.std.specs.Prelude.{◌≡◌, ◌≤◌, ℕ, List, [], length, true, false};
+ghost use Rattle.std.specs.Prelude.{◌≡◌, ◌==◌, ◌≤◌, ℕ, List, [], length, true, false};
 ghost use Rattle.std.specs.List.{All};
 ghost use Rattle.cycle_laying.specs.Laying.{IsPlaced};
 ghost use Rattle.air_audit.specs.Telling.{told, told_start, told_further, begun_in, is_at_fill, is_none, is_pointer};
@@ -88,7 +88,10 @@ fn go_start(
 {
     let rest = &bytes[lane.at..lane.end];
     let (pointer, body) = payload.split_at(1);
-    if none_waits(placed, lane) || !is_pointer(pointer[0], rest) {
+    if none_waits(placed, lane) {
+        return Err(Rule::Pointer);
+    }
+    if !is_pointer(pointer[0], rest) {
         return Err(Rule::Pointer);
     }
     let Some(behind) = behind_front(body, rest) else {
@@ -108,7 +111,8 @@ fn go_start(
 
 // No section waits on a lane.
 fn none_waits(placed: &[Placed], lane: Lane) -> bool
-    ensures { (size : ℕ) (bytes : List ℕ) → IsWithin size placed.now lane → result ≡ is_none (waiting_from lane.pid bytes placed.now lane.next) }
+    ensures end { result ≡ (lane.next == length placed.now) }
+    ensures waits { (size : ℕ) (bytes : List ℕ) → IsWithin size placed.now lane → result ≡ is_none (waiting_from lane.pid bytes placed.now lane.next) }
 {
     lane.next == placed.len()
 }
