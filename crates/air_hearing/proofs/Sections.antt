@@ -20,11 +20,11 @@ use Rattle.ts_demux.specs.Hearing.{IsSection}
 use Rattle.ts_demux.specs.Laws.{GoOn}
 use Rattle.ts_demux.specs.Sections.{sections_on}
 use Rattle.ts_demux.proofs.Written.{carried_is_heard}
-use Rattle.air_model.specs.Air.{Sent, Aired, IsAirOf, Cycles, air, airings_of, sent_on, cycle_sections}
+use Rattle.air_model.specs.Air.{Sent, Aired, IsAirOf, Cycles, air, airings_of, sent_on, cycle_sections, CanBeSent}
 use Rattle.section_codec.specs.SubTables.{IsFit, header_of}
 use Rattle.air_model.specs.Repeating.{IsSentOf, RepeatingCycles, IsRepeatingAirOf}
 use Rattle.air_model.proofs.Repeating.{cycle_is_sent}
-use Rattle.air_hearing.specs.Sending.{sections_sent, CanBeSent}
+use Rattle.air_hearing.specs.Sending.{sections_sent}
 use Rattle.air_hearing.specs.Laws.{AirIsHeard}
 
 -- ---- a written section is a section

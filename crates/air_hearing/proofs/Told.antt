@@ -26,9 +26,9 @@ use Rattle.heard_completions.specs.Counting.{is_counted, counted_among}
 use Rattle.section_codec.specs.SubTables.{IsFit}
 use Rattle.heard_completions.specs.Dones.{DoneAt, at_packet, counted_heard, done_key, dones_by, dones_of, dones_behind}
 use Rattle.heard_completions.proofs.Shown.{more_shown, among-append, counted-push}
-use Rattle.air_model.specs.Air.{Aired, air, airings_of}
+use Rattle.air_model.specs.Air.{Aired, air, airings_of, CanBeSent}
 use Rattle.air_model.specs.Repeating.{RepeatingCycles}
-use Rattle.air_hearing.specs.Sending.{sections_sent, CanBeSent}
+use Rattle.air_hearing.specs.Sending.{sections_sent}
 use Rattle.air_hearing.specs.Counting.{CanBeHeard}
 use Rattle.air_hearing.specs.Changes.{is_new_at, is_change, version_with, changes_of, is_done_key}
 use Rattle.air_hearing.specs.Laws.{ChangesAreHeard, KeyIsHeard}

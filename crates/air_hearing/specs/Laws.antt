@@ -10,10 +10,10 @@ use Rattle.sub_collect.specs.Completions.{of_key}
 use Rattle.sub_collect.specs.Laws.{sections_with}
 use Rattle.heard_completions.specs.Counting.{is_counted, counted_among}
 use Rattle.heard_completions.specs.Dones.{DoneAt, counted_heard, dones_of}
-use Rattle.air_model.specs.Air.{Aired, IsAirOf, air, sent_on, sections_of}
+use Rattle.air_model.specs.Air.{Aired, IsAirOf, air, sent_on, sections_of, CanBeSent}
 use Rattle.section_codec.specs.SubTables.{IsFit}
 use Rattle.air_model.specs.Repeating.{IsRepeatingAirOf}
-use Rattle.air_hearing.specs.Sending.{sections_sent, CanBeSent}
+use Rattle.air_hearing.specs.Sending.{sections_sent}
 use Rattle.air_hearing.specs.Counting.{IsReadable, CanBeHeard, raw_of}
 use Rattle.air_hearing.specs.Changes.{changes_of, is_done_key}
 

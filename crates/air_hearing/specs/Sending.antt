@@ -1,15 +1,9 @@
 -- What is sent of an airing list.
 use Rattle.std.specs.Prelude.{List, [], ◌∷◌, ◌++◌}
-use Rattle.std.specs.List.{All, AllByRecursion}
 use Rattle.version_book.specs.Airings.{AiredTables}
 use Rattle.air_model.specs.Air.{Sent, cycle_sections}
-use Rattle.section_codec.specs.SubTables.{IsFit}
 
 -- the sections of the cycles of these airings behind others, in the order in which they are sent
 abbrev pub sections_sent : List AiredTables → List AiredTables → List Sent
 sections_sent past [] = []
 sections_sent past (a ∷ airings) = cycle_sections past a ++ sections_sent (past ++ a ∷ []) airings
-
--- all sub-tables of these airings can be sent
-abbrev pub CanBeSent : List AiredTables → Type 0
-CanBeSent airings = AllByRecursion (λ (a : AiredTables). All IsFit a.tables) airings

@@ -18,9 +18,9 @@ use Rattle.ts_demux.specs.Hearing.{IsSection}
 use Rattle.ts_demux.specs.Sections.{sections_on}
 use Rattle.ts_demux.specs.Laws.{GoOn, within}
 use Rattle.ts_demux.proofs.Written.{part_goes_on, part_is_heard}
-use Rattle.air_model.specs.Air.{Sent, Aired, sent_on, air, airings_of}
+use Rattle.air_model.specs.Air.{Sent, Aired, sent_on, air, airings_of, CanBeSent}
 use Rattle.air_model.specs.Repeating.{RepeatingCycles, IsRepeatingAirOf, sent_by}
-use Rattle.air_hearing.specs.Sending.{sections_sent, CanBeSent}
+use Rattle.air_hearing.specs.Sending.{sections_sent}
 use Rattle.air_hearing.proofs.Sections.{each_section, each_on, sections-each, GoOn-air}
 use Rattle.air_joins.specs.Joining.{count_before, heard_between, PartsAreHeard}
 use Rattle.air_joins.specs.Laws.{JoinedIsHeard, RepeatingAirCarries, RepeatingJoinedIsHeard}

@@ -5,9 +5,9 @@ use Rattle.section_codec.specs.declared.table.Key.{Key}
 use Rattle.version_book.specs.Airings.{AiredTables, content_at}
 use Rattle.ts_packets.specs.Packets.{Carries}
 use Rattle.ts_packets.specs.Counting.{of_pid}
-use Rattle.air_model.specs.Air.{Sent, Aired, sent_on, air, airings_of, IsAirOf}
+use Rattle.air_model.specs.Air.{Sent, Aired, sent_on, air, airings_of, IsAirOf, CanBeSent}
 use Rattle.air_model.specs.Repeating.{IsSentOf, IsRepeatingAirOf, sent_by}
-use Rattle.air_hearing.specs.Sending.{sections_sent, CanBeSent}
+use Rattle.air_hearing.specs.Sending.{sections_sent}
 use Rattle.air_joins.specs.Versions.{version_behind, changes_behind, ShareVersion}
 use Rattle.air_joins.specs.Joining.{heard_between, PartsAreHeard, IsOfCycleIn}
 

@@ -1,7 +1,7 @@
 -- Cycles of airings, and the air of an airing list.
 use Rattle.std.specs.Prelude.{◌≡◌, ℕ, List, [], ◌∷◌, ◌++◌, Bool, not, ◌&&◌, Option, Some, None, ◌==◌, if◌then◌else◌, length, drop, map, flat_map, filter_map, slice_get}
-use Rattle.std.specs.List.{AllByRecursion, prefix_len, take_while}
-use Rattle.section_codec.specs.SubTables.{header_of}
+use Rattle.std.specs.List.{All, AllByRecursion, prefix_len, take_while}
+use Rattle.section_codec.specs.SubTables.{IsFit, header_of}
 use Rattle.section_codec.specs.declared.table.NumberedBody.{NumberedBody}
 use Rattle.section_codec.specs.declared.table.SubTable.{SubTable}
 use Rattle.section_codec.specs.declared.table.Tier3.{Tier3}
@@ -53,6 +53,10 @@ behind_tdt tables = drop (prefix_len leads tables) tables
 abbrev pub sections_once : List AiredTables → AiredTables → List Sent
 sections_once past a =
     table_sections (past ++ a ∷ []) (before_tdt a.tables) ++ tdt a.moment ∷ table_sections (past ++ a ∷ []) (behind_tdt a.tables)
+
+-- all sub-tables of these airings can be sent
+abbrev pub CanBeSent : List AiredTables → Type 0
+CanBeSent airings = AllByRecursion (λ (a : AiredTables). All IsFit a.tables) airings
 
 -- ---- their order in a cycle
 

@@ -1,10 +1,7 @@
 pub mod Packs
 pub mod Steps
-pub mod Laid
-pub mod Begun
 pub mod Sendings
 pub mod Plays
-pub mod Weights
 pub mod Stretches
 pub mod DenseStarts
 pub mod Spaced

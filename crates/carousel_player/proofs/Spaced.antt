@@ -32,13 +32,13 @@ use Rattle.air_model.proofs.Counted.{length-counted}
 use Rattle.air_model.proofs.Dense.{once_some, eight}
 use Rattle.air_model.proofs.Airs.{air-push}
 use Rattle.air_model.proofs.Planned.{weights_each}
-use Rattle.carousel_player.specs.Planning.{weights_in, weights_of, weights_under}
+use Rattle.cycle_laying.specs.Planning.{weights_in, weights_of, weights_under}
 use Rattle.carousel_player.specs.Spacing.{plan_of, pid_at, length_at, starts_of, starts_of_two, AreStarts, RunsBeginAlone, CanBeSpaced, MadeAirsAreSpaced, MadeCyclesAreSpaced, MadeNeighboursAreSpaced}
 use Rattle.section_codec.specs.Section.{longest_body}
 use Rattle.section_codec.specs.Tables.{is_eit}
-use Rattle.carousel_player.proofs.Begun.{longest}
+use Rattle.cycle_laying.proofs.Begun.{longest}
 use Rattle.carousel_player.proofs.DenseStarts.{AreOf, CycleStarts, cycle_starts}
-use Rattle.carousel_player.proofs.Weights.{in_tiers, weights_given}
+use Rattle.cycle_laying.proofs.Weights.{in_tiers, weights_given}
 
 -- ---- the sections of an airing
 

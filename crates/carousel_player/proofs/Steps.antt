@@ -5,14 +5,14 @@ use Rattle.std.specs.List.{AllByRecursion, cons_option}
 use Rattle.std.proofs.lemmas.Bool.Decides.{nat_tests}
 use Rattle.std.proofs.lemmas.Option.{slice_get_read, slice_get_cases}
 use Rattle.std.proofs.lemmas.List.{take_all, drop_all}
-use Rattle.std.proofs.Math.Seq.{drop-cons}
 use Rattle.ts_packets.specs.Bytes.{Packet, bytes_of_packet}
 use Rattle.ts_packets.specs.Packer.{Begun, empty_on, room_for, pointer_at, with_first, with_further, finished}
 use Rattle.air_model.specs.Air.{Sent, at_places}
 use Rattle.air_model.specs.Making.{each_dense}
 use Rattle.air_model.proofs.Dense.{HaveSome}
-use Rattle.carousel_player.specs.declared.cycle.Placed.{Placed}
-use Rattle.carousel_player.specs.Laying.{IsPlaced, sent_at, sections_left, order_left, packets_behind, IsBegun, IsUnderWay}
+use Rattle.cycle_laying.specs.declared.placed.Placed.{Placed}
+use Rattle.cycle_laying.specs.Laying.{IsPlaced, sent_at}
+use Rattle.carousel_player.specs.Laying.{sections_left, order_left, packets_behind, IsBegun, IsUnderWay}
 use Rattle.carousel_player.specs.Packing.{not_put, packets_with, packets_from, IsOn, CanTake, Took, IsFilled}
 use Rattle.carousel_player.specs.Sending.{PutsFirst}
 use Rattle.carousel_player.proofs.Packs.{begins_empty, some_packet, takes_first, is_full, is_other, holds_all, begins_past, goes_past, goes_whole}
@@ -27,11 +27,6 @@ length-placed bytes p h = omega (arith, length-take p.len (drop p.start bytes), 
 placed_some : (bytes : List ℕ) (ps : List Placed) → AllByRecursion (IsPlaced (length bytes)) ps → HaveSome (map (sent_at bytes) ps)
 placed_some bytes [] h = tt
 placed_some bytes (p ∷ ps) h = (let some = h.0.some in omega (arith, length-placed bytes p h.0), placed_some bytes ps h.1)
-
--- what stands at a place, and the others
-pub from_place : {X : Type 0} (xs : List X) (at : ℕ) (x : X) → at < length xs → x ≡ get_or xs at x → drop at xs ≡ x ∷ drop (at + 1) xs
-from_place xs at x lt is =
-    drop-cons xs at x lt ∙ ap₂ (λ (y : _) (k : ℕ). y ∷ drop k xs) (sym is) (let e : suc at ≡ at + 1 = omega arith in e)
 
 -- ---- the order of sections
 

@@ -1,6 +1,5 @@
 pub mod Laying
 pub mod Packing
-pub mod Planning
 pub mod Spacing
 pub mod Spaced
 pub mod Sending

@@ -4,7 +4,7 @@ use Rattle.ts_packets.specs.Bytes.{Packet}
 use Rattle.ts_packets.specs.Packer.{Begun, empty_on, with_first, finished}
 use Rattle.air_model.specs.Air.{Sent, at_places}
 use Rattle.air_model.specs.Making.{goes_on}
-use Rattle.carousel_player.specs.declared.cycle.Placed.{Placed}
+use Rattle.cycle_laying.specs.declared.placed.Placed.{Placed}
 use Rattle.carousel_player.specs.Laying.{IsUnderWay, sections_left, packets_behind}
 
 -- what a packet that is begun has no room for, of the section that was put into it last

@@ -1,39 +1,27 @@
 // A cycle that is being sent: its sections, laid end to end, and how far it has come.
 ghost use Rattle.std.specs.Prelude.{◌≡◌, ◌+◌, ◌*◌, ◌≤◌, ◌<◌, [], ◌∷◌, ◌++◌, ◌==◌, List, ℕ, length, map, take, drop, Some, slice_get, vec_len, vec_capacity, OnOk, OnErr};
-ghost use Rattle.section_codec.specs.declared.table.SubTable.{SubTable};
 ghost use Rattle.version_book.specs.Airings.{AiredTables, CycleForm};
 ghost use Rattle.version_book.specs.Book.{BookStandsFor, aired};
 ghost use Rattle.air_model.specs.Air.{cycle_sections};
 ghost use Rattle.air_model.specs.Making.{each_dense};
-ghost use Rattle.carousel_player.specs.Laying.{room_for, places_for};
 ghost use Rattle.carousel_player.specs.Sending.{PutsFirst};
 ghost use Rattle.section_codec.specs.SubTables.{AreFit};
 
-use crate::laying::{lay_cycle, room_for};
 use crate::packing::{Progress, fill_packet};
-use crate::planning::plan_cycle;
+use cycle_laying::{LaidSections, plan_cycle};
 use cycle_plan::CyclePlan;
-use section_codec::{SubTable, Tables};
+use section_codec::Tables;
 use si_time::Moment;
 use std::alloc::{AllocError, Global};
 use std::marker::Model;
 use ts_packets::Packer;
 use version_book::VersionBook;
 
-/// A section of the cycle: its PID, and where its bytes stand.
-#[derive(Clone, Copy, PartialEq, Eq)]
-pub(crate) struct Placed {
-    pub(crate) pid: u16,
-    pub(crate) start: usize,
-    pub(crate) len: usize,
-}
-
 // The sections, each laid once, and how far they were sent. Contracts see the packets still to come, before they are counted.
 #[derive(Drop)]
 pub(crate) struct Cycle {
     alloc: Global,
-    bytes: Vec<u8>,
-    placed: Vec<Placed>,
+    laid: LaidSections,
     progress: Progress,
 }
 
@@ -44,9 +32,9 @@ impl Model for Cycle {
 
     ghost Value = { List Packet };
 
-    ghost view = { λ c. packets_behind (sections_left c.bytes.items c.placed.items (order_left c.progress.at c.progress.plan)) c.progress.from };
+    ghost view = { λ c. packets_behind (sections_left c.laid.bytes.items c.laid.placed.items (order_left c.progress.at c.progress.plan)) c.progress.from };
 
-    ghost invariant = { λ c. IsUnderWay (length c.bytes.items) c.placed.items (order_left c.progress.at c.progress.plan) c.progress.from };
+    ghost invariant = { λ c. IsUnderWay (length c.laid.bytes.items) c.laid.placed.items (order_left c.progress.at c.progress.plan) c.progress.from };
 }
 
 impl Cycle {
@@ -56,8 +44,7 @@ impl Cycle {
     {
         Cycle {
             alloc,
-            bytes: Vec::new(alloc),
-            placed: Vec::new(alloc),
+            laid: LaidSections::none(alloc),
             progress: Progress {
                 at: None,
                 from: 0,
@@ -95,16 +82,9 @@ impl Cycle {
         self.progress.at = None;
         self.progress.from = 0;
         let list = tables.list.as_slice();
-        take_room(&mut self.bytes, &mut self.placed, list)?;
+        self.laid.take_room(list)?;
         let mut plan = plan_cycle(self.alloc, list, quota)?;
-        let versions = book.assign(tables)?;
-        lay_cycle(
-            &mut self.bytes,
-            &mut self.placed,
-            list,
-            versions.as_slice(),
-            moment,
-        );
+        self.laid.lay(book, tables, moment)?;
         self.progress.at = plan.next();
         self.progress.plan = plan;
         Ok(())
@@ -119,32 +99,13 @@ impl Cycle {
         let Some(at) = self.progress.at else {
             return;
         };
-        let mut packer = Packer::open(self.placed[at].pid);
-        fill_packet(&mut packer, &mut self.progress, &self.bytes, &self.placed);
+        let mut packer = Packer::open(self.laid.placed[at].pid);
+        fill_packet(
+            &mut packer,
+            &mut self.progress,
+            &self.laid.bytes,
+            &self.laid.placed,
+        );
         packer.finish_into(into);
     }
-}
-
-// Empties the buffers and takes the memory for the sections of these sub-tables, and for a TDT: 8 bytes, and one place.
-fn take_room(
-    bytes: &mut Vec<u8>,
-    placed: &mut Vec<Placed>,
-    tables: &[SubTable],
-) -> Result<(), AllocError>
-    ensures bytes { bytes.new.items ≡ [] }
-    ensures placed { placed.new.items ≡ [] }
-    ensures room { OnOk result (vec_len bytes.new + (8 + room_for tables.now) ≤ vec_capacity bytes.new) }
-    ensures places { OnOk result (vec_len placed.new + (1 + places_for tables.now) ≤ vec_capacity placed.new) }
-{
-    bytes.clear();
-    placed.clear();
-    let Some((size, places)) = room_for(tables) else {
-        return Err(AllocError);
-    };
-    let (Some(size), Some(places)) = (size.checked_add(8), places.checked_add(1)) else {
-        return Err(AllocError);
-    };
-    bytes.reserve(size)?;
-    placed.reserve(places)?;
-    Ok(())
 }

@@ -1,9 +1,10 @@
 // Packets that the sections of a cycle share.
 ghost use Rattle.std.specs.Prelude.{◌≡◌, length, take, drop};
-ghost use Rattle.carousel_player.specs.Laying.{IsPlaced, order_left};
+ghost use Rattle.cycle_laying.specs.Laying.{IsPlaced};
+ghost use Rattle.carousel_player.specs.Laying.{order_left};
 ghost use Rattle.carousel_player.specs.Packing.{CanTake, Takes, IsFilled};
 
-use crate::cycle::Placed;
+use cycle_laying::Placed;
 use cycle_plan::CyclePlan;
 use ts_packets::Packer;
 

@@ -66,7 +66,8 @@ joined_useful rest ((s ∷ ss) ∷ groups) e =
     ∙ ap (λ (x : List ℕ). x ++ joined (all_of groups)) (take-append-drop 183 J)
     ∙ append_assoc rest (joined (s ∷ ss)) (joined (all_of groups)) ∙ ap (λ (x : List ℕ). rest ++ x) (sym (flat_map-append (λ (x : List ℕ). x) (s ∷ ss) (all_of groups)))
 
-goes_alone-fits : (n : ℕ) (rest : List ℕ) → length rest ≤ n → HaveSectionBytes rest (goes_alone n rest) × (left rest (goes_alone n rest) ≡ [])
+-- packets that go on with a section alone hold it to its end
+pub goes_alone-fits : (n : ℕ) (rest : List ℕ) → length rest ≤ n → HaveSectionBytes rest (goes_alone n rest) × (left rest (goes_alone n rest) ≡ [])
 goes_alone-fits zero [] h = (tt, refl)
 goes_alone-fits zero (b ∷ rest) h = absurd (omega arith)
 goes_alone-fits (suc n) [] h = (tt, refl)
@@ -86,7 +87,8 @@ alone-fits s =
       ap (λ (x : List ℕ). left x (goes_alone (length s) (drop 183 s))) (behind_first s) ∙ r.1,
     )
 
-none_begins : (n : ℕ) (rest : List ℕ) → all_of (goes_alone n rest) ≡ []
+-- in them no section begins
+pub none_begins : (n : ℕ) (rest : List ℕ) → all_of (goes_alone n rest) ≡ []
 none_begins zero rest = refl
 none_begins (suc n) [] = refl
 none_begins (suc n) (b ∷ rest) = none_begins n (drop 184 (b ∷ rest))

@@ -7,7 +7,7 @@ use Rattle.std.proofs.lemmas.Option.{slice_get-map}
 use Rattle.ts_packets.specs.declared.shape.Shape.{Shape}
 use Rattle.ts_packets.specs.declared.shape.Shape.TheVariants.{Pass, Gap, Load}
 use Rattle.ts_packets.specs.Packets.{Piece, piece_of, pieces, alone, packets_of}
-use Rattle.ts_packets.specs.Bytes.{Packet, bytes_of_packet, HasFields, HasWrittenHeader, packet_on, packets_alone, pid_in, payload_unit_start_indicator, continuity_counter, adaptation_field_control, transport_error_indicator, transport_scrambling_control, adaptation_field_length, shape_in, load_at, packet_in, with_counter}
+use Rattle.ts_packets.specs.Bytes.{Packet, bytes_of_packet, HasFields, HasWrittenHeader, packet_on, packets_alone, pid_in, payload_unit_start_indicator, continuity_counter, adaptation_field_control, transport_error_indicator, transport_priority, transport_scrambling_control, adaptation_field_length, shape_in, load_at, packet_in, with_counter}
 use Rattle.ts_packets.proofs.Carrying.{at_alone, piece_at}
 
 -- the bytes of the packet at a place among those of a section alone
@@ -74,6 +74,27 @@ reads-written p pid counter =
     let load : load_at bytes 4 ≡ Load p.pid p.piece.start p.counter 4 =
     ap₂ (λ (n : ℕ) (b : Bool). Load n b (continuity_counter bytes) 4) told (told_start p.piece.start p.pid (omega arith)) ∙ ap (λ (n : ℕ). Load p.pid p.piece.start n 4) (told_counter p.counter counter) in
     ap Ok (case ∙ load)
+
+no_priority : (start : Bool) (pid : ℕ) → pid < 8192 → ((second start pid / 32) % 2 == 1) ≡ false
+unfolding second
+no_priority true pid lt = grind (arith, nat_tests)
+no_priority false pid lt = grind (arith, nat_tests)
+
+-- The fixed fields of a header that is written.
+pub record HasFixedFields (bytes : List ℕ) : Type 0 where
+  pub sound : transport_error_indicator bytes ≡ false
+  pub no_priority : transport_priority bytes ≡ false
+  pub clear : transport_scrambling_control bytes ≡ 0
+  pub payload_alone : adaptation_field_control bytes ≡ 1
+
+pub fixed-written : (p : Packet) → HasFields p → HasFixedFields (bytes_of_packet p)
+unfolding second
+fixed-written p h = record {
+  sound = no_error p.piece.start p.pid h.pid;
+  no_priority = no_priority p.piece.start p.pid h.pid;
+  clear = let lt = h.counter in omega arith;
+  payload_alone = has_payload p.counter h.counter;
+}
 
 -- A packet is what its bytes read as, so its bytes determine it.
 pub packet_in-bytes : (p : Packet) → HasFields p → packet_in (bytes_of_packet p) ≡ p

@@ -1,5 +1,5 @@
 // Continuity counters.
-ghost use Rattle.std.specs.Prelude.{◌≡◌, ◌%◌, ◌≤◌, ◌++◌, [], ◌∷◌, List, ℕ, length};
+ghost use Rattle.std.specs.Prelude.{◌≡◌, ◌%◌, ◌<◌, ◌≤◌, ◌++◌, [], ◌∷◌, List, ℕ, length};
 ghost use Rattle.ts_packets.specs.Bytes.{pid_in, with_counter};
 ghost use Rattle.ts_packets.specs.Counting.{StandFor, count_on};
 
@@ -49,6 +49,24 @@ impl Counters {
         let pid = usize::from(packet[1] % 32) * 256 + usize::from(packet[2]);
         let counter = self.next[pid].unwrap_or(0) % 16;
         packet[3] = packet[3] / 16 * 16 + counter;
+        self.next[pid] = Some((counter + 1) % 16);
+    }
+
+    /// The continuity_counter that the next packet of a PID has. It takes no memory.
+    pub fn next(&self, pid: u16) -> u8
+        requires { pid < 8192 }
+        ensures { (past : List (List ℕ)) → StandFor past self.now → result ≡ count_on pid past % 16 }
+    {
+        self.next[usize::from(pid)].unwrap_or(0) % 16
+    }
+
+    /// Counts a packet that has its continuity_counter already, by its bytes: its PID had one packet more. It takes no memory.
+    pub fn count(&mut self, packet: &[u8])
+        requires { length packet.now ≡ 188 }
+        ensures { (past : List (List ℕ)) → StandFor past self.old → StandFor (past ++ packet.now ∷ []) self.new }
+    {
+        let pid = usize::from(packet[1] % 32) * 256 + usize::from(packet[2]);
+        let counter = self.next[pid].unwrap_or(0) % 16;
         self.next[pid] = Some((counter + 1) % 16);
     }
 }

@@ -1,6 +1,6 @@
 use Rattle.std.proofs.Common.{ℕ, List, Option, length, sym, ap, ◌∙◌, subst, subst₂}
 use Rattle.ts_packets.specs.Packer.{Begun, empty_on}
-use Rattle.carousel_player.specs.declared.cycle.Placed.{Placed}
+use Rattle.cycle_laying.specs.declared.placed.Placed.{Placed}
 use Rattle.carousel_player.specs.Laying.{sections_left, order_left, packets_behind, IsUnderWay}
 use Rattle.carousel_player.specs.Packing.{IsFilled, packets_from}
 use Rattle.carousel_player.proofs.Steps.{sending, taken_from, puts_first}
@@ -10,8 +10,8 @@ pub returns : goal.returns
 returns c =
     let fields = c.self.inside in
     let new = c.fill_packet.new.progress in
-    let bytes = fields.bytes.items in
-    let placed = fields.placed.items in
+    let bytes = fields.laid.bytes.items in
+    let placed = fields.laid.placed.items in
     let pid = c.index.result.now.pid in
     let order = order_left fields.progress.at fields.progress.plan in
     let left = order_left new.at new.plan in

@@ -1,0 +1,119 @@
+// The auditor.
+ghost use Rattle.std.specs.Prelude.{◌≡◌, ◌%◌, ◌*◌, ◌<◌, ◌≤◌, ◌↔◌, ◌++◌, [], ◌∷◌, List, ℕ, IsTrue, IsNone, IfNone, IfSome, OnOk, OnErr};
+ghost use Rattle.section_codec.specs.SubTables.{AreFit};
+ghost use Rattle.version_book.specs.Airings.{AiredTables};
+ghost use Rattle.version_book.specs.Book.{aired};
+ghost use Rattle.ts_packets.specs.Bytes.{pid_in};
+ghost use Rattle.ts_packets.specs.Counting.{count_on};
+ghost use Rattle.air_audit.specs.Fronts.{to_come_on};
+ghost use Rattle.air_audit.specs.Audits.{AreAnAir, BeginAnAir};
+ghost use Rattle.air_audit.specs.Checking.{StandsFor, IsAtEnd, form_of, rule_broken};
+
+use crate::header::{counter_of, has_shape, is_start, pid_of};
+use crate::progress::Progress;
+use crate::rule::Rule;
+use section_codec::Tables;
+use si_time::Moment;
+use std::alloc::{AllocError, Global};
+use std::marker::Model;
+use ts_packets::Counters;
+use version_book::VersionBook;
+
+/// An auditor of packets. It stands for an airing list and the packets that it accepted, which are a prefix of an air of
+/// that list: the cycles of all airings but the last, and the last one as far as it has come. It keeps its allocator.
+#[derive(Drop)]
+pub struct Checker {
+    alloc: Global,
+    book: VersionBook,
+    counters: Counters,
+    progress: Progress,
+    quota: u32,
+}
+
+impl Model for Checker {
+    ghost use Rattle.air_audit.specs.Checking.{Checking};
+
+    ghost Value = { Checking };
+
+    ghost view = { λ c. record { book = c.book; counters = c.counters; on_pids = c.progress; quota = c.quota } };
+}
+
+impl Checker {
+    /// An auditor of the empty airing list, which is at an end. The quota, 1 to 10,000, is that of the cycles, as a player's
+    /// (`cycle_plan`). It takes no memory.
+    pub fn open(alloc: Global, quota: u32) -> Checker
+        requires some { 1 ≤ quota }
+        requires most { quota ≤ 10000 }
+        ensures stands { StandsFor [] [] result }
+        ensures at_end { IsAtEnd result }
+        ensures quota { result.quota ≡ quota }
+    {
+        Checker {
+            alloc,
+            book: VersionBook::open(alloc),
+            counters: Counters::open(),
+            progress: Progress::ended(alloc),
+            quota,
+        }
+    }
+
+    /// Adds an airing: these sub-tables, at the moment of the swap, in a cycle of the auditor's quota. It needs an auditor at an
+    /// end, and sub-tables and a moment with which a player swaps: keys that differ, in the order of their tiers, PIDs below 8,191,
+    /// each with at least one section, ascending numbers and bodies that fit a section in the long form, and none with the table_id
+    /// 0xFF, which is fill; and a moment whose day has 16 bits. All memory is taken first: where it is wanting, the auditor is
+    /// unchanged.
+    pub fn swap(&mut self, tables: Tables, moment: Moment) -> Result<(), AllocError>
+        requires at_end { IsAtEnd self.old }
+        requires fit { AreFit tables.list }
+        requires moment { moment.0 < 65536 * 86400 }
+        ensures swapped { (airings : List AiredTables) (accepted : List (List ℕ)) → StandsFor airings accepted self.old
+            → OnOk result (StandsFor (airings ++ aired tables.list moment.0 (form_of self.old) ∷ []) accepted self.new) }
+        ensures quota { self.new.quota ≡ self.old.quota }
+        ensures memory { OnErr result (self.new ≡ self.old) }
+    {
+        let quota = self.quota;
+        let next = Progress::begin(self.alloc, &mut self.book, &tables, quota, moment)?;
+        self.progress = next;
+        Ok(())
+    }
+
+    /// Whether the packets accepted are an air of the airing list: nothing of its cycle is to come.
+    pub fn at_end(&self) -> bool
+        ensures end { IsTrue result ↔ IsAtEnd self.now }
+        ensures air { (airings : List AiredTables) (accepted : List (List ℕ)) → StandsFor airings accepted self.now
+            → IsTrue result ↔ AreAnAir airings accepted }
+    {
+        self.progress.is_ended()
+    }
+
+    /// Checks a packet. None comes exactly where the packets accepted with it are a prefix of an air of the airing list; it
+    /// is then accepted. Otherwise nothing changes, and the answer is the first rule that the packet breaks. It takes no
+    /// memory.
+    pub fn check(&mut self, packet: &[u8; 188]) -> Option<Rule>
+        ensures accepted { (airings : List AiredTables) (accepted : List (List ℕ)) → StandsFor airings accepted self.old
+            → IfNone result (StandsFor airings (accepted ++ packet.now ∷ []) self.new) }
+        ensures exactly { (airings : List AiredTables) (accepted : List (List ℕ)) → StandsFor airings accepted self.old
+            → IsNone result ↔ BeginAnAir airings (accepted ++ packet.now ∷ []) }
+        ensures rule { (airings : List AiredTables) (accepted : List (List ℕ)) → StandsFor airings accepted self.old
+            → IfSome result (λ rule. rule ≡ rule_broken (to_come_on self.old.on_pids (pid_in packet.now)) (count_on (pid_in packet.now) accepted % 16) packet.now) }
+        ensures kept { IfSome result (λ _. self.new ≡ self.old) }
+        ensures quota { self.new.quota ≡ self.old.quota }
+    {
+        if !has_shape(packet) {
+            return Some(Rule::Shape);
+        }
+        let pid = pid_of(packet);
+        if self.progress.is_nothing_on(pid) {
+            return Some(Rule::Pid);
+        }
+        if counter_of(packet) != self.counters.next(pid) {
+            return Some(Rule::Counter);
+        }
+        let (_, payload) = packet.split_at(4);
+        if let Some(rule) = self.progress.go_on(pid, is_start(packet), payload) {
+            return Some(rule);
+        }
+        self.counters.count(packet);
+        None
+    }
+}

@@ -1,0 +1,21 @@
+// The laws of an auditor.
+ghost use Rattle.air_audit.specs.Laws.{ConsistentIsPrefix, LongerBegins, LongerListsAgree, OneToCome};
+
+/// Packets behind a whole air go on consistently, which is what `check` looks at, exactly where they are a prefix of an air
+/// of the longer airing list: what is consistent so far can always be completed.
+pub fn consistent_is_prefix()
+    ensures { ConsistentIsPrefix }
+{}
+
+/// An auditor need not know the airings to come: a prefix of an air is one for each longer airing list, and while the cycle has not
+/// ended, a packet is right by the list exactly where it is by a longer one.
+pub fn longer_lists_agree()
+    ensures begins { LongerBegins }
+    ensures agree { LongerListsAgree }
+{}
+
+/// What is still to come on a PID is determined by the packets accepted and the airing list, and so is the rule that a packet
+/// breaks.
+pub fn one_is_to_come()
+    ensures { OneToCome }
+{}

@@ -1,0 +1,3 @@
+pub mod Laid
+pub mod Weights
+pub mod Begun

@@ -1,0 +1,11 @@
+use Rattle.std.proofs.Common.{◌++◌, List, ℕ, ap, sym, ◌∙◌, subst}
+use Rattle.section_codec.specs.declared.table.Tier3.{Tier3}
+use Rattle.cycle_plan.specs.Sections.{AreInTiers}
+use Rattle.cycle_laying.specs.Planning.{weights_under}
+use Rattle.cycle_laying.proofs.Weights.{in_tiers}
+use Rattle.cycle_laying.proofs.planning.plan_cycle.Goals as goal
+
+pub plan-requires : goal.plan-requires
+plan-requires c = record {
+  tiers = subst AreInTiers (sym (c.as_slice.ensures.value ∙ c.in_ok-put_weights.ensures ∙ ap (λ (l : List (Tier3 × ℕ)). l ++ weights_under c.args.tables.now) c.new-weights.ensures.items)) (in_tiers c.args.tables.now c.requires.ordered);
+}

@@ -1,0 +1,53 @@
+// The order of a cycle of sub-tables.
+ghost use Rattle.std.specs.Prelude.{◌≡◌, ◌++◌, IfOk, OnOk};
+ghost use Rattle.std.specs.List.{All};
+ghost use Rattle.section_codec.specs.SubTables.{IsFit, AreFit};
+ghost use Rattle.cycle_laying.specs.Laying.{order_under};
+ghost use Rattle.cycle_laying.specs.Planning.{weights_in, weights_of, weights_under};
+
+use crate::laying::lead_count;
+use cycle_plan::{CyclePlan, plan};
+use section_codec::{SubTable, Tier3};
+use std::alloc::{AllocError, Global};
+use ts_packets::packets_of;
+
+/// Plans the order of one cycle of the sections of these sub-tables and of a TDT, which stands behind those that lead. A section
+/// is named by its place where each is laid once.
+pub fn plan_cycle(alloc: Global, tables: &[SubTable], quota: u32) -> Result<CyclePlan, AllocError>
+    requires { AreFit tables.now }
+    ensures { IfOk result (λ order. order ≡ order_under tables.now quota) }
+{
+    let mut weights = Vec::new(alloc);
+    put_weights(&mut weights, tables)?;
+    plan(alloc, weights.as_slice(), quota)
+}
+
+fn put_weights(weights: &mut Vec<(Tier3, u32)>, tables: &[SubTable]) -> Result<(), AllocError>
+    requires { All IsFit tables.now }
+    ensures { OnOk result (weights.new.items ≡ weights.old.items ++ weights_under tables.now) }
+{
+    let (before, behind) = tables.split_at(lead_count(tables));
+    put_tables(weights, before)?;
+    weights.push((Tier3::Fast, 1))?;
+    put_tables(weights, behind)
+}
+
+fn put_tables(weights: &mut Vec<(Tier3, u32)>, tables: &[SubTable]) -> Result<(), AllocError>
+    requires { All IsFit tables.now }
+    ensures { OnOk result (weights.new.items ≡ weights.old.items ++ weights_of tables.now) }
+{
+    for table in tables {
+        put_table(weights, table)?;
+    }
+    Ok(())
+}
+
+fn put_table(weights: &mut Vec<(Tier3, u32)>, table: &SubTable) -> Result<(), AllocError>
+    requires { IsFit table.now }
+    ensures { OnOk result (weights.new.items ≡ weights.old.items ++ weights_in table.now) }
+{
+    for section in table.sections.as_slice() {
+        weights.push((table.tier, packets_of(section.body.len() + 12)))?;
+    }
+    Ok(())
+}

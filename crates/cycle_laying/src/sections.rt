@@ -1,0 +1,99 @@
+// The sections of a cycle, laid.
+ghost use Rattle.std.specs.Prelude.{◌≡◌, ◌+◌, ◌*◌, ◌<◌, ◌≤◌, ◌++◌, [], ◌∷◌, List, ℕ, length, map, vec_len, vec_capacity, OnOk, OnErr};
+ghost use Rattle.std.specs.List.{AllByRecursion};
+ghost use Rattle.section_codec.specs.SubTables.{AreFit};
+ghost use Rattle.version_book.specs.Airings.{AiredTables, CycleForm};
+ghost use Rattle.version_book.specs.Book.{BookStandsFor, aired};
+ghost use Rattle.air_model.specs.Air.{at_places, cycle_sections};
+ghost use Rattle.cycle_laying.specs.Laying.{IsPlaced, sent_at, HaveRoom, order_under, room_for, places_for};
+
+use crate::laying::{lay_cycle, room_for};
+use crate::placed::Placed;
+use section_codec::{SubTable, Tables};
+use si_time::Moment;
+use std::alloc::{AllocError, Global};
+use version_book::VersionBook;
+
+/// The sections of a cycle, laid end to end, each once, and where each of them stands.
+#[derive(Drop)]
+pub struct LaidSections {
+    pub bytes: Vec<u8>,
+    pub placed: Vec<Placed>,
+}
+
+impl LaidSections {
+    /// No section. It takes no memory.
+    pub fn none(alloc: Global) -> LaidSections
+        ensures bytes { result.bytes.items ≡ [] }
+        ensures placed { result.placed.items ≡ [] }
+    {
+        LaidSections {
+            bytes: Vec::new(alloc),
+            placed: Vec::new(alloc),
+        }
+    }
+
+    /// Empties the buffers and takes the memory for the sections of these sub-tables and for a TDT.
+    pub fn take_room(&mut self, tables: &[SubTable]) -> Result<(), AllocError>
+        ensures { OnOk result (HaveRoom tables.now self.new.bytes self.new.placed) }
+    {
+        take_room(&mut self.bytes, &mut self.placed, tables)
+    }
+
+    /// Lays the sections of the cycle of one airing more: those of these sub-tables, with the versions that the book gives them, and the
+    /// TDT of this moment. A plan of these sub-tables (`plan_cycle`) names each by its place. It needs the room for them, a moment whose
+    /// day has 16 bits, and sub-tables that can be sent in one cycle. Where memory is wanting, the book stays as it was.
+    pub fn lay(
+        &mut self,
+        book: &mut VersionBook,
+        tables: &Tables,
+        moment: Moment,
+    ) -> Result<(), AllocError>
+        requires room { HaveRoom tables.now.list self.old.bytes self.old.placed }
+        requires fit { AreFit tables.now.list }
+        requires moment { moment.0 < 65536 * 86400 }
+        ensures versions { OnOk result ((past : List AiredTables) (form : CycleForm) → BookStandsFor past book.old
+            → BookStandsFor (past ++ aired tables.now.list moment.0 form ∷ []) book.new) }
+        ensures sections { OnOk result ((past : List AiredTables) (quota : ℕ) → BookStandsFor past book.old
+            → map (sent_at self.new.bytes.items) (at_places self.new.placed.items (order_under tables.now.list quota))
+            ≡ cycle_sections past (aired tables.now.list moment.0 (record { quota = quota }))) }
+        ensures placed { OnOk result (AllByRecursion (IsPlaced (length self.new.bytes.items)) self.new.placed.items) }
+        ensures within { OnOk result ((quota : ℕ)
+            → AllByRecursion (λ at. at < length self.new.placed.items) (order_under tables.now.list quota)) }
+        ensures memory { OnErr result (book.new ≡ book.old) }
+    {
+        let versions = book.assign(tables)?;
+        lay_cycle(
+            &mut self.bytes,
+            &mut self.placed,
+            tables.list.as_slice(),
+            versions.as_slice(),
+            moment,
+        );
+        Ok(())
+    }
+}
+
+// Empties the buffers and takes the memory for the sections of these sub-tables, and for a TDT: 8 bytes, and one place.
+fn take_room(
+    bytes: &mut Vec<u8>,
+    placed: &mut Vec<Placed>,
+    tables: &[SubTable],
+) -> Result<(), AllocError>
+    ensures bytes { bytes.new.items ≡ [] }
+    ensures placed { placed.new.items ≡ [] }
+    ensures room { OnOk result (vec_len bytes.new + (8 + room_for tables.now) ≤ vec_capacity bytes.new) }
+    ensures places { OnOk result (vec_len placed.new + (1 + places_for tables.now) ≤ vec_capacity placed.new) }
+{
+    bytes.clear();
+    placed.clear();
+    let Some((size, places)) = room_for(tables) else {
+        return Err(AllocError);
+    };
+    let (Some(size), Some(places)) = (size.checked_add(8), places.checked_add(1)) else {
+        return Err(AllocError);
+    };
+    bytes.reserve(size)?;
+    placed.reserve(places)?;
+    Ok(())
+}
