@@ -11,6 +11,7 @@ mod coding;
 mod cutting;
 mod decoding;
 mod shown;
+mod stored;
 mod txt;
 
 pub use coding::{append_text, coded_len, encode_text, is_all_plain, is_plain_byte};

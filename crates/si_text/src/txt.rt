@@ -6,6 +6,7 @@ ghost use Rattle.si_text.specs.Coding.{all_plain, coded_size};
 ghost use Rattle.si_text.specs.Control.{all_printing, is_control, has_control, is_printing};
 
 use crate::coding::is_all_plain;
+use crate::stored::Stored;
 use std::alloc::{AllocError, Global};
 use std::marker::Model;
 
@@ -13,20 +14,20 @@ use std::marker::Model;
 /// see as its UTF-8 bytes. It knows whether all its characters are of the plain set.
 #[derive(Drop)]
 pub struct Txt {
-    text: String,
-    is_plain: bool,
+    stored: Stored,
 }
 
 impl Model for Txt {
-    ghost use Rattle.std.specs.Prelude.{◌≡◌, List, ℕ, string_bytes, false};
+    ghost use Rattle.std.specs.Prelude.{◌≡◌, List, ℕ, false};
     ghost use Rattle.si_text.specs.Coding.{all_plain};
     ghost use Rattle.si_text.specs.Control.{has_control};
+    ghost use Rattle.si_text.specs.Stores.{stored_bytes, stored_plain};
 
     ghost Value = { List ℕ };
 
-    ghost view = { λ t. string_bytes t.text };
+    ghost view = { λ t. stored_bytes t.stored };
 
-    ghost invariant = { λ t. (has_control (string_bytes t.text) ≡ false) × (t.is_plain ≡ all_plain (string_bytes t.text)) };
+    ghost invariant = { λ t. (has_control (stored_bytes t.stored) ≡ false) × (stored_plain t.stored ≡ all_plain (stored_bytes t.stored)) };
 }
 
 impl Txt {
@@ -46,48 +47,41 @@ impl Txt {
         ensures { IfOk result (λ made. made ≡ text.now) }
     {
         let is_plain = is_all_plain(text.as_bytes());
-        let text = String::from_str(alloc, text)?;
-        Ok(Txt { text, is_plain })
+        let stored = Stored::own(alloc, text, is_plain)?;
+        Ok(Txt { stored })
     }
 
-    /// The text, which is known to be all of the plain set: it is not looked at.
+    /// The text, which is known to be all of the plain set: it is not looked at. A long one is stored as its first copy
+    /// would be.
     pub fn of_plain(alloc: Global, text: &str) -> Result<Txt, AllocError>
         requires { all_plain text.now ≡ true }
         ensures { IfOk result (λ made. made ≡ text.now) }
     {
-        let text = String::from_str(alloc, text)?;
-        Ok(Txt {
-            text,
-            is_plain: true,
-        })
+        let stored = Stored::for_copies(alloc, text, true)?;
+        Ok(Txt { stored })
     }
 
-    /// A copy.
+    /// A copy. Copies of a long text share its bytes.
     pub fn copy(&self) -> Result<Txt, AllocError>
         ensures { IfOk result (λ copy. copy ≡ self.now) }
     {
-        Ok(Txt {
-            text: self.text.clone()?,
-            is_plain: self.is_plain,
-        })
+        let stored = self.stored.copy()?;
+        Ok(Txt { stored })
     }
 
     /// Whether all its characters are of the plain set. It looks at none of them.
     pub fn is_plain(&self) -> bool
         ensures { result ≡ all_plain self.now }
     {
-        self.is_plain
+        self.stored.is_plain()
     }
 
     /// The number of bytes that it is coded as. It looks at no character.
     pub fn coded_len(&self) -> usize
         ensures { result ≡ coded_size self.now }
     {
-        if self.is_plain {
-            self.text.len()
-        } else {
-            1 + self.text.len()
-        }
+        let len = self.stored.as_str().len();
+        if self.stored.is_plain() { len } else { 1 + len }
     }
 
     /// The text.
@@ -96,7 +90,7 @@ impl Txt {
         ensures clean { has_control self.now ≡ false }
         ensures utf8 { IsUtf8 self.now }
     {
-        self.text.as_str()
+        self.stored.as_str()
     }
 }
 

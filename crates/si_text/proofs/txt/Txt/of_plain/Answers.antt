@@ -6,5 +6,5 @@ use Rattle.si_text.proofs.txt.Txt.of_plain.Goals as goal
 
 pub invariant_of-result : goal.invariant_of-result
 invariant_of-result c =
-    let same = c.in_ok-text.ensures.ok in
-    (ap has_control same ∙ plain_clean c.args.text.now c.requires, sym (ap all_plain same ∙ c.requires))
+    let same = c.in_ok-stored.ensures.bytes in
+    (ap has_control same ∙ plain_clean c.args.text.now c.requires, c.in_ok-stored.ensures.plain ∙ sym (ap all_plain same ∙ c.requires))
