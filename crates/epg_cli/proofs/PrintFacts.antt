@@ -11,7 +11,8 @@ use Rattle.epg_report.specs.declared.status.Status.{Status}
 use Rattle.epg_report.specs.Told.{ReportTaken}
 use Rattle.epg_play.proofs.AgainFacts.{journals-again}
 use Rattle.epg_live.specs.declared.reporting.Observed.{Observed}
-use Rattle.epg_live.specs.Ends.{HasMet, ReportEnds, run_text}
+use Rattle.epg_report.specs.Ends.{ReportEnds}
+use Rattle.epg_live.specs.Ends.{HasMet, run_text}
 use Rattle.epg_live.specs.Leaves.{LeavesLive}
 use Rattle.epg_live.specs.Runs.{described}
 use Rattle.epg_live.proofs.LeavesFacts.{by_memory}

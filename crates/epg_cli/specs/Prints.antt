@@ -15,7 +15,8 @@ use Rattle.epg_play.specs.Script.{script_in}
 use Rattle.epg_play.specs.Again.{Describes, PlaysAgain}
 use Rattle.epg_live.specs.declared.reporting.Observed.{Observed}
 use Rattle.epg_live.specs.Runs.{described}
-use Rattle.epg_live.specs.Ends.{ReportEnds, run_text}
+use Rattle.epg_report.specs.Ends.{ReportEnds}
+use Rattle.epg_live.specs.Ends.{run_text}
 
 -- Behind each description of the multiplex that this text describes, the text of this journal is such a script, where its entries can be
 -- read.

@@ -21,7 +21,7 @@ use Rattle.epg_listen.specs.declared.listen.ListenStop.{ListenStop}
 use Rattle.epg_listen.specs.declared.listen.ListenStop.TheVariants as stop
 use Rattle.epg_report.specs.declared.status.Status.{Status}
 use Rattle.epg_report.specs.declared.status.Status.TheVariants.{Done, BadStream, TooLong, ReadFault, WriteFault, Memory}
-use Rattle.epg_report.specs.declared.status.Origin.TheVariants.{Input, Feed}
+use Rattle.epg_report.specs.declared.status.Origin.TheVariants.{Input, Feed, Recording}
 use Rattle.epg_report.specs.declared.status.Outlet.TheVariants.{Air, Report}
 use Rattle.epg_report.specs.Texts.{fault_line}
 use Rattle.epg_report.specs.Told.{ReportTaken, Reported}
@@ -249,8 +249,10 @@ hears_through bytes left report Done leave r w = leave.ended
 hears_through bytes left report (BadStream n) leave r w = (leave.0, leave.1)
 hears_through bytes left report (TooLong Input) leave r w = leave.0
 hears_through bytes left report (TooLong (Feed f)) leave r w = absurd leave
+hears_through bytes left report (TooLong Recording) leave r w = absurd leave
 hears_through bytes left report (ReadFault Input) leave r w = absurd (r refl)
 hears_through bytes left report (ReadFault (Feed f)) leave r w = absurd leave
+hears_through bytes left report (ReadFault Recording) leave r w = absurd leave
 hears_through bytes left report (WriteFault Report) leave r w = absurd (w refl)
 hears_through bytes left report (WriteFault Air) leave r w = absurd leave
 hears_through bytes left report Memory leave r w = tt

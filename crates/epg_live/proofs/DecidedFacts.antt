@@ -25,13 +25,14 @@ use Rattle.headend_jobs.specs.Live.{after, and_stop, control_stop, or_feed, run_
 use Rattle.epg_live.specs.declared.reporting.Observed.{Observed}
 use Rattle.epg_report.specs.declared.status.Status.{Status}
 use Rattle.epg_report.specs.declared.status.Status.TheVariants.{Done, BadMux, TooLong, OpenFault, ReadFault, WriteFault, Memory, NoView}
-use Rattle.epg_report.specs.declared.status.Origin.TheVariants.{Input, Feed}
+use Rattle.epg_report.specs.declared.status.Origin.TheVariants.{Input, Feed, Recording}
 use Rattle.epg_report.specs.declared.status.Outlet.TheVariants.{Air}
 use Rattle.epg_report.specs.Told.{ReportTaken}
 use Rattle.epg_live.specs.Stops.{HasStatusCause, HaveReadCauses, feeds_stop, live_status}
 use Rattle.epg_live.specs.Runs.{EndsBefore, FeedsDid, JobsRan, ahead_of, described}
 use Rattle.epg_live.specs.Decided.{AreWhole, HasEdits, feed_text_stop, job_stop, jobs_status, text_status, description_status, views_status}
-use Rattle.epg_live.specs.Ends.{HasMet, ReportEnds, run_text}
+use Rattle.epg_report.specs.Ends.{ReportEnds}
+use Rattle.epg_live.specs.Ends.{HasMet, run_text}
 use Rattle.epg_live.specs.Leaves.{LeavesLive}
 
 -- ---- want of memory is taken, whoever met it
@@ -137,7 +138,9 @@ before_decided plan text left paths files (OpenFault f) why no_open no_input = a
 before_decided plan text left paths files (NoView service) why no_open no_input =
     sym (ap (λ (d : Found Description). description_status d plan.views paths files) why.2 ∙ ap (λ (o : Option ℕ). views_status o why.1 paths files) why.3)
 before_decided plan text left paths files (TooLong (Feed f)) why no_open no_input = absurd why
+before_decided plan text left paths files (TooLong Recording) why no_open no_input = absurd why
 before_decided plan text left paths files (ReadFault (Feed f)) why no_open no_input = absurd why
+before_decided plan text left paths files (ReadFault Recording) why no_open no_input = absurd why
 before_decided plan text left paths files other why no_open no_input = absurd why
 
 -- a run that met neither a failed source nor a failed air met what the texts decide

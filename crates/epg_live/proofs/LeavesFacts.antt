@@ -30,7 +30,8 @@ use Rattle.epg_report.specs.Told.{ReportTaken}
 use Rattle.epg_live.specs.declared.reporting.Observed.{Observed}
 use Rattle.epg_live.specs.Stops.{feeds_stop}
 use Rattle.epg_live.specs.Runs.{EndsBefore, JobsRan, NoJobs, described, ahead_of}
-use Rattle.epg_live.specs.Ends.{HasMet, ReportEnds, or_report, run_text}
+use Rattle.epg_report.specs.Ends.{ReportEnds, or_report}
+use Rattle.epg_live.specs.Ends.{HasMet, run_text}
 use Rattle.epg_live.specs.Leaves.{LeavesLive}
 use Rattle.epg_live.proofs.StopFacts.{and_none, done_none, no_control}
 use Rattle.epg_live.proofs.TypedFacts.{run_typed}

@@ -9,13 +9,14 @@ use Rattle.epg_report.specs.declared.status.Status.{Status}
 use Rattle.epg_report.specs.declared.status.Status.TheVariants.{Done, OpenFault, WriteFault, Memory}
 use Rattle.epg_report.specs.declared.status.Outlet.TheVariants.{Report}
 use Rattle.epg_report.specs.Texts.{CanBeSaid}
-use Rattle.epg_report.specs.Told.{ReportTaken, SourceGave, gave}
+use Rattle.epg_report.specs.Told.{OpenerAsked, ReportTaken, SourceGave, gave}
 use Rattle.epg_live.specs.Decided.{text_status}
 use Rattle.epg_live.specs.Stops.{HasStatusCause, IsMet, IsOfLive}
 use Rattle.epg_live.specs.declared.reporting.LiveResult.{LiveResult}
-use Rattle.epg_live.specs.Ends.{HasAsked, HasMet, ReportEnds, entries_of, run_text}
+use Rattle.epg_report.specs.Ends.{ReportEnds}
+use Rattle.epg_live.specs.Ends.{HasAsked, HasMet, entries_of, run_text}
 use Rattle.epg_live.specs.Leaves.{LeavesLive}
-use Rattle.epg_live.specs.LiveRun.{IsUnfailing, LiveRun, OpenerAsked}
+use Rattle.epg_live.specs.LiveRun.{IsUnfailing, LiveRun}
 use Rattle.epg_live.specs.Met.{LiveMet}
 use Rattle.epg_live.proofs.DecidedFacts.{decided, whole}
 use Rattle.epg_live.proofs.OpenFacts.{tried_none}

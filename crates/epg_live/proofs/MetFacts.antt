@@ -16,15 +16,16 @@ use Rattle.input_lines.specs.Ahead.{Ahead, Came}
 use Rattle.journal_model.specs.declared.step.Entry.{Entry}
 use Rattle.epg_live.specs.declared.reporting.Observed.{Observed}
 use Rattle.epg_report.specs.declared.status.Status.{Status}
-use Rattle.epg_report.specs.declared.status.Status.TheVariants.{Done, Usage, Disagrees, BadMux, BadStream, TooLong, OpenFault, ReadFault, WriteFault, Memory, NoView}
-use Rattle.epg_report.specs.declared.status.Origin.TheVariants.{Input, Feed}
+use Rattle.epg_report.specs.declared.status.Status.TheVariants.{Done, Usage, Disagrees, BadMux, BadStream, TooLong, OpenFault, ReadFault, WriteFault, Memory, NoView, NotAir, Short}
+use Rattle.epg_report.specs.declared.status.Origin.TheVariants.{Input, Feed, Recording}
 use Rattle.epg_report.specs.declared.status.Outlet.TheVariants.{Air, Report}
 use Rattle.epg_live.specs.declared.feeds.OpenStop.{OpenStop}
 use Rattle.epg_live.specs.declared.feeds.OpenStop.TheVariants as opening
 use Rattle.epg_live.specs.Opened.{HasOpenCause, HasTried, OpenedTo}
 use Rattle.epg_live.specs.Stops.{HasStatusCause, IsMet, IsOfLive, IsOfRun, mux_status, open_status}
 use Rattle.epg_live.specs.Runs.{NoJobs, Ran, described, nothing_observed}
-use Rattle.epg_live.specs.Ends.{AskedFor, HasAsked, HasMet, ReportEnds, or_report}
+use Rattle.epg_report.specs.Ends.{ReportEnds, or_report}
+use Rattle.epg_live.specs.Ends.{AskedFor, HasAsked, HasMet}
 use Rattle.epg_report.specs.Told.{ReportTaken}
 use Rattle.epg_live.specs.Views.{unserved}
 use Rattle.epg_live.proofs.OpenFacts.{tried_none}
@@ -112,10 +113,14 @@ run_asked n k (BadMux fault) is e = absurd is
 run_asked n k (BadStream m) is e = absurd is
 run_asked n k (TooLong Input) is e = inr e
 run_asked n k (TooLong (Feed f)) is e = e
+run_asked n k (TooLong Recording) is e = absurd is
 run_asked n k (OpenFault f) is e = absurd is
 run_asked n k (NoView service) is e = absurd is
+run_asked n k (NotAir m rule) is e = absurd is
+run_asked n k (Short m) is e = absurd is
 run_asked n k (ReadFault Input) is e = inr e
 run_asked n k (ReadFault (Feed f)) is e = e
+run_asked n k (ReadFault Recording) is e = absurd is
 run_asked n k (WriteFault Air) is e = e
 run_asked n k (WriteFault Report) is e = absurd is
 run_asked n k Memory is e = tt
@@ -139,6 +144,7 @@ ran_met left (Ok s) paths said plan text files feeds_old feeds_mid feeds_now bef
 cause_from : (old mid now feeds_old feeds_mid feeds_now air_before air_now : ℕ) (met : Status) → old ≤ mid → feeds_mid ≡ feeds_old → HasStatusCause mid now feeds_mid feeds_now air_before air_now met → HasStatusCause old now feeds_old feeds_now air_before air_now met
 cause_from old mid now feeds_old feeds_mid feeds_now air_before air_now (ReadFault Input) le same cause = Rose-from old mid now le cause
 cause_from old mid now feeds_old feeds_mid feeds_now air_before air_now (ReadFault (Feed f)) le same cause = subst (λ n. Rose n feeds_now) same cause
+cause_from old mid now feeds_old feeds_mid feeds_now air_before air_now (ReadFault Recording) le same cause = tt
 cause_from old mid now feeds_old feeds_mid feeds_now air_before air_now (WriteFault Air) le same cause = cause
 cause_from old mid now feeds_old feeds_mid feeds_now air_before air_now (WriteFault Report) le same cause = tt
 cause_from old mid now feeds_old feeds_mid feeds_now air_before air_now other le same cause = tt
@@ -193,12 +199,20 @@ report_of_live Done is = tt
 report_of_live Usage is = is
 report_of_live (Disagrees m kept found) is = is
 report_of_live (BadStream m) is = is
+report_of_live (NotAir m rule) is = is
+report_of_live (Short m) is = is
+report_of_live (TooLong Recording) is = is
+report_of_live (ReadFault Recording) is = is
 report_of_live other is = tt
 
 met_of_live : (met : Status) → IsMet met → IsOfLive met
 met_of_live Usage is = is
 met_of_live (Disagrees m kept found) is = is
 met_of_live (BadStream m) is = is
+met_of_live (NotAir m rule) is = is
+met_of_live (Short m) is = is
+met_of_live (TooLong Recording) is = is
+met_of_live (ReadFault Recording) is = is
 met_of_live other is = tt
 
 pub ends_of_live : (met : Status) (text : List ℕ) (report : ReportTaken) (status : Status) → IsMet met → Ends met text report status → IsOfLive status

@@ -43,22 +43,6 @@ observed_text observed = done_text observed.dones ++ views_text observed.views +
 abbrev pub run_text : List Entry → Observed → List ℕ
 run_text journal observed = journal_text journal ++ observed_text observed
 
--- the status of a run that met this, and whose report failed: the first fault decides
-abbrev pub or_report : Status → Status
-or_report Done = WriteFault Report
-or_report met = met
-
--- and whose report was written so
-abbrev pub ended_by : {E : Type 0} → Status → Result (Unit {0}) E → Status
-ended_by met (Ok u) = met
-ended_by met (Err failed) = or_report met
-
--- How the report of a run ends that met this status, and the status of the run: behind this text stands the line of the fault, if any.
-abbrev pub ReportEnds : Status → List ℕ → ReportTaken → Status → Type 0
-ReportEnds met text report status =
-    (Appends report.old report.new (text ++ fault_lines met) × (status ≡ met))
-    ⊎ (Rose report.faults_old report.faults_new × AppendsFront report.old report.new (text ++ fault_lines met) × (status ≡ or_report met))
-
 -- ---- the whole run
 
 -- what was met, and done until then: want of memory; or no job started; or they ran

@@ -13,7 +13,8 @@ use Rattle.epg_report.specs.declared.status.Status.TheVariants.{Done, Memory}
 use Rattle.epg_report.specs.Told.{ReportTaken}
 use Rattle.epg_live.specs.declared.reporting.Observed.{Observed}
 use Rattle.epg_live.specs.Runs.{described}
-use Rattle.epg_live.specs.Ends.{HasMet, ReportEnds, run_text}
+use Rattle.epg_report.specs.Ends.{ReportEnds}
+use Rattle.epg_live.specs.Ends.{HasMet, run_text}
 
 -- What was sent is an air of this journal, over the multiplex that the text describes, or the first bytes of one; or nothing was sent.
 abbrev pub JournalIsSent : List ℕ → List Entry → Option (List ℕ) → Option (List ℕ) → Type 0

@@ -7,33 +7,11 @@ use Rattle.si_causes.specs.Opening.{Files}
 use Rattle.epg_report.specs.declared.status.Status.{Status}
 use Rattle.epg_report.specs.declared.status.Status.TheVariants.{Done, OpenFault, WriteFault, Memory}
 use Rattle.epg_report.specs.declared.status.Outlet.TheVariants.{Report}
-use Rattle.epg_report.specs.Told.{ReportTaken, SourceGave, gave, told}
+use Rattle.epg_report.specs.Told.{OpenerAsked, ReportTaken, SourceGave, asked, gave, told}
 use Rattle.epg_live.specs.Decided.{AreWhole, text_status}
 use Rattle.epg_live.specs.Stops.{HasStatusCause, IsOfLive}
 use Rattle.epg_live.specs.Ends.{HasAsked}
 use Rattle.epg_live.specs.Leaves.{LeavesLive}
-
--- What an opener was asked: its files, where they are known, the paths that were tried, and the counts of its faults, in opening files and
--- in reading those that it opened.
-pub record OpenerAsked : Type 0 where
-  pub files : Option Files
-  pub tried_old : Option (List (List ℕ))
-  pub tried_new : Option (List (List ℕ))
-  pub faults_old : ℕ
-  pub faults_new : ℕ
-  pub read_old : ℕ
-  pub read_new : ℕ
-
-abbrev pub asked : {O : Type 0} → (O → Option Files) → (O → Option (List (List ℕ))) → (O → ℕ) → (O → ℕ) → O → O → OpenerAsked
-asked files tried faults read_faults old new = record {
-  files = files old;
-  tried_old = tried old;
-  tried_new = tried new;
-  faults_old = faults old;
-  faults_new = faults new;
-  read_old = read_faults old;
-  read_new = read_faults new;
-}
 
 -- nothing failed: neither the input, nor opening or reading a file, nor a sink
 pub record IsUnfailing (opener : OpenerAsked) (input : SourceGave) (air report : ReportTaken) : Type 0 where

@@ -6,11 +6,10 @@ use Rattle.si_causes.specs.Causes.{Rose}
 use Rattle.si_causes.specs.Opening.{Files}
 use Rattle.epg_report.specs.declared.status.Status.TheVariants.{Done, OpenFault}
 use Rattle.epg_report.specs.Texts.{CanBeSaid}
-use Rattle.epg_report.specs.Told.{ReportTaken, SourceGave, gave, told}
+use Rattle.epg_report.specs.Told.{OpenerAsked, ReportTaken, SourceGave, asked, gave, told}
 use Rattle.epg_live.specs.declared.reporting.LiveResult.{LiveResult}
 use Rattle.epg_live.specs.Stops.{HasStatusCause, IsMet}
 use Rattle.epg_live.specs.Ends.{HasAsked, HasMet, entries_of}
-use Rattle.epg_live.specs.LiveRun.{OpenerAsked, asked}
 
 -- What a run over the files of these paths met: what its opener was asked, what its input gave, what its air took, and what it leaves to be
 -- reported.

@@ -11,9 +11,8 @@ use Rattle.headend_jobs.specs.declared.live.LiveStop.{LiveStop}
 use Rattle.headend_jobs.specs.declared.live.LiveStop.TheVariants as live
 use Rattle.headend_jobs.specs.Live.{or_feed}
 use Rattle.epg_report.specs.declared.status.Status.{Status}
-use Rattle.epg_report.specs.declared.status.Status.TheVariants.{Done, Usage, BadScript, Disagrees, BadMux, BadFeed, BadStream, TooLong, OpenFault, ReadFault, WriteFault, Memory, NoView}
-use Rattle.epg_report.specs.declared.status.Origin.{Origin}
-use Rattle.epg_report.specs.declared.status.Origin.TheVariants.{Input, Feed}
+use Rattle.epg_report.specs.declared.status.Status.TheVariants.{Done, Usage, BadScript, Disagrees, BadMux, BadFeed, BadStream, TooLong, OpenFault, ReadFault, WriteFault, Memory, NoView, NotAir, Short}
+use Rattle.epg_report.specs.declared.status.Origin.TheVariants.{Input, Feed, Recording}
 use Rattle.epg_report.specs.declared.status.Outlet.TheVariants.{Air, Report}
 use Rattle.epg_live.specs.declared.feeds.OpenStop.{OpenStop}
 use Rattle.epg_live.specs.declared.feeds.OpenStop.TheVariants as opening
@@ -30,19 +29,25 @@ abbrev pub open_status : OpenStop → Status
 open_status (opening.Feed f) = OpenFault f
 open_status opening.Memory = Memory
 
-abbrev pub read_status : Origin → EditStop → Status
-read_status Input (edit.NoCommand n) = BadScript n
-read_status (Feed f) (edit.NoCommand n) = BadFeed f n
-read_status origin (edit.Read Failed) = ReadFault origin
-read_status origin (edit.Read Overlong) = TooLong origin
-read_status origin edit.Memory = Memory
+-- where the control stopped, and where a feed did
+abbrev pub control_status : EditStop → Status
+control_status (edit.NoCommand n) = BadScript n
+control_status (edit.Read Failed) = ReadFault Input
+control_status (edit.Read Overlong) = TooLong Input
+control_status edit.Memory = Memory
+
+abbrev pub feed_status : ℕ → EditStop → Status
+feed_status f (edit.NoCommand n) = BadFeed f n
+feed_status f (edit.Read Failed) = ReadFault (Feed f)
+feed_status f (edit.Read Overlong) = TooLong (Feed f)
+feed_status f edit.Memory = Memory
 
 -- of a run whose jobs started: Done exactly where no job stopped
 abbrev pub live_status : Option LiveStop → Status
 live_status None = Done
 live_status (Some live.Air) = WriteFault Air
-live_status (Some (live.Control stop)) = read_status Input stop
-live_status (Some (live.Feed f stop)) = read_status (Feed f) stop
+live_status (Some (live.Control stop)) = control_status stop
+live_status (Some (live.Feed f stop)) = feed_status f stop
 live_status (Some live.Memory) = Memory
 
 -- the first of these stops of feeds, of which the first has number n, behind what there was before; want of memory goes before all
@@ -67,6 +72,10 @@ abbrev pub IsOfLive : Status → Type 0
 IsOfLive Usage = ⊥
 IsOfLive (Disagrees n kept found) = ⊥
 IsOfLive (BadStream n) = ⊥
+IsOfLive (NotAir n rule) = ⊥
+IsOfLive (Short n) = ⊥
+IsOfLive (TooLong Recording) = ⊥
+IsOfLive (ReadFault Recording) = ⊥
 IsOfLive status = Unit {0}
 
 -- those that a run may have met before it reports

@@ -11,6 +11,6 @@ mod reporting;
 mod run;
 mod top;
 
-pub use reporting::{LiveResult, Observed, ended};
+pub use reporting::{LiveResult, Observed};
 pub use run::run_files;
 pub use top::run_live_files;

@@ -4,17 +4,18 @@ ghost use Rattle.guide_text.specs.Fields.{optional};
 ghost use Rattle.guide_text.specs.Guides.{guide_text};
 ghost use Rattle.epg_report.specs.Texts.{CanBeSaid, fault_lines};
 ghost use Rattle.epg_report.specs.Told.{told};
-ghost use Rattle.epg_live.specs.Ends.{ReportEnds, done_text, ended_by, entries_of, observed_text, line_done, run_text};
+ghost use Rattle.epg_report.specs.Ends.{ReportEnds};
+ghost use Rattle.epg_live.specs.Ends.{done_text, entries_of, observed_text, line_done, run_text};
 ghost use Rattle.epg_live.specs.Runs.{nothing_observed};
 ghost use Rattle.epg_live.specs.Views.{id_text, view_head, view_text, views_text};
 
 use desk_core::Desk;
-use epg_report::{Outlet, Status, journal_of, out_of_memory, put_fault_line};
+use epg_report::{Status, ended, journal_of, out_of_memory, put_fault_line};
 use guide_receiver::{DoneKey, write_done};
 use guide_text::print_heard;
 use headend_live::{DoneLine, DoneLines, Heard, Slot, ViewLine, ViewLines};
 use si_base::put_number;
-use si_causes::{Failed, Sink, write_all};
+use si_causes::{Sink, write_all};
 use std::alloc::{AllocError, Global};
 
 /// What was observed of a run: the completions that were heard of its air, and where no fault was met the lines of its views, and the
@@ -151,14 +152,4 @@ pub(crate) fn finish<R: Sink>(alloc: Global, run: &LiveResult, report: &mut R) -
     };
     let written = write_all(report, &text);
     ended(run.met, written)
-}
-
-/// The status of a run that met this, and whose report was written so: the first fault decides.
-pub fn ended(met: Status, written: Result<(), Failed>) -> Status
-    ensures { result ≡ ended_by met written }
-{
-    match (met, written) {
-        (Status::Done, Err(_)) => Status::WriteFault(Outlet::Report),
-        (met, _) => met,
-    }
 }

@@ -12,7 +12,7 @@ ghost use Rattle.epg_live.specs.Runs.{HasRead, Ran};
 ghost use Rattle.epg_live.specs.Opened.{AreOpened};
 ghost use Rattle.epg_live.specs.Views.{has_service, plan_of, unserved};
 ghost use Rattle.epg_live.specs.Met.{LiveRanTo};
-ghost use Rattle.epg_live.specs.Stops.{HasStatusCause, IsMet, IsOfRun, live_status, mux_status, open_status, read_status};
+ghost use Rattle.epg_live.specs.Stops.{HasStatusCause, IsMet, IsOfRun, control_status, feed_status, live_status, mux_status, open_status};
 
 use crate::feeds::{OpenStop, close_feeds, open_feeds};
 use crate::reporting::{LiveResult, Observed};
@@ -53,26 +53,28 @@ fn open_status(stop: OpenStop) -> Status
     }
 }
 
-fn no_command(origin: Origin, line: u64) -> Status
-    ensures value { result ≡ read_status origin (EditStop.NoCommand line) }
-    ensures said { CanBeSaid result }
-    ensures status { IsOfRun result }
-{
-    match origin {
-        Origin::Input => Status::BadScript(line),
-        Origin::Feed(feed) => Status::BadFeed(feed, line),
-    }
-}
-
-fn read_status(origin: Origin, stop: EditStop) -> Status
-    ensures value { result ≡ read_status origin stop }
+fn control_status(stop: EditStop) -> Status
+    ensures value { result ≡ control_status stop }
     ensures said { CanBeSaid result }
     ensures status { IsOfRun result }
 {
     match stop {
-        EditStop::NoCommand(line) => no_command(origin, line),
-        EditStop::Read(ReadStop::Failed) => Status::ReadFault(origin),
-        EditStop::Read(ReadStop::TooLong) => Status::TooLong(origin),
+        EditStop::NoCommand(line) => Status::BadScript(line),
+        EditStop::Read(ReadStop::Failed) => Status::ReadFault(Origin::Input),
+        EditStop::Read(ReadStop::TooLong) => Status::TooLong(Origin::Input),
+        EditStop::Memory => Status::Memory,
+    }
+}
+
+fn feed_status(feed: u8, stop: EditStop) -> Status
+    ensures value { result ≡ feed_status feed stop }
+    ensures said { CanBeSaid result }
+    ensures status { IsOfRun result }
+{
+    match stop {
+        EditStop::NoCommand(line) => Status::BadFeed(feed, line),
+        EditStop::Read(ReadStop::Failed) => Status::ReadFault(Origin::Feed(feed)),
+        EditStop::Read(ReadStop::TooLong) => Status::TooLong(Origin::Feed(feed)),
         EditStop::Memory => Status::Memory,
     }
 }
@@ -86,8 +88,8 @@ fn live_status(stop: Option<LiveStop>) -> Status
     match stop {
         None => Status::Done,
         Some(LiveStop::Air) => Status::WriteFault(Outlet::Air),
-        Some(LiveStop::Control(stop)) => read_status(Origin::Input, stop),
-        Some(LiveStop::Feed(feed, stop)) => read_status(Origin::Feed(feed), stop),
+        Some(LiveStop::Control(stop)) => control_status(stop),
+        Some(LiveStop::Feed(feed, stop)) => feed_status(feed, stop),
         Some(LiveStop::Memory) => Status::Memory,
     }
 }

@@ -37,7 +37,7 @@ use Rattle.epg_play.specs.declared.stop.PlayStop.{PlayStop}
 use Rattle.epg_play.specs.declared.stop.PlayStop.TheVariants.{NoMux as Undescribed, NoCommand as Refused, Disagrees as Differs, Read, Air as OnAir, Memory as NoMemory}
 use Rattle.epg_report.specs.declared.status.Status.{Status}
 use Rattle.epg_report.specs.declared.status.Status.TheVariants.{Done, BadScript, Disagrees, BadMux, TooLong as PastLimit, ReadFault, WriteFault, Memory}
-use Rattle.epg_report.specs.declared.status.Origin.TheVariants.{Input, Feed}
+use Rattle.epg_report.specs.declared.status.Origin.TheVariants.{Input, Feed, Recording}
 use Rattle.epg_report.specs.declared.status.Outlet.TheVariants.{Air, Report}
 use Rattle.epg_play.specs.Script.{Script, Stop, Ended, NoMux, NoCommand, Disagreed, TooLong, Unread, no_mux, script_in, script_taken, script_with, with_commands}
 use Rattle.epg_play.specs.Played.{AiredTo, PlayedWhole, RestDid, RestTaken, course, desk_after}
@@ -256,8 +256,10 @@ completes text left air report (BadScript n) leave r a w = leave.stopped
 completes text left air report (Disagrees n kept found) leave r a w = leave.stopped
 completes text left air report (PastLimit Input) leave r a w = leave.stopped
 completes text left air report (PastLimit (Feed f)) leave r a w = absurd leave
+completes text left air report (PastLimit Recording) leave r a w = absurd leave
 completes text left air report (ReadFault Input) leave r a w = absurd (r refl)
 completes text left air report (ReadFault (Feed f)) leave r a w = absurd leave
+completes text left air report (ReadFault Recording) leave r a w = absurd leave
 completes text left air report (WriteFault Air) leave r a w = absurd (a refl)
 completes text left air report (WriteFault Report) leave r a w = absurd (w refl)
 completes text left air report Memory leave r a w = tt
@@ -272,6 +274,7 @@ whole stop (BadScript n) e h = cc
 whole stop (Disagrees n kept found) e h = cc
 whole stop (PastLimit Input) e h = cc
 whole stop (PastLimit (Feed f)) e h = absurd h
+whole stop (PastLimit Recording) e h = absurd h
 whole stop other e h = absurd h
 
 pub true-false : true ≡ false → ⊥

@@ -1,7 +1,7 @@
 -- The exit status of each status.
 use Rattle.std.specs.Prelude.{ℕ}
 use Rattle.epg_report.specs.declared.status.Status.{Status}
-use Rattle.epg_report.specs.declared.status.Status.TheVariants.{Done, Usage, BadScript, Disagrees, BadMux, BadFeed, BadStream, TooLong, OpenFault, ReadFault, WriteFault, Memory, NoView}
+use Rattle.epg_report.specs.declared.status.Status.TheVariants.{Done, Usage, BadScript, Disagrees, BadMux, BadFeed, BadStream, TooLong, OpenFault, ReadFault, WriteFault, Memory, NoView, NotAir, Short}
 
 abbrev pub code_of : Status → ℕ
 code_of Done = 0
@@ -17,3 +17,5 @@ code_of (ReadFault origin) = 9
 code_of (WriteFault outlet) = 10
 code_of Memory = 12
 code_of (NoView service) = 14
+code_of (NotAir packet rule) = 15
+code_of (Short packet) = 16

@@ -1,15 +1,17 @@
 -- What a report says of how a run ended.
-use Rattle.std.specs.Prelude.{ℕ, ◌++◌, Bool, true, false, List, [], codes, decimal, if◌then◌else◌}
+use Rattle.std.specs.Prelude.{ℕ, zero, suc, ◌++◌, Bool, true, false, List, [], codes, decimal, if◌then◌else◌}
 use Rattle.mux_config.specs.declared.fault.Word.{Word}
 use Rattle.mux_config.specs.declared.fault.Word.TheVariants.{Network, Stream, Service, End}
 use Rattle.mux_config.specs.declared.fault.MuxFault.{MuxFault}
 use Rattle.mux_config.specs.declared.fault.MuxFault.TheVariants.{Line, Range, Twice, Missing}
 use Rattle.journal_text.specs.Entries.{outcome_text}
 use Rattle.journal_model.specs.Steps.{IsInWindow}
+use Rattle.air_audit.specs.declared.rule.Rule.{Rule}
+use Rattle.air_audit.specs.declared.rule.Rule.TheVariants.{Shape, Pid, Counter, Pointer, Bytes}
 use Rattle.epg_report.specs.declared.status.Status.{Status}
-use Rattle.epg_report.specs.declared.status.Status.TheVariants.{Done, Usage, BadScript, Disagrees, BadMux, BadFeed, BadStream, TooLong, OpenFault, ReadFault, WriteFault, Memory, NoView}
+use Rattle.epg_report.specs.declared.status.Status.TheVariants.{Done, Usage, BadScript, Disagrees, BadMux, BadFeed, BadStream, TooLong, OpenFault, ReadFault, WriteFault, Memory, NoView, NotAir, Short}
 use Rattle.epg_report.specs.declared.status.Origin.{Origin}
-use Rattle.epg_report.specs.declared.status.Origin.TheVariants.{Input, Feed}
+use Rattle.epg_report.specs.declared.status.Origin.TheVariants.{Input, Feed, Recording}
 use Rattle.epg_report.specs.declared.status.Outlet.TheVariants.{Air, Report}
 
 -- the line of a fault
@@ -32,6 +34,20 @@ mux_fault_text (Missing word) = codes "mux lacks " ++ word_text word
 abbrev pub origin_text : Origin → List ℕ
 origin_text Input = codes "input"
 origin_text (Feed f) = codes "feed " ++ decimal f
+origin_text Recording = codes "recording"
+
+-- what is opened by its number: the recording by 0, and a feed by its own
+abbrev pub opened : ℕ → Origin
+opened zero = Recording
+opened (suc f) = Feed (suc f)
+
+-- the word of a rule that a packet breaks
+abbrev pub rule_text : Rule → List ℕ
+rule_text Shape = codes "shape"
+rule_text Pid = codes "pid"
+rule_text Counter = codes "counter"
+rule_text Pointer = codes "pointer"
+rule_text Bytes = codes "bytes"
 
 -- what the line of a status says
 abbrev pub fault_text : Status → List ℕ
@@ -43,12 +59,14 @@ fault_text (BadMux fault) = mux_fault_text fault
 fault_text (BadFeed f n) = origin_text (Feed f) ++ codes " line " ++ decimal n ++ codes " is no command"
 fault_text (BadStream n) = codes "packet " ++ decimal n
 fault_text (TooLong origin) = origin_text origin ++ codes " too long"
-fault_text (OpenFault f) = origin_text (Feed f) ++ codes " not opened"
+fault_text (OpenFault f) = origin_text (opened f) ++ codes " not opened"
 fault_text (ReadFault origin) = origin_text origin ++ codes " not read"
 fault_text (WriteFault Air) = codes "air not written"
 fault_text (WriteFault Report) = []
 fault_text Memory = codes "memory"
 fault_text (NoView service) = codes "no service " ++ decimal service
+fault_text (NotAir n rule) = codes "packet " ++ decimal n ++ codes " breaks " ++ rule_text rule
+fault_text (Short n) = codes "packet " ++ decimal n ++ codes " is missing"
 
 -- Done has no line, nor has a report that could not be written
 abbrev pub has_line : Status → Bool

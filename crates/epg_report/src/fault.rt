@@ -2,9 +2,10 @@
 ghost use Rattle.std.specs.Prelude.{◌≡◌, ◌≤◌, ◌++◌, OnOk, codes, decimal};
 ghost use Rattle.journal_text.specs.Entries.{outcome_text};
 ghost use Rattle.journal_model.specs.Steps.{IsInWindow};
-ghost use Rattle.epg_report.specs.Texts.{CanBeSaid, fault_lines, fault_text, has_line, mux_fault_text, origin_text, word_text};
+ghost use Rattle.epg_report.specs.Texts.{CanBeSaid, fault_lines, fault_text, has_line, mux_fault_text, opened as opened_by, origin_text, rule_text, word_text};
 
 use crate::status::{Origin, Outlet, Status};
+use air_audit::Rule;
 use journal_model::Outcome;
 use journal_text::write_outcome;
 use mux_config::{MuxFault, Word};
@@ -76,7 +77,7 @@ fn put_disagreement(
     write_outcome(alloc, &found, out)
 }
 
-// Appends `input`, or `feed F`.
+// Appends `input`, `feed F`, or `recording`.
 fn put_origin(alloc: Global, out: &mut Vec<u8>, origin: Origin) -> Result<(), AllocError>
     ensures { OnOk result (out.new.items ≡ out.old.items ++ origin_text origin) }
 {
@@ -86,7 +87,48 @@ fn put_origin(alloc: Global, out: &mut Vec<u8>, origin: Origin) -> Result<(), Al
             out.extend_from_slice(b"feed ")?;
             put_number(alloc, out, u64::from(feed))
         }
+        Origin::Recording => out.extend_from_slice(b"recording"),
     }
+}
+
+// What is opened by this number.
+fn opened(number: u8) -> Origin
+    ensures { result ≡ opened_by number }
+{
+    if number == 0 {
+        Origin::Recording
+    } else {
+        Origin::Feed(number)
+    }
+}
+
+fn rule_word(rule: Rule) -> &'static str
+    ensures { result.now ≡ rule_text rule }
+{
+    match rule {
+        Rule::Shape => "shape",
+        Rule::Pid => "pid",
+        Rule::Counter => "counter",
+        Rule::Pointer => "pointer",
+        Rule::Bytes => "bytes",
+    }
+}
+
+// Appends `packet N`, and what stands behind it.
+fn put_packet(alloc: Global, out: &mut Vec<u8>, packet: u64, befell: &[u8]) -> Result<(), AllocError>
+    ensures { OnOk result (out.new.items ≡ out.old.items ++ (codes "packet " ++ decimal packet ++ befell.now)) }
+{
+    out.extend_from_slice(b"packet ")?;
+    put_number(alloc, out, packet)?;
+    out.extend_from_slice(befell)
+}
+
+// Appends `packet N breaks R`.
+fn put_breach(alloc: Global, out: &mut Vec<u8>, packet: u64, rule: Rule) -> Result<(), AllocError>
+    ensures { OnOk result (out.new.items ≡ out.old.items ++ (codes "packet " ++ decimal packet ++ codes " breaks " ++ rule_text rule)) }
+{
+    put_packet(alloc, out, packet, b" breaks ")?;
+    out.extend_from_slice(rule_word(rule).as_bytes())
 }
 
 // Appends `input line N is no command`, or the same of a feed.
@@ -129,7 +171,7 @@ fn put_fault(alloc: Global, out: &mut Vec<u8>, status: Status) -> Result<(), All
             put_number(alloc, out, packet)
         }
         Status::TooLong(origin) => put_of(alloc, out, origin, b" too long"),
-        Status::OpenFault(feed) => put_of(alloc, out, Origin::Feed(feed), b" not opened"),
+        Status::OpenFault(number) => put_of(alloc, out, opened(number), b" not opened"),
         Status::ReadFault(origin) => put_of(alloc, out, origin, b" not read"),
         Status::WriteFault(Outlet::Air) => out.extend_from_slice(b"air not written"),
         Status::WriteFault(Outlet::Report) => Ok(()),
@@ -138,6 +180,8 @@ fn put_fault(alloc: Global, out: &mut Vec<u8>, status: Status) -> Result<(), All
             out.extend_from_slice(b"no service ")?;
             put_number(alloc, out, u64::from(service))
         }
+        Status::NotAir(packet, rule) => put_breach(alloc, out, packet, rule),
+        Status::Short(packet) => put_packet(alloc, out, packet, b" is missing"),
     }
 }
 

@@ -4,10 +4,12 @@
 //! the text of a desk's journal, with which a report begins. What a sink told before and after a call is the record `Told`.
 #![tactic(auto)]
 
+mod ending;
 mod fault;
 mod journal;
 mod status;
 
+pub use ending::ended;
 pub use fault::{out_of_memory, put_fault_line};
 pub use journal::journal_of;
 pub use status::{Origin, Outlet, Status};

@@ -2,14 +2,16 @@
 ghost use Rattle.std.specs.Prelude.{◌≡◌};
 ghost use Rattle.epg_report.specs.Codes.{code_of};
 
+use air_audit::Rule;
 use journal_model::Outcome;
 use mux_config::MuxFault;
 
-/// A text that is read: the input, or the text of a feed, by its number.
+/// What is read: the input, the text of a feed, by its number, or a recording.
 #[derive(Clone, Copy, PartialEq, Eq)]
 pub enum Origin {
     Input,
     Feed(u8),
+    Recording,
 }
 
 /// Where bytes go: to the air, or to the report.
@@ -38,7 +40,7 @@ pub enum Status {
     BadStream(u64),
     /// The text goes on past its limit.
     TooLong(Origin),
-    /// The text of this feed could not be opened.
+    /// The text of this feed could not be opened, or with 0 the recording.
     OpenFault(u8),
     /// The text could not be read.
     ReadFault(Origin),
@@ -48,6 +50,10 @@ pub enum Status {
     Memory,
     /// The multiplex has no service with this number, for which a viewer was to ask.
     NoView(u16),
+    /// This packet, from 0, is the first with which a recording is no part of an air of the journal; it breaks this rule first.
+    NotAir(u64, Rule),
+    /// The recording ends before this packet, which an air of the journal still has.
+    Short(u64),
 }
 
 impl Status {
@@ -68,6 +74,8 @@ impl Status {
             Status::WriteFault(_) => 10,
             Status::Memory => 12,
             Status::NoView(_) => 14,
+            Status::NotAir(..) => 15,
+            Status::Short(_) => 16,
         }
     }
 }

@@ -15,14 +15,15 @@ use Rattle.publication_screen.specs.Screen.{screen_of}
 use Rattle.headend_live.specs.SentAir.{SentAir}
 use Rattle.headend_live.proofs.Sent.{air_sent}
 use Rattle.epg_report.specs.declared.status.Status.{Status}
-use Rattle.epg_report.specs.declared.status.Status.TheVariants.{Done, Usage, BadScript, Disagrees, BadMux, BadFeed, BadStream, TooLong, OpenFault, ReadFault, WriteFault, Memory, NoView}
-use Rattle.epg_report.specs.declared.status.Origin.TheVariants.{Input, Feed}
+use Rattle.epg_report.specs.declared.status.Status.TheVariants.{Done, Usage, BadScript, Disagrees, BadMux, BadFeed, BadStream, TooLong, OpenFault, ReadFault, WriteFault, Memory, NoView, NotAir, Short}
+use Rattle.epg_report.specs.declared.status.Origin.TheVariants.{Input, Feed, Recording}
 use Rattle.epg_report.specs.declared.status.Outlet.TheVariants.{Air, Report}
 use Rattle.epg_report.specs.Told.{ReportTaken}
 use Rattle.epg_live.specs.declared.reporting.LiveResult.{LiveResult}
 use Rattle.epg_live.specs.Stops.{HasStatusCause, IsMet}
 use Rattle.epg_live.specs.Runs.{Ran, described}
-use Rattle.epg_live.specs.Ends.{HasMet, ReportEnds, entries_of}
+use Rattle.epg_report.specs.Ends.{ReportEnds}
+use Rattle.epg_live.specs.Ends.{HasMet, entries_of}
 use Rattle.epg_live.proofs.DecidedFacts.{met_decided}
 use Rattle.epg_live.proofs.LeavesFacts.{as_read, ran_shown}
 use Rattle.si_workload.specs.Texts.{feed_text}
@@ -87,6 +88,9 @@ met_by_load number air run load = by run.met load.met.known (caused number air r
     by (WriteFault Report) known cause has = known
     by (ReadFault Input) known cause has = never_rose cause
     by (ReadFault (Feed f)) known cause has = never_rose cause
+    by (ReadFault Recording) known cause has = absurd known
+    by (NotAir n rule) known cause has = absurd known
+    by (Short n) known cause has = absurd known
     by (BadScript n) known cause has = elim (decided number load.left air run (BadScript n) has (λ f e. cc e) (λ e. cc e) (λ e. cc e)) [ inl e ↦ cc e | inr e ↦ cc e ]
     by (BadMux fault) known cause has = elim (decided number load.left air run (BadMux fault) has (λ f e. cc e) (λ e. cc e) (λ e. cc e)) [ inl e ↦ cc e | inr e ↦ cc e ]
     by (BadFeed f n) known cause has = elim (decided number load.left air run (BadFeed f n) has (λ f e. cc e) (λ e. cc e) (λ e. cc e)) [ inl e ↦ cc e | inr e ↦ cc e ]

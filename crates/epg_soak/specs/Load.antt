@@ -4,9 +4,8 @@ use Rattle.headend_live.specs.declared.watched.LivePlan.{LivePlan}
 use Rattle.epg_report.specs.declared.status.Status.{Status}
 use Rattle.epg_report.specs.declared.status.Status.TheVariants.{Done, OpenFault, WriteFault, Memory}
 use Rattle.epg_report.specs.declared.status.Outlet.TheVariants.{Air}
-use Rattle.epg_report.specs.Told.{ReportTaken}
+use Rattle.epg_report.specs.Told.{OpenerAsked, ReportTaken}
 use Rattle.epg_live.specs.declared.reporting.LiveResult.{LiveResult}
-use Rattle.epg_live.specs.LiveRun.{OpenerAsked}
 use Rattle.epg_live.specs.Met.{LiveMet}
 use Rattle.workload_runs.specs.Runs.{soak_text}
 use Rattle.epg_soak.specs.Files.{soak_files, soak_paths}

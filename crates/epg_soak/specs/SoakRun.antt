@@ -10,7 +10,7 @@ use Rattle.epg_report.specs.declared.status.Outlet.TheVariants.{Air, Report}
 use Rattle.epg_report.specs.Told.{ReportTaken, told}
 use Rattle.epg_live.specs.declared.reporting.Observed.{Observed}
 use Rattle.epg_live.specs.Runs.{Ran}
-use Rattle.epg_live.specs.Ends.{ReportEnds}
+use Rattle.epg_report.specs.Ends.{ReportEnds}
 use Rattle.workload_laws.specs.Load.{soak_mux}
 use Rattle.workload_laws.specs.Callers.{IsSoakRun}
 use Rattle.workload_runs.specs.Runs.{soak_text}

@@ -2,14 +2,15 @@
 ghost use Rattle.std.specs.Prelude.{◌≡◌, ◌≤◌, ◌⊎◌, ◌++◌, IfOk, OnOk, true};
 ghost use Rattle.epg_report.specs.Texts.{CanBeSaid, fault_lines};
 ghost use Rattle.epg_report.specs.Told.{told};
-ghost use Rattle.epg_live.specs.Ends.{ReportEnds, entries_of};
+ghost use Rattle.epg_report.specs.Ends.{ReportEnds};
+ghost use Rattle.epg_live.specs.Ends.{entries_of};
 ghost use Rattle.epg_soak.specs.Load.{IsMetByLoad, is_reported};
 ghost use Rattle.epg_soak.specs.SoakRun.{SoakRan, run_summary};
 
 use crate::load::run_load;
 use crate::summary::put_summary;
-use epg_live::{LiveResult, ended};
-use epg_report::{Status, out_of_memory, put_fault_line};
+use epg_live::LiveResult;
+use epg_report::{Status, ended, out_of_memory, put_fault_line};
 use si_causes::{Gate, Sink, write_all};
 use std::alloc::{AllocError, Global};
 use std::marker::{Send, Sync};

@@ -4,11 +4,11 @@ use Rattle.command_words.specs.Commands.{texts}
 use Rattle.epg_live.specs.Views.{plan_of}
 use Rattle.command_words.specs.Grammar.{command_of, Play, Listen, Live, Soak}
 use Rattle.epg_report.specs.Texts.{fault_line}
-use Rattle.epg_report.specs.Told.{gave, told}
+use Rattle.epg_report.specs.Told.{asked, gave, told}
 use Rattle.epg_report.proofs.Reporting.{reported}
 use Rattle.epg_play.proofs.PlayRunFacts.{play_memory}
 use Rattle.epg_listen.proofs.ListenRunFacts.{listen_memory}
-use Rattle.epg_live.specs.LiveRun.{LiveRun, asked}
+use Rattle.epg_live.specs.LiveRun.{LiveRun}
 use Rattle.epg_live.proofs.LiveRunFacts.{live_memory, none_asked}
 use Rattle.epg_soak.specs.SoakRun.{SoakRun}
 use Rattle.epg_soak.proofs.SoakFacts.{soak_memory}

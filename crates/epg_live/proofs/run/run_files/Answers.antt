@@ -1,7 +1,6 @@
 use Rattle.std.proofs.Common.{ap, rules}
 use Rattle.command_words.specs.Commands.{texts}
-use Rattle.epg_report.specs.Told.{told}
-use Rattle.epg_live.specs.LiveRun.{asked}
+use Rattle.epg_report.specs.Told.{asked, told}
 use Rattle.epg_live.specs.Views.{plan_of}
 use Rattle.epg_live.proofs.LiveRunFacts.{live_met}
 use Rattle.epg_live.proofs.run.run_files.Goals as goal

@@ -1,6 +1,5 @@
 use Rattle.command_words.specs.Commands.{texts}
-use Rattle.epg_report.specs.Told.{gave, told}
-use Rattle.epg_live.specs.LiveRun.{asked}
+use Rattle.epg_report.specs.Told.{asked, gave, told}
 use Rattle.epg_live.specs.Views.{plan_of}
 use Rattle.epg_live.proofs.LiveRunFacts.{live_memory, live_ends}
 use Rattle.epg_live.proofs.top.run_live_files.Goals as goal
