@@ -1,5 +1,6 @@
 // The sub-tables of what stands behind the edits of a row.
-ghost use Rattle.std.specs.Prelude.{IfOk};
+ghost use Rattle.std.specs.Prelude.{◌<◌, ◌*◌, IfOk, IfSome};
+ghost use Rattle.section_codec.specs.SubTables.{AreFit};
 ghost use Rattle.journal_model.specs.Edits.{IsShaped};
 ghost use Rattle.mux_model.specs.Sound.{IsSound};
 ghost use Rattle.publication_rows.specs.Books.{KeepsBook};
@@ -56,6 +57,7 @@ fn tables_behind(
     lines: &mut Lines,
 ) -> Result<Option<Tables>, AllocError>
     requires { IsSound mux.now }
+    ensures { IfOk result (λ tables. IfSome tables (λ tables. AreFit tables.list)) }
 {
     let mut book = Book::open(alloc, mux)?;
     if !do_edits(alloc, lines, &mut book)? {
@@ -66,10 +68,9 @@ fn tables_behind(
     Ok(Some(tables))
 }
 
-fn tables_of(alloc: Global, moment: &str, text: &str) -> Result<Option<Tables>, AllocError> {
-    let Some(moment) = read_moment(moment.as_bytes()) else {
-        return Ok(None);
-    };
+fn tables_of(alloc: Global, moment: Moment, text: &str) -> Result<Option<Tables>, AllocError>
+    ensures { IfOk result (λ tables. IfSome tables (λ tables. AreFit tables.list)) }
+{
     let Some(text) = written_out(alloc, text)? else {
         return Ok(None);
     };
@@ -80,10 +81,10 @@ fn tables_of(alloc: Global, moment: &str, text: &str) -> Result<Option<Tables>, 
     }
 }
 
-/// `MOMENT LINES`: the sub-tables of a publication at that moment.
-pub fn built(row: &mut Row) -> Option<Tables> {
-    let moment = row.word();
-    let text = row.word();
+/// The sub-tables of the publication of these lines at a moment.
+pub fn tables_at(row: &mut Row, moment: Moment, text: &str) -> Option<Tables>
+    ensures { IfSome result (λ tables. AreFit tables.list) }
+{
     match tables_of(row.alloc(), moment, text) {
         Ok(Some(tables)) => Some(tables),
         Ok(None) => {
@@ -95,4 +96,22 @@ pub fn built(row: &mut Row) -> Option<Tables> {
             None
         }
     }
+}
+
+/// A moment.
+pub fn moment(row: &mut Row) -> Option<Moment>
+    ensures { IfSome result (λ at. at.0 < 65536 * 86400) }
+{
+    let at = read_moment(row.word().as_bytes());
+    if at.is_none() {
+        row.refuse();
+    }
+    at
+}
+
+/// `MOMENT LINES`: the sub-tables of a publication at that moment.
+pub fn built(row: &mut Row) -> Option<Tables> {
+    let at = moment(row)?;
+    let text = row.word();
+    tables_at(row, at, text)
 }

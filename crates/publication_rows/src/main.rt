@@ -5,6 +5,7 @@
 //! and not from this program.
 #![tactic(auto)]
 
+mod audits;
 mod guides;
 mod tables;
 
@@ -18,6 +19,8 @@ fn answer(row: &mut Row) {
         "tables" => tables::all(row),
         "table" => tables::one(row),
         "places" => tables::places(row),
+        "audit_packets" => audits::given(row),
+        "audit" => audits::made(row),
         _ => row.refuse(),
     }
 }
