@@ -6,7 +6,7 @@ use Rattle.ts_packets.specs.Bytes.{Packet, HasFields, bytes_of_packet}
 use Rattle.ts_packets.specs.Counting.{of_pid, loads_on, Count}
 use Rattle.air_model.specs.Air.{cycle_sections, Aired, air, airings_of, IsAirOf, CanBeSent}
 use Rattle.air_audit.specs.Fronts.{ToCome, CarrySoFar}
-use Rattle.air_audit.specs.Audits.{BeginAnAir, on_pid, SoFar}
+use Rattle.air_audit.specs.Audits.{AreAnAir, BeginAnAir, on_pid, SoFar}
 use Rattle.air_audit.specs.Checking.{Checking, StandsFor, IsAtEnd}
 
 -- Behind a whole air these packets go on consistently with the cycle of one airing more: counters that go on, fields that
@@ -37,3 +37,13 @@ LongerListsAgree =
 abbrev pub OneToCome : Type 0
 OneToCome =
     (airings : List AiredTables) (packets : List Packet) (f g : ℕ → ToCome) → CanBeSent airings → SoFar airings packets f → SoFar airings packets g → (pid : ℕ) → f pid ≡ g pid
+
+-- Behind a whole air of a list no packet makes a prefix of an air of it.
+abbrev pub WholeAirsEnd : Type 0
+WholeAirsEnd =
+    (airings : List AiredTables) (packets : List (List ℕ)) (bytes : List ℕ) → CanBeSent airings → AreAnAir airings packets → BeginAnAir airings (packets ++ bytes ∷ []) → Prim.⊥
+
+-- So a prefix of an air of a list is an air of a longer one only where it is one of the list: each airing has packets.
+abbrev pub LongerAirs : Type 0
+LongerAirs =
+    (airings more : List AiredTables) (packets : List (List ℕ)) → CanBeSent airings → AreAnAir (airings ++ more) packets → BeginAnAir airings packets → AreAnAir airings packets

@@ -1,5 +1,5 @@
 // The laws of an auditor.
-ghost use Rattle.air_audit.specs.Laws.{ConsistentIsPrefix, LongerBegins, LongerListsAgree, OneToCome};
+ghost use Rattle.air_audit.specs.Laws.{ConsistentIsPrefix, LongerAirs, LongerBegins, LongerListsAgree, OneToCome, WholeAirsEnd};
 
 /// Packets behind a whole air go on consistently, which is what `check` looks at, exactly where they are a prefix of an air
 /// of the longer airing list: what is consistent so far can always be completed.
@@ -18,4 +18,11 @@ pub fn longer_lists_agree()
 /// breaks.
 pub fn one_is_to_come()
     ensures { OneToCome }
+{}
+
+/// Behind a whole air no packet makes a prefix of an air of its list; and so a prefix that is no air of its list is none of a longer
+/// one either.
+pub fn whole_airs_end()
+    ensures end { WholeAirsEnd }
+    ensures longer { LongerAirs }
 {}

@@ -17,5 +17,5 @@ mod progress;
 mod rule;
 
 pub use checker::Checker;
-pub use laws::{consistent_is_prefix, longer_lists_agree, one_is_to_come};
+pub use laws::{consistent_is_prefix, longer_lists_agree, one_is_to_come, whole_airs_end};
 pub use rule::Rule;

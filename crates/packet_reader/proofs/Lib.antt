@@ -1,1 +1,2 @@
 pub mod RecordingFacts
+pub mod Giving

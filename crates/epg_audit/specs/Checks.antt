@@ -1,0 +1,59 @@
+-- How far an audit has come with a recording.
+use Rattle.std.specs.Prelude.{◌≡◌, ◌≤◌, ◌<◌, ℕ, List, [], ◌∷◌, ◌++◌, length, slice_index, flat_map, Option, Some, None, Ok, Err, Result, Bool, if◌then◌else◌, nat_lt}
+use Rattle.std.specs.Io.KnownBytes.{IsAtEnd}
+use Rattle.si_causes.specs.Causes.{Rose}
+use Rattle.packet_reader.specs.declared.stop.PacketStop.{PacketStop}
+use Rattle.packet_reader.specs.declared.stop.PacketStop.TheVariants as stop
+use Rattle.packet_reader.specs.Reading.{PacketReading, bytes_left}
+use Rattle.packet_reader.specs.Recordings.{packet_limit}
+use Rattle.version_book.specs.Airings.{AiredTables}
+use Rattle.ts_packets.specs.WholePackets.{AreWhole}
+use Rattle.air_model.specs.Air.{CanBeSent}
+use Rattle.air_audit.specs.declared.rule.Rule.{Rule}
+use Rattle.air_audit.specs.declared.rule.Rule.TheVariants.{Pid}
+use Rattle.air_audit.specs.Checking.{Checking, StandsFor}
+use Rattle.epg_report.specs.declared.status.Status.{Status}
+use Rattle.epg_report.specs.declared.status.Status.TheVariants.{BadStream, NotAir, ReadFault, Short, TooLong}
+use Rattle.epg_report.specs.declared.status.Origin.TheVariants.{Recording}
+use Rattle.epg_audit.specs.Recorded.{IsFaulty}
+
+-- Of bytes these packets were taken, and the others are left.
+pub record AreTaken (bytes : List ℕ) (packets : List (List ℕ)) (rest : List ℕ) : Type 0 where
+  pub parted : bytes ≡ flat_map (λ (p : List ℕ). p) packets ++ rest
+  pub whole : AreWhole packets
+
+-- From start to now a reader gave packets which a checker of these airings has accepted, each of them.
+pub record Follows {F : Type 0} (left : F → Option (List ℕ)) (start now : PacketReading F) (airings : List AiredTables) (checker : Checking) : Type 0 where
+  pub packets : List (List ℕ)
+  pub stands : StandsFor airings packets checker
+  pub number : now.number ≡ length packets
+  pub taken : (bytes : List ℕ) → bytes_left left start ≡ Some bytes → (rest : List ℕ) × (bytes_left left now ≡ Some rest) × AreTaken bytes packets rest
+
+-- a cycle was checked to its end, or the recording is at fault, whatever airings follow
+abbrev pub Checks : {F : Type 0} → (F → Option (List ℕ)) → PacketReading F → PacketReading F → List AiredTables → Checking → Result (Unit {0}) Status → Type 0
+Checks left start now airings checker (Ok u) = Follows left start now airings checker
+Checks left start now airings checker (Err status) =
+    (bytes : List ℕ) → bytes_left left start ≡ Some bytes → (others : List AiredTables) → CanBeSent others → IsFaulty (airings ++ others) bytes status
+
+-- the status of a recording that gives no further packet
+abbrev pub recording_status : {F : Type 0} → PacketReading F → PacketStop → Rule → Status
+recording_status reader stop.Failed rule = ReadFault Recording
+recording_status reader stop.TooLong rule = TooLong Recording
+recording_status reader (stop.Broken n) rule = if nat_lt (length reader.held) 188 then BadStream n else NotAir n rule
+
+-- What a reader gives behind the last cycle: nothing, or what is at fault.
+abbrev pub GivesNoMore : List ℕ → ℕ → Result (Unit {0}) Status → Type 0
+GivesNoMore rest number (Ok u) = rest ≡ []
+GivesNoMore rest number (Err (NotAir n rule)) = (n ≡ number) × (rule ≡ Pid) × (188 ≤ length rest)
+GivesNoMore rest number (Err (BadStream n)) = (n ≡ number) × (0 < length rest) × (length rest < 188)
+GivesNoMore rest number (Err (TooLong Recording)) = (number ≡ packet_limit) × (0 < length rest)
+GivesNoMore rest number (Err (ReadFault Recording)) = Unit {0}
+GivesNoMore rest number (Err status) = ⊥
+
+abbrev pub Ends : {F : Type 0} → (F → Option (List ℕ)) → PacketReading F → PacketReading F → Result (Unit {0}) Status → Type 0
+Ends left old new result = (rest : List ℕ) → bytes_left left old ≡ Some rest → GivesNoMore rest old.number result
+
+-- a failed read has its cause
+abbrev pub HasReadCause : ℕ → ℕ → Result (Unit {0}) Status → Type 0
+HasReadCause before now (Err (ReadFault Recording)) = Rose before now
+HasReadCause before now result = Unit {0}
