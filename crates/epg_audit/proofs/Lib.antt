@@ -1,2 +1,6 @@
 pub mod Pieces
 pub mod Faults
+pub mod Following
+pub mod Airings
+pub mod Finding
+pub mod AuditRuns

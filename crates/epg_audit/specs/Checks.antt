@@ -13,7 +13,7 @@ use Rattle.air_audit.specs.declared.rule.Rule.{Rule}
 use Rattle.air_audit.specs.declared.rule.Rule.TheVariants.{Pid}
 use Rattle.air_audit.specs.Checking.{Checking, StandsFor}
 use Rattle.epg_report.specs.declared.status.Status.{Status}
-use Rattle.epg_report.specs.declared.status.Status.TheVariants.{BadStream, NotAir, ReadFault, Short, TooLong}
+use Rattle.epg_report.specs.declared.status.Status.TheVariants.{BadStream, Memory, NotAir, ReadFault, TooLong}
 use Rattle.epg_report.specs.declared.status.Origin.TheVariants.{Recording}
 use Rattle.epg_audit.specs.Recorded.{IsFaulty}
 
@@ -27,11 +27,13 @@ pub record Follows {F : Type 0} (left : F → Option (List ℕ)) (start now : Pa
   pub packets : List (List ℕ)
   pub stands : StandsFor airings packets checker
   pub number : now.number ≡ length packets
+  pub within : length packets ≤ packet_limit
   pub taken : (bytes : List ℕ) → bytes_left left start ≡ Some bytes → (rest : List ℕ) × (bytes_left left now ≡ Some rest) × AreTaken bytes packets rest
 
 -- a cycle was checked to its end, or the recording is at fault, whatever airings follow
 abbrev pub Checks : {F : Type 0} → (F → Option (List ℕ)) → PacketReading F → PacketReading F → List AiredTables → Checking → Result (Unit {0}) Status → Type 0
 Checks left start now airings checker (Ok u) = Follows left start now airings checker
+Checks left start now airings checker (Err Memory) = Unit {0}
 Checks left start now airings checker (Err status) =
     (bytes : List ℕ) → bytes_left left start ≡ Some bytes → (others : List AiredTables) → CanBeSent others → IsFaulty (airings ++ others) bytes status
 
@@ -46,7 +48,7 @@ abbrev pub GivesNoMore : List ℕ → ℕ → Result (Unit {0}) Status → Type 
 GivesNoMore rest number (Ok u) = rest ≡ []
 GivesNoMore rest number (Err (NotAir n rule)) = (n ≡ number) × (rule ≡ Pid) × (188 ≤ length rest)
 GivesNoMore rest number (Err (BadStream n)) = (n ≡ number) × (0 < length rest) × (length rest < 188)
-GivesNoMore rest number (Err (TooLong Recording)) = (number ≡ packet_limit) × (0 < length rest)
+GivesNoMore rest number (Err (TooLong Recording)) = (packet_limit ≤ number) × (0 < length rest)
 GivesNoMore rest number (Err (ReadFault Recording)) = Unit {0}
 GivesNoMore rest number (Err status) = ⊥
 

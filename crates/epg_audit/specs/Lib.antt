@@ -1,3 +1,6 @@
 pub mod Recorded
 pub mod Checks
+pub mod Audits
+pub mod Ends
+pub mod Finds
 pub mod Leaves

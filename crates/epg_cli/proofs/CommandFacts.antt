@@ -5,15 +5,18 @@ use Rattle.headend_live.specs.declared.watched.LivePlan.{LivePlan}
 use Rattle.si_causes.specs.Causes.{Rose}
 use Rattle.command_words.specs.declared.command.WordsStop.{WordsStop}
 use Rattle.command_words.specs.declared.command.WordsStop.TheVariants as words
-use Rattle.command_words.specs.Grammar.{CommandLine, Play, Listen, Live, Soak}
+use Rattle.command_words.specs.Grammar.{CommandLine, Play, Listen, Live, Soak, Audit}
 use Rattle.epg_report.specs.declared.status.Status.{Status}
 use Rattle.epg_report.specs.declared.status.Status.TheVariants.{Usage, OpenFault, ReadFault, WriteFault, Memory}
-use Rattle.epg_report.specs.declared.status.Origin.TheVariants.{Input, Feed}
+use Rattle.epg_report.specs.declared.status.Origin.TheVariants.{Input, Feed, Recording}
 use Rattle.epg_report.specs.declared.status.Outlet.TheVariants.{Air, Report}
 use Rattle.epg_play.specs.Leaves.{IsOfPlay}
 use Rattle.epg_listen.specs.Leaves.{IsOfListen}
 use Rattle.epg_live.specs.Stops.{HasStatusCause, IsOfLive}
 use Rattle.epg_soak.specs.SoakRun.{IsOfSoak}
+use Rattle.epg_report.specs.Told.{OpenerAsked}
+use Rattle.epg_audit.specs.Finds.{HasMetCause}
+use Rattle.epg_audit.specs.Leaves.{IsOfAudit}
 
 -- ---- words spell one command
 
@@ -37,6 +40,44 @@ listen_soak c number e f = cc
 
 pub live_soak : (c : Option CommandLine) (paths : List (List ℕ)) (plan : LivePlan) (number : ℕ) → c ≡ Some (Live paths plan.cycles plan.join plan.views) → c ≡ Some (Soak number) → ⊥
 live_soak c paths plan number e f = cc
+
+pub play_audit : (c : Option CommandLine) (path : List ℕ) → c ≡ Some Play → c ≡ Some (Audit path) → ⊥
+play_audit c path e f = cc
+
+pub listen_audit : (c : Option CommandLine) (path : List ℕ) → c ≡ Some Listen → c ≡ Some (Audit path) → ⊥
+listen_audit c path e f = cc
+
+pub live_audit : (c : Option CommandLine) (paths : List (List ℕ)) (plan : LivePlan) (path : List ℕ) → c ≡ Some (Live paths plan.cycles plan.join plan.views) → c ≡ Some (Audit path) → ⊥
+live_audit c paths plan path e f = cc
+
+pub soak_audit : (c : Option CommandLine) (number : ℕ) (path : List ℕ) → c ≡ Some (Soak number) → c ≡ Some (Audit path) → ⊥
+soak_audit c number path e f = cc
+
+-- neither `listen` nor `audit`
+pub play_sends : (c : Option CommandLine) → c ≡ Some Play → (c ≡ Some Listen) ⊎ ((path : List ℕ) × (c ≡ Some (Audit path))) → ⊥
+play_sends c e (inl listen) = play_listen c e listen
+play_sends c e (inr (path, audit)) = play_audit c path e audit
+
+pub live_sends : (c : Option CommandLine) (paths : List (List ℕ)) (plan : LivePlan) → c ≡ Some (Live paths plan.cycles plan.join plan.views) → (c ≡ Some Listen) ⊎ ((path : List ℕ) × (c ≡ Some (Audit path))) → ⊥
+live_sends c paths plan e (inl listen) = listen_live c paths plan listen e
+live_sends c paths plan e (inr (path, audit)) = live_audit c paths plan path e audit
+
+pub soak_sends : (c : Option CommandLine) (number : ℕ) → c ≡ Some (Soak number) → (c ≡ Some Listen) ⊎ ((path : List ℕ) × (c ≡ Some (Audit path))) → ⊥
+soak_sends c number e (inl listen) = listen_soak c number listen e
+soak_sends c number e (inr (path, audit)) = soak_audit c number path e audit
+
+pub none_sends : (c : Option CommandLine) → c ≡ None → (c ≡ Some Listen) ⊎ ((path : List ℕ) × (c ≡ Some (Audit path))) → ⊥
+none_sends c none (inl listen) = some_none c Listen listen none
+none_sends c none (inr (path, audit)) = some_none c (Audit path) audit none
+
+-- none of those that open no file
+pub audit_others : (c : Option CommandLine) (path : List ℕ) → c ≡ Some (Audit path) → (c ≡ Some Play) ⊎ ((c ≡ Some Listen) ⊎ ((number : ℕ) × (c ≡ Some (Soak number)))) → ⊥
+audit_others c path e (inl play) = play_audit c path play e
+audit_others c path e (inr (inl listen)) = listen_audit c path listen e
+audit_others c path e (inr (inr (number, soak))) = soak_audit c number path soak e
+
+pub audit_is : (P : List ℕ → Type 0) (c : Option CommandLine) (read path : List ℕ) → c ≡ Some (Audit read) → c ≡ Some (Audit path) → P read → P path
+audit_is P c read path e f p = let same : read ≡ path = cc in subst P same p
 
 pub live_others : (c : Option CommandLine) (paths : List (List ℕ)) (plan : LivePlan) → c ≡ Some (Live paths plan.cycles plan.join plan.views)
     → (c ≡ Some Play) ⊎ ((c ≡ Some Listen) ⊎ ((number : ℕ) × (c ≡ Some (Soak number)))) → ⊥
@@ -74,6 +115,9 @@ play_open s f is e = subst IsOfPlay e is
 pub listen_open : (s : Status) (f : ℕ) → IsOfListen s → s ≡ OpenFault f → ⊥
 listen_open s f is e = subst IsOfListen e is
 
+pub audit_usage : (s : Status) → IsOfAudit s → s ≡ Usage → ⊥
+audit_usage s is e = subst IsOfAudit e is
+
 pub soak_usage : (s : Status) → IsOfSoak s → s ≡ Usage → ⊥
 soak_usage s is e = subst IsOfSoak e is
 
@@ -91,6 +135,7 @@ memory_read e = cc
 pub play_cause : (i j f g a b : ℕ) (s : Status) → IsOfPlay s → (s ≡ ReadFault Input → Rose i j) → (s ≡ WriteFault Air → Rose a b) → HasStatusCause i j f g a b s
 play_cause i j f g a b (ReadFault Input) is read air = read refl
 play_cause i j f g a b (ReadFault (Feed k)) is read air = absurd is
+play_cause i j f g a b (ReadFault Recording) is read air = absurd is
 play_cause i j f g a b (WriteFault Air) is read air = air refl
 play_cause i j f g a b (WriteFault Report) is read air = tt
 play_cause i j f g a b other is read air = tt
@@ -98,6 +143,7 @@ play_cause i j f g a b other is read air = tt
 pub listen_cause : (i j f g a b : ℕ) (s : Status) → IsOfListen s → (s ≡ ReadFault Input → Rose i j) → HasStatusCause i j f g a b s
 listen_cause i j f g a b (ReadFault Input) is read = read refl
 listen_cause i j f g a b (ReadFault (Feed k)) is read = absurd is
+listen_cause i j f g a b (ReadFault Recording) is read = absurd is
 listen_cause i j f g a b (WriteFault Air) is read = absurd is
 listen_cause i j f g a b (WriteFault Report) is read = tt
 listen_cause i j f g a b other is read = tt
@@ -105,6 +151,18 @@ listen_cause i j f g a b other is read = tt
 pub soak_cause : (i j f g a b : ℕ) (s : Status) → IsOfSoak s → (s ≡ WriteFault Air → Rose a b) → HasStatusCause i j f g a b s
 soak_cause i j f g a b (ReadFault Input) is air = absurd is
 soak_cause i j f g a b (ReadFault (Feed k)) is air = absurd is
+soak_cause i j f g a b (ReadFault Recording) is air = absurd is
 soak_cause i j f g a b (WriteFault Air) is air = air refl
 soak_cause i j f g a b (WriteFault Report) is air = tt
 soak_cause i j f g a b other is air = tt
+
+pub audit_cause : (i j a b : ℕ) (opener : OpenerAsked) (s : Status) → IsOfAudit s → HasMetCause i j opener s → HasStatusCause i j opener.read_old opener.read_new a b s
+audit_cause i j a b opener (ReadFault Input) is cause = cause
+audit_cause i j a b opener (ReadFault (Feed k)) is cause = absurd is
+audit_cause i j a b opener (ReadFault Recording) is cause = cause
+audit_cause i j a b opener (WriteFault Air) is cause = absurd is
+audit_cause i j a b opener (WriteFault Report) is cause = tt
+audit_cause i j a b opener other is cause = tt
+
+pub audit_open : (i j : ℕ) (opener : OpenerAsked) (s : Status) (n : ℕ) → HasMetCause i j opener s → s ≡ OpenFault n → Rose opener.faults_old opener.faults_new
+audit_open i j opener s n cause e = subst (HasMetCause i j opener) e cause

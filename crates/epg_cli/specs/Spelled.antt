@@ -2,7 +2,7 @@
 use Rattle.headend_live.specs.declared.watched.LivePlan.{LivePlan}
 use Rattle.std.specs.Prelude.{◌≡◌, ℕ, List, None, Some, String}
 use Rattle.command_words.specs.Commands.{texts}
-use Rattle.command_words.specs.Grammar.{Listen, Live, Play, Soak, command_of}
+use Rattle.command_words.specs.Grammar.{Audit, Listen, Live, Play, Soak, command_of}
 
 abbrev pub IsUsage : {Y : Type 0} → List (String Y) → Type 0
 IsUsage words = command_of (texts words) ≡ None
@@ -20,6 +20,14 @@ IsLive words paths plan = command_of (texts words) ≡ Some (Live paths plan.cyc
 -- of the load with this number
 abbrev pub IsSoak : {Y : Type 0} → List (String Y) → ℕ → Type 0
 IsSoak words number = command_of (texts words) ≡ Some (Soak number)
+
+-- of the recording at this path
+abbrev pub IsAudit : {Y : Type 0} → List (String Y) → List ℕ → Type 0
+IsAudit words path = command_of (texts words) ≡ Some (Audit path)
+
+-- of a recording, whatever its path
+abbrev pub SpellsAudit : {Y : Type 0} → List (String Y) → Type 0
+SpellsAudit words = (path : List ℕ) × IsAudit words path
 
 -- of a load, whatever its number
 abbrev pub SpellsSoak : {Y : Type 0} → List (String Y) → Type 0

@@ -9,11 +9,13 @@ ghost use Rattle.epg_listen.specs.Leaves.{ListenRan};
 ghost use Rattle.epg_live.specs.LiveRun.{LiveRan};
 ghost use Rattle.epg_live.specs.Stops.{HasStatusCause};
 ghost use Rattle.epg_soak.specs.SoakRun.{SoakRan};
+ghost use Rattle.epg_audit.specs.Leaves.{AuditRan};
 ghost use Rattle.headend_live.specs.declared.watched.LivePlan.{LivePlan};
 ghost use Rattle.epg_cli.specs.Prints.{PrintedScript};
-ghost use Rattle.epg_cli.specs.Spelled.{IsUsage, IsPlay, IsListen, IsLive, IsSoak, SpellsSoak};
+ghost use Rattle.epg_cli.specs.Spelled.{IsUsage, IsPlay, IsListen, IsLive, IsSoak, IsAudit, SpellsAudit, SpellsSoak};
 
 use command_words::{Command, WordsStop, parse_words};
+use epg_audit::run_audit;
 use epg_listen::run_listen;
 use epg_live::run_live_files;
 use epg_play::run_play;
@@ -60,8 +62,11 @@ pub fn run<W: Threads + Wait + Sync, O: Opener, S: Source + Send, A: Sink + Send
         S.left input.old R.written R.faults report.old report.new result }
     ensures soak { (number : ℕ) → IsSoak words.now number → SoakRan number
         A.written A.faults air.old air.new R.written R.faults report.old report.new result }
-    // With `listen` nothing is sent, only `live` opens files, and `soak` makes its input itself.
-    ensures air_kept { IsListen words.now → air.new ≡ air.old }
+    ensures audit { (path : List ℕ) → IsAudit words.now path → AuditRan path
+        O.files O.tried O.faults O.read_faults opener.old opener.new
+        S.left S.faults input.old input.new R.written R.faults report.old report.new result }
+    // With `listen` and `audit` nothing is sent, only `live` and `audit` open files, and `soak` makes its input itself.
+    ensures air_kept { IsListen words.now ⊎ SpellsAudit words.now → air.new ≡ air.old }
     ensures opener_kept { IsPlay words.now ⊎ (IsListen words.now ⊎ SpellsSoak words.now)
         → opener.new ≡ opener.old }
     ensures input_kept { SpellsSoak words.now → input.new ≡ input.old }
@@ -82,6 +87,7 @@ pub fn run<W: Threads + Wait + Sync, O: Opener, S: Source + Send, A: Sink + Send
             run_live_files(rt, alloc, &live, opener, input, air, report, gate)
         }
         Ok(Command::Soak(number)) => run_soak(rt, alloc, number, air, report, gate),
+        Ok(Command::Audit(path)) => run_audit(alloc, path.as_str(), opener, input, report),
         Err(WordsStop::Memory) => out_of_memory(report),
         Err(WordsStop::Usage) => {
             let _ = write_all(report, b"fault: usage\n");

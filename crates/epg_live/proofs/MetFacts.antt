@@ -144,7 +144,7 @@ ran_met left (Ok s) paths said plan text files feeds_old feeds_mid feeds_now bef
 cause_from : (old mid now feeds_old feeds_mid feeds_now air_before air_now : ℕ) (met : Status) → old ≤ mid → feeds_mid ≡ feeds_old → HasStatusCause mid now feeds_mid feeds_now air_before air_now met → HasStatusCause old now feeds_old feeds_now air_before air_now met
 cause_from old mid now feeds_old feeds_mid feeds_now air_before air_now (ReadFault Input) le same cause = Rose-from old mid now le cause
 cause_from old mid now feeds_old feeds_mid feeds_now air_before air_now (ReadFault (Feed f)) le same cause = subst (λ n. Rose n feeds_now) same cause
-cause_from old mid now feeds_old feeds_mid feeds_now air_before air_now (ReadFault Recording) le same cause = tt
+cause_from old mid now feeds_old feeds_mid feeds_now air_before air_now (ReadFault Recording) le same cause = subst (λ n. Rose n feeds_now) same cause
 cause_from old mid now feeds_old feeds_mid feeds_now air_before air_now (WriteFault Air) le same cause = cause
 cause_from old mid now feeds_old feeds_mid feeds_now air_before air_now (WriteFault Report) le same cause = tt
 cause_from old mid now feeds_old feeds_mid feeds_now air_before air_now other le same cause = tt

@@ -64,6 +64,7 @@ HaveReadCauses before now (stop ∷ stops) = HasReadCause before now stop × Hav
 abbrev pub HasStatusCause : ℕ → ℕ → ℕ → ℕ → ℕ → ℕ → Status → Type 0
 HasStatusCause input_before input_now feeds_before feeds_now air_before air_now (ReadFault Input) = Rose input_before input_now
 HasStatusCause input_before input_now feeds_before feeds_now air_before air_now (ReadFault (Feed f)) = Rose feeds_before feeds_now
+HasStatusCause input_before input_now feeds_before feeds_now air_before air_now (ReadFault Recording) = Rose feeds_before feeds_now
 HasStatusCause input_before input_now feeds_before feeds_now air_before air_now (WriteFault Air) = Rose air_before air_now
 HasStatusCause input_before input_now feeds_before feeds_now air_before air_now status = Unit {0}
 

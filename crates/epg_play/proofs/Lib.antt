@@ -7,5 +7,5 @@ pub mod AgainFacts
 pub mod ReportFacts
 pub mod OutcomeFacts
 mod StopLines
-mod SentFacts
+pub mod SentFacts
 pub mod PlayRunFacts

@@ -40,6 +40,8 @@ use Rattle.epg_report.specs.declared.status.Status.TheVariants.{Done, BadScript,
 use Rattle.epg_report.specs.declared.status.Origin.TheVariants.{Input, Feed, Recording}
 use Rattle.epg_report.specs.declared.status.Outlet.TheVariants.{Air, Report}
 use Rattle.epg_play.specs.Script.{Script, Stop, Ended, NoMux, NoCommand, Disagreed, TooLong, Unread, no_mux, script_in, script_taken, script_with, with_commands}
+use Rattle.journal_model.specs.declared.step.Outcome.{Outcome}
+use Rattle.epg_play.specs.Items.{Stops, Went, course_at}
 use Rattle.epg_play.specs.Played.{AiredTo, PlayedWhole, RestDid, RestTaken, course, desk_after}
 use Rattle.epg_report.specs.Texts.{fault_line}
 use Rattle.epg_play.specs.Leaves.{IsAired, IsAiredFront, IsSent, Leaves, LeavesAll, Completes, first_journal, whole_journal, status_for, stop_text}
@@ -279,3 +281,109 @@ whole stop other e h = absurd h
 
 pub true-false : true ≡ false → ⊥
 true-false e = cc
+
+-- ---- for other commands over the same script
+
+-- A script stops so, and its commands were done at a desk of its multiplex.
+pub record IsPlayed (script : Script) (stop : Stop) (mux : Mux) (desk : DeskState) : Type 0 where
+  pub stopped : script.stop ≡ stop
+  pub described : script.mux ≡ Some mux
+  pub did : desk ≡ desk_after (fresh mux) script.commands
+
+rest_is : (script : Script) (stop : Stop) (mux : Mux) (rest : Rest) (desk : DeskState) → script ≡ with_commands mux rest → (rest.1 ≡ stop) × (desk ≡ desk_after (fresh mux) rest.0) → IsPlayed script stop mux desk
+rest_is script stop mux rest desk e did = subst (λ (s : Script). IsPlayed s stop mux desk) (sym e) (record { stopped = did.0; described = refl; did = did.1 })
+
+-- and the same of the bytes that were taken, where a read failed
+pub record IsPlayedTaken (text : List ℕ) (left : Known) (mux : Mux) (desk : DeskState) : Type 0 where
+  pub taken : List ℕ
+  pub behind : List ℕ
+  pub text_is : text ≡ taken ++ behind
+  pub left_is : left ≡ Some behind
+  pub played : IsPlayed (script_taken taken) Unread mux desk
+
+-- what the script of a text is, by why the rest behind its description was not done on
+abbrev pub PlayedBy : List ℕ → Known → Mux → DeskState → Result (Unit {0}) PlayStop → Type 0
+PlayedBy text left mux desk (Ok u) = IsPlayed (script_in text) Ended mux desk
+PlayedBy text left mux desk (Err (Refused n)) = IsPlayed (script_in text) (NoCommand n) mux desk
+PlayedBy text left mux desk (Err (Differs n kept found)) = IsPlayed (script_in text) (Disagreed n kept found) mux desk
+PlayedBy text left mux desk (Err (Read Overlong)) = IsPlayed (script_in text) TooLong mux desk
+PlayedBy text left mux desk (Err (Read Failed)) = IsPlayedTaken text left mux desk
+PlayedBy text left mux desk (Err stop) = Unit {0}
+
+taken_by : (text taken : List ℕ) (old left : Known) (mux : Mux) (desk : DeskState) → old ≡ Some text → Consumes old left taken → IsPlayed (script_taken taken) Unread mux desk → IsPlayedTaken text left mux desk
+taken_by text taken old left mux desk told gave played =
+    let b = bytes_left left text taken (subst (λ (o : Known). Consumes o left taken) told gave) in
+    record { taken = taken; behind = b.0; text_is = b.1; left_is = b.2; played = played }
+
+pub rest_played : {S : Type 0} (left : S → Known) (source : S) (mid new : Reading S) (text : List ℕ) (mux : Mux) (desk : DeskState) (r : Result (Unit {0}) PlayStop) → left source ≡ Some text
+    → LeavesAhead left description_ahead (Came (Ok mux)) (unread source) mid text → Passes left description_ahead (Came (Ok mux)) (unread source) mid → Stops left mid new (fresh mux) desk r
+    → PlayedBy text (left new.source) mux desk r
+rest_played left source mid new text mux desk (Ok u) told d came stops = rest_is (script_in text) Ended mux (course mux [] None (ahead mid d.rest)) desk (ap script_with d.reads) (stops.0 d.rest d.told)
+rest_played left source mid new text mux desk (Err (Undescribed fault)) told d came stops = tt
+rest_played left source mid new text mux desk (Err (Refused n)) told d came stops = rest_is (script_in text) (NoCommand n) mux (course mux [] None (ahead mid d.rest)) desk (ap script_with d.reads) (stops.0 d.rest d.told)
+rest_played left source mid new text mux desk (Err (Differs n kept found)) told d came stops =
+    rest_is (script_in text) (Disagreed n kept found) mux (course mux [] None (ahead mid d.rest)) desk (ap script_with d.reads) (stops.0 d.rest d.told)
+rest_played left source mid new text mux desk (Err (Read Overlong)) told d came stops = rest_is (script_in text) TooLong mux (course mux [] None (ahead mid d.rest)) desk (ap script_with d.reads) (stops.0 d.rest d.told)
+rest_played left source mid new text mux desk (Err (Read Failed)) told d came stops =
+    let p = stops.1 in
+    let both : WereWhole left (unread source) new (came.looked.lines ++ p.lines) = whole_more left (unread source) mid new came.looked.lines p.lines came.looked.handed p.unended p.whole in
+    let script : script_taken both.more ≡ with_commands mux (course mux [] None (ahead_with mid p.lines Breaks)) =
+    ap (λ l. script_with (description_ahead (ahead_with (unread source) l Breaks))) both.whole ∙ ap script_with (came.reads p.lines Breaks) in
+    taken_by text both.more (left source) (left new.source) mux desk told both.gave (rest_is (script_taken both.more) Unread mux (course mux [] None (ahead_with mid p.lines Breaks)) desk script (p.stop, p.did))
+rest_played left source mid new text mux desk (Err OnAir) told d came stops = tt
+rest_played left source mid new text mux desk (Err NoMemory) told d came stops = tt
+
+-- Some of its commands were done, the first.
+pub record IsPlayedTo (script : Script) (mux : Mux) (desk : DeskState) : Type 0 where
+  pub described : script.mux ≡ Some mux
+  pub done : List Command
+  pub others : List Command
+  pub commands_are : script.commands ≡ done ++ others
+  pub did : desk ≡ desk_after (fresh mux) done
+
+pub went_played : {S : Type 0} (left : S → Known) (source : S) (mid new : Reading S) (text : List ℕ) (mux : Mux) (desk : DeskState) (made : Option Outcome)
+    → LeavesAhead left description_ahead (Came (Ok mux)) (unread source) mid text → Went left mid new (fresh mux) desk made → IsPlayedTo (script_in text) mux desk
+went_played left source mid new text mux desk made d went =
+    let rest = course mux [] None (ahead mid d.rest) in
+    let t = went.told d.rest d.told in
+    let script : script_in text ≡ with_commands mux rest = ap script_with d.reads in
+    subst (λ (s : Script). IsPlayedTo s mux desk) (sym script) (record {
+      described = refl;
+      done = went.done;
+      others = (course_at desk made (ahead new t.0)).0;
+      commands_are = ap (λ (p : Rest). p.0) t.2;
+      did = went.did;
+    })
+
+-- the script of a text whose description was not read
+pub record IsUndescribedTaken (text : List ℕ) (left : Known) : Type 0 where
+  pub taken : List ℕ
+  pub behind : List ℕ
+  pub text_is : text ≡ taken ++ behind
+  pub left_is : left ≡ Some behind
+  pub script : script_taken taken ≡ no_mux Unread
+
+abbrev pub IsUndescribed : List ℕ → Known → MuxStop → Type 0
+IsUndescribed text left (mux.Fault fault) = script_in text ≡ no_mux (NoMux fault)
+IsUndescribed text left (mux.Read Overlong) = script_in text ≡ no_mux TooLong
+IsUndescribed text left (mux.Read Failed) = IsUndescribedTaken text left
+IsUndescribed text left mux.Memory = Unit {0}
+
+undescribed_by : (text taken : List ℕ) (old left : Known) → old ≡ Some text → Consumes old left taken → script_taken taken ≡ no_mux Unread → IsUndescribedTaken text left
+undescribed_by text taken old left told gave script =
+    let b = bytes_left left text taken (subst (λ (o : Known). Consumes o left taken) told gave) in
+    record { taken = taken; behind = b.0; text_is = b.1; left_is = b.2; script = script }
+
+pub undescribed : {S : Type 0} (left : S → Known) (faults : S → ℕ) (alike : S → S → Type 0) (old new : Reading S) (source : S) (text : List ℕ) (stop : MuxStop) → old ≡ unread source → left source ≡ Some text
+    → ReadMux left faults alike old new (Err stop) → IsUndescribed text (left new.source) stop
+undescribed left faults alike old new source text (mux.Fault fault) e told read =
+    let here = subst (λ r. ReadMux left faults alike r new (Err (mux.Fault fault))) e read in
+    faulty_script _ fault (fault_read left faults alike (unread source) new fault text refl (fresh_text left source ∙ told) here)
+undescribed left faults alike old new source text (mux.Read Overlong) e told read =
+    let here = read_stopped left faults alike (unread source) new Overlong (subst (λ r. ReadMux left faults alike r new (Err (mux.Read Overlong))) e read) in
+    ap script_with (here.gives refl text (fresh_text left source ∙ told))
+undescribed left faults alike old new source text (mux.Read Failed) e told read =
+    let fault = (read_stopped left faults alike (unread source) new Failed (subst (λ r. ReadMux left faults alike r new (Err (mux.Read Failed))) e read)).takes refl in
+    undescribed_by text fault.whole.more (left source) (left new.source) told fault.whole.gave
+    (ap (λ l. script_with (description_ahead (ahead_with (unread source) l Breaks))) fault.whole.whole ∙ ap script_with fault.reads)
+undescribed left faults alike old new source text mux.Memory e told read = tt

@@ -59,3 +59,9 @@ module _ (lines : List (List ℕ)) (tail : Tail) (air : ReportTaken) where
 
   pub cut_sent : (k : ℕ) → IsAiredFront script.mux (first_journal k script) air → IsSent script.mux (first_journal k script) air
   cut_sent k is = by_front (take k script.commands) script.mux (first-typed k script.commands (script-typed lines tail)) refl is
+
+-- the journal of a script is one that lines give
+pub script_as_read : (lines : List (List ℕ)) (tail : Tail) (mux : Mux) → (script_of_lines lines tail).mux ≡ Some mux → IsAsRead mux (journal_of mux (script_of_lines lines tail).commands)
+script_as_read lines tail mux e =
+    let air : ReportTaken = record { old = None; new = None; faults_old = 0; faults_new = 0 } in
+    as_read lines tail air (script_of_lines lines tail).commands mux (script-typed lines tail) e

@@ -14,7 +14,8 @@ mod play;
 mod run;
 mod stop;
 
+pub use ending::status_of;
 pub use item::{ItemDone, do_item};
 pub use laws::{journals_play_again, outcomes_are_compared, play_is_heard, reports_tell_journals};
-pub use run::run_play;
+pub use run::{mux_stop_of, run_play};
 pub use stop::PlayStop;

@@ -16,8 +16,8 @@ use mux_config::{MuxStop, read_mux};
 use si_causes::{LineReader, Sink, Source};
 use std::alloc::Global;
 
-// Why the description of the multiplex was not read.
-fn stop_of(stop: MuxStop) -> PlayStop
+/// The stop of a script where the description of its multiplex was not read.
+pub fn mux_stop_of(stop: MuxStop) -> PlayStop
     ensures { result ≡ mux_stop stop }
 {
     match stop {
@@ -45,7 +45,7 @@ fn play<S: Source, A: Sink>(alloc: Global, lines: &mut LineReader<S>, air: &mut 
         Err(stop) => {
             return Played {
                 desk: None,
-                stop: Some(stop_of(stop)),
+                stop: Some(mux_stop_of(stop)),
             };
         }
     };

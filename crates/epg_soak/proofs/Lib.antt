@@ -1,3 +1,2 @@
-mod Counting
 mod JournalCounts
 pub mod SoakFacts

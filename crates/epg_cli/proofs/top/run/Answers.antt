@@ -1,8 +1,8 @@
-use Rattle.std.proofs.Common.{◌≡◌, refl, [], codes, inl, inr}
-use Rattle.std.specs.Prelude.{Some, None}
+use Rattle.std.proofs.Common.{◌≡◌, refl, [], List, ℕ, subst, codes, inl, inr}
+use Rattle.std.specs.Prelude.{Some, None, string_bytes}
 use Rattle.command_words.specs.Commands.{texts}
 use Rattle.epg_live.specs.Views.{plan_of}
-use Rattle.command_words.specs.Grammar.{command_of, Play, Listen, Live, Soak}
+use Rattle.command_words.specs.Grammar.{command_of, Play, Listen, Live, Soak, Audit}
 use Rattle.epg_report.specs.Texts.{fault_line}
 use Rattle.epg_report.specs.Told.{asked, gave, told}
 use Rattle.epg_report.proofs.Reporting.{reported}
@@ -12,8 +12,10 @@ use Rattle.epg_live.specs.LiveRun.{LiveRun}
 use Rattle.epg_live.proofs.LiveRunFacts.{live_memory, none_asked}
 use Rattle.epg_soak.specs.SoakRun.{SoakRun}
 use Rattle.epg_soak.proofs.SoakFacts.{soak_memory}
+use Rattle.epg_audit.specs.Leaves.{AuditRun}
+use Rattle.epg_audit.proofs.AuditRuns.{audit_memory}
 use Rattle.epg_cli.proofs.PrintFacts.{prints}
-use Rattle.epg_cli.proofs.CommandFacts.{play_listen, play_live, listen_live, play_soak, listen_soak, live_soak, live_others, some_none, live_is, soak_is, play_usage, listen_usage, live_usage, soak_usage, play_open, listen_open, soak_open, play_cause, listen_cause, soak_cause, memory_usage, memory_read}
+use Rattle.epg_cli.proofs.CommandFacts.{play_audit, listen_audit, live_audit, soak_audit, play_sends, live_sends, soak_sends, none_sends, audit_others, audit_is, audit_usage, audit_cause, audit_open, play_listen, play_live, listen_live, play_soak, listen_soak, live_soak, live_others, some_none, live_is, soak_is, play_usage, listen_usage, live_usage, soak_usage, play_open, listen_open, soak_open, play_cause, listen_cause, soak_cause, memory_usage, memory_read}
 use Rattle.epg_cli.proofs.top.run.Goals as goal
 
 pub returns-in-Ok-Play : goal.returns-in-Ok-Play
@@ -29,7 +31,8 @@ returns-in-Ok-Play g c =
       live = λ paths plan spelled. absurd (play_live command paths plan spells spelled);
       live_again = λ paths plan spelled. absurd (play_live command paths plan spells spelled);
       soak = λ number spelled. absurd (play_soak command number spells spelled);
-      air_kept = λ spelled. absurd (play_listen command spells spelled);
+      audit = λ path spelled. absurd (play_audit command path spells spelled);
+      air_kept = λ spelled. absurd (play_sends command spells spelled);
       opener_kept = λ spelled. refl;
       input_kept = λ spelled. absurd (play_soak command spelled.0 spells spelled.1);
       end = λ done. inr (run.end done);
@@ -52,6 +55,7 @@ returns-in-Ok-Listen g c =
       live = λ paths plan spelled. absurd (listen_live command paths plan spells spelled);
       live_again = λ paths plan spelled. absurd (listen_live command paths plan spells spelled);
       soak = λ number spelled. absurd (listen_soak command number spells spelled);
+      audit = λ path spelled. absurd (listen_audit command path spells spelled);
       air_kept = λ spelled. refl;
       opener_kept = λ spelled. refl;
       input_kept = λ spelled. absurd (listen_soak command spelled.0 spells spelled.1);
@@ -83,7 +87,8 @@ returns-in-Ok-Live g c =
       live_again = λ paths plan spelled text tells files known.
           prints read (plan_of words) text files input.new opener.read_old opener.read_new air report c.run_live_files.result (run.leaves text tells files known);
       soak = λ number spelled. absurd (live_soak command read (plan_of words) number spells spelled);
-      air_kept = λ spelled. absurd (listen_live command read (plan_of words) spelled spells);
+      audit = λ path spelled. absurd (live_audit command read (plan_of words) path spells spelled);
+      air_kept = λ spelled. absurd (live_sends command read (plan_of words) spells spelled);
       opener_kept = λ spelled. absurd (live_others command read (plan_of words) spells spelled);
       input_kept = λ spelled. absurd (live_soak command read (plan_of words) spelled.0 spells spelled.1);
       end = λ done. inr (run.end done);
@@ -117,13 +122,41 @@ returns-in-Ok-Soak g c =
       live = λ paths plan spelled. absurd (live_soak command paths plan read spelled spells);
       live_again = λ paths plan spelled. absurd (live_soak command paths plan read spelled spells);
       soak = λ number spelled. soak_is (λ n. SoakRun n air report c.run_soak.result) command read number spells spelled run;
-      air_kept = λ spelled. absurd (listen_soak command read spelled spells);
+      audit = λ path spelled. absurd (soak_audit command read path spells spelled);
+      air_kept = λ spelled. absurd (soak_sends command read spells spelled);
       opener_kept = λ spelled. refl;
       input_kept = λ spelled. refl;
       end = λ done. inl (read, spells);
       cause = soak_cause (g.S.Source.faults c.args.input.now) (g.S.Source.faults c.args.input.now) (g.O.Opener.read_faults c.args.opener.now) (g.O.Opener.read_faults c.args.opener.now)
           (g.A.Sink.faults c.args.air.now) (g.A.Sink.faults c.run_soak.new.air) c.run_soak.result run.known run.air_cause;
       open_cause = λ feed e. absurd (soak_open c.run_soak.result feed run.known e);
+      report = run.report_cause;
+    }
+
+pub returns-in-Ok-Audit : goal.returns-in-Ok-Audit
+returns-in-Ok-Audit g c =
+    let command = command_of (texts c.args.words.now) in
+    let read = string_bytes c.in-Ok-Audit.path in
+    let spells : command ≡ Some (Audit read) = rw c.in-Ok-Audit.field-0-is at c.in-Ok-Audit.ensures.command in
+    let opener = asked g.O.Opener.files g.O.Opener.tried g.O.Opener.faults g.O.Opener.read_faults c.args.opener.now c.run_audit.new.opener in
+    let input = gave g.S.Source.left g.S.Source.faults c.args.input.now c.run_audit.new.input in
+    let report = told g.R.Sink.written g.R.Sink.faults c.args.report.now c.run_audit.new.report in
+    let run : AuditRun read opener input report c.run_audit.result = subst (λ (p : List ℕ). AuditRun p opener input report c.run_audit.result) c.as_str.ensures.value c.run_audit.ensures.run in
+    record {
+      usage = (λ e. absurd (audit_usage c.run_audit.result run.known e), λ none. absurd (some_none command (Audit read) spells none));
+      usage_leaves = λ e. absurd (audit_usage c.run_audit.result run.known e);
+      play = λ spelled. absurd (play_audit command read spelled spells);
+      listen = λ spelled. absurd (listen_audit command read spelled spells);
+      live = λ paths plan spelled. absurd (live_audit command paths plan read spelled spells);
+      live_again = λ paths plan spelled. absurd (live_audit command paths plan read spelled spells);
+      soak = λ number spelled. absurd (soak_audit command number read spelled spells);
+      audit = λ path spelled. audit_is (λ p. AuditRun p opener input report c.run_audit.result) command read path spells spelled run;
+      air_kept = λ spelled. refl;
+      opener_kept = λ spelled. absurd (audit_others command read spells spelled);
+      input_kept = λ spelled. absurd (soak_audit command spelled.0 read spelled.1 spells);
+      end = λ done. inr (run.end done);
+      cause = audit_cause (g.S.Source.faults c.args.input.now) (g.S.Source.faults c.run_audit.new.input) (g.A.Sink.faults c.args.air.now) (g.A.Sink.faults c.args.air.now) opener c.run_audit.result run.known run.cause;
+      open_cause = λ n e. audit_open (g.S.Source.faults c.args.input.now) (g.S.Source.faults c.run_audit.new.input) opener c.run_audit.result n run.cause e;
       report = run.report_cause;
     }
 
@@ -144,6 +177,7 @@ returns-in-Err-Memory g c =
       live = λ paths plan spelled. live_memory paths plan opener input air report c.out_of_memory.result is (none_asked paths tried);
       live_again = λ paths plan spelled text tells files known. inl is;
       soak = λ number spelled. soak_memory number air report c.out_of_memory.result is;
+      audit = λ path spelled. audit_memory path opener input report c.out_of_memory.result is refl;
       air_kept = λ spelled. refl;
       opener_kept = λ spelled. refl;
       input_kept = λ spelled. refl;
@@ -170,7 +204,8 @@ returns-in-Err-Usage g c =
       live = λ paths plan spelled. absurd (some_none command (Live paths plan.cycles plan.join plan.views) spelled none);
       live_again = λ paths plan spelled. absurd (some_none command (Live paths plan.cycles plan.join plan.views) spelled none);
       soak = λ number spelled. absurd (some_none command (Soak number) spelled none);
-      air_kept = λ spelled. absurd (some_none command Listen spelled none);
+      audit = λ path spelled. absurd (some_none command (Audit path) spelled none);
+      air_kept = λ spelled. absurd (none_sends command none spelled);
       opener_kept = λ spelled. refl;
       input_kept = λ spelled. refl;
       end = λ e. cc;

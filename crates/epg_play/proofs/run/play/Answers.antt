@@ -16,7 +16,7 @@ returns-in-Err-clause-played g c = λ text tells.
     let old = c.args.lines.now in
     let unread = c.requires.unread in
     let air = told g.A.Sink.written g.A.Sink.faults c.args.air.now c.args.air.now in
-    subst (λ (s : PlayStop). HasPlayed text (g.S.Source.left c.read_mux.new.lines.source) air None (Some s)) (sym c.stop_of.ensures)
+    subst (λ (s : PlayStop). HasPlayed text (g.S.Source.left c.read_mux.new.lines.source) air None (Some s)) (sym c.mux_stop_of.ensures)
     (no_mux_played g.S.Source.left g.S.Source.faults g.S.Source.same old c.read_mux.new.lines old.source text air c.in-Err.stop unread tells refl c.in-Err.ensures.read)
 
 pub returns-clause-played : goal.returns-clause-played

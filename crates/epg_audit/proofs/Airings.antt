@@ -1,0 +1,101 @@
+-- What the commands of a script put on air, and what the first of them do.
+use Rattle.std.proofs.Common.{◌≡◌, ℕ, ◌*◌, ◌/◌, List, [], ◌∷◌, ◌++◌, length, take, drop, refl, sym, ap, ◌∙◌, subst, arith, map, append-nil, append_assoc, length-map}
+use Rattle.std.specs.Prelude.{Option, Some}
+use Rattle.std.specs.List.{AllByRecursion}
+use Rattle.std.proofs.lemmas.List.{take_all}
+use Rattle.si_lists.proofs.Lists.{all_behind, all_map}
+use Rattle.si_causes.specs.Text.{text_lines}
+use Rattle.input_lines.specs.Ahead.{tail_of}
+use Rattle.version_book.specs.Airings.{AiredTables}
+use Rattle.section_codec.specs.declared.table.SubTable.{SubTable}
+use Rattle.ts_packets.specs.Bytes.{bytes_of_packet}
+use Rattle.ts_packets.specs.WholePackets.{whole_packets}
+use Rattle.air_model.specs.Air.{Aired, CanBeSent, IsAirOf, air, air_bytes, airings_of}
+use Rattle.air_model.proofs.Repeating.{airs_repeat}
+use Rattle.air_hearing.specs.Counting.{CanBeHeard}
+use Rattle.air_coherence.proofs.Coherent.{front_is_coherent, front_packets}
+use Rattle.air_audit.specs.Audits.{AreAnAir}
+use Rattle.mux_model.specs.declared.mux.Mux.{Mux}
+use Rattle.journal_model.specs.declared.step.Entry.{Entry}
+use Rattle.journal_model.specs.Steps.{Command}
+use Rattle.desk_core.specs.Journal.{entry_after, journal_of}
+use Rattle.desk_core.specs.Desks.{DeskState, fresh}
+use Rattle.desk_core.proofs.JournalFacts.{journal_legal, journal_more}
+use Rattle.journal_air.specs.Air.{airings, airings_by}
+use Rattle.journal_air.proofs.CarryFacts.{airings_heard}
+use Rattle.journal_screen.specs.Shown.{IsAsRead}
+use Rattle.journal_screen.proofs.Shown.{journals_shown}
+use Rattle.headend_jobs.proofs.SwapFacts.{airings-push}
+use Rattle.epg_play.specs.Played.{desk_after}
+use Rattle.epg_play.specs.Script.{Script, Stop, script_in}
+use Rattle.epg_play.specs.Leaves.{whole_journal}
+use Rattle.epg_play.proofs.RunFacts.{IsPlayed, IsPlayedTo}
+use Rattle.epg_play.proofs.SentFacts.{script_as_read}
+use Rattle.epg_audit.specs.Audits.{desk_airings}
+use Rattle.epg_audit.specs.Finds.{IsHeardAs}
+use Rattle.epg_audit.specs.Recorded.{airings_for, script_airings}
+
+-- ---- the first commands
+
+front_airings : (mux : Mux) (done others : List Command) → (more : List AiredTables) × (airings mux (journal_of mux (done ++ others)) ≡ airings mux (journal_of mux done) ++ more)
+front_airings mux done [] = ([], ap (λ (l : List Command). airings mux (journal_of mux l)) (append-nil done) ∙ sym (append-nil (airings mux (journal_of mux done))))
+front_airings mux done (c ∷ others) =
+    let rest = front_airings mux (done ++ c ∷ []) others in
+    let before = journal_of mux done in
+    let e = entry_after mux before c in
+    let tail = airings_by mux (before ++ e ∷ []) (e ∷ []) in
+    let one : airings mux (journal_of mux (done ++ c ∷ [])) ≡ airings mux before ++ tail = ap (airings mux) (journal_more mux [] done (c ∷ [])) ∙ airings-push mux before e (journal_legal mux [] done) in
+    (tail ++ rest.0, ap (λ (l : List Command). airings mux (journal_of mux l)) (sym (append_assoc done (c ∷ []) others)) ∙ rest.1
+        ∙ ap (λ (l : List AiredTables). l ++ rest.0) one ∙ append_assoc (airings mux before) tail rest.0)
+
+-- what is on air where all commands of a script were done
+pub desk_is_script : (script : Script) (stop : Stop) (mux : Mux) (desk : DeskState) → IsPlayed script stop mux desk → desk_airings desk ≡ script_airings script
+desk_is_script script stop mux desk p =
+    ap desk_airings p.did ∙ ap (λ (o : Option Mux). airings_for o (whole_journal (record { mux = o; commands = script.commands; stop = script.stop }))) (sym p.described)
+
+-- and where the first were
+pub desk_begins_script : (script : Script) (mux : Mux) (desk : DeskState) → IsPlayedTo script mux desk → (more : List AiredTables) × (script_airings script ≡ desk_airings desk ++ more)
+desk_begins_script script mux desk p =
+    let front = front_airings mux p.done p.others in
+    (front.0, ap (λ (o : Option Mux). airings_for o (whole_journal (record { mux = o; commands = script.commands; stop = script.stop }))) p.described
+        ∙ ap (λ (l : List Command). airings mux (journal_of mux l)) p.commands_are ∙ front.1 ∙ ap (λ (d : DeskState). desk_airings d ++ front.0) (sym p.did))
+
+-- ---- what a script puts on air can be sent
+
+script_read : (text : List ℕ) (mux : Mux) → (script_in text).mux ≡ Some mux → IsAsRead mux (journal_of mux (script_in text).commands)
+script_read text mux e = (let lines = text_lines text in script_as_read lines.0 (tail_of (1 + length lines.0) lines.1) mux e)
+
+heard_sent : (airings : List AiredTables) → AllByRecursion CanBeHeard airings → CanBeSent airings
+heard_sent airings can = all_map CanBeHeard _ (λ a h. h.fit) airings can
+
+pub script_sent : (text : List ℕ) (mux : Mux) → (script_in text).mux ≡ Some mux → CanBeSent (airings mux (journal_of mux (script_in text).commands))
+script_sent text mux e =
+    let read = script_read text mux e in
+    let journal = journal_of mux (script_in text).commands in
+    heard_sent (airings mux journal) (airings_heard mux journal read.sound read.edits (journal_legal mux [] (script_in text).commands))
+
+-- ---- how an air of it is heard
+
+all_packets : (aired : List AiredTables) (cycles : List Aired) → IsAirOf aired cycles → whole_packets (take (188 * length (air cycles)) (air_bytes cycles)) ≡ map bytes_of_packet (air cycles)
+all_packets aired cycles is =
+    let n = 188 * length (air cycles) in
+    let count : n / 188 ≡ length (air cycles) = omega arith in
+    front_packets aired cycles (airs_repeat aired cycles is) n ∙ take_all (n / 188) (map bytes_of_packet (air cycles)) (omega (arith, count, length-map (air cycles) bytes_of_packet))
+
+pub script_heard : (text : List ℕ) (mux : Mux) (packets : List (List ℕ)) → (script_in text).mux ≡ Some mux → AreAnAir (airings mux (journal_of mux (script_in text).commands)) packets
+    → IsHeardAs mux (journal_of mux (script_in text).commands) packets
+script_heard text mux packets e is =
+    let journal = journal_of mux (script_in text).commands in
+    let aired = airings mux journal in
+    let read = script_read text mux e in
+    let legal = journal_legal mux [] (script_in text).commands in
+    let n = 188 * length (air is.xs) in
+    let all = all_packets aired is.xs is.is_air ∙ is.packets_are in
+    let own = subst (λ (l : List AiredTables). IsAirOf l is.xs) (sym is.is_air.airings_are) is.is_air in
+    record {
+      cycles = is.xs;
+      is_air = is.is_air;
+      packets_are = is.packets_are;
+      coherent = subst _ all (front_is_coherent aired is.xs (airs_repeat aired is.xs is.is_air) (airings_heard mux journal read.sound read.edits legal) n);
+      exact = subst _ all (journals_shown mux journal read legal is.xs [] (sym is.is_air.airings_are ∙ sym (append-nil (airings_of is.xs))) (airs_repeat (airings_of is.xs) is.xs own) n);
+    }

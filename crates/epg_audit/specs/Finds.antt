@@ -1,0 +1,116 @@
+-- What an audit finds of the text of its input and of the file of its recording.
+use Rattle.std.specs.Prelude.{◌≡◌, ◌⊎◌, ℕ, List, ◌++◌, map, Option, Some, IfSome, IsSome, Ok, Err, Result}
+use Rattle.si_causes.specs.Causes.{Rose}
+use Rattle.si_causes.specs.Opening.{Files, Tries, file_at}
+use Rattle.mux_model.specs.declared.mux.Mux.{Mux}
+use Rattle.journal_model.specs.declared.step.Entry.{Entry}
+use Rattle.ts_packets.specs.Bytes.{bytes_of_packet}
+use Rattle.ts_packets.specs.WholePackets.{whole_packets}
+use Rattle.air_model.specs.Air.{Aired, IsAirOf, air}
+use Rattle.air_coherence.specs.Coherence.{IsCoherent}
+use Rattle.journal_air.specs.Air.{airings}
+use Rattle.journal_screen.specs.Shown.{IsExact}
+use Rattle.epg_report.specs.declared.status.Status.{Status}
+use Rattle.epg_report.specs.declared.status.Status.TheVariants.{BadMux, BadScript, BadStream, Disagrees, Memory, NotAir, OpenFault, ReadFault, Short, TooLong as PastLimit}
+use Rattle.epg_report.specs.declared.status.Origin.TheVariants.{Input, Recording}
+use Rattle.epg_report.specs.Told.{OpenerAsked}
+use Rattle.epg_play.specs.Script.{Script, Stop, Ended, NoMux, NoCommand, Disagreed, TooLong, Unread, script_in, script_taken}
+use Rattle.epg_play.specs.Leaves.{whole_journal}
+use Rattle.epg_audit.specs.declared.cycles.AirCount.{AirCount}
+use Rattle.epg_audit.specs.Audits.{IsCounted}
+use Rattle.epg_audit.specs.Recorded.{BeginsWithAir, IsFaulty, IsRecordedAir, script_airings}
+
+-- of the bytes of the file at a path
+pub record AtPath (path : List ℕ) (files : Files) (Is : List ℕ → Type 0) : Type 0 where
+  pub bytes : List ℕ
+  pub file : file_at path files ≡ Some bytes
+  pub is : Is bytes
+
+-- These packets are an air of a journal, whoever made it: whatever is completed of a part of it is the content of one airing, and once a
+-- cycle was heard whole, the guide is that of its publication, as long as that stays on air.
+pub record IsHeardAs (mux : Mux) (journal : List Entry) (packets : List (List ℕ)) : Type 0 where
+  pub cycles : List Aired
+  pub is_air : IsAirOf (airings mux journal) cycles
+  pub packets_are : map bytes_of_packet (air cycles) ≡ packets
+  pub coherent : IsCoherent cycles packets
+  pub exact : IsExact mux journal cycles packets
+
+-- The script is whole, and the recording is an air of its journal, of so many packets and swaps.
+pub record IsAccepted (path : List ℕ) (files : Files) (script : Script) (count : AirCount) : Type 0 where
+  pub ended : script.stop ≡ Ended
+  pub mux : Mux
+  pub described : script.mux ≡ Some mux
+  pub bytes : List ℕ
+  pub file : file_at path files ≡ Some bytes
+  pub air : IsRecordedAir (airings mux (whole_journal script)) bytes
+  pub heard : IsHeardAs mux (whole_journal script) (whole_packets bytes)
+  pub counts : IsCounted bytes (airings mux (whole_journal script)) count
+
+-- The script stops so; and where a multiplex is described, the recording begins with an air of what its commands put on air.
+pub record StopsBehind (path : List ℕ) (files : Files) (script : Script) (stop : Stop) : Type 0 where
+  pub stopped : script.stop ≡ stop
+  pub begins : IfSome script.mux (λ mux. AtPath path files (BeginsWithAir (script_airings script)))
+
+-- A read of the input failed: the script of the lines that were whole in the bytes taken.
+pub record StopsUnread (path : List ℕ) (files : Files) (text : List ℕ) (left : Option (List ℕ)) : Type 0 where
+  pub taken : List ℕ
+  pub behind : List ℕ
+  pub text_is : text ≡ taken ++ behind
+  pub left_is : left ≡ Some behind
+  pub stops : StopsBehind path files (script_taken taken) Unread
+
+-- What is at fault, by the status: the script, or the recording, or a file that was not opened or read.
+abbrev pub IsFound : List ℕ → Files → List ℕ → Option (List ℕ) → Status → Type 0
+IsFound path files text left (BadMux fault) = StopsBehind path files (script_in text) (NoMux fault)
+IsFound path files text left (BadScript n) = StopsBehind path files (script_in text) (NoCommand n)
+IsFound path files text left (Disagrees n kept found) = StopsBehind path files (script_in text) (Disagreed n kept found)
+IsFound path files text left (PastLimit Input) = StopsBehind path files (script_in text) TooLong
+IsFound path files text left (ReadFault Input) = StopsUnread path files text left
+IsFound path files text left (OpenFault n) = (n ≡ 0) × IsSome (script_in text).mux
+IsFound path files text left (ReadFault Recording) = IsSome (script_in text).mux
+IsFound path files text left (PastLimit Recording) = AtPath path files (λ bytes. IsFaulty (script_airings (script_in text)) bytes (PastLimit Recording))
+IsFound path files text left (BadStream n) = AtPath path files (λ bytes. IsFaulty (script_airings (script_in text)) bytes (BadStream n))
+IsFound path files text left (NotAir n rule) = AtPath path files (λ bytes. IsFaulty (script_airings (script_in text)) bytes (NotAir n rule))
+IsFound path files text left (Short n) = AtPath path files (λ bytes. IsFaulty (script_airings (script_in text)) bytes (Short n))
+IsFound path files text left Memory = Unit {0}
+IsFound path files text left status = ⊥
+
+abbrev pub FindsIn : List ℕ → Files → List ℕ → Option (List ℕ) → Result AirCount Status → Type 0
+FindsIn path files text left (Ok count) = IsAccepted path files (script_in text) count
+FindsIn path files text left (Err status) = IsFound path files text left status
+
+-- where the source and the opener tell what they have
+abbrev pub Finds : {S : Type 0} → List ℕ → OpenerAsked → (S → Option (List ℕ)) → S → S → Result AirCount Status → Type 0
+Finds path opener left old new result =
+    (text : List ℕ) → left old ≡ Some text → (files : Files) → opener.files ≡ Some files → FindsIn path files text (left new) result
+
+-- The opener was asked for the path behind the description of the multiplex alone.
+abbrev pub HasAskedFor : List ℕ → Option (List (List ℕ)) → Option (List (List ℕ)) → Status → Type 0
+HasAskedFor path old new (BadMux fault) = new ≡ old
+HasAskedFor path old new (PastLimit Input) = (new ≡ old) ⊎ Tries old new path
+HasAskedFor path old new (ReadFault Input) = (new ≡ old) ⊎ Tries old new path
+HasAskedFor path old new Memory = (new ≡ old) ⊎ Tries old new path
+HasAskedFor path old new status = Tries old new path
+
+-- a fault of the outside has its cause
+abbrev pub HasMetCause : ℕ → ℕ → OpenerAsked → Status → Type 0
+HasMetCause input_before input_now opener (ReadFault Input) = Rose input_before input_now
+HasMetCause input_before input_now opener (ReadFault Recording) = Rose opener.read_old opener.read_new
+HasMetCause input_before input_now opener (OpenFault n) = Rose opener.faults_old opener.faults_new
+HasMetCause input_before input_now opener status = Unit {0}
+
+-- the statuses that an audit may have met before it reports
+abbrev pub IsMetByAudit : Status → Type 0
+IsMetByAudit (BadMux fault) = Unit {0}
+IsMetByAudit (BadScript n) = Unit {0}
+IsMetByAudit (Disagrees n kept found) = Unit {0}
+IsMetByAudit (PastLimit Input) = Unit {0}
+IsMetByAudit (PastLimit Recording) = Unit {0}
+IsMetByAudit (ReadFault Input) = Unit {0}
+IsMetByAudit (ReadFault Recording) = Unit {0}
+IsMetByAudit (OpenFault n) = Unit {0}
+IsMetByAudit (BadStream n) = Unit {0}
+IsMetByAudit (NotAir n rule) = Unit {0}
+IsMetByAudit (Short n) = Unit {0}
+IsMetByAudit Memory = Unit {0}
+IsMetByAudit status = ⊥

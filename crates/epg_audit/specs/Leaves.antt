@@ -1,0 +1,71 @@
+-- What a run of `audit` leaves, for each status, and all that it promises.
+use Rattle.std.specs.Prelude.{◌≡◌, ◌⊎◌, ℕ, List, Option, Some}
+use Rattle.std.specs.Io.KnownBytes.{Appends, IsAtEnd}
+use Rattle.si_causes.specs.Causes.{Rose, AppendsFront}
+use Rattle.si_causes.specs.Opening.{Files}
+use Rattle.version_book.specs.Airings.{AiredTables}
+use Rattle.epg_report.specs.declared.status.Status.{Status}
+use Rattle.epg_report.specs.declared.status.Status.TheVariants.{Done, Memory, OpenFault, ReadFault, WriteFault}
+use Rattle.epg_report.specs.declared.status.Origin.TheVariants.{Input, Recording}
+use Rattle.epg_report.specs.declared.status.Outlet.TheVariants.{Report}
+use Rattle.epg_report.specs.Texts.{fault_lines}
+use Rattle.epg_report.specs.Told.{OpenerAsked, ReportTaken, Reported, SourceGave, asked, gave, told}
+use Rattle.epg_play.specs.Script.{Ended, script_in}
+use Rattle.epg_audit.specs.declared.cycles.AirCount.{AirCount}
+use Rattle.epg_audit.specs.Ends.{air_line}
+use Rattle.epg_audit.specs.Finds.{AtPath, HasAskedFor, HasMetCause, IsAccepted, IsFound, IsMetByAudit}
+use Rattle.epg_audit.specs.Recorded.{IsFaulty, IsRecordedAir, script_airings}
+
+-- What a run of `audit` leaves with each status. With Done the report is the one line of the air, and with a fault its line alone.
+abbrev pub LeavesAudit : List ℕ → Files → List ℕ → Option (List ℕ) → ReportTaken → Status → Type 0
+LeavesAudit path files text left report Done = (count : AirCount) × IsAccepted path files (script_in text) count × Appends report.old report.new (air_line count)
+LeavesAudit path files text left report (WriteFault Report) =
+    (count : AirCount) × IsAccepted path files (script_in text) count × AppendsFront report.old report.new (air_line count)
+LeavesAudit path files text left report Memory = Unit {0}
+LeavesAudit path files text left report status = IsFound path files text left status × Reported report (fault_lines status)
+
+-- the statuses of `audit`
+abbrev pub IsOfAudit : Status → Type 0
+IsOfAudit Done = Unit {0}
+IsOfAudit (WriteFault Report) = Unit {0}
+IsOfAudit status = IsMetByAudit status
+
+-- Of a whole script, the recording decides the status: Done where it is an air, and else what is at fault.
+abbrev pub DecidedBy : List AiredTables → Status → List ℕ → Type 0
+DecidedBy airings Done bytes = IsRecordedAir airings bytes
+DecidedBy airings status bytes = IsFaulty airings bytes status
+
+-- nothing failed: neither the input, nor opening or reading the file, nor the report
+pub record IsUnhindered (opener : OpenerAsked) (input : SourceGave) (report : ReportTaken) : Type 0 where
+  pub no_input : ¬ (Rose input.faults_old input.faults_new)
+  pub no_opening : ¬ (Rose opener.faults_old opener.faults_new)
+  pub no_reading : ¬ (Rose opener.read_old opener.read_new)
+  pub no_report : ¬ (Rose report.faults_old report.faults_new)
+
+-- A run of `audit` over the file of this path: what its opener was asked, what its input gave, what its report took, and its status.
+pub record AuditRun (path : List ℕ) (opener : OpenerAsked) (input : SourceGave) (report : ReportTaken) (status : Status) : Type 0 where
+  -- what is left with each status: what was found of the script and of the recording, and the report
+  pub leaves : (text : List ℕ) → input.old ≡ Some text → (files : Files) → opener.files ≡ Some files → LeavesAudit path files text input.new report status
+  -- where nothing fails and the script is whole, the recording decides the status, but for want of memory
+  pub decides : (text : List ℕ) → input.old ≡ Some text → (files : Files) → opener.files ≡ Some files → (script_in text).stop ≡ Ended → IsUnhindered opener input report
+      → (status ≡ Memory) ⊎ AtPath path files (DecidedBy (script_airings (script_in text)) status)
+  -- and so a recording that is an air of the journal of that script is accepted
+  pub accepts : (text : List ℕ) → input.old ≡ Some text → (files : Files) → opener.files ≡ Some files → (script_in text).stop ≡ Ended → IsUnhindered opener input report
+      → AtPath path files (IsRecordedAir (script_airings (script_in text))) → (status ≡ Done) ⊎ (status ≡ Memory)
+  -- no other status comes
+  pub known : IsOfAudit status
+  -- the opener was asked for the path
+  pub asked_for : HasAskedFor path opener.tried_old opener.tried_new status
+  -- with Done the input was read to its end
+  pub end : status ≡ Done → IsAtEnd input.new
+  -- each fault of the outside has its cause
+  pub cause : HasMetCause input.faults_old input.faults_new opener status
+  pub report_cause : status ≡ WriteFault Report → Rose report.faults_old report.faults_new
+
+-- So a call ran with this opener, this input and this report: of each what tells what it has and its faults, and how it was before and
+-- behind.
+abbrev pub AuditRan : {O S R : Type 0} → List ℕ → (O → Option Files) → (O → Option (List (List ℕ))) → (O → ℕ) → (O → ℕ) → O → O
+    → (S → Option (List ℕ)) → (S → ℕ) → S → S → (R → Option (List ℕ)) → (R → ℕ) → R → R → Status → Type 0
+AuditRan path files tried open_faults file_faults opener opener_then left read_faults input input_then taken report_faults report report_then status =
+    AuditRun path (asked files tried open_faults file_faults opener opener_then) (gave left read_faults input input_then)
+    (told taken report_faults report report_then) status

@@ -1,0 +1,125 @@
+// The commands of a script, done one after the other, and the cycles that they put on air, held against a recording.
+ghost use Rattle.std.specs.Prelude.{◌≡◌, ◌≤◌, ◌++◌, ◌∷◌, [], List, ℕ, None, Some, IfErr, OnOk, is_some, length};
+ghost use Rattle.std.specs.Io.KnownBytes.{IsAtEnd as IsReadToEnd};
+ghost use Rattle.desk_core.specs.Journal.{Legal};
+ghost use Rattle.desk_core.specs.Publications.{aired_by, swaps};
+ghost use Rattle.packet_reader.specs.Reading.{PacketReading, bytes_left};
+ghost use Rattle.ts_packets.specs.WholePackets.{whole_packets};
+ghost use Rattle.version_book.specs.Airings.{AiredTables};
+ghost use Rattle.air_audit.specs.Checking.{IsAtEnd, StandsFor, form_of};
+ghost use Rattle.headend_jobs.specs.OnAir.{airing_on};
+ghost use Rattle.epg_report.specs.Texts.{CanBeSaid};
+ghost use Rattle.epg_audit.specs.Audits.{AuditDid, HasAuditCause};
+ghost use Rattle.epg_audit.specs.Checks.{Checks, Follows, HasReadCause};
+
+use crate::recording::{check_cycle, check_end};
+use air_audit::Checker;
+use desk_core::Desk;
+use epg_play::{ItemDone, do_item, status_of};
+use epg_report::Status;
+use journal_model::{Entry, Outcome};
+use packet_reader::PacketReader;
+use publication::build;
+use si_causes::{LineReader, Source};
+use std::alloc::{AllocError, Global};
+
+/// How many packets an air has, and how many swaps put it on air.
+#[derive(Clone, Copy)]
+pub(crate) struct AirCount {
+    pub(crate) packets: u64,
+    pub(crate) swaps: u64,
+}
+
+// Has the checker begin the cycle of what is on air at the desk.
+fn begin_cycle(alloc: Global, desk: &Desk, checker: &mut Checker) -> Result<(), AllocError>
+    requires at_end { IsAtEnd checker.old }
+    ensures begun { (airings : List AiredTables) (accepted : List (List ℕ)) → StandsFor airings accepted checker.old
+        → OnOk result (StandsFor (airings ++ airing_on desk.now (form_of checker.old) ∷ []) accepted checker.new) }
+    ensures quota { checker.new.quota ≡ checker.old.quota }
+{
+    let airing = desk.on_air()?;
+    let tables = build(alloc, desk.mux(), &airing.guide)?;
+    checker.swap(tables, airing.moment)
+}
+
+// Checks the cycle of what is on air at the desk.
+fn check_on_air<F: Source>(
+    alloc: Global,
+    desk: &Desk,
+    packets: &mut PacketReader<F>,
+    checker: &mut Checker,
+) -> Result<(), Status>
+    requires going { packets.old.stop ≡ None }
+    requires at_end { IsAtEnd checker.old }
+    ensures checks { (start : PacketReading F) (past : List AiredTables) → Follows F.left start packets.old past checker.old
+        → Checks F.left start packets.new (past ++ airing_on desk.now (form_of checker.old) ∷ []) checker.new result }
+    ensures at_end { OnOk result (IsAtEnd checker.new) }
+    ensures going { OnOk result (packets.new.stop ≡ None) }
+    ensures quota { checker.new.quota ≡ checker.old.quota }
+    ensures cause { HasReadCause (F.faults packets.old.source) (F.faults packets.new.source) result }
+    ensures later { F.faults packets.old.source ≤ F.faults packets.new.source }
+{
+    let Ok(()) = begin_cycle(alloc, desk, checker) else {
+        return Err(Status::Memory);
+    };
+    check_cycle(packets, checker)
+}
+
+/// Does the commands that are left, up to the first line that is none, or that keeps another outcome than the desk's; behind each swap
+/// the packets of its cycle are read and checked before the next line is read, and behind the last command none is to come.
+pub(crate) fn audit_rest<S: Source, F: Source>(
+    alloc: Global,
+    lines: &mut LineReader<S>,
+    desk: &mut Desk,
+    packets: &mut PacketReader<F>,
+    checker: &mut Checker,
+) -> Result<(), Status>
+    requires going { lines.old.stop ≡ None }
+    requires unread { packets.old.stop ≡ None }
+    requires first { packets.old.number ≡ 0 }
+    requires stands { StandsFor [] [] checker.old }
+    requires at_end { IsAtEnd checker.old }
+    requires quota { checker.old.quota ≡ desk.old.mux.quota }
+    requires none { desk.old.entries ≡ [] }
+    ensures did { AuditDid S.left F.left lines.old lines.new packets.old desk.old desk.new result }
+    ensures number { (bytes : List ℕ) → bytes_left F.left packets.old ≡ Some bytes
+        → OnOk result (packets.new.number ≡ length (whole_packets bytes)) }
+    ensures said { IfErr result CanBeSaid }
+    ensures end { OnOk result (IsReadToEnd (S.left lines.new.source)) }
+    ensures cause { HasAuditCause (S.faults lines.old.source) (S.faults lines.new.source)
+        (F.faults packets.old.source) (F.faults packets.new.source) result }
+    ensures same { S.same lines.old.source lines.new.source }
+{
+    let mut made = None;
+    'items: loop {
+        match do_item(alloc, lines, desk, &mut made) {
+            Ok(ItemDone::Swap) => {
+                if let Err(status) = check_on_air(alloc, desk, packets, checker) {
+                    return Err(status);
+                }
+            }
+            Ok(ItemDone::Other) => {}
+            Ok(ItemDone::End) => return check_end(packets),
+            Err(stop) => return Err(status_of(stop)),
+        }
+    }
+}
+
+fn is_swapped(entry: &Entry) -> bool
+    ensures { result ≡ is_some (aired_by entry.now.outcome) }
+{
+    matches!(entry.outcome, Outcome::Swapped(..))
+}
+
+/// How many swaps these entries have.
+pub(crate) fn swap_count(entries: &[Entry]) -> u64
+    ensures { result ≡ length (swaps entries.now) }
+{
+    let mut count = 0;
+    for entry in entries {
+        if is_swapped(entry) {
+            count += 1;
+        }
+    }
+    count
+}
