@@ -195,14 +195,20 @@ fn packet_of(packets: &[TsPacket], part: &str) -> Option<[u8; 188]> {
 fn check_bits(row: &mut Row, checker: &mut Checker, packet: &[u8; 188]) {
     let mut counts = [0; 6];
     for place in 0..188 {
-        for bit in 0..8 {
-            let mut other = *packet;
-            other[place] ^= 1 << bit;
-            count(&mut counts, checker.check(&other));
-        }
+        count_bits(&mut counts, checker, packet, place);
     }
     row.begin_part();
     put_counts(row, &counts);
+}
+
+fn count_bits(counts: &mut [u64; 6], checker: &mut Checker, packet: &[u8; 188], place: usize)
+    requires { place < 188 }
+{
+    for bit in [1, 2, 4, 8, 16, 32, 64, 128] {
+        let mut other = *packet;
+        other[place] ^= bit;
+        count(counts, checker.check(&other));
+    }
 }
 
 fn count(counts: &mut [u64; 6], rule: Option<Rule>) {
