@@ -9,7 +9,7 @@ ghost use Rattle.air_audit.specs.Fronts.{to_come_on};
 ghost use Rattle.air_audit.specs.Audits.{AreAnAir, BeginAnAir};
 ghost use Rattle.air_audit.specs.Checking.{StandsFor, IsAtEnd, form_of, rule_broken};
 
-use crate::header::{counter_of, has_shape, is_start, pid_of};
+use crate::header::{has_counter, has_shape, is_start, pid_of};
 use crate::progress::Progress;
 use crate::rule::Rule;
 use section_codec::Tables;
@@ -106,7 +106,7 @@ impl Checker {
         if self.progress.is_nothing_on(pid) {
             return Some(Rule::Pid);
         }
-        if counter_of(packet) != self.counters.next(pid) {
+        if !has_counter(packet, self.counters.next(pid)) {
             return Some(Rule::Counter);
         }
         let (_, payload) = packet.split_at(4);

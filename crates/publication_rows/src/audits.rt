@@ -183,34 +183,46 @@ fn packet_of(packets: &[TsPacket], part: &str) -> Option<[u8; 188]> {
     if let Some((place, byte)) = change.split_once(':') {
         let place = place.parse::<usize>().ok()?;
         let byte = u8::from_str_radix(byte, 16).ok()?;
-        *packet.get_mut(place)? = byte;
+        if place >= 188 {
+            return None;
+        }
+        packet[place] = byte;
     }
     Some(packet)
 }
 
 // How many of the packets that differ from this one in a bit are accepted, and how many break each rule.
 fn check_bits(row: &mut Row, checker: &mut Checker, packet: &[u8; 188]) {
-    let mut counts = [0u64; 6];
+    let mut counts = [0; 6];
     for place in 0..188 {
-        for bit in 0..8 {
-            let mut other = *packet;
-            other[place] ^= 1 << bit;
-            let index = rule_index(checker.check(&other));
-            counts[index] = counts[index].saturating_add(1);
-        }
+        count_bits(&mut counts, checker, packet, place);
     }
     row.begin_part();
-    let names = [
-        " ok ",
-        " shape ",
-        " pid ",
-        " counter ",
-        " pointer ",
-        " bytes ",
-    ];
-    for (name, count) in names.iter().zip(&counts) {
-        row.put_number(name, *count);
+    put_counts(row, &counts);
+}
+
+fn count_bits(counts: &mut [u64; 6], checker: &mut Checker, packet: &[u8; 188], place: usize)
+    requires { place < 188 }
+{
+    for bit in [1, 2, 4, 8, 16, 32, 64, 128] {
+        let mut other = *packet;
+        other[place] ^= bit;
+        count(counts, checker.check(&other));
     }
+}
+
+fn count(counts: &mut [u64; 6], rule: Option<Rule>) {
+    let index = rule_index(rule);
+    counts[index] = counts[index].saturating_add(1);
+}
+
+fn put_counts(row: &mut Row, counts: &[u64; 6]) {
+    row.put_number(" ok ", counts[0]);
+    row.put_number(" shape ", counts[1]);
+    row.put_number(" pid ", counts[2]);
+    row.put_number(" counter ", counts[3]);
+    row.put_number(" pointer ", counts[4]);
+    row.put_number(" bytes ", counts[5]);
 }
 
 fn rule_index(rule: Option<Rule>) -> usize
