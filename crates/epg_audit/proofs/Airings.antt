@@ -44,9 +44,11 @@ front_airings mux done (c ∷ others) =
     let before = journal_of mux done in
     let e = entry_after mux before c in
     let tail = airings_by mux (before ++ e ∷ []) (e ∷ []) in
-    let one : airings mux (journal_of mux (done ++ c ∷ [])) ≡ airings mux before ++ tail = ap (airings mux) (journal_more mux [] done (c ∷ [])) ∙ airings-push mux before e (journal_legal mux [] done) in
-    (tail ++ rest.0, ap (λ (l : List Command). airings mux (journal_of mux l)) (sym (append_assoc done (c ∷ []) others)) ∙ rest.1
-        ∙ ap (λ (l : List AiredTables). l ++ rest.0) one ∙ append_assoc (airings mux before) tail rest.0)
+    let one : airings mux (journal_of mux (done ++ c ∷ [])) ≡ airings mux before ++ tail = ap (airings mux) (journal_more mux [] done (c ∷ [])) ∙ airings-push mux before e (journal_legal mux [] done) in (
+      tail ++ rest.0,
+      ap (λ (l : List Command). airings mux (journal_of mux l)) (sym (append_assoc done (c ∷ []) others)) ∙ rest.1
+          ∙ ap (λ (l : List AiredTables). l ++ rest.0) one ∙ append_assoc (airings mux before) tail rest.0,
+    )
 
 -- what is on air where all commands of a script were done
 pub desk_is_script : (script : Script) (stop : Stop) (mux : Mux) (desk : DeskState) → IsPlayed script stop mux desk → desk_airings desk ≡ script_airings script
@@ -56,9 +58,11 @@ desk_is_script script stop mux desk p =
 -- and where the first were
 pub desk_begins_script : (script : Script) (mux : Mux) (desk : DeskState) → IsPlayedTo script mux desk → (more : List AiredTables) × (script_airings script ≡ desk_airings desk ++ more)
 desk_begins_script script mux desk p =
-    let front = front_airings mux p.done p.others in
-    (front.0, ap (λ (o : Option Mux). airings_for o (whole_journal (record { mux = o; commands = script.commands; stop = script.stop }))) p.described
-        ∙ ap (λ (l : List Command). airings mux (journal_of mux l)) p.commands_are ∙ front.1 ∙ ap (λ (d : DeskState). desk_airings d ++ front.0) (sym p.did))
+    let front = front_airings mux p.done p.others in (
+      front.0,
+      ap (λ (o : Option Mux). airings_for o (whole_journal (record { mux = o; commands = script.commands; stop = script.stop }))) p.described
+          ∙ ap (λ (l : List Command). airings mux (journal_of mux l)) p.commands_are ∙ front.1 ∙ ap (λ (d : DeskState). desk_airings d ++ front.0) (sym p.did),
+    )
 
 -- ---- what a script puts on air can be sent
 

@@ -188,8 +188,8 @@ audit_run path opener input report audited status is finds end cause asked finis
     let causes = caused input.faults_old input.faults_new opener report audited status is cause finished in
     let rose = report_caused report audited status is finished in
     let decide = λ (text : List ℕ) (tells : input.old ≡ Some text) (files : Files) (has : opener.files ≡ Some files) (ended : (script_in text).stop ≡ Ended) (none : IsUnhindered opener input report).
-        decided path files text input.new report status (leaves text tells files has) ended (λ e. none.no_input (subst (HasMetCause input.faults_old input.faults_new opener) e causes))
-        (λ e. none.no_reading (subst (HasMetCause input.faults_old input.faults_new opener) e causes)) (λ n e. none.no_opening (subst (HasMetCause input.faults_old input.faults_new opener) e causes)) (λ e. none.no_report (rose e)) in
+    decided path files text input.new report status (leaves text tells files has) ended (λ e. none.no_input (subst (HasMetCause input.faults_old input.faults_new opener) e causes))
+    (λ e. none.no_reading (subst (HasMetCause input.faults_old input.faults_new opener) e causes)) (λ n e. none.no_opening (subst (HasMetCause input.faults_old input.faults_new opener) e causes)) (λ e. none.no_report (rose e)) in
     record {
       leaves = leaves;
       decides = decide;

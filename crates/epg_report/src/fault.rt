@@ -115,7 +115,12 @@ fn rule_word(rule: Rule) -> &'static str
 }
 
 // Appends `packet N`, and what stands behind it.
-fn put_packet(alloc: Global, out: &mut Vec<u8>, packet: u64, befell: &[u8]) -> Result<(), AllocError>
+fn put_packet(
+    alloc: Global,
+    out: &mut Vec<u8>,
+    packet: u64,
+    befell: &[u8],
+) -> Result<(), AllocError>
     ensures { OnOk result (out.new.items ≡ out.old.items ++ (codes "packet " ++ decimal packet ++ befell.now)) }
 {
     out.extend_from_slice(b"packet ")?;

@@ -42,8 +42,8 @@ returns-then-not-begins_with_packet-clause-broken g c =
     let left = g.S.Source.left in
     let gathers = subst (λ h. Gathers (left inside.source) (left c.gather.new.source) h c.gather.new.held) c.consume.ensures c.gather.ensures.gathers in
     let kept = λ (bytes : List ℕ). λ (told : bytes_left left c.args.self.now ≡ Some bytes).
-        let was : prepend_known (drop inside.handed inside.held) (left inside.source) ≡ Some bytes = rw (← c.self.view_is) at told in
-        all_left (left inside.source) (left c.gather.new.source) (drop inside.handed inside.held) c.gather.new.held bytes was gathers in
+    let was : prepend_known (drop inside.handed inside.held) (left inside.source) ≡ Some bytes = rw (← c.self.view_is) at told in
+    all_left (left inside.source) (left c.gather.new.source) (drop inside.handed inside.held) c.gather.new.held bytes was gathers in
     rw (c.stopped-then-not-begins_with_packet-2.ensures.result, c.stopped-then-not-begins_with_packet-2.ensures.stop) (λ going. (kept, c.in-Ok.ensures.end))
 
 pub invariant_of-self-2 : goal.invariant_of-self-2
