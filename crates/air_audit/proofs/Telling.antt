@@ -9,7 +9,8 @@ use Rattle.air_audit.specs.declared.rule.Rule.{Rule}
 use Rattle.air_audit.specs.declared.rule.Rule.TheVariants.{Pointer, Bytes}
 use Rattle.air_audit.specs.Fronts.{ToCome, GoesTo, IsApart}
 use Rattle.air_audit.specs.Telling.{is_fill, is_front, begun_in, begins_in, is_pointer, told_start, told_further, told}
-use Rattle.air_audit.proofs.Filling.{fill_is, is_fill-filled, drop-filled, is_front-filled, filled_front, Fit, Fit-Begin, Begin-Fit, rest_behind, rest_is, drop_behind}
+use Rattle.air_audit.proofs.Filling.{fill_is, is_fill-filled, drop-filled, is_front-filled, filled_front, Fit, Fit-Begin, Begin-Fit, rest_behind, rest_is}
+use Rattle.cycle_laying.proofs.Laid.{drop_behind}
 
 abbrev to_come : List ℕ → List (List ℕ) → ToCome
 to_come rest ss = record { rest = rest; waiting = ss }
@@ -52,7 +53,7 @@ start_told rest s g w room apart =
     let fit = Fit-Begin (length rest) n (s ∷ g) refl room in
     let goes = begins_in (drop (length rest) bytes) ((s ∷ g) ++ w) in
     let pointer : is_pointer (length rest) rest ≡ true = and_from (length rest == length rest) (nat_le (length rest) 182) (eq-eqb (length rest) (length rest) refl) (le-leb (length rest) 182 (omega (arith, room.0))) in
-    let behind : rest_behind [] n (s ∷ g) ≡ left_by rest (s ∷ g) = rest_is n [] s g fit ∙ sym (drop_behind rest (joined (s ∷ g)) 183 (omega (arith, room.0))) in
+    let behind : rest_behind [] n (s ∷ g) ≡ left_by rest (s ∷ g) = rest_is n [] s g fit ∙ sym (drop_behind 183 rest (joined (s ∷ g)) (omega (arith, room.0))) in
     ap (λ (x : Bool). if false || not x then Err Pointer else if is_front rest bytes then goes else Err Bytes) pointer
     ∙ ap (λ (x : Bool). if x then goes else Err Bytes) (is_front-filled rest (joined (s ∷ g)) 183)
     ∙ ap (λ (l : List ℕ). begins_in l ((s ∷ g) ++ w)) (drop-filled rest (joined (s ∷ g)) 183)
@@ -176,7 +177,7 @@ start_sound rest (pointer ∷ bytes) (s ∷ w) u size e = go (is_pointer pointer
           is = ap₂ (λ (k : ℕ) (l : List ℕ). let piece : Piece = record { start = true; payload = k ∷ l } in piece) at all;
           has_room = Begin-Fit (length rest) (183 - length rest) (s ∷ h.group) refl fit;
           waiting = ap (λ (l : List (List ℕ)). s ∷ l) h.sections;
-          rest_is = h.rest_is ∙ ap (λ (k : ℕ). rest_behind [] k (s ∷ h.group)) room ∙ rest_is (183 - length rest) [] s h.group fit ∙ sym (drop_behind rest (joined (s ∷ h.group)) 183 (omega arith));
+          rest_is = h.rest_is ∙ ap (λ (k : ℕ). rest_behind [] k (s ∷ h.group)) room ∙ rest_is (183 - length rest) [] s h.group fit ∙ sym (drop_behind 183 rest (joined (s ∷ h.group)) (omega arith));
         }
 
 further_sound : (rest payload : List ℕ) (w : List (List ℕ)) (u : ToCome) → length payload ≡ 184 → told_further (to_come rest w) payload ≡ Ok u → GoesTo (to_come rest w) (record { start = false; payload = payload }) u

@@ -1,9 +1,9 @@
 -- What an auditor stands for, and the rule that a packet breaks (ISO/IEC 13818-1, 2.4.3.2 and 2.4.4.2).
-use Rattle.std.specs.Prelude.{◌≡◌, ℕ, List, Option, Bool, not, ◌&&◌, ◌||◌, ◌==◌, if◌then◌else◌, slice_index, map}
+use Rattle.std.specs.Prelude.{◌≡◌, ℕ, ◌%◌, List, Option, Bool, not, ◌&&◌, ◌||◌, ◌==◌, if◌then◌else◌, slice_index, map}
 use Rattle.version_book.specs.Airings.{CycleForm, AiredTables}
 use Rattle.version_book.specs.Book.{GivenVersions, BookStandsFor}
-use Rattle.ts_packets.specs.Bytes.{Packet, bytes_of_packet, transport_error_indicator, transport_priority, transport_scrambling_control, adaptation_field_control, payload_unit_start_indicator, continuity_counter}
-use Rattle.ts_packets.specs.Counting.{StandFor}
+use Rattle.ts_packets.specs.Bytes.{Packet, bytes_of_packet, pid_in, transport_error_indicator, transport_priority, transport_scrambling_control, adaptation_field_control, payload_unit_start_indicator, continuity_counter}
+use Rattle.ts_packets.specs.Counting.{StandFor, count_on}
 use Rattle.air_model.specs.Air.{CanBeSent}
 use Rattle.air_audit.specs.declared.rule.Rule.{Rule}
 use Rattle.air_audit.specs.declared.rule.Rule.TheVariants.{Shape, Pid, Counter, Pointer, Bytes}
@@ -62,3 +62,7 @@ rule_broken t next bytes =
     else if not (continuity_counter bytes == next) then Counter
     else if is_misplaced t bytes then Pointer
     else Bytes
+
+-- that of a packet which comes behind the packets accepted
+abbrev pub rule_at : List (List ℕ) → Checking → List ℕ → Rule
+rule_at accepted c bytes = rule_broken (to_come_on c.on_pids (pid_in bytes)) (count_on (pid_in bytes) accepted % 16) bytes

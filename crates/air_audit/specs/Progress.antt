@@ -1,11 +1,12 @@
 -- How far a cycle has come, as it is kept: its sections in their order, each linked to the next one of its PID, and a lane for each PID.
-use Rattle.std.specs.Prelude.{◌≡◌, ℕ, suc, ◌+◌, ◌-◌, ◌<◌, ◌≤◌, List, [], ◌∷◌, Bool, not, ◌&&◌, ◌==◌, if◌then◌else◌, length, get_or, slice_index, count_by, take, drop, map, Option, Some, None, Result, Ok, Err}
+use Rattle.std.specs.Prelude.{◌≡◌, ℕ, suc, ◌+◌, ◌-◌, ◌<◌, ◌≤◌, List, [], ◌∷◌, Bool, not, ◌&&◌, ◌==◌, if◌then◌else◌, length, get_or, slice_index, count_by, take, drop, map, vec_capacity, Option, Some, None, Result, Ok, Err}
 use Rattle.std.specs.List.{All}
 use Rattle.cycle_laying.specs.declared.placed.Placed.{Placed}
 use Rattle.cycle_laying.specs.Laying.{sent_at, IsPlaced}
 use Rattle.air_audit.specs.declared.rule.Rule.{Rule}
 use Rattle.air_audit.specs.declared.rule.Rule.TheVariants.{Bytes}
 use Rattle.air_audit.specs.declared.lanes.Lane.{Lane}
+use Rattle.air_audit.specs.declared.linking.Room.{Room}
 use Rattle.air_audit.specs.Fronts.{ToCome, to_come_on}
 use Rattle.air_audit.specs.Audits.{on_pid}
 
@@ -52,6 +53,13 @@ pub record IsWithin (size : ℕ) (placed : List Placed) (l : Lane) : Type 0 wher
 pub record AreFresh (first : ℕ → ℕ) (lanes : List Lane) : Type 0 where
   pub many : length lanes ≡ 8192
   pub each : (pid : ℕ) (d : Lane) → pid < 8192 → get_or lanes pid d ≡ record { pid = pid; at = 0; end = 0; next = first pid }
+
+-- There is room for a cycle of so many sections as its order names, and idle lanes for all PIDs.
+pub record IsReady (room : Room) : Type 0 where
+  pub empty : room.placed.items ≡ []
+  pub capacity : length room.order.items ≤ vec_capacity room.placed
+  pub links : length room.links.items ≡ length room.order.items
+  pub lanes : AreFresh (λ (pid : ℕ). length room.order.items) room.lanes.items
 
 -- something is to come on a lane of a cycle with so many sections
 abbrev pub is_busy : ℕ → Lane → Bool

@@ -3,11 +3,8 @@ ghost use Rattle.std.specs.Prelude.{◌≡◌, ◌%◌, ◌*◌, ◌<◌, ◌≤
 ghost use Rattle.section_codec.specs.SubTables.{AreFit};
 ghost use Rattle.version_book.specs.Airings.{AiredTables};
 ghost use Rattle.version_book.specs.Book.{aired};
-ghost use Rattle.ts_packets.specs.Bytes.{pid_in};
-ghost use Rattle.ts_packets.specs.Counting.{count_on};
-ghost use Rattle.air_audit.specs.Fronts.{to_come_on};
 ghost use Rattle.air_audit.specs.Audits.{AreAnAir, BeginAnAir};
-ghost use Rattle.air_audit.specs.Checking.{StandsFor, IsAtEnd, form_of, rule_broken};
+ghost use Rattle.air_audit.specs.Checking.{StandsFor, IsAtEnd, form_of, rule_at};
 
 use crate::header::{has_counter, has_shape, is_start, pid_of};
 use crate::progress::Progress;
@@ -95,7 +92,7 @@ impl Checker {
         ensures exactly { (airings : List AiredTables) (accepted : List (List ℕ)) → StandsFor airings accepted self.old
             → IsNone result ↔ BeginAnAir airings (accepted ++ packet.now ∷ []) }
         ensures rule { (airings : List AiredTables) (accepted : List (List ℕ)) → StandsFor airings accepted self.old
-            → IfSome result (λ rule. rule ≡ rule_broken (to_come_on self.old.on_pids (pid_in packet.now)) (count_on (pid_in packet.now) accepted % 16) packet.now) }
+            → IfSome result (λ rule. rule ≡ rule_at accepted self.old packet.now) }
         ensures kept { IfSome result (λ _. self.new ≡ self.old) }
         ensures quota { self.new.quota ≡ self.old.quota }
     {

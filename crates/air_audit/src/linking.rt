@@ -2,15 +2,45 @@
 ghost use Rattle.std.specs.Prelude.{◌≡◌, ◌<◌, ◌≤◌, [], ℕ, List, length, count_by, vec_capacity, IfOk};
 ghost use Rattle.std.specs.List.{All, AllByRecursion};
 ghost use Rattle.air_model.specs.Air.{at_places};
-ghost use Rattle.air_audit.specs.Progress.{is_busy, next_on, AreLinked, AreFresh};
+ghost use Rattle.section_codec.specs.SubTables.{AreFit};
+ghost use Rattle.cycle_laying.specs.Laying.{order_under};
+ghost use Rattle.air_audit.specs.Progress.{is_busy, next_on, AreLinked, AreFresh, IsReady};
 
 use crate::lanes::{Lane, is_busy};
-use cycle_laying::Placed;
+use cycle_laying::{Placed, plan_cycle};
 use cycle_plan::CyclePlan;
+use section_codec::SubTable;
 use std::alloc::{AllocError, Global};
 
-/// The whole order of a plan.
-pub(crate) fn order_of(alloc: Global, mut plan: CyclePlan) -> Result<Vec<usize>, AllocError>
+/// The memory of a cycle: the order of its sections, and room for them in this order, their links and the lanes.
+#[derive(Drop)]
+pub(crate) struct Room {
+    pub(crate) order: Vec<usize>,
+    pub(crate) placed: Vec<Placed>,
+    pub(crate) links: Vec<usize>,
+    pub(crate) lanes: Vec<Lane>,
+}
+
+/// Takes the memory for a cycle of these sub-tables in the order of this quota.
+pub(crate) fn take_room(alloc: Global, tables: &[SubTable], quota: u32) -> Result<Room, AllocError>
+    requires { AreFit tables.now }
+    ensures order { IfOk result (λ room. room.order.items ≡ order_under tables.now quota) }
+    ensures ready { IfOk result (λ room. IsReady room) }
+{
+    let order = order_of(alloc, plan_cycle(alloc, tables, quota)?)?;
+    let placed = Vec::with_capacity(alloc, order.len())?;
+    let links = vec![in alloc; 0; order.len()]?;
+    let lanes = idle_lanes(alloc, order.len())?;
+    Ok(Room {
+        order,
+        placed,
+        links,
+        lanes,
+    })
+}
+
+// The whole order of a plan.
+fn order_of(alloc: Global, mut plan: CyclePlan) -> Result<Vec<usize>, AllocError>
     ensures { IfOk result (λ order. order.items ≡ plan) }
 {
     let mut order = Vec::new(alloc);
@@ -20,8 +50,8 @@ pub(crate) fn order_of(alloc: Global, mut plan: CyclePlan) -> Result<Vec<usize>,
     Ok(order)
 }
 
-/// A lane for each PID, on which no section waits, of a cycle with so many sections.
-pub(crate) fn idle_lanes(alloc: Global, places: usize) -> Result<Vec<Lane>, AllocError>
+// A lane for each PID, on which no section waits, of a cycle with so many sections.
+fn idle_lanes(alloc: Global, places: usize) -> Result<Vec<Lane>, AllocError>
     ensures { IfOk result (λ lanes. AreFresh (λ _. places) lanes.items) }
 {
     let mut lanes = Vec::with_capacity(alloc, 8192)?;

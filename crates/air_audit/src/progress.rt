@@ -1,19 +1,21 @@
 // How far a cycle has come.
-ghost use Rattle.std.specs.Prelude.{◌≡◌, ◌+◌, ◌*◌, ◌<◌, ◌≤◌, ◌↔◌, ◌++◌, ◌∷◌, [], ℕ, List, false, cond, length, IsTrue, IfOk, IfSome, OnOk, OnErr};
+ghost use Rattle.std.specs.Prelude.{◌≡◌, ◌+◌, ◌*◌, ◌<◌, ◌≤◌, ◌↔◌, ◌++◌, ◌∷◌, [], ℕ, List, false, cond, length, map, IsTrue, IfOk, IfSome, OnOk, OnErr};
 ghost use Rattle.section_codec.specs.SubTables.{AreFit};
 ghost use Rattle.version_book.specs.Airings.{AiredTables, CycleForm};
 ghost use Rattle.version_book.specs.Book.{BookStandsFor, aired};
-ghost use Rattle.air_model.specs.Air.{cycle_sections};
+ghost use Rattle.std.specs.List.{AllByRecursion};
+ghost use Rattle.air_model.specs.Air.{at_places, cycle_sections};
+ghost use Rattle.cycle_laying.specs.Laying.{IsPlaced, sent_at};
 ghost use Rattle.air_audit.specs.Fronts.{nothing, all_waiting, to_come_on};
 ghost use Rattle.air_audit.specs.Telling.{told};
 ghost use Rattle.air_audit.specs.Checking.{is_nothing};
 ghost use Rattle.air_audit.specs.Audits.{on_pid};
-ghost use Rattle.air_audit.specs.Progress.{HasMoved};
+ghost use Rattle.air_audit.specs.Progress.{HasMoved, IsReady};
 
 use crate::lanes::{Lane, is_busy, moved};
-use crate::linking::{count_busy, idle_lanes, link, order_of, put_in_order};
+use crate::linking::{Room, count_busy, link, put_in_order, take_room};
 use crate::rule::Rule;
-use cycle_laying::{LaidSections, Placed, plan_cycle};
+use cycle_laying::{LaidSections, Placed};
 use section_codec::Tables;
 use si_time::Moment;
 use std::alloc::{AllocError, Global};
@@ -77,21 +79,29 @@ impl Progress {
         let list = tables.list.as_slice();
         let mut laid = LaidSections::none(alloc);
         laid.take_room(list)?;
-        let order = order_of(alloc, plan_cycle(alloc, list, quota)?)?;
-        let mut placed = Vec::with_capacity(alloc, order.len())?;
-        let mut links = vec![in alloc; 0; order.len()]?;
-        let mut lanes = idle_lanes(alloc, order.len())?;
+        let room = take_room(alloc, list, quota)?;
         laid.lay(book, tables, moment)?;
-        put_in_order(&mut placed, &laid.placed, &order);
-        link(&placed, &mut links, &mut lanes);
-        let busy = count_busy(&lanes, placed.len());
-        Ok(Progress {
+        Ok(Progress::of(laid, room))
+    }
+
+    // The beginning of a cycle that sends these sections in the order for which there is room. It takes no memory.
+    fn of(laid: LaidSections, mut room: Room) -> Progress
+        requires placed { AllByRecursion (IsPlaced (length laid.bytes.items)) laid.placed.items }
+        requires within { AllByRecursion (λ at. at < length laid.placed.items) room.order.items }
+        requires ready { IsReady room }
+        ensures { (pid : ℕ) → to_come_on result pid
+            ≡ all_waiting (on_pid pid (map (sent_at laid.bytes.items) (at_places laid.placed.items room.order.items))) }
+    {
+        put_in_order(&mut room.placed, &laid.placed, &room.order);
+        link(&room.placed, &mut room.links, &mut room.lanes);
+        let busy = count_busy(&room.lanes, room.placed.len());
+        Progress {
             bytes: laid.bytes,
-            placed,
-            links,
-            lanes,
+            placed: room.placed,
+            links: room.links,
+            lanes: room.lanes,
             busy,
-        })
+        }
     }
 
     /// Whether the cycle has ended.

@@ -8,6 +8,7 @@ use Rattle.ts_packets.specs.Packets.{Piece, filled, joined, piece_of, left_by, p
 use Rattle.ts_packets.specs.Bytes.{Packet, packet_on}
 use Rattle.ts_packets.specs.Packer.{Begun, empty_on, pointer_at, with_first, with_further, piece_so_far, finished}
 use Rattle.ts_packets.proofs.Dense.{HaveBytes, some_begins, smaller, waiting-have, packed_enough}
+use Rattle.cycle_laying.proofs.Laid.{drop_behind}
 use Rattle.air_model.specs.Air.{Sent}
 use Rattle.air_model.specs.Making.{bytes_of, each_dense, front_on, behind_on, goes_on}
 use Rattle.air_model.proofs.Dense.{HaveSome, first_packets, front_some}
@@ -259,11 +260,6 @@ take_behind : (n : ℕ) (xs ys : List ℕ) → length xs ≤ n → take n (xs ++
 take_behind n [] ys le = ap (λ (k : ℕ). take k ys) (let e : n ≡ n - 0 = omega arith in e)
 take_behind zero (x ∷ xs) ys le = absurd (omega arith)
 take_behind (suc n) (x ∷ xs) ys le = ap (λ (l : List ℕ). x ∷ l) (take_behind n xs ys (omega arith)) ∙ ap (λ (k : ℕ). x ∷ xs ++ take k ys) (let e : n - length xs ≡ suc n - suc (length xs) = omega arith in e)
-
-drop_behind : (n : ℕ) (xs ys : List ℕ) → length xs ≤ n → drop n (xs ++ ys) ≡ drop (n - length xs) ys
-drop_behind n [] ys le = ap (λ (k : ℕ). drop k ys) (let e : n ≡ n - 0 = omega arith in e)
-drop_behind zero (x ∷ xs) ys le = absurd (omega arith)
-drop_behind (suc n) (x ∷ xs) ys le = drop_behind n xs ys (omega arith) ∙ ap (λ (k : ℕ). drop k ys) (let e : n - length xs ≡ suc n - suc (length xs) = omega arith in e)
 
 -- a section that begins and goes on past the packet
 pub begins_past : (b : Begun) (s : Sent) (ss : List Sent) (count : ℕ) → s.pid ≡ b.pid → length b.bytes < 183 → count ≡ 183 - length b.bytes → count < length s.bytes

@@ -4,7 +4,7 @@ use Rattle.std.specs.Prelude.{◌==◌, slice_get, is_some, IfSome, IfNone, if�
 use Rattle.std.specs.List.{AllByRecursion, cons_option}
 use Rattle.std.proofs.lemmas.Bool.Decides.{nat_tests}
 use Rattle.std.proofs.lemmas.Option.{slice_get_read, slice_get_cases}
-use Rattle.std.proofs.lemmas.List.{take_all, drop_all}
+use Rattle.std.proofs.lemmas.List.{take_all, drop_all, get_or_default}
 use Rattle.ts_packets.specs.Bytes.{Packet, bytes_of_packet}
 use Rattle.ts_packets.specs.Packer.{Begun, empty_on, room_for, pointer_at, with_first, with_further, finished}
 use Rattle.air_model.specs.Air.{Sent, at_places}
@@ -51,17 +51,12 @@ sending bytes placed at order from p h is =
 pub from_within : (bytes : List ℕ) (placed : List Placed) (at : ℕ) (order : List ℕ) (from : ℕ) (p : Placed) → IsSending bytes placed at order from p → from < length (bytes_placed bytes p)
 from_within bytes placed at order from p s = omega (arith, length-placed bytes p s.fits, s.begun)
 
-read_same : (xs : List Placed) (i : ℕ) (x y : Placed) → i < length xs → get_or xs i x ≡ get_or xs i y
-read_same [] i x y lt = absurd (omega arith)
-read_same (z ∷ xs) zero x y lt = refl
-read_same (z ∷ xs) (suc i) x y lt = read_same xs i x y (omega arith)
-
 -- as the code reads it
 pub sending_at : (bytes : List ℕ) (placed : List Placed) (at : Option ℕ) (i : ℕ) (order : List ℕ) (from : ℕ) (other : Placed) → IsUnderWay (length bytes) placed (order_left at order) from → at ≡ Some i
     → IsSending bytes placed i order from (get_or placed i other)
 sending_at bytes placed at i order from other h is =
     let k = subst (λ (o : Option ℕ). IsUnderWay (length bytes) placed (order_left o order) from) is h in
-    sending bytes placed i order from (get_or placed i other) k (read_same placed i other (get_or placed i other) k.within.0)
+    sending bytes placed i order from (get_or placed i other) k (get_or_default placed i other (get_or placed i other) k.within.0)
 
 -- as it is sent
 sections_here : (bytes : List ℕ) (placed : List Placed) (at : ℕ) (order : List ℕ) (from : ℕ) (p : Placed) → IsSending bytes placed at order from p → sections_left bytes placed (at ∷ order) ≡ sent_at bytes p ∷ sections_left bytes placed order

@@ -1,10 +1,11 @@
 -- Sections laid end to end are found where they stand.
-use Rattle.std.proofs.Common.{◌≡◌, ℕ, zero, suc, ◌+◌, ◌-◌, ◌<◌, min, inl, inr, List, [], ◌∷◌, ◌++◌, Some, length, get_or, refl, sym, ap, ap₂, ◌∙◌, arith, take, drop, map, append_assoc, append-nil, length-append}
+use Rattle.std.proofs.Common.{◌≡◌, ℕ, zero, suc, ◌+◌, ◌-◌, ◌<◌, min, inl, inr, List, [], ◌∷◌, ◌++◌, Some, length, get_or, refl, sym, ap, ap₂, ◌∙◌, arith, take, drop, map, append_assoc, append-nil, length-append, ◌≤◌}
 use Rattle.std.specs.Prelude.{slice_get, flat_map}
 use Rattle.std.proofs.lemmas.Bool.{cases_lt}
 use Rattle.std.proofs.lemmas.List.{map-append, take_more, take_all, drop_all}
 use Rattle.std.proofs.lemmas.List.Concat.{flat_map-append}
 use Rattle.std.proofs.Math.Seq.{drop-append_seam, take-append_seam, drop-cons}
+use Rattle.si_lists.proofs.Parts.{drop-both}
 use Rattle.section_codec.specs.declared.table.NumberedBody.{NumberedBody}
 use Rattle.section_codec.specs.declared.table.SubTable.{SubTable}
 use Rattle.section_codec.specs.Contents.{last_number, Content}
@@ -16,6 +17,10 @@ use Rattle.cycle_laying.specs.Laying.{sent_at, places_from, AreLaid, sections_un
 pub from_place : {X : Type 0} (xs : List X) (at : ℕ) (x : X) → at < length xs → x ≡ get_or xs at x → drop at xs ≡ x ∷ drop (at + 1) xs
 from_place xs at x lt is =
     drop-cons xs at x lt ∙ ap₂ (λ (y : _) (k : ℕ). y ∷ drop k xs) (sym is) (let e : suc at ≡ at + 1 = omega arith in e)
+
+-- what stands behind a front
+pub drop_behind : {X : Type 0} (n : ℕ) (xs ys : List X) → length xs ≤ n → drop n (xs ++ ys) ≡ drop (n - length xs) ys
+drop_behind n xs ys le = drop-both n xs ys ∙ ap (λ (l : List _). l ++ drop (n - length xs) ys) (drop_all n xs le)
 
 pub last_at : (ss : Content) (s : NumberedBody) → slice_get ss (length ss - 1) ≡ Some s → s.number ≡ last_number ss
 last_at [] s e = cc
