@@ -8,6 +8,7 @@ pub mod Needing
 pub mod Putting
 pub mod Taking
 pub mod Keys
+pub mod KeyCounts
 pub mod OneContent
 pub mod Segmented
 pub mod Shown
