@@ -9,6 +9,7 @@ pub mod Putting
 pub mod Taking
 pub mod Keys
 pub mod KeyCounts
+pub mod KeyLists
 pub mod OneContent
 pub mod Segmented
 pub mod Shown
