@@ -7,7 +7,7 @@ use Rattle.mux_config.specs.declared.fault.MuxFault.TheVariants.{Line, Range, Tw
 use Rattle.journal_text.specs.Entries.{outcome_text}
 use Rattle.journal_model.specs.Steps.{IsInWindow}
 use Rattle.epg_report.specs.declared.status.Status.{Status}
-use Rattle.epg_report.specs.declared.status.Status.TheVariants.{Done, Usage, BadScript, Disagrees, BadMux, BadFeed, BadStream, TooLong, OpenFault, ReadFault, WriteFault, Memory, NoView}
+use Rattle.epg_report.specs.declared.status.Status.TheVariants.{Done, Usage, BadScript, Disagrees, BadMux, BadFeed, BadStream, TooLong, OpenFault, ReadFault, WriteFault, Memory, TooMany, NoView}
 use Rattle.epg_report.specs.declared.status.Origin.{Origin}
 use Rattle.epg_report.specs.declared.status.Origin.TheVariants.{Input, Feed}
 use Rattle.epg_report.specs.declared.status.Outlet.TheVariants.{Air, Report}
@@ -48,6 +48,7 @@ fault_text (ReadFault origin) = origin_text origin ++ codes " not read"
 fault_text (WriteFault Air) = codes "air not written"
 fault_text (WriteFault Report) = []
 fault_text Memory = codes "memory"
+fault_text (TooMany n) = codes "packet " ++ decimal n ++ codes " has a key too many"
 fault_text (NoView service) = codes "no service " ++ decimal service
 
 -- Done has no line, nor has a report that could not be written

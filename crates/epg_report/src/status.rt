@@ -46,6 +46,8 @@ pub enum Status {
     WriteFault(Outlet),
     /// Want of memory.
     Memory,
+    /// In this packet, from 0, a section ends that would bring a key more than a receiver keeps.
+    TooMany(u64),
     /// The multiplex has no service with this number, for which a viewer was to ask.
     NoView(u16),
 }
@@ -67,6 +69,7 @@ impl Status {
             Status::ReadFault(_) => 9,
             Status::WriteFault(_) => 10,
             Status::Memory => 12,
+            Status::TooMany(_) => 13,
             Status::NoView(_) => 14,
         }
     }
