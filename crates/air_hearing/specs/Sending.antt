@@ -1,6 +1,8 @@
 -- What is sent of an airing list.
-use Rattle.std.specs.Prelude.{List, [], ◌∷◌, ◌++◌}
+use Rattle.std.specs.Prelude.{List, [], ◌∷◌, ◌++◌, map, flat_map}
 use Rattle.std.specs.List.{All, AllByRecursion}
+use Rattle.section_codec.specs.declared.table.Key.{Key}
+use Rattle.section_codec.specs.declared.table.SubTable.{SubTable}
 use Rattle.version_book.specs.Airings.{AiredTables}
 use Rattle.air_model.specs.Air.{Sent, cycle_sections}
 use Rattle.section_codec.specs.SubTables.{IsFit}
@@ -13,3 +15,7 @@ sections_sent past (a ∷ airings) = cycle_sections past a ++ sections_sent (pas
 -- all sub-tables of these airings can be sent
 abbrev pub CanBeSent : List AiredTables → Type 0
 CanBeSent airings = AllByRecursion (λ (a : AiredTables). All IsFit a.tables) airings
+
+-- the keys that these airings carry
+abbrev pub carried_keys : List AiredTables → List Key
+carried_keys airings = flat_map (λ (a : AiredTables). map (λ (t : SubTable). t.key) a.tables) airings
