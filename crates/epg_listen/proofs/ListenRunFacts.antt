@@ -34,6 +34,8 @@ at_end : (receiver : Hearing) (r : Result (Unit {0}) ListenStop) (report : Repor
 at_end receiver (Ok u) report status P ends end e = end
 at_end receiver (Err (stop.Read s)) report status P (inl memory) end e = cc
 at_end receiver (Err (stop.Read s)) report status P (inr (is, told)) end e = absurd (not_done s (sym is ∙ e))
+at_end receiver (Err (stop.TooMany n)) report status P (inl memory) end e = cc
+at_end receiver (Err (stop.TooMany n)) report status P (inr (is, told)) end e = cc
 at_end receiver (Err stop.Report) report status P (is, same) end e = cc
 at_end receiver (Err stop.Memory) report status P is end e = cc
 
@@ -44,6 +46,8 @@ read_rose receiver (Err (stop.Read (packet.Broken n))) report status before now 
 read_rose receiver (Err (stop.Read packet.TooLong)) report status before now (inl memory) cause e = cc
 read_rose receiver (Err (stop.Read packet.TooLong)) report status before now (inr (is, told)) cause e = cc
 read_rose receiver (Err (stop.Read packet.Failed)) report status before now ends cause e = cause
+read_rose receiver (Err (stop.TooMany n)) report status before now (inl memory) cause e = cc
+read_rose receiver (Err (stop.TooMany n)) report status before now (inr (is, told)) cause e = cc
 read_rose receiver (Err stop.Report) report status before now (is, same) cause e = cc
 read_rose receiver (Err stop.Memory) report status before now is cause e = cc
 
@@ -52,6 +56,8 @@ report_rose : (receiver : Hearing) (r : Result (Unit {0}) ListenStop) (report : 
 report_rose receiver (Ok u) report status before le later ends cause e = Rose-from before report.faults_old report.faults_new le (subst (EndsHeard receiver (Ok u) report) e ends).1
 report_rose receiver (Err (stop.Read s)) report status before le later (inl memory) cause e = cc
 report_rose receiver (Err (stop.Read s)) report status before le later (inr (is, told)) cause e = absurd (not_written s (sym is ∙ e))
+report_rose receiver (Err (stop.TooMany n)) report status before le later (inl memory) cause e = cc
+report_rose receiver (Err (stop.TooMany n)) report status before le later (inr (is, told)) cause e = cc
 report_rose receiver (Err stop.Report) report status before le later ends cause e = Rose-to before report.faults_old report.faults_new le cause later
 report_rose receiver (Err stop.Memory) report status before le later is cause e = cc
 
