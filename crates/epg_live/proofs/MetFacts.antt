@@ -16,7 +16,7 @@ use Rattle.input_lines.specs.Ahead.{Ahead, Came}
 use Rattle.journal_model.specs.declared.step.Entry.{Entry}
 use Rattle.epg_live.specs.declared.reporting.Observed.{Observed}
 use Rattle.epg_report.specs.declared.status.Status.{Status}
-use Rattle.epg_report.specs.declared.status.Status.TheVariants.{Done, Usage, Disagrees, BadMux, BadStream, TooLong, OpenFault, ReadFault, WriteFault, Memory, NoView}
+use Rattle.epg_report.specs.declared.status.Status.TheVariants.{Done, Usage, Disagrees, BadMux, BadStream, TooLong, OpenFault, ReadFault, WriteFault, Memory, TooMany, NoView}
 use Rattle.epg_report.specs.declared.status.Origin.TheVariants.{Input, Feed}
 use Rattle.epg_report.specs.declared.status.Outlet.TheVariants.{Air, Report}
 use Rattle.epg_live.specs.declared.feeds.OpenStop.{OpenStop}
@@ -110,6 +110,7 @@ run_asked n k Usage is e = absurd is
 run_asked n k (Disagrees m kept found) is e = absurd is
 run_asked n k (BadMux fault) is e = absurd is
 run_asked n k (BadStream m) is e = absurd is
+run_asked n k (TooMany m) is e = absurd is
 run_asked n k (TooLong Input) is e = inr e
 run_asked n k (TooLong (Feed f)) is e = e
 run_asked n k (OpenFault f) is e = absurd is
@@ -193,12 +194,14 @@ report_of_live Done is = tt
 report_of_live Usage is = is
 report_of_live (Disagrees m kept found) is = is
 report_of_live (BadStream m) is = is
+report_of_live (TooMany m) is = is
 report_of_live other is = tt
 
 met_of_live : (met : Status) → IsMet met → IsOfLive met
 met_of_live Usage is = is
 met_of_live (Disagrees m kept found) is = is
 met_of_live (BadStream m) is = is
+met_of_live (TooMany m) is = is
 met_of_live other is = tt
 
 pub ends_of_live : (met : Status) (text : List ℕ) (report : ReportTaken) (status : Status) → IsMet met → Ends met text report status → IsOfLive status

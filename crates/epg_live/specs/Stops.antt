@@ -11,7 +11,7 @@ use Rattle.headend_jobs.specs.declared.live.LiveStop.{LiveStop}
 use Rattle.headend_jobs.specs.declared.live.LiveStop.TheVariants as live
 use Rattle.headend_jobs.specs.Live.{or_feed}
 use Rattle.epg_report.specs.declared.status.Status.{Status}
-use Rattle.epg_report.specs.declared.status.Status.TheVariants.{Done, Usage, BadScript, Disagrees, BadMux, BadFeed, BadStream, TooLong, OpenFault, ReadFault, WriteFault, Memory, NoView}
+use Rattle.epg_report.specs.declared.status.Status.TheVariants.{Done, Usage, BadScript, Disagrees, BadMux, BadFeed, BadStream, TooLong, OpenFault, ReadFault, WriteFault, Memory, TooMany, NoView}
 use Rattle.epg_report.specs.declared.status.Origin.{Origin}
 use Rattle.epg_report.specs.declared.status.Origin.TheVariants.{Input, Feed}
 use Rattle.epg_report.specs.declared.status.Outlet.TheVariants.{Air, Report}
@@ -67,6 +67,7 @@ abbrev pub IsOfLive : Status → Type 0
 IsOfLive Usage = ⊥
 IsOfLive (Disagrees n kept found) = ⊥
 IsOfLive (BadStream n) = ⊥
+IsOfLive (TooMany n) = ⊥
 IsOfLive status = Unit {0}
 
 -- those that a run may have met before it reports
