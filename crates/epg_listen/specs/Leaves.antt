@@ -129,6 +129,9 @@ pub record ListenRun (input : SourceGave) (report : ReportTaken) (status : Statu
   -- where neither the input nor the report fails, the recording decides the status, but for want of memory
   pub completes : (bytes : List ℕ) → input.old ≡ Some bytes → ¬ (Rose input.faults_old input.faults_new)
       → ¬ (Rose report.faults_old report.faults_new) → HearsThrough (recording bytes) status
+  -- so one of whole packets with sync bytes, whose counted sections have at most 65,536 keys, and within its limit, is heard to its end
+  pub whole : (bytes : List ℕ) → input.old ≡ Some bytes → (recording bytes).1 ≡ AtEnd → HasRoom (recording bytes)
+      → ¬ (Rose input.faults_old input.faults_new) → ¬ (Rose report.faults_old report.faults_new) → (status ≡ Done) ⊎ (status ≡ Memory)
   -- no other status comes
   pub known : IsOfListen status
   -- with Done the input was read to its end
