@@ -3,3 +3,4 @@ pub mod Steady
 pub mod Counts
 pub mod Coherent
 pub mod Sent
+pub mod Carried

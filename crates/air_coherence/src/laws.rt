@@ -1,5 +1,5 @@
 // Laws of what is completed of an air.
-ghost use Rattle.air_coherence.specs.Laws.{AirIsCoherent, FrontIsCoherent};
+ghost use Rattle.air_coherence.specs.Laws.{AirIsCoherent, FrontIsCoherent, HeardKeysAreCarried};
 
 /// Of an air of airings that can be heard, whatever is completed of any key, at any of its sections that count, of the packets from
 /// any one on and before any other, is the content of that key in one airing whose cycle has a packet among these, under the version
@@ -8,4 +8,9 @@ ghost use Rattle.air_coherence.specs.Laws.{AirIsCoherent, FrontIsCoherent};
 pub fn airs_are_coherent()
     ensures whole { AirIsCoherent }
     ensures front { FrontIsCoherent }
+{}
+
+/// Of such an air, also where it was cut at any byte, whichever packets are heard: what counts has only keys that the airings carry.
+pub fn heard_keys_are_carried()
+    ensures { HeardKeysAreCarried }
 {}

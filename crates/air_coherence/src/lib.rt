@@ -6,4 +6,4 @@
 
 mod laws;
 
-pub use laws::airs_are_coherent;
+pub use laws::{airs_are_coherent, heard_keys_are_carried};

@@ -107,7 +107,7 @@ fn hear_from(
     hear_at(receiver, dones, number, packet)
 }
 
-// Hears the packet with this number.
+// Hears the packet with this number. A key too many counts as want of memory.
 fn hear_at(
     receiver: &mut Receiver,
     dones: &mut DoneLines,
@@ -124,6 +124,6 @@ fn hear_at(
     match receiver.hear(packet) {
         Ok(shown) => push_lines(dones, number, shown.as_slice()),
         Err(HearStop::Sync) => Ok(()),
-        Err(HearStop::Memory) => Err(AllocError),
+        Err(HearStop::TooMany | HearStop::Memory) => Err(AllocError),
     }
 }

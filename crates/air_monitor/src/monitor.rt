@@ -16,8 +16,8 @@ use std::marker::Model;
 /// A sink that passes on what it is given to an air, and hears what the air took: the whole packets, from one on.
 ///
 /// It takes memory for what the receiver keeps and for the completions alone. Where memory is wanting it hears no further
-/// packet; that is no fault of the air. A whole packet that does not begin with the sync_byte, 0x47 (ISO/IEC 13818-1,
-/// 2.4.3.3), is passed over.
+/// packet; that is no fault of the air. A key more than a receiver keeps counts as want of memory. A whole packet that does not
+/// begin with the sync_byte, 0x47 (ISO/IEC 13818-1, 2.4.3.3), is passed over.
 #[derive(Drop)]
 pub struct Monitor<A: Sink> {
     air: A,

@@ -11,7 +11,7 @@ use Rattle.version_book.specs.Airings.{AiredTables}
 use Rattle.ts_packets.specs.WholePackets.{whole_packets}
 use Rattle.air_audit.specs.Audits.{AreAnAir}
 use Rattle.epg_report.specs.declared.status.Status.{Status}
-use Rattle.epg_report.specs.declared.status.Status.TheVariants.{Done, Usage, BadScript, Disagrees, BadMux, BadFeed, BadStream, TooLong as PastLimit, OpenFault, ReadFault, WriteFault, Memory, NoView, NotAir, Short}
+use Rattle.epg_report.specs.declared.status.Status.TheVariants.{Done, Usage, BadScript, Disagrees, BadMux, BadFeed, BadStream, TooLong as PastLimit, OpenFault, ReadFault, WriteFault, Memory, TooMany, NoView, NotAir, Short}
 use Rattle.epg_report.specs.declared.status.Origin.TheVariants.{Input, Feed, Recording}
 use Rattle.epg_report.specs.declared.status.Outlet.TheVariants.{Air, Report}
 use Rattle.epg_report.specs.Ends.{ReportEnds, or_report}
@@ -147,6 +147,7 @@ module _ (path : List ℕ) (files : Files) (text : List ℕ) (left : Option (Lis
   decided Usage leaves ended no_input no_reading no_opening no_report = absurd leaves.0
   decided (BadFeed f n) leaves ended no_input no_reading no_opening no_report = absurd leaves.0
   decided (NoView service) leaves ended no_input no_reading no_opening no_report = absurd leaves.0
+  decided (TooMany n) leaves ended no_input no_reading no_opening no_report = absurd leaves.0
 
   -- ---- an air is not at fault
 

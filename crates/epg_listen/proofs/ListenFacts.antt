@@ -1,5 +1,5 @@
 -- Packets of a recording, one after another, and what is reported of them.
-use Rattle.std.proofs.Common.{◌≡◌, ℕ, zero, suc, ◌+◌, ◌*◌, ◌/◌, ◌-◌, ◌<◌, ◌≤◌, List, [], ◌∷◌, ◌++◌, length, take, drop, slice_index, map, get_or, refl, sym, ap, ◌∙◌, subst, arith, append-nil, append_assoc, length-append, inl, inr, true}
+use Rattle.std.proofs.Common.{◌≡◌, ℕ, zero, suc, ◌+◌, ◌*◌, ◌/◌, ◌-◌, ◌<◌, ◌≤◌, List, [], ◌∷◌, ◌++◌, length, length-take, take, drop, slice_index, map, get_or, refl, sym, ap, ◌∙◌, subst, arith, append-nil, append_assoc, length-append, inl, inr, true}
 use Rattle.std.specs.Prelude.{Option, Some, None, Ok, Err, Result}
 use Rattle.std.proofs.lemmas.List.{map_more, take_at}
 use Rattle.std.proofs.Math.Seq.{take-append_seam, drop-append_seam}
@@ -15,18 +15,19 @@ use Rattle.packet_reader.specs.declared.stop.PacketStop.{PacketStop}
 use Rattle.packet_reader.specs.declared.stop.PacketStop.TheVariants as packet
 use Rattle.heard_completions.specs.declared.done.DoneKey.{DoneKey}
 use Rattle.guide_receiver.specs.Heard.{Hearing, ReceiverStandsFor}
-use Rattle.heard_completions.specs.Dones.{DoneAt, at_packet, dones_by, dones_behind}
+use Rattle.sub_collect.specs.KeyCounts.{HaveFewKeys, HaveTooManyKeys}
+use Rattle.heard_completions.specs.Dones.{DoneAt, at_packet, counted_heard, dones_by, dones_behind}
 use Rattle.heard_completions.specs.Texts.{done_line, done_lines}
 use Rattle.epg_listen.specs.declared.listen.ListenStop.{ListenStop}
 use Rattle.epg_listen.specs.declared.listen.ListenStop.TheVariants as stop
 use Rattle.epg_report.specs.declared.status.Status.{Status}
-use Rattle.epg_report.specs.declared.status.Status.TheVariants.{Done, BadStream, TooLong, ReadFault, WriteFault, Memory}
+use Rattle.epg_report.specs.declared.status.Status.TheVariants.{Done, BadStream, TooLong, ReadFault, WriteFault, Memory, TooMany}
 use Rattle.epg_report.specs.declared.status.Origin.TheVariants.{Input, Feed, Recording}
 use Rattle.epg_report.specs.declared.status.Outlet.TheVariants.{Air, Report}
-use Rattle.epg_report.specs.Texts.{fault_line}
+use Rattle.epg_report.specs.Texts.{fault_line, fault_text}
 use Rattle.epg_report.specs.Told.{ReportTaken, Reported}
-use Rattle.epg_listen.specs.Leaves.{Recording, heard_text, heard_guide, packet_stop_text, packet_stop_status, LeavesHeard, IsOfListen, HearsThrough}
-use Rattle.epg_listen.specs.Hearing.{HasHeard, ReportsLines, EndsHeard, HasReadCause, IsNoReadStop}
+use Rattle.epg_listen.specs.Leaves.{Recording, heard_text, heard_guide, packet_stop_text, packet_stop_status, IsKeyTooMany, LeavesHeard, IsOfListen, HearsThrough}
+use Rattle.epg_listen.specs.Hearing.{HasHeard, ReportsLines, EndsHeard, HasReadCause, IsNoReadStop, IsTooManyAt}
 
 -- ---- lines
 
@@ -167,16 +168,19 @@ left_behind (Some xs) (Some ys) held more rest e gave =
     let same : held ++ xs ≡ rest = cc in
     (ys, refl, sym same ∙ ap (λ l. held ++ l) gave ∙ sym (append_assoc held more ys))
 
+few_are : (xs ys : List (List ℕ)) → xs ≡ ys → HaveFewKeys (counted_heard ys) → HaveFewKeys (counted_heard xs)
+few_are xs ys e few = subst (λ (l : List (List ℕ)). HaveFewKeys (counted_heard l)) (sym e) few
+
 pub heard_stop : {S : Type 0} (left : S → Option (List ℕ)) (before after : PacketReading S) (s : PacketStop) (bytes done rest : List ℕ) (heard : List (List ℕ)) (receiver : Hearing) (old new : Option (List ℕ))
     → bytes_left left before ≡ Some rest → HasParted bytes done heard (packets_to_come before) rest → before.number ≡ length heard → GivesPacket left before after (packets_in (packets_to_come before) rest) (Err s)
-    → TakesPacket left before after (Err s) → Counts before after (Err s) → Appends old new (heard_text heard) → HasHeard bytes (left after.source) receiver old new (Err (stop.Read s))
-heard_stop left before after (packet.Broken n) bytes done rest heard receiver old new tells parted count gives takes counts lines =
+    → TakesPacket left before after (Err s) → Counts before after (Err s) → Appends old new (heard_text heard) → HaveFewKeys (counted_heard heard) → HasHeard bytes (left after.source) receiver old new (Err (stop.Read s))
+heard_stop left before after (packet.Broken n) bytes done rest heard receiver old new tells parted count gives takes counts lines few =
     let last = last_heard (recording bytes) (packets_in (packets_to_come before) rest) heard Broken (parted_recording bytes done rest heard (packets_to_come before) parted) (given_broken left before after (packets_in (packets_to_come before) rest) n gives) in
-    (ap (λ (r : Recording). r.1) last, counts.0 ∙ count ∙ ap (λ (r : Recording). length r.0) (sym last), text_is old new (recording bytes).0 heard (ap (λ (r : Recording). r.0) last) lines)
-heard_stop left before after packet.TooLong bytes done rest heard receiver old new tells parted count gives takes counts lines =
+    (ap (λ (r : Recording). r.1) last, counts.0 ∙ count ∙ ap (λ (r : Recording). length r.0) (sym last), text_is old new (recording bytes).0 heard (ap (λ (r : Recording). r.0) last) lines, few_are (recording bytes).0 heard (ap (λ (r : Recording). r.0) last) few)
+heard_stop left before after packet.TooLong bytes done rest heard receiver old new tells parted count gives takes counts lines few =
     let last = last_heard (recording bytes) (packets_in (packets_to_come before) rest) heard PastLimit (parted_recording bytes done rest heard (packets_to_come before) parted) (given_past left before after (packets_in (packets_to_come before) rest) gives) in
-    (ap (λ (r : Recording). r.1) last, text_is old new (recording bytes).0 heard (ap (λ (r : Recording). r.0) last) lines)
-heard_stop left before after packet.Failed bytes done rest heard receiver old new tells parted count gives takes counts lines =
+    (ap (λ (r : Recording). r.1) last, text_is old new (recording bytes).0 heard (ap (λ (r : Recording). r.0) last) lines, few_are (recording bytes).0 heard (ap (λ (r : Recording). r.0) last) few)
+heard_stop left before after packet.Failed bytes done rest heard receiver old new tells parted count gives takes counts lines few =
     let short = before.held ++ takes.0 in
     let behind = left_behind (left before.source) (left after.source) before.held takes.0 rest tells takes.1 in
     let none = ap (λ (r : Recording). r.0) (parted.packets short) ∙ ap (λ (l : List (List ℕ)). heard ++ l) (none_in_short (packets_to_come before) short takes.2) ∙ append-nil heard in (
@@ -188,15 +192,35 @@ heard_stop left before after packet.Failed bytes done rest heard receiver old ne
         whole = ap (λ (l : List (List ℕ)). length l) none ∙ whole_pieces (length heard) done short parted.size takes.2;
       },
       text_is old new (recording (done ++ short)).0 heard none lines,
+      few_are (recording (done ++ short)).0 heard none few,
     )
 
--- the lines of a packet were not all written, or there was no memory for them
+-- the packet behind those that were heard brings a key too many
+too_many_behind : (all y x : Recording) (heard : List (List ℕ)) (p : List ℕ) (n : ℕ) → all ≡ (heard ++ y.0, y.1) → y ≡ and_packet p x → n ≡ length heard → HaveFewKeys (counted_heard heard)
+    → HaveTooManyKeys (counted_heard (heard ++ p ∷ [])) → IsKeyTooMany all.0 n
+too_many_behind all y x heard p n e t number few many =
+    let front : take n all.0 ≡ heard = ap (λ k. take k all.0) number ∙ front_heard all y heard e in
+    let size : n + 1 ≡ length (heard ++ p ∷ []) = omega (arith, number, length-append heard (p ∷ [])) in
+    let next : take (n + 1) all.0 ≡ heard ++ p ∷ [] = ap (λ k. take k all.0) size ∙ front_heard all x (heard ++ p ∷ []) (more_heard all y x heard p e t) in
+    record {
+      there = (let a = ap length next in let b = length-take (n + 1) all.0 in omega (arith, a, b, size));
+      few = subst (λ (l : List (List ℕ)). HaveFewKeys (counted_heard l)) (sym front) few;
+      many = subst (λ (l : List (List ℕ)). HaveTooManyKeys (counted_heard l)) (sym next) many;
+    }
+
+-- the lines of a packet were not all written, or there was no memory for them, or none came, for it brings a key too many
 pub heard_line : (s : ListenStop) (bytes : List ℕ) (left : Option (List ℕ)) (receiver : Hearing) (y x : Recording) (heard : List (List ℕ)) (p : List ℕ) (n : ℕ) (a b c : Option (List ℕ))
     → recording bytes ≡ (heard ++ y.0, y.1) → y ≡ and_packet p x → n ≡ length heard → Appends a b (heard_text heard)
-    → ReportsLines b c (done_lines (map (at_packet n) (dones_by heard p))) (Err s) → HasHeard bytes left receiver a c (Err s)
-heard_line (stop.Read s) bytes left receiver y x heard p n a b c e t number done reports = absurd reports
-heard_line stop.Memory bytes left receiver y x heard p n a b c e t number done reports = tt
-heard_line stop.Report bytes left receiver y x heard p n a b c e t number done reports =
+    → ReportsLines b c (done_lines (map (at_packet n) (dones_by heard p))) (Err s) → HaveFewKeys (counted_heard heard) → IsTooManyAt n (heard ++ p ∷ []) (Err s) → HasHeard bytes left receiver a c (Err s)
+heard_line (stop.Read s) bytes left receiver y x heard p n a b c e t number done reports few many = absurd reports
+heard_line (stop.TooMany k) bytes left receiver y x heard p n a b c e t number done reports few many =
+    let at : k ≡ length heard = many.0 ∙ number in (
+      too_many_behind (recording bytes) y x heard p k e t at few many.1,
+      subst (λ (w : Option (List ℕ)). Appends a w (heard_text (take k (recording bytes).0))) reports
+          (text_is a b (take k (recording bytes).0) heard (ap (λ m. take m (recording bytes).0) at ∙ front_heard (recording bytes) y heard e) done),
+    )
+heard_line stop.Memory bytes left receiver y x heard p n a b c e t number done reports few many = tt
+heard_line stop.Report bytes left receiver y x heard p n a b c e t number done reports few many =
     let lines = ap (λ k. done_lines (map (at_packet k) (dones_by heard p))) number in
     let text = ap (λ l. heard_text heard ++ l) lines ∙ sym (text_push heard p) ∙ ap heard_text (sym (front_heard (recording bytes) x (heard ++ p ∷ []) (more_heard (recording bytes) y x heard p e t))) in
     (length (heard ++ p ∷ []), subst (AppendsFront a c) text (front_behind a b c (heard_text heard) (done_lines (map (at_packet n) (dones_by heard p))) done reports))
@@ -218,7 +242,7 @@ behind a b c f g h xs ys le done (inr (rose, front)) = inr (Rose-from f g h le r
 
 pub leaves_heard : (heard : Result (Unit {0}) ListenStop) (bytes : List ℕ) (left : Option (List ℕ)) (receiver : Hearing) (old mid new : Option (List ℕ)) (f g h : ℕ) (status : Status) → f ≤ g → HasHeard bytes left receiver old mid heard
     → EndsHeard receiver heard (record { old = mid; new = new; faults_old = g; faults_new = h }) status → LeavesHeard bytes left (record { old = old; new = new; faults_old = f; faults_new = h }) status
-leaves_heard (Ok u) bytes left receiver old mid new f g h Done le (ended, done, stands) ends = record { ended = ended; report_is = Appends-trans old mid new (heard_text (recording bytes).0) (heard_guide (recording bytes).0) done (ends (recording bytes).0 stands) }
+leaves_heard (Ok u) bytes left receiver old mid new f g h Done le (ended, done, stands) ends = record { ended = ended; few = stands.completions.few; report_is = Appends-trans old mid new (heard_text (recording bytes).0) (heard_guide (recording bytes).0) done (ends (recording bytes).0 stands) }
 leaves_heard (Ok u) bytes left receiver old mid new f g h (WriteFault Report) le (ended, done, stands) ends = inr (ended, front_behind old mid new (heard_text (recording bytes).0) (heard_guide (recording bytes).0) done (ends.0 (recording bytes).0 stands))
 leaves_heard (Ok u) bytes left receiver old mid new f g h Memory le has ends = tt
 leaves_heard (Ok u) bytes left receiver old mid new f g h other le has ends = absurd ends
@@ -228,11 +252,15 @@ leaves_heard (Err stop.Report) bytes left receiver old mid new f g h status le h
     subst (LeavesHeard bytes left told) (sym ends.0) (inl (has.0, subst (λ (w : Option (List ℕ)). AppendsFront old w (heard_text (take has.0 (recording bytes).0))) ends.1 has.1))
 leaves_heard (Err (stop.Read s)) bytes left receiver old mid new f g h status le has (inl memory) = subst (LeavesHeard bytes left (record { old = old; new = new; faults_old = f; faults_new = h })) (sym memory) tt
 leaves_heard (Err (stop.Read (packet.Broken n))) bytes left receiver old mid new f g h status le has (inr (is, reported)) =
-    subst (LeavesHeard bytes left (record { old = old; new = new; faults_old = f; faults_new = h })) (sym is) (has.0, has.1, behind old mid new f g h (heard_text (recording bytes).0) (fault_line (packet_stop_text (packet.Broken n))) le has.2 reported)
+    subst (LeavesHeard bytes left (record { old = old; new = new; faults_old = f; faults_new = h })) (sym is) (has.0, has.1, record { few = has.3; report_is = behind old mid new f g h (heard_text (recording bytes).0) (fault_line (packet_stop_text (packet.Broken n))) le has.2 reported })
 leaves_heard (Err (stop.Read packet.TooLong)) bytes left receiver old mid new f g h status le has (inr (is, reported)) =
-    subst (LeavesHeard bytes left (record { old = old; new = new; faults_old = f; faults_new = h })) (sym is) (has.0, behind old mid new f g h (heard_text (recording bytes).0) (fault_line (packet_stop_text packet.TooLong)) le has.1 reported)
+    subst (LeavesHeard bytes left (record { old = old; new = new; faults_old = f; faults_new = h })) (sym is) (has.0, record { few = has.2; report_is = behind old mid new f g h (heard_text (recording bytes).0) (fault_line (packet_stop_text packet.TooLong)) le has.1 reported })
 leaves_heard (Err (stop.Read packet.Failed)) bytes left receiver old mid new f g h status le has (inr (is, reported)) =
-    subst (LeavesHeard bytes left (record { old = old; new = new; faults_old = f; faults_new = h })) (sym is) (record { taken = has.0; is_taken = has.1; report_is = behind old mid new f g h (heard_text (recording has.0).0) (fault_line (packet_stop_text packet.Failed)) le has.2 reported })
+    subst (LeavesHeard bytes left (record { old = old; new = new; faults_old = f; faults_new = h })) (sym is) (record { taken = has.0; is_taken = has.1; few = has.3; report_is = behind old mid new f g h (heard_text (recording has.0).0) (fault_line (packet_stop_text packet.Failed)) le has.2 reported })
+leaves_heard (Err (stop.TooMany n)) bytes left receiver old mid new f g h status le has (inl memory) = subst (LeavesHeard bytes left (record { old = old; new = new; faults_old = f; faults_new = h })) (sym memory) tt
+leaves_heard (Err (stop.TooMany n)) bytes left receiver old mid new f g h status le has (inr (is, reported)) =
+    subst (LeavesHeard bytes left (record { old = old; new = new; faults_old = f; faults_new = h })) (sym is)
+    (record { first = has.0; report_is = behind old mid new f g h (heard_text (take n (recording bytes).0)) (fault_line (fault_text (TooMany n))) le has.1 reported })
 
 -- the source of the reader is the input, which was lent
 pub heard_input : {S : Type 0} (left_of : S → Option (List ℕ)) (source input : S) (bytes : List ℕ) (report : ReportTaken) (status : Status) → input ≡ source
@@ -245,9 +273,10 @@ started left reader source bytes e tells = ap (bytes_left left) e ∙ prepend_kn
 
 -- where nothing fails, the end of the recording decides
 pub hears_through : (bytes : List ℕ) (left : Option (List ℕ)) (report : ReportTaken) (status : Status) → LeavesHeard bytes left report status → (status ≡ ReadFault Input → ⊥) → (status ≡ WriteFault Report → ⊥) → HearsThrough (recording bytes) status
-hears_through bytes left report Done leave r w = leave.ended
-hears_through bytes left report (BadStream n) leave r w = (leave.0, leave.1)
-hears_through bytes left report (TooLong Input) leave r w = leave.0
+hears_through bytes left report Done leave r w = (leave.ended, leave.few)
+hears_through bytes left report (BadStream n) leave r w = (leave.0, leave.1, leave.2.few)
+hears_through bytes left report (TooMany n) leave r w = leave.first
+hears_through bytes left report (TooLong Input) leave r w = (leave.0, leave.1.few)
 hears_through bytes left report (TooLong (Feed f)) leave r w = absurd leave
 hears_through bytes left report (TooLong Recording) leave r w = absurd leave
 hears_through bytes left report (ReadFault Input) leave r w = absurd (r refl)
@@ -260,6 +289,7 @@ hears_through bytes left report other leave r w = absurd leave
 
 pub no_read_cause : (before now : ℕ) (s : ListenStop) → IsNoReadStop (let r : Result (Unit {0}) ListenStop = Err s in r) → HasReadCause before now (Err s)
 no_read_cause before now (stop.Read s) none = absurd none
+no_read_cause before now (stop.TooMany n) none = tt
 no_read_cause before now stop.Report none = tt
 no_read_cause before now stop.Memory none = tt
 
@@ -275,5 +305,7 @@ of_listen receiver (Ok u) t Memory ends = tt
 of_listen receiver (Ok u) t other ends = absurd ends
 of_listen receiver (Err stop.Report) t status ends = subst IsOfListen (sym ends.0) tt
 of_listen receiver (Err stop.Memory) t status ends = subst IsOfListen (sym ends) tt
+of_listen receiver (Err (stop.TooMany n)) t status (inl memory) = subst IsOfListen (sym memory) tt
+of_listen receiver (Err (stop.TooMany n)) t status (inr (is, reported)) = subst IsOfListen (sym is) tt
 of_listen receiver (Err (stop.Read s)) t status (inl memory) = subst IsOfListen (sym memory) tt
 of_listen receiver (Err (stop.Read s)) t status (inr (is, reported)) = subst IsOfListen (sym is) (stop_of_listen s)

@@ -1,20 +1,27 @@
 -- A run of `listen`, from what it leaves and how it ended.
-use Rattle.std.proofs.Common.{◌≡◌, ◌≤◌, ◌∙◌, ℕ, List, inl, inr, sym, subst}
+use Rattle.std.proofs.Common.{◌≡◌, ◌+◌, ◌≤◌, ◌⊎◌, ◌++◌, ◌∙◌, ℕ, List, [], ◌∷◌, take, drop, inl, inr, refl, sym, ap, subst, arith, append-nil, append_assoc, take-append-drop}
 use Rattle.std.specs.Prelude.{Option, Some, Ok, Err, Result, OnOk}
 use Rattle.std.specs.Io.KnownBytes.{IsAtEnd}
 use Rattle.si_causes.specs.Causes.{Rose}
 use Rattle.si_causes.proofs.CauseFacts.{Rose-from, Rose-to}
 use Rattle.packet_reader.specs.declared.stop.PacketStop.{PacketStop}
 use Rattle.packet_reader.specs.declared.stop.PacketStop.TheVariants as packet
+use Rattle.packet_reader.specs.Recordings.{RecordingEnd.AtEnd, recording}
+use Rattle.ts_demux.specs.Sections.{ended_by}
+use Rattle.sub_collect.specs.KeyCounts.{key_count, HaveFewKeys}
+use Rattle.sub_collect.proofs.KeyCounts.{count-grows}
+use Rattle.heard_completions.specs.Counting.{counted_among}
+use Rattle.heard_completions.specs.Dones.{counted_heard}
+use Rattle.heard_completions.proofs.Shown.{counted-push}
 use Rattle.guide_receiver.specs.Heard.{Hearing}
 use Rattle.epg_listen.specs.declared.listen.ListenStop.{ListenStop}
 use Rattle.epg_listen.specs.declared.listen.ListenStop.TheVariants as stop
 use Rattle.epg_report.specs.declared.status.Status.{Status}
-use Rattle.epg_report.specs.declared.status.Status.TheVariants.{Done, ReadFault, WriteFault, Memory}
+use Rattle.epg_report.specs.declared.status.Status.TheVariants.{Done, BadStream, TooLong, ReadFault, WriteFault, Memory, TooMany}
 use Rattle.epg_report.specs.declared.status.Origin.TheVariants.{Input}
 use Rattle.epg_report.specs.declared.status.Outlet.TheVariants.{Report}
 use Rattle.epg_report.specs.Told.{ReportTaken, SourceGave, gave}
-use Rattle.epg_listen.specs.Leaves.{IsOfListen, LeavesHeard, ListenRun, packet_stop_status}
+use Rattle.epg_listen.specs.Leaves.{HasRoom, HearsThrough, IsKeyTooMany, IsOfListen, LeavesHeard, ListenRun, Recording, packet_stop_status}
 use Rattle.epg_listen.specs.Hearing.{EndsHeard, HasHeard, HasReadCause, HasReportCause}
 use Rattle.epg_listen.proofs.ListenFacts.{hears_through, leaves_heard, of_listen}
 
@@ -34,6 +41,8 @@ at_end : (receiver : Hearing) (r : Result (Unit {0}) ListenStop) (report : Repor
 at_end receiver (Ok u) report status P ends end e = end
 at_end receiver (Err (stop.Read s)) report status P (inl memory) end e = cc
 at_end receiver (Err (stop.Read s)) report status P (inr (is, told)) end e = absurd (not_done s (sym is ∙ e))
+at_end receiver (Err (stop.TooMany n)) report status P (inl memory) end e = cc
+at_end receiver (Err (stop.TooMany n)) report status P (inr (is, told)) end e = cc
 at_end receiver (Err stop.Report) report status P (is, same) end e = cc
 at_end receiver (Err stop.Memory) report status P is end e = cc
 
@@ -44,6 +53,8 @@ read_rose receiver (Err (stop.Read (packet.Broken n))) report status before now 
 read_rose receiver (Err (stop.Read packet.TooLong)) report status before now (inl memory) cause e = cc
 read_rose receiver (Err (stop.Read packet.TooLong)) report status before now (inr (is, told)) cause e = cc
 read_rose receiver (Err (stop.Read packet.Failed)) report status before now ends cause e = cause
+read_rose receiver (Err (stop.TooMany n)) report status before now (inl memory) cause e = cc
+read_rose receiver (Err (stop.TooMany n)) report status before now (inr (is, told)) cause e = cc
 read_rose receiver (Err stop.Report) report status before now (is, same) cause e = cc
 read_rose receiver (Err stop.Memory) report status before now is cause e = cc
 
@@ -52,8 +63,37 @@ report_rose : (receiver : Hearing) (r : Result (Unit {0}) ListenStop) (report : 
 report_rose receiver (Ok u) report status before le later ends cause e = Rose-from before report.faults_old report.faults_new le (subst (EndsHeard receiver (Ok u) report) e ends).1
 report_rose receiver (Err (stop.Read s)) report status before le later (inl memory) cause e = cc
 report_rose receiver (Err (stop.Read s)) report status before le later (inr (is, told)) cause e = absurd (not_written s (sym is ∙ e))
+report_rose receiver (Err (stop.TooMany n)) report status before le later (inl memory) cause e = cc
+report_rose receiver (Err (stop.TooMany n)) report status before le later (inr (is, told)) cause e = cc
 report_rose receiver (Err stop.Report) report status before le later ends cause e = Rose-to before report.faults_old report.faults_new le cause later
 report_rose receiver (Err stop.Memory) report status before le later is cause e = cc
+
+-- ---- a recording that is whole
+
+-- packets that come later bring no fewer keys
+keys_grow : (past more : List (List ℕ)) → key_count (counted_heard past) ≤ key_count (counted_heard (past ++ more))
+keys_grow past [] = let e = ap (λ (l : List (List ℕ)). key_count (counted_heard l)) (append-nil past) in omega (arith, e)
+keys_grow past (p ∷ more) =
+    let one = count-grows (counted_heard past) (counted_among (ended_by past p)) in
+    let push = ap key_count (counted-push past p) in
+    let rest = keys_grow (past ++ p ∷ []) more in
+    let same = ap (λ (l : List (List ℕ)). key_count (counted_heard l)) (append_assoc past (p ∷ []) more) in
+    omega (arith, one, push, rest, same)
+
+never_too_many : (packets : List (List ℕ)) (n : ℕ) → IsKeyTooMany packets n → HaveFewKeys (counted_heard packets) → Prim.⊥
+never_too_many packets n is few =
+    let grows = keys_grow (take (n + 1) packets) (drop (n + 1) packets) in
+    let same = ap (λ (l : List (List ℕ)). key_count (counted_heard l)) (take-append-drop (n + 1) packets) in
+    let many = is.many in
+    omega (arith, grows, same, many, few)
+
+heard_whole : (recording : Recording) (status : Status) → HearsThrough recording status → recording.1 ≡ AtEnd → HasRoom recording → (status ≡ Done) ⊎ (status ≡ Memory)
+heard_whole recording Done through end few = inl refl
+heard_whole recording Memory through end few = inr refl
+heard_whole recording (BadStream n) through end few = let both = sym end ∙ through.0 in cc
+heard_whole recording (TooMany n) through end few = absurd (never_too_many recording.0 n through few)
+heard_whole recording (TooLong Input) through end few = let both = sym end ∙ through.0 in cc
+heard_whole recording other through end few = absurd through
 
 -- ---- the run
 
@@ -62,6 +102,8 @@ pub listen_run : (input : SourceGave) (report : ReportTaken) (status : Status) �
 listen_run input report status leaves known end read_rose report_rose = record {
   leaves = leaves;
   completes = λ bytes tells no_read no_report. hears_through bytes input.new report status (leaves bytes tells) (λ e. no_read (read_rose e)) (λ e. no_report (report_rose e));
+  whole = λ bytes tells ended few no_read no_report.
+      heard_whole (recording bytes) status (hears_through bytes input.new report status (leaves bytes tells) (λ e. no_read (read_rose e)) (λ e. no_report (report_rose e))) ended few;
   known = known;
   end = end;
   input_cause = read_rose;

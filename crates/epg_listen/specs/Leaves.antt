@@ -1,16 +1,17 @@
 -- What a run of `listen` leaves, for each status, and all that it promises.
-use Rattle.std.specs.Prelude.{◌≡◌, ℕ, ◌/◌, ◌⊎◌, ◌++◌, List, length, take, Option, Some}
+use Rattle.std.specs.Prelude.{◌≡◌, ℕ, ◌+◌, ◌/◌, ◌<◌, ◌⊎◌, ◌++◌, List, length, take, Option, Some}
 use Rattle.std.specs.Io.KnownBytes.{Appends, IsAtEnd}
 use Rattle.si_causes.specs.Causes.{Rose, AppendsFront}
 use Rattle.packet_reader.specs.Recordings.{RecordingEnd, RecordingEnd.AtEnd, RecordingEnd.Broken, RecordingEnd.PastLimit, recording}
 use Rattle.packet_reader.specs.declared.stop.PacketStop.{PacketStop}
 use Rattle.packet_reader.specs.declared.stop.PacketStop.TheVariants as packet
-use Rattle.heard_completions.specs.Dones.{dones_of}
+use Rattle.sub_collect.specs.KeyCounts.{HaveFewKeys, HaveTooManyKeys}
+use Rattle.heard_completions.specs.Dones.{counted_heard, dones_of}
 use Rattle.guide_receiver.specs.Guides.{guide_of}
 use Rattle.heard_completions.specs.Texts.{done_lines}
 use Rattle.guide_text.specs.Guides.{guide_text}
 use Rattle.epg_report.specs.declared.status.Status.{Status}
-use Rattle.epg_report.specs.declared.status.Status.TheVariants.{Done, BadStream, TooLong, ReadFault, WriteFault, Memory}
+use Rattle.epg_report.specs.declared.status.Status.TheVariants.{Done, BadStream, TooLong, ReadFault, WriteFault, Memory, TooMany}
 use Rattle.epg_report.specs.declared.status.Origin.TheVariants.{Input}
 use Rattle.epg_report.specs.declared.status.Outlet.TheVariants.{Report}
 use Rattle.epg_report.specs.Texts.{fault_line, fault_text}
@@ -42,14 +43,31 @@ packet_stop_status packet.Failed = ReadFault Input
 abbrev pub packet_stop_text : PacketStop → List ℕ
 packet_stop_text stop = fault_text (packet_stop_status stop)
 
+-- Of these packets n is the first in which a section that counts ends and brings a key more than a receiver keeps.
+pub record IsKeyTooMany (packets : List (List ℕ)) (n : ℕ) : Type 0 where
+  pub there : n < length packets
+  pub few : HaveFewKeys (counted_heard (take n packets))
+  pub many : HaveTooManyKeys (counted_heard (take (n + 1) packets))
+
+-- none of these packets brings a key too many
+abbrev pub HasRoom : Recording → Type 0
+HasRoom recording = HaveFewKeys (counted_heard recording.0)
+
 -- with Done: each piece of the recording is a packet, and the report is the completions of all of them and the guide
 pub record HeardWhole (recording : Recording) (report : ReportTaken) : Type 0 where
   pub ended : recording.1 ≡ AtEnd
+  pub few : HasRoom recording
   pub report_is : Appends report.old report.new (report_of recording.0)
 
 -- with a fault behind all packets of the recording
-abbrev pub HeardAll : Recording → List ℕ → ReportTaken → Type 0
-HeardAll recording fault report = Reported report (heard_text recording.0 ++ fault_line fault)
+pub record HeardAll (recording : Recording) (fault : List ℕ) (report : ReportTaken) : Type 0 where
+  pub few : HasRoom recording
+  pub report_is : Reported report (heard_text recording.0 ++ fault_line fault)
+
+-- With a key too many in packet n: the completions of the packets before it, and the fault.
+pub record HeardFront (recording : Recording) (n : ℕ) (report : ReportTaken) : Type 0 where
+  pub first : IsKeyTooMany recording.0 n
+  pub report_is : Reported report (heard_text (take n recording.0) ++ fault_line (fault_text (TooMany n)))
 
 -- These bytes were taken from the input, and the others are left; each whole piece that was taken is a packet.
 pub record WasTaken (bytes : List ℕ) (left : Option (List ℕ)) (taken : List ℕ) : Type 0 where
@@ -62,6 +80,7 @@ pub record WasTaken (bytes : List ℕ) (left : Option (List ℕ)) (taken : List 
 pub record HeardTaken (bytes : List ℕ) (left : Option (List ℕ)) (report : ReportTaken) : Type 0 where
   pub taken : List ℕ
   pub is_taken : WasTaken bytes left taken
+  pub few : HasRoom (recording taken)
   pub report_is : Reported report (heard_text (recording taken).0 ++ fault_line (packet_stop_text packet.Failed))
 
 -- With a fault of the report no fault of the recording was met: the report has a proper front of the completions of the first k packets,
@@ -76,6 +95,7 @@ abbrev pub LeavesHeard : List ℕ → Option (List ℕ) → ReportTaken → Stat
 LeavesHeard bytes left report Done = HeardWhole (recording bytes) report
 LeavesHeard bytes left report (BadStream n) = ((recording bytes).1 ≡ Broken) × (n ≡ length (recording bytes).0) × HeardAll (recording bytes) (packet_stop_text (packet.Broken n)) report
 LeavesHeard bytes left report (TooLong Input) = ((recording bytes).1 ≡ PastLimit) × HeardAll (recording bytes) (packet_stop_text packet.TooLong) report
+LeavesHeard bytes left report (TooMany n) = HeardFront (recording bytes) n report
 LeavesHeard bytes left report (ReadFault Input) = HeardTaken bytes left report
 LeavesHeard bytes left report (WriteFault Report) = HeardUnreported (recording bytes) report
 LeavesHeard bytes left report Memory = Unit {0}
@@ -85,17 +105,20 @@ LeavesHeard bytes left report status = ⊥
 abbrev pub IsOfListen : Status → Type 0
 IsOfListen Done = Unit {0}
 IsOfListen (BadStream n) = Unit {0}
+IsOfListen (TooMany n) = Unit {0}
 IsOfListen (TooLong Input) = Unit {0}
 IsOfListen (ReadFault Input) = Unit {0}
 IsOfListen (WriteFault Report) = Unit {0}
 IsOfListen Memory = Unit {0}
 IsOfListen status = ⊥
 
--- What a run answers where neither the input nor the report fails: the end of the recording decides, but for want of memory.
+-- What a run answers where neither the input nor the report fails: the first key too many decides, or else the end of the recording, but for
+-- want of memory. So a recording of whole packets with sync bytes, whose counted sections have at most 65,536 keys, is heard to its end.
 abbrev pub HearsThrough : Recording → Status → Type 0
-HearsThrough recording Done = recording.1 ≡ AtEnd
-HearsThrough recording (BadStream n) = (recording.1 ≡ Broken) × (n ≡ length recording.0)
-HearsThrough recording (TooLong Input) = recording.1 ≡ PastLimit
+HearsThrough recording Done = (recording.1 ≡ AtEnd) × HasRoom recording
+HearsThrough recording (BadStream n) = (recording.1 ≡ Broken) × (n ≡ length recording.0) × HasRoom recording
+HearsThrough recording (TooMany n) = IsKeyTooMany recording.0 n
+HearsThrough recording (TooLong Input) = (recording.1 ≡ PastLimit) × HasRoom recording
 HearsThrough recording Memory = Unit {0}
 HearsThrough recording status = ⊥
 
@@ -106,6 +129,9 @@ pub record ListenRun (input : SourceGave) (report : ReportTaken) (status : Statu
   -- where neither the input nor the report fails, the recording decides the status, but for want of memory
   pub completes : (bytes : List ℕ) → input.old ≡ Some bytes → ¬ (Rose input.faults_old input.faults_new)
       → ¬ (Rose report.faults_old report.faults_new) → HearsThrough (recording bytes) status
+  -- so one of whole packets with sync bytes, whose counted sections have at most 65,536 keys, and within its limit, is heard to its end
+  pub whole : (bytes : List ℕ) → input.old ≡ Some bytes → (recording bytes).1 ≡ AtEnd → HasRoom (recording bytes)
+      → ¬ (Rose input.faults_old input.faults_new) → ¬ (Rose report.faults_old report.faults_new) → (status ≡ Done) ⊎ (status ≡ Memory)
   -- no other status comes
   pub known : IsOfListen status
   -- with Done the input was read to its end

@@ -5,10 +5,10 @@ ghost use Rattle.packet_reader.specs.Reading.{bytes_left};
 ghost use Rattle.guide_receiver.specs.Heard.{ReceiverStandsFor};
 ghost use Rattle.heard_completions.specs.Dones.{at_packet, dones_by};
 ghost use Rattle.heard_completions.specs.Texts.{done_lines};
-ghost use Rattle.epg_report.specs.Texts.{fault_line};
+ghost use Rattle.epg_report.specs.Texts.{fault_line, fault_text};
 ghost use Rattle.epg_report.specs.Told.{told};
-ghost use Rattle.epg_listen.specs.Leaves.{heard_guide, packet_stop_text, packet_stop_status};
-ghost use Rattle.epg_listen.specs.Hearing.{ReportsLines, HasHeard, HasReadCause, HasReportCause, IsNoReadStop, EndsHeard, EndsRead};
+ghost use Rattle.epg_listen.specs.Leaves.{heard_guide, packet_stop_status};
+ghost use Rattle.epg_listen.specs.Hearing.{ReportsLines, HasHeard, HasReadCause, HasReportCause, IsNoReadStop, IsTooManyAt, IsOfRecording, EndsHeard, EndsBy};
 
 use epg_report::{Origin, Outlet, Status, out_of_memory, put_fault_line};
 use guide_receiver::{DoneKey, HearStop, Receiver, write_done};
@@ -17,10 +17,11 @@ use packet_reader::{PacketReader, PacketStop};
 use si_causes::{Sink, Source, write_all};
 use std::alloc::{AllocError, Global};
 
-/// Why a recording is not heard on: no further packet, the report, or want of memory.
+/// Why a recording is not heard on: no further packet, a key too many in a packet, the report, or want of memory.
 #[derive(Clone, Copy, PartialEq, Eq)]
 pub(crate) enum ListenStop {
     Read(PacketStop),
+    TooMany(u64),
     Report,
     Memory,
 }
@@ -48,6 +49,7 @@ fn hear_packet<R: Sink>(
     ensures reports { (past : List (List ℕ)) → ReceiverStandsFor past receiver.old
         → ReportsLines (R.written report.old) (R.written report.new) (done_lines (map (at_packet number) (dones_by past packet.now))) result }
     ensures stands { (past : List (List ℕ)) → ReceiverStandsFor past receiver.old → OnOk result (ReceiverStandsFor (past ++ packet.now ∷ []) receiver.new) }
+    ensures too_many { (past : List (List ℕ)) → ReceiverStandsFor past receiver.old → IsTooManyAt number (past ++ packet.now ∷ []) result }
     ensures cause { HasReportCause (R.faults report.old) (R.faults report.new) result }
     ensures no_read { IsNoReadStop result }
     ensures later { R.faults report.old ≤ R.faults report.new }
@@ -55,6 +57,7 @@ fn hear_packet<R: Sink>(
     let dones = match receiver.hear(packet) {
         Ok(dones) => dones,
         Err(HearStop::Sync) => unreachable!(),
+        Err(HearStop::TooMany) => return Err(ListenStop::TooMany(number)),
         Err(HearStop::Memory) => return Err(ListenStop::Memory),
     };
     let Ok(text) = lines_of(alloc, number, dones.as_slice()) else {
@@ -106,25 +109,27 @@ fn status_of(stop: PacketStop) -> Status
     }
 }
 
-// The line of a stop.
-fn fault_of(alloc: Global, stop: PacketStop) -> Result<Vec<u8>, AllocError>
-    ensures { IfOk result (λ text. text.items ≡ fault_line (packet_stop_text stop)) }
+// The line of a fault of the recording.
+fn fault_of(alloc: Global, fault: Status) -> Result<Vec<u8>, AllocError>
+    requires { IsOfRecording fault }
+    ensures { IfOk result (λ text. text.items ≡ fault_line (fault_text fault)) }
 {
     let mut text = Vec::new(alloc);
-    put_fault_line(alloc, &mut text, status_of(stop))?;
+    put_fault_line(alloc, &mut text, fault)?;
     Ok(text)
 }
 
-// Reports why no further packet comes.
-fn report_stop<R: Sink>(alloc: Global, stop: PacketStop, report: &mut R) -> Status
-    ensures ends { EndsRead stop (told R.written R.faults report.old report.new) result }
+// Reports why the recording is not heard on.
+fn report_fault<R: Sink>(alloc: Global, fault: Status, report: &mut R) -> Status
+    requires { IsOfRecording fault }
+    ensures ends { EndsBy fault (told R.written R.faults report.old report.new) result }
     ensures later { R.faults report.old ≤ R.faults report.new }
 {
-    let Ok(text) = fault_of(alloc, stop) else {
+    let Ok(text) = fault_of(alloc, fault) else {
         return out_of_memory(report);
     };
     let _ = write_all(report, &text);
-    status_of(stop)
+    fault
 }
 
 // The text of the guide of what was heard.
@@ -164,7 +169,8 @@ pub(crate) fn end_report<R: Sink>(
 {
     match heard {
         Ok(()) => report_guide(alloc, receiver, report),
-        Err(ListenStop::Read(stop)) => report_stop(alloc, stop, report),
+        Err(ListenStop::Read(stop)) => report_fault(alloc, status_of(stop), report),
+        Err(ListenStop::TooMany(number)) => report_fault(alloc, Status::TooMany(number), report),
         Err(ListenStop::Report) => Status::WriteFault(Outlet::Report),
         Err(ListenStop::Memory) => out_of_memory(report),
     }

@@ -16,7 +16,7 @@ use Rattle.input_lines.specs.Ahead.{Ahead, Came}
 use Rattle.journal_model.specs.declared.step.Entry.{Entry}
 use Rattle.epg_live.specs.declared.reporting.Observed.{Observed}
 use Rattle.epg_report.specs.declared.status.Status.{Status}
-use Rattle.epg_report.specs.declared.status.Status.TheVariants.{Done, Usage, Disagrees, BadMux, BadStream, TooLong, OpenFault, ReadFault, WriteFault, Memory, NoView, NotAir, Short}
+use Rattle.epg_report.specs.declared.status.Status.TheVariants.{Done, Usage, Disagrees, BadMux, BadStream, TooLong, OpenFault, ReadFault, WriteFault, Memory, NoView, NotAir, Short, TooMany}
 use Rattle.epg_report.specs.declared.status.Origin.TheVariants.{Input, Feed, Recording}
 use Rattle.epg_report.specs.declared.status.Outlet.TheVariants.{Air, Report}
 use Rattle.epg_live.specs.declared.feeds.OpenStop.{OpenStop}
@@ -111,6 +111,7 @@ run_asked n k Usage is e = absurd is
 run_asked n k (Disagrees m kept found) is e = absurd is
 run_asked n k (BadMux fault) is e = absurd is
 run_asked n k (BadStream m) is e = absurd is
+run_asked n k (TooMany m) is e = absurd is
 run_asked n k (TooLong Input) is e = inr e
 run_asked n k (TooLong (Feed f)) is e = e
 run_asked n k (TooLong Recording) is e = absurd is
@@ -199,6 +200,7 @@ report_of_live Done is = tt
 report_of_live Usage is = is
 report_of_live (Disagrees m kept found) is = is
 report_of_live (BadStream m) is = is
+report_of_live (TooMany m) is = is
 report_of_live (NotAir m rule) is = is
 report_of_live (Short m) is = is
 report_of_live (TooLong Recording) is = is
@@ -209,6 +211,7 @@ met_of_live : (met : Status) → IsMet met → IsOfLive met
 met_of_live Usage is = is
 met_of_live (Disagrees m kept found) is = is
 met_of_live (BadStream m) is = is
+met_of_live (TooMany m) is = is
 met_of_live (NotAir m rule) is = is
 met_of_live (Short m) is = is
 met_of_live (TooLong Recording) is = is

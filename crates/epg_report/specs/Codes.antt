@@ -1,7 +1,7 @@
 -- The exit status of each status.
 use Rattle.std.specs.Prelude.{ℕ}
 use Rattle.epg_report.specs.declared.status.Status.{Status}
-use Rattle.epg_report.specs.declared.status.Status.TheVariants.{Done, Usage, BadScript, Disagrees, BadMux, BadFeed, BadStream, TooLong, OpenFault, ReadFault, WriteFault, Memory, NoView, NotAir, Short}
+use Rattle.epg_report.specs.declared.status.Status.TheVariants.{Done, Usage, BadScript, Disagrees, BadMux, BadFeed, BadStream, TooLong, OpenFault, ReadFault, WriteFault, Memory, NoView, NotAir, Short, TooMany}
 
 abbrev pub code_of : Status → ℕ
 code_of Done = 0
@@ -16,6 +16,7 @@ code_of (OpenFault feed) = 8
 code_of (ReadFault origin) = 9
 code_of (WriteFault outlet) = 10
 code_of Memory = 12
+code_of (TooMany packet) = 13
 code_of (NoView service) = 14
 code_of (NotAir packet rule) = 15
 code_of (Short packet) = 16

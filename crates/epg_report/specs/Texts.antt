@@ -9,7 +9,7 @@ use Rattle.journal_model.specs.Steps.{IsInWindow}
 use Rattle.air_audit.specs.declared.rule.Rule.{Rule}
 use Rattle.air_audit.specs.declared.rule.Rule.TheVariants.{Shape, Pid, Counter, Pointer, Bytes}
 use Rattle.epg_report.specs.declared.status.Status.{Status}
-use Rattle.epg_report.specs.declared.status.Status.TheVariants.{Done, Usage, BadScript, Disagrees, BadMux, BadFeed, BadStream, TooLong, OpenFault, ReadFault, WriteFault, Memory, NoView, NotAir, Short}
+use Rattle.epg_report.specs.declared.status.Status.TheVariants.{Done, Usage, BadScript, Disagrees, BadMux, BadFeed, BadStream, TooLong, OpenFault, ReadFault, WriteFault, Memory, NoView, NotAir, Short, TooMany}
 use Rattle.epg_report.specs.declared.status.Origin.{Origin}
 use Rattle.epg_report.specs.declared.status.Origin.TheVariants.{Input, Feed, Recording}
 use Rattle.epg_report.specs.declared.status.Outlet.TheVariants.{Air, Report}
@@ -64,6 +64,7 @@ fault_text (ReadFault origin) = origin_text origin ++ codes " not read"
 fault_text (WriteFault Air) = codes "air not written"
 fault_text (WriteFault Report) = []
 fault_text Memory = codes "memory"
+fault_text (TooMany n) = codes "packet " ++ decimal n ++ codes " has a key too many"
 fault_text (NoView service) = codes "no service " ++ decimal service
 fault_text (NotAir n rule) = codes "packet " ++ decimal n ++ codes " breaks " ++ rule_text rule
 fault_text (Short n) = codes "packet " ++ decimal n ++ codes " is missing"

@@ -181,6 +181,11 @@ fn put_fault(alloc: Global, out: &mut Vec<u8>, status: Status) -> Result<(), All
         Status::WriteFault(Outlet::Air) => out.extend_from_slice(b"air not written"),
         Status::WriteFault(Outlet::Report) => Ok(()),
         Status::Memory => out.extend_from_slice(b"memory"),
+        Status::TooMany(packet) => {
+            out.extend_from_slice(b"packet ")?;
+            put_number(alloc, out, packet)?;
+            out.extend_from_slice(b" has a key too many")
+        }
         Status::NoView(service) => {
             out.extend_from_slice(b"no service ")?;
             put_number(alloc, out, u64::from(service))

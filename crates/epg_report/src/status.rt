@@ -48,6 +48,8 @@ pub enum Status {
     WriteFault(Outlet),
     /// Want of memory.
     Memory,
+    /// In this packet, from 0, a section ends that would bring a key more than a receiver keeps.
+    TooMany(u64),
     /// The multiplex has no service with this number, for which a viewer was to ask.
     NoView(u16),
     /// This packet, from 0, is the first with which a recording is no part of an air of the journal; it breaks this rule first.
@@ -73,6 +75,7 @@ impl Status {
             Status::ReadFault(_) => 9,
             Status::WriteFault(_) => 10,
             Status::Memory => 12,
+            Status::TooMany(_) => 13,
             Status::NoView(_) => 14,
             Status::NotAir(..) => 15,
             Status::Short(_) => 16,

@@ -15,7 +15,7 @@ use Rattle.publication_screen.specs.Screen.{screen_of}
 use Rattle.headend_live.specs.SentAir.{SentAir}
 use Rattle.headend_live.proofs.Sent.{air_sent}
 use Rattle.epg_report.specs.declared.status.Status.{Status}
-use Rattle.epg_report.specs.declared.status.Status.TheVariants.{Done, Usage, BadScript, Disagrees, BadMux, BadFeed, BadStream, TooLong, OpenFault, ReadFault, WriteFault, Memory, NoView, NotAir, Short}
+use Rattle.epg_report.specs.declared.status.Status.TheVariants.{Done, Usage, BadScript, Disagrees, BadMux, BadFeed, BadStream, TooLong, OpenFault, ReadFault, WriteFault, Memory, NoView, NotAir, Short, TooMany}
 use Rattle.epg_report.specs.declared.status.Origin.TheVariants.{Input, Feed, Recording}
 use Rattle.epg_report.specs.declared.status.Outlet.TheVariants.{Air, Report}
 use Rattle.epg_report.specs.Told.{ReportTaken}
@@ -85,6 +85,7 @@ met_by_load number air run load = by run.met load.met.known (caused number air r
     by Usage known cause has = known
     by (Disagrees n kept found) known cause has = known
     by (BadStream n) known cause has = known
+    by (TooMany n) known cause has = known
     by (WriteFault Report) known cause has = known
     by (ReadFault Input) known cause has = never_rose cause
     by (ReadFault (Feed f)) known cause has = never_rose cause

@@ -2,6 +2,8 @@
 ghost use Rattle.std.specs.Prelude.{◌≡◌, ◌≢◌, ◌↔◌, ◌++◌, ◌∷◌, [], List, ℕ, Option, Err, IfOk, OnOk, map, option_map, option_to_list, slice_index};
 ghost use Rattle.section_codec.specs.declared.table.Key.{Key};
 ghost use Rattle.sub_collect.specs.Runs.{Counted};
+ghost use Rattle.sub_collect.specs.KeyCounts.{HaveFewKeys, HaveTooManyKeys};
+ghost use Rattle.sub_collect.specs.declared.collector.TakeStop.{TakeStop};
 ghost use Rattle.sub_collect.specs.Completions.{dones};
 ghost use Rattle.sub_collect.specs.Collectors.{CollectorStandsFor};
 ghost use Rattle.heard_completions.specs.declared.done.DoneKey.{DoneKey};
@@ -9,7 +11,7 @@ ghost use Rattle.heard_completions.specs.Counting.{counted_in, counted_among};
 ghost use Rattle.guide_receiver.specs.Latest.{keys_shown, kept_keys, AreLatest};
 ghost use Rattle.guide_receiver.specs.Heard.{ReceiverStandsFor};
 ghost use Rattle.guide_receiver.specs.Known.{AreKnown};
-ghost use Rattle.heard_completions.specs.Dones.{done_key, dones_by};
+ghost use Rattle.heard_completions.specs.Dones.{counted_heard, done_key, dones_by};
 ghost use Rattle.guide_receiver.specs.Guides.{guide_of};
 
 use crate::clock::clock_behind;
@@ -21,14 +23,16 @@ use si_base::Items;
 use si_time::Moment;
 use std::alloc::{AllocError, Global};
 use std::marker::Model;
-use sub_collect::Collector;
+use sub_collect::{Collector, TakeStop};
 use ts_demux::{Demux, RawSection};
 use ts_packets::read_packet;
 
-/// Why a packet is not heard: its first byte is not the sync_byte 0x47, or want of memory.
+/// Why a packet is not heard: its first byte is not the sync_byte 0x47, a section that ends in it would bring the 65,537th key, or want of
+/// memory.
 #[derive(Clone, Copy, PartialEq, Eq)]
 pub enum HearStop {
     Sync,
+    TooMany,
     Memory,
 }
 
@@ -73,11 +77,16 @@ impl Receiver {
     }
 
     /// Hears one packet more: the completions that it shows, in order. `Sync` comes exactly where the first byte is not 0x47, and
-    /// then the receiver is unchanged. After `Memory` a part of the packet's sections may have been taken, and the receiver
-    /// stands for no packets.
+    /// then the receiver is unchanged. `TooMany` comes exactly where the sections that count, those that end in this packet included,
+    /// have more than 65,536 keys. After it and after `Memory` a part of the packet's sections may have been taken, and the
+    /// receiver stands for no packets.
     pub fn hear(&mut self, packet: &[u8; 188]) -> Result<Dones, HearStop>
         ensures sync { result ≡ Err HearStop.Sync ↔ (slice_index packet.now 0 ≢ 0x47) }
         ensures unchanged { result ≡ Err HearStop.Sync → self.new ≡ self.old }
+        ensures too_many { (past : List (List ℕ)) → ReceiverStandsFor past self.old
+            → result ≡ Err HearStop.TooMany → HaveTooManyKeys (counted_heard (past ++ packet.now ∷ [])) }
+        ensures few { (past : List (List ℕ)) → ReceiverStandsFor past self.old
+            → OnOk result (HaveFewKeys (counted_heard (past ++ packet.now ∷ []))) }
         ensures dones { (past : List (List ℕ)) → ReceiverStandsFor past self.old → IfOk result (λ dones. dones ≡ dones_by past packet.now) }
         ensures stands { (past : List (List ℕ)) → ReceiverStandsFor past self.old → OnOk result (ReceiverStandsFor (past ++ packet.now ∷ []) self.new) }
     {
@@ -95,17 +104,18 @@ impl Receiver {
         };
         self.clock = clock;
         let mut dones = Items::new(self.alloc);
-        let Ok(()) = count_all(
+        match count_all(
             self.alloc,
             &mut self.known,
             &mut self.collector,
             &mut self.latest,
             sections.as_slice(),
             &mut dones,
-        ) else {
-            return Err(HearStop::Memory);
-        };
-        Ok(dones)
+        ) {
+            Ok(()) => Ok(dones),
+            Err(TakeStop::TooMany) => Err(HearStop::TooMany),
+            Err(TakeStop::Memory) => Err(HearStop::Memory),
+        }
     }
 
     /// What the receiver has to show of the packets that it stands for: the needs that are not met, of which there is one at least, or
@@ -131,17 +141,23 @@ fn count_all(
     latest: &mut LatestKeys,
     sections: &[RawSection],
     shown: &mut Dones,
-) -> Result<(), AllocError>
+) -> Result<(), TakeStop>
     requires known { AreKnown collector.old known.old }
     ensures known { AreKnown collector.new known.new }
+    ensures too_many { (past : List Counted) → CollectorStandsFor past collector.old → result ≡ Err TakeStop.TooMany → HaveTooManyKeys (past ++ counted_among sections.now) }
     ensures dones { (past : List Counted) → CollectorStandsFor past collector.old → OnOk result (shown.new ≡ shown.old ++ map done_key (dones past (counted_among sections.now))) }
     ensures stands { (past : List Counted) → CollectorStandsFor past collector.old → OnOk result (CollectorStandsFor (past ++ counted_among sections.now) collector.new) }
     ensures latest { (past : List Counted) → CollectorStandsFor past collector.old → AreLatest (keys_shown past) (kept_keys latest.old)
         → OnOk result (AreLatest (keys_shown (past ++ counted_among sections.now)) (kept_keys latest.new)) }
 {
     for section in sections {
-        let done = count(alloc, known, collector, section)?;
-        keep_shown(latest, shown, done)?;
+        let done = match count(alloc, known, collector, section) {
+            Ok(done) => done,
+            Err(stop) => return Err(stop),
+        };
+        let Ok(()) = keep_shown(latest, shown, done) else {
+            return Err(TakeStop::Memory);
+        };
     }
     Ok(())
 }
@@ -153,16 +169,20 @@ fn count(
     known: &mut KnownSections,
     collector: &mut Collector,
     section: &RawSection,
-) -> Result<Option<DoneKey>, AllocError>
+) -> Result<Option<DoneKey>, TakeStop>
     requires known { AreKnown collector.old known.old }
     ensures known { AreKnown collector.new known.new }
+    ensures too_many { (past : List Counted) → CollectorStandsFor past collector.old → result ≡ Err TakeStop.TooMany → HaveTooManyKeys (past ++ option_to_list (counted_in section.now)) }
     ensures done { (past : List Counted) → CollectorStandsFor past collector.old → IfOk result (λ done. option_to_list done ≡ map done_key (dones past (option_to_list (counted_in section.now)))) }
     ensures stands { (past : List Counted) → CollectorStandsFor past collector.old → OnOk result (CollectorStandsFor (past ++ option_to_list (counted_in section.now)) collector.new) }
 {
     if known.counts_again(collector, section) {
         return Ok(None);
     }
-    let Some(counts) = known.counted_section(alloc, section)? else {
+    let Ok(found) = known.counted_section(alloc, section) else {
+        return Err(TakeStop::Memory);
+    };
+    let Some(counts) = found else {
         return Ok(None);
     };
     let CountedSection { key, header, body } = counts;

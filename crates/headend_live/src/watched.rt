@@ -14,6 +14,7 @@ ghost use Rattle.std.specs.List.{All, AllByRecursion};
 ghost use Rattle.headend_jobs.specs.Posting.{KeepsBoard, opening_of, posts_of};
 ghost use Rattle.headend_jobs.specs.Views.{ViewReady, ViewsDid};
 ghost use Rattle.headend_live.specs.Viewing.{AreViewed, IsAsked, IsServiceOf, asked_for};
+ghost use Rattle.headend_live.specs.SentKeys.{SentKeys};
 ghost use Rattle.headend_live.specs.Watched.{WatchedRan, wanting_stop, watched_stop};
 ghost use Rattle.headend_jobs.specs.Live.{run_stop};
 
@@ -284,6 +285,8 @@ pub fn run_live<
         → SentSpaced (airings mux end.desk.entries) (A.written air.old) (A.written air.new)) }
     // And exact: once a cycle was heard whole, the guide is that of its publication, as long as that stays on air.
     ensures exact { IfOk result (λ end. IsAsRead mux end.desk.entries → SentExact mux end.desk.entries (A.written air.old) (A.written air.new)) }
+    // And of its packets no receiver hears more keys than it keeps.
+    ensures keys { IfOk result (λ end. IsSoundWithIds mux → HasTypedEdits end.desk.entries → SentKeys (airings mux end.desk.entries) (A.written air.old) (A.written air.new)) }
     ensures memory { OnErr result (air.new ≡ air.old) }
 {
     let LivePlan {

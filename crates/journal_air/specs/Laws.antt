@@ -1,6 +1,8 @@
 -- Laws of what a journal puts on air.
-use Rattle.std.specs.Prelude.{◌≡◌, true, List}
+use Rattle.std.specs.Prelude.{◌≡◌, ◌≤◌, true, List}
 use Rattle.std.specs.List.{AllByRecursion}
+use Rattle.std.specs.Set.{distinct_count}
+use Rattle.section_codec.specs.KeyOrder.{is_key}
 use Rattle.section_codec.specs.declared.table.SubTable.{SubTable}
 use Rattle.version_book.specs.Airings.{AiredTables}
 use Rattle.mux_model.specs.declared.mux.Mux.{Mux}
@@ -10,6 +12,7 @@ use Rattle.journal_model.specs.declared.step.Entry.{Entry}
 use Rattle.desk_core.specs.Journal.{accepted, Legal}
 use Rattle.heard_completions.specs.Counting.{is_counted}
 use Rattle.air_hearing.specs.Counting.{CanBeHeard}
+use Rattle.air_hearing.specs.Sending.{carried_keys}
 use Rattle.journal_air.specs.Air.{airings}
 
 -- The accepted edits of a journal have numbers as wide as their fields, and texts that may be kept, as all edits that are read.
@@ -27,3 +30,8 @@ abbrev pub AiringsAreCounted : Type 0
 AiringsAreCounted =
     (mux : Mux) (journal : List Entry) → IsSound mux
     → AllByRecursion (λ (a : AiredTables). AllByRecursion (λ (t : SubTable). is_counted t.key.pid t.key.table ≡ true) a.tables) (airings mux journal)
+
+-- All airings of a journal together carry at most 1,155 keys: PAT, NIT and SDT, and of each of at most 64 services its PMT, present and following,
+-- and sixteen tables of its schedule.
+abbrev pub AiringsHaveFewKeys : Type 0
+AiringsHaveFewKeys = (mux : Mux) (journal : List Entry) → IsSound mux → distinct_count is_key (carried_keys (airings mux journal)) ≤ 1155

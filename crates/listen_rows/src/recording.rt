@@ -1,6 +1,7 @@
 // The recording of a row.
 use crate::run::{WHOLE, run_word};
 use row_lines::written_out;
+use si_base::crc32;
 use std::alloc::{AllocError, Global};
 use std::marker::Sync;
 use std::sync::Wait;
@@ -79,6 +80,28 @@ fn part(alloc: Global, bytes: &[u8], range: &str) -> Result<Vec<u8>, AllocError>
     Vec::from_slice(alloc, bytes.get(from..to).unwrap_or(&[]))
 }
 
+// Appends the packet with this number of a PID, with the PMT of a program that has no components.
+fn put_pmt(all: &mut Vec<u8>, pid: u8, packet: u64, program: u16) -> Result<(), AllocError> {
+    let [high, low] = program.to_be_bytes();
+    let section = [
+        0x02, 0xB0, 0x0D, high, low, 0xC1, 0x00, 0x00, 0xFF, 0xFF, 0xF0, 0x00,
+    ];
+    all.extend_from_slice(&[0x47, 0x40, pid, 0x10 | (packet % 16) as u8, 0x00])?;
+    all.extend_from_slice(&section)?;
+    all.extend_from_slice(&crc32(&section).to_be_bytes())?;
+    all.extend_from_slice(&[0xFF; 167])
+}
+
+// So many PMTs: of each program on PID 32, and then again on PID 33.
+fn pmts(alloc: Global, count: u64) -> Result<Vec<u8>, AllocError> {
+    let mut all = Vec::new(alloc);
+    for i in 0..count {
+        let pid = if i < 65_536 { 32 } else { 33 };
+        put_pmt(&mut all, pid, i, (i % 65_536) as u16)?;
+    }
+    Ok(all)
+}
+
 /// The recording that this text tells.
 pub fn recording_of<W: Threads + Wait + Sync>(
     rt: &W,
@@ -94,6 +117,7 @@ pub fn recording_of<W: Threads + Wait + Sync>(
             let script = names(alloc, number(text))?;
             air_of(rt, alloc, script.as_str())
         }
+        "pmts" => pmts(alloc, number(text)),
         "bytes" => {
             let (len, text) = text.split_once(' ').unwrap_or((text, ""));
             let bytes = spelled(alloc, text)?;

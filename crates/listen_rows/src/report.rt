@@ -1,5 +1,6 @@
 // What a run left, as text.
 use crate::run::Left;
+use si_base::crc32;
 use std::alloc::AllocError;
 
 // Appends lines of a report: a slash for LF, a bar for a tab.
@@ -38,6 +39,17 @@ pub fn put_whole(out: &mut String, left: &Left) -> Result<(), AllocError> {
     let code = left.status.code();
     write!(out, "{code}, ")?;
     put_lines(out, report_of(left))
+}
+
+/// Appends the exit status, how many completions are reported, the CRC_32 of their lines, and what stands behind them.
+pub fn put_crc(out: &mut String, left: &Left) -> Result<(), AllocError> {
+    let report = report_of(left);
+    let code = left.status.code();
+    let dones = report.lines().filter(|line| is_done(line)).count();
+    let len = done_len(report);
+    let crc = crc32(report.as_bytes().get(..len).unwrap_or(&[]));
+    write!(out, "{code}, {dones} done, {crc:08X}, ")?;
+    put_lines(out, report.get(len..).unwrap_or(""))
 }
 
 /// Appends the exit status, how many completions are reported, and what stands behind them.

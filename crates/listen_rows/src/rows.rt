@@ -1,6 +1,6 @@
 // A row and its answer.
 use crate::recording::recording_of;
-use crate::report::{put_guide, put_size, put_table, put_whole};
+use crate::report::{put_crc, put_guide, put_size, put_table, put_whole};
 use crate::run::{Ends, Left, WHOLE, run_word};
 use std::alloc::{AllocError, Global};
 use std::marker::Sync;
@@ -73,6 +73,7 @@ fn tell<W: Threads + Wait + Sync>(
     match call {
         "reports" => put_whole(out, &left_of(rt, alloc, row)?),
         "guide" => put_guide(out, &left_of(rt, alloc, row)?),
+        "lines" => put_crc(out, &left_of(rt, alloc, row)?),
         "table" => tell_table(rt, alloc, row, out),
         "each" => tell_each(rt, alloc, row, out),
         _ => out.push_str("no row"),

@@ -9,7 +9,7 @@ use Rattle.section_codec.specs.KeyOrder.{is_key, key_cmp}
 use Rattle.section_codec.proofs.KeyOrderFacts.{is_key-same, key_ties}
 use Rattle.sub_collect.specs.Runs.{Counted}
 use Rattle.sub_collect.specs.Completions.{of_key, completion, completions, latest_done, latest_of, shown_after, shown_at}
-use Rattle.sub_collect.specs.Collectors.{KeyHeard, KeysHeard, kept_in, IsKeptOf, StandsFor, CollectorStandsFor}
+use Rattle.sub_collect.specs.Collectors.{KeyHeard, KeysHeard, kept_in, IsKeptOf, StandsFor, EachStandsFor}
 use Rattle.sub_collect.specs.Slots.{kept_by, shown}
 use Rattle.sub_collect.specs.declared.collector.KeySlot.{KeySlot}
 use Rattle.sub_collect.proofs.Done.{of_key-one, of_key-other, shown_at-is}
@@ -53,8 +53,8 @@ some_more [] s e = cc
 some_more (x ∷ xs) s e = cc
 
 -- what is kept of each key, where one was put
-pub stands-put : (past : List Counted) (s : Counted) (old new : KeysHeard) (kept : KeyHeard) → CollectorStandsFor past old
-    → ((q : Key) → kept_in q new ≡ (if is_key s.key q then Some kept else kept_in q old)) → IsKeptOf (of_key s.key past ++ s ∷ []) kept → CollectorStandsFor (past ++ s ∷ []) new
+pub stands-put : (past : List Counted) (s : Counted) (old new : KeysHeard) (kept : KeyHeard) → EachStandsFor past old
+    → ((q : Key) → kept_in q new ≡ (if is_key s.key q then Some kept else kept_in q old)) → IsKeptOf (of_key s.key past ++ s ∷ []) kept → EachStandsFor (past ++ s ∷ []) new
 stands-put past s old new kept stands put is q = go (is_key s.key q) refl
   where
     go : (b : Bool) → is_key s.key q ≡ b → StandsFor (of_key q (past ++ s ∷ [])) (kept_in q new)

@@ -8,6 +8,8 @@ pub mod Needing
 pub mod Putting
 pub mod Taking
 pub mod Keys
+pub mod KeyCounts
+pub mod KeyLists
 pub mod OneContent
 pub mod Segmented
 pub mod Shown

@@ -4,6 +4,7 @@ use Rattle.std.specs.List.{AllByRecursion}
 use Rattle.section_codec.specs.declared.table.Key.{Key}
 use Rattle.section_codec.specs.KeyOrder.{is_key}
 use Rattle.sub_collect.specs.Runs.{Counted, all_of_version, run_of, latest_section, latest_with, last_told}
+use Rattle.sub_collect.specs.KeyCounts.{HaveFewKeys}
 use Rattle.sub_collect.specs.Completions.{IsOfKey, of_key, completion, completions, latest_done, shown_after, shown_at}
 use Rattle.sub_collect.specs.declared.completed.Completed.{Completed}
 
@@ -65,9 +66,14 @@ abbrev pub StandsFor : List Counted → Option KeyHeard → Type 0
 StandsFor heard None = heard ≡ []
 StandsFor heard (Some kept) = (heard ≢ []) × IsKeptOf heard kept
 
--- The collector stands for these counted sections, in the order in which they ended.
-abbrev pub CollectorStandsFor : List Counted → KeysHeard → Type 0
-CollectorStandsFor past collector = (k : Key) → StandsFor (of_key k past) (kept_in k collector)
+-- What is kept of each key stands for its sections among these.
+abbrev pub EachStandsFor : List Counted → KeysHeard → Type 0
+EachStandsFor past collector = (k : Key) → StandsFor (of_key k past) (kept_in k collector)
+
+-- The collector stands for these counted sections, in the order in which they ended. They have no more keys than it keeps.
+pub record CollectorStandsFor (past : List Counted) (collector : KeysHeard) : Type 0 where
+  pub each : EachStandsFor past collector
+  pub few : HaveFewKeys past
 
 -- ---- a section that is held already
 

@@ -1,4 +1,5 @@
 pub mod Runs
+pub mod KeyCounts
 pub mod Completions
 pub mod Collectors
 pub mod Slots

@@ -4,6 +4,7 @@ use Rattle.section_codec.specs.declared.table.Key.{Key}
 use Rattle.section_codec.specs.declared.table.NumberedBody.{NumberedBody}
 use Rattle.section_codec.specs.Contents.{Content}
 use Rattle.sub_collect.specs.Runs.{Counted, run_of, needed}
+use Rattle.sub_collect.specs.KeyCounts.{key_count}
 use Rattle.sub_collect.specs.Completions.{latest_of, dones}
 use Rattle.sub_collect.specs.declared.completed.Completed.{Completed}
 
@@ -172,3 +173,12 @@ segment_tells_again = refl
 -- a body without a segment_last_section_number tells none
 tells_none : needed (record { key = schedule; version = 0; number = 0; last = 0; body = 0 ∷ 1 ∷ [] } ∷ []) ≡ None
 tells_none = refl
+
+-- ---- keys
+
+-- a key counts once, however many sections, versions and contents of it were heard
+two_keys : key_count (s 0 0 1 7 ∷ of nit 5 0 0 1 ∷ s 0 1 1 8 ∷ s 1 0 0 9 ∷ of nit 6 0 0 1 ∷ []) ≡ 2
+two_keys = refl
+
+no_key : key_count [] ≡ 0
+no_key = refl

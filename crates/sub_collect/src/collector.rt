@@ -1,10 +1,11 @@
 // Completions, kept by key.
-ghost use Rattle.std.specs.Prelude.{◌≡◌, ◌≤◌, ◌<◌, ◌+◌, ◌++◌, ◌∷◌, ℕ, [], List, map, Option, Some, None, option_map, option_copied, IfOk, OnOk, OnErr, if◌then◌else◌, true};
+ghost use Rattle.std.specs.Prelude.{◌≡◌, ◌≤◌, ◌<◌, ◌+◌, ◌++◌, ◌∷◌, ◌↔◌, ℕ, [], List, map, Option, Some, None, Err, option_map, option_copied, IfOk, OnOk, OnErr, IsTrue, if◌then◌else◌, true};
 ghost use Rattle.std.specs.List.{AllByRecursion};
 ghost use Rattle.section_codec.specs.declared.table.Key.{Key};
 ghost use Rattle.sub_collect.specs.Runs.{Counted, counted};
 ghost use Rattle.sub_collect.specs.Completions.{IsOfKey, completion, completions, latest_done, latest_of, shown_after, shown_at};
-ghost use Rattle.sub_collect.specs.Collectors.{CollectorStandsFor, IsKeptOf, IsRepeated, IsRepeatedOf};
+ghost use Rattle.sub_collect.specs.KeyCounts.{key_count, HaveTooManyKeys};
+ghost use Rattle.sub_collect.specs.Collectors.{CollectorStandsFor, EachStandsFor, IsKeptOf, IsRepeated, IsRepeatedOf};
 ghost use Rattle.sub_collect.specs.Slots.{kept_by, shown, latest_with_done};
 ghost use Rattle.sub_collect.specs.declared.completed.Completed.{Completed};
 
@@ -15,6 +16,17 @@ use si_base::Bytes;
 use std::alloc::{AllocError, Global};
 use std::collections::BTreeMap;
 use std::marker::Model;
+
+/// Why a section is not taken: a collector keeps sections of at most 65,536 keys, and this one would bring a key more; or memory was
+/// wanting.
+#[derive(Clone, Copy, PartialEq, Eq)]
+pub enum TakeStop {
+    TooMany,
+    Memory,
+}
+
+// The most keys that have a section.
+const MOST_KEYS: usize = 65_536;
 
 /// What was heard of sub-tables. It stands for the counted sections that were taken, in the order in which
 /// they ended: it keeps, of each key, the latest bodies of the present run and the latest completion.
@@ -63,18 +75,58 @@ impl Collector {
     /// completion, or the key had none (ISO/IEC 13818-1, 2.4.4; EN 300 468, 5.1.1). It needs the numbers from 0 to
     /// this section's last_section_number; of a table with event information, of each segment up to that of
     /// last_section_number those up to the segment_last_section_number that the segment's latest section tells
-    /// (EN 300 468, 5.2.4). The content has for each number the body that was heard last. Where memory is wanting,
-    /// the collector stays as it was, and the section does not count.
+    /// (EN 300 468, 5.2.4). The content has for each number the body that was heard last. `TooMany` comes exactly where no
+    /// section of this key was taken before and 65,536 keys have one. After an `Err` the collector is as it was, and the
+    /// section does not count.
     pub fn take(
         &mut self,
         key: Key,
         header: &LongHeader,
         body: Bytes,
-    ) -> Result<Option<u8>, AllocError>
+    ) -> Result<Option<u8>, TakeStop>
         ensures shown { IfOk result (λ shown. (past : List Counted) → CollectorStandsFor past self.old
             → shown ≡ option_map (λ d. d.version) (shown_at past (counted key header.now body))) }
         ensures stands { OnOk result ((past : List Counted) → CollectorStandsFor past self.old
             → CollectorStandsFor (past ++ counted key header.now body ∷ []) self.new) }
+        ensures too_many { (past : List Counted) → CollectorStandsFor past self.old
+            → (result ≡ Err TakeStop.TooMany) ↔ HaveTooManyKeys (past ++ counted key header.now body ∷ []) }
+        ensures unchanged { OnErr result (self.new ≡ self.old) }
+    {
+        if self.lacks_room(key) {
+            return Err(TakeStop::TooMany);
+        }
+        match self.count(key, header, body) {
+            Ok(shown) => Ok(shown),
+            Err(_) => Err(TakeStop::Memory),
+        }
+    }
+
+    /// How many keys have a section. It takes no memory.
+    pub fn keys(&self) -> usize
+        ensures { (past : List Counted) → CollectorStandsFor past self.now → result ≡ key_count past }
+    {
+        self.slots.len()
+    }
+
+    // Whether a section of this key would bring a key too many.
+    fn lacks_room(&self, key: Key) -> bool
+        ensures { (past : List Counted) (s : Counted) → s.key ≡ key → CollectorStandsFor past self.now
+            → IsTrue result ↔ HaveTooManyKeys (past ++ s ∷ []) }
+    {
+        self.slots.len() >= MOST_KEYS && !self.slots.contains_key(&key)
+    }
+
+    // Counts one section more of a key, whether there is room for the key or not.
+    fn count(
+        &mut self,
+        key: Key,
+        header: &LongHeader,
+        body: Bytes,
+    ) -> Result<Option<u8>, AllocError>
+        ensures shown { IfOk result (λ shown. (past : List Counted) → EachStandsFor past self.old
+            → shown ≡ option_map (λ d. d.version) (shown_at past (counted key header.now body))) }
+        ensures stands { OnOk result ((past : List Counted) → EachStandsFor past self.old
+            → EachStandsFor (past ++ counted key header.now body ∷ []) self.new) }
         ensures memory { OnErr result (self.new ≡ self.old) }
     {
         match self.slots.get_mut(&key) {

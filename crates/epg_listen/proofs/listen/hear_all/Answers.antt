@@ -6,7 +6,7 @@ use Rattle.guide_receiver.specs.Heard.{ReceiverStandsFor}
 use Rattle.heard_completions.specs.Dones.{at_packet, dones_by}
 use Rattle.heard_completions.specs.Texts.{done_lines}
 use Rattle.si_causes.proofs.CauseFacts.{Appends-nothing}
-use Rattle.epg_listen.specs.Hearing.{ReportsLines}
+use Rattle.epg_listen.specs.Hearing.{ReportsLines, IsTooManyAt}
 use Rattle.epg_listen.proofs.ListenFacts.{HasParted, start_parted, parted_recording, more_parted, given_packet, reported_more, heard_line, heard_end, heard_stop, no_read_cause}
 use Rattle.epg_listen.proofs.listen.hear_all.Goals as goal
 
@@ -60,6 +60,8 @@ returns-in-Err-hear_packet-clause-heard g c = λ bytes tells.
     (g.R.Sink.written c.args.report.now) (g.R.Sink.written c.loop-number.report) (g.R.Sink.written c.hear_packet.new.report) (parted_recording bytes t.1 t.2 t.0 (packets_to_come c.loop-number.packets) t.4) given.2 number t.7
     (subst (λ (p : List ℕ). ReportsLines (g.R.Sink.written c.loop-number.report) (g.R.Sink.written c.hear_packet.new.report) (done_lines (map (at_packet c.in-Ok-Some.number) (dones_by t.0 p))) (Err c.in-Err-hear_packet.stop))
     c.packet.ensures (c.in-Err-hear_packet.ensures.reports t.0 t.5))
+    t.5.completions.few
+    (subst (λ (p : List ℕ). IsTooManyAt c.in-Ok-Some.number (t.0 ++ p ∷ []) (Err c.in-Err-hear_packet.stop)) c.packet.ensures (c.in-Err-hear_packet.ensures.too_many t.0 t.5))
 
 pub returns-in-Ok-None-clause-heard : goal.returns-in-Ok-None-clause-heard
 returns-in-Ok-None-clause-heard g c = λ bytes tells.
@@ -73,7 +75,7 @@ returns-in-Err-clause-heard g c = λ bytes tells.
     let i = c.loop-number.invariant in
     let t = i.told bytes tells in
     heard_stop g.S.Source.left c.loop-number.packets c.next.new.self c.in-Err.stop bytes t.1 t.2 t.0 c.loop-number.receiver (g.R.Sink.written c.args.report.now) (g.R.Sink.written c.loop-number.report)
-    t.3 t.4 t.6 (c.in-Err.ensures.packets i.going t.2 t.3) (c.in-Err.ensures.takes i.going) (c.in-Err.ensures.counts i.going) t.7
+    t.3 t.4 t.6 (c.in-Err.ensures.packets i.going t.2 t.3) (c.in-Err.ensures.takes i.going) (c.in-Err.ensures.counts i.going) t.7 t.5.completions.few
 
 pub returns-in-Err-hear_packet-clause-read_cause : goal.returns-in-Err-hear_packet-clause-read_cause
 returns-in-Err-hear_packet-clause-read_cause g c =

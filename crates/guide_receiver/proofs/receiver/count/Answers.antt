@@ -26,25 +26,25 @@ pub returns-in-Some-shown-clause-done : goal.returns-in-Some-shown-clause-done
 returns-in-Some-shown-clause-done c =
     let counts = c.in-Some.counts in
     let s = counted counts.key counts.header counts.body in
-    let is : Some s ≡ counted_in c.args.section.now = ap (option_map (λ (x : CountedSection). counted x.key x.header x.body)) (sym c.in-Some.is) ∙ c.in_ok-counts.ensures.counts in
+    let is : Some s ≡ counted_in c.args.section.now = ap (option_map (λ (x : CountedSection). counted x.key x.header x.body)) (sym c.in-Some.is) ∙ c.in-Ok.ensures.counts in
     λ past stands. one_shown past (counted_in c.args.section.now) s (Some c.in-Some-shown.version) is (sym c.in-Some-shown.is ∙ c.in_ok-shown.ensures.shown past stands)
 
 pub returns-in-Some-shown-clause-stands : goal.returns-in-Some-shown-clause-stands
 returns-in-Some-shown-clause-stands c =
     let counts = c.in-Some.counts in
     let s = counted counts.key counts.header counts.body in
-    let is : Some s ≡ counted_in c.args.section.now = ap (option_map (λ (x : CountedSection). counted x.key x.header x.body)) (sym c.in-Some.is) ∙ c.in_ok-counts.ensures.counts in
+    let is : Some s ≡ counted_in c.args.section.now = ap (option_map (λ (x : CountedSection). counted x.key x.header x.body)) (sym c.in-Some.is) ∙ c.in-Ok.ensures.counts in
     λ past stands. subst (λ o. CollectorStandsFor (past ++ option_to_list o) c.take.new.self) is (c.in_ok-shown.ensures.stands past stands)
 
 pub returns-in-None-clause-stands : goal.returns-in-None-clause-stands
 returns-in-None-clause-stands c =
     let counts = c.in-Some.counts in
     let s = counted counts.key counts.header counts.body in
-    let is : Some s ≡ counted_in c.args.section.now = ap (option_map (λ (x : CountedSection). counted x.key x.header x.body)) (sym c.in-Some.is) ∙ c.in_ok-counts.ensures.counts in
+    let is : Some s ≡ counted_in c.args.section.now = ap (option_map (λ (x : CountedSection). counted x.key x.header x.body)) (sym c.in-Some.is) ∙ c.in-Ok.ensures.counts in
     λ past stands. subst (λ o. CollectorStandsFor (past ++ option_to_list o) c.take.new.self) is (c.in_ok-shown.ensures.stands past stands)
 
-pub returns-in_err-counts-clause-known : goal.returns-in_err-counts-clause-known
-returns-in_err-counts-clause-known c = c.counted_section.ensures.known c.args.collector.now (c.counts_again.ensures.known c.requires.known)
+pub returns-in_default-found-clause-known : goal.returns-in_default-found-clause-known
+returns-in_default-found-clause-known c = c.counted_section.ensures.known c.args.collector.now (c.counts_again.ensures.known c.requires.known)
 
 pub returns-in_default-clause-known : goal.returns-in_default-clause-known
 returns-in_default-clause-known c = c.counted_section.ensures.known c.args.collector.now (c.counts_again.ensures.known c.requires.known)

@@ -1,16 +1,31 @@
-use Rattle.std.proofs.Common.{◌++◌, List, map, take, subst, sym, ap, ◌∙◌, append_assoc, arith}
-use Rattle.std.specs.Prelude.{option_to_list}
+use Rattle.std.proofs.Common.{◌≡◌, ◌+◌, ◌++◌, List, Err, map, take, drop, refl, subst, sym, ap, ◌∙◌, append_assoc, take-append-drop, arith}
+use Rattle.std.specs.Prelude.{Result, option_to_list}
 use Rattle.std.proofs.lemmas.List.{take_all}
 use Rattle.ts_demux.specs.declared.section.RawSection.{RawSection}
+use Rattle.sub_collect.specs.Runs.{Counted}
+use Rattle.sub_collect.specs.KeyCounts.{key_count, HaveTooManyKeys}
+use Rattle.sub_collect.specs.declared.collector.TakeStop.{TakeStop}
+use Rattle.sub_collect.specs.declared.collector.TakeStop.TheVariants.{TooMany}
 use Rattle.sub_collect.specs.Completions.{dones}
 use Rattle.sub_collect.specs.Collectors.{CollectorStandsFor}
+use Rattle.sub_collect.proofs.KeyCounts.{count-grows}
 use Rattle.heard_completions.specs.Counting.{counted_in, counted_among}
 use Rattle.heard_completions.specs.declared.done.DoneKey.{DoneKey}
 use Rattle.guide_receiver.specs.Latest.{keys_shown, kept_keys, AreLatest}
 use Rattle.heard_completions.specs.Dones.{done_key}
-use Rattle.heard_completions.proofs.Shown.{among-next, more_shown}
+use Rattle.heard_completions.proofs.Shown.{among-append, among-next, more_shown}
 use Rattle.guide_receiver.proofs.Latest.{keys-more}
 use Rattle.guide_receiver.proofs.receiver.count_all.Goals as goal
+
+same_stop : (r : Result (Unit {0}) TakeStop) (s t : TakeStop) → r ≡ Err s → r ≡ Err t → s ≡ t
+same_stop r s t e f = let both = sym e ∙ f in cc
+
+-- where some sections have a key too many, so have they with others behind them
+more-too-many : (past : List Counted) (front rest all : List RawSection) → front ++ rest ≡ all → HaveTooManyKeys (past ++ counted_among front) → HaveTooManyKeys (past ++ counted_among all)
+more-too-many past front rest all is many =
+    let grows = count-grows (past ++ counted_among front) (counted_among rest) in
+    let same = ap key_count (append_assoc past (counted_among front) (counted_among rest) ∙ ap (λ t. past ++ t) (sym (among-append front rest)) ∙ ap (λ (t : List RawSection). past ++ counted_among t) is) in
+    omega (arith, many, grows, same)
 
 pub loop-section-preserved : goal.loop-section-preserved
 loop-section-preserved c =
@@ -22,17 +37,17 @@ loop-section-preserved c =
       λ past stands.
           let i = c.loop-section.invariant.1 past stands in
           let shown = map done_key (dones past front) in (
-            subst (λ t. CollectorStandsFor t c.count.new.collector) (append_assoc past front one ∙ ap (λ t. past ++ t) (sym next)) (c.in_ok-done.ensures.stands (past ++ front) i.0),
-            c.in_ok-keep_shown.ensures.shown ∙ ap (λ t. t ++ option_to_list c.in_ok-done.done) i.1 ∙ append_assoc c.args.shown.now shown (option_to_list c.in_ok-done.done)
-                ∙ ap (λ t. c.args.shown.now ++ (shown ++ t)) (c.in_ok-done.ensures.done (past ++ front) i.0)
+            subst (λ t. CollectorStandsFor t c.count.new.collector) (append_assoc past front one ∙ ap (λ t. past ++ t) (sym next)) (c.in-Ok.ensures.stands (past ++ front) i.0),
+            c.in-Ok-keep_shown.ensures.shown ∙ ap (λ t. t ++ option_to_list c.in-Ok.done) i.1 ∙ append_assoc c.args.shown.now shown (option_to_list c.in-Ok.done)
+                ∙ ap (λ t. c.args.shown.now ++ (shown ++ t)) (c.in-Ok.ensures.done (past ++ front) i.0)
                 ∙ ap (λ t. c.args.shown.now ++ t) (sym (more_shown past front one))
                 ∙ ap (λ t. c.args.shown.now ++ map done_key (dones past t)) (sym next),
             λ latest.
                 let keys = keys_shown (past ++ front) in
                 subst (λ ks. AreLatest ks (kept_keys c.keep_shown.new.latest))
-                (ap (λ (ds : List DoneKey). keys ++ map (λ (d : DoneKey). d.key) ds) (c.in_ok-done.ensures.done (past ++ front) i.0)
+                (ap (λ (ds : List DoneKey). keys ++ map (λ (d : DoneKey). d.key) ds) (c.in-Ok.ensures.done (past ++ front) i.0)
                 ∙ sym (keys-more (past ++ front) one) ∙ ap keys_shown (append_assoc past front one ∙ ap (λ t. past ++ t) (sym next)))
-                (c.in_ok-keep_shown.ensures.latest keys (i.2 latest)),
+                (c.in-Ok-keep_shown.ensures.latest keys (i.2 latest)),
           ),
     )
 
@@ -53,3 +68,14 @@ returns-clause-latest c =
     let sections = c.args.sections.now in
     let whole = take_all c.loop-section.section-index sections (omega (arith, c.loop-section-test.false)) in
     λ past stands latest. subst (λ (t : List RawSection). AreLatest (keys_shown (past ++ counted_among t)) (kept_keys c.loop-section.latest)) whole ((c.loop-section.invariant.1 past stands).2 latest)
+
+pub returns-in-Err-clause-too_many : goal.returns-in-Err-clause-too_many
+returns-in-Err-clause-too_many c = λ past stands many.
+    let sections = c.args.sections.now in
+    let i = c.loop-section.section-index in
+    let front = counted_among (take i sections) in
+    let one = option_to_list (counted_in c.section-item.result) in
+    let next = among-next sections i c.section-item.result c.loop-section-test.true c.section-item.is in
+    let here = c.in-Err.ensures.too_many (past ++ front) (c.loop-section.invariant.1 past stands).0 (ap (λ (s : TakeStop). Err s) (same_stop (Err c.in-Err.stop) c.in-Err.stop TooMany refl many)) in
+    more-too-many past (take (i + 1) sections) (drop (i + 1) sections) sections (take-append-drop (i + 1) sections)
+    (subst HaveTooManyKeys (append_assoc past front one ∙ ap (λ t. past ++ t) (sym next)) here)

@@ -12,6 +12,7 @@ use Rattle.headend_live.specs.Watched.{HeardOfAir, watched_stop}
 use Rattle.journal_air.proofs.CarryFacts.{airings_heard}
 use Rattle.journal_screen.proofs.Shown.{sent_shown}
 use Rattle.headend_live.proofs.Coherent.{air_coherent}
+use Rattle.headend_live.proofs.Keys.{sent_keys}
 use Rattle.headend_live.proofs.Spaced.{air_spaced, airings_fit}
 use Rattle.headend_live.proofs.Viewed.{no_stop, stop_twice, viewed_end, views_asked, views_ready}
 use Rattle.headend_live.proofs.Watching.{heard_of_air, heard_whole, or_wanting}
@@ -89,6 +90,16 @@ returns-in-Ok-clause-exact g c =
     sent_shown c.args.mux end.desk.entries read did.2.journal_did.legal (g.A.Sink.written c.args.air.now) (g.A.Sink.written ran.new.air)
     (air_coherent c.args.mux end.desk.entries (g.A.Sink.written c.args.air.now) (g.A.Sink.written ran.new.air) end.sent
     (airings_heard c.args.mux end.desk.entries read.sound read.edits did.2.journal_did.legal) did.2.air)
+
+pub returns-in-Ok-clause-keys : goal.returns-in-Ok-clause-keys
+returns-in-Ok-clause-keys g c =
+    let ran = c.run_and_hear-end in
+    let end = c.in-Ok.end in
+    let did = rw c.in-Ok.is at ran.ensures.did in
+    λ sound typed.
+    let can = airings_heard c.args.mux end.desk.entries sound typed did.2.journal_did.legal in
+    sent_keys c.args.mux end.desk.entries (g.A.Sink.written c.args.air.now) (g.A.Sink.written ran.new.air) sound.sound can
+    (air_coherent c.args.mux end.desk.entries (g.A.Sink.written c.args.air.now) (g.A.Sink.written ran.new.air) end.sent can did.2.air)
 
 pub run_and_hear-end-requires-clause-views : goal.run_and_hear-end-requires-clause-views
 run_and_hear-end-requires-clause-views g c κs within =

@@ -1,9 +1,11 @@
-use Rattle.std.proofs.Common.{◌≡◌, ◌++◌, ◌∷◌, List, [], map, length, true, refl, subst, sym, ap, ◌∙◌, append-nil, arith}
+use Rattle.std.proofs.Common.{◌≡◌, ◌++◌, ◌∷◌, List, [], Err, map, length, true, refl, subst, sym, ap, ◌∙◌, append-nil, arith}
 use Rattle.std.specs.Prelude.{◌==◌}
 use Rattle.std.proofs.lemmas.Bool.{eqb-true}
 use Rattle.ts_demux.specs.declared.section.RawSection.{RawSection}
 use Rattle.ts_demux.specs.Sections.{ended_by, heard_all}
 use Rattle.sub_collect.specs.Runs.{Counted}
+use Rattle.sub_collect.specs.KeyCounts.{HaveTooManyKeys}
+use Rattle.sub_collect.specs.declared.collector.TakeStop.{TakeStop}
 use Rattle.sub_collect.specs.Completions.{dones}
 use Rattle.sub_collect.specs.Collectors.{CollectorStandsFor}
 use Rattle.heard_completions.specs.Counting.{counted_among}
@@ -39,8 +41,8 @@ returns-then-is_empty-clause-stands c =
       clock = subst (λ (t : List RawSection). IsClock t c.self.inside.clock) all kept.clock;
     }
 
-pub returns-clause-dones : goal.returns-clause-dones
-returns-clause-dones c =
+pub returns-in-Ok-count_all-clause-dones : goal.returns-in-Ok-count_all-clause-dones
+returns-in-Ok-count_all-clause-dones c =
     λ past stands.
     let kept = subst (ReceiverStandsFor past) (sym c.self.view_is) stands in
     let heard : c.as_slice-2.result.now ≡ ended_by past c.args.packet.now = c.as_slice-2.ensures ∙ c.in-Ok-hear.ensures.heard past kept.sections in
@@ -48,8 +50,8 @@ returns-clause-dones c =
     ∙ ap (λ t. t ++ map done_key (dones (counted_heard past) (counted_among c.as_slice-2.result.now))) c.new-dones.ensures
     ∙ ap (λ (t : List RawSection). map done_key (dones (counted_heard past) (counted_among t))) heard
 
-pub returns-clause-stands : goal.returns-clause-stands
-returns-clause-stands c =
+pub returns-in-Ok-count_all-clause-stands : goal.returns-in-Ok-count_all-clause-stands
+returns-in-Ok-count_all-clause-stands c =
     λ past stands.
     let kept = subst (ReceiverStandsFor past) (sym c.self.view_is) stands in
     let packet = c.args.packet.now in
@@ -66,3 +68,17 @@ returns-clause-stands c =
       clock = subst (λ (t : List RawSection). IsClock t c.in-Ok-clock_behind.clock) all
           (c.in-Ok-clock_behind.ensures (heard_all [] past) kept.clock);
     }
+
+pub returns-then-is_empty-clause-few : goal.returns-then-is_empty-clause-few
+returns-then-is_empty-clause-few c = λ past stands. (returns-then-is_empty-clause-stands c past stands).completions.few
+
+pub returns-in-Ok-count_all-clause-few : goal.returns-in-Ok-count_all-clause-few
+returns-in-Ok-count_all-clause-few c = λ past stands. (returns-in-Ok-count_all-clause-stands c past stands).completions.few
+
+pub returns-in-Err-TooMany-clause-too_many : goal.returns-in-Err-TooMany-clause-too_many
+returns-in-Err-TooMany-clause-too_many c =
+    λ past stands many.
+    let kept = subst (ReceiverStandsFor past) (sym c.self.view_is) stands in
+    let heard : c.as_slice-2.result.now ≡ ended_by past c.args.packet.now = c.as_slice-2.ensures ∙ c.in-Ok-hear.ensures.heard past kept.sections in
+    let counted = ap (λ (t : List RawSection). counted_heard past ++ counted_among t) heard ∙ sym (counted-push past c.args.packet.now) in
+    subst HaveTooManyKeys counted (c.count_all.ensures.too_many (counted_heard past) kept.completions (c.in-Err-TooMany.is ∙ ap (λ (s : TakeStop). Err s) c.in-Err-TooMany.field-0-is))

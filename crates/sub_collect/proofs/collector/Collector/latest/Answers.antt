@@ -10,7 +10,7 @@ returns-in-Some c = record {
       let k = c.args.key in
       let found : kept_in k c.args.self.now ≡ Some (kept_by c.in-Some.slot.now) =
       ap (λ (b : KeysHeard). kept_in k b) (sym c.self.view_is) ∙ kept_in-shown k c.self.inside.slots.entries ∙ ap (option_map kept_by) (sym c.in-Some.ensures.value) in
-      c.as_ref.ensures.value ∙ (of-kept k past (kept_in k c.args.self.now) (kept_by c.in-Some.slot.now) (stands k) found).latest;
+      c.as_ref.ensures.value ∙ (of-kept k past (kept_in k c.args.self.now) (kept_by c.in-Some.slot.now) (stands.each k) found).latest;
 }
 
 pub returns-in-None : goal.returns-in-None
@@ -19,5 +19,5 @@ returns-in-None c = record {
       let k = c.args.key in
       let found : kept_in k c.args.self.now ≡ None =
       ap (λ (b : KeysHeard). kept_in k b) (sym c.self.view_is) ∙ kept_in-shown k c.self.inside.slots.entries ∙ ap (option_map kept_by) (sym c.in-None.ensures.value) in
-      sym (latest-none k past (of-none k past (kept_in k c.args.self.now) (stands k) found));
+      sym (latest-none k past (of-none k past (kept_in k c.args.self.now) (stands.each k) found));
 }
