@@ -35,6 +35,10 @@ fn hear_all(
                 let line = format!(in alloc; "no packet\t{place}\n")?;
                 lines.extend_from_slice(line.as_bytes())?;
             }
+            Err(HearStop::TooMany) => {
+                let line = format!(in alloc; "too many keys\t{place}\n")?;
+                lines.extend_from_slice(line.as_bytes())?;
+            }
             Err(HearStop::Memory) => return Err(AllocError),
         }
     }

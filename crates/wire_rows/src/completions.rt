@@ -3,7 +3,7 @@ use row_lines::{MOST, Row};
 use section_codec::{Key, LongHeader};
 use si_base::{Bytes, Items};
 use std::alloc::{AllocError, Global};
-use sub_collect::Collector;
+use sub_collect::{Collector, TakeStop};
 
 /// `take SECTION / SECTION ..`: each section that shows a completion, and then the latest completions of tables 42, 40 and 50. A section is
 /// its table, version, number and last number, and its body, as `42 v0 1/3 07`. Numbers from one to another have their number as
@@ -43,7 +43,8 @@ fn take_part(row: &mut Row, collector: &mut Collector, place: &mut u64) {
         match take_one(row.alloc(), collector, sections, number, &body) {
             Ok(Some(version)) => put_shown(row, *place, version),
             Ok(None) => {}
-            Err(_) => row.lack_memory(),
+            Err(TakeStop::TooMany) => row.put_number(" too many at ", *place),
+            Err(TakeStop::Memory) => row.lack_memory(),
         }
         *place = place.saturating_add(1);
     }
@@ -61,7 +62,7 @@ fn take_one(
     sections: Sections,
     number: u8,
     body: &[u8],
-) -> Result<Option<u8>, AllocError> {
+) -> Result<Option<u8>, TakeStop> {
     let header = LongHeader {
         table: sections.table,
         ext: 1,
@@ -70,7 +71,9 @@ fn take_one(
         number,
         last: sections.last,
     };
-    let body = body_of(alloc, number, body)?;
+    let Ok(body) = body_of(alloc, number, body) else {
+        return Err(TakeStop::Memory);
+    };
     collector.take(key_of(sections.table), &header, body)
 }
 

@@ -60,6 +60,7 @@ fn receive_all(row: &mut Row, receiver: &mut Receiver) {
                 row.begin_part();
                 row.put_number(" refused sync at ", u64::from(place));
             }
+            Err(HearStop::TooMany) => row.put_number(" too many at ", u64::from(place)),
             Err(HearStop::Memory) => row.lack_memory(),
         }
         if !row.goes_on() {
