@@ -1,8 +1,8 @@
 -- What the commands of a script put on air, and what the first of them do.
-use Rattle.std.proofs.Common.{◌≡◌, ℕ, ◌*◌, ◌/◌, List, [], ◌∷◌, ◌++◌, length, take, drop, refl, sym, ap, ◌∙◌, subst, arith, map, append-nil, append_assoc, length-map}
+use Rattle.std.proofs.Common.{◌≡◌, ℕ, ◌+◌, ◌*◌, ◌/◌, List, [], ◌∷◌, ◌++◌, length, take, drop, refl, sym, ap, ◌∙◌, subst, arith, map, append-nil, append_assoc}
 use Rattle.std.specs.Prelude.{Option, Some}
 use Rattle.std.specs.List.{AllByRecursion}
-use Rattle.std.proofs.lemmas.List.{take_all}
+use Rattle.std.proofs.lemmas.List.{length-map, take_all}
 use Rattle.si_lists.proofs.Lists.{all_behind, all_map}
 use Rattle.si_causes.specs.Text.{text_lines}
 use Rattle.input_lines.specs.Ahead.{tail_of}
@@ -13,6 +13,7 @@ use Rattle.ts_packets.specs.WholePackets.{whole_packets}
 use Rattle.air_model.specs.Air.{Aired, CanBeSent, IsAirOf, air, air_bytes, airings_of}
 use Rattle.air_model.proofs.Repeating.{airs_repeat}
 use Rattle.air_hearing.specs.Counting.{CanBeHeard}
+use Rattle.air_coherence.specs.Coherence.{IsCoherent}
 use Rattle.air_coherence.proofs.Coherent.{front_is_coherent, front_packets}
 use Rattle.air_audit.specs.Audits.{AreAnAir}
 use Rattle.mux_model.specs.declared.mux.Mux.{Mux}
@@ -23,7 +24,7 @@ use Rattle.desk_core.specs.Desks.{DeskState, fresh}
 use Rattle.desk_core.proofs.JournalFacts.{journal_legal, journal_more}
 use Rattle.journal_air.specs.Air.{airings, airings_by}
 use Rattle.journal_air.proofs.CarryFacts.{airings_heard}
-use Rattle.journal_screen.specs.Shown.{IsAsRead}
+use Rattle.journal_screen.specs.Shown.{IsAsRead, IsExact}
 use Rattle.journal_screen.proofs.Shown.{journals_shown}
 use Rattle.headend_jobs.proofs.SwapFacts.{airings-push}
 use Rattle.epg_play.specs.Played.{desk_after}
@@ -100,6 +101,6 @@ script_heard text mux packets e is =
       cycles = is.xs;
       is_air = is.is_air;
       packets_are = is.packets_are;
-      coherent = subst _ all (front_is_coherent aired is.xs (airs_repeat aired is.xs is.is_air) (airings_heard mux journal read.sound read.edits legal) n);
-      exact = subst _ all (journals_shown mux journal read legal is.xs [] (sym is.is_air.airings_are ∙ sym (append-nil (airings_of is.xs))) (airs_repeat (airings_of is.xs) is.xs own) n);
+      coherent = subst (IsCoherent is.xs) all (front_is_coherent aired is.xs (airs_repeat aired is.xs is.is_air) (airings_heard mux journal read.sound read.edits legal) n);
+      exact = subst (IsExact mux journal is.xs) all (journals_shown mux journal read legal is.xs [] (sym is.is_air.airings_are ∙ sym (append-nil (airings_of is.xs))) (airs_repeat (airings_of is.xs) is.xs own) n);
     }

@@ -4,7 +4,8 @@ use Rattle.std.specs.Prelude.{Option, Some, None, Ok, Err, Result, IfErr, OnOk}
 use Rattle.std.specs.Io.KnownBytes.{Appends, IsAtEnd}
 use Rattle.std.proofs.lemmas.List.{take-append-drop}
 use Rattle.si_causes.specs.Causes.{Rose, AppendsFront}
-use Rattle.si_causes.specs.Opening.{Files, Tries, file_at}
+use Rattle.si_causes.proofs.CauseFacts.{Rose-from}
+use Rattle.si_causes.specs.Opening.{Files, GivesFile, TakesBack, Tries, file_at}
 use Rattle.packet_reader.specs.Recordings.{packet_limit}
 use Rattle.mux_model.specs.declared.mux.Mux.{Mux}
 use Rattle.version_book.specs.Airings.{AiredTables}
@@ -21,7 +22,8 @@ use Rattle.epg_play.specs.Script.{Stop, Ended, NoMux, NoCommand, Disagreed, TooL
 use Rattle.epg_play.specs.Leaves.{whole_journal}
 use Rattle.epg_audit.specs.declared.cycles.AirCount.{AirCount}
 use Rattle.epg_audit.specs.Ends.{air_line, count_text, met_by}
-use Rattle.epg_audit.specs.Finds.{AtPath, FindsIn, HasAskedFor, HasMetCause, IsFound, IsMetByAudit}
+use Rattle.epg_audit.specs.Audits.{HasAuditCause}
+use Rattle.epg_audit.specs.Finds.{AtPath, FindsIn, HasAskedFor, HasMetCause, IsFound, IsMetBehind, IsMetByAudit}
 use Rattle.epg_audit.specs.Leaves.{AuditRun, DecidedBy, IsOfAudit, IsUnhindered, LeavesAudit}
 use Rattle.epg_audit.specs.Recorded.{IsFaulty, IsRecordedAir, airings_for, script_airings}
 
@@ -122,7 +124,7 @@ module _ (path : List ℕ) (files : Files) (text : List ℕ) (left : Option (Lis
   Decided status = (status ≡ Memory) ⊎ AtPath path files (DecidedBy aired status)
 
   stops_not : (stop : Stop) (status : Status) → (script_in text).stop ≡ Ended → (script_in text).stop ≡ stop → (Ended ≡ stop → ⊥) → Decided status
-  stops_not stop status ended is no = absurd (no (sym ended ∙ is))
+  stops_not stop status ended is apart = absurd (apart (sym ended ∙ is))
 
   decided : (status : Status) → LeavesAudit path files text left report status → (script_in text).stop ≡ Ended → (status ≡ ReadFault Input → ⊥) → (status ≡ ReadFault Recording → ⊥) → ((n : ℕ) → status ≡ OpenFault n → ⊥)
       → (status ≡ WriteFault Report → ⊥) → Decided status
@@ -215,3 +217,48 @@ audit_memory path opener input report status e same = subst (AuditRun path opene
   cause = tt;
   report_cause = λ h. (let no : Memory ≡ WriteFault Report = h in cc no);
 })
+
+-- ---- behind the description
+
+pub behind_met : (status : Status) → IsMetBehind status → IsMetByAudit status
+behind_met (BadMux fault) is = tt
+behind_met (OpenFault n) is = tt
+behind_met other is = is
+
+pub results_met : (result : Result AirCount Status) → IfErr result IsMetBehind → IfErr result IsMetByAudit
+results_met (Ok count) is = tt
+results_met (Err status) is = behind_met status is
+
+asked_behind : (path : List ℕ) (old new : Option (List (List ℕ))) (status : Status) → IsMetBehind status → Tries old new path → HasAskedFor path old new status
+asked_behind path old new (BadMux fault) is tried = absurd is
+asked_behind path old new (PastLimit Input) is tried = inr tried
+asked_behind path old new (PastLimit (Feed f)) is tried = tried
+asked_behind path old new (PastLimit Recording) is tried = tried
+asked_behind path old new (ReadFault Input) is tried = inr tried
+asked_behind path old new (ReadFault (Feed f)) is tried = tried
+asked_behind path old new (ReadFault Recording) is tried = tried
+asked_behind path old new Memory is tried = inr tried
+asked_behind path old new other is tried = tried
+
+pub results_asked : (path : List ℕ) (old new : Option (List (List ℕ))) (result : Result AirCount Status) → IfErr result IsMetBehind → Tries old new path → HasAskedFor path old new (met_by result)
+results_asked path old new (Ok count) is tried = tried
+results_asked path old new (Err status) is tried = asked_behind path old new status is tried
+
+-- the count of a source without a fault rose
+some_fault : (now : ℕ) → Rose 0 now → 0 < now
+some_fault now (inl more) = more
+some_fault now (inr last) = omega (arith, last)
+
+pub results_caused : (input_before input_mid input_now failed : ℕ) (opener : OpenerAsked) (result : Result AirCount Status) → IfErr result IsMetBehind → input_before ≤ input_mid → HasAuditCause input_mid input_now 0 failed result
+    → TakesBack failed opener.read_old opener.read_new → IfErr result (HasMetCause input_before input_now opener)
+results_caused input_before input_mid input_now failed opener (Ok count) is le cause back = tt
+results_caused input_before input_mid input_now failed opener (Err (ReadFault Input)) is le cause back = Rose-from input_before input_mid input_now le cause
+results_caused input_before input_mid input_now failed opener (Err (ReadFault Recording)) is le cause back = back.rose (some_fault failed cause)
+results_caused input_before input_mid input_now failed opener (Err (ReadFault (Feed f))) is le cause back = tt
+results_caused input_before input_mid input_now failed opener (Err (OpenFault n)) is le cause back = absurd is
+results_caused input_before input_mid input_now failed opener (Err other) is le cause back = tt
+
+-- an opener that tells its files gives the bytes of one
+pub given_file : (files : Files) (path : List ℕ) (left : Option (List ℕ)) → GivesFile (Some files) path left → (bytes : List ℕ) × (left ≡ Some bytes) × (file_at path files ≡ Some bytes)
+given_file files path None gives = absurd gives
+given_file files path (Some bytes) gives = (bytes, refl, gives)

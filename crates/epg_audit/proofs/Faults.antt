@@ -44,10 +44,10 @@ differs_at airings bytes packets rest p behind n rule t e long number begins dif
 pub differs_in_cycle : (airings others : List AiredTables) (bytes : List ℕ) (packets : List (List ℕ)) (rest p behind : List ℕ) (n : ℕ) (rule : Rule) (c : Checking) → StandsFor airings packets c → (IsAtEnd c → ⊥)
     → CanBeSent others → (BeginAnAir airings (packets ++ p ∷ []) → ⊥) → rule ≡ rule_broken (to_come_on c.on_pids (pid_in p)) (count_on (pid_in p) packets % 16) p
     → AreTaken bytes packets rest → rest ≡ p ++ behind → length p ≡ 188 → n ≡ length packets → IsFaulty (airings ++ others) bytes (NotAir n rule)
-differs_in_cycle airings others bytes packets rest p behind n rule c stands open can differs rule_is t e long number =
+differs_in_cycle airings others bytes packets rest p behind n rule c stands unended can differs rule_is t e long number =
     differs_at (airings ++ others) bytes packets rest p behind n rule t e long number
     (longer_begins airings others packets can (stands_begins airings packets c stands))
-    (λ b. differs ((longer_lists_agree airings others packets c p stands open can).0 b))
+    (λ b. differs ((longer_lists_agree airings others packets c p stands unended can).0 b))
     (inl (record {
       front = airings;
       others = others;
@@ -56,7 +56,7 @@ differs_in_cycle airings others bytes packets rest p behind n rule c stands open
       accepted_are = stands.accepted_are;
       to_come = to_come_on c.on_pids;
       so_far = stands.so_far;
-      goes_on = open;
+      goes_on = unended;
       rule_is = rule_is;
     }))
 
@@ -72,11 +72,11 @@ shape_broken c packets p e = rw e refl
 
 pub broken_in_cycle : (airings others : List AiredTables) (bytes : List ℕ) (packets : List (List ℕ)) (rest : List ℕ) (n : ℕ) (c : Checking) → StandsFor airings packets c → (IsAtEnd c → ⊥)
     → CanBeSent others → AreTaken bytes packets rest → 188 ≤ length rest → is_packet (take 188 rest) ≡ false → n ≡ length packets → IsFaulty (airings ++ others) bytes (NotAir n Shape)
-broken_in_cycle airings others bytes packets rest n c stands open can t long broken number =
+broken_in_cycle airings others bytes packets rest n c stands unended can t long broken number =
     let p = take 188 rest in
     let size : length p ≡ 188 = length-take-le 188 rest long in
     let shape = no_shape p size broken in
-    differs_in_cycle airings others bytes packets rest p (drop 188 rest) n Shape c stands open can
+    differs_in_cycle airings others bytes packets rest p (drop 188 rest) n Shape c stands unended can
     (λ b. (let none = (wrong_shape airings packets c p stands shape).1 b in cc none)) (shape_broken c packets p shape)
     t (sym (take-append-drop 188 rest)) size number
 

@@ -37,9 +37,9 @@ use Rattle.epg_audit.proofs.Airings.{desk_begins_script, desk_is_script, script_
 
 -- ---- a script that stops
 
-some_mux : (o : Option Mux) (mux : Mux) → o ≡ Some mux → IsSome o
+pub some_mux : (o : Option Mux) (mux : Mux) → o ≡ Some mux → IsSome o
 some_mux None mux e = cc e
-some_mux (Some other) mux e = tt
+some_mux (Some other) mux e = refl
 
 if_some : (o : Option Mux) (mux : Mux) (Is : Type 0) → o ≡ Some mux → Is → IfSome o (λ m. Is)
 if_some None mux Is e is = cc e
@@ -115,7 +115,7 @@ module _ {S F : Type 0} (left : S → Option (List ℕ)) (gives : F → Option (
   stop_found : (desk : DeskState) (status : Status) → ScriptStops left gives mid new start (fresh mux) desk status → IsFound path files text (left new.source) status
   stop_found desk status s =
       subst (IsFound path files text (left new.source)) (sym s.is)
-      (script_found path files text bytes (left new.source) mux desk s.stop (rest_played left source mid new text mux desk (Err s.stop) told ahead came s.stops) file (s.behind bytes tells) s.no_air)
+      (script_found path files text bytes (left new.source) mux desk s.stop (rest_played left source mid new text mux desk (Err s.stop) told ahead came s.stops) file (s.behind bytes tells) s.of_script)
 
   err_found : (desk : DeskState) (status : Status) → AuditDid left gives mid new start (fresh mux) desk (Err status) → IsFound path files text (left new.source) status
   err_found desk Memory did = tt

@@ -4,7 +4,8 @@ use Rattle.std.specs.Prelude.{Option, Some, None, Ok, Err, if◌then◌else◌, 
 use Rattle.std.specs.Io.KnownBytes.{IsAtEnd as IsReadToEnd}
 use Rattle.std.proofs.lemmas.Bool.Decides.{nat_tests}
 use Rattle.packet_reader.specs.Recordings.{is_packet, packet_limit, packets_in}
-use Rattle.packet_reader.specs.Reading.{Counts, GivesPacket, KeepsPiece, PacketReading, TakesPacket, bytes_left, packets_to_come}
+use Rattle.si_causes.proofs.CauseFacts.{Rose-from}
+use Rattle.packet_reader.specs.Reading.{Counts, GivesPacket, HasCause, KeepsPiece, PacketReading, TakesPacket, bytes_left, packets_to_come}
 use Rattle.packet_reader.specs.declared.stop.PacketStop.{PacketStop}
 use Rattle.packet_reader.specs.declared.stop.PacketStop.TheVariants as stop
 use Rattle.packet_reader.proofs.Giving.{given_broken, given_end, given_past, held_at_end, held_first, none_at_end, some_broken, some_past_limit}
@@ -19,7 +20,7 @@ use Rattle.air_audit.specs.Checking.{Checking, IsAtEnd, StandsFor, rule_broken}
 use Rattle.air_audit.proofs.Checks.{stands_begins}
 use Rattle.air_audit.proofs.Longer.{longer_begins}
 use Rattle.epg_report.specs.declared.status.Status.TheVariants.{BadStream, NotAir, Short}
-use Rattle.epg_audit.specs.Checks.{Checks, Ends, Follows, GivesNoMore, recording_status}
+use Rattle.epg_audit.specs.Checks.{Checks, Ends, Follows, HasReadCause, recording_status}
 use Rattle.epg_audit.proofs.Faults.{broken_in_cycle, cut_short, differs_in_cycle, past_limit, short_in_cycle}
 use Rattle.epg_audit.proofs.Pieces.{taken_more, taken_none}
 
@@ -33,6 +34,10 @@ module _ {F : Type 0} (left : F → Option (List ℕ)) (start old new : PacketRe
     within = omega arith;
     taken = λ bytes told. (bytes, told, taken_none bytes);
   }
+
+  -- another cycle begins
+  pub follows_begun : (aired next : List AiredTables) (c d : Checking) → (f : Follows left start old aired c) → StandsFor next f.packets d → Follows left start old next d
+  follows_begun aired next c d f stands = record { packets = f.packets; stands = stands; number = f.number; within = f.within; taken = f.taken }
 
   -- one packet more that is accepted
   pub follows_more : (airings : List AiredTables) (c d : Checking) (p : List ℕ) (n : ℕ) → (f : Follows left start old airings c) → StandsFor airings (f.packets ++ p ∷ []) d → p ≡ new.packet
@@ -52,10 +57,10 @@ module _ {F : Type 0} (left : F → Option (List ℕ)) (start old new : PacketRe
   pub follows_differ : (airings : List AiredTables) (c d : Checking) (p : List ℕ) (n : ℕ) (rule : Rule) → (f : Follows left start old airings c) → (IsAtEnd c → ⊥) → (BeginAnAir airings (f.packets ++ p ∷ []) → ⊥)
       → rule ≡ rule_broken (to_come_on c.on_pids (pid_in p)) (count_on (pid_in p) f.packets % 16) p → p ≡ new.packet
       → Counts old new (Ok (Some n)) → TakesPacket left old new (Ok (Some n)) → Checks left start new airings d (Err (NotAir n rule))
-  follows_differ airings c d p n rule f open differs rule_is same counts takes = λ bytes told others can.
+  follows_differ airings c d p n rule f unended differs rule_is same counts takes = λ bytes told others can.
       let t = f.taken bytes told in
       let u = takes t.0 t.1 in
-      differs_in_cycle airings others bytes f.packets t.0 p u.0 n rule c f.stands open can differs rule_is t.2 (u.2 ∙ ap (λ (l : List ℕ). l ++ u.0) (sym same)) (ap length same ∙ counts.3) (counts.0 ∙ f.number)
+      differs_in_cycle airings others bytes f.packets t.0 p u.0 n rule c f.stands unended can differs rule_is t.2 (u.2 ∙ ap (λ (l : List ℕ). l ++ u.0) (sym same)) (ap length same ∙ counts.3) (counts.0 ∙ f.number)
 
   -- none is left
   pub follows_short : (airings : List AiredTables) (c d : Checking) (n : ℕ) → (f : Follows left start old airings c) → (AreAnAir airings f.packets → ⊥) → n ≡ new.number → Counts old new (Ok None)
@@ -81,26 +86,26 @@ module _ {F : Type 0} (left : F → Option (List ℕ)) (start old new : PacketRe
 
   broken_stop : (airings : List AiredTables) (c d : Checking) (n : ℕ) → (f : Follows left start old airings c) → (IsAtEnd c → ⊥) → n ≡ old.number → GivesNow (stop.Broken n) → KeepsPiece left old new (Err (stop.Broken n))
       → (few : Bool) → nat_lt (length new.held) 188 ≡ few → Checks left start new airings d (Err (if few then BadStream n else NotAir n Shape))
-  broken_stop airings c d n f open number gives keeps true is = λ bytes told others can.
+  broken_stop airings c d n f unended number gives keeps true is = λ bytes told others can.
       let t = f.taken bytes told in
       let broken = some_broken (packets_to_come old) t.0 (given_broken left old new (packets_in (packets_to_come old) t.0) n (gives t.0 t.1)) in
       let few : length new.held < 188 = grind (arith, nat_tests, is) in
       cut_short (airings ++ others) bytes f.packets t.0 n (longer_begins airings others f.packets can (stands_begins airings f.packets c f.stands)) t.2 broken.0 (left_short t.0 (keeps.0 t.0 t.1) keeps.1 few) (number ∙ f.number)
-  broken_stop airings c d n f open number gives keeps false is = λ bytes told others can.
+  broken_stop airings c d n f unended number gives keeps false is = λ bytes told others can.
       let t = f.taken bytes told in
       let broken = some_broken (packets_to_come old) t.0 (given_broken left old new (packets_in (packets_to_come old) t.0) n (gives t.0 t.1)) in
       let enough : 188 ≤ length new.held = grind (arith, nat_tests, is) in
-      broken_in_cycle airings others bytes f.packets t.0 n c f.stands open can t.2 (left_long t.0 (keeps.0 t.0 t.1) enough) broken.1 (number ∙ f.number)
+      broken_in_cycle airings others bytes f.packets t.0 n c f.stands unended can t.2 (left_long t.0 (keeps.0 t.0 t.1) enough) broken.1 (number ∙ f.number)
 
   -- the reader stops
   pub follows_stop : (airings : List AiredTables) (c d : Checking) (s : PacketStop) → (f : Follows left start old airings c) → (IsAtEnd c → ⊥) → Counts old new (Err s) → GivesNow s → KeepsPiece left old new (Err s)
       → Checks left start new airings d (Err (recording_status new s Shape))
-  follows_stop airings c d stop.Failed f open counts gives keeps = λ bytes told others can. tt
-  follows_stop airings c d stop.TooLong f open counts gives keeps = λ bytes told others can.
+  follows_stop airings c d stop.Failed f unended counts gives keeps = λ bytes told others can. tt
+  follows_stop airings c d stop.TooLong f unended counts gives keeps = λ bytes told others can.
       let t = f.taken bytes told in
       let past = some_past_limit (packets_to_come old) t.0 (given_past left old new (packets_in (packets_to_come old) t.0) (gives t.0 t.1)) in
       past_limit (airings ++ others) bytes f.packets t.0 (longer_begins airings others f.packets can (stands_begins airings f.packets c f.stands)) t.2 past.1 (omega (arith, past.0, f.number, f.within))
-  follows_stop airings c d (stop.Broken n) f open counts gives keeps = broken_stop airings c d n f open counts.0 gives keeps (nat_lt (length new.held) 188) refl
+  follows_stop airings c d (stop.Broken n) f unended counts gives keeps = broken_stop airings c d n f unended counts.0 gives keeps (nat_lt (length new.held) 188) refl
 
   -- ---- behind the last cycle
 
@@ -127,4 +132,14 @@ module _ {F : Type 0} (left : F → Option (List ℕ)) (start old new : PacketRe
   ends_stop stop.TooLong counts gives keeps rest told =
       let past = some_past_limit (packets_to_come old) rest (given_past left old new (packets_in (packets_to_come old) rest) (gives rest told)) in
       (omega (arith, past.0), past.1)
-  ends_stop (stop.Broken n) counts gives keeps = broken_end n counts.0 gives keeps (nat_lt (length new.held) 188) refl
+  ends_stop (stop.Broken n) counts gives keeps rest told = broken_end n counts.0 gives keeps (nat_lt (length new.held) 188) refl rest told
+
+-- a reader that stops by a failed read has its cause
+broken_caused : (before now : ℕ) (n : ℕ) (rule : Rule) (few : Bool) → HasReadCause before now (Err (if few then BadStream n else NotAir n rule))
+broken_caused before now n rule true = tt
+broken_caused before now n rule false = tt
+
+pub stop_caused : {F : Type 0} (before mid now : ℕ) (reader : PacketReading F) (s : PacketStop) (rule : Rule) → before ≤ mid → HasCause {T = Option ℕ} mid now (Err s) → HasReadCause before now (Err (recording_status reader s rule))
+stop_caused before mid now reader stop.Failed rule le cause = Rose-from before mid now le cause
+stop_caused before mid now reader stop.TooLong rule le cause = tt
+stop_caused before mid now reader (stop.Broken n) rule le cause = broken_caused before now n rule (nat_lt (length reader.held) 188)

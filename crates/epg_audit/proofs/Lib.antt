@@ -4,3 +4,4 @@ pub mod Following
 pub mod Airings
 pub mod Finding
 pub mod AuditRuns
+pub mod Going

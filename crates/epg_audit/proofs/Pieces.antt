@@ -19,14 +19,15 @@ taken_more bytes packets rest p behind t e long = record {
 -- ---- pieces
 
 -- the pieces of whole packets and of what stands behind them
-pieces_parted : (packets : List (List ℕ)) (m : ℕ) (rest : List ℕ) → AreWhole packets → pieces (length packets + m) (joined packets ++ rest) ≡ packets ++ pieces m rest
-pieces_parted [] m rest whole = refl
-pieces_parted (p ∷ ps) m rest whole =
+pieces_parted : (packets : List (List ℕ)) (n m : ℕ) (rest : List ℕ) → n ≡ length packets + m → AreWhole packets → pieces n (joined packets ++ rest) ≡ packets ++ pieces m rest
+pieces_parted [] n m rest count whole = (let same : n ≡ m = omega (arith, count) in ap (λ (k : ℕ). pieces k rest) same)
+pieces_parted (p ∷ ps) zero m rest count whole = absurd (omega (arith, count))
+pieces_parted (p ∷ ps) (suc n) m rest count whole =
     let behind = joined ps ++ rest in
     let apart : joined (p ∷ ps) ++ rest ≡ p ++ behind = append_assoc p (joined ps) rest in
-    ap (λ (b : List ℕ). take 188 b ∷ pieces (length ps + m) (drop 188 b)) apart
-    ∙ ap₂ (λ (x y : List ℕ). x ∷ pieces (length ps + m) y) (take_at p behind 188 whole.0) (drop_at p behind 188 whole.0)
-    ∙ ap (λ (l : List (List ℕ)). p ∷ l) (pieces_parted ps m rest whole.1)
+    ap (λ (b : List ℕ). take 188 b ∷ pieces n (drop 188 b)) apart
+    ∙ ap₂ (λ (x y : List ℕ). x ∷ pieces n y) (take_at p behind 188 whole.0) (drop_at p behind 188 whole.0)
+    ∙ ap (λ (l : List (List ℕ)). p ∷ l) (pieces_parted ps n m rest (omega (arith, count)) whole.1)
 
 length-joined : (packets : List (List ℕ)) → AreWhole packets → length (joined packets) ≡ 188 * length packets
 length-joined [] whole = refl
@@ -38,7 +39,7 @@ size_parted bytes packets rest t = ap length t.parted ∙ length-append (joined 
 pub packets_parted : (bytes : List ℕ) (packets : List (List ℕ)) (rest : List ℕ) → AreTaken bytes packets rest → whole_packets bytes ≡ packets ++ whole_packets rest
 packets_parted bytes packets rest t =
     let count : length bytes / 188 ≡ length packets + length rest / 188 = omega (arith, size_parted bytes packets rest t) in
-    ap (λ (n : ℕ). pieces n bytes) count ∙ ap (pieces (length packets + length rest / 188)) t.parted ∙ pieces_parted packets (length rest / 188) rest t.whole
+    ap (λ (n : ℕ). pieces n bytes) count ∙ ap (pieces (length packets + length rest / 188)) t.parted ∙ pieces_parted packets (length packets + length rest / 188) (length rest / 188) rest refl t.whole
 
 -- what is shorter than a packet has no piece
 pub no_pieces : (rest : List ℕ) → length rest < 188 → whole_packets rest ≡ []

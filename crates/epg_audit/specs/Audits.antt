@@ -39,6 +39,7 @@ module _ {S F : Type 0} (left : S → Option (List ℕ)) (gives : F → Option (
   pub record ScriptStops (status : Status) : Type 0 where
     pub stop : PlayStop
     pub is : status ≡ status_for stop
+    pub of_script : IsOfScript stop
     pub stops : Stops left old now before desk (Err stop)
     pub behind : OfRecording (BeginsWithAir (desk_airings desk))
 
@@ -51,7 +52,7 @@ module _ {S F : Type 0} (left : S → Option (List ℕ)) (gives : F → Option (
   -- the recording is at fault behind the last cycle of a script that is whole
   pub record EndStops (status : Status) : Type 0 where
     pub ended : Stops left old now before desk (Ok tt)
-    pub faulty : OfRecording (IsFaulty (desk_airings desk))
+    pub faulty : OfRecording (λ bytes. IsFaulty (desk_airings desk) bytes status)
 
   -- an audit of the rest of a script goes through, or stops
   abbrev pub AuditDid : Result (Unit {0}) Status → Type 0

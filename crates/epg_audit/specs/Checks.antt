@@ -13,7 +13,7 @@ use Rattle.air_audit.specs.declared.rule.Rule.{Rule}
 use Rattle.air_audit.specs.declared.rule.Rule.TheVariants.{Pid}
 use Rattle.air_audit.specs.Checking.{Checking, StandsFor}
 use Rattle.epg_report.specs.declared.status.Status.{Status}
-use Rattle.epg_report.specs.declared.status.Status.TheVariants.{BadStream, Memory, NotAir, ReadFault, TooLong}
+use Rattle.epg_report.specs.declared.status.Status.TheVariants.{BadStream, Memory, NotAir, ReadFault, Short, TooLong}
 use Rattle.epg_report.specs.declared.status.Origin.TheVariants.{Recording}
 use Rattle.epg_audit.specs.Recorded.{IsFaulty}
 
@@ -42,6 +42,16 @@ abbrev pub recording_status : {F : Type 0} → PacketReading F → PacketStop �
 recording_status reader stop.Failed rule = ReadFault Recording
 recording_status reader stop.TooLong rule = TooLong Recording
 recording_status reader (stop.Broken n) rule = if nat_lt (length reader.held) 188 then BadStream n else NotAir n rule
+
+-- the statuses of a recording that is checked
+abbrev pub IsOfCheck : Status → Type 0
+IsOfCheck (NotAir n rule) = Unit {0}
+IsOfCheck (Short n) = Unit {0}
+IsOfCheck (BadStream n) = Unit {0}
+IsOfCheck (TooLong Recording) = Unit {0}
+IsOfCheck (ReadFault Recording) = Unit {0}
+IsOfCheck Memory = Unit {0}
+IsOfCheck status = ⊥
 
 -- What a reader gives behind the last cycle: nothing, or what is at fault.
 abbrev pub GivesNoMore : List ℕ → ℕ → Result (Unit {0}) Status → Type 0

@@ -99,18 +99,22 @@ HasMetCause input_before input_now opener (ReadFault Recording) = Rose opener.re
 HasMetCause input_before input_now opener (OpenFault n) = Rose opener.faults_old opener.faults_new
 HasMetCause input_before input_now opener status = Unit {0}
 
--- the statuses that an audit may have met before it reports
+-- the statuses that may be met behind the description, once the recording is open
+abbrev pub IsMetBehind : Status → Type 0
+IsMetBehind (BadScript n) = Unit {0}
+IsMetBehind (Disagrees n kept found) = Unit {0}
+IsMetBehind (PastLimit Input) = Unit {0}
+IsMetBehind (PastLimit Recording) = Unit {0}
+IsMetBehind (ReadFault Input) = Unit {0}
+IsMetBehind (ReadFault Recording) = Unit {0}
+IsMetBehind (BadStream n) = Unit {0}
+IsMetBehind (NotAir n rule) = Unit {0}
+IsMetBehind (Short n) = Unit {0}
+IsMetBehind Memory = Unit {0}
+IsMetBehind status = ⊥
+
+-- and those that an audit may have met before it reports
 abbrev pub IsMetByAudit : Status → Type 0
 IsMetByAudit (BadMux fault) = Unit {0}
-IsMetByAudit (BadScript n) = Unit {0}
-IsMetByAudit (Disagrees n kept found) = Unit {0}
-IsMetByAudit (PastLimit Input) = Unit {0}
-IsMetByAudit (PastLimit Recording) = Unit {0}
-IsMetByAudit (ReadFault Input) = Unit {0}
-IsMetByAudit (ReadFault Recording) = Unit {0}
 IsMetByAudit (OpenFault n) = Unit {0}
-IsMetByAudit (BadStream n) = Unit {0}
-IsMetByAudit (NotAir n rule) = Unit {0}
-IsMetByAudit (Short n) = Unit {0}
-IsMetByAudit Memory = Unit {0}
-IsMetByAudit status = ⊥
+IsMetByAudit status = IsMetBehind status

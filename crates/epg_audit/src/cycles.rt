@@ -10,7 +10,8 @@ ghost use Rattle.air_audit.specs.Checking.{IsAtEnd, StandsFor, form_of};
 ghost use Rattle.headend_jobs.specs.OnAir.{airing_on};
 ghost use Rattle.epg_report.specs.Texts.{CanBeSaid};
 ghost use Rattle.epg_audit.specs.Audits.{AuditDid, HasAuditCause};
-ghost use Rattle.epg_audit.specs.Checks.{Checks, Follows, HasReadCause};
+ghost use Rattle.epg_audit.specs.Finds.{IsMetBehind};
+ghost use Rattle.epg_audit.specs.Checks.{Checks, Follows, HasReadCause, IsOfCheck};
 
 use crate::recording::{check_cycle, check_end};
 use air_audit::Checker;
@@ -56,6 +57,7 @@ fn check_on_air<F: Source>(
     ensures at_end { OnOk result (IsAtEnd checker.new) }
     ensures going { OnOk result (packets.new.stop ≡ None) }
     ensures quota { checker.new.quota ≡ checker.old.quota }
+    ensures known { IfErr result IsOfCheck }
     ensures cause { HasReadCause (F.faults packets.old.source) (F.faults packets.new.source) result }
     ensures later { F.faults packets.old.source ≤ F.faults packets.new.source }
 {
@@ -85,6 +87,7 @@ pub(crate) fn audit_rest<S: Source, F: Source>(
     ensures number { (bytes : List ℕ) → bytes_left F.left packets.old ≡ Some bytes
         → OnOk result (packets.new.number ≡ length (whole_packets bytes)) }
     ensures said { IfErr result CanBeSaid }
+    ensures known { IfErr result IsMetBehind }
     ensures end { OnOk result (IsReadToEnd (S.left lines.new.source)) }
     ensures cause { HasAuditCause (S.faults lines.old.source) (S.faults lines.new.source)
         (F.faults packets.old.source) (F.faults packets.new.source) result }

@@ -1,9 +1,9 @@
 // The packets of a recording, held against the cycle that is on air.
-ghost use Rattle.std.specs.Prelude.{◌≡◌, ◌≤◌, None, OnOk, List, ℕ};
+ghost use Rattle.std.specs.Prelude.{◌≡◌, ◌≤◌, None, IfErr, OnOk, List, ℕ};
 ghost use Rattle.packet_reader.specs.Reading.{PacketReading};
 ghost use Rattle.version_book.specs.Airings.{AiredTables};
 ghost use Rattle.air_audit.specs.Checking.{IsAtEnd};
-ghost use Rattle.epg_audit.specs.Checks.{Checks, Ends, Follows, HasReadCause, recording_status};
+ghost use Rattle.epg_audit.specs.Checks.{Checks, Ends, Follows, HasReadCause, IsOfCheck, recording_status};
 
 use air_audit::{Checker, Rule};
 use epg_report::{Origin, Status};
@@ -12,7 +12,8 @@ use si_causes::Source;
 
 // The status of a recording that gives no further packet; where a piece of the length of a packet is none, it breaks this rule.
 fn status_of<F: Source>(packets: &PacketReader<F>, stop: PacketStop, rule: Rule) -> Status
-    ensures { result ≡ recording_status packets.now stop rule }
+    ensures value { result ≡ recording_status packets.now stop rule }
+    ensures known { IsOfCheck result }
 {
     match stop {
         PacketStop::Failed => Status::ReadFault(Origin::Recording),
@@ -36,6 +37,7 @@ pub(crate) fn check_cycle<F: Source>(
     ensures at_end { OnOk result (IsAtEnd checker.new) }
     ensures going { OnOk result (packets.new.stop ≡ None) }
     ensures quota { checker.new.quota ≡ checker.old.quota }
+    ensures known { IfErr result IsOfCheck }
     ensures cause { HasReadCause (F.faults packets.old.source) (F.faults packets.new.source) result }
     ensures later { F.faults packets.old.source ≤ F.faults packets.new.source }
 {
@@ -57,6 +59,8 @@ pub(crate) fn check_cycle<F: Source>(
 pub(crate) fn check_end<F: Source>(packets: &mut PacketReader<F>) -> Result<(), Status>
     requires going { packets.old.stop ≡ None }
     ensures ends { Ends F.left packets.old packets.new result }
+    ensures number { OnOk result (packets.new.number ≡ packets.old.number) }
+    ensures known { IfErr result IsOfCheck }
     ensures cause { HasReadCause (F.faults packets.old.source) (F.faults packets.new.source) result }
     ensures later { F.faults packets.old.source ≤ F.faults packets.new.source }
 {

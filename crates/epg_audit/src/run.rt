@@ -1,13 +1,14 @@
 // An audit of a recording by the script of the input.
-ghost use Rattle.std.specs.Prelude.{◌≡◌, ◌≤◌, List, ℕ, IfErr, IfOk, OnOk};
+ghost use Rattle.std.specs.Prelude.{◌≡◌, None, IfErr, OnOk};
 ghost use Rattle.std.specs.Io.KnownBytes.{IsAtEnd};
 ghost use Rattle.si_causes.specs.Reading.{fresh};
 ghost use Rattle.packet_reader.specs.Reading.{fresh as unread};
+ghost use Rattle.mux_model.specs.Sound.{IsSound};
 ghost use Rattle.epg_report.specs.Texts.{CanBeSaid};
 ghost use Rattle.epg_report.specs.Told.{asked};
 ghost use Rattle.epg_audit.specs.Audits.{HasAuditCause, RecordingAudited};
 ghost use Rattle.epg_audit.specs.Ends.{met_by};
-ghost use Rattle.epg_audit.specs.Finds.{Finds, HasAskedFor, HasMetCause, IsMetByAudit};
+ghost use Rattle.epg_audit.specs.Finds.{Finds, HasAskedFor, HasMetCause, IsMetBehind, IsMetByAudit};
 ghost use Rattle.epg_audit.specs.Leaves.{AuditRan};
 
 use crate::cycles::{AirCount, audit_rest, swap_count};
@@ -29,10 +30,12 @@ fn audit_recording<S: Source, F: Source>(
     mux: Mux,
     packets: &mut PacketReader<F>,
 ) -> Result<AirCount, Status>
+    requires sound { IsSound mux }
     requires going { lines.old.stop ≡ None }
     requires unread { packets.old ≡ unread packets.old.source }
     ensures audited { RecordingAudited S.left F.left lines.old lines.new packets.old mux result }
     ensures said { IfErr result CanBeSaid }
+    ensures known { IfErr result IsMetBehind }
     ensures end { OnOk result (IsAtEnd (S.left lines.new.source)) }
     ensures cause { HasAuditCause (S.faults lines.old.source) (S.faults lines.new.source)
         (F.faults packets.old.source) (F.faults packets.new.source) result }

@@ -1,0 +1,241 @@
+-- An audit, command by command.
+use Rattle.std.proofs.Common.{◌≡◌, ℕ, ◌+◌, ◌<◌, ◌≤◌, Bool, true, false, List, [], ◌∷◌, ◌++◌, length, length-append, take, refl, sym, ap, ◌∙◌, subst, arith, inl, inr, ◌⊎◌}
+use Rattle.std.specs.Prelude.{Option, Some, None, Ok, Err, OnOk, Result}
+use Rattle.si_causes.specs.Reading.{Reading}
+use Rattle.si_causes.specs.declared.stop.ReadStop.TheVariants.{Failed, TooLong as Overlong}
+use Rattle.si_causes.proofs.CauseFacts.{Rose-from}
+use Rattle.packet_reader.specs.Reading.{PacketReading, bytes_left}
+use Rattle.packet_reader.specs.Recordings.{packet_limit}
+use Rattle.mux_model.specs.declared.mux.Mux.{Mux}
+use Rattle.journal_model.specs.declared.step.Step.{Step}
+use Rattle.journal_model.specs.declared.step.Step.TheVariants.{Edit as edit, Tick, Publish, Swap}
+use Rattle.journal_model.specs.declared.step.Outcome.{Outcome}
+use Rattle.journal_model.specs.declared.step.Entry.{Entry}
+use Rattle.desk_core.specs.Journal.{Legal, entry_after, moment_of, outcome_of, publishes}
+use Rattle.desk_core.specs.Desks.{DeskState}
+use Rattle.desk_core.proofs.DerivedFacts.{not_aired}
+use Rattle.journal_air.specs.Air.{airings, mux_form}
+use Rattle.version_book.specs.Airings.{AiredTables, CycleForm}
+use Rattle.ts_packets.specs.WholePackets.{whole_packets}
+use Rattle.air_model.specs.Air.{CanBeSent}
+use Rattle.air_audit.specs.declared.rule.Rule.{Rule}
+use Rattle.air_audit.specs.declared.rule.Rule.TheVariants.{Pid}
+use Rattle.air_audit.specs.Audits.{AreAnAir}
+use Rattle.air_audit.specs.Checking.{Checking, IsAtEnd, StandsFor, form_of}
+use Rattle.air_audit.proofs.Checks.{end_is_air, stands_begins}
+use Rattle.headend_jobs.specs.OnAir.{airing_on, and_step, is_swap}
+use Rattle.headend_jobs.proofs.SwapFacts.{airings-other, airings-swap}
+use Rattle.epg_report.specs.declared.status.Status.{Status}
+use Rattle.epg_report.specs.declared.status.Status.TheVariants.{BadMux, BadScript, Disagrees, BadStream, Memory, NotAir, OpenFault, ReadFault, Short, TooLong, WriteFault}
+use Rattle.epg_report.specs.declared.status.Origin.TheVariants.{Feed, Input, Recording}
+use Rattle.epg_report.specs.Texts.{CanBeSaid}
+use Rattle.epg_play.specs.declared.stop.PlayStop.{PlayStop}
+use Rattle.epg_play.specs.declared.stop.PlayStop.TheVariants.{NoMux as Undescribed, NoCommand as Refused, Disagrees as Differs, Read, Air as OnAir, Memory as NoMemory}
+use Rattle.epg_play.specs.Items.{ItemDid, StepAt, Stops, Went}
+use Rattle.epg_play.specs.Leaves.{status_for}
+use Rattle.epg_play.specs.Played.{HasReadCause as HasInputCause, IsStopInWindow}
+use Rattle.epg_audit.specs.Audits.{AuditDid, CycleStops, EndStops, HasAuditCause, IsOfScript, ScriptStops, desk_airings}
+use Rattle.epg_audit.specs.Checks.{AreTaken, Checks, Ends, Follows, GivesNoMore, HasReadCause, IsOfCheck}
+use Rattle.epg_audit.specs.Finds.{IsMetBehind}
+use Rattle.epg_audit.specs.Recorded.{BeginsWithAir, IsFaulty, IsRecordedAir}
+use Rattle.epg_audit.proofs.Faults.{cut_short, differs_at_end, past_limit, recorded}
+use Rattle.epg_audit.proofs.Pieces.{front_is, packets_parted, packets_taken}
+
+-- ---- what a step puts on air
+
+swapped : (mux : Mux) (xs : List Entry) (who : ℕ) (step : Step) → Legal mux xs → is_swap step ≡ true
+    → airings mux (xs ++ entry_after mux xs (who, step) ∷ []) ≡ airings mux xs ++ airing_on (record { mux = mux; entries = xs ++ entry_after mux xs (who, step) ∷ [] }) (mux_form mux) ∷ []
+swapped mux xs who Swap legal is = airings-swap mux xs (entry_after mux xs (who, Swap)) (publishes xs, moment_of mux xs) legal refl
+swapped mux xs who Publish legal is = (let no_swap : ⊥ = cc in absurd no_swap)
+swapped mux xs who (edit feed e) legal is = (let no_swap : ⊥ = cc in absurd no_swap)
+swapped mux xs who (Tick at) legal is = (let no_swap : ⊥ = cc in absurd no_swap)
+
+kept : (mux : Mux) (xs : List Entry) (who : ℕ) (step : Step) → Legal mux xs → is_swap step ≡ false → airings mux (xs ++ entry_after mux xs (who, step) ∷ []) ≡ airings mux xs
+kept mux xs who Swap legal is = (let no_other : ⊥ = cc in absurd no_other)
+kept mux xs who Publish legal is = airings-other mux xs (entry_after mux xs (who, Publish)) legal refl
+kept mux xs who (edit feed e) legal is = airings-other mux xs (entry_after mux xs (who, edit feed e)) legal refl
+kept mux xs who (Tick at) legal is = airings-other mux xs (entry_after mux xs (who, Tick at)) legal (not_aired (moment_of mux xs) at)
+
+-- a swap puts one airing more on air, in a cycle of the checker's form
+pub swap_adds : (desk new : DeskState) (c : Checking) → Legal desk.mux desk.entries → StepAt true desk new → c.quota ≡ desk.mux.quota → desk_airings desk ++ airing_on new (form_of c) ∷ [] ≡ desk_airings new
+swap_adds desk new c legal s quota =
+    ap (λ (q : ℕ). desk_airings desk ++ airing_on new (record { quota = q }) ∷ []) quota
+    ∙ ap (λ (d : DeskState). desk_airings desk ++ airing_on d (mux_form desk.mux) ∷ []) s.did
+    ∙ sym (ap desk_airings s.did ∙ swapped desk.mux desk.entries s.who s.step legal s.is)
+
+-- and nothing else does
+pub other_keeps : (desk new : DeskState) → Legal desk.mux desk.entries → StepAt false desk new ⊎ (new ≡ desk) → desk_airings new ≡ desk_airings desk
+other_keeps desk new legal (inl s) = ap desk_airings s.did ∙ kept desk.mux desk.entries s.who s.step legal s.is
+other_keeps desk new legal (inr same) = ap desk_airings same
+
+-- the multiplex stays
+pub step_mux : (swap : Bool) (desk new : DeskState) → StepAt swap desk new → new.mux ≡ desk.mux
+step_mux swap desk new s = ap (λ (d : DeskState). d.mux) s.did
+
+pub other_mux : (desk new : DeskState) → StepAt false desk new ⊎ (new ≡ desk) → new.mux ≡ desk.mux
+other_mux desk new (inl s) = step_mux false desk new s
+other_mux desk new (inr same) = ap (λ (d : DeskState). d.mux) same
+
+-- ---- statuses
+
+pub check_met : (status : Status) → IsOfCheck status → IsMetBehind status
+check_met (NotAir n rule) is = tt
+check_met (Short n) is = tt
+check_met (BadStream n) is = tt
+check_met (TooLong Recording) is = tt
+check_met (TooLong Input) is = absurd is
+check_met (TooLong (Feed f)) is = absurd is
+check_met (ReadFault Recording) is = tt
+check_met (ReadFault Input) is = absurd is
+check_met (ReadFault (Feed f)) is = absurd is
+check_met Memory is = tt
+check_met other is = absurd is
+
+pub check_said : (status : Status) → IsOfCheck status → CanBeSaid status
+check_said (Disagrees n kept found) is = absurd is
+check_said other is = tt
+
+pub check_caused : (input_before input_now before mid now : ℕ) (status : Status) → IsOfCheck status → before ≤ mid → HasReadCause mid now (Err status) → HasAuditCause {T = Unit {0}} input_before input_now before now (Err status)
+check_caused input_before input_now before mid now (ReadFault Recording) is le cause = Rose-from before mid now le cause
+check_caused input_before input_now before mid now (ReadFault Input) is le cause = absurd is
+check_caused input_before input_now before mid now (ReadFault (Feed f)) is le cause = tt
+check_caused input_before input_now before mid now other is le cause = tt
+
+pub script_met : (stop : PlayStop) → IsOfScript stop → IsMetBehind (status_for stop)
+script_met (Undescribed fault) is = absurd is
+script_met (Refused n) is = tt
+script_met (Differs n kept found) is = tt
+script_met (Read Overlong) is = tt
+script_met (Read Failed) is = tt
+script_met OnAir is = absurd is
+script_met NoMemory is = tt
+
+pub stop_said : (stop : PlayStop) → IsStopInWindow stop → CanBeSaid (status_for stop)
+stop_said (Undescribed fault) is = tt
+stop_said (Refused n) is = tt
+stop_said (Differs n kept found) is = is
+stop_said (Read Overlong) is = tt
+stop_said (Read Failed) is = tt
+stop_said OnAir is = tt
+stop_said NoMemory is = tt
+
+pub script_caused : (input_before input_mid input_now before now : ℕ) (stop : PlayStop) → input_before ≤ input_mid → HasInputCause {T = Unit {0}} input_mid input_now (Err stop)
+    → HasAuditCause {T = Unit {0}} input_before input_now before now (Err (status_for stop))
+script_caused input_before input_mid input_now before now (Undescribed fault) le cause = tt
+script_caused input_before input_mid input_now before now (Refused n) le cause = tt
+script_caused input_before input_mid input_now before now (Differs n kept found) le cause = tt
+script_caused input_before input_mid input_now before now (Read Overlong) le cause = tt
+script_caused input_before input_mid input_now before now (Read Failed) le cause = Rose-from input_before input_mid input_now le cause
+script_caused input_before input_mid input_now before now OnAir le cause = tt
+script_caused input_before input_mid input_now before now NoMemory le cause = tt
+
+pub item_of_script : (old new : DeskState) (stop : PlayStop) → ItemDid old new (Err stop) → IsOfScript stop
+item_of_script old new (Undescribed fault) did = did
+item_of_script old new (Refused n) did = tt
+item_of_script old new (Differs n kept found) did = tt
+item_of_script old new (Read s) did = tt
+item_of_script old new OnAir did = did
+item_of_script old new NoMemory did = tt
+
+-- the desk is as it was, where the stop is no want of memory
+stop_same : (old new : DeskState) (stop : PlayStop) → ItemDid old new (Err stop) → (stop ≡ NoMemory) ⊎ (new ≡ old)
+stop_same old new (Undescribed fault) did = absurd did
+stop_same old new (Refused n) did = inr did
+stop_same old new (Differs n kept found) did = inr did
+stop_same old new (Read s) did = inr did
+stop_same old new OnAir did = absurd did
+stop_same old new NoMemory did = inl refl
+
+-- ---- what an audit does
+
+module _ {S F : Type 0} (left : S → Option (List ℕ)) (gives : F → Option (List ℕ)) (first now : Reading S) (start mid new : PacketReading F) (before desk : DeskState) where
+  abbrev Did : Result (Unit {0}) Status → Type 0
+  Did result = AuditDid left gives first now start before desk result
+
+  -- the packets so far are an air of what the desk has put on air
+  front_air : (airings : List AiredTables) (c : Checking) (bytes : List ℕ) → (f : Follows gives start mid airings c) → IsAtEnd c → bytes_left gives start ≡ Some bytes → BeginsWithAir airings bytes
+  front_air airings c bytes f end told =
+      let t = f.taken bytes told in
+      let all = packets_parted bytes f.packets t.0 t.2 in
+      let front : take (length f.packets) (whole_packets bytes) ≡ f.packets = ap (take (length f.packets)) all ∙ front_is f.packets (whole_packets t.0) (length f.packets) refl in
+      record {
+        n = length f.packets;
+        within = omega (arith, ap length all, length-append f.packets (whole_packets t.0));
+        air = subst (AreAnAir airings) (sym front) ((end_is_air airings f.packets c f.stands).0 end);
+      }
+
+  -- the script stops
+  pub script_did : (old : DeskState) (c : Checking) (stop : PlayStop) → Follows gives start mid (desk_airings old) c → IsAtEnd c → ItemDid old desk (Err stop) → Stops left first now before desk (Err stop) → Did (Err (status_for stop))
+  script_did old c stop f end did stops = by stop (stop_same old desk stop did) did stops
+    where
+      here : (s : PlayStop) → desk ≡ old → ItemDid old desk (Err s) → Stops left first now before desk (Err s) → ScriptStops left gives first now start before desk (status_for s)
+      here s same did stops = record {
+        stop = s;
+        is = refl;
+        of_script = item_of_script old desk s did;
+        stops = stops;
+        behind = λ bytes told. subst (λ (d : DeskState). BeginsWithAir (desk_airings d) bytes) (sym same) (front_air (desk_airings old) c bytes f end told);
+      }
+
+      by : (s : PlayStop) → (s ≡ NoMemory) ⊎ (desk ≡ old) → ItemDid old desk (Err s) → Stops left first now before desk (Err s) → Did (Err (status_for s))
+      by (Undescribed fault) is did stops = absurd did
+      by (Refused n) is did stops = inl (here (Refused n) did did stops)
+      by (Differs n kept found) is did stops = inl (here (Differs n kept found) did did stops)
+      by (Read Overlong) is did stops = inl (here (Read Overlong) did did stops)
+      by (Read Failed) is did stops = inl (here (Read Failed) did did stops)
+      by OnAir is did stops = absurd did
+      by NoMemory is did stops = tt
+
+  -- the recording is at fault in a cycle
+  pub cycle_did : (airings : List AiredTables) (c : Checking) (made : Option Outcome) (status : Status) → airings ≡ desk_airings desk → Went left first now before desk made → Checks gives start new airings c (Err status) → Did (Err status)
+  cycle_did airings c made Memory same went checks = tt
+  cycle_did airings c made status same went checks = by status went checks
+    where
+      by : (s : Status) → Went left first now before desk made → Checks gives start new airings c (Err s) → Did (Err s)
+      by Memory went checks = tt
+      by other went checks = inr (inl (record {
+        made = made;
+        went = went;
+        faulty = λ bytes told others can. subst (λ (l : List AiredTables). IsFaulty (l ++ others) bytes other) same (checks bytes told others can);
+      }))
+
+  -- the script is at its end
+  end_faulty : (airings : List AiredTables) (c : Checking) (bytes : List ℕ) (status : Status) → (f : Follows gives start mid airings c) → IsAtEnd c → bytes_left gives start ≡ Some bytes → Ends gives mid new (Err status) → IsFaulty airings bytes status
+  end_faulty airings c bytes status f end told ends = by status (ends t.0 t.1)
+    where
+      t : (rest : List ℕ) × (bytes_left gives mid ≡ Some rest) × AreTaken bytes f.packets rest
+      t = f.taken bytes told
+
+      by : (s : Status) → GivesNoMore t.0 mid.number (Err s) → IsFaulty airings bytes s
+      by (NotAir n rule) is =
+          subst (λ (r : Rule). IsFaulty airings bytes (NotAir n r)) (sym is.1)
+          (differs_at_end airings bytes f.packets t.0 n f.stands.can_be_sent ((end_is_air airings f.packets c f.stands).0 end) (stands_begins airings f.packets c f.stands) t.2 is.2 (is.0 ∙ f.number))
+      by (BadStream n) is = cut_short airings bytes f.packets t.0 n (stands_begins airings f.packets c f.stands) t.2 is.1 is.2 (is.0 ∙ f.number)
+      by (TooLong Recording) is = past_limit airings bytes f.packets t.0 (stands_begins airings f.packets c f.stands) t.2 is.1 (omega (arith, is.0, f.number, f.within))
+      by (TooLong Input) is = is
+      by (TooLong (Feed f)) is = is
+      by (ReadFault Recording) is = tt
+      by (ReadFault Input) is = is
+      by (ReadFault (Feed f)) is = is
+      by other is = absurd is
+
+  pub end_did : (c : Checking) (result : Result (Unit {0}) Status) → Follows gives start mid (desk_airings desk) c → IsAtEnd c → Stops left first now before desk (Ok tt) → Ends gives mid new result → Did result
+  end_did c (Ok u) f end stops ends = (stops, λ bytes told.
+      let t = f.taken bytes told in
+      recorded (desk_airings desk) bytes f.packets t.0 ((end_is_air (desk_airings desk) f.packets c f.stands).0 end) t.2 (ends t.0 t.1) f.within)
+  end_did c (Err status) f end stops ends = by status ends
+    where
+      by : (s : Status) → Ends gives mid new (Err s) → Did (Err s)
+      by Memory e = tt
+      by other e = inr (inr (record { ended = stops; faulty = λ bytes told. end_faulty (desk_airings desk) c bytes other f end told e }))
+
+  -- the packets were counted
+  pub end_number : (c : Checking) (bytes : List ℕ) → (f : Follows gives start mid (desk_airings desk) c) → bytes_left gives start ≡ Some bytes → Ends gives mid new (Ok tt) → new.number ≡ mid.number → new.number ≡ length (whole_packets bytes)
+  end_number c bytes f told ends same =
+      let t = f.taken bytes told in
+      same ∙ f.number ∙ sym (ap length (packets_taken bytes f.packets t.0 t.2 (omega (arith, ap length (ends t.0 t.1)))))
+
+  pub end_counts : (c : Checking) (bytes : List ℕ) (result : Result (Unit {0}) Status) → Follows gives start mid (desk_airings desk) c → bytes_left gives start ≡ Some bytes → Ends gives mid new result
+      → OnOk result (new.number ≡ mid.number) → OnOk result (new.number ≡ length (whole_packets bytes))
+  end_counts c bytes (Ok u) f told ends same = end_number c bytes f told ends same
+  end_counts c bytes (Err status) f told ends same = tt

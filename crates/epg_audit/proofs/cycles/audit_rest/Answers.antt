@@ -1,0 +1,97 @@
+use Rattle.std.proofs.Common.{◌≡◌, List, ℕ, true, sym, ap, ◌∙◌, subst, arith}
+use Rattle.std.specs.Prelude.{Err, Ok}
+use Rattle.mux_model.specs.declared.mux.Mux.{Mux}
+use Rattle.journal_model.specs.declared.step.Entry.{Entry}
+use Rattle.desk_core.specs.Journal.{Legal}
+use Rattle.desk_core.specs.Desks.{DeskState}
+use Rattle.journal_air.specs.Air.{airings}
+use Rattle.version_book.specs.Airings.{AiredTables}
+use Rattle.epg_report.specs.declared.status.Status.{Status}
+use Rattle.epg_play.proofs.CourseFacts.{went_none}
+use Rattle.epg_audit.specs.Audits.{AuditDid, desk_airings}
+use Rattle.epg_audit.specs.Checks.{Follows}
+use Rattle.epg_audit.proofs.Following.{follows_none}
+use Rattle.epg_audit.proofs.Going.{cycle_did, end_counts, end_did, other_keeps, other_mux, script_did, step_mux, swap_adds}
+use Rattle.epg_audit.proofs.cycles.audit_rest.Goals as goal
+
+pub items-init : goal.items-init
+items-init g c = record {
+  going = c.requires.going;
+  unread = c.requires.unread;
+  same = g.met.S.Source.same_at_once c.args.lines.now.source;
+  read_later = omega arith;
+  later = omega arith;
+  at_end = c.requires.at_end;
+  quota = c.requires.quota;
+  legal = subst (λ (l : List Entry). Legal c.args.desk.now.mux l) (sym c.requires.none) tt;
+  window = tt;
+  went = went_none g.S.Source.left c.args.lines.now c.args.desk.now;
+  follows = subst (λ (l : List AiredTables). Follows g.F.Source.left c.args.packets.now c.args.packets.now l c.args.checker.now) (sym (ap (airings c.args.desk.now.mux) c.requires.none))
+      (follows_none g.F.Source.left c.args.packets.now c.args.packets.now c.args.packets.now c.args.checker.now c.requires.stands c.requires.first);
+}
+
+pub returns-in-Err-check_on_air-clause-did : goal.returns-in-Err-check_on_air-clause-did
+returns-in-Err-check_on_air-clause-did g c =
+    let i = c.items.invariant in
+    let e = rw c.in-Ok-Swap.field-0-is at c.in-Ok-Swap.ensures in
+    cycle_did g.S.Source.left g.F.Source.left c.args.lines.now c.do_item.new.lines c.args.packets.now c.items.packets c.check_on_air.new.packets c.args.desk.now c.do_item.new.desk
+    _ c.check_on_air.new.checker c.do_item.new.made c.in-Err-check_on_air.status (swap_adds c.items.desk c.do_item.new.desk c.items.checker i.legal e.did i.quota)
+    (e.goes_on c.args.lines.now c.args.desk.now i.went) (c.in-Err-check_on_air.ensures.checks c.args.packets.now (desk_airings c.items.desk) i.follows)
+
+pub items-preserved-in_default : goal.items-preserved-in_default
+items-preserved-in_default g c =
+    let i = c.items.invariant in
+    let e = rw c.in-Ok-Swap.field-0-is at c.in-Ok-Swap.ensures in
+    record {
+      going = e.going;
+      unread = c.in_default.ensures.going;
+      same = g.met.S.Source.same_later c.args.lines.now.source c.items.lines.source c.do_item.new.lines.source i.same e.same;
+      read_later = omega (arith, i.read_later, e.later);
+      later = omega (arith, i.later, c.in_default.ensures.later);
+      at_end = c.in_default.ensures.at_end;
+      quota = c.in_default.ensures.quota ∙ i.quota ∙ sym (ap (λ (m : Mux). m.quota) (step_mux true c.items.desk c.do_item.new.desk e.did));
+      legal = e.legal;
+      window = e.window;
+      went = e.goes_on c.args.lines.now c.args.desk.now i.went;
+      follows = subst (λ (l : List AiredTables). Follows g.F.Source.left c.args.packets.now c.check_on_air.new.packets l c.check_on_air.new.checker)
+          (swap_adds c.items.desk c.do_item.new.desk c.items.checker i.legal e.did i.quota) (c.in_default.ensures.checks c.args.packets.now (desk_airings c.items.desk) i.follows);
+    }
+
+pub items-preserved : goal.items-preserved
+items-preserved g c =
+    let i = c.items.invariant in
+    let e = rw c.in-Ok-Other.field-0-is at c.in-Ok-Other.ensures in
+    record {
+      going = e.going;
+      unread = i.unread;
+      same = g.met.S.Source.same_later c.args.lines.now.source c.items.lines.source c.do_item.new.lines.source i.same e.same;
+      read_later = omega (arith, i.read_later, e.later);
+      later = i.later;
+      at_end = i.at_end;
+      quota = i.quota ∙ sym (ap (λ (m : Mux). m.quota) (other_mux c.items.desk c.do_item.new.desk e.did));
+      legal = e.legal;
+      window = e.window;
+      went = e.goes_on c.args.lines.now c.args.desk.now i.went;
+      follows = subst (λ (l : List AiredTables). Follows g.F.Source.left c.args.packets.now c.items.packets l c.items.checker) (sym (other_keeps c.items.desk c.do_item.new.desk i.legal e.did)) i.follows;
+    }
+
+pub returns-in-Ok-End-clause-did : goal.returns-in-Ok-End-clause-did
+returns-in-Ok-End-clause-did g c =
+    let i = c.items.invariant in
+    let e = rw c.in-Ok-End.field-0-is at c.in-Ok-End.ensures in
+    end_did g.S.Source.left g.F.Source.left c.args.lines.now c.do_item.new.lines c.args.packets.now c.items.packets c.check_end.new.packets c.args.desk.now c.do_item.new.desk c.items.checker c.check_end.result
+    (subst (λ (d : DeskState). Follows g.F.Source.left c.args.packets.now c.items.packets (desk_airings d) c.items.checker) (sym e.did) i.follows) i.at_end (e.goes_on c.args.lines.now c.args.desk.now i.went) c.check_end.ensures.ends
+
+pub returns-in-Ok-End-clause-number : goal.returns-in-Ok-End-clause-number
+returns-in-Ok-End-clause-number g c = λ bytes told.
+    let i = c.items.invariant in
+    let e = rw c.in-Ok-End.field-0-is at c.in-Ok-End.ensures in
+    end_counts g.S.Source.left g.F.Source.left c.args.lines.now c.do_item.new.lines c.args.packets.now c.items.packets c.check_end.new.packets c.args.desk.now c.do_item.new.desk c.items.checker bytes c.check_end.result
+    (subst (λ (d : DeskState). Follows g.F.Source.left c.args.packets.now c.items.packets (desk_airings d) c.items.checker) (sym e.did) i.follows) told c.check_end.ensures.ends c.check_end.ensures.number
+
+pub returns-in-Err-clause-did : goal.returns-in-Err-clause-did
+returns-in-Err-clause-did g c =
+    let i = c.items.invariant in
+    subst (λ (s : Status). AuditDid g.S.Source.left g.F.Source.left c.args.lines.now c.do_item.new.lines c.args.packets.now c.args.desk.now c.do_item.new.desk (Err s)) (sym c.status_of.ensures)
+    (script_did g.S.Source.left g.F.Source.left c.args.lines.now c.do_item.new.lines c.args.packets.now c.items.packets c.items.packets c.args.desk.now c.do_item.new.desk c.items.desk c.items.checker c.in-Err.stop i.follows i.at_end
+    c.in-Err.ensures.did (c.in-Err.ensures.goes_on c.args.lines.now c.args.desk.now i.went))

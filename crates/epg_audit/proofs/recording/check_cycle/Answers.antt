@@ -1,0 +1,89 @@
+use Rattle.std.proofs.Common.{◌≡◌, refl, sym, ◌∙◌, subst, arith}
+use Rattle.std.specs.Prelude.{Err}
+use Rattle.si_causes.proofs.CauseFacts.{Rose-from}
+use Rattle.epg_report.specs.declared.status.Status.{Status}
+use Rattle.epg_audit.specs.Checks.{Checks, HasReadCause}
+use Rattle.epg_audit.proofs.Following.{follows_differ, follows_more, follows_short, follows_stop, stop_caused}
+use Rattle.epg_audit.proofs.recording.check_cycle.Goals as goal
+
+pub loop-packets-init : goal.loop-packets-init
+loop-packets-init g c = record { going = c.requires.going; quota = refl; later = omega arith; follows = λ start airings f. f }
+
+pub returns-in-Some-clause-checks : goal.returns-in-Some-clause-checks
+returns-in-Some-clause-checks g c = λ start airings given.
+    let i = c.loop-packets.invariant in
+    let f = i.follows start airings given in
+    follows_differ g.F.Source.left start c.loop-packets.packets c.next.new.self airings c.loop-packets.checker c.check.new.self c.packet.result.now c.in-Ok-Some.number c.in-Some.rule f
+    (λ e. (let end = c.at_end.ensures.end.1 e in cc end)) (λ b. (let none = (c.in-Some.ensures.exactly airings f.packets f.stands).1 b in cc none)) (c.in-Some.ensures.rule airings f.packets f.stands) c.packet.ensures
+    ((rw c.in-Ok-Some.field-0-is at c.in-Ok-Some.ensures.counts) i.going) ((rw c.in-Ok-Some.field-0-is at c.in-Ok-Some.ensures.takes) i.going)
+
+pub returns-in-Some-clause-quota : goal.returns-in-Some-clause-quota
+returns-in-Some-clause-quota g c = c.in-Some.ensures.quota ∙ c.loop-packets.invariant.quota
+
+pub returns-in-Some-clause-later : goal.returns-in-Some-clause-later
+returns-in-Some-clause-later g c = omega (arith, c.loop-packets.invariant.later, c.in-Ok-Some.ensures.later)
+
+pub loop-packets-smaller : goal.loop-packets-smaller
+loop-packets-smaller g c =
+    let counts = (rw c.in-Ok-Some.field-0-is at c.in-Ok-Some.ensures.counts) c.loop-packets.invariant.going in
+    omega (arith, counts.0, counts.1, counts.2)
+
+pub loop-packets-preserved : goal.loop-packets-preserved
+loop-packets-preserved g c =
+    let i = c.loop-packets.invariant in
+    let counts = (rw c.in-Ok-Some.field-0-is at c.in-Ok-Some.ensures.counts) i.going in
+    record {
+      going = counts.5;
+      quota = c.in_default.ensures.quota ∙ i.quota;
+      later = omega (arith, i.later, c.in-Ok-Some.ensures.later);
+      follows = λ start airings given.
+          let f = i.follows start airings given in
+          follows_more g.F.Source.left start c.loop-packets.packets c.next.new.self airings c.loop-packets.checker c.check.new.self c.packet.result.now c.in-Ok-Some.number f (c.in_default.ensures.accepted airings f.packets f.stands) c.packet.ensures counts
+          ((rw c.in-Ok-Some.field-0-is at c.in-Ok-Some.ensures.takes) i.going);
+    }
+
+pub returns-in-Ok-None-clause-checks : goal.returns-in-Ok-None-clause-checks
+returns-in-Ok-None-clause-checks g c = λ start airings given.
+    let i = c.loop-packets.invariant in
+    let f = i.follows start airings given in
+    follows_short g.F.Source.left start c.loop-packets.packets c.next.new.self airings c.loop-packets.checker c.loop-packets.checker c.number.result f
+    (λ a. (let end = (c.at_end.ensures.air airings f.packets f.stands).1 a in cc end)) c.number.ensures
+    ((rw c.in-Ok-None.field-0-is at c.in-Ok-None.ensures.counts) i.going) ((rw c.in-Ok-None.field-0-is at c.in-Ok-None.ensures.packets) i.going)
+
+pub returns-in-Ok-None-clause-quota : goal.returns-in-Ok-None-clause-quota
+returns-in-Ok-None-clause-quota g c = c.loop-packets.invariant.quota
+
+pub returns-in-Ok-None-clause-later : goal.returns-in-Ok-None-clause-later
+returns-in-Ok-None-clause-later g c = omega (arith, c.loop-packets.invariant.later, c.in-Ok-None.ensures.later)
+
+pub returns-in-Err-clause-checks : goal.returns-in-Err-clause-checks
+returns-in-Err-clause-checks g c = λ start airings given.
+    let i = c.loop-packets.invariant in
+    let f = i.follows start airings given in
+    subst (λ (s : Status). Checks g.F.Source.left start c.next.new.self airings c.loop-packets.checker (Err s)) (sym c.status_of.ensures.value)
+    (follows_stop g.F.Source.left start c.loop-packets.packets c.next.new.self airings c.loop-packets.checker c.loop-packets.checker c.in-Err.stop f (λ e. (let end = c.at_end.ensures.end.1 e in cc end))
+    (c.in-Err.ensures.counts i.going) (c.in-Err.ensures.packets i.going) (c.in-Err.ensures.broken i.going))
+
+pub returns-in-Err-clause-quota : goal.returns-in-Err-clause-quota
+returns-in-Err-clause-quota g c = c.loop-packets.invariant.quota
+
+pub returns-in-Err-clause-cause : goal.returns-in-Err-clause-cause
+returns-in-Err-clause-cause g c =
+    let i = c.loop-packets.invariant in
+    subst (λ (s : Status). HasReadCause (g.F.Source.faults c.args.packets.now.source) (g.F.Source.faults c.next.new.self.source) (Err s)) (sym c.status_of.ensures.value)
+    (stop_caused (g.F.Source.faults c.args.packets.now.source) (g.F.Source.faults c.loop-packets.packets.source) (g.F.Source.faults c.next.new.self.source) c.next.new.self c.in-Err.stop _ i.later (c.in-Err.ensures.cause i.going))
+
+pub returns-in-Err-clause-later : goal.returns-in-Err-clause-later
+returns-in-Err-clause-later g c = omega (arith, c.loop-packets.invariant.later, c.in-Err.ensures.later)
+
+pub returns-clause-checks : goal.returns-clause-checks
+returns-clause-checks g c = c.loop-packets.invariant.follows
+
+pub returns-clause-going : goal.returns-clause-going
+returns-clause-going g c = c.loop-packets.invariant.going
+
+pub returns-clause-quota : goal.returns-clause-quota
+returns-clause-quota g c = c.loop-packets.invariant.quota
+
+pub returns-clause-later : goal.returns-clause-later
+returns-clause-later g c = c.loop-packets.invariant.later

@@ -1,0 +1,18 @@
+use Rattle.std.proofs.Common.{◌≡◌, ◌≤◌, List}
+use Rattle.std.specs.Prelude.{None}
+use Rattle.packet_reader.specs.Reading.{PacketReading, packets_to_come}
+use Rattle.version_book.specs.Airings.{AiredTables}
+use Rattle.epg_audit.specs.Checks.{Follows}
+use Rattle.epg_audit.proofs.recording.check_cycle.Given as goal
+
+abbrev pub invariant-loop-packets : goal.invariant-loop-packets
+invariant-loop-packets g l =
+    record {
+      going : l.packets.stop ≡ None;
+      quota : l.checker.quota ≡ l.fn.checker.quota;
+      later : g.F.Source.faults l.fn.packets.source ≤ g.F.Source.faults l.packets.source;
+      follows : (start : PacketReading g.row.F.Denot) (airings : List AiredTables) → Follows g.F.Source.left start l.fn.packets airings l.fn.checker → Follows g.F.Source.left start l.packets airings l.checker;
+    }
+
+abbrev pub decreases-loop-packets : goal.decreases-loop-packets
+decreases-loop-packets g l = packets_to_come l.packets
