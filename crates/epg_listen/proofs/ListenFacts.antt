@@ -11,6 +11,7 @@ use Rattle.si_causes.specs.Causes.{AppendsFront}
 use Rattle.packet_reader.specs.Recordings.{RecordingEnd, RecordingEnd.AtEnd, RecordingEnd.Broken, RecordingEnd.PastLimit, packet_limit, is_packet, and_packet, packets_in, recording}
 use Rattle.packet_reader.specs.Reading.{PacketReading, GivesPacket, TakesPacket, Counts, bytes_left, packets_to_come, fresh}
 use Rattle.packet_reader.proofs.RecordingFacts.{packet_step, broken_step, short_piece}
+use Rattle.packet_reader.proofs.Giving.{given_end, given_broken, given_past}
 use Rattle.packet_reader.specs.declared.stop.PacketStop.{PacketStop}
 use Rattle.packet_reader.specs.declared.stop.PacketStop.TheVariants as packet
 use Rattle.heard_completions.specs.declared.done.DoneKey.{DoneKey}
@@ -22,7 +23,8 @@ use Rattle.epg_listen.specs.declared.listen.ListenStop.{ListenStop}
 use Rattle.epg_listen.specs.declared.listen.ListenStop.TheVariants as stop
 use Rattle.epg_report.specs.declared.status.Status.{Status}
 use Rattle.epg_report.specs.declared.status.Status.TheVariants.{Done, BadStream, TooLong, ReadFault, WriteFault, Memory, TooMany}
-use Rattle.epg_report.specs.declared.status.Origin.TheVariants.{Input, Feed, Recording}
+use Rattle.epg_report.specs.declared.status.Origin.TheVariants.{Input, Feed}
+use Rattle.epg_report.specs.declared.status.Origin.TheVariants as origin
 use Rattle.epg_report.specs.declared.status.Outlet.TheVariants.{Air, Report}
 use Rattle.epg_report.specs.Texts.{fault_line, fault_text}
 use Rattle.epg_report.specs.Told.{ReportTaken, Reported}
@@ -61,24 +63,6 @@ given_packet left before new (q ∷ packets, end) n (is, (rest, told, then)) = (
 given_packet left before new ([], AtEnd) n gives = absurd gives
 given_packet left before new ([], Broken) n gives = absurd gives
 given_packet left before new ([], PastLimit) n gives = absurd gives
-
-pub given_end : {S : Type 0} (left : S → Option (List ℕ)) (before new : PacketReading S) (p : Recording) → GivesPacket left before new p (Ok None) → p ≡ ([], AtEnd)
-given_end left before new (q ∷ packets, end) gives = absurd gives
-given_end left before new ([], AtEnd) gives = refl
-given_end left before new ([], Broken) gives = absurd gives
-given_end left before new ([], PastLimit) gives = absurd gives
-
-given_broken : {S : Type 0} (left : S → Option (List ℕ)) (before new : PacketReading S) (p : Recording) (n : ℕ) → GivesPacket left before new p (Err (packet.Broken n)) → p ≡ ([], Broken)
-given_broken left before new (q ∷ packets, end) n gives = absurd gives
-given_broken left before new ([], AtEnd) n gives = absurd gives
-given_broken left before new ([], Broken) n gives = refl
-given_broken left before new ([], PastLimit) n gives = absurd gives
-
-given_past : {S : Type 0} (left : S → Option (List ℕ)) (before new : PacketReading S) (p : Recording) → GivesPacket left before new p (Err packet.TooLong) → p ≡ ([], PastLimit)
-given_past left before new (q ∷ packets, end) gives = absurd gives
-given_past left before new ([], AtEnd) gives = absurd gives
-given_past left before new ([], Broken) gives = absurd gives
-given_past left before new ([], PastLimit) gives = refl
 
 -- one more packet was heard
 pub more_heard : (all y x : Recording) (heard : List (List ℕ)) (p : List ℕ) → all ≡ (heard ++ y.0, y.1) → y ≡ and_packet p x → all ≡ ((heard ++ p ∷ []) ++ x.0, x.1)
@@ -278,10 +262,10 @@ hears_through bytes left report (BadStream n) leave r w = (leave.0, leave.1, lea
 hears_through bytes left report (TooMany n) leave r w = leave.first
 hears_through bytes left report (TooLong Input) leave r w = (leave.0, leave.1.few)
 hears_through bytes left report (TooLong (Feed f)) leave r w = absurd leave
-hears_through bytes left report (TooLong Recording) leave r w = absurd leave
+hears_through bytes left report (TooLong origin.Recording) leave r w = absurd leave
 hears_through bytes left report (ReadFault Input) leave r w = absurd (r refl)
 hears_through bytes left report (ReadFault (Feed f)) leave r w = absurd leave
-hears_through bytes left report (ReadFault Recording) leave r w = absurd leave
+hears_through bytes left report (ReadFault origin.Recording) leave r w = absurd leave
 hears_through bytes left report (WriteFault Report) leave r w = absurd (w refl)
 hears_through bytes left report (WriteFault Air) leave r w = absurd leave
 hears_through bytes left report Memory leave r w = tt
