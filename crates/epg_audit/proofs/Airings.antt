@@ -13,6 +13,7 @@ use Rattle.ts_packets.specs.WholePackets.{whole_packets}
 use Rattle.air_model.specs.Air.{Aired, CanBeSent, IsAirOf, air, air_bytes, airings_of}
 use Rattle.air_model.proofs.Repeating.{airs_repeat}
 use Rattle.air_hearing.specs.Counting.{CanBeHeard}
+use Rattle.air_hearing.proofs.Told.{sent_of}
 use Rattle.air_coherence.specs.Coherence.{IsCoherent}
 use Rattle.air_coherence.proofs.Coherent.{front_is_coherent, front_packets}
 use Rattle.air_audit.specs.Audits.{AreAnAir}
@@ -70,14 +71,11 @@ desk_begins_script script mux desk p =
 script_read : (text : List ℕ) (mux : Mux) → (script_in text).mux ≡ Some mux → IsAsRead mux (journal_of mux (script_in text).commands)
 script_read text mux e = (let lines = text_lines text in script_as_read lines.0 (tail_of (1 + length lines.0) lines.1) mux e)
 
-heard_sent : (airings : List AiredTables) → AllByRecursion CanBeHeard airings → CanBeSent airings
-heard_sent airings can = all_map CanBeHeard _ (λ a h. h.fit) airings can
-
 pub script_sent : (text : List ℕ) (mux : Mux) → (script_in text).mux ≡ Some mux → CanBeSent (airings mux (journal_of mux (script_in text).commands))
 script_sent text mux e =
     let read = script_read text mux e in
     let journal = journal_of mux (script_in text).commands in
-    heard_sent (airings mux journal) (airings_heard mux journal read.sound read.edits (journal_legal mux [] (script_in text).commands))
+    sent_of (airings mux journal) (airings_heard mux journal read.sound read.edits (journal_legal mux [] (script_in text).commands))
 
 -- ---- how an air of it is heard
 

@@ -110,15 +110,6 @@ script_met (Read Failed) is = tt
 script_met OnAir is = absurd is
 script_met NoMemory is = tt
 
-pub stop_said : (stop : PlayStop) → IsStopInWindow stop → CanBeSaid (status_for stop)
-stop_said (Undescribed fault) is = tt
-stop_said (Refused n) is = tt
-stop_said (Differs n kept found) is = is
-stop_said (Read Overlong) is = tt
-stop_said (Read Failed) is = tt
-stop_said OnAir is = tt
-stop_said NoMemory is = tt
-
 pub script_caused : (input_before input_mid input_now before now : ℕ) (stop : PlayStop) → input_before ≤ input_mid → HasInputCause {T = Unit {0}} input_mid input_now (Err stop)
     → HasAuditCause {T = Unit {0}} input_before input_now before now (Err (status_for stop))
 script_caused input_before input_mid input_now before now (Undescribed fault) le cause = tt
