@@ -1,34 +1,28 @@
 -- What the commands of a script put on air, and what the first of them do.
-use Rattle.std.proofs.Common.{◌≡◌, ℕ, ◌+◌, ◌*◌, ◌/◌, List, [], ◌∷◌, ◌++◌, length, take, drop, refl, sym, ap, ◌∙◌, subst, arith, map, append-nil, append_assoc}
+use Rattle.std.proofs.Common.{◌≡◌, ℕ, ◌+◌, ◌*◌, ◌/◌, List, [], ◌∷◌, ◌++◌, length, take, sym, ap, ◌∙◌, subst, arith, map, append-nil, append_assoc}
 use Rattle.std.specs.Prelude.{Option, Some}
-use Rattle.std.specs.List.{AllByRecursion}
 use Rattle.std.proofs.lemmas.List.{length-map, take_all}
-use Rattle.si_lists.proofs.Lists.{all_behind, all_map}
 use Rattle.si_causes.specs.Text.{text_lines}
 use Rattle.input_lines.specs.Ahead.{tail_of}
 use Rattle.version_book.specs.Airings.{AiredTables}
-use Rattle.section_codec.specs.declared.table.SubTable.{SubTable}
 use Rattle.ts_packets.specs.Bytes.{bytes_of_packet}
 use Rattle.ts_packets.specs.WholePackets.{whole_packets}
 use Rattle.air_model.specs.Air.{Aired, CanBeSent, IsAirOf, air, air_bytes, airings_of}
 use Rattle.air_model.proofs.Repeating.{airs_repeat}
-use Rattle.air_hearing.specs.Counting.{CanBeHeard}
 use Rattle.air_hearing.proofs.Told.{sent_of}
 use Rattle.air_coherence.specs.Coherence.{IsCoherent}
 use Rattle.air_coherence.proofs.Coherent.{front_is_coherent, front_packets}
 use Rattle.air_audit.specs.Audits.{AreAnAir}
 use Rattle.mux_model.specs.declared.mux.Mux.{Mux}
-use Rattle.journal_model.specs.declared.step.Entry.{Entry}
 use Rattle.journal_model.specs.Steps.{Command}
 use Rattle.desk_core.specs.Journal.{entry_after, journal_of}
-use Rattle.desk_core.specs.Desks.{DeskState, fresh}
+use Rattle.desk_core.specs.Desks.{DeskState}
 use Rattle.desk_core.proofs.JournalFacts.{journal_legal, journal_more}
 use Rattle.journal_air.specs.Air.{airings, airings_by}
 use Rattle.journal_air.proofs.CarryFacts.{airings_heard}
 use Rattle.journal_screen.specs.Shown.{IsAsRead, IsExact}
 use Rattle.journal_screen.proofs.Shown.{journals_shown}
 use Rattle.headend_jobs.proofs.SwapFacts.{airings-push}
-use Rattle.epg_play.specs.Played.{desk_after}
 use Rattle.epg_play.specs.Script.{Script, Stop, script_in}
 use Rattle.epg_play.specs.Leaves.{whole_journal}
 use Rattle.epg_play.proofs.RunFacts.{IsPlayed, IsPlayedTo}

@@ -1,12 +1,11 @@
 -- A run of `audit`, from what it found and how its report ended.
-use Rattle.std.proofs.Common.{◌≡◌, ℕ, suc, ◌+◌, ◌*◌, ◌<◌, ◌≤◌, List, [], ◌++◌, length, take, drop, refl, sym, ap, ◌∙◌, subst, arith, append-nil, inl, inr, ◌⊎◌}
+use Rattle.std.proofs.Common.{◌≡◌, ℕ, suc, ◌<◌, ◌≤◌, List, ◌++◌, take, drop, refl, sym, ap, ◌∙◌, subst, arith, append-nil, inl, inr, ◌⊎◌}
 use Rattle.std.specs.Prelude.{Option, Some, None, Ok, Err, Result, IfErr, OnOk}
 use Rattle.std.specs.Io.KnownBytes.{Appends, IsAtEnd}
 use Rattle.std.proofs.lemmas.List.{take-append-drop}
 use Rattle.si_causes.specs.Causes.{Rose, AppendsFront}
 use Rattle.si_causes.proofs.CauseFacts.{Rose-from}
 use Rattle.si_causes.specs.Opening.{Files, GivesFile, TakesBack, Tries, file_at}
-use Rattle.packet_reader.specs.Recordings.{packet_limit}
 use Rattle.mux_model.specs.declared.mux.Mux.{Mux}
 use Rattle.version_book.specs.Airings.{AiredTables}
 use Rattle.ts_packets.specs.WholePackets.{whole_packets}
@@ -18,7 +17,7 @@ use Rattle.epg_report.specs.declared.status.Outlet.TheVariants.{Air, Report}
 use Rattle.epg_report.specs.Ends.{ReportEnds, or_report}
 use Rattle.epg_report.specs.Texts.{fault_lines}
 use Rattle.epg_report.specs.Told.{OpenerAsked, ReportTaken, Reported, SourceGave}
-use Rattle.epg_play.specs.Script.{Stop, Ended, NoMux, NoCommand, Disagreed, TooLong, Unread, script_in}
+use Rattle.epg_play.specs.Script.{Stop, Ended, NoMux, NoCommand, Disagreed, TooLong, script_in}
 use Rattle.epg_play.specs.Leaves.{whole_journal}
 use Rattle.epg_audit.specs.declared.cycles.AirCount.{AirCount}
 use Rattle.epg_audit.specs.Ends.{air_line, count_text, met_by}

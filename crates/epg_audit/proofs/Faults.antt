@@ -1,11 +1,10 @@
 -- Why a recording is at fault.
-use Rattle.std.proofs.Common.{◌≡◌, ℕ, suc, ◌+◌, ◌*◌, ◌%◌, ◌==◌, ◌<◌, ◌≤◌, Bool, true, false, List, [], ◌∷◌, ◌++◌, length, take, drop, get_or, slice_index, map, refl, sym, ap, ◌∙◌, arith, append_assoc, length-append, length-take, subst, inl, inr}
-use Rattle.std.proofs.lemmas.Bool.Decides.{nat_tests}
+use Rattle.std.proofs.Common.{◌≡◌, ℕ, suc, ◌%◌, ◌==◌, ◌<◌, ◌≤◌, true, false, List, [], ◌∷◌, ◌++◌, length, take, drop, get_or, slice_index, refl, sym, ap, ◌∙◌, arith, append_assoc, length-append, subst, inl, inr}
 use Rattle.std.proofs.lemmas.List.{take-append-drop, length-take-le}
-use Rattle.std.specs.Prelude.{not, ◌&&◌, if◌then◌else◌}
+use Rattle.std.specs.Prelude.{◌&&◌}
 use Rattle.packet_reader.specs.Recordings.{is_packet, packet_limit}
 use Rattle.version_book.specs.Airings.{AiredTables}
-use Rattle.ts_packets.specs.Bytes.{bytes_of_packet, pid_in}
+use Rattle.ts_packets.specs.Bytes.{pid_in}
 use Rattle.ts_packets.specs.Counting.{count_on}
 use Rattle.ts_packets.specs.WholePackets.{whole_packets}
 use Rattle.air_model.specs.Air.{CanBeSent}
@@ -20,7 +19,7 @@ use Rattle.air_audit.proofs.Longer.{longer_begins, longer_lists_agree}
 use Rattle.epg_report.specs.declared.status.Status.TheVariants.{BadStream, NotAir, Short, TooLong}
 use Rattle.epg_report.specs.declared.status.Origin.TheVariants.{Recording}
 use Rattle.epg_audit.specs.Checks.{AreTaken}
-use Rattle.epg_audit.specs.Recorded.{Breaks, FirstDifference, IsFaulty, IsRecordedAir}
+use Rattle.epg_audit.specs.Recorded.{Breaks, IsFaulty, IsRecordedAir}
 use Rattle.epg_audit.proofs.Pieces.{at_front, front_is, packets_parted, packets_taken, size_parted, taken_more}
 
 -- ---- a packet that differs
@@ -33,12 +32,14 @@ differs_at airings bytes packets rest p behind n rule t e long number begins dif
     let cut : whole_packets bytes ≡ packets ++ p ∷ whole_packets behind = all ∙ append_assoc packets (p ∷ []) (whole_packets behind) in
     let front : take n (whole_packets bytes) ≡ packets = ap (take n) cut ∙ front_is packets (p ∷ whole_packets behind) n number in
     let next : take (suc n) (whole_packets bytes) ≡ packets ++ p ∷ [] = ap (take (suc n)) all ∙ front_is (packets ++ p ∷ []) (whole_packets behind) (suc n) (omega (arith, number, length-append packets (p ∷ []))) in
-    let here : get_or (whole_packets bytes) n [] ≡ p = ap (λ (l : List (List ℕ)). get_or l n []) cut ∙ at_front packets p (whole_packets behind) [] n number in
-    (record {
-      within = omega (arith, ap length cut, length-append packets (p ∷ whole_packets behind), number);
-      begins = subst (BeginAnAir airings) (sym front) begins;
-      differs = λ b. differs (subst (BeginAnAir airings) next b);
-    }, subst (λ (l : List (List ℕ)). Breaks airings l (get_or (whole_packets bytes) n []) rule) (sym front) (subst (λ (q : List ℕ). Breaks airings packets q rule) (sym here) breaks))
+    let here : get_or (whole_packets bytes) n [] ≡ p = ap (λ (l : List (List ℕ)). get_or l n []) cut ∙ at_front packets p (whole_packets behind) [] n number in (
+      record {
+        within = omega (arith, ap length cut, length-append packets (p ∷ whole_packets behind), number);
+        begins = subst (BeginAnAir airings) (sym front) begins;
+        differs = λ b. differs (subst (BeginAnAir airings) next b);
+      },
+      subst (λ (l : List (List ℕ)). Breaks airings l (get_or (whole_packets bytes) n []) rule) (sym front) (subst (λ (q : List ℕ). Breaks airings packets q rule) (sym here) breaks),
+    )
 
 -- in a cycle that has not ended, whatever airings follow
 pub differs_in_cycle : (airings others : List AiredTables) (bytes : List ℕ) (packets : List (List ℕ)) (rest p behind : List ℕ) (n : ℕ) (rule : Rule) (c : Checking) → StandsFor airings packets c → (IsAtEnd c → ⊥)

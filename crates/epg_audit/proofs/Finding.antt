@@ -1,5 +1,5 @@
 -- What an audit finds, from how it went.
-use Rattle.std.proofs.Common.{◌≡◌, ℕ, List, [], ◌∷◌, ◌++◌, length, refl, sym, ap, ◌∙◌, subst, inl, inr, ◌⊎◌}
+use Rattle.std.proofs.Common.{◌≡◌, ℕ, List, refl, sym, ap, ◌∙◌, subst, inl, inr, ◌⊎◌}
 use Rattle.std.specs.Prelude.{Option, Some, None, Ok, Err, Result, IfSome, IsSome}
 use Rattle.si_lists.proofs.Lists.{all_behind}
 use Rattle.si_causes.specs.Opening.{Files, file_at}
@@ -26,7 +26,7 @@ use Rattle.epg_play.specs.declared.stop.PlayStop.TheVariants.{NoMux as Undescrib
 use Rattle.epg_play.specs.Ending.{mux_stop}
 use Rattle.epg_play.specs.Leaves.{status_for, whole_journal}
 use Rattle.epg_play.specs.Script.{Script, Stop, Ended, no_mux, script_in, script_taken}
-use Rattle.epg_play.proofs.RunFacts.{IsPlayed, IsPlayedTo, IsUndescribed, PlayedBy, rest_played, went_played}
+use Rattle.epg_play.proofs.RunFacts.{IsPlayed, IsUndescribed, PlayedBy, rest_played, went_played}
 use Rattle.epg_audit.specs.declared.cycles.AirCount.{AirCount}
 use Rattle.epg_audit.specs.Audits.{AuditDid, CycleStops, EndStops, IsCounted, IsOfScript, RecordingAudited, ScriptStops, desk_airings}
 use Rattle.journal_model.specs.declared.step.Entry.{Entry}

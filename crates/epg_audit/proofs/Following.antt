@@ -1,9 +1,9 @@
 -- A recording, packet by packet.
-use Rattle.std.proofs.Common.{◌≡◌, ℕ, ◌+◌, ◌-◌, ◌%◌, ◌<◌, ◌≤◌, Bool, true, false, List, [], ◌∷◌, ◌++◌, length, take, refl, sym, ap, ◌∙◌, arith, append_assoc, length-append, subst}
+use Rattle.std.proofs.Common.{◌≡◌, ℕ, ◌%◌, ◌<◌, ◌≤◌, Bool, true, false, List, [], ◌∷◌, ◌++◌, length, refl, sym, ap, ◌∙◌, arith, length-append}
 use Rattle.std.specs.Prelude.{Option, Some, None, Ok, Err, if◌then◌else◌, nat_lt}
 use Rattle.std.specs.Io.KnownBytes.{IsAtEnd as IsReadToEnd}
 use Rattle.std.proofs.lemmas.Bool.Decides.{nat_tests}
-use Rattle.packet_reader.specs.Recordings.{is_packet, packet_limit, packets_in}
+use Rattle.packet_reader.specs.Recordings.{packets_in}
 use Rattle.si_causes.proofs.CauseFacts.{Rose-from}
 use Rattle.packet_reader.specs.Reading.{Counts, GivesPacket, HasCause, KeepsPiece, PacketReading, TakesPacket, bytes_left, packets_to_come}
 use Rattle.packet_reader.specs.declared.stop.PacketStop.{PacketStop}

@@ -1,43 +1,40 @@
 -- An audit, command by command.
-use Rattle.std.proofs.Common.{◌≡◌, ℕ, ◌+◌, ◌<◌, ◌≤◌, Bool, true, false, List, [], ◌∷◌, ◌++◌, length, length-append, take, refl, sym, ap, ◌∙◌, subst, arith, inl, inr, ◌⊎◌}
-use Rattle.std.specs.Prelude.{Option, Some, None, Ok, Err, OnOk, Result}
+use Rattle.std.proofs.Common.{◌≡◌, ℕ, ◌≤◌, Bool, true, false, List, [], ◌∷◌, ◌++◌, length, length-append, take, refl, sym, ap, ◌∙◌, subst, arith, inl, inr, ◌⊎◌}
+use Rattle.std.specs.Prelude.{Option, Some, Ok, Err, OnOk, Result}
 use Rattle.si_causes.specs.Reading.{Reading}
 use Rattle.si_causes.specs.declared.stop.ReadStop.TheVariants.{Failed, TooLong as Overlong}
 use Rattle.si_causes.proofs.CauseFacts.{Rose-from}
 use Rattle.packet_reader.specs.Reading.{PacketReading, bytes_left}
-use Rattle.packet_reader.specs.Recordings.{packet_limit}
 use Rattle.mux_model.specs.declared.mux.Mux.{Mux}
 use Rattle.journal_model.specs.declared.step.Step.{Step}
 use Rattle.journal_model.specs.declared.step.Step.TheVariants.{Edit as edit, Tick, Publish, Swap}
 use Rattle.journal_model.specs.declared.step.Outcome.{Outcome}
 use Rattle.journal_model.specs.declared.step.Entry.{Entry}
-use Rattle.desk_core.specs.Journal.{Legal, entry_after, moment_of, outcome_of, publishes}
+use Rattle.desk_core.specs.Journal.{Legal, entry_after, moment_of, publishes}
 use Rattle.desk_core.specs.Desks.{DeskState}
 use Rattle.desk_core.proofs.DerivedFacts.{not_aired}
 use Rattle.journal_air.specs.Air.{airings, mux_form}
-use Rattle.version_book.specs.Airings.{AiredTables, CycleForm}
+use Rattle.version_book.specs.Airings.{AiredTables}
 use Rattle.ts_packets.specs.WholePackets.{whole_packets}
-use Rattle.air_model.specs.Air.{CanBeSent}
 use Rattle.air_audit.specs.declared.rule.Rule.{Rule}
-use Rattle.air_audit.specs.declared.rule.Rule.TheVariants.{Pid}
 use Rattle.air_audit.specs.Audits.{AreAnAir}
-use Rattle.air_audit.specs.Checking.{Checking, IsAtEnd, StandsFor, form_of}
+use Rattle.air_audit.specs.Checking.{Checking, IsAtEnd, form_of}
 use Rattle.air_audit.proofs.Checks.{end_is_air, stands_begins}
-use Rattle.headend_jobs.specs.OnAir.{airing_on, and_step, is_swap}
+use Rattle.headend_jobs.specs.OnAir.{airing_on, is_swap}
 use Rattle.headend_jobs.proofs.SwapFacts.{airings-other, airings-swap}
 use Rattle.epg_report.specs.declared.status.Status.{Status}
-use Rattle.epg_report.specs.declared.status.Status.TheVariants.{BadMux, BadScript, Disagrees, BadStream, Memory, NotAir, OpenFault, ReadFault, Short, TooLong, WriteFault}
+use Rattle.epg_report.specs.declared.status.Status.TheVariants.{Disagrees, BadStream, Memory, NotAir, ReadFault, Short, TooLong}
 use Rattle.epg_report.specs.declared.status.Origin.TheVariants.{Feed, Input, Recording}
 use Rattle.epg_report.specs.Texts.{CanBeSaid}
 use Rattle.epg_play.specs.declared.stop.PlayStop.{PlayStop}
 use Rattle.epg_play.specs.declared.stop.PlayStop.TheVariants.{NoMux as Undescribed, NoCommand as Refused, Disagrees as Differs, Read, Air as OnAir, Memory as NoMemory}
 use Rattle.epg_play.specs.Items.{ItemDid, StepAt, Stops, Went}
 use Rattle.epg_play.specs.Leaves.{status_for}
-use Rattle.epg_play.specs.Played.{HasReadCause as HasInputCause, IsStopInWindow}
-use Rattle.epg_audit.specs.Audits.{AuditDid, CycleStops, EndStops, HasAuditCause, IsOfScript, ScriptStops, desk_airings}
+use Rattle.epg_play.specs.Played.{HasReadCause as HasInputCause}
+use Rattle.epg_audit.specs.Audits.{AuditDid, HasAuditCause, IsOfScript, ScriptStops, desk_airings}
 use Rattle.epg_audit.specs.Checks.{AreTaken, Checks, Ends, Follows, GivesNoMore, HasReadCause, IsOfCheck}
 use Rattle.epg_audit.specs.Finds.{IsMetBehind}
-use Rattle.epg_audit.specs.Recorded.{BeginsWithAir, IsFaulty, IsRecordedAir}
+use Rattle.epg_audit.specs.Recorded.{BeginsWithAir, IsFaulty}
 use Rattle.epg_audit.proofs.Faults.{cut_short, differs_at_end, past_limit, recorded}
 use Rattle.epg_audit.proofs.Pieces.{front_is, packets_parted, packets_taken}
 
@@ -211,9 +208,12 @@ module _ {S F : Type 0} (left : S → Option (List ℕ)) (gives : F → Option (
       by other is = absurd is
 
   pub end_did : (c : Checking) (result : Result (Unit {0}) Status) → Follows gives start mid (desk_airings desk) c → IsAtEnd c → Stops left first now before desk (Ok tt) → Ends gives mid new result → Did result
-  end_did c (Ok u) f end stops ends = (stops, λ bytes told.
-      let t = f.taken bytes told in
-      recorded (desk_airings desk) bytes f.packets t.0 ((end_is_air (desk_airings desk) f.packets c f.stands).0 end) t.2 (ends t.0 t.1) f.within)
+  end_did c (Ok u) f end stops ends = (
+    stops,
+    λ bytes told.
+        let t = f.taken bytes told in
+        recorded (desk_airings desk) bytes f.packets t.0 ((end_is_air (desk_airings desk) f.packets c f.stands).0 end) t.2 (ends t.0 t.1) f.within,
+  )
   end_did c (Err status) f end stops ends = by status ends
     where
       by : (s : Status) → Ends gives mid new (Err s) → Did (Err s)

@@ -1,6 +1,5 @@
 -- How far an audit has come with a recording.
-use Rattle.std.specs.Prelude.{◌≡◌, ◌≤◌, ◌<◌, ℕ, List, [], ◌∷◌, ◌++◌, length, slice_index, flat_map, Option, Some, None, Ok, Err, Result, Bool, if◌then◌else◌, nat_lt}
-use Rattle.std.specs.Io.KnownBytes.{IsAtEnd}
+use Rattle.std.specs.Prelude.{◌≡◌, ◌≤◌, ◌<◌, ℕ, List, [], ◌++◌, length, flat_map, Option, Some, Ok, Err, Result, if◌then◌else◌, nat_lt}
 use Rattle.si_causes.specs.Causes.{Rose}
 use Rattle.packet_reader.specs.declared.stop.PacketStop.{PacketStop}
 use Rattle.packet_reader.specs.declared.stop.PacketStop.TheVariants as stop

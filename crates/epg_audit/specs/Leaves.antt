@@ -5,8 +5,7 @@ use Rattle.si_causes.specs.Causes.{Rose, AppendsFront}
 use Rattle.si_causes.specs.Opening.{Files}
 use Rattle.version_book.specs.Airings.{AiredTables}
 use Rattle.epg_report.specs.declared.status.Status.{Status}
-use Rattle.epg_report.specs.declared.status.Status.TheVariants.{Done, Memory, OpenFault, ReadFault, WriteFault}
-use Rattle.epg_report.specs.declared.status.Origin.TheVariants.{Input, Recording}
+use Rattle.epg_report.specs.declared.status.Status.TheVariants.{Done, Memory, WriteFault}
 use Rattle.epg_report.specs.declared.status.Outlet.TheVariants.{Report}
 use Rattle.epg_report.specs.Texts.{fault_lines}
 use Rattle.epg_report.specs.Told.{OpenerAsked, ReportTaken, Reported, SourceGave, asked, gave, told}

@@ -3,7 +3,6 @@ use Rattle.std.specs.Prelude.{◌≡◌, ℕ, ◌⊎◌, List, length, take, Opt
 use Rattle.std.specs.Io.KnownBytes.{Appends}
 use Rattle.si_causes.specs.Causes.{Rose, AppendsFront}
 use Rattle.packet_reader.specs.Recordings.{RecordingEnd.AtEnd, RecordingEnd.Broken, RecordingEnd.PastLimit, recording}
-use Rattle.packet_reader.specs.declared.stop.PacketStop.{PacketStop}
 use Rattle.packet_reader.specs.declared.stop.PacketStop.TheVariants as packet
 use Rattle.sub_collect.specs.KeyCounts.{HaveFewKeys, HaveTooManyKeys}
 use Rattle.heard_completions.specs.Dones.{counted_heard}

@@ -5,7 +5,6 @@ use Rattle.std.proofs.Math.Seq.{take-append_seam}
 use Rattle.si_causes.proofs.CauseFacts.{Rose-from}
 use Rattle.si_causes.specs.Reading.{Reading, text_left}
 use Rattle.si_causes.specs.declared.stop.ReadStop.TheVariants.{Failed, TooLong as Overlong}
-use Rattle.input_lines.specs.Going.{HandedOut}
 use Rattle.input_lines.proofs.Steps.{handed_none, handed_more, whole_more}
 use Rattle.mux_model.specs.declared.mux.Mux.{Mux}
 use Rattle.input_lines.specs.declared.stop.EditStop.{EditStop}
@@ -32,7 +31,7 @@ use Rattle.headend_jobs.specs.declared.send.SendStop.TheVariants as send
 use Rattle.carousel_player.specs.Playing.{Playing}
 use Rattle.epg_play.specs.declared.stop.PlayStop.TheVariants.{NoMux, NoCommand as Refused, Disagrees, Read, Air, Memory}
 use Rattle.epg_play.specs.Script.{Stop, Ended, NoCommand, Disagreed, TooLong, Unread, commands_of, difference, first_difference, first_of, played_items, stop_of, up_to}
-use Rattle.epg_play.specs.Played.{AiredTo, HasAirCause, HasReadCause, IsDifference, PlayedWhole, RestDid, RestTaken, course, course_of, desk_after, late_difference, read_stop, send_stop, unless_late}
+use Rattle.epg_play.specs.Played.{AiredTo, HasAirCause, HasReadCause, IsDifference, PlayedWhole, RestDid, RestTaken, course_of, desk_after, late_difference, read_stop, send_stop, unless_late}
 use Rattle.epg_play.specs.Items.{AreDone, ItemDid, Stops, Went, course_at}
 
 -- commands and a stop

@@ -1,5 +1,5 @@
 -- The items of a script, one after another: what each does at a desk, and how far the script has come.
-use Rattle.std.specs.Prelude.{◌≡◌, ◌⊎◌, ◌<◌, ℕ, Bool, false, true, List, [], ◌++◌, Option, Some, None, Ok, Err, Result}
+use Rattle.std.specs.Prelude.{◌≡◌, ◌⊎◌, ◌<◌, ℕ, Bool, false, true, List, ◌++◌, Option, Some, None, Ok, Err, Result}
 use Rattle.si_causes.specs.Reading.{Reading, room, text_left}
 use Rattle.input_lines.specs.Ahead.{Ahead, Tail, ahead}
 use Rattle.input_lines.specs.Going.{HandedOut}

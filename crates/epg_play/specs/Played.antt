@@ -11,7 +11,6 @@ use Rattle.input_lines.specs.declared.stop.EditStop.TheVariants as edits
 use Rattle.input_lines.specs.Ahead.{Ahead, Breaks}
 use Rattle.input_lines.specs.Ahead as reading
 use Rattle.input_lines.specs.Reads.{ahead_with}
-use Rattle.journal_model.specs.declared.step.Step.{Step}
 use Rattle.journal_model.specs.declared.step.Outcome.{Outcome}
 use Rattle.journal_model.specs.declared.step.Entry.{Entry}
 use Rattle.desk_core.specs.Journal.{journal_after}

@@ -1,6 +1,5 @@
-use Rattle.std.proofs.Common.{◌≡◌, refl, sym, ◌∙◌, subst, arith}
+use Rattle.std.proofs.Common.{refl, sym, ◌∙◌, subst, arith}
 use Rattle.std.specs.Prelude.{Err}
-use Rattle.si_causes.proofs.CauseFacts.{Rose-from}
 use Rattle.epg_report.specs.declared.status.Status.{Status}
 use Rattle.epg_audit.specs.Checks.{Checks, HasReadCause}
 use Rattle.epg_audit.proofs.Following.{follows_differ, follows_more, follows_short, follows_stop, stop_caused}

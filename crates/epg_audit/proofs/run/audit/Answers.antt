@@ -4,7 +4,6 @@ use Rattle.si_causes.specs.Opening.{GivesFile, TakesBack, Tries, Files}
 use Rattle.mux_config.proofs.Reading.{first_read}
 use Rattle.packet_reader.specs.Reading.{bytes_left}
 use Rattle.desk_core.specs.Desks.{fresh}
-use Rattle.epg_report.specs.declared.status.Status.{Status}
 use Rattle.epg_report.specs.Told.{asked}
 use Rattle.epg_play.specs.Leaves.{status_for}
 use Rattle.epg_play.specs.Script.{script_in}

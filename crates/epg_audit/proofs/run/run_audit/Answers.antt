@@ -3,7 +3,7 @@ use Rattle.std.specs.Prelude.{OnOk, IfErr}
 use Rattle.std.specs.Io.KnownBytes.{IsAtEnd}
 use Rattle.epg_report.specs.Told.{asked, told}
 use Rattle.epg_audit.specs.Finds.{FindsIn, HasMetCause}
-use Rattle.epg_audit.proofs.AuditRuns.{audit_memory, audit_run}
+use Rattle.epg_audit.proofs.AuditRuns.{audit_run}
 use Rattle.epg_audit.proofs.run.run_audit.Goals as goal
 
 pub returns : goal.returns

@@ -1,15 +1,11 @@
-use Rattle.std.proofs.Common.{◌≡◌, refl, sym, ap, ◌∙◌, subst}
-use Rattle.std.specs.Prelude.{Option, None, Err}
-use Rattle.input_lines.specs.Ahead.{ahead}
-use Rattle.si_causes.specs.Reading.{text_left}
-use Rattle.journal_model.specs.declared.step.Outcome.{Outcome}
+use Rattle.std.proofs.Common.{sym, ap, ◌∙◌, subst}
+use Rattle.std.specs.Prelude.{Err}
 use Rattle.desk_core.specs.Journal.{entry_after}
 use Rattle.desk_core.specs.Desks.{DeskState, and_entry}
 use Rattle.headend_jobs.proofs.SwapFacts.{after_legal}
 use Rattle.script_lines.specs.declared.script.ScriptItem.TheVariants.{Step as step, Kept}
 use Rattle.epg_play.specs.declared.stop.PlayStop.{PlayStop}
-use Rattle.epg_play.specs.Items.{Stops, course_at}
-use Rattle.epg_play.specs.Played.{RestDid, RestTaken}
+use Rattle.epg_play.specs.Items.{Stops}
 use Rattle.epg_play.proofs.CourseFacts.{item_read, went_step, went_kept, ended, read_stopped, differed_at, taken}
 use Rattle.epg_play.proofs.item.do_item.Goals as goal
 

@@ -1,4 +1,4 @@
-use Rattle.std.proofs.Common.{◌≡◌, List, ℕ, refl, sym, subst, arith, inl, inr, ◌⊎◌}
+use Rattle.std.proofs.Common.{◌≡◌, List, ℕ, sym, subst, arith, inl, inr, ◌⊎◌}
 use Rattle.std.specs.Prelude.{Option, Ok, Err, false}
 use Rattle.epg_play.specs.declared.stop.PlayStop.{PlayStop}
 use Rattle.carousel_player.specs.Playing.{Playing}
