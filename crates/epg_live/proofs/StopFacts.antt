@@ -16,7 +16,6 @@ use Rattle.guide_screen.specs.declared.need.Heard.{Heard}
 use Rattle.headend_live.proofs.Viewed.{no_stop}
 use Rattle.epg_report.specs.declared.status.Status.{Status}
 use Rattle.epg_report.specs.declared.status.Status.TheVariants.{Done}
-use Rattle.epg_report.specs.declared.status.Origin.TheVariants.{Feed}
 use Rattle.epg_live.specs.Stops.{HaveReadCauses, HasStatusCause, feeds_stop, live_status}
 
 -- what holds of either holds of the one that is taken

@@ -1,8 +1,6 @@
 -- What a run of `live` leaves.
-use Rattle.std.specs.Prelude.{◌≡◌, ◌⊎◌, ℕ, List, [], ◌++◌, length, take, flat_map, Option, Some, None, Ok, Err, Result}
-use Rattle.std.specs.Io.KnownBytes.{Appends}
+use Rattle.std.specs.Prelude.{◌≡◌, ◌⊎◌, ℕ, List, [], ◌++◌, length, take, flat_map, Option, Some, None}
 use Rattle.headend_live.specs.declared.watched.LivePlan.{LivePlan}
-use Rattle.si_causes.specs.Causes.{Rose, AppendsFront}
 use Rattle.si_causes.specs.Opening.{Files}
 use Rattle.journal_model.specs.declared.step.Entry.{Entry}
 use Rattle.desk_core.specs.Desks.{DeskState}
@@ -14,11 +12,8 @@ use Rattle.guide_text.specs.Fields.{optional}
 use Rattle.guide_text.specs.Guides.{guide_text}
 use Rattle.air_monitor.specs.declared.done_line.DoneLine.{DoneLine}
 use Rattle.epg_report.specs.declared.status.Status.{Status}
-use Rattle.epg_report.specs.declared.status.Status.TheVariants.{Done, BadMux, OpenFault, ReadFault, TooLong, WriteFault, Memory, NoView}
+use Rattle.epg_report.specs.declared.status.Status.TheVariants.{BadMux, OpenFault, ReadFault, TooLong, Memory, NoView}
 use Rattle.epg_report.specs.declared.status.Origin.TheVariants.{Input}
-use Rattle.epg_report.specs.declared.status.Outlet.TheVariants.{Report}
-use Rattle.epg_report.specs.Texts.{fault_lines}
-use Rattle.epg_report.specs.Told.{ReportTaken}
 use Rattle.epg_live.specs.declared.reporting.Observed.{Observed}
 use Rattle.epg_live.specs.declared.reporting.LiveResult.{LiveResult}
 use Rattle.epg_live.specs.Opened.{HasTried}
