@@ -5,7 +5,8 @@
 // REFUSE_TELL  a file, to which a line is added for the first request that is refused, and one at the end of the program
 //
 // A request is a call of malloc, calloc, realloc, reallocarray, aligned_alloc, memalign or posix_memalign, whichever thread makes it.
-// Those before the constructor below are the loader's and are not counted. Behind it the program starts.
+// Those before the constructor below are the loader's and are not counted. Behind it the program starts. With a request of the program
+// the line tells the place behind the call, as nm counts addresses; with one of a library the place is 0.
 #define _GNU_SOURCE
 #include <errno.h>
 #include <fcntl.h>
@@ -14,30 +15,32 @@
 #include <stdint.h>
 #include <stdio.h>
 #include <stdlib.h>
+#include <sys/syscall.h>
 #include <unistd.h>
 
-// What the C library calls by these names is below what is replaced here, so that no name has to be looked up.
+// The C library's own functions, by the names that it has for them beside those that are replaced here.
 extern void *__libc_malloc(size_t);
 extern void *__libc_calloc(size_t, size_t);
 extern void *__libc_realloc(void *, size_t);
 extern void *__libc_memalign(size_t, size_t);
 
 static _Atomic int counting;
-static _Atomic unsigned long requests, of_program, refused;
+static _Atomic unsigned long requests, refused;
 static unsigned long first, last;
 static const char *tell_path;
-static uintptr_t program_low, program_high;
+static uintptr_t program_base, program_low, program_high;
 
 static void tell(const char *line, int length) {
     if (tell_path == NULL) return;
     int to = open(tell_path, O_WRONLY | O_CREAT | O_APPEND | O_CLOEXEC, 0644);
     if (to < 0) return;
-    if (write(to, line, length) != length) _exit(99);
+    if (write(to, line, length) != length) abort();
     close(to);
 }
 
 // The first object that is loaded is the program itself: the addresses of its code tell its requests from those of libraries.
 static int find_program(struct dl_phdr_info *object, size_t size, void *unused) {
+    program_base = object->dlpi_addr;
     for (int i = 0; i < object->dlpi_phnum; i++) {
         const ElfW(Phdr) *part = &object->dlpi_phdr[i];
         if (part->p_type != PT_LOAD || !(part->p_flags & PF_X)) continue;
@@ -59,28 +62,34 @@ __attribute__((constructor)) static void start(void) {
     counting = 1;
 }
 
+// The program ends by exit, which calls this, or by _exit, which does not.
 __attribute__((destructor)) static void end(void) {
     char line[100];
-    counting = 0;
-    tell(line, snprintf(line, sizeof line, "requests %lu, of the program %lu, refused %lu\n", requests, of_program, refused));
+    if (counting-- <= 0) return;
+    tell(line, snprintf(line, sizeof line, "requests %lu, refused %lu\n", requests, refused));
+}
+
+void _exit(int status) {
+    end();
+    for (;;) syscall(SYS_exit_group, status);
 }
 
 // Counts a request of so many bytes, and says whether it is to be refused. The place is that behind the call.
-static int refuses(size_t size, void *place) {
-    if (!counting) return 0;
-    int is_program = program_low <= (uintptr_t)place && (uintptr_t)place < program_high;
-    if (is_program) of_program++;
+static int refuses(size_t size, uintptr_t place) {
+    if (counting <= 0) return 0;
     unsigned long number = ++requests;
     if (number < first || number > last) return 0;
     if (refused++ == 0) {
         char line[100];
-        tell(line, snprintf(line, sizeof line, "refused %lu, of %s, %zu bytes\n", number, is_program ? "the program" : "a library", size));
+        int is_program = program_low <= place && place < program_high;
+        place = is_program ? place - program_base : 0;
+        tell(line, snprintf(line, sizeof line, "refused %lu, place %lx, bytes %zu\n", number, place, size));
     }
     errno = ENOMEM;
     return 1;
 }
 
-#define PLACE __builtin_return_address(0)
+#define PLACE (uintptr_t)__builtin_return_address(0)
 
 void *malloc(size_t size) { return refuses(size, PLACE) ? NULL : __libc_malloc(size); }
 

@@ -1,8 +1,8 @@
 #!/usr/bin/env bash
 # Refuses each request for memory of three runs in turn, and holds what each leaves against docs/FORMATS.md. README.md says more.
-# usage: bench/faults/run.sh [ROUNDS]    live is gone through so often (3 if left out), since its requests come in another order each time
+# usage: bench/faults/run.sh [ROUNDS]    live is gone through so often (once if left out), since its requests come in another order each time
 set -euo pipefail
-rounds=${1:-3}
+rounds=${1:-1}
 here=$(cd "$(dirname "$0")" && pwd)
 top=$(cd "$here/../.." && pwd)
 scratch=$(mktemp -d "${TMPDIR:-/tmp}/faults.XXXXXX")
@@ -13,7 +13,12 @@ if [ -z "${PROGRAM:-}" ]; then
     "$top/lepnugan" play < "$top/examples/one-name.txt" > /dev/null 2>&1
     PROGRAM="$top/crates/headend_main/out/headend_main"
 fi
+PROGRAM=$(readlink -f "$PROGRAM")
 cd "$scratch"
+
+# The two functions by which the program's values get their memory. Whatever else in it asks for some starts a thread.
+nm -S "$PROGRAM" | awk '$4 == "rattle_alloc" || $4 == "rattle_realloc" { print $1, $2 }' > heap
+[ "$(wc -l < heap)" = 2 ]
 
 # What the runs read: the script, the air of it, and a description with a control and two feeds of two edits each.
 cp "$top/examples/one-name.txt" script
@@ -48,6 +53,21 @@ once() {
     status=0
     timeout 20 env LD_PRELOAD="$scratch/refuse.so" REFUSE="$refuse" REFUSE_TELL="$scratch/told" \
         "$PROGRAM" $(words "$run") < "$(input "$run")" > air 2> report || status=$?
+}
+
+# For what the request was that was refused; nothing, where none was.
+purpose() {
+    local place start size
+    place=$(sed -n 's/^refused [0-9]*, place \([0-9a-f]*\), .*/\1/p' told)
+    case $place in
+        '' | 0)
+            [ -z "$place" ] || echo "a thread's start, by the C library"
+            return ;;
+    esac
+    while read -r start size; do
+        ((16#$place < 16#$start || 16#$place >= 16#$start + 16#$size)) || { echo 'a value' && return; }
+    done < heap
+    echo "a thread's start"
 }
 
 # Whether the first file is a front of the second one.
@@ -96,8 +116,9 @@ is_usual_live() {
 is_short_live() {
     replay || return 1
     is_front air again.air || is_front again.air air || return 1
+    : > heard
     [ ! -s air ] || "$PROGRAM" listen < air 2> heard > /dev/null || return 1
-    [ ! -s others ] || is_front others heard
+    is_front others heard
 }
 
 # Names what a run left, where it is what its status says, and else fails.
@@ -121,42 +142,46 @@ judge() {
 finding() {
     local run=$1 refuse=$2
     echo "FINDING: $run with REFUSE=$refuse: status $status, air of $(stat -c %s air) bytes, report of $(stat -c %s report); $(head -n 1 told || true)"
-    tail -n 3 report | sed 's/^/    /'
+    tail -n 3 report | awk '{ print "    " $0 }'
     findings=$((findings + 1))
     command -v gdb > /dev/null && [ "$status" -ge 128 ] || return 0
     timeout 60 gdb -q -batch -ex "set exec-wrapper env LD_PRELOAD=$scratch/refuse.so REFUSE=$refuse" \
         -ex "run $(words "$run") < $(input "$run") > gdb.air 2> gdb.report" -ex 'thread apply all bt 30' "$PROGRAM" 2>&1 | sed 's/^/    /' || true
 }
 
-# Refuses 1, 2, .. until five runs in a row, one with threads, met no refusal: with `..` behind the number all later ones too.
+# Refuses 1, 2, .. until five runs in a row met no refusal: with `..` behind the number all later requests too.
 go_through() {
     local run=$1 onward=$2 number=0 unmet=0 whose said
     : > said
+    : > usual
     while [ $unmet -lt 5 ]; do
         number=$((number + 1))
         once "$run" "$number$onward"
-        whose=$(sed -n 's/^refused [0-9]*, of \(.*\), .*/\1/p' told 2> /dev/null || true)
-        if [ -n "$whose" ]; then unmet=0; else
-            unmet=$((unmet + 1))
-            whose=none
-        fi
+        whose=$(purpose)
+        [ -n "$whose" ] && unmet=0 || unmet=$((unmet + 1))
         said=$(judge "$run") || said=
         case $said,$whose in
-            ,* | [!0]*,none) finding "$run" "$number$onward" ;;
-            *,none) ;;
-            *) echo "$whose: $said" >> said ;;
+            ,* | [!0]*,) finding "$run" "$number$onward" ;;
+            *,) ;;
+            *) echo "status $said, for $whose" >> said ;;
         esac
+        [ "$said,$whose" != '0,a value' ] || echo -n " $number" >> usual
     done
-    echo "$run: $(wc -l < said) requests, each refused $([ -z "$onward" ] && echo alone || echo 'with all behind it')"
-    sort said | uniq -c | sed 's/^ *\([0-9]*\) /    \1 of /'
+    echo "$run: $(wc -l < said) times a request was refused${onward:+, with all behind it}, and was answered as it should"
+    sort said | uniq -c | sed 's/^ *\([0-9]*\) /    \1 times /'
+    [ ! -s usual ] || echo "    status 0 for the values of the requests$(cat usual)"
 }
 
 findings=0
 for run in play listen; do
+    once "$run" 0
+    echo "$run: $(cat told)"
     go_through "$run" ''
     go_through "$run" ..
 done
 for ((round = 0; round < rounds; round++)); do
+    once live 0
+    echo "live: $(cat told)"
     go_through live ''
     go_through live ..
 done
