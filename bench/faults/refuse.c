@@ -2,6 +2,7 @@
 //
 // REFUSE=N     refuses request N alone, counted from 1; without it none is refused
 // REFUSE=N..   refuses request N and all behind it
+// REFUSE_BUT=LOW-HIGH  requests of these places, as the line below tells them, pass and are not counted
 // REFUSE_TELL  a file, to which a line is added for the first request that is refused, and one at the end of the program
 //
 // A request is a call of malloc, calloc, realloc, reallocarray, aligned_alloc, memalign or posix_memalign, whichever thread makes it.
@@ -28,7 +29,7 @@ static _Atomic int counting;
 static _Atomic unsigned long requests, refused;
 static unsigned long first, last;
 static const char *tell_path;
-static uintptr_t program_base, program_low, program_high;
+static uintptr_t program_base, program_low, program_high, but_low, but_high;
 
 static void tell(const char *line, int length) {
     if (tell_path == NULL) return;
@@ -51,13 +52,14 @@ static int find_program(struct dl_phdr_info *object, size_t size, void *unused) 
 }
 
 __attribute__((constructor)) static void start(void) {
-    const char *wanted = getenv("REFUSE");
+    const char *wanted = getenv("REFUSE"), *but = getenv("REFUSE_BUT");
     char *behind;
     tell_path = getenv("REFUSE_TELL");
     if (wanted != NULL) {
         first = strtoul(wanted, &behind, 10);
         last = *behind == '.' ? -1UL : first;
     }
+    if (but != NULL) sscanf(but, "%lx-%lx", &but_low, &but_high);
     dl_iterate_phdr(find_program, NULL);
     counting = 1;
 }
@@ -77,12 +79,12 @@ void _exit(int status) {
 // Counts a request of so many bytes, and says whether it is to be refused. The place is that behind the call.
 static int refuses(size_t size, uintptr_t place) {
     if (counting <= 0) return 0;
+    place = program_low <= place && place < program_high ? place - program_base : 0;
+    if (but_low <= place && place < but_high) return 0;
     unsigned long number = ++requests;
     if (number < first || number > last) return 0;
     if (refused++ == 0) {
         char line[100];
-        int is_program = program_low <= place && place < program_high;
-        place = is_program ? place - program_base : 0;
         tell(line, snprintf(line, sizeof line, "refused %lu, place %lx, bytes %zu\n", number, place, size));
     }
     errno = ENOMEM;

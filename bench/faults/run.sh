@@ -16,9 +16,12 @@ fi
 PROGRAM=$(readlink -f "$PROGRAM")
 cd "$scratch"
 
-# The two functions by which the program's values get their memory. Whatever else in it asks for some starts a thread.
-nm -S "$PROGRAM" | awk '$4 == "rattle_alloc" || $4 == "rattle_realloc" { print $1, $2 }' > heap
+# The places of the two functions, side by side, by which the program's values get their memory. Whatever else in it asks starts a thread.
+nm -S "$PROGRAM" | awk '$4 == "rattle_alloc" || $4 == "rattle_realloc" { print $1, $2 }' | sort > heap
 [ "$(wc -l < heap)" = 2 ]
+read -r low _ < heap
+read -r high size < <(tail -n 1 heap)
+low=$((16#$low)) high=$((16#$high + 16#$size))
 
 # What the runs read: the script, the air of it, and a description with a control and two feeds of two edits each.
 cp "$top/examples/one-name.txt" script
@@ -46,28 +49,27 @@ input() {
     esac
 }
 
-# One run of which REFUSE has this value: leaves its status, air, report and what the library tells.
+# One run of which REFUSE has this value, and REFUSE_BUT that of but: leaves its status, air, report and what the library tells.
 once() {
     local run=$1 refuse=$2
     rm -f told
     status=0
-    timeout 20 env LD_PRELOAD="$scratch/refuse.so" REFUSE="$refuse" REFUSE_TELL="$scratch/told" \
+    timeout 20 env LD_PRELOAD="$scratch/refuse.so" REFUSE="$refuse" REFUSE_BUT="$but" REFUSE_TELL="$scratch/told" \
         "$PROGRAM" $(words "$run") < "$(input "$run")" > air 2> report || status=$?
 }
 
 # For what the request was that was refused; nothing, where none was.
 purpose() {
-    local place start size
+    local place
     place=$(sed -n 's/^refused [0-9]*, place \([0-9a-f]*\), .*/\1/p' told)
-    case $place in
-        '' | 0)
-            [ -z "$place" ] || echo "a thread's start, by the C library"
-            return ;;
-    esac
-    while read -r start size; do
-        ((16#$place < 16#$start || 16#$place >= 16#$start + 16#$size)) || { echo 'a value' && return; }
-    done < heap
-    echo "a thread's start"
+    [ -n "$place" ] || return 0
+    if ((16#$place == 0)); then
+        echo "a thread's start, by the C library"
+    elif ((low <= 16#$place && 16#$place < high)); then
+        echo 'a value'
+    else
+        echo "a thread's start"
+    fi
 }
 
 # Whether the first file is a front of the second one.
@@ -145,7 +147,7 @@ finding() {
     tail -n 3 report | awk '{ print "    " $0 }'
     findings=$((findings + 1))
     command -v gdb > /dev/null && [ "$status" -ge 128 ] || return 0
-    timeout 60 gdb -q -batch -ex "set exec-wrapper env LD_PRELOAD=$scratch/refuse.so REFUSE=$refuse" \
+    timeout 60 gdb -q -batch -ex "set exec-wrapper env LD_PRELOAD=$scratch/refuse.so REFUSE=$refuse REFUSE_BUT=$but" \
         -ex "run $(words "$run") < $(input "$run") > gdb.air 2> gdb.report" -ex 'thread apply all bt 30' "$PROGRAM" 2>&1 | sed 's/^/    /' || true
 }
 
@@ -173,6 +175,7 @@ go_through() {
 }
 
 findings=0
+but=
 for run in play listen; do
     once "$run" 0
     echo "$run: $(cat told)"
@@ -184,6 +187,13 @@ for ((round = 0; round < rounds; round++)); do
     echo "live: $(cat told)"
     go_through live ''
     go_through live ..
+    # Values left out, so that the start of each thread is refused in turn.
+    but=$(printf '%x-%x' $low $high)
+    once live 0
+    echo "live, without the values: $(cat told)"
+    go_through live ''
+    go_through live ..
+    but=
 done
 echo "$findings findings"
 [ $findings = 0 ]
