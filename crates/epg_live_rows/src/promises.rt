@@ -142,7 +142,8 @@ fn audited<W: Threads + Wait + Sync>(
 
 // The whole packets of an air.
 fn packets_of(air: &[u8]) -> &[u8] {
-    air.get(..air.len() / 188 * 188).unwrap_or(&[])
+    let packets = air.len() / 188;
+    air.get(..packets.saturating_mul(188)).unwrap_or(&[])
 }
 
 // A journal without its last swap.

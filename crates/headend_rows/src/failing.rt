@@ -108,12 +108,12 @@ impl<'a> Script<'a> {
 
     // The writes that send a cycle, where each call moves at most `piece` bytes of it.
     fn writes(&self, piece: usize) -> usize {
-        self.cycle.div_ceil(piece.max(1)).max(1)
+        self.cycle.div_ceil(piece.max(1))
     }
 
     // How many bytes the air has before call `n`.
     fn sent_before(&self, n: usize, piece: usize) -> usize {
-        let calls = self.writes(piece);
+        let calls = self.writes(piece).max(1);
         (n / calls)
             .saturating_mul(self.cycle)
             .saturating_add((n % calls).saturating_mul(piece))
@@ -259,7 +259,7 @@ fn all_fail<W: Threads + Wait + Sync>(
         piece: piece.max(47),
         ..case
     };
-    let reads = script.text.len().div_ceil(piece) + 1;
+    let reads = script.text.len().div_ceil(piece).saturating_add(1);
     let sent = script.sent_of(script.entries.len()) / script.cycle.max(1);
     let sent = sent.saturating_mul(script.writes(wide.piece));
     let told = script
