@@ -7,8 +7,10 @@
 mod ends;
 mod faults;
 mod orders;
+mod promises;
 mod rows;
 mod run;
+mod turns;
 mod weeks;
 
 use std::io;

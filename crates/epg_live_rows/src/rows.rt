@@ -3,15 +3,13 @@ use crate::ends::{put_counts, put_end, put_report, put_views, put_whole};
 use crate::faults::faults_of;
 use crate::orders::tell_order;
 use crate::run::{Given, Left, run_row};
+use crate::turns::tell_turns;
 use crate::weeks::{Week, tell_week};
 use si_causes::OpenGate;
 use std::alloc::{AllocError, Global};
 use std::marker::Sync;
 use std::sync::Wait;
 use std::thread::Threads;
-
-// The most runs of a row.
-const MOST: u64 = 64;
 
 // The first word of a row, and what is behind it.
 fn cut(row: &str) -> (&str, &str) {
@@ -41,7 +39,7 @@ fn left_of<W: Threads + Wait + Sync>(rt: &W, alloc: Global, row: &str) -> Result
     run_row(rt, alloc, &given, &faults_of(fault), &OpenGate)
 }
 
-// Runs in which each call of a kind fails in turn, up to one that is done: `KIND PIECE WORDS INPUT ; FEED ; FEED ..`
+// `KIND PIECE HOLDS WORDS INPUT ; FEED ; FEED ..`
 fn tell_each<W: Threads + Wait + Sync>(
     rt: &W,
     alloc: Global,
@@ -50,18 +48,10 @@ fn tell_each<W: Threads + Wait + Sync>(
 ) -> Result<(), AllocError> {
     let (kind, row) = cut(row);
     let (piece, row) = cut(row);
+    let (holds, row) = cut(row);
     let (words, texts) = cut(row);
     let given = given_of(words, number(piece) as usize, texts);
-    for call in 0..MOST {
-        let fault = format!(in alloc; "{kind}{call}")?;
-        let left = run_row(rt, alloc, &given, &faults_of(fault.as_str()), &OpenGate)?;
-        out.push_str(if call == 0 { "" } else { " | " })?;
-        put_counts(out, &left)?;
-        if left.status.code() == 0 {
-            break;
-        }
-    }
-    Ok(())
+    tell_turns(rt, alloc, kind, holds, &given, out)
 }
 
 // `HOLDS CALLERS WORDS INPUT ; FEED ; FEED ..`

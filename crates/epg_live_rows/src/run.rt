@@ -17,6 +17,15 @@ pub struct Given<'a> {
     pub feeds: &'a str,
 }
 
+/// A run as it is made: the words with slashes between, how many bytes a call moves at most, the input, and the files.
+#[derive(Drop)]
+pub struct Outside<'a> {
+    pub words: &'a str,
+    pub piece: usize,
+    pub input: Vec<u8>,
+    pub files: Vec<(String, Vec<u8>)>,
+}
+
 /// What a run left: its status, and what the air and the report took.
 #[derive(Drop)]
 pub struct Left {
@@ -33,8 +42,8 @@ fn failing(alloc: Global, call: Option<u64>) -> Result<Vec<u64>, AllocError> {
     Ok(calls)
 }
 
-// The bytes of a text, in which a slash stands for LF.
-fn bytes_of(alloc: Global, text: &str) -> Result<Vec<u8>, AllocError> {
+/// The bytes of a text, in which a slash stands for LF.
+pub fn lines_of(alloc: Global, text: &str) -> Result<Vec<u8>, AllocError> {
     let mut bytes = Vec::new(alloc);
     for b in text.as_bytes() {
         bytes.push(if *b == b'/' { b'\n' } else { *b })?;
@@ -47,7 +56,7 @@ fn files_of(alloc: Global, feeds: &str) -> Result<Vec<(String, Vec<u8>)>, AllocE
     let mut files = Vec::new(alloc);
     for (at, text) in feeds.split(" ; ").enumerate() {
         let path = (at as u64).saturating_add(1).to_string(alloc)?;
-        files.push((path, bytes_of(alloc, text)?))?;
+        files.push((path, lines_of(alloc, text)?))?;
     }
     Ok(files)
 }
@@ -60,25 +69,19 @@ fn words_of(alloc: Global, text: &str) -> Result<Vec<String>, AllocError> {
     Ok(words)
 }
 
-fn opener_of(alloc: Global, given: &Given, faults: &Faults) -> Result<MemOpener, AllocError> {
-    let files = files_of(alloc, given.feeds)?;
-    let openings = failing(alloc, faults.opening)?;
-    Ok(MemOpener::open_with(alloc, files, openings, faults.read))
-}
-
-/// Runs the top call; the files are those of the feeds, by the paths 1, 2, ..
-pub fn run_row<W: Threads + Wait + Sync, G: Gate>(
+/// Runs the top call over this.
+pub fn run_outside<W: Threads + Wait + Sync, G: Gate>(
     rt: &W,
     alloc: Global,
-    given: &Given,
+    outside: Outside,
     faults: &Faults,
     gate: &G,
 ) -> Result<Left, AllocError> {
-    let words = words_of(alloc, given.words)?;
-    let bytes = bytes_of(alloc, given.input)?;
-    let piece = given.piece.max(1);
-    let mut source = MemSource::open(bytes, piece, failing(alloc, faults.input)?);
-    let mut opener = opener_of(alloc, given, faults)?;
+    let words = words_of(alloc, outside.words)?;
+    let piece = outside.piece.max(1);
+    let openings = failing(alloc, faults.opening)?;
+    let mut opener = MemOpener::open_with(alloc, outside.files, openings, faults.read);
+    let mut source = MemSource::open(outside.input, piece, failing(alloc, faults.input)?);
     let mut air = MemSink::open(alloc, piece, failing(alloc, faults.air)?);
     let mut report = MemSink::open(alloc, piece, failing(alloc, faults.report)?);
     let status = run(
@@ -96,4 +99,21 @@ pub fn run_row<W: Threads + Wait + Sync, G: Gate>(
         air,
         report,
     })
+}
+
+/// Runs the top call; the files are those of the feeds, by the paths 1, 2, ..
+pub fn run_row<W: Threads + Wait + Sync, G: Gate>(
+    rt: &W,
+    alloc: Global,
+    given: &Given,
+    faults: &Faults,
+    gate: &G,
+) -> Result<Left, AllocError> {
+    let outside = Outside {
+        words: given.words,
+        piece: given.piece,
+        input: lines_of(alloc, given.input)?,
+        files: files_of(alloc, given.feeds)?,
+    };
+    run_outside(rt, alloc, outside, faults, gate)
 }

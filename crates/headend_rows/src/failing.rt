@@ -1,55 +1,13 @@
 // Runs of `play` in which one call of an end fails.
 use crate::journals::prints_itself;
-use crate::runs::{LISTEN, Left, MUX, NEVER, PLAY, Run, air_of, joined, leaves};
+use crate::runs::{LISTEN, Left, MUX, NEVER, PLAY, Run, air_of, first_cycle, joined, leaves};
+use crate::scripts::{EVERY_KIND, ONE_NAME, Script};
 use epg_cli::{Origin, Outlet, Status};
 use std::alloc::{AllocError, Global};
 use std::marker::Sync;
 use std::sync::Wait;
 use std::test::Fail;
 use std::thread::Threads;
-
-// A script of every kind of line, and two swaps of a guide with two events of the day.
-const EVERY: &str = "\
-network,40,Demo
-stream,1,1
-service,101,1,1,256,257,Acme,One
-start,1993-10-13T12:45:00Z
-end
-
-# a comment
-feed,1,name,101,Acme,\"News, 24\"
-=,done
-7,feed,1,day,101,1993-10-13,2
-item,5,1993-10-13T13:00:00Z,00:30:00,eng,A,,,,,
-# between
-item,6,1993-10-13T13:30:00Z,00:30:00,eng,B,,,,,
-=,done
-tick,1993-10-13T13:00:00Z
-3,publish
-=,published,01
-swap
-=,swapped,1,1993-10-13T13:00:00Z
-003,swap
-";
-
-// Its journal, entry by entry.
-const ENTRIES: [&str; 6] = [
-    "0,feed,1,name,101,Acme,\"News, 24\"\n=,done\n",
-    "7,feed,1,day,101,1993-10-13,2\nitem,5,1993-10-13T13:00:00Z,00:30:00,eng,A,,,,,\nitem,6,1993-10-13T13:30:00Z,00:30:00,eng,B,,,,,\n=,done\n",
-    "0,tick,1993-10-13T13:00:00Z\n=,ticked\n",
-    "3,publish\n=,published,1\n",
-    "0,swap\n=,swapped,1,1993-10-13T13:00:00Z\n",
-    "3,swap\n=,swapped,1,1993-10-13T13:00:00Z\n",
-];
-
-// The last line of each of its commands, and how many cycles are sent with so many entries.
-const LAST_LINES: [usize; 6] = [8, 13, 15, 16, 18, 20];
-
-const CYCLES: [usize; 7] = [0, 0, 0, 0, 0, 1, 2];
-
-// How many bytes a cycle has: PAT, PMT, NIT, SDT and TDT in a packet each, and 206 bytes of present, following and a schedule up to 15:00
-// in two.
-const CYCLE: usize = 7 * 188;
 
 // Which end fails in a run.
 #[derive(Clone, Copy)]
@@ -59,26 +17,26 @@ enum End {
     Report,
 }
 
-// How many commands end in the first bytes of the script.
-fn commands_in(bytes: usize) -> usize {
-    let taken = EVERY.as_bytes().iter().take(bytes);
-    let lines = taken.filter(|byte| **byte == b'\n').count();
-    LAST_LINES.iter().filter(|last| **last <= lines).count()
+// A script with its whole air, and how many bytes a call moves at most.
+#[derive(Clone, Copy)]
+struct Case<'a> {
+    script: &'a Script<'a>,
+    whole: &'a [u8],
+    piece: usize,
 }
 
-// How many bytes the air has before call `n`, where each call moves at most `piece` of a cycle.
-fn aired_before(n: usize, piece: usize) -> usize {
-    let calls = CYCLE.div_ceil(piece.max(1));
-    (n / calls)
-        .saturating_mul(CYCLE)
-        .saturating_add((n % calls).saturating_mul(piece))
+// The numbers of the calls that fail, where call `n` of an end does.
+fn fails_of(end: End, n: usize) -> [u64; 3] {
+    match end {
+        End::Read => [n as u64, NEVER, NEVER],
+        End::Air => [NEVER, n as u64, NEVER],
+        End::Report => [NEVER, NEVER, n as u64],
+    }
 }
 
-// The number of the call that fails, end by end, and what the run is to leave: how many entries, how many bytes of the air and of
-// the report, and the status with its line.
+// What a run is to leave: how many entries, how many bytes of the air and of the report, and the status with its line.
 #[derive(Clone, Copy)]
 struct Expected {
-    fails: [u64; 3],
     entries: usize,
     sent: usize,
     told: usize,
@@ -86,29 +44,28 @@ struct Expected {
     fault: &'static str,
 }
 
-fn expected_of(end: End, n: usize, piece: usize) -> Expected {
-    let moved = n.saturating_mul(piece);
+fn expected_of(case: &Case, end: End, n: usize) -> Expected {
+    let script = case.script;
+    let moved = n.saturating_mul(case.piece);
+    let sent = script.sent_before(n, case.piece);
     match end {
         End::Read => Expected {
-            fails: [n as u64, NEVER, NEVER],
-            entries: commands_in(moved),
-            sent: CYCLE.saturating_mul(CYCLES.get(commands_in(moved)).copied().unwrap_or(0)),
+            entries: script.commands_in(moved),
+            sent: script.sent_of(script.commands_in(moved)),
             told: usize::MAX,
             status: Status::ReadFault(Origin::Input),
             fault: "fault: input not read\n",
         },
         End::Air => Expected {
-            fails: [NEVER, n as u64, NEVER],
-            entries: if aired_before(n, piece) < CYCLE { 5 } else { 6 },
-            sent: aired_before(n, piece),
+            entries: script.commands_up_to(sent),
+            sent,
             told: usize::MAX,
             status: Status::WriteFault(Outlet::Air),
             fault: "fault: air not written\n",
         },
         End::Report => Expected {
-            fails: [NEVER, NEVER, n as u64],
-            entries: 6,
-            sent: 2 * CYCLE,
+            entries: script.entries.len(),
+            sent: case.whole.len(),
             told: moved,
             status: Status::WriteFault(Outlet::Report),
             fault: "",
@@ -116,91 +73,116 @@ fn expected_of(end: End, n: usize, piece: usize) -> Expected {
     }
 }
 
-// The first entries of the journal, and a line.
-fn report_of(alloc: Global, entries: usize, fault: &str) -> Result<String, AllocError> {
-    let mut report = String::new(alloc);
-    for entry in ENTRIES.iter().take(entries) {
-        report.push_str(entry)?;
-    }
-    report.push_str(fault)?;
-    Ok(report)
+// Whether the run in which call `n` of an end fails leaves just this.
+fn leaves_so<W: Threads + Wait + Sync>(
+    rt: &W,
+    alloc: Global,
+    case: &Case,
+    fails: [u64; 3],
+    left: &Left,
+) -> Result<bool, AllocError> {
+    let input = case.script.text.as_bytes();
+    leaves(rt, alloc, &Run::of(PLAY, input, case.piece, fails), left)
 }
 
-// The run of the script in which these calls fail.
-fn run_failing(piece: usize, fails: [u64; 3]) -> Run<'static> {
-    Run::of(PLAY, EVERY.as_bytes(), piece, fails)
-}
-
-// Whether the run with call `n` of an end failing leaves what is due; `whole` is the whole air.
+// Whether the run with call `n` of an end failing leaves what is due.
 fn fails_as_due<W: Threads + Wait + Sync>(
     rt: &W,
     alloc: Global,
-    whole: &[u8],
-    piece: usize,
+    case: &Case,
     end: End,
     n: usize,
 ) -> Result<bool, AllocError> {
-    let due = expected_of(end, n, piece);
-    let report = report_of(alloc, due.entries, due.fault)?;
+    let due = expected_of(case, end, n);
+    let report = case.script.report_of(alloc, due.entries, due.fault)?;
     let report = report.as_bytes();
-    let air = whole.get(..due.sent).unwrap_or(&[]);
+    let air = case.whole.get(..due.sent).unwrap_or(&[]);
     let told = report.get(..due.told).unwrap_or(report);
     let left = Left::of(due.status, air, told);
-    leaves(rt, alloc, &run_failing(piece, due.fails), &left)
+    leaves_so(rt, alloc, case, fails_of(end, n), &left)
 }
 
 // Whether each of the first `calls` calls of an end, failing, leaves what is due, and the call behind them is not made.
 fn each_fails<W: Threads + Wait + Sync>(
     rt: &W,
     alloc: Global,
-    whole: &[u8],
-    piece: usize,
+    case: &Case,
     end: End,
     calls: usize,
 ) -> Result<bool, AllocError> {
     for n in 0..calls {
-        if !fails_as_due(rt, alloc, whole, piece, end, n)? {
+        if !fails_as_due(rt, alloc, case, end, n)? {
             return Ok(false);
         }
     }
-    let journal = report_of(alloc, 6, "")?;
-    let left = Left::of(Status::Done, whole, journal.as_bytes());
-    let fails = expected_of(end, calls, piece).fails;
-    leaves(rt, alloc, &run_failing(piece, fails), &left)
+    let journal = case.script.report_of(alloc, usize::MAX, "")?;
+    let left = Left::of(Status::Done, case.whole, journal.as_bytes());
+    leaves_so(rt, alloc, case, fails_of(end, calls), &left)
 }
 
 // Whether each call of each end, failing, leaves what is due, where each call moves so many bytes, of the air 47 at least.
 fn all_fail<W: Threads + Wait + Sync>(
     rt: &W,
     alloc: Global,
+    script: &Script,
     whole: &[u8],
     piece: usize,
 ) -> Result<bool, AllocError> {
     let piece = piece.max(1);
-    let reads = EVERY.len().div_ceil(piece) + 1;
-    let wide = piece.max(47);
-    let sent = 2 * CYCLE.div_ceil(wide);
-    let told = report_of(alloc, 6, "")?.len().div_ceil(piece);
+    let case = Case {
+        script,
+        whole,
+        piece,
+    };
+    let wide = Case {
+        piece: piece.max(47),
+        ..case
+    };
+    let reads = script.text.len().div_ceil(piece).saturating_add(1);
+    let sent = script.sent_of(script.entries.len()) / script.cycle.max(1);
+    let sent = sent.saturating_mul(script.writes(wide.piece));
+    let told = script
+        .report_of(alloc, usize::MAX, "")?
+        .len()
+        .div_ceil(piece);
     Ok(
-        each_fails(rt, alloc, whole, piece, End::Read, reads)?
-            && each_fails(rt, alloc, whole, wide, End::Air, sent)?
-            && each_fails(rt, alloc, whole, piece, End::Report, told)?,
+        each_fails(rt, alloc, &case, End::Read, reads)?
+            && each_fails(rt, alloc, &wide, End::Air, sent)?
+            && each_fails(rt, alloc, &case, End::Report, told)?,
     )
 }
 
+// Its air is made by a run in which nothing fails.
 #[test]
 fn each_call_fails_in_turn(rt: HostRuntime) -> Result<(), Fail> {
-    let whole = air_of(&rt, rt.alloc(), EVERY)?;
-    assert!(rt; whole.len() == 2 * CYCLE);
+    let whole = air_of(&rt, rt.alloc(), EVERY_KIND.text)?;
+    assert!(rt; whole.len() == 2 * EVERY_KIND.cycle);
     for piece in [5, 188, 65_536] {
-        assert!(rt; all_fail(&rt, rt.alloc(), &whole, piece)?, "{piece}");
+        assert!(rt;
+            all_fail(&rt, rt.alloc(), &EVERY_KIND, &whole, piece)?,
+            "{piece}"
+        );
+    }
+    Ok(())
+}
+
+// Its air is that of the standards.
+#[test]
+fn each_call_over_one_name_fails_in_turn(rt: HostRuntime) -> Result<(), Fail> {
+    let whole = first_cycle(rt.alloc())?;
+    assert!(rt; whole.len() == ONE_NAME.cycle);
+    for piece in [1, 7, 16, 188, 65_536] {
+        assert!(rt;
+            all_fail(&rt, rt.alloc(), &ONE_NAME, &whole, piece)?,
+            "{piece}"
+        );
     }
     Ok(())
 }
 
 #[test]
 fn a_printed_journal_is_a_script(rt: HostRuntime) -> Result<(), Fail> {
-    let journal = joined(rt.alloc(), &ENTRIES)?;
+    let journal = joined(rt.alloc(), EVERY_KIND.entries)?;
     assert!(rt; prints_itself(&rt, rt.alloc(), &journal)?);
     Ok(())
 }

@@ -18,4 +18,6 @@ mod order;
 #[cfg(test)]
 mod runs;
 #[cfg(test)]
+mod scripts;
+#[cfg(test)]
 mod words;

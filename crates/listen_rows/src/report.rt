@@ -79,9 +79,3 @@ pub fn put_table(out: &mut String, left: &Left, table: &str) -> Result<(), Alloc
     }
     Ok(())
 }
-
-/// Appends the exit status, and how many bytes the report has.
-pub fn put_size(out: &mut String, left: &Left) -> Result<(), AllocError> {
-    let (code, size) = (left.status.code(), left.report.taken().len());
-    write!(out, "{code} {size}")
-}

@@ -1,7 +1,8 @@
 // A row and its answer.
 use crate::recording::recording_of;
-use crate::report::{put_crc, put_guide, put_size, put_table, put_whole};
+use crate::report::{put_crc, put_guide, put_table, put_whole};
 use crate::run::{Ends, Left, WHOLE, run_word};
+use row_lines::parts_counted;
 use std::alloc::{AllocError, Global};
 use std::marker::Sync;
 use std::sync::Wait;
@@ -29,7 +30,27 @@ fn ends_of(kind: &str, piece: usize, call: u64) -> Ends {
     }
 }
 
-// Runs in which each call of a kind fails in turn, up to one that is done: `KIND PIECE RECORDING`
+// What runs leave in which call 0, 1, .. of a kind fails, up to the first that is done.
+fn each_of<W: Threads + Wait + Sync>(
+    rt: &W,
+    alloc: Global,
+    kind: &str,
+    piece: usize,
+    recording: &[u8],
+) -> Result<String, AllocError> {
+    let mut all = String::new(alloc);
+    for call in 0..MOST {
+        let left = run_word(rt, alloc, "listen", recording, ends_of(kind, piece, call))?;
+        put_whole(&mut all, &left)?;
+        if left.status.code() == 0 {
+            break;
+        }
+        all.push_str("; ")?;
+    }
+    Ok(all)
+}
+
+// `KIND PIECE RECORDING`
 fn tell_each<W: Threads + Wait + Sync>(
     rt: &W,
     alloc: Global,
@@ -40,15 +61,8 @@ fn tell_each<W: Threads + Wait + Sync>(
     let (piece, row) = cut(row);
     let piece = piece.parse::<usize>().unwrap_or(1);
     let recording = recording_of(rt, alloc, row)?;
-    for call in 0..MOST {
-        let left = run_word(rt, alloc, "listen", &recording, ends_of(kind, piece, call))?;
-        out.push_str(if call == 0 { "" } else { ", " })?;
-        put_size(out, &left)?;
-        if left.status.code() == 0 {
-            break;
-        }
-    }
-    Ok(())
+    let all = each_of(rt, alloc, kind, piece, &recording)?;
+    out.push_str(parts_counted(alloc, all.as_str())?.as_str())
 }
 
 // `TABLE RECORDING`
