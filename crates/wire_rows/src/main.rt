@@ -11,11 +11,8 @@ mod descriptors;
 mod events;
 mod hearing;
 mod packets;
-mod plans;
-mod playing;
 mod readings;
 mod sections;
-mod versions;
 
 use row_lines::Row;
 use std::alloc::{AllocError, Global};
@@ -31,12 +28,7 @@ fn answer(row: &mut Row) {
         "demux" => hearing::demux(row),
         "receive" => hearing::receive(row),
         "write_done" => hearing::line(row),
-        "assign" => versions::assign(row),
         "take" => completions::take(row),
-        "plan" => plans::order(row),
-        "spacing" => plans::spacing(row),
-        "play" => playing::play(row),
-        "play_into" => playing::play_into(row),
         call => answer_of_section(row, call),
     }
 }

@@ -1,0 +1,44 @@
+//! The rows of cycles: reads rows of text on its standard input, and prints each with what its call gives. A blank line and a
+//! line that begins with `#` are printed as they are.
+//!
+//! `stdin` has the rows, and its head says how they are written; `stdout` has what they give, which stands there from the standards
+//! and not from this program.
+#![tactic(auto)]
+
+mod plans;
+mod playing;
+mod versions;
+
+use row_lines::Row;
+use std::alloc::{AllocError, Global};
+use std::io;
+
+// Answers a row.
+fn answer(row: &mut Row) {
+    match row.word() {
+        "assign" => versions::assign(row),
+        "plan" => plans::order(row),
+        "spacing" => plans::spacing(row),
+        "play" => playing::play(row),
+        "play_into" => playing::play_into(row),
+        _ => row.refuse(),
+    }
+}
+
+// A line as it is printed.
+fn told(alloc: Global, line: &str) -> Result<String, AllocError> {
+    if line.is_empty() || line.starts_with('#') {
+        return String::from_str(alloc, line);
+    }
+    let mut row = Row::open(alloc, line);
+    answer(&mut row);
+    row.finish(line)
+}
+
+fn main(rt: HostRuntime) -> io::Result<()> {
+    for line in rt.lines(rt.alloc()) {
+        let text = told(rt.alloc(), line?.as_str())?;
+        println!(rt; "{text}")?;
+    }
+    Ok(())
+}
