@@ -3,6 +3,7 @@ use Rattle.std.proofs.Common.{◌≡◌, ℕ, zero, suc, ◌-◌, ◌<◌, ◌�
 use Rattle.std.specs.Prelude.{◌==◌, ◌&&◌, ◌||◌, not, nat_le, if◌then◌else◌, Result, Ok, Err}
 use Rattle.std.specs.List.{AllByRecursion}
 use Rattle.std.proofs.lemmas.Bool.{eqb-true, and_parts, and_from, leb-true, le-leb}
+use Rattle.si_lists.proofs.Parts.{drop_behind}
 use Rattle.ts_packets.specs.Packets.{Piece, joined, filled, piece_of, left_by, Begin, HasSectionByte}
 use Rattle.ts_packets.proofs.Filling.{length-filled}
 use Rattle.air_audit.specs.declared.rule.Rule.{Rule}
@@ -10,7 +11,6 @@ use Rattle.air_audit.specs.declared.rule.Rule.TheVariants.{Pointer, Bytes}
 use Rattle.air_audit.specs.Fronts.{ToCome, GoesTo, IsApart}
 use Rattle.air_audit.specs.Telling.{is_fill, is_front, begun_in, begins_in, is_pointer, told_start, told_further, told}
 use Rattle.air_audit.proofs.Filling.{fill_is, is_fill-filled, drop-filled, is_front-filled, filled_front, Fit, Fit-Begin, Begin-Fit, rest_behind, rest_is}
-use Rattle.cycle_laying.proofs.Laid.{drop_behind}
 
 abbrev to_come : List ℕ → List (List ℕ) → ToCome
 to_come rest ss = record { rest = rest; waiting = ss }

@@ -3,6 +3,7 @@ use Rattle.std.proofs.Common.{◌≡◌, ℕ, ◌/◌, ◌≤◌, List, [], ◌�
 use Rattle.std.specs.Prelude.{if◌then◌else◌, flat_map, slice_range}
 use Rattle.std.specs.List.{AllByRecursion}
 use Rattle.std.specs.Set.{is_member}
+use Rattle.std.proofs.Math.Bool.{or-true}
 use Rattle.std.proofs.lemmas.List.Folds.{list_any-append}
 use Rattle.section_codec.specs.declared.table.Key.{Key}
 use Rattle.section_codec.specs.declared.table.SubTable.{SubTable}
@@ -15,7 +16,7 @@ use Rattle.ts_demux.specs.Sections.{heard_all}
 use Rattle.sub_collect.specs.Runs.{Counted}
 use Rattle.sub_collect.specs.KeyCounts.{section_keys}
 use Rattle.sub_collect.specs.Completions.{of_key}
-use Rattle.sub_collect.proofs.KeyLists.{key_among}
+use Rattle.sub_collect.proofs.KeyCounts.{key_among}
 use Rattle.heard_completions.specs.Counting.{is_counted}
 use Rattle.heard_completions.specs.Dones.{counted_heard}
 use Rattle.air_model.specs.Air.{Aired, air, airings_of, air_bytes}
@@ -27,10 +28,6 @@ use Rattle.air_coherence.specs.Laws.{HeardKeysAreCarried}
 use Rattle.air_coherence.proofs.Counts.{none_counts}
 use Rattle.air_coherence.proofs.Told.{Told, section_of, IsToldOf}
 use Rattle.air_coherence.proofs.Coherent.{part_heard, part_sections, part_each, front_part, part-map, front_packets}
-
-or_true : (b : Bool) → (b || true) ≡ true
-or_true true = refl
-or_true false = refl
 
 -- a key that has a content among sub-tables is one of theirs
 content_key : (k : Key) (ts : List SubTable) (c : Content) → content_in k ts ≡ Some c → is_member is_key (map (λ (t : SubTable). t.key) ts) k ≡ true
@@ -51,7 +48,7 @@ carried_among k [] x after c e =
 carried_among k (y ∷ before) x after c e =
     list_any-append (is_key k) (map (λ (t : SubTable). t.key) y.airing.tables) (carried_keys (airings_of (before ++ x ∷ after)))
     ∙ ap (λ b. is_member is_key (map (λ (t : SubTable). t.key) y.airing.tables) k || b) (carried_among k before x after c e)
-    ∙ or_true (is_member is_key (map (λ (t : SubTable). t.key) y.airing.tables) k)
+    ∙ or-true (is_member is_key (map (λ (t : SubTable). t.key) y.airing.tables) k)
 
 module _ (airings : List AiredTables) (xs : List Aired) (is : IsRepeatingAirOf airings xs) (can : AllByRecursion CanBeHeard airings) (k : Key) (join end : ℕ) where
   carried_told : (ts : List Told) → AllByRecursion (IsToldOf k (count_before k.pid (air xs) join) (count_before k.pid (air xs) end) xs) ts → (map section_of ts ≡ [] → Prim.⊥)

@@ -4,11 +4,11 @@ use Rattle.std.specs.Prelude.{◌==◌, ◌&&◌, nat_lt, if◌then◌else◌}
 use Rattle.std.proofs.lemmas.Bool.{eqb-true}
 use Rattle.std.proofs.lemmas.Bool.Decides.{nat_tests}
 use Rattle.std.proofs.lemmas.List.{drop-drop}
+use Rattle.si_lists.proofs.Parts.{drop_behind}
 use Rattle.ts_packets.specs.Packets.{Piece, filled, joined, piece_of, left_by, pieces, beginning, waiting, packed}
 use Rattle.ts_packets.specs.Bytes.{Packet, packet_on}
 use Rattle.ts_packets.specs.Packer.{Begun, empty_on, pointer_at, with_first, with_further, piece_so_far, finished}
 use Rattle.ts_packets.proofs.Dense.{HaveBytes, some_begins, smaller, waiting-have, packed_enough}
-use Rattle.cycle_laying.proofs.Laid.{drop_behind}
 use Rattle.air_model.specs.Air.{Sent}
 use Rattle.air_model.specs.Making.{bytes_of, each_dense, front_on, behind_on, goes_on}
 use Rattle.air_model.proofs.Dense.{HaveSome, first_packets, front_some}

@@ -18,10 +18,6 @@ pub from_place : {X : Type 0} (xs : List X) (at : ℕ) (x : X) → at < length x
 from_place xs at x lt is =
     drop-cons xs at x lt ∙ ap₂ (λ (y : _) (k : ℕ). y ∷ drop k xs) (sym is) (let e : suc at ≡ at + 1 = omega arith in e)
 
--- what stands behind a front
-pub drop_behind : {X : Type 0} (n : ℕ) (xs ys : List X) → length xs ≤ n → drop n (xs ++ ys) ≡ drop (n - length xs) ys
-drop_behind n xs ys le = drop-both n xs ys ∙ ap (λ (l : List _). l ++ drop (n - length xs) ys) (drop_all n xs le)
-
 pub last_at : (ss : Content) (s : NumberedBody) → slice_get ss (length ss - 1) ≡ Some s → s.number ≡ last_number ss
 last_at [] s e = cc
 last_at (x ∷ []) s e = let f : x ≡ s = cc in ap (λ (y : NumberedBody). y.number) (sym f)

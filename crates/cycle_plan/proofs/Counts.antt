@@ -12,6 +12,7 @@ use Rattle.cycle_plan.proofs.Lists.{none, packets-append, pass_over}
 use Rattle.cycle_plan.proofs.Leads.{AllAre, filter-all, filter-none}
 use Rattle.std.proofs.lemmas.Bool.{le-leb}
 use Rattle.si_lists.proofs.Lists.{all_front, all_behind, two_fronts}
+use Rattle.si_lists.proofs.Truths.{one_at_most}
 
 -- the packets of the sections that fail a test
 abbrev pub failing : (ℕ → Bool) → (ℕ → ℕ) → List ℕ → ℕ
@@ -50,10 +51,6 @@ shorts size q (c ∷ d ∷ parts) = (if nat_le q (packets_in size c) then 0 else
 shorts-tail : (size : ℕ → ℕ) (q : ℕ) (c : List ℕ) (parts : List (List ℕ)) → shorts size q parts ≤ shorts size q (c ∷ parts)
 shorts-tail size q c [] = omega arith
 shorts-tail size q c (d ∷ parts) = omega arith
-
-one_at_most : (b : Bool) → (if b then 0 else 1) ≤ 1
-one_at_most true = omega arith
-one_at_most false = omega arith
 
 pub shorts-append : (size : ℕ → ℕ) (q : ℕ) (a b : List (List ℕ)) → shorts size q (a ++ b) ≤ 1 + shorts size q a + shorts size q b
 shorts-append size q [] b = omega arith

@@ -61,7 +61,7 @@ all_before : (e : Event) (events : List Event) → AllByRecursion (IsBefore e) e
 all_before e [] h = tt
 all_before e (f ∷ events) h = (let g : end_of e ≤ start_of f = (h.0).0 in g, all_before e events h.1)
 
-in_order : (events : List Event) → AreApart events → AreInOrder (map at_of events)
+pub in_order : (events : List Event) → AreApart events → AreInOrder (map at_of events)
 in_order [] apart = tt
 in_order (e ∷ events) apart = (all_before e events apart.1, in_order events apart.2)
 

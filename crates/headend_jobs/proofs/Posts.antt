@@ -1,5 +1,5 @@
 -- What is posted, swap by swap.
-use Rattle.std.proofs.Common.{◌≡◌, ℕ, ◌≤◌, List, [], ◌∷◌, ◌++◌, map, refl, sym, ap, ◌∙◌, subst, append-nil, append_assoc}
+use Rattle.std.proofs.Common.{◌≡◌, ℕ, List, [], ◌∷◌, ◌++◌, map, refl, sym, ap, ◌∙◌, subst, append-nil, append_assoc}
 use Rattle.std.specs.Prelude.{Some, Ok, Err, OnOk, Result}
 use Rattle.headend_jobs.specs.declared.send.SendStop.{SendStop}
 use Rattle.std.specs.List.{AllByRecursion}
@@ -7,11 +7,7 @@ use Rattle.std.proofs.lemmas.List.{append_cancel_left}
 use Rattle.std.proofs.lemmas.List.Elements.{All-from_recursion}
 use Rattle.eit_segments.specs.Laws.{at_of}
 use Rattle.eit_segments.specs.Placement.{AreInOrder}
-use Rattle.eit_segments.specs.declared.event.EventAt.{EventAt}
-use Rattle.eit_segments.specs.Placement.{end_at}
-use Rattle.guide_model.specs.declared.event.Event.{Event}
-use Rattle.guide_limits.specs.Events.{end_of}
-use Rattle.guide_limits.specs.Sound.{AreApart, IsBefore}
+use Rattle.eit_segments.proofs.Few.{in_order}
 use mathlib.Core.List.{IsPrefix, map-append}
 use Rattle.guide_model.specs.declared.guide.Guide.{Guide}
 use Rattle.guide_model.specs.declared.guide.ServiceGuide.{ServiceGuide}
@@ -38,15 +34,6 @@ use Rattle.headend_jobs.proofs.Airs.{publication_front, swap_number}
 use Rattle.headend_jobs.proofs.SwapFacts.{swaps-append}
 
 -- ---- what can be posted
-
--- TEMPORARY COPY
-all_before : (e : Event) (events : List Event) → AllByRecursion (IsBefore e) events → AllByRecursion (λ (later : EventAt). end_at (at_of e) ≤ later.start.0) (map at_of events)
-all_before e [] h = tt
-all_before e (f ∷ events) h = (let g : end_of e ≤ f.start.0 = (h.0).0 in g, all_before e events h.1)
-
-in_order : (events : List Event) → AreApart events → AreInOrder (map at_of events)
-in_order [] apart = tt
-in_order (e ∷ events) apart = (all_before e events apart.1, in_order events apart.2)
 
 within_order : (services : List ServiceGuide) → AllByRecursion IsServiceWithin services → AllByRecursion (λ (s : ServiceGuide). AreInOrder (map at_of s.events)) services
 within_order [] within = tt

@@ -4,6 +4,7 @@ use Rattle.std.specs.Prelude.{Option, slice_range}
 use Rattle.std.specs.List.{AllByRecursion}
 use Rattle.std.specs.Set.{is_member, distinct_count}
 use Rattle.std.proofs.lemmas.List.Folds.{list_any-append}
+use Rattle.si_lists.proofs.Distinct.{distinct_count-within}
 use Rattle.si_lists.proofs.Lists.{all_front}
 use Rattle.section_codec.specs.declared.table.Key.{Key}
 use Rattle.section_codec.specs.declared.table.SubTable.{SubTable}
@@ -13,7 +14,7 @@ use Rattle.mux_model.specs.Sound.{IsSound}
 use Rattle.version_book.specs.Airings.{AiredTables}
 use Rattle.ts_packets.specs.WholePackets.{whole_packets}
 use Rattle.sub_collect.specs.KeyCounts.{section_keys}
-use Rattle.sub_collect.proofs.KeyLists.{count-within}
+use Rattle.sub_collect.proofs.KeyCounts.{key_laws}
 use Rattle.heard_completions.specs.Dones.{counted_heard}
 use Rattle.air_model.specs.Air.{airings_of, air_bytes}
 use Rattle.air_model.proofs.Repeating.{airs_repeat}
@@ -50,7 +51,7 @@ sent_keys mux journal before now sound can sent = record {
       let heard = counted_heard (slice_range (whole_packets (take sent.size (air_bytes sent.cycles))) join end) in
       let each = all_front CanBeHeard first sent.others (subst (AllByRecursion CanBeHeard) sent.airings_are can) in
       let among = heard_keys_carried first sent.cycles (airs_repeat first sent.cycles sent.is_air) each sent.size join end le in
-      let within = count-within (section_keys heard) (carried_keys all)
+      let within = distinct_count-within key_laws (section_keys heard) (carried_keys all)
       (λ k there. subst (λ (all : List AiredTables). is_member is_key (carried_keys all) k ≡ true) (sym sent.airings_are) (carried_first first sent.others k (among k there))) in
       let few = airings_few mux journal sound in
       omega (arith, within, few);

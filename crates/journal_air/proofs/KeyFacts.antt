@@ -3,10 +3,12 @@ use Rattle.std.proofs.Common.{◌≡◌, ℕ, zero, suc, ◌+◌, ◌*◌, ◌<�
 use Rattle.std.specs.Prelude.{flat_map}
 use Rattle.std.specs.List.{AllByRecursion, list_any, range_with_len}
 use Rattle.std.specs.Set.{is_member, distinct_count}
+use Rattle.std.proofs.Math.Bool.{or-true}
 use Rattle.std.proofs.lemmas.Bool.{cases_eq}
 use Rattle.std.proofs.lemmas.List.{length-map}
 use Rattle.std.proofs.lemmas.List.Folds.{list_any-append}
 use Rattle.std.proofs.lemmas.Map.Made.{distinct_count-le}
+use Rattle.si_lists.proofs.Distinct.{distinct_count-within, is_member-within}
 use Rattle.si_lists.proofs.Lists.{all_flat, all_map, all_of_map, all_to_map}
 use Rattle.si_time.specs.declared.moment.Moment.{Moment}
 use Rattle.guide_model.specs.declared.guide.Guide.{Guide}
@@ -18,7 +20,7 @@ use Rattle.section_codec.specs.declared.table.SubTable.{SubTable}
 use Rattle.section_codec.specs.KeyOrder.{is_key}
 use Rattle.section_codec.proofs.KeyOrderFacts.{is_key-itself}
 use Rattle.eit_tables.specs.Eit.{eit_key}
-use Rattle.sub_collect.proofs.KeyLists.{count-within, keys-within}
+use Rattle.sub_collect.proofs.KeyCounts.{key_laws}
 use Rattle.version_book.specs.Airings.{AiredTables}
 use Rattle.air_hearing.specs.Sending.{carried_keys}
 use Rattle.publication.specs.Tables.{HasServicesOf, sdt_key, tables_of}
@@ -70,21 +72,17 @@ mux_size mux few =
 
 -- ---- keys among others
 
-or_true : (b : Bool) → (b || true) ≡ true
-or_true true = refl
-or_true false = refl
-
 at_front : (k : Key) (ks : List Key) → is_member is_key (k ∷ ks) k ≡ true
 at_front k ks = ap (λ b. b || is_member is_key ks k) (is_key-itself k)
 
 behind_one : (x : Key) (ks : List Key) (k : Key) → is_member is_key ks k ≡ true → is_member is_key (x ∷ ks) k ≡ true
-behind_one x ks k there = ap (λ b. is_key k x || b) there ∙ or_true (is_key k x)
+behind_one x ks k there = ap (λ b. is_key k x || b) there ∙ or-true (is_key k x)
 
 in_first : (xs ys : List Key) (k : Key) → is_member is_key xs k ≡ true → is_member is_key (xs ++ ys) k ≡ true
 in_first xs ys k there = list_any-append (is_key k) xs ys ∙ ap (λ b. b || is_member is_key ys k) there
 
 in_second : (xs ys : List Key) (k : Key) → is_member is_key ys k ≡ true → is_member is_key (xs ++ ys) k ≡ true
-in_second xs ys k there = list_any-append (is_key k) xs ys ∙ ap (λ b. is_member is_key xs k || b) there ∙ or_true (is_member is_key xs k)
+in_second xs ys k there = list_any-append (is_key k) xs ys ∙ ap (λ b. is_member is_key xs k || b) there ∙ or-true (is_member is_key xs k)
 
 -- a table of a range of them
 in_range : (f : ℕ → Key) (from count n : ℕ) → from ≤ n → n < from + count → is_member is_key (map f (range_with_len from count)) (f n) ≡ true
@@ -111,7 +109,7 @@ own_numbers (g ∷ gs) = (
   ap (λ b. b || list_any (λ m. g.service == m) (map (λ (h : ServiceGuide). h.service) gs)) (eq-eqb g.service g.service refl),
   all_map (λ (h : ServiceGuide). list_any (λ m. h.service == m) (map (λ (j : ServiceGuide). j.service) gs) ≡ true)
       (λ (h : ServiceGuide). list_any (λ m. h.service == m) (map (λ (j : ServiceGuide). j.service) (g ∷ gs)) ≡ true)
-      (λ h e. ap (λ b. (h.service == g.service) || b) e ∙ or_true (h.service == g.service)) gs (own_numbers gs),
+      (λ h e. ap (λ b. (h.service == g.service) || b) e ∙ or-true (h.service == g.service)) gs (own_numbers gs),
 )
 
 own_keys : (ss : List MuxService) → AllByRecursion (λ (s : MuxService). is_member is_key (map pmt_key ss) (pmt_key s) ≡ true) ss
@@ -162,7 +160,7 @@ airings_few mux journal sound =
     let among : AllByRecursion (λ (k : Key). is_member is_key (mux_keys mux) k ≡ true) (carried_keys (airings mux journal)) =
     all_flat (CarriesOfMux mux) (λ (k : Key). is_member is_key (mux_keys mux) k ≡ true) (λ (a : AiredTables). map (λ (t : SubTable). t.key) a.tables)
     (λ a e. all_to_map (λ (k : Key). is_member is_key (mux_keys mux) k ≡ true) (λ (t : SubTable). t.key) a.tables e) (airings mux journal) each in
-    let within = count-within (carried_keys (airings mux journal)) (mux_keys mux) (keys-within (mux_keys mux) (carried_keys (airings mux journal)) among) in
+    let within = distinct_count-within key_laws (carried_keys (airings mux journal)) (mux_keys mux) (is_member-within key_laws (mux_keys mux) (carried_keys (airings mux journal)) among) in
     let most = distinct_count-le is_key (mux_keys mux) in
     let size = mux_size mux sound.count.1 in
     omega (arith, within, most, size)

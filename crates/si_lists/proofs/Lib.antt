@@ -4,3 +4,5 @@ pub mod Outcomes
 pub mod Truths
 pub mod Parts
 pub mod Tests
+pub mod Counting
+pub mod Distinct

@@ -29,6 +29,10 @@ drop-both n xs ys = go (le_either n (length xs))
         ∙ drop-append-add xs ys (n - length xs)
         ∙ ap (λ zs. zs ++ drop (n - length xs) ys) (sym (drop_all n xs le))
 
+-- what is left of two lists behind the first
+pub drop_behind : {X : Type 0} (n : ℕ) (xs ys : List X) → length xs ≤ n → drop n (xs ++ ys) ≡ drop (n - length xs) ys
+drop_behind n xs ys le = drop-both n xs ys ∙ ap (λ (l : List _). l ++ drop (n - length xs) ys) (drop_all n xs le)
+
 -- so many are chosen of a list
 pub chosen-front : {X Y : Type 0} (f : X → Option Y) (xs ys : List X) → length (filter_map f xs) ≤ length (filter_map f (xs ++ ys))
 chosen-front f xs ys =

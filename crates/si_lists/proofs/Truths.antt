@@ -1,6 +1,6 @@
 -- Truth values.
-use Rattle.std.proofs.Common.{◌≡◌, ◌&&◌, ℕ, Bool, true, false, Some, None, refl, ap}
-use Rattle.std.specs.Prelude.{cond}
+use Rattle.std.proofs.Common.{◌≡◌, ◌≤◌, ◌&&◌, ℕ, Bool, true, false, Some, None, refl, ap, arith}
+use Rattle.std.specs.Prelude.{if◌then◌else◌, cond}
 use Prim.{⊥}
 
 pub first_true : (a b : Bool) → (a && b) ≡ true → a ≡ true
@@ -24,3 +24,8 @@ not_both b e f = cc
 pub none_not : (b : Bool) (x : ℕ) → cond b (Some x) None ≡ None → b ≡ false
 none_not true x e = cc
 none_not false x e = refl
+
+-- a test counts for one at most
+pub one_at_most : (b : Bool) → (if b then 0 else 1) ≤ 1
+one_at_most true = omega arith
+one_at_most false = omega arith

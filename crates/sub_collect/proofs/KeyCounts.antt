@@ -1,17 +1,19 @@
 -- How many keys sections have, one section more, and as a collector keeps them.
-use Rattle.std.proofs.Common.{◌≡◌, ◌↔◌, ℕ, ◌+◌, ◌<◌, ◌≤◌, List, [], ◌∷◌, ◌++◌, length, Bool, true, false, ◌||◌, ⊎_elim, refl, sym, ap, ◌∙◌, subst, append-nil, append_assoc, arith}
+use Rattle.std.proofs.Common.{◌≡◌, ◌↔◌, ◌+◌, ◌<◌, ◌≤◌, List, [], ◌∷◌, ◌++◌, length, Bool, true, false, ◌||◌, ⊎_elim, refl, sym, ap, ◌∙◌, subst, append-nil, append_assoc, arith}
 use Rattle.std.specs.Prelude.{if◌then◌else◌, cond, not, Option, Some, None, is_some, option_map, IsTrue}
 use Rattle.std.specs.Cmp.{IsEquivalence}
 use Rattle.std.specs.List.{list_any, IsDistinct}
 use Rattle.std.specs.List.Sorted.{IsStrictlySortedBy}
 use Rattle.std.specs.BTreeMap.{is_at}
 use Rattle.std.specs.Map.{lookup, keys_of}
-use Rattle.std.specs.Set.{is_member, unique_keys, distinct_count}
+use Rattle.std.specs.Set.{is_member, distinct_count}
 use Rattle.std.proofs.lemmas.Bool.{cases_lt}
 use Rattle.std.proofs.lemmas.List.{map-append}
 use Rattle.std.proofs.lemmas.Map.Entries.{length-keys_of}
 use Rattle.std.proofs.lemmas.Map.Keys.{IsDistinct-from_sorted}
 use Rattle.std.proofs.lemmas.Map.Made.{is_some-lookup, length-from_keys}
+use Rattle.si_lists.proofs.Distinct.{distinct_count-push}
+use Rattle.si_lists.proofs.Truths.{one_at_most}
 use Rattle.section_codec.specs.declared.table.Key.{Key}
 use Rattle.section_codec.specs.KeyOrder.{is_key, key_cmp}
 use Rattle.section_codec.proofs.KeyOrderFacts.{is_key-same, is_key-itself, key_ties}
@@ -42,59 +44,18 @@ key_laws = record {
 
 -- ---- one section more
 
-or_true : (b : Bool) → (b || true) ≡ true
-or_true true = refl
-or_true false = refl
-
-or_none : (b : Bool) → (b || false) ≡ b
-or_none true = refl
-or_none false = refl
-
-or_assoc : (a b c : Bool) → (a || (b || c)) ≡ ((a || b) || c)
-or_assoc true b c = refl
-or_assoc false b c = refl
-
-one_at_most : (b : Bool) → (if b then 0 else 1) ≤ 1
-one_at_most true = omega arith
-one_at_most false = omega arith
-
--- how many keys a list has, one key more
-count_push : (ks : List Key) (k : Key) → distinct_count is_key (ks ++ k ∷ []) ≡ (if is_member is_key ks k then 0 else 1) + distinct_count is_key ks
-count_push [] k = refl
-count_push (x ∷ xs) k = go (is_key k x) refl (is_member is_key xs x) refl (count_push xs k)
-  where
-    pushed : (ys : List Key) → list_any (is_key x) (ys ++ k ∷ []) ≡ (is_member is_key ys x || is_key x k)
-    pushed [] = or_none (is_key x k)
-    pushed (y ∷ ys) = ap (λ b. is_key x y || b) (pushed ys) ∙ or_assoc (is_key x y) (is_member is_key ys x) (is_key x k)
-
-    counted_once : (b : Bool) → (if b then 0 else 1) + distinct_count is_key xs ≡ 0 + length (cond b (unique_keys is_key xs) (x ∷ unique_keys is_key xs))
-    counted_once true = refl
-    counted_once false = omega arith
-
-    one_more : (b : Bool) (n : ℕ) → distinct_count is_key (xs ++ k ∷ []) ≡ n + distinct_count is_key xs
-        → length (cond b (unique_keys is_key (xs ++ k ∷ [])) (x ∷ unique_keys is_key (xs ++ k ∷ []))) ≡ n + length (cond b (unique_keys is_key xs) (x ∷ unique_keys is_key xs))
-    one_more true n i = i
-    one_more false n i = omega (arith, i)
-
-    go : (b : Bool) → is_key k x ≡ b → (m : Bool) → is_member is_key xs x ≡ m
-        → distinct_count is_key (xs ++ k ∷ []) ≡ (if is_member is_key xs k then 0 else 1) + distinct_count is_key xs
-        → distinct_count is_key ((x ∷ xs) ++ k ∷ []) ≡ (if is_member is_key (x ∷ xs) k then 0 else 1) + distinct_count is_key (x ∷ xs)
-    go true e m h i =
-        let same : k ≡ x = is_key-same k x e in
-        let here : is_member is_key (xs ++ k ∷ []) x ≡ true = pushed xs ∙ ap (λ b. is_member is_key xs x || b) (key_turned x k ∙ e) ∙ or_true (is_member is_key xs x) in
-        ap (λ b. length (cond b (unique_keys is_key (xs ++ k ∷ [])) (x ∷ unique_keys is_key (xs ++ k ∷ [])))) here
-        ∙ i
-        ∙ ap (λ q. (if is_member is_key xs q then 0 else 1) + distinct_count is_key xs) same
-        ∙ counted_once (is_member is_key xs x)
-        ∙ ap (λ b. (if b || is_member is_key xs k then 0 else 1) + distinct_count is_key (x ∷ xs)) (sym e)
-    go false e m h i =
-        let here : is_member is_key (xs ++ k ∷ []) x ≡ is_member is_key xs x = pushed xs ∙ ap (λ b. is_member is_key xs x || b) (key_turned x k ∙ e) ∙ or_none (is_member is_key xs x) in
-        ap (λ b. length (cond b (unique_keys is_key (xs ++ k ∷ [])) (x ∷ unique_keys is_key (xs ++ k ∷ [])))) here
-        ∙ one_more (is_member is_key xs x) (if is_member is_key xs k then 0 else 1) i
-        ∙ ap (λ b. (if b || is_member is_key xs k then 0 else 1) + distinct_count is_key (x ∷ xs)) (sym e)
-
 pub count-more : (past : List Counted) (s : Counted) → key_count (past ++ s ∷ []) ≡ (if is_member is_key (section_keys past) s.key then 0 else 1) + key_count past
-count-more past s = ap (distinct_count is_key) (map-append (λ (t : Counted). t.key) past (s ∷ [])) ∙ count_push (section_keys past) s.key
+count-more past s = ap (distinct_count is_key) (map-append (λ (t : Counted). t.key) past (s ∷ [])) ∙ distinct_count-push key_laws (section_keys past) s.key
+
+-- a key among those of some sections has one of them
+pub key_among : (ss : List Counted) (k : Key) → is_member is_key (section_keys ss) k ≡ true → of_key k ss ≡ [] → Prim.⊥
+key_among [] k there none = cc
+key_among (s ∷ ss) k there none = go (is_key s.key k) (ap (λ b. b || is_member is_key (section_keys ss) k) (key_laws.symm s.key k) ∙ there) none (key_among ss k)
+  where
+    go : (b : Bool) → (b || is_member is_key (section_keys ss) k) ≡ true → cond b (s ∷ of_key k ss) (of_key k ss) ≡ []
+        → (is_member is_key (section_keys ss) k ≡ true → of_key k ss ≡ [] → Prim.⊥) → Prim.⊥
+    go true e f rest = cc
+    go false e f rest = rest e f
 
 -- ---- keys that are kept
 

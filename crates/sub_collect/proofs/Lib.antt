@@ -9,7 +9,6 @@ pub mod Putting
 pub mod Taking
 pub mod Keys
 pub mod KeyCounts
-pub mod KeyLists
 pub mod OneContent
 pub mod Segmented
 pub mod Shown

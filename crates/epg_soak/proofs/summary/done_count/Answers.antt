@@ -1,7 +1,7 @@
 use Rattle.std.proofs.Common.{◌≡◌, ◌+◌, ◌∙◌, ℕ, sym, ap, arith}
 use Rattle.journal_model.specs.declared.step.Entry.{Entry}
 use Rattle.desk_core.specs.Journal.{accepted_by}
-use Rattle.epg_report.proofs.Counting.{counts_more, counts_same}
+use Rattle.si_lists.proofs.Counting.{counts_more, counts_same}
 use Rattle.epg_soak.proofs.summary.done_count.Goals.{then-is_done, else-is_done}
 use Rattle.epg_soak.proofs.summary.done_count.Goals as goal
 
