@@ -12,8 +12,8 @@ use Rattle.ts_packets.specs.Counting.{StandFor, count_on, loads_on, of_pid}
 use Rattle.ts_packets.proofs.Headers.{packet_in-bytes, bytes-packet_in, fixed-written}
 use Rattle.ts_packets.proofs.Stamps.{count_on-written}
 use Rattle.air_model.specs.Air.{airings_of, cycle_sections}
-use Rattle.air_audit.specs.declared.rule.Rule.{Rule}
-use Rattle.air_audit.specs.declared.rule.Rule.TheVariants.{Shape, Pid, Counter, Pointer, Bytes}
+use Rattle.air_model.specs.declared.rule.Rule.{Rule}
+use Rattle.air_model.specs.declared.rule.Rule.TheVariants.{Shape, Pid, Counter, Pointer, Bytes}
 use Rattle.air_audit.specs.Fronts.{ToCome, nothing, CarrySoFar, GoesTo, IsApart, all_waiting, to_come_on}
 use Rattle.air_audit.specs.Telling.{is_none, is_front, is_fill, is_pointer, begins_in, begun_in, told_start, told_further, told}
 use Rattle.air_audit.specs.Audits.{AreAnAir, BeginAnAir, SoFar, on_pid, last_cycle, and_last}

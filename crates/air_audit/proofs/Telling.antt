@@ -6,8 +6,8 @@ use Rattle.std.proofs.lemmas.Bool.{eqb-true, and_parts, and_from, leb-true, le-l
 use Rattle.si_lists.proofs.Parts.{drop_behind}
 use Rattle.ts_packets.specs.Packets.{Piece, joined, filled, piece_of, left_by, Begin, HasSectionByte}
 use Rattle.ts_packets.proofs.Filling.{length-filled}
-use Rattle.air_audit.specs.declared.rule.Rule.{Rule}
-use Rattle.air_audit.specs.declared.rule.Rule.TheVariants.{Pointer, Bytes}
+use Rattle.air_model.specs.declared.rule.Rule.{Rule}
+use Rattle.air_model.specs.declared.rule.Rule.TheVariants.{Pointer, Bytes}
 use Rattle.air_audit.specs.Fronts.{ToCome, GoesTo, IsApart}
 use Rattle.air_audit.specs.Telling.{is_fill, is_front, begun_in, begins_in, is_pointer, told_start, told_further, told}
 use Rattle.air_audit.proofs.Filling.{fill_is, is_fill-filled, drop-filled, is_front-filled, filled_front, Fit, Fit-Begin, Begin-Fit, rest_behind, rest_is}

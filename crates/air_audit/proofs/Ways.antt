@@ -9,7 +9,7 @@ use Rattle.std.proofs.lemmas.List.Elements.{All-set}
 use Rattle.std.proofs.Math.ListN.{get_or-eq_default}
 use Rattle.cycle_laying.specs.declared.placed.Placed.{Placed}
 use Rattle.ts_packets.specs.Packets.{Piece}
-use Rattle.air_audit.specs.declared.rule.Rule.{Rule}
+use Rattle.air_model.specs.declared.rule.Rule.{Rule}
 use Rattle.air_audit.specs.declared.lanes.Lane.{Lane}
 use Rattle.air_audit.specs.Fronts.{ToCome, nothing, to_come_on}
 use Rattle.air_audit.specs.Telling.{is_none, told}

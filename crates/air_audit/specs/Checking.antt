@@ -5,8 +5,8 @@ use Rattle.version_book.specs.Book.{GivenVersions, BookStandsFor}
 use Rattle.ts_packets.specs.Bytes.{Packet, bytes_of_packet, pid_in, transport_error_indicator, transport_priority, transport_scrambling_control, adaptation_field_control, payload_unit_start_indicator, continuity_counter}
 use Rattle.ts_packets.specs.Counting.{StandFor, count_on}
 use Rattle.air_model.specs.Air.{CanBeSent}
-use Rattle.air_audit.specs.declared.rule.Rule.{Rule}
-use Rattle.air_audit.specs.declared.rule.Rule.TheVariants.{Shape, Pid, Counter, Pointer, Bytes}
+use Rattle.air_model.specs.declared.rule.Rule.{Rule}
+use Rattle.air_model.specs.declared.rule.Rule.TheVariants.{Shape, Pid, Counter, Pointer, Bytes}
 use Rattle.air_audit.specs.Fronts.{ToCome, to_come_on, nothing}
 use Rattle.air_audit.specs.Telling.{is_none, is_pointer}
 use Rattle.air_audit.specs.Audits.{SoFar}

@@ -3,8 +3,8 @@ use Rattle.std.specs.Prelude.{◌≡◌, ℕ, suc, ◌+◌, ◌-◌, ◌<◌, �
 use Rattle.std.specs.List.{All}
 use Rattle.cycle_laying.specs.declared.placed.Placed.{Placed}
 use Rattle.cycle_laying.specs.Laying.{sent_at, IsPlaced}
-use Rattle.air_audit.specs.declared.rule.Rule.{Rule}
-use Rattle.air_audit.specs.declared.rule.Rule.TheVariants.{Bytes}
+use Rattle.air_model.specs.declared.rule.Rule.{Rule}
+use Rattle.air_model.specs.declared.rule.Rule.TheVariants.{Bytes}
 use Rattle.air_audit.specs.declared.lanes.Lane.{Lane}
 use Rattle.air_audit.specs.declared.linking.Room.{Room}
 use Rattle.air_audit.specs.Fronts.{ToCome, to_come_on}

@@ -1,7 +1,7 @@
 -- A worked packet, and the rules that it breaks where other things are to come.
 use Rattle.std.specs.Prelude.{◌≡◌, ℕ, List, [], ◌∷◌, ◌++◌, drop, replicate, refl, Ok}
 use Rattle.ts_packets.specs.Bytes.{packet_in}
-use Rattle.air_audit.specs.declared.rule.Rule.TheVariants.{Shape, Pid, Counter, Pointer, Bytes}
+use Rattle.air_model.specs.declared.rule.Rule.TheVariants.{Shape, Pid, Counter, Pointer, Bytes}
 use Rattle.air_audit.specs.Fronts.{nothing, all_waiting}
 use Rattle.air_audit.specs.Telling.{told}
 use Rattle.air_audit.specs.Checking.{rule_broken}

@@ -8,7 +8,7 @@ ghost use Rattle.air_audit.specs.Checking.{StandsFor, IsAtEnd, form_of, rule_at}
 
 use crate::header::{has_counter, has_shape, is_start, pid_of};
 use crate::progress::Progress;
-use crate::rule::Rule;
+use air_model::Rule;
 use section_codec::Tables;
 use si_time::Moment;
 use std::alloc::{AllocError, Global};

@@ -6,7 +6,7 @@ ghost use Rattle.air_audit.specs.Telling.{told, told_start, told_further, begun_
 ghost use Rattle.air_audit.specs.Progress.{to_come_of, rest_of, waiting_from, is_busy, AreLinked, IsWithin, IsMoved, HasBegun};
 
 use crate::payload::{behind_front, is_fill};
-use crate::rule::Rule;
+use air_model::Rule;
 use cycle_laying::Placed;
 
 /// A PID of a cycle: the rest of its open section, from `at` up to `end` in the laid bytes, and the place of the section that begins

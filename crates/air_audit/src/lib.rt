@@ -14,8 +14,7 @@ mod laws;
 mod linking;
 mod payload;
 mod progress;
-mod rule;
 
+pub use air_model::Rule;
 pub use checker::Checker;
 pub use laws::{consistent_is_prefix, longer_lists_agree, one_is_to_come, whole_airs_end};
-pub use rule::Rule;

@@ -14,7 +14,7 @@ ghost use Rattle.air_audit.specs.Progress.{HasMoved, IsReady};
 
 use crate::lanes::{Lane, is_busy, moved};
 use crate::linking::{Room, count_busy, link, put_in_order, take_room};
-use crate::rule::Rule;
+use air_model::Rule;
 use cycle_laying::{LaidSections, Placed};
 use section_codec::Tables;
 use si_time::Moment;

@@ -8,8 +8,8 @@ use Rattle.ts_packets.specs.Bytes.{pid_in}
 use Rattle.ts_packets.specs.Counting.{count_on}
 use Rattle.ts_packets.specs.WholePackets.{whole_packets}
 use Rattle.air_model.specs.Air.{CanBeSent}
-use Rattle.air_audit.specs.declared.rule.Rule.{Rule}
-use Rattle.air_audit.specs.declared.rule.Rule.TheVariants.{Pid, Shape}
+use Rattle.air_model.specs.declared.rule.Rule.{Rule}
+use Rattle.air_model.specs.declared.rule.Rule.TheVariants.{Pid, Shape}
 use Rattle.air_audit.specs.Fronts.{to_come_on}
 use Rattle.air_audit.specs.Audits.{AreAnAir, BeginAnAir}
 use Rattle.air_audit.specs.Checking.{Checking, IsAtEnd, StandsFor, has_shape, rule_broken}

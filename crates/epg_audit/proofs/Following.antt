@@ -12,8 +12,8 @@ use Rattle.packet_reader.proofs.Giving.{given_broken, given_end, given_past, hel
 use Rattle.version_book.specs.Airings.{AiredTables}
 use Rattle.ts_packets.specs.Bytes.{pid_in}
 use Rattle.ts_packets.specs.Counting.{count_on}
-use Rattle.air_audit.specs.declared.rule.Rule.{Rule}
-use Rattle.air_audit.specs.declared.rule.Rule.TheVariants.{Pid, Shape}
+use Rattle.air_model.specs.declared.rule.Rule.{Rule}
+use Rattle.air_model.specs.declared.rule.Rule.TheVariants.{Pid, Shape}
 use Rattle.air_audit.specs.Fronts.{to_come_on}
 use Rattle.air_audit.specs.Audits.{AreAnAir, BeginAnAir}
 use Rattle.air_audit.specs.Checking.{Checking, IsAtEnd, StandsFor, rule_broken}

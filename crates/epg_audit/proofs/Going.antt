@@ -16,7 +16,7 @@ use Rattle.desk_core.proofs.DerivedFacts.{not_aired}
 use Rattle.journal_air.specs.Air.{airings, mux_form}
 use Rattle.version_book.specs.Airings.{AiredTables}
 use Rattle.ts_packets.specs.WholePackets.{whole_packets}
-use Rattle.air_audit.specs.declared.rule.Rule.{Rule}
+use Rattle.air_model.specs.declared.rule.Rule.{Rule}
 use Rattle.air_audit.specs.Audits.{AreAnAir}
 use Rattle.air_audit.specs.Checking.{Checking, IsAtEnd, form_of}
 use Rattle.air_audit.proofs.Checks.{end_is_air, stands_begins}

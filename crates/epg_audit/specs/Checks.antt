@@ -8,8 +8,8 @@ use Rattle.packet_reader.specs.Recordings.{packet_limit}
 use Rattle.version_book.specs.Airings.{AiredTables}
 use Rattle.ts_packets.specs.WholePackets.{AreWhole}
 use Rattle.air_model.specs.Air.{CanBeSent}
-use Rattle.air_audit.specs.declared.rule.Rule.{Rule}
-use Rattle.air_audit.specs.declared.rule.Rule.TheVariants.{Pid}
+use Rattle.air_model.specs.declared.rule.Rule.{Rule}
+use Rattle.air_model.specs.declared.rule.Rule.TheVariants.{Pid}
 use Rattle.air_audit.specs.Checking.{Checking, StandsFor}
 use Rattle.epg_report.specs.declared.status.Status.{Status}
 use Rattle.epg_report.specs.declared.status.Status.TheVariants.{BadStream, Memory, NotAir, ReadFault, Short, TooLong}

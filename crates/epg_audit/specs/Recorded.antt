@@ -8,8 +8,8 @@ use Rattle.version_book.specs.Airings.{AiredTables}
 use Rattle.ts_packets.specs.Bytes.{Packet, bytes_of_packet, pid_in}
 use Rattle.ts_packets.specs.Counting.{count_on}
 use Rattle.ts_packets.specs.WholePackets.{whole_packets}
-use Rattle.air_audit.specs.declared.rule.Rule.{Rule}
-use Rattle.air_audit.specs.declared.rule.Rule.TheVariants.{Pid}
+use Rattle.air_model.specs.declared.rule.Rule.{Rule}
+use Rattle.air_model.specs.declared.rule.Rule.TheVariants.{Pid}
 use Rattle.air_audit.specs.Fronts.{ToCome, nothing}
 use Rattle.air_audit.specs.Audits.{AreAnAir, BeginAnAir, SoFar}
 use Rattle.air_audit.specs.Checking.{rule_broken}

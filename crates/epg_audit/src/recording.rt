@@ -5,7 +5,8 @@ ghost use Rattle.version_book.specs.Airings.{AiredTables};
 ghost use Rattle.air_audit.specs.Checking.{IsAtEnd};
 ghost use Rattle.epg_audit.specs.Checks.{Checks, Ends, Follows, HasReadCause, IsOfCheck, recording_status};
 
-use air_audit::{Checker, Rule};
+use air_audit::Checker;
+use air_model::Rule;
 use epg_report::{Origin, Status};
 use packet_reader::{PacketReader, PacketStop};
 use si_causes::Source;

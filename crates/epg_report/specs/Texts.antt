@@ -6,8 +6,8 @@ use Rattle.mux_config.specs.declared.fault.MuxFault.{MuxFault}
 use Rattle.mux_config.specs.declared.fault.MuxFault.TheVariants.{Line, Range, Twice, Missing}
 use Rattle.journal_text.specs.Entries.{outcome_text}
 use Rattle.journal_model.specs.Steps.{IsInWindow}
-use Rattle.air_audit.specs.declared.rule.Rule.{Rule}
-use Rattle.air_audit.specs.declared.rule.Rule.TheVariants.{Shape, Pid, Counter, Pointer, Bytes}
+use Rattle.air_model.specs.declared.rule.Rule.{Rule}
+use Rattle.air_model.specs.declared.rule.Rule.TheVariants.{Shape, Pid, Counter, Pointer, Bytes}
 use Rattle.epg_report.specs.declared.status.Status.{Status}
 use Rattle.epg_report.specs.declared.status.Status.TheVariants.{Done, Usage, BadScript, Disagrees, BadMux, BadFeed, BadStream, TooLong, OpenFault, ReadFault, WriteFault, Memory, NoView, NotAir, Short, TooMany}
 use Rattle.epg_report.specs.declared.status.Origin.{Origin}

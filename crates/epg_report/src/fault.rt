@@ -5,7 +5,7 @@ ghost use Rattle.journal_model.specs.Steps.{IsInWindow};
 ghost use Rattle.epg_report.specs.Texts.{CanBeSaid, fault_lines, fault_text, has_line, mux_fault_text, opened as opened_by, origin_text, rule_text, word_text};
 
 use crate::status::{Origin, Outlet, Status};
-use air_audit::Rule;
+use air_model::Rule;
 use journal_model::Outcome;
 use journal_text::write_outcome;
 use mux_config::{MuxFault, Word};

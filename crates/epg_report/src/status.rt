@@ -2,7 +2,7 @@
 ghost use Rattle.std.specs.Prelude.{◌≡◌};
 ghost use Rattle.epg_report.specs.Codes.{code_of};
 
-use air_audit::Rule;
+use air_model::Rule;
 use journal_model::Outcome;
 use mux_config::MuxFault;
 

@@ -2,7 +2,7 @@ use Rattle.std.proofs.Common.{◌≡◌, ◌+◌, ◌<◌, ℕ, List, sym, ap, a
 use Rattle.std.specs.Prelude.{Result, Ok, Err, None, cond}
 use Rattle.cycle_laying.specs.declared.placed.Placed.{Placed}
 use Rattle.ts_packets.specs.Packets.{Piece}
-use Rattle.air_audit.specs.declared.rule.Rule.{Rule}
+use Rattle.air_model.specs.declared.rule.Rule.{Rule}
 use Rattle.air_audit.specs.declared.lanes.Lane.{Lane}
 use Rattle.air_audit.specs.Fronts.{to_come_on}
 use Rattle.air_audit.specs.Telling.{told}
