@@ -1,4 +1,4 @@
--- Airs, their prefixes, and packets that are consistent with an airing list so far.
+-- Airs, their prefixes, and packets that are consistent with an airing list so far (ISO/IEC 13818-1, 2.4.3.3 and 2.4.4).
 use Rattle.std.specs.Prelude.{◌≡◌, ℕ, List, [], ◌∷◌, ◌++◌, map, filter_map, Option, Some, None}
 use Rattle.std.specs.List.{AllByRecursion}
 use Rattle.version_book.specs.Airings.{AiredTables}
