@@ -7,7 +7,7 @@ use Rattle.si_causes.specs.Lines.{first_line, after_line, has_end}
 use Rattle.si_causes.specs.Gathering.{Hand, Split, Gathered, hand}
 use Rattle.si_causes.proofs.LineFacts.{first_line_append, after_line_append, has_end_append, first_line_whole, after_line_none, take_take_append}
 
-pub start : {S : Type 0} (left : S → Option (List ℕ)) (faults : S → ℕ) (old : Hand S) → old.line ≡ [] → old.taken ≤ 67108864 → Split left faults old old [] []
+pub start : {S : Type 0} (left : S → Option (List ℕ)) (faults : S → ℕ) (old : Hand S) → old.line ≡ [] → old.taken ≤ old.limit → Split left faults old old [] []
 start left faults old empty le = record {
   consumed = Consumes-nil (left old.source);
   taken = omega arith;
@@ -21,7 +21,7 @@ start left faults old empty le = record {
 -- what is at hand in all, up to its first LF
 pub ended : {S : Type 0} (left : S → Option (List ℕ)) (faults : S → ℕ) (old mid : Hand S) (before more held line : List ℕ) → Split left faults old mid before more
     → line ≡ take 16386 (mid.line ++ first_line mid.held) → held ≡ after_line mid.held → has_end mid.held ≡ true
-    → Gathered left old (hand mid.source held line mid.taken) more × (has_end (old.held ++ more) ≡ true)
+    → Gathered left old (hand mid.source held line mid.taken mid.limit) more × (has_end (old.held ++ more) ≡ true)
 ended left faults old mid before more held line s l h e = (
   record {
     consumed = s.consumed;
@@ -35,11 +35,11 @@ ended left faults old mid before more held line s l h e = (
 )
 
 -- no LF, and the next piece
-pub grown : {S : Type 0} (left : S → Option (List ℕ)) (faults : S → ℕ) (old mid : Hand S) (before more piece line : List ℕ) (source : S) (taken : ℕ) → Split left faults old mid before more
+pub grown : {S : Type 0} (left : S → Option (List ℕ)) (faults : S → ℕ) (old mid : Hand S) (before more piece line : List ℕ) (source : S) (taken limit : ℕ) → Split left faults old mid before more
     → line ≡ take 16386 (mid.line ++ first_line mid.held) → has_end mid.held ≡ false → Consumes (left mid.source) (left source) piece
-    → taken ≡ mid.taken + length piece → taken ≤ 67108864 → faults mid.source ≤ faults source
-    → Split left faults old (hand source piece line taken) (before ++ mid.held) (more ++ piece)
-grown left faults old mid before more piece line source taken s l e c t w f = record {
+    → taken ≡ mid.taken + length piece → taken ≤ old.limit → faults mid.source ≤ faults source
+    → Split left faults old (hand source piece line taken limit) (before ++ mid.held) (more ++ piece)
+grown left faults old mid before more piece line source taken limit s l e c t w f = record {
   consumed = Consumes-trans (left old.source) (left mid.source) (left source) more piece s.consumed c;
   taken = omega (arith, s.taken, t, length-append more piece);
   within = w;

@@ -8,7 +8,7 @@ use Rattle.std.proofs.Math.Seq.{take-append-add, take-append_seam}
 use Rattle.std.proofs.lemmas.Bool.{le-leb, cases_Bool}
 use Rattle.si_causes.specs.Lines.{first_line, after_line, has_end, raw_lines, whole_lines, shown}
 use Rattle.si_causes.specs.Text.{TextEnd, AtEnd, PastLimit, text_limit, lines_in, end_in, lines_left}
-use Rattle.si_causes.specs.Reading.{Reading, LineCame, EndCame, GivesLine, fresh, text_left, room}
+use Rattle.si_causes.specs.Reading.{Reading, LineCame, EndCame, StopCame, GivesLine, fresh, fresh_to, text_left, room}
 use Rattle.si_causes.specs.Gathering.{GatherStop, hand}
 use Rattle.si_causes.specs.declared.stop.ReadStop.{ReadStop}
 use Rattle.si_causes.specs.declared.stop.ReadStop.TheVariants.{Failed, TooLong}
@@ -85,8 +85,8 @@ pub line_falls : {S : Type 0} (left : S → Option (List ℕ)) (old new : Readin
 line_falls left old new n more came =
     let t = old.held ++ more in
     elim (cases_Bool (has_end t)) [
-      | inl whole ↦ omega (arith, came.passed, came.within, parted t whole, ap length came.rest)
-      | inr open_end ↦ omega (arith, came.passed, came.within, some_length t (came.last open_end).0, ap length (came.rest ∙ after_line_none t open_end))
+      | inl whole ↦ omega (arith, came.passed, came.within, came.limit, parted t whole, ap length came.rest)
+      | inr open_end ↦ omega (arith, came.passed, came.within, came.limit, some_length t (came.last open_end).0, ap length (came.rest ∙ after_line_none t open_end))
     ]
 
 -- the line that came is the first of those that were left of a told text
@@ -100,7 +100,7 @@ line_gives left old new n more text came told =
     elim (cases_Bool (has_end t)) [
       | inl whole ↦
           let all : text ≡ t ++ s.0 = h.2 ∙ ap (λ l. old.held ++ l) s.2 ∙ sym (append_assoc old.held more s.0) in
-          let less : room old - (length (first_line t) + 1) ≡ room new = omega (arith, came.passed, came.within, parted t whole, ap length came.rest) in
+          let less : room old - (length (first_line t) + 1) ≡ room new = omega (arith, came.passed, came.within, came.limit, parted t whole, ap length came.rest) in
           let step = lines_step (room old) t s.0 whole fits in
           let now : text_left left new ≡ Some (after_line t ++ s.0) = ap (prepend_known new.held) s.1 ∙ ap (λ l. Some (l ++ s.0)) came.rest in
           let lines = ap (lines_left (room old)) all
@@ -133,7 +133,7 @@ end_gives left old new text came told =
 
 -- a told text is past its limit before its next line is whole
 past_lines : {S : Type 0} (left : S → Option (List ℕ)) (old : Reading S) (source : S) (text more : List ℕ) (byte : ℕ)
-    → Consumes (left old.source) (left source) (more ++ byte ∷ []) → old.passed + length (old.held ++ more) ≡ text_limit → has_end (old.held ++ more) ≡ false → text_left left old ≡ Some text
+    → Consumes (left old.source) (left source) (more ++ byte ∷ []) → old.passed + length (old.held ++ more) ≡ old.limit → has_end (old.held ++ more) ≡ false → text_left left old ≡ Some text
     → lines_left (room old) text ≡ ([], PastLimit)
 past_lines left old source text more byte gave full no_end told =
     let h = held_told old.held (left old.source) text told in
@@ -156,18 +156,31 @@ failed_gives left old new ([], PastLimit) = tt
 
 -- what a stop gives of the lines that were left
 pub stop_gives : {S : Type 0} (left : S → Option (List ℕ)) (faults : S → ℕ) (old new : Reading S) (line new_line : List ℕ) (taken new_taken : ℕ) (stop : ReadStop) (text : List ℕ)
-    → taken ≡ old.passed + length old.held → GatherStop left faults (hand old.source old.held line taken) (hand new.source new.held new_line new_taken) stop → text_left left old ≡ Some text
+    → taken ≡ old.passed + length old.held → GatherStop left faults (hand old.source old.held line taken old.limit) (hand new.source new.held new_line new_taken new.limit) stop → text_left left old ≡ Some text
     → GivesLine left old new (lines_left (room old) text) (Err stop)
 stop_gives left faults old new line new_line taken new_taken Failed text start stopped told = failed_gives left old new (lines_left (room old) text)
 stop_gives left faults old new line new_line taken new_taken TooLong text start stopped told =
-    let full : old.passed + length (old.held ++ stopped.0) ≡ text_limit = omega (arith, start, stopped.3, length-append old.held stopped.0) in
+    let full : old.passed + length (old.held ++ stopped.0) ≡ old.limit = omega (arith, start, stopped.3, length-append old.held stopped.0) in
     subst (λ p. GivesLine left old new p (Err TooLong)) (sym (past_lines left old new.source text stopped.0 stopped.1 stopped.2 full stopped.4 told)) tt
+
+-- what a stop tells, where nothing else of the reader changed
+pub stop_came : {S : Type 0} (left : S → Option (List ℕ)) (faults : S → ℕ) (old new : Reading S) (line new_line : List ℕ) (taken new_taken : ℕ) (stop : ReadStop)
+    → taken ≡ old.passed + length old.held → GatherStop left faults (hand old.source old.held line taken old.limit) (hand new.source new.held new_line new_taken new.limit) stop
+    → new.passed ≡ old.passed → new.number ≡ old.number → new.stop ≡ Some stop → StopCame left faults old new stop
+stop_came left faults old new line new_line taken new_taken Failed start stopped passed count is =
+    record { front = (stopped.0, stopped.1, stopped.2); cause = stopped.3; passed = passed; count = count; stopped = is }
+stop_came left faults old new line new_line taken new_taken TooLong start stopped passed count is =
+    let full : old.passed + length (old.held ++ stopped.0) ≡ old.limit = omega (arith, start, stopped.3, length-append old.held stopped.0) in
+    record { over = (stopped.0, stopped.1, stopped.2, full, stopped.4); passed = passed; count = count; stopped = is }
 
 -- ---- what a caller takes from the clause `lines`
 
 -- a reader that has read nothing has the source's text left
+pub fresh_text_to : {S : Type 0} (left : S → Option (List ℕ)) (limit : ℕ) (source : S) → text_left left (fresh_to limit source) ≡ left source
+fresh_text_to left limit source = prepend_known-nil (left source)
+
 pub fresh_text : {S : Type 0} (left : S → Option (List ℕ)) (source : S) → text_left left (fresh source) ≡ left source
-fresh_text left source = prepend_known-nil (left source)
+fresh_text left source = fresh_text_to left text_limit source
 
 -- and as much room as a text may have
 pub fresh_room : {S : Type 0} (source : S) → room (fresh source) ≡ text_limit

@@ -3,27 +3,27 @@ use Rattle.std.specs.Prelude.{◌≡◌, ◌≢◌, ℕ, ◌+◌, ◌≤◌, tru
 use Rattle.std.specs.Io.KnownBytes.{Consumes, IsAtEnd}
 use Rattle.si_causes.specs.Causes.{Rose}
 use Rattle.si_causes.specs.Lines.{first_line, after_line, has_end}
-use Rattle.si_causes.specs.Text.{text_limit}
 use Rattle.si_causes.specs.declared.stop.ReadStop.{ReadStop}
 use Rattle.si_causes.specs.declared.stop.ReadStop.TheVariants.{Failed, TooLong}
 use Rattle.si_causes.specs.declared.gather.LineFound.{LineFound}
 use Rattle.si_causes.specs.declared.gather.LineFound.TheVariants.{Line, Last, End}
 
--- what the reader has at hand, and how many bytes the source gave
+-- what the reader has at hand, how many bytes the source gave, and how many the text may have
 pub record Hand (S : Type 0) : Type 0 where
   pub source : S
   pub held : List ℕ
   pub line : List ℕ
   pub taken : ℕ
+  pub limit : ℕ
 
-abbrev pub hand : {S : Type 0} → S → List ℕ → List ℕ → ℕ → Hand S
-hand source held line taken = record { source = source; held = held; line = line; taken = taken }
+abbrev pub hand : {S : Type 0} → S → List ℕ → List ℕ → ℕ → ℕ → Hand S
+hand source held line taken limit = record { source = source; held = held; line = line; taken = taken; limit = limit }
 
 -- The source gave `more`; before the first LF of all that is at hand stands `before`, and behind it what is held.
 pub record Split {S : Type 0} (left : S → Option (List ℕ)) (faults : S → ℕ) (old new : Hand S) (before more : List ℕ) : Type 0 where
   pub consumed : Consumes (left old.source) (left new.source) more
   pub taken : new.taken ≡ old.taken + length more
-  pub within : new.taken ≤ text_limit
+  pub within : new.taken ≤ old.limit
   pub same : old.held ++ more ≡ before ++ new.held
   pub no_end : has_end before ≡ false
   pub line : new.line ≡ take 16386 before
@@ -33,7 +33,7 @@ pub record Split {S : Type 0} (left : S → Option (List ℕ)) (faults : S → �
 pub record Gathered {S : Type 0} (left : S → Option (List ℕ)) (old new : Hand S) (more : List ℕ) : Type 0 where
   pub consumed : Consumes (left old.source) (left new.source) more
   pub taken : new.taken ≡ old.taken + length more
-  pub within : new.taken ≤ text_limit
+  pub within : new.taken ≤ old.limit
   pub line : new.line ≡ take 16386 (first_line (old.held ++ more))
   pub rest : new.held ≡ after_line (old.held ++ more)
 
@@ -46,7 +46,7 @@ FoundIs left old new more End = (old.held ++ more ≡ []) × IsAtEnd (left new.s
 -- why there is no line
 abbrev pub GatherStop : {S : Type 0} → (S → Option (List ℕ)) → (S → ℕ) → Hand S → Hand S → ReadStop → Type 0
 GatherStop left faults old new Failed = (more : List ℕ) × Consumes (left old.source) (left new.source) more × (has_end (old.held ++ more) ≡ false) × Rose (faults old.source) (faults new.source)
-GatherStop left faults old new TooLong = (more : List ℕ) × (byte : ℕ) × Consumes (left old.source) (left new.source) (more ++ byte ∷ []) × (old.taken + length more ≡ text_limit) × (has_end (old.held ++ more) ≡ false)
+GatherStop left faults old new TooLong = (more : List ℕ) × (byte : ℕ) × Consumes (left old.source) (left new.source) (more ++ byte ∷ []) × (old.taken + length more ≡ old.limit) × (has_end (old.held ++ more) ≡ false)
 
 abbrev pub Gathers : {S : Type 0} → (S → Option (List ℕ)) → (S → ℕ) → Hand S → Hand S → Result LineFound ReadStop → Type 0
 Gathers left faults old new (Ok found) = (more : List ℕ) × Gathered left old new more × FoundIs left old new more found

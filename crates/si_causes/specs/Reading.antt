@@ -22,10 +22,16 @@ pub record Reading (S : Type 0) : Type 0 where
   pub ended : Bool
   -- why there are no more lines
   pub stop : Option ReadStop
+  -- how many bytes the text may have
+  pub limit : ℕ
 
--- a reader that has read nothing
+-- a reader that has read nothing of a text that may have so many bytes
+abbrev pub fresh_to : {S : Type 0} → ℕ → S → Reading S
+fresh_to limit source = record { source = source; held = []; passed = 0; number = 0; line = []; ended = false; stop = None; limit = limit }
+
+-- the same, with the limit of a script
 abbrev pub fresh : {S : Type 0} → S → Reading S
-fresh source = record { source = source; held = []; passed = 0; number = 0; line = []; ended = false; stop = None }
+fresh source = fresh_to text_limit source
 
 -- the text that a reader has still to give, where the source tells it
 abbrev pub text_left : {S : Type 0} → (S → Option (List ℕ)) → Reading S → Option (List ℕ)
@@ -33,7 +39,7 @@ text_left left reader = prepend_known reader.held (left reader.source)
 
 -- how many bytes the text that is left may have
 abbrev pub room : {S : Type 0} → Reading S → ℕ
-room reader = text_limit - reader.passed
+room reader = reader.limit - reader.passed
 
 -- a line came, and `more` is what the source gave in this call
 pub record LineCame {S : Type 0} (left : S → Option (List ℕ)) (old new : Reading S) (n : ℕ) (more : List ℕ) : Type 0 where
@@ -42,7 +48,8 @@ pub record LineCame {S : Type 0} (left : S → Option (List ℕ)) (old new : Rea
   pub rest : new.held ≡ after_line (old.held ++ more)
   -- no byte is lost
   pub passed : new.passed + length new.held ≡ old.passed + length (old.held ++ more)
-  pub within : new.passed + length new.held ≤ text_limit
+  pub within : new.passed + length new.held ≤ old.limit
+  pub limit : new.limit ≡ old.limit
   pub number : n ≡ old.number + 1
   pub count : new.number ≡ n
   -- a line without an LF is the last, and has a byte
@@ -62,7 +69,7 @@ pub record EndCame {S : Type 0} (left : S → Option (List ℕ)) (old new : Read
 
 -- the source gave a byte behind the last that a text may have, and the line was not whole
 pub record TooLongCame {S : Type 0} (left : S → Option (List ℕ)) (old new : Reading S) : Type 0 where
-  pub over : (more : List ℕ) × (byte : ℕ) × Consumes (left old.source) (left new.source) (more ++ byte ∷ []) × (old.passed + length (old.held ++ more) ≡ text_limit) × (has_end (old.held ++ more) ≡ false)
+  pub over : (more : List ℕ) × (byte : ℕ) × Consumes (left old.source) (left new.source) (more ++ byte ∷ []) × (old.passed + length (old.held ++ more) ≡ old.limit) × (has_end (old.held ++ more) ≡ false)
   pub passed : new.passed ≡ old.passed
   pub count : new.number ≡ old.number
   pub stopped : new.stop ≡ Some TooLong

@@ -7,7 +7,7 @@ pub data TextEnd : Type 0 where
   AtEnd : TextEnd
   PastLimit : TextEnd
 
--- how many bytes a text may have
+-- how many bytes a text may have where no other limit is named
 abbrev pub text_limit : ℕ
 text_limit = 67108864
 

@@ -12,8 +12,6 @@ use crate::read_buffer::ReadBuffer;
 use crate::stop::ReadStop;
 use memchr::memchr;
 
-// how many bytes a text may have
-const TEXT: u64 = 67108864;
 // how many bytes one read asks for at most
 const BUFFER: usize = 65536;
 
@@ -73,17 +71,18 @@ fn read_piece<S: Source>(source: &mut S, held: &mut LineBuffer, room: u64) -> Re
     held.refill(source, room)
 }
 
-// Collects the next line, reading only where what is held has no LF.
+// Collects the next line of a text that may have so many bytes, reading only where what is held has no LF.
 pub(crate) fn gather<S: Source>(
     source: &mut S,
     held: &mut LineBuffer,
     line: &mut Line,
     taken: &mut u64,
+    limit: u64,
 ) -> Result<LineFound, ReadStop>
     requires empty { line.old ≡ [] }
-    requires within { taken.old ≤ 67108864 }
-    ensures gathers { Gathers S.left S.faults (hand source.old held.old line.old taken.old)
-        (hand source.new held.new line.new taken.new) result }
+    requires within { taken.old ≤ limit }
+    ensures gathers { Gathers S.left S.faults (hand source.old held.old line.old taken.old limit)
+        (hand source.new held.new line.new taken.new limit) result }
     ensures later { S.faults source.old ≤ S.faults source.new }
     ensures lazy { has_end held.old ≡ true → source.new ≡ source.old }
     ensures same { S.same source.old source.new }
@@ -92,7 +91,7 @@ pub(crate) fn gather<S: Source>(
         if take_line(held, line) {
             return Ok(LineFound::Line);
         }
-        let room = if *taken < TEXT { TEXT - *taken } else { 1 };
+        let room = if *taken < limit { limit - *taken } else { 1 };
         let count = match read_piece(source, held, room) {
             Ok(count) => count,
             Err(_) => return Err(ReadStop::Failed),
@@ -104,7 +103,7 @@ pub(crate) fn gather<S: Source>(
                 LineFound::Last
             });
         }
-        if *taken >= TEXT {
+        if *taken >= limit {
             held.consume(count);
             return Err(ReadStop::TooLong);
         }

@@ -1,8 +1,8 @@
 // A reader of lines.
-ghost use Rattle.std.specs.Prelude.{◌≡◌, ◌≤◌, true, false, [], ℕ, List, Option, None, Some, Ok, Err, IfOk, IfSome};
+ghost use Rattle.std.specs.Prelude.{◌≡◌, ◌-◌, ◌^◌, ◌<◌, ◌≤◌, true, false, [], ℕ, List, Option, None, Some, Ok, Err, IfOk, IfSome};
 ghost use Rattle.std.specs.Io.KnownBytes.{IsAtEnd};
 ghost use Rattle.si_causes.specs.Lines.{has_end};
-ghost use Rattle.si_causes.specs.Reading.{NextCame, GivesLine, Falls, fresh, room, text_left};
+ghost use Rattle.si_causes.specs.Reading.{NextCame, GivesLine, Falls, fresh, fresh_to, room, text_left};
 ghost use Rattle.si_causes.specs.Text.{lines_left};
 
 use crate::causes::Source;
@@ -13,15 +13,18 @@ use crate::stop::ReadStop;
 use std::alloc::{AllocError, Global};
 use std::marker::Model;
 
+// How many bytes a text may have where no other limit is named.
+const TEXT_LIMIT: u64 = 67_108_864;
+
 /// A reader of the lines of a source.
 ///
 /// A line ends with LF or with the end of the source, and one CR before that end is not part of it. Behind an LF
 /// at the end there is no further line. A line is shown up to its 16,385th byte, so that a caller can tell one that is
-/// longer than 16,384 bytes. The text may have 67,108,864 bytes, LFs and CRs included.
+/// longer than 16,384 bytes. The text may have 67,108,864 bytes, or another limit, LFs and CRs included.
 ///
 /// Contracts see a reader as the record `Reading`: the source, the bytes that it gave and that stand in no line yet,
 /// how many bytes stand in the lines handed out, how many lines these are, the last of them, whether the source told
-/// its end, and why there are no more lines.
+/// its end, why there are no more lines, and how many bytes the text may have.
 #[derive(Drop)]
 pub struct LineReader<S: Source> {
     source: S,
@@ -31,10 +34,11 @@ pub struct LineReader<S: Source> {
     line: Line,
     ended: bool,
     stop: Option<ReadStop>,
+    limit: u64,
 }
 
 impl<S: Source> Model for LineReader<S> {
-    ghost use Rattle.std.specs.Prelude.{◌≡◌, ◌+◌, ◌≤◌, true, length, [], None};
+    ghost use Rattle.std.specs.Prelude.{◌≡◌, ◌+◌, ◌-◌, ◌^◌, ◌<◌, ◌≤◌, true, length, [], None};
     ghost use Rattle.std.specs.Io.KnownBytes.{IsAtEnd};
     ghost use Rattle.si_causes.specs.Reading.{Reading};
 
@@ -48,9 +52,10 @@ impl<S: Source> Model for LineReader<S> {
       line = r.line;
       ended = r.ended;
       stop = r.stop;
+      limit = r.limit;
     } };
 
-    ghost invariant = { λ r. (r.passed + length r.held ≤ 67108864) × (r.number ≤ r.passed)
+    ghost invariant = { λ r. (r.passed + length r.held ≤ r.limit) × (r.limit < 2 ^ 64 - 1) × (r.number ≤ r.passed)
         × (r.ended ≡ true → (r.held ≡ []) × IsAtEnd (S.left r.source)) };
 }
 
@@ -59,6 +64,15 @@ impl<S: Source> LineReader<S> {
     /// source up.
     pub fn open(alloc: Global, source: S) -> Result<LineReader<S>, AllocError>
         ensures { IfOk result (λ reader. reader ≡ fresh source) }
+    {
+        LineReader::open_to(alloc, source, TEXT_LIMIT)
+    }
+
+    /// As `open`, with another limit of the text's bytes. It is below 18,446,744,073,709,551,615, so that also the line behind
+    /// the last has a number.
+    pub fn open_to(alloc: Global, source: S, limit: u64) -> Result<LineReader<S>, AllocError>
+        requires { limit < 2 ^ 64 - 1 }
+        ensures { IfOk result (λ reader. reader ≡ fresh_to limit source) }
     {
         let held = ReadBuffer::new(alloc)?;
         let line = Line::new(alloc)?;
@@ -70,12 +84,13 @@ impl<S: Source> LineReader<S> {
             line,
             ended: false,
             stop: None,
+            limit,
         })
     }
 
     /// Goes on to the next line and gives its number, from 1 on, or `None` exactly at the end.
     ///
-    /// `TooLong` comes exactly where the source gave a byte after its 67,108,864th before the line was whole.
+    /// `TooLong` comes exactly where the source gave a byte behind its limit before the line was whole.
     /// `Failed` comes only where a read of the source failed in this call. After either each later call answers the
     /// same. The source is read only where the bytes that it gave hold no further whole line. It takes no memory.
     pub fn next(&mut self) -> Result<Option<u64>, ReadStop>
@@ -90,6 +105,7 @@ impl<S: Source> LineReader<S> {
         ensures lazy { has_end self.old.held ≡ true → self.new.source ≡ self.old.source }
         ensures later { S.faults self.old.source ≤ S.faults self.new.source }
         ensures same { S.same self.old.source self.new.source }
+        ensures limit { self.new.limit ≡ self.old.limit }
     {
         if let Some(stop) = self.stop {
             return Err(stop);
@@ -99,7 +115,13 @@ impl<S: Source> LineReader<S> {
         }
         self.line.clear();
         let mut taken = self.passed + self.held.bytes().len() as u64;
-        match gather(&mut self.source, &mut self.held, &mut self.line, &mut taken) {
+        match gather(
+            &mut self.source,
+            &mut self.held,
+            &mut self.line,
+            &mut taken,
+            self.limit,
+        ) {
             Ok(LineFound::End) => {
                 self.ended = true;
                 Ok(None)
@@ -134,7 +156,7 @@ impl<S: Source> LineReader<S> {
     /// How many lines `next` gave: the number of the last of them. It takes no memory.
     pub fn number(&self) -> u64
         ensures value { result ≡ self.now.number }
-        ensures most { result ≤ 67108864 }
+        ensures most { result < 2 ^ 64 - 1 }
     {
         self.number
     }

@@ -7,59 +7,59 @@ use Rattle.si_causes.proofs.LineFacts.{has_end_append, after_line_none}
 use Rattle.si_causes.proofs.CauseFacts.{Rose-from}
 use Rattle.si_causes.proofs.GatherFacts.{start, ended, grown, at_end, take_nothing, no_length, one_more}
 use Rattle.si_causes.proofs.gather.gather.Goals as goal
-use Rattle.si_causes.proofs.gather.gather.Goals.{then-taken-lt-TEXT, else-taken-lt-TEXT}
+use Rattle.si_causes.proofs.gather.gather.Goals.{then-taken-limit, else-taken-limit}
 
 false-true : false ≡ true → ⊥
 false-true e = cc
 
-pub loop-room-init : goal.loop-room-init
-loop-room-init g c =
-    (([], [], start g.S.Source.left g.S.Source.faults (hand c.args.source.now c.args.held.now c.args.line.now c.args.taken.now) c.requires.empty c.requires.within), λ _. (refl, refl), g.met.S.Source.same_at_once c.args.source.now)
+pub loop-limit-init : goal.loop-limit-init
+loop-limit-init g c =
+    (([], [], start g.S.Source.left g.S.Source.faults (hand c.args.source.now c.args.held.now c.args.line.now c.args.taken.now c.args.limit) c.requires.empty c.requires.within), λ _. (refl, refl), g.met.S.Source.same_at_once c.args.source.now)
 
 pub read_piece-requires-clause-empty : goal.read_piece-requires-clause-empty
 read_piece-requires-clause-empty g c =
-    c.take_line.ensures.held ∙ after_line_none c.loop-room.held (sym c.take_line.ensures.found ∙ c.if-take_line.false)
+    c.take_line.ensures.held ∙ after_line_none c.loop-limit.held (sym c.take_line.ensures.found ∙ c.if-take_line.false)
 
 pub returns-then-take_line-clause-gathers : goal.returns-then-take_line-clause-gathers
 returns-then-take_line-clause-gathers g c =
-    let i = c.loop-room.invariant.0 in
-    let r = ended g.S.Source.left g.S.Source.faults _ (hand c.loop-room.source c.loop-room.held c.loop-room.line c.loop-room.taken) i.0 i.1 c.take_line.new.held c.take_line.new.line i.2
+    let i = c.loop-limit.invariant.0 in
+    let r = ended g.S.Source.left g.S.Source.faults _ (hand c.loop-limit.source c.loop-limit.held c.loop-limit.line c.loop-limit.taken c.args.limit) i.0 i.1 c.take_line.new.held c.take_line.new.line i.2
     c.take_line.ensures.line c.take_line.ensures.held (sym c.take_line.ensures.found ∙ c.if-take_line.true) in
     (i.1, r.0, r.1)
 
 pub returns-in-Err-clause-gathers : goal.returns-in-Err-clause-gathers
 returns-in-Err-clause-gathers g c =
-    let i = c.loop-room.invariant.0 in
+    let i = c.loop-limit.invariant.0 in
     let s = i.2 in
     let none = sym c.take_line.ensures.found ∙ c.if-take_line.false in (
       c.in-Err.ensures.err.0,
       (
         i.1,
-        Consumes-kept (g.S.Source.left c.args.source.now) (g.S.Source.left c.loop-room.source) (g.S.Source.left c.read_piece.new.source) i.1 s.consumed c.in-Err.ensures.err.1,
-        ap has_end s.same ∙ has_end_append i.0 c.loop-room.held s.no_end ∙ none,
-        Rose-from (g.S.Source.faults c.args.source.now) (g.S.Source.faults c.loop-room.source) (g.S.Source.faults c.read_piece.new.source) s.later c.in-Err.ensures.cause.failed,
+        Consumes-kept (g.S.Source.left c.args.source.now) (g.S.Source.left c.loop-limit.source) (g.S.Source.left c.read_piece.new.source) i.1 s.consumed c.in-Err.ensures.err.1,
+        ap has_end s.same ∙ has_end_append i.0 c.loop-limit.held s.no_end ∙ none,
+        Rose-from (g.S.Source.faults c.args.source.now) (g.S.Source.faults c.loop-limit.source) (g.S.Source.faults c.read_piece.new.source) s.later c.in-Err.ensures.cause.failed,
       ),
     )
 
 pub returns-then-is_empty-clause-gathers : goal.returns-then-is_empty-clause-gathers
 returns-then-is_empty-clause-gathers g c =
-    let i = c.loop-room.invariant.0 in
+    let i = c.loop-limit.invariant.0 in
     let none = sym c.take_line.ensures.found ∙ c.if-take_line.false in
     let zero : length c.read_piece.new.held ≡ 0 = omega (arith, c.in-Ok.ensures.ok.0, c.if-count-eq0.true) in
-    let s = grown g.S.Source.left g.S.Source.faults (hand c.args.source.now c.args.held.now c.args.line.now c.args.taken.now) (hand c.loop-room.source c.loop-room.held c.loop-room.line c.loop-room.taken)
-    i.0 i.1 c.read_piece.new.held c.take_line.new.line c.read_piece.new.source c.loop-room.taken i.2
+    let s = grown g.S.Source.left g.S.Source.faults (hand c.args.source.now c.args.held.now c.args.line.now c.args.taken.now c.args.limit) (hand c.loop-limit.source c.loop-limit.held c.loop-limit.line c.loop-limit.taken c.args.limit)
+    i.0 i.1 c.read_piece.new.held c.take_line.new.line c.read_piece.new.source c.loop-limit.taken c.args.limit i.2
     c.take_line.ensures.line none c.in-Ok.ensures.ok.2 (omega arith) i.2.within c.in-Ok.ensures.cause.later in
     let e = at_end g.S.Source.left g.S.Source.faults _ _ _ _ s (no_length c.read_piece.new.held zero) in
-    let empty = take_nothing 16386 (i.0 ++ c.loop-room.held) (lit< tt) (sym s.line ∙ c.is_empty.ensures.0 c.if-is_empty.true) in
+    let empty = take_nothing 16386 (i.0 ++ c.loop-limit.held) (lit< tt) (sym s.line ∙ c.is_empty.ensures.0 c.if-is_empty.true) in
     (i.1 ++ c.read_piece.new.held, e.0, (e.2 ∙ empty, c.in-Ok.ensures.end c.if-count-eq0.true))
 
 pub returns-else-is_empty-clause-gathers : goal.returns-else-is_empty-clause-gathers
 returns-else-is_empty-clause-gathers g c =
-    let i = c.loop-room.invariant.0 in
+    let i = c.loop-limit.invariant.0 in
     let none = sym c.take_line.ensures.found ∙ c.if-take_line.false in
     let zero : length c.read_piece.new.held ≡ 0 = omega (arith, c.in-Ok.ensures.ok.0, c.if-count-eq0.true) in
-    let s = grown g.S.Source.left g.S.Source.faults (hand c.args.source.now c.args.held.now c.args.line.now c.args.taken.now) (hand c.loop-room.source c.loop-room.held c.loop-room.line c.loop-room.taken)
-    i.0 i.1 c.read_piece.new.held c.take_line.new.line c.read_piece.new.source c.loop-room.taken i.2
+    let s = grown g.S.Source.left g.S.Source.faults (hand c.args.source.now c.args.held.now c.args.line.now c.args.taken.now c.args.limit) (hand c.loop-limit.source c.loop-limit.held c.loop-limit.line c.loop-limit.taken c.args.limit)
+    i.0 i.1 c.read_piece.new.held c.take_line.new.line c.read_piece.new.source c.loop-limit.taken c.args.limit i.2
     c.take_line.ensures.line none c.in-Ok.ensures.ok.2 (omega arith) i.2.within c.in-Ok.ensures.cause.later in
     let e = at_end g.S.Source.left g.S.Source.faults _ _ _ _ s (no_length c.read_piece.new.held zero) in (
       i.1 ++ c.read_piece.new.held,
@@ -67,38 +67,38 @@ returns-else-is_empty-clause-gathers g c =
       (e.1, λ z. let shows = c.is_empty.ensures.1 (s.line ∙ ap (take 16386) (sym e.2 ∙ z)) in false-true (sym c.if-is_empty.false ∙ shows), c.in-Ok.ensures.end c.if-count-eq0.true),
     )
 
-pub returns-then-taken-ge-TEXT-clause-gathers : goal.returns-then-taken-ge-TEXT-clause-gathers
-returns-then-taken-ge-TEXT-clause-gathers g c =
-    let i = c.loop-room.invariant.0 in
+pub returns-then-taken-limit-2-clause-gathers : goal.returns-then-taken-limit-2-clause-gathers
+returns-then-taken-limit-2-clause-gathers g c =
+    let i = c.loop-limit.invariant.0 in
     let s = i.2 in
     let none = sym c.take_line.ensures.found ∙ c.if-take_line.false in
-    let room : c.if-taken-lt-TEXT.room ≡ 1 =
-    elim c.if-taken-lt-TEXT.branch [ then-taken-lt-TEXT w ↦ omega arith | else-taken-lt-TEXT w ↦ omega arith ] in
+    let room : c.if-taken-limit.room ≡ 1 =
+    elim c.if-taken-limit.branch [ then-taken-limit w ↦ omega arith | else-taken-limit w ↦ omega arith ] in
     let one : length c.read_piece.new.held ≡ 1 = omega (arith, c.in-Ok.ensures.ok.0, c.in-Ok.ensures.ok.1, c.if-count-eq0.false) in
-    let over = one_more (g.S.Source.left c.args.source.now) (g.S.Source.left c.loop-room.source) (g.S.Source.left c.read_piece.new.source) i.1 c.read_piece.new.held one s.consumed c.in-Ok.ensures.ok.2 in (
+    let over = one_more (g.S.Source.left c.args.source.now) (g.S.Source.left c.loop-limit.source) (g.S.Source.left c.read_piece.new.source) i.1 c.read_piece.new.held one s.consumed c.in-Ok.ensures.ok.2 in (
       c.consume.ensures ∙ ap (λ k. drop k c.read_piece.new.held) c.in-Ok.ensures.ok.0 ∙ drop-length c.read_piece.new.held,
       (
         i.1,
         over.0,
         over.1,
-        omega (arith, s.taken, s.within, c.if-taken-ge-TEXT.true),
-        ap has_end s.same ∙ has_end_append i.0 c.loop-room.held s.no_end ∙ none,
+        omega (arith, s.taken, s.within, c.if-taken-limit-2.true),
+        ap has_end s.same ∙ has_end_append i.0 c.loop-limit.held s.no_end ∙ none,
       ),
     )
 
-pub loop-room-preserved : goal.loop-room-preserved
-loop-room-preserved g c =
-    let i = c.loop-room.invariant.0 in
+pub loop-limit-preserved : goal.loop-limit-preserved
+loop-limit-preserved g c =
+    let i = c.loop-limit.invariant.0 in
     let none = sym c.take_line.ensures.found ∙ c.if-take_line.false in
-    let within : c.loop-room.taken + c.in-Ok.count ≤ 67108864 =
-    elim c.if-taken-lt-TEXT.branch [ then-taken-lt-TEXT w ↦ omega (arith, c.in-Ok.ensures.ok.1) | else-taken-lt-TEXT w ↦ absurd (omega arith) ] in (
+    let within : c.loop-limit.taken + c.in-Ok.count ≤ c.args.limit =
+    elim c.if-taken-limit.branch [ then-taken-limit w ↦ omega (arith, c.in-Ok.ensures.ok.1) | else-taken-limit w ↦ absurd (omega arith) ] in (
       (
-        i.0 ++ c.loop-room.held,
+        i.0 ++ c.loop-limit.held,
         i.1 ++ c.read_piece.new.held,
-        grown g.S.Source.left g.S.Source.faults (hand c.args.source.now c.args.held.now c.args.line.now c.args.taken.now) (hand c.loop-room.source c.loop-room.held c.loop-room.line c.loop-room.taken)
-            i.0 i.1 c.read_piece.new.held c.take_line.new.line c.read_piece.new.source (c.loop-room.taken + c.in-Ok.count) i.2
+        grown g.S.Source.left g.S.Source.faults (hand c.args.source.now c.args.held.now c.args.line.now c.args.taken.now c.args.limit) (hand c.loop-limit.source c.loop-limit.held c.loop-limit.line c.loop-limit.taken c.args.limit)
+            i.0 i.1 c.read_piece.new.held c.take_line.new.line c.read_piece.new.source (c.loop-limit.taken + c.in-Ok.count) c.args.limit i.2
             c.take_line.ensures.line none c.in-Ok.ensures.ok.2 (omega (arith, c.in-Ok.ensures.ok.0)) within c.in-Ok.ensures.cause.later,
       ),
-      λ h. absurd (false-true (sym none ∙ ap has_end (c.loop-room.invariant.1 h).1 ∙ h)),
-      g.met.S.Source.same_later c.args.source.now c.loop-room.source c.read_piece.new.source c.loop-room.invariant.2 c.in-Ok.ensures.same,
+      λ h. absurd (false-true (sym none ∙ ap has_end (c.loop-limit.invariant.1 h).1 ∙ h)),
+      g.met.S.Source.same_later c.args.source.now c.loop-limit.source c.read_piece.new.source c.loop-limit.invariant.2 c.in-Ok.ensures.same,
     )

@@ -4,7 +4,7 @@ use Rattle.std.specs.Prelude.{None, Some}
 use Rattle.si_causes.specs.Lines.{first_line, after_line, shown}
 use Rattle.si_causes.specs.Reading.{Reading}
 use Rattle.si_causes.proofs.LineFacts.{parted, after_line_none, shown_front, some_length}
-use Rattle.si_causes.proofs.TextFacts.{line_gives, line_falls, stop_gives}
+use Rattle.si_causes.proofs.TextFacts.{line_gives, line_falls, stop_gives, stop_came}
 use Rattle.si_causes.proofs.reader.LineReader.next.Goals as goal
 
 true-false : true ≡ false → ⊥
@@ -34,6 +34,7 @@ returns-in-Ok-Line-clause-came g c =
         rest = p.1.rest;
         passed = omega (arith, ap length c.bytes.ensures, held, p.1.taken, bytes, fits);
         within = omega (arith, held, p.1.within, fits);
+        limit = refl;
         number = refl;
         count = refl;
         last = λ none. absurd (true-false (sym p.2 ∙ none));
@@ -63,6 +64,7 @@ returns-in-Ok-Last-clause-came g c =
         rest = p.1.rest;
         passed = omega (arith, ap length c.bytes.ensures, none, p.1.taken, length-append c.self.inside.held p.0);
         within = omega (arith, none, p.1.within);
+        limit = refl;
         number = refl;
         count = refl;
         last = λ open_end. (p.2.1, p.2.2, refl);
@@ -89,11 +91,19 @@ returns-in-Ok-End-clause-came g c =
       going = going;
     })
 
+pub returns-in-Err-clause-came : goal.returns-in-Err-clause-came
+returns-in-Err-clause-came g c =
+    let inside = c.self.inside in
+    let old : Reading g.row.S.Denot = record { source = inside.source; held = inside.held; passed = inside.passed; number = inside.number; line = inside.line; ended = inside.ended; stop = inside.stop; limit = inside.limit } in
+    let new : Reading g.row.S.Denot = record { source = c.gather.new.source; held = c.gather.new.held; passed = inside.passed; number = inside.number; line = c.gather.new.line; ended = inside.ended; stop = Some c.in-Err.stop; limit = inside.limit } in
+    rw (← c.self.view_is) (λ going. stop_came g.S.Source.left g.S.Source.faults old new c.clear.new.self c.gather.new.line (inside.passed + length c.bytes.result.now) c.gather.new.taken c.in-Err.stop
+    (omega (arith, ap length c.bytes.ensures)) c.in-Err.ensures.gathers.1 refl refl refl)
+
 pub returns-in-Err-clause-lines : goal.returns-in-Err-clause-lines
 returns-in-Err-clause-lines g c =
     let inside = c.self.inside in
-    let old : Reading g.row.S.Denot = record { source = inside.source; held = inside.held; passed = inside.passed; number = inside.number; line = inside.line; ended = inside.ended; stop = inside.stop } in
-    let new : Reading g.row.S.Denot = record { source = c.gather.new.source; held = c.gather.new.held; passed = inside.passed; number = inside.number; line = c.gather.new.line; ended = inside.ended; stop = Some c.in-Err.stop } in
+    let old : Reading g.row.S.Denot = record { source = inside.source; held = inside.held; passed = inside.passed; number = inside.number; line = inside.line; ended = inside.ended; stop = inside.stop; limit = inside.limit } in
+    let new : Reading g.row.S.Denot = record { source = c.gather.new.source; held = c.gather.new.held; passed = inside.passed; number = inside.number; line = c.gather.new.line; ended = inside.ended; stop = Some c.in-Err.stop; limit = inside.limit } in
     rw (← c.self.view_is) (λ going text told. stop_gives g.S.Source.left g.S.Source.faults old new c.clear.new.self c.gather.new.line (inside.passed + length c.bytes.result.now) c.gather.new.taken c.in-Err.stop text
     (omega (arith, ap length c.bytes.ensures)) c.in-Err.ensures.gathers.1 told)
 
@@ -104,7 +114,8 @@ invariant_of-self-in-Ok-Line g c =
     let fits : length c.bytes-in-Ok-Line.result.now + c.self.inside.passed + 1 ≤ c.gather.new.taken =
     omega (arith, ap length c.bytes.ensures, held, ap length p.1.rest, p.1.taken, parted (c.self.inside.held ++ p.0) p.2, length-append c.self.inside.held p.0) in (
       omega (arith, held, p.1.within, fits),
-      omega (arith, fits, c.self.invariant.1),
+      c.self.invariant.1,
+      omega (arith, fits, c.self.invariant.2),
       λ e. absurd (true-false (sym e ∙ c.if-self.false)),
     )
 
@@ -113,6 +124,7 @@ invariant_of-self-in-Ok-Last g c =
     let p = rw c.in-Ok-Last.field-0-is at c.in-Ok-Last.ensures.gathers in
     let rest = p.1.rest ∙ after_line_none (c.self.inside.held ++ p.0) p.2.0 in (
       omega (arith, ap length rest, p.1.within),
-      omega (arith, ap length c.bytes.ensures, p.1.taken, some_length (c.self.inside.held ++ p.0) p.2.1, length-append c.self.inside.held p.0, c.self.invariant.1),
+      c.self.invariant.1,
+      omega (arith, ap length c.bytes.ensures, p.1.taken, some_length (c.self.inside.held ++ p.0) p.2.1, length-append c.self.inside.held p.0, c.self.invariant.2),
       λ _. (rest, p.2.2),
     )
