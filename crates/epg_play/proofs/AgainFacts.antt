@@ -21,7 +21,8 @@ use Rattle.journal_model.specs.contracts.step.OutcomeEq.TheImpl.Laws as outcome_
 use Rattle.journal_model.specs.Steps.{command_of}
 use Rattle.desk_core.specs.Desks.{DeskState, fresh}
 use Rattle.desk_core.proofs.JournalFacts.{journal_only}
-use Rattle.journal_text.specs.Back.{EntryReadsBack, IsReadable, ahead_of, command_lines, shown_lines}
+use Rattle.journal_text.specs.Back.{EntryReadsBack, IsReadable}
+use Rattle.command_text.specs.Back.{ahead_of, command_lines, shown_lines}
 use Rattle.journal_text.specs.Entries.{entry_text, journal_text}
 use Rattle.journal_text.proofs.EntryBack.{entries_read_back}
 use Rattle.headend_jobs.specs.OnAir.{and_step}

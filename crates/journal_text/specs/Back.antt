@@ -1,4 +1,4 @@
--- What is written reads back: rows, outcomes and entries.
+-- What is written reads back: outcomes and entries.
 use Rattle.std.specs.Prelude.{◌≡◌, ◌≤◌, ◌<◌, ◌^◌, ◌+◌, ℕ, true, false, ◌==◌, List, [], ◌∷◌, ◌++◌, length, map, Some, codes, decimal}
 use Rattle.std.specs.List.{AllByRecursion}
 use Rattle.csv.specs.Writing.{default_writer, row_body}
@@ -14,52 +14,14 @@ use Rattle.journal_model.specs.declared.step.Step.{Step}
 use Rattle.journal_model.specs.declared.step.Entry.{Entry}
 use Rattle.journal_model.specs.Steps.{IsStepWithin, IsTypedStep, IsInWindow}
 use Rattle.script_lines.specs.declared.script.ScriptItem.TheVariants.{Step as step, Kept}
-use Rattle.journal_text.specs.Edits.{line_text, item_row}
-use Rattle.journal_text.specs.Entries.{step_fields, step_items, with_commas, outcome_text, entry_text, journal_text}
+use Rattle.command_text.specs.Lines.{line_text, item_row}
+use Rattle.command_text.specs.Back.{IsNumeralNumber, IsShort, ahead_of, command_lines, command_row}
+use Rattle.command_text.specs.Commands.{step_fields, step_items}
+use Rattle.journal_text.specs.Entries.{with_commas, outcome_text, entry_text, journal_text}
 use Rattle.script_lines.specs.Script.{first_script_item, IsShapedStep}
 use Rattle.script_lines.specs.Outcomes.{outcome_fields, outcome_of_fields, outcome_ids, outcome_numbers}
 
--- ---- rows
-
--- the line of these fields, without its LF
-abbrev pub row_line : List (List ℕ) → List ℕ
-row_line fields = row_body default_writer fields
-
--- a field that a line may begin with: its first byte is neither that of a line that is passed over nor of a byte order mark
-abbrev pub IsFront : List ℕ → Type 0
-IsFront [] = ⊥
-IsFront (b ∷ bs) = ((b == 35) ≡ false) × ((b == 0xEF) ≡ false)
-
--- at least two fields, of which the first may begin a line
-abbrev pub IsFronted : List (List ℕ) → Type 0
-IsFronted [] = ⊥
-IsFronted (field ∷ []) = ⊥
-IsFronted (field ∷ other ∷ fields) = IsFront field
-
--- fields that read back from their line
-pub record IsRow (fields : List (List ℕ)) : Type 0 where
-  pub front : IsFronted fields
-  pub kept : AllByRecursion IsKept fields
-  pub short : length (row_line fields) ≤ 16384
-
--- the lines of a text, as a reader shows them
-abbrev pub shown_lines : List ℕ → List (List ℕ)
-shown_lines text = map shown (raw_lines text)
-
--- The line of a row comes first, whatever text stands behind it; it is not passed over, and its fields are those of the row.
-pub record ReadsBack (fields : List (List ℕ)) (rest : List ℕ) : Type 0 where
-  pub line : shown_lines (line_text fields ++ rest) ≡ row_line fields ∷ shown_lines rest
-  pub passed : is_passed (row_line fields) ≡ false
-  pub fields_are : record_of (row_line fields) ≡ Some fields
-
-abbrev pub RowsReadBack : Type 0
-RowsReadBack = (fields : List (List ℕ)) → IsRow fields → (rest : List ℕ) → ReadsBack fields rest
-
 -- ---- outcomes
-
--- a number of at most nine digits
-abbrev pub IsNumeralNumber : ℕ → Type 0
-IsNumeralNumber n = n ≤ 999999999
 
 -- an outcome that reads back: its ids and places have 16 bits, its other numbers at most nine digits, and its moment can be written
 pub record IsReadableOutcome (outcome : Outcome) : Type 0 where
@@ -76,15 +38,8 @@ OutcomesAreFields = (outcome : Outcome) → outcome_text outcome ≡ with_commas
 
 -- ---- entries
 
-abbrev pub command_row : ℕ → Step → List (List ℕ)
-command_row who s = decimal who ∷ step_fields s
-
 abbrev pub outcome_row : Outcome → List (List ℕ)
 outcome_row outcome = codes "=" ∷ outcome_fields outcome
-
--- a line of at most 16,384 bytes
-abbrev pub IsShort : List (List ℕ) → Type 0
-IsShort fields = length (row_line fields) ≤ 16384
 
 -- An entry that reads back. Its caller's number and the numbers of its outcome have at most nine digits, its moments can be
 -- written, its starts, durations and days have their shapes, a rating names a country, a day has at most 2,000 items, and
@@ -98,14 +53,6 @@ pub record IsReadable (entry : Entry) : Type 0 where
   pub command_short : IsShort (command_row entry.who entry.step)
   pub items_short : AllByRecursion (λ (item : Item). IsShort (item_row item)) (step_items entry.step)
   pub outcome_short : IsShort (outcome_row entry.outcome)
-
--- what is ahead in a text whose first line has number n, and then this
-abbrev pub ahead_of : ℕ → List ℕ → Tail → Ahead
-ahead_of n text tail = record { rows = record_lines n (shown_lines text); tail = tail }
-
--- the lines of a command
-abbrev pub command_lines : Step → ℕ
-command_lines s = 1 + length (step_items s)
 
 -- The text of the entry reads as its step, and then as its outcome, whatever stands behind it.
 pub record EntryReadsBack (entry : Entry) (n : ℕ) (rest : List ℕ) (tail : Tail) : Type 0 where

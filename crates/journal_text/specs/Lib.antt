@@ -1,4 +1,3 @@
-pub mod Edits
 pub mod Entries
 pub mod Back
 mod Rows

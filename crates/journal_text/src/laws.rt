@@ -1,11 +1,5 @@
 // What is written reads back.
-ghost use Rattle.journal_text.specs.Back.{EntriesReadBack, JournalsDiffer, JournalsEnd, OutcomesAreFields, OutcomesReadBack, RowsReadBack};
-
-/// The law that a line of fields reads back as the fields, whatever text stands behind it: the fields are texts, at least two,
-/// the first may begin a line, and the line has at most 16,384 bytes.
-pub fn rows_read_back()
-    ensures rows { RowsReadBack }
-{}
+ghost use Rattle.journal_text.specs.Back.{EntriesReadBack, JournalsDiffer, JournalsEnd, OutcomesAreFields, OutcomesReadBack};
 
 /// The law that the text of an outcome is its fields with commas between, and that these are read as the outcome, where its
 /// numbers have at most nine digits and its moment can be written.

@@ -5,15 +5,11 @@
 //! Such a text is a script; `script_lines` reads it ([`next_item`]).
 #![tactic(auto)]
 
-mod edit;
 mod entry;
 mod laws;
-mod line;
 mod outcome;
 
-pub use entry::write_entry;
-pub use laws::{
-    entries_read_back, journals_differ_in_their_texts, outcomes_read_back, rows_read_back,
-};
+pub use entry::{write_entry, write_entry_with};
+pub use laws::{entries_read_back, journals_differ_in_their_texts, outcomes_read_back};
 pub use outcome::write_outcome;
 pub use script_lines::{ScriptItem, items_go_on, next_item, read_outcome};

@@ -13,7 +13,7 @@ use Rattle.journal_model.specs.declared.step.Outcome.{Outcome}
 use Rattle.journal_model.specs.declared.step.Entry.{Entry}
 use Rattle.guide_limits.specs.Standing.{standing}
 use Rattle.desk_core.specs.Journal.{accepted_by, accepted}
-use Rattle.journal_text.specs.Edits.{items_of}
+use Rattle.command_text.specs.Lines.{items_of}
 use Rattle.si_workload.specs.declared.shows.Show.{Show}
 use Rattle.si_workload.specs.Shows.{shows_of, shows_on}
 use Rattle.workload_laws.specs.Load.{show_item, day_edit, service_edits, feed_services, soak_edits}

@@ -7,9 +7,9 @@ use Rattle.journal_model.specs.declared.edit.Item.{Item}
 use Rattle.journal_model.specs.declared.edit.Edit.{Edit}
 use Rattle.journal_model.specs.declared.edit.Edit.TheVariants.{Put, Withdraw, Clear, Name, Day}
 use Rattle.script_lines.specs.EditFields.{edit_fields, item_fields}
-use Rattle.journal_text.specs.Edits.{line_text, item_row, item_text, items_of}
-use Rattle.journal_text.specs.Back.{row_line, shown_lines}
-use Rattle.journal_text.proofs.RowBack.{rows_read_back}
+use Rattle.command_text.specs.Lines.{line_text, item_row, item_text, items_of}
+use Rattle.command_text.specs.Back.{row_line, shown_lines}
+use Rattle.command_text.proofs.RowBack.{rows_read_back}
 use Rattle.si_workload.specs.Texts.{feed_text}
 use Rattle.workload_laws.specs.Load.{soak_edits}
 use Rattle.workload_laws.specs.Journals.{is_item, item_lines}

@@ -19,8 +19,8 @@ use Rattle.script_lines.specs.Edits.{edits_ahead}
 use Rattle.si_workload.specs.declared.shows.Show.{Show}
 use Rattle.si_workload.specs.Shows.{shows_of, shows_on}
 use Rattle.si_workload.specs.Texts.{moment_at, feed_text}
-use Rattle.journal_text.specs.Edits.{item_row}
-use Rattle.journal_text.specs.Back.{shown_lines, ahead_of}
+use Rattle.command_text.specs.Lines.{item_row}
+use Rattle.command_text.specs.Back.{shown_lines, ahead_of}
 use Rattle.workload_laws.specs.Load.{show_item, name_edit, day_edit, service_edits, feed_services, soak_edits}
 use Rattle.workload_laws.specs.Journals.{is_item, item_lines}
 use Rattle.workload_laws.specs.Laws.{MadeFeedsAreRead}

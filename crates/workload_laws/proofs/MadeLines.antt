@@ -16,9 +16,9 @@ use Rattle.si_workload.specs.Shows.{shows_of, shows_on}
 use Rattle.si_workload.specs.Texts.{moment_at, item_line, day_line, day_text, name_line, service_text, feed_text}
 use Rattle.journal_model.specs.declared.edit.Edit.{Edit}
 use Rattle.script_lines.specs.EditFields.{edit_fields, item_fields}
-use Rattle.journal_text.specs.Edits.{line_text, item_row, item_text, items_of}
+use Rattle.command_text.specs.Lines.{line_text, item_row, item_text, items_of}
 use Rattle.script_lines.proofs.NumberBack.{small}
-use Rattle.journal_text.proofs.EntryRows.{is_written, number_written}
+use Rattle.command_text.proofs.PlainFields.{is_written, number_written}
 use Rattle.workload_laws.specs.Load.{show_item, name_edit, day_edit, service_edits, feed_services, soak_edits}
 use Rattle.workload_laws.proofs.Chains.{IsMadeShow, day_made, day_few}
 use Rattle.workload_laws.proofs.PlainRows.{is_plain, all_plain, IsPlainField, IsPlainRow, behind_commas, plain_line}

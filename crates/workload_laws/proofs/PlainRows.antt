@@ -9,10 +9,10 @@ use Rattle.csv.specs.Writing.{default_writer, field_text, fields_text, needs_byt
 use Rattle.si_lists.proofs.Lists.{all_map}
 use Rattle.si_lists.proofs.Filters.{list_all-more}
 use Rattle.si_text.specs.Decoding.{IsKept}
-use Rattle.journal_text.specs.Edits.{line_text}
-use Rattle.journal_text.specs.Back.{IsFronted, IsRow, row_line}
+use Rattle.command_text.specs.Lines.{line_text}
+use Rattle.command_text.specs.Back.{IsFronted, IsRow, row_line}
 use Rattle.si_text.specs.Control.{is_printing}
-use Rattle.journal_text.proofs.EntryRows.{is_written, printing_kept}
+use Rattle.command_text.proofs.PlainFields.{is_written, printing_kept}
 
 -- a space, or a byte that no field is quoted for
 abbrev pub is_plain : ℕ → Bool

@@ -15,9 +15,9 @@ use Rattle.script_lines.specs.Edits.{edit_from, first_edit, edits_ahead}
 use Rattle.script_lines.specs.EditFields.{HaveFields, edit_fields, item_rows}
 use Rattle.script_lines.proofs.EditBack.{edits_read_back}
 use Rattle.script_lines.proofs.LinesLeft.{edits_go_on}
-use Rattle.journal_text.specs.Edits.{line_text, item_row, item_text, items_of}
-use Rattle.journal_text.specs.Back.{row_line, shown_lines, ahead_of}
-use Rattle.journal_text.proofs.RowBack.{rows_read_back}
+use Rattle.command_text.specs.Lines.{line_text, item_row, item_text, items_of}
+use Rattle.command_text.specs.Back.{row_line, shown_lines, ahead_of}
+use Rattle.command_text.proofs.RowBack.{rows_read_back}
 use Rattle.workload_laws.proofs.PlainRows.{IsPlainRow, plain_is_row, line_short}
 use Rattle.workload_laws.proofs.MadeLines.{edit_text}
 

@@ -3,7 +3,7 @@ use Rattle.std.proofs.Common.{◌≡◌, ℕ, ◌<◌, List, [], ◌∷◌, ◌+
 use Rattle.std.specs.Prelude.{◌==◌, Result, Ok, Err, OnOk}
 use Rattle.std.proofs.lemmas.Bool.Decides.{nat_tests}
 use Rattle.csv.specs.Writing.{default_writer, row_body, field_text, fields_text}
-use Rattle.journal_text.specs.Edits.{Line, and_field, and_fields, no_fields, ended, line_text}
+use Rattle.command_text.specs.Lines.{Line, and_field, and_fields, no_fields, ended, line_text}
 
 rest_text : (line : Line) (fields : List (List ℕ)) → 0 < line.fields → (and_fields line fields).text ≡ line.text ++ fields_text default_writer fields
 unfolding fields_text

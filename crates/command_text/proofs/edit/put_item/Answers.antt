@@ -1,8 +1,8 @@
 use Rattle.std.proofs.Common.{◌≡◌, ℕ, List, ◌∷◌, ◌++◌, OnOk, codes, ap, ◌∙◌, subst}
 use Rattle.script_lines.specs.EditFields.{item_fields}
-use Rattle.journal_text.specs.Edits.{Line, and_field, and_fields, no_fields}
-use Rattle.journal_text.proofs.LineFacts.{ended_line}
-use Rattle.journal_text.proofs.edit.put_item.Goals as goal
+use Rattle.command_text.specs.Lines.{Line, and_field, and_fields, no_fields}
+use Rattle.command_text.proofs.LineFacts.{ended_line}
+use Rattle.command_text.proofs.edit.put_item.Goals as goal
 
 pub returns : goal.returns
 returns c =

@@ -2,7 +2,7 @@
 ghost use Rattle.std.specs.Prelude.{◌≡◌, ◌++◌, ◌∷◌, OnOk, IfOk, codes, decimal, flat_map};
 ghost use Rattle.field_text.specs.Genres.{genres_text};
 ghost use Rattle.script_lines.specs.EditFields.{country_field, edit_fields, item_fields, rating_field};
-ghost use Rattle.journal_text.specs.Edits.{and_field, and_fields, item_text, items_of, IsOpenFor};
+ghost use Rattle.command_text.specs.Lines.{and_field, and_fields, item_text, items_of, IsOpenFor};
 
 use crate::line::LineWriter;
 use field_text::put_genres;

@@ -18,13 +18,13 @@ use Rattle.script_lines.specs.EditFields.{rating_field, item_fields, edit_fields
 use Rattle.journal_model.specs.declared.step.Step.{Step}
 use Rattle.journal_model.specs.declared.step.Step.TheVariants.{Edit as edit, Tick, Publish, Swap}
 use Rattle.journal_model.specs.Steps.{IsStepWithin, IsTypedStep}
-use Rattle.journal_text.specs.Edits.{item_row}
-use Rattle.journal_text.specs.Entries.{step_fields}
+use Rattle.command_text.specs.Lines.{item_row}
+use Rattle.command_text.specs.Commands.{step_fields}
 use Rattle.script_lines.specs.Script.{IsShapedStep}
-use Rattle.journal_text.specs.Back.{IsFront, IsFronted, command_row}
+use Rattle.command_text.specs.Back.{IsFront, IsFronted, command_row}
 use Rattle.script_lines.proofs.NumberBack.{digits_of, decimal_some, small}
 use Rattle.si_text.specs.Control.{is_printing}
-use Rattle.journal_text.proofs.EntryRows.{is_written, printing_kept, digits_printing, shape_written, written_kept, moment_written, number_kept}
+use Rattle.command_text.proofs.PlainFields.{is_written, printing_kept, digits_printing, shape_written, written_kept, moment_written, number_kept}
 
 -- ---- the fields of an edit are texts
 
@@ -45,7 +45,7 @@ genres_printing (g ∷ k ∷ gs) h =
 genres_kept : (gs : List Genre) → AllByRecursion HasGenreNumbers gs → IsKept (genres_text gs)
 genres_kept gs h = printing_kept (genres_text gs) (genres_printing gs h)
 
-small_kept : (n high : ℕ) → n ≤ high → high ≤ 65535 → IsKept (decimal n)
+pub small_kept : (n high : ℕ) → n ≤ high → high ≤ 65535 → IsKept (decimal n)
 small_kept n high le most = number_kept n (small n (omega arith))
 
 value_kept : (r : Option RawRating) → IfSome r (λ x. x.value ≤ 255) → IsKept (rating_field r)

@@ -10,13 +10,13 @@ const ROOM: usize = 512;
 
 /// A line in the making: fields, as csv writes those of a record. It parts them by commas, and quotes those that call for it.
 #[derive(Drop)]
-pub(crate) struct LineWriter {
+pub struct LineWriter {
     text: Vec<u8>,
     fields: u8,
 }
 
 impl Model for LineWriter {
-    ghost use Rattle.journal_text.specs.Edits.{Line};
+    ghost use Rattle.command_text.specs.Lines.{Line};
 
     ghost Value = { Line };
 
@@ -25,10 +25,10 @@ impl Model for LineWriter {
 
 impl LineWriter {
     ghost use Rattle.std.specs.Prelude.{◌≡◌, ◌++◌, OnOk, decimal};
-    ghost use Rattle.journal_text.specs.Edits.{no_fields, and_field, ended, IsOpenFor};
+    ghost use Rattle.command_text.specs.Lines.{no_fields, and_field, ended, IsOpenFor};
 
     /// A line without a field, with room for its text where there is memory for it.
-    pub(crate) fn open(alloc: Global) -> LineWriter
+    pub fn open(alloc: Global) -> LineWriter
         ensures { result ≡ no_fields }
     {
         LineWriter {
@@ -38,7 +38,7 @@ impl LineWriter {
     }
 
     /// Adds a field.
-    pub(crate) fn field(&mut self, bytes: &[u8]) -> Result<(), AllocError>
+    pub fn field(&mut self, bytes: &[u8]) -> Result<(), AllocError>
         requires { IsOpenFor 0 self.old }
         ensures { OnOk result (self.new ≡ and_field self.old bytes.now) }
     {
@@ -51,7 +51,7 @@ impl LineWriter {
     }
 
     /// Adds a number in decimal digits.
-    pub(crate) fn number(&mut self, alloc: Global, n: u64) -> Result<(), AllocError>
+    pub fn number(&mut self, alloc: Global, n: u64) -> Result<(), AllocError>
         requires { IsOpenFor 0 self.old }
         ensures { OnOk result (self.new ≡ and_field self.old (decimal n)) }
     {
@@ -60,7 +60,7 @@ impl LineWriter {
     }
 
     /// Appends the line, with LF at its end.
-    pub(crate) fn end(self, out: &mut Vec<u8>) -> Result<(), AllocError>
+    pub fn end(self, out: &mut Vec<u8>) -> Result<(), AllocError>
         ensures { OnOk result (out.new.items ≡ out.old.items ++ ended self) }
     {
         out.extend_from_slice(&self.text)?;

@@ -1,9 +1,9 @@
 use Rattle.std.proofs.Common.{◌≡◌, ℕ, List, ◌∷◌, ◌++◌, decimal, ap, ◌∙◌, flat_map}
 use Rattle.journal_model.specs.declared.edit.Item.{Item}
-use Rattle.journal_text.specs.Edits.{Line, and_field, and_fields, no_fields, item_text, line_text}
-use Rattle.journal_text.specs.Entries.{step_fields, step_items}
-use Rattle.journal_text.proofs.LineFacts.{ended_line, behind}
-use Rattle.journal_text.proofs.entry.put_command.Goals as goal
+use Rattle.command_text.specs.Lines.{Line, and_field, and_fields, no_fields, item_text, line_text}
+use Rattle.command_text.specs.Commands.{step_fields, step_items}
+use Rattle.command_text.proofs.LineFacts.{ended_line, behind}
+use Rattle.command_text.proofs.command.write_command.Goals as goal
 
 pub returns : goal.returns
 returns c =

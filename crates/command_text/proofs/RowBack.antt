@@ -11,9 +11,9 @@ use Rattle.input_lines.specs.Fields.{IsLine, line_fields, fields_or_none}
 use Rattle.input_lines.specs.Lines.{is_passed}
 use Rattle.input_lines.proofs.CleanBytes.{clean_inner}
 use Rattle.input_lines.proofs.CleanLines.{kept_from, line_record_of}
-use Rattle.journal_text.specs.Back.{row_line, IsFront, IsFronted, shown_lines, RowsReadBack}
-use Rattle.journal_text.proofs.LineBack.{line-back}
-use Rattle.journal_text.proofs.CleanRows.{all_clean, row_clean, line_first, line_shown}
+use Rattle.command_text.specs.Back.{row_line, IsFront, IsFronted, shown_lines, RowsReadBack}
+use Rattle.command_text.proofs.LineBack.{line-back}
+use Rattle.command_text.proofs.CleanRows.{all_clean, row_clean, line_first, line_shown}
 
 -- what a field that may begin a line is written as may begin it too
 front_field : (field rest : List ℕ) → IsFront field → IsFront (field_text default_writer field ++ rest)

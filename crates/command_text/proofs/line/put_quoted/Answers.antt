@@ -1,8 +1,8 @@
 use Rattle.std.proofs.Common.{◌≡◌, ◌∙◌, ◌++◌, ◌∷◌, [], ℕ, List, ap, sym, take, get_or, append_assoc}
 use Rattle.std.proofs.lemmas.List.{take_more}
 use Rattle.csv.specs.Writing.{default_writer, escaped}
-use Rattle.journal_text.proofs.Quoting.{escaped_more, escaped_none}
-use Rattle.journal_text.proofs.line.put_quoted.Goals as goal
+use Rattle.command_text.proofs.Quoting.{escaped_more, escaped_none}
+use Rattle.command_text.proofs.line.put_quoted.Goals as goal
 
 pub loop-b-init : goal.loop-b-init
 loop-b-init c = c.in_ok-push.ensures.items ∙ ap (λ (l : List ℕ). c.args.out.now.items ++ 34 ∷ l) (sym escaped_none)

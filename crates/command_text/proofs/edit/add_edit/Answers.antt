@@ -1,8 +1,8 @@
 use Rattle.std.proofs.Common.{◌≡◌, OnOk, sym, subst}
 use Rattle.journal_model.specs.declared.edit.Edit.{Edit}
 use Rattle.script_lines.specs.EditFields.{edit_fields}
-use Rattle.journal_text.specs.Edits.{and_fields}
-use Rattle.journal_text.proofs.edit.add_edit.Goals as goal
+use Rattle.command_text.specs.Lines.{and_fields}
+use Rattle.command_text.proofs.edit.add_edit.Goals as goal
 
 pub returns-in-Put : goal.returns-in-Put
 returns-in-Put c =
