@@ -1,5 +1,5 @@
 -- Continuity counters: on each PID 0, 1, .. modulo 16, from its first packet on (ISO/IEC 13818-1, 2.4.3.3).
-use Rattle.std.specs.Prelude.{◌≡◌, ℕ, zero, suc, ◌+◌, ◌%◌, ◌<◌, List, [], ◌∷◌, Option, Some, None, ◌==◌, if◌then◌else◌, slice_index_or, count_by, filter_map}
+use Rattle.std.specs.Prelude.{◌≡◌, ℕ, zero, suc, ◌+◌, ◌%◌, ◌<◌, List, [], ◌∷◌, Option, Some, None, ◌==◌, if◌then◌else◌, slice_index_or, length, count_by, filter_map, All, IfSome}
 use Rattle.ts_packets.specs.Packets.{Piece}
 use Rattle.ts_packets.specs.Bytes.{Packet, pid_in}
 
@@ -15,6 +15,11 @@ next_after (suc n) = Some (suc n % 16)
 -- These counters stand for these packets, all that were stamped: each PID that had a packet has its next counter, and no other PID has one.
 pub record StandFor (past : List (List ℕ)) (counters : List (Option ℕ)) : Type 0 where
   pub next : (pid : ℕ) → pid < 8192 → slice_index_or counters pid None ≡ next_after (count_on pid past)
+
+-- the counters of all PIDs: each has four bits
+pub record AreNext (counters : List (Option ℕ)) : Type 0 where
+  pub size : length counters ≡ 8192
+  pub small : All (λ (next : Option ℕ). IfSome next (λ n. n < 16)) counters
 
 -- the counter and the piece of a packet of a PID
 pub record Load : Type 0 where

@@ -1,6 +1,7 @@
 pub mod Packets
 pub mod Bytes
 pub mod Counting
+pub mod PidCounters
 pub mod Packer
 pub mod PackerInside
 pub mod Laws

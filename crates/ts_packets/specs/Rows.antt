@@ -1,8 +1,10 @@
 -- Worked packets.
-use Rattle.std.specs.Prelude.{◌≡◌, ℕ, List, [], ◌∷◌, ◌++◌, true, drop, map, replicate, refl, Ok, Err}
+use Rattle.std.specs.Prelude.{◌≡◌, ℕ, List, [], ◌∷◌, ◌++◌, true, drop, map, replicate, refl, Ok, Err, Some, None}
 use Rattle.ts_packets.specs.declared.shape.Shape.TheVariants.{Pass, Gap, Load}
 use Rattle.ts_packets.specs.declared.shape.BadPacket.TheVariants.{Sync}
 use Rattle.ts_packets.specs.Bytes.{bytes_of_packet, packets_alone, shape_in, with_counter}
+use Rattle.ts_packets.specs.Counting.{next_after}
+use Rattle.ts_packets.specs.PidCounters.{kept_from}
 
 -- an SDT section
 abbrev pub row_section : List ℕ
@@ -40,3 +42,10 @@ row_none_left = refl
 
 row_null : shape_in (0x47 ∷ 0x1F ∷ 0xFF ∷ 0x10 ∷ []) ≡ Ok Pass
 row_null = refl
+
+-- behind 16 packets of a PID the next one has 0 again, and that is kept; where there was no packet, nothing is
+row_sixteen : next_after 16 ≡ Some 0
+row_sixteen = refl
+
+row_kept : kept_from 17 (Some 0 ∷ None ∷ Some 15 ∷ []) ≡ record { pid = 17; next = 0 } ∷ record { pid = 19; next = 15 } ∷ []
+row_kept = refl

@@ -1,9 +1,13 @@
 // Continuity counters.
-ghost use Rattle.std.specs.Prelude.{◌≡◌, ◌%◌, ◌<◌, ◌≤◌, ◌++◌, [], ◌∷◌, List, ℕ, length};
+ghost use Rattle.std.specs.Prelude.{◌≡◌, ◌%◌, ◌<◌, ◌≤◌, ◌++◌, [], ◌∷◌, List, ℕ, None, All, IfOk, length, slice_index_or};
 ghost use Rattle.ts_packets.specs.Bytes.{pid_in, with_counter};
 ghost use Rattle.ts_packets.specs.Counting.{StandFor, count_on};
+ghost use Rattle.ts_packets.specs.PidCounters.{IsPidCounter, AreCountersOf, ArePidCountersOf, counter_in, counters_of};
 
+use crate::pid_counter::{PidCounter, PidCounters};
 use crate::written::TsPacket;
+use si_base::Items;
+use std::alloc::{AllocError, Global};
 use std::marker::Model;
 
 /// The next continuity_counter of each PID (ISO/IEC 13818-1, 2.4.3.3), where the PID had a packet. Contracts see the list of these, one
@@ -14,13 +18,14 @@ pub struct Counters {
 }
 
 impl Model for Counters {
-    ghost use Rattle.std.specs.Prelude.{◌≡◌, List, Option, ℕ, length};
+    ghost use Rattle.std.specs.Prelude.{List, Option, ℕ};
+    ghost use Rattle.ts_packets.specs.Counting.{AreNext};
 
     ghost Value = { List (Option ℕ) };
 
     ghost view = { λ c. c.next };
 
-    ghost invariant = { λ c. length c.next ≡ 8192 };
+    ghost invariant = { λ c. AreNext c.next };
 }
 
 impl Counters {
@@ -29,6 +34,38 @@ impl Counters {
         ensures { StandFor [] result }
     {
         Counters { next: [None; 8192] }
+    }
+
+    /// Counters that go on from these, each below 16 and of a PID below 8,192: each PID that is named goes on with its
+    /// counter, with the first one where it is named again, and every other PID with 0. They stand for all packets of which
+    /// these are the counters. It takes no memory.
+    pub fn of(kept: &[PidCounter]) -> Counters
+        requires { All IsPidCounter kept.now }
+        ensures each { (pid : ℕ) → pid < 8192 → slice_index_or result pid None ≡ counter_in pid kept.now }
+        ensures stands { (past : List (List ℕ)) → AreCountersOf past kept.now → StandFor past result }
+    {
+        let mut next = [None; 8192];
+        for counter in kept {
+            let pid = usize::from(counter.pid);
+            next[pid] = next[pid].or(Some(counter.next));
+        }
+        Counters { next }
+    }
+
+    /// The counter of each PID that had a packet, or that was named to `of`, in ascending order of PIDs: from these `of` goes
+    /// on. AllocError comes where memory is wanting.
+    pub fn kept(&self, alloc: Global) -> Result<PidCounters, AllocError>
+        ensures kept { IfOk result (λ kept. ArePidCountersOf self.now kept) }
+        ensures counters { IfOk result (λ kept. (past : List (List ℕ)) → StandFor past self.now → AreCountersOf past kept) }
+        ensures all { IfOk result (λ kept. (past : List (List ℕ)) → StandFor past self.now → kept ≡ counters_of past) }
+    {
+        let mut kept = Items::new(alloc);
+        for pid in 0..8192u16 {
+            if let Some(next) = self.next[usize::from(pid)] {
+                kept.push(PidCounter { pid, next })?;
+            }
+        }
+        Ok(kept)
     }
 
     /// Sets the continuity_counter of a packet and changes nothing else of it: the first packet of a PID has 0, each

@@ -13,4 +13,4 @@ returns c past s =
     let told : pid_in packet ≡ pid = ap₂ (λ (a b : ℕ). a * 256 + b) (sym c.from.ensures) (sym c.from-2.ensures) in
     let stands : StandFor past counters = subst (λ (x : List (Option ℕ)). StandFor past x) (sym c.self.view_is) s in
     subst (λ (n : ℕ). StandFor (past ++ packet ∷ []) (set counters pid (Some ((n % 16 + 1) % 16)))) (sym c.unwrap_or-counter.ensures)
-    (StandFor-push past counters packet pid stands c.self.invariant (omega arith) told)
+    (StandFor-push past counters packet pid stands c.self.invariant.size (omega arith) told)

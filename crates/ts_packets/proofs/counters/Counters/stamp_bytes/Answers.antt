@@ -27,4 +27,4 @@ returns-clause-counted c past s =
     ap₂ (λ (a b : ℕ). (a % 32) * 256 + b) (get_or-set_other packet 3 1 byte 0 (omega arith)) (get_or-set_other packet 3 2 byte 0 (omega arith)) in
     let stands : StandFor past counters = subst (λ (x : List (Option ℕ)). StandFor past x) (sym c.self.view_is) s in
     subst (λ (n : ℕ). StandFor (past ++ slice_set packet 3 byte ∷ []) (set counters pid (Some ((n % 16 + 1) % 16)))) (sym c.unwrap_or-counter.ensures)
-    (StandFor-push past counters (slice_set packet 3 byte) pid stands c.self.invariant (omega arith) (same ∙ told))
+    (StandFor-push past counters (slice_set packet 3 byte) pid stands c.self.invariant.size (omega arith) (same ∙ told))
