@@ -1,3 +1,4 @@
 pub mod Versions
 pub mod SlotFacts
+pub mod KeptEntries
 pub mod Airs

@@ -19,11 +19,11 @@ use Rattle.version_book.specs.Book.{GivenVersion, given_in}
 use Rattle.section_codec.proofs.SameContent.{is_content-same}
 use Rattle.section_codec.proofs.KeyOrderFacts.{is_key-same, is_key-itself, is_key-apart, key_ties}
 use Rattle.version_book.specs.Slots.{kept_by, with_kept, shown, held_in, next_version, changed_content, given_after}
-use Rattle.version_book.specs.declared.key_version.KeyVersion.{KeyVersion}
+use Rattle.version_book.specs.declared.last_version.LastVersion.{LastVersion}
 
 -- ---- an empty slot does not show
 
-pub shown-insert : (cmp : Key → Key → Ordering) (k : Key) (es : List (Key × Option KeyVersion)) → is_some (lookup (is_at (cmp k)) es) ≡ false → shown (insert_entry cmp es k None) ≡ shown es
+pub shown-insert : (cmp : Key → Key → Ordering) (k : Key) (es : List (Key × Option LastVersion)) → is_some (lookup (is_at (cmp k)) es) ≡ false → shown (insert_entry cmp es k None) ≡ shown es
 shown-insert cmp k [] absent = refl
 shown-insert cmp k (e ∷ es) absent = go (cmp k e.0) absent (λ later. shown-insert cmp k es later)
   where
@@ -36,7 +36,7 @@ shown-insert cmp k (e ∷ es) absent = go (cmp k e.0) absent (λ later. shown-in
 -- ---- what the slots show is what they hold, where the keys ascend
 
 -- no key above k is k
-none_above : (cmp : Key → Key → Ordering) → ((a b : Key) → is_key a b ≡ is_eq (cmp a b)) → (k : Key) (es : List (Key × Option KeyVersion))
+none_above : (cmp : Key → Key → Ordering) → ((a b : Key) → is_key a b ≡ is_eq (cmp a b)) → (k : Key) (es : List (Key × Option LastVersion))
     → AllByRecursion (λ y. cmp k y ≡ Less) (keys_of es) → given_in k (shown es) ≡ None
 none_above cmp ties k [] above = refl
 none_above cmp ties k (e ∷ es) above = go e.1 (none_above cmp ties k es above.1)
@@ -44,11 +44,11 @@ none_above cmp ties k (e ∷ es) above = go e.1 (none_above cmp ties k es above.
     other : is_key k e.0 ≡ false
     other = ties k e.0 ∙ ap is_eq above.0
 
-    go : (o : Option KeyVersion) → given_in k (shown es) ≡ None → given_in k (with_kept e.0 o (shown es)) ≡ None
+    go : (o : Option LastVersion) → given_in k (shown es) ≡ None → given_in k (with_kept e.0 o (shown es)) ≡ None
     go None rest = rest
     go (Some held) rest = ap (λ (b : Bool). if b then Some (kept_by held) else given_in k (shown es)) other ∙ rest
 
-kept_in-shown_by : (cmp : Key → Key → Ordering) → ((a b : Key) → is_key a b ≡ is_eq (cmp a b)) → (k : Key) (es : List (Key × Option KeyVersion))
+kept_in-shown_by : (cmp : Key → Key → Ordering) → ((a b : Key) → is_key a b ≡ is_eq (cmp a b)) → (k : Key) (es : List (Key × Option LastVersion))
     → IsStrictlySortedBy cmp (keys_of es) → given_in k (shown es) ≡ option_map kept_by (held_in (lookup (is_at (cmp k)) es))
 kept_in-shown_by cmp ties k [] sorted = refl
 kept_in-shown_by cmp ties k (e ∷ es) sorted =
@@ -57,7 +57,7 @@ kept_in-shown_by cmp ties k (e ∷ es) sorted =
     above : AllByRecursion (λ y. cmp e.0 y ≡ Less) (keys_of es)
     above = sorted_head cmp e.0 (keys_of es) sorted
 
-    go : (b : Bool) → is_key k e.0 ≡ b → (d : Bool) → d ≡ is_key k e.0 → (o : Option KeyVersion) → given_in k (shown es) ≡ option_map kept_by (held_in (lookup (is_at (cmp k)) es))
+    go : (b : Bool) → is_key k e.0 ≡ b → (d : Bool) → d ≡ is_key k e.0 → (o : Option LastVersion) → given_in k (shown es) ≡ option_map kept_by (held_in (lookup (is_at (cmp k)) es))
         → given_in k (with_kept e.0 o (shown es)) ≡ option_map kept_by (held_in (cond d (Some o) (lookup (is_at (cmp k)) es)))
     go true same true f None rec =
         let one : k ≡ e.0 = is_key-same k e.0 same in
@@ -68,7 +68,7 @@ kept_in-shown_by cmp ties k (e ∷ es) sorted =
     go false other false f None rec = rec
     go false other false f (Some held) rec = ap (λ (b : Bool). if b then Some (kept_by held) else given_in k (shown es)) other ∙ rec
 
-pub kept_in-shown : (k : Key) (es : List (Key × Option KeyVersion)) → IsStrictlySortedBy key_cmp (keys_of es) → given_in k (shown es) ≡ option_map kept_by (held_in (lookup (is_at (key_cmp k)) es))
+pub kept_in-shown : (k : Key) (es : List (Key × Option LastVersion)) → IsStrictlySortedBy key_cmp (keys_of es) → given_in k (shown es) ≡ option_map kept_by (held_in (lookup (is_at (key_cmp k)) es))
 kept_in-shown k es sorted = kept_in-shown_by key_cmp key_ties k es sorted
 
 -- ---- given to the slots
@@ -158,9 +158,9 @@ given_turn f ts n t old change version lt at differ before planned counted q =
     ∙ ap (λ (x : List SubTable). given_after f x q) (sym e)
 
 -- what is kept where a slot is filled
-pub put_kept : (held : KeyVersion) (b : Bool) (new old : Option (Option KeyVersion)) → new ≡ (if b then Some (Some held) else old)
+pub put_kept : (held : LastVersion) (b : Bool) (new old : Option (Option LastVersion)) → new ≡ (if b then Some (Some held) else old)
     → option_map kept_by (held_in new) ≡ (if b then Some (kept_by held) else option_map kept_by (held_in old))
-put_kept held b new old e = ap (λ (o : Option (Option KeyVersion)). option_map kept_by (held_in o)) e ∙ go b
+put_kept held b new old e = ap (λ (o : Option (Option LastVersion)). option_map kept_by (held_in o)) e ∙ go b
   where
     go : (b : Bool) → option_map kept_by (held_in (if b then Some (Some held) else old)) ≡ (if b then Some (kept_by held) else option_map kept_by (held_in old))
     go true = refl

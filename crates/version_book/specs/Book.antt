@@ -1,9 +1,12 @@
 -- What a version book keeps, and the airings that it stands for.
-use Rattle.std.specs.Prelude.{◌≡◌, ℕ, ◌%◌, List, [], ◌∷◌, ◌++◌, if◌then◌else◌, Option, Some, None, map}
+use Rattle.std.specs.Prelude.{◌≡◌, ℕ, ◌%◌, ◌<◌, List, [], ◌∷◌, ◌++◌, if◌then◌else◌, Option, Some, None, map, All}
+use Rattle.std.specs.List.Sorted.{IsStrictlySortedBy}
+use Rattle.std.specs.Map.{keys_of}
 use Rattle.section_codec.specs.declared.table.Key.{Key}
 use Rattle.section_codec.specs.declared.table.SubTable.{SubTable}
-use Rattle.section_codec.specs.KeyOrder.{is_key}
+use Rattle.section_codec.specs.KeyOrder.{is_key, key_cmp}
 use Rattle.section_codec.specs.Contents.{Content}
+use Rattle.version_book.specs.declared.key_version.KeyVersion.{KeyVersion}
 use Rattle.version_book.specs.Airings.{CycleForm, AiredTables, carried, changes_after, version_at}
 
 -- the version and the content that a key was last given
@@ -14,6 +17,23 @@ pub record GivenVersion : Type 0 where
 -- each key that was ever carried, with what is kept of it
 abbrev pub GivenVersions : Type 0
 GivenVersions = List (Key × GivenVersion)
+
+-- keys that are handed over, as they are kept
+abbrev pub given_entry : KeyVersion → Key × GivenVersion
+given_entry k = (k.key, record { version = k.version; content = k.sections })
+
+abbrev pub given_entries : List KeyVersion → GivenVersions
+given_entries kept = map given_entry kept
+
+-- the keys stand in their strict order
+abbrev pub AreOrdered : GivenVersions → Type 0
+AreOrdered entries = IsStrictlySortedBy key_cmp (keys_of entries)
+
+-- What is kept of a book: its keys with what they were last given, in ascending order, as they can be handed in.
+pub record AreKeyVersionsOf (book : GivenVersions) (kept : List KeyVersion) : Type 0 where
+  pub entries : given_entries kept ≡ book
+  pub ascend : IsStrictlySortedBy key_cmp (map (λ (k : KeyVersion). k.key) kept)
+  pub small : All (λ (k : KeyVersion). k.version < 32) kept
 
 -- what is kept of a key
 abbrev pub given_in : Key → GivenVersions → Option GivenVersion

@@ -6,30 +6,30 @@ use Rattle.section_codec.specs.declared.table.SubTable.{SubTable}
 use Rattle.section_codec.specs.KeyOrder.{key_cmp, is_key}
 use Rattle.section_codec.specs.Contents.{Content, is_content}
 use Rattle.version_book.specs.Book.{GivenVersion, GivenVersions}
-use Rattle.version_book.specs.declared.key_version.KeyVersion.{KeyVersion}
+use Rattle.version_book.specs.declared.last_version.LastVersion.{LastVersion}
 
 -- what is held of a key, as it is kept
-abbrev pub kept_by : KeyVersion → GivenVersion
+abbrev pub kept_by : LastVersion → GivenVersion
 kept_by held = record { version = held.version; content = held.content }
 
-abbrev pub with_kept : Key → Option KeyVersion → GivenVersions → GivenVersions
+abbrev pub with_kept : Key → Option LastVersion → GivenVersions → GivenVersions
 with_kept k None rest = rest
 with_kept k (Some held) rest = (k, kept_by held) ∷ rest
 
 -- what the slots keep; those that are empty do not show
-abbrev pub shown : List (Key × Option KeyVersion) → GivenVersions
+abbrev pub shown : List (Key × Option LastVersion) → GivenVersions
 shown [] = []
 shown (entry ∷ entries) = with_kept entry.0 entry.1 (shown entries)
 
-abbrev pub held_in : Option (Option KeyVersion) → Option KeyVersion
+abbrev pub held_in : Option (Option LastVersion) → Option LastVersion
 held_in None = None
 held_in (Some slot) = slot
 
 -- what is held of a key, and what is kept of it
-abbrev pub held_at : BTreeMap Key (Option KeyVersion) → Key → Option KeyVersion
+abbrev pub held_at : BTreeMap Key (Option LastVersion) → Key → Option LastVersion
 held_at slots k = held_in (get key_cmp slots k)
 
-abbrev pub kept_at : BTreeMap Key (Option KeyVersion) → Key → Option GivenVersion
+abbrev pub kept_at : BTreeMap Key (Option LastVersion) → Key → Option GivenVersion
 kept_at slots k = option_map kept_by (held_at slots k)
 
 -- the version of the next content of a key, after what is kept of it
@@ -43,13 +43,13 @@ changed_content None content = Some content
 changed_content (Some kept) content = if is_content kept.content content then None else Some content
 
 -- the version, and the content to be kept instead, of a sub-table that is given to these slots
-abbrev pub version_given : BTreeMap Key (Option KeyVersion) → SubTable → ℕ
+abbrev pub version_given : BTreeMap Key (Option LastVersion) → SubTable → ℕ
 version_given slots t = next_version (kept_at slots t.key) t.sections
 
-abbrev pub content_given : BTreeMap Key (Option KeyVersion) → SubTable → Option Content
+abbrev pub content_given : BTreeMap Key (Option LastVersion) → SubTable → Option Content
 content_given slots t = changed_content (kept_at slots t.key) t.sections
 
-abbrev pub HasSlot : BTreeMap Key (Option KeyVersion) → SubTable → Type 0
+abbrev pub HasSlot : BTreeMap Key (Option LastVersion) → SubTable → Type 0
 HasSlot slots t = IsSome (get key_cmp slots t.key)
 
 -- what is kept of a key once these sub-tables are given, where f was kept before

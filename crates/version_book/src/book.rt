@@ -5,12 +5,12 @@ ghost use Rattle.section_codec.specs.KeyOrder.{is_key, key_cmp};
 ghost use Rattle.version_book.specs.Airings.{AiredTables, CycleForm};
 ghost use Rattle.section_codec.specs.SubTables.{KeysDiffer};
 ghost use Rattle.section_codec.specs.declared.table.Key.{Key};
-ghost use Rattle.version_book.specs.Book.{BookStandsFor, aired, versions_of};
-ghost use Rattle.version_book.specs.Laws.{NeighboursAgree, AnotherBetween};
-ghost use Rattle.version_book.specs.Slots.{kept_by, held_at, kept_at, shown, next_version, changed_content, version_given, content_given, HasSlot, given_after};
+ghost use Rattle.version_book.specs.Book.{BookStandsFor, AreKeyVersionsOf, aired, versions_of, given_in, given_entry, given_entries};
+ghost use Rattle.version_book.specs.Slots.{kept_by, held_at, kept_at, with_kept, shown, next_version, changed_content, version_given, content_given, HasSlot, given_after};
 
 use crate::content::copy;
 use crate::key_version::{KeyVersion, KeyVersions};
+use crate::last_version::{LastVersion, LastVersions};
 use section_codec::{Key, NumberedBodies, NumberedBody, SubTable, Tables, same_content};
 use si_base::{Bytes, Items};
 use std::alloc::{AllocError, Global};
@@ -23,7 +23,7 @@ use std::marker::Model;
 #[derive(Drop)]
 pub struct VersionBook {
     alloc: Global,
-    slots: KeyVersions,
+    slots: LastVersions,
 }
 
 impl Model for VersionBook {
@@ -51,6 +51,35 @@ impl VersionBook {
         }
     }
 
+    /// A book that goes on from these keys, whose versions are below 32: it stands for each airing list that leaves just
+    /// them, each with this version and this content. A key that stands among them again has what it has first. AllocError
+    /// comes where memory is wanting.
+    pub fn of(alloc: Global, kept: KeyVersions) -> Result<VersionBook, AllocError>
+        requires { All (λ k. k.version < 32) kept }
+        ensures keeps { IfOk result (λ book. (k : Key) → given_in k book ≡ given_in k (given_entries kept)) }
+        ensures stands { IfOk result (λ book. (past : List AiredTables) → BookStandsFor past (given_entries kept)
+            → BookStandsFor past book) }
+    {
+        let mut slots = BTreeMap::new(alloc);
+        let mut list = kept.into_vec();
+        while let Some(last) = list.pop() {
+            keep(&mut slots, last)?;
+        }
+        Ok(VersionBook { alloc, slots })
+    }
+
+    /// Each key that an airing carried, or that was handed in by `of`, with its last version and content, in ascending order
+    /// of keys: from these `of` goes on. AllocError comes where memory is wanting.
+    pub fn kept(&self) -> Result<KeyVersions, AllocError>
+        ensures { IfOk result (λ kept. AreKeyVersionsOf self.now kept) }
+    {
+        let mut kept = Items::new(self.alloc);
+        for (key, slot) in self.slots.iter() {
+            copy_slot(self.alloc, &mut kept, *key, slot)?;
+        }
+        Ok(kept)
+    }
+
     /// Airs these sub-tables: the version_number of each of them, in order (ISO/IEC 13818-1, 2.4.4.5;
     /// EN 300 468, 5.1.1). A key that was never aired before gets 0. A key whose content equals the
     /// content that it was last aired with keeps its version, and otherwise gets its last version plus
@@ -74,7 +103,7 @@ impl VersionBook {
 }
 
 // What is held of a key.
-fn held_of(slots: &KeyVersions, key: Key) -> Option<&KeyVersion>
+fn held_of(slots: &LastVersions, key: Key) -> Option<&LastVersion>
     ensures { option_copied result ≡ held_at slots.now key }
 {
     match slots.get(&key) {
@@ -86,7 +115,7 @@ fn held_of(slots: &KeyVersions, key: Key) -> Option<&KeyVersion>
 // The version of the next content of a key, and the content to be held where it is not the last one.
 fn next(
     alloc: Global,
-    held: Option<&KeyVersion>,
+    held: Option<&LastVersion>,
     content: &[NumberedBody],
 ) -> Result<(u8, Option<NumberedBodies>), AllocError>
     ensures version { IfOk result (λ next. next.0 ≡ next_version (option_map kept_by (option_copied held.entry)) content.now) }
@@ -100,8 +129,51 @@ fn next(
     }
 }
 
+// Appends a copy of what a slot holds, if it holds something.
+fn copy_slot(
+    alloc: Global,
+    kept: &mut KeyVersions,
+    key: Key,
+    slot: &Option<LastVersion>,
+) -> Result<(), AllocError>
+    ensures entries { OnOk result (given_entries kept.new ≡ given_entries kept.old ++ with_kept key slot.now []) }
+    ensures small { OnOk result (All (λ k. k.version < 32) kept.old → All (λ k. k.version < 32) kept.new) }
+{
+    if let Some(held) = slot {
+        let version = held.version;
+        let sections = copy(alloc, held.content.as_slice())?;
+        kept.push(KeyVersion {
+            key,
+            version,
+            sections,
+        })?;
+    }
+    Ok(())
+}
+
+// Keeps a version and a content of a key, in place of what was kept of it.
+fn keep(slots: &mut LastVersions, kept: KeyVersion) -> Result<(), AllocError>
+    requires ordered { IsOrdered key_cmp slots.old }
+    requires small { kept.version < 32 }
+    ensures kept { OnOk result ((q : Key) → kept_at slots.new q
+        ≡ (if is_key q kept.key then Some (given_entry kept).1 else kept_at slots.old q)) }
+    ensures ordered { IsOrdered key_cmp slots.new }
+{
+    let KeyVersion {
+        key,
+        version,
+        sections,
+    } = kept;
+    let held = LastVersion {
+        version,
+        content: sections,
+    };
+    slots.insert(key, Some(held))?;
+    Ok(())
+}
+
 // Makes a slot for a key that has none.
-fn make_slot(slots: &mut KeyVersions, key: Key) -> Result<(), AllocError>
+fn make_slot(slots: &mut LastVersions, key: Key) -> Result<(), AllocError>
     requires { IsOrdered key_cmp slots.old }
     ensures made { OnOk result (IsSome (get key_cmp slots.new key)) }
     ensures stay { (q : Key) → IsSome (get key_cmp slots.old q) → IsSome (get key_cmp slots.new q) }
@@ -116,7 +188,7 @@ fn make_slot(slots: &mut KeyVersions, key: Key) -> Result<(), AllocError>
 }
 
 // Fills the slot of a key. It takes no memory.
-fn fill(slots: &mut KeyVersions, key: Key, held: KeyVersion)
+fn fill(slots: &mut LastVersions, key: Key, held: LastVersion)
     requires { IsSome (get key_cmp slots.old key) }
     ensures put { (q : Key) → get key_cmp slots.new q ≡ (if is_key key q then Some (Some held) else get key_cmp slots.old q) }
     ensures ordered { IsOrdered key_cmp slots.new }
@@ -134,7 +206,7 @@ struct Plan {
 }
 
 // Plans what sub-tables are given, and makes their slots. It takes all the memory that giving wants.
-fn planned(alloc: Global, slots: &mut KeyVersions, tables: &[SubTable]) -> Result<Plan, AllocError>
+fn planned(alloc: Global, slots: &mut LastVersions, tables: &[SubTable]) -> Result<Plan, AllocError>
     requires { IsOrdered key_cmp slots.old }
     ensures versions { IfOk result (λ plan. plan.versions.items ≡ map (version_given slots.old) tables.now) }
     ensures changes { IfOk result (λ plan. plan.changes.items ≡ map (content_given slots.old) tables.now) }
@@ -158,7 +230,7 @@ fn planned(alloc: Global, slots: &mut KeyVersions, tables: &[SubTable]) -> Resul
 
 // Gives sub-tables what was planned. It takes no memory.
 fn settle(
-    slots: &mut KeyVersions,
+    slots: &mut LastVersions,
     tables: &[SubTable],
     versions: &[u8],
     mut changes: Vec<Option<NumberedBodies>>,
@@ -176,14 +248,7 @@ fn settle(
         let at = changes.len();
         if let Some(content) = change {
             let version = versions[at];
-            fill(slots, tables[at].key, KeyVersion { version, content });
+            fill(slots, tables[at].key, LastVersion { version, content });
         }
     }
 }
-
-/// What versions tell of contents: next to each other in what a key carries, equal versions have equal
-/// contents, and between two contents that differ under one version stands one with another version.
-pub fn versions_tell_contents()
-    ensures neighbours { NeighboursAgree }
-    ensures between { AnotherBetween }
-{}

@@ -1,16 +1,14 @@
-// What a version book holds.
-ghost use Rattle.std.specs.Prelude.{◌<◌};
-
+// Keys with what they were last given.
 use section_codec::{Key, NumberedBodies};
-use std::collections::BTreeMap;
+use si_base::Items;
 
-// The version and the content that a key was last given.
+/// A key with the version_number, below 32, and the content that it was last given (ISO/IEC 13818-1, 2.4.4.5).
 #[derive(Drop)]
 pub struct KeyVersion {
+    pub key: Key,
     pub version: u8,
-    pub content: NumberedBodies,
-    ghost in_range: { version < 32 },
+    pub sections: NumberedBodies,
 }
 
-// A slot for each key, which is empty until the key is first given a version.
-pub type KeyVersions = BTreeMap<Key, Option<KeyVersion>>;
+/// Keys with what they were last given.
+pub type KeyVersions = Items<KeyVersion>;

@@ -5,7 +5,7 @@ use Rattle.section_codec.specs.declared.table.SubTable.{SubTable}
 use Rattle.version_book.specs.Airings.{carried}
 use Rattle.version_book.specs.Book.{GivenVersions, given_in, kept_after}
 use Rattle.version_book.specs.Slots.{kept_by, kept_at, version_given, given_after}
-use Rattle.version_book.specs.declared.key_version.KeyVersion.{KeyVersion}
+use Rattle.version_book.specs.declared.last_version.LastVersion.{LastVersion}
 use Rattle.version_book.proofs.SlotFacts.{kept_in-shown}
 use Rattle.version_book.proofs.Airs.{versions-airing, given_after-airing, kept_after-airing}
 use Rattle.version_book.proofs.book.VersionBook.assign.Goals as goal
@@ -31,7 +31,7 @@ returns-clause-stands c = λ past moment form stands k.
     let ts = c.args.tables.now.list in
     let planned = c.planned.new.slots in
     let then : (q : Key) → kept_at planned q ≡ kept_after (carried q past) =
-    λ q. ap (λ (o : Option KeyVersion). option_map kept_by o) (c.in_ok-versions.ensures.held q) ∙ before q in
+    λ q. ap (λ (o : Option LastVersion). option_map kept_by o) (c.in_ok-versions.ensures.held q) ∙ before q in
     kept_in-shown k c.settle.new.slots.entries c.settle.ensures.ordered
     ∙ c.settle.ensures.kept k
     ∙ ap (λ (xs : List SubTable). given_after (kept_at planned) xs k) c.as_slice-tables.ensures
