@@ -1,9 +1,12 @@
 -- What a player stands for: the airings whose cycles it has sent, and how far it has come in the last.
 use Rattle.std.specs.Prelude.{◌≡◌, ℕ, List, [], ◌∷◌, ◌++◌, map, flat_map, Option}
 use Rattle.version_book.specs.Airings.{CycleForm, AiredTables}
-use Rattle.version_book.specs.Book.{GivenVersions, BookStandsFor}
+use Rattle.version_book.specs.Book.{GivenVersions, BookStandsFor, given_entries}
+use Rattle.version_book.specs.declared.key_version.KeyVersion.{KeyVersion}
 use Rattle.ts_packets.specs.Bytes.{Packet, bytes_of_packet}
 use Rattle.ts_packets.specs.Counting.{StandFor}
+use Rattle.ts_packets.specs.PidCounters.{AreCountersOf}
+use Rattle.ts_packets.specs.declared.pid_counter.PidCounter.{PidCounter}
 use Rattle.air_model.specs.Air.{Aired, air, airings_of, IsAirOf}
 use Rattle.air_model.specs.Making.{counted, cycle_dense}
 use Rattle.si_causes.specs.Causes.{AppendsFront}
@@ -30,6 +33,13 @@ pub record AtEnd (xs : List Aired) (player : Playing) : Type 0 where
   pub is_air : IsAirOf (airings_of xs) xs
   pub sent : HasSent xs (air xs) player
   pub none : player.left ≡ []
+
+-- These are what a player that has handed out the air of xs keeps: of each key the version and the content that it was
+-- last given, and of each PID that had a packet its counter.
+pub record AreKeptOf (xs : List Aired) (keys : List KeyVersion) (pids : List PidCounter) : Type 0 where
+  pub is_air : IsAirOf (airings_of xs) xs
+  pub versions : BookStandsFor (airings_of xs) (given_entries keys)
+  pub counters : AreCountersOf (map bytes_of_packet (air xs)) pids
 
 -- It has handed out the air of xs, and of the cycle of x, which goes on with that air, all but these packets.
 pub record Within (xs : List Aired) (x : Aired) (rest : List Packet) (player : Playing) : Type 0 where

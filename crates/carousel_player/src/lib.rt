@@ -3,6 +3,7 @@
 //!
 //! A layer above relies on this contract: a player stands for the air that it has handed out; `swap` begins the cycle
 //! of one airing more and names its packets, `next_packet` gives its next packet, and `play_cycle` appends the rest of it to the sink.
+//! At its end `kept` gives what it goes on from, and `resume` makes a player of that.
 //! Sections are laid once for a cycle (`cycle_laying`) and sent in the order that `cycle_plan` gives, and neighbours of one PID share packets
 //! (`ts_packets::Packer`). So they are repeated within the bounds of `cycle_plan` (`made_airs_are_spaced`).
 #![tactic(auto)]

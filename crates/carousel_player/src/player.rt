@@ -1,12 +1,14 @@
 // The player.
-ghost use Rattle.std.specs.Prelude.{◌≡◌, ◌≤◌, ◌<◌, ◌*◌, ◌↔◌, ◌++◌, [], ◌∷◌, List, ℕ, Some, IsTrue, IsNone, IfNone, IsOk, OnOk, OnErr, flat_map};
+ghost use Rattle.std.specs.Prelude.{◌≡◌, ◌≤◌, ◌<◌, ◌*◌, ◌↔◌, ◌++◌, [], ◌∷◌, List, ℕ, Some, None, All, IsTrue, IsNone, IfNone, IsOk, IfOk, OnOk, OnErr, flat_map, slice_index_or};
 ghost use Rattle.std.specs.Io.KnownBytes.{Appends};
 ghost use Rattle.si_causes.specs.Causes.{HasCause};
 ghost use Rattle.ts_packets.specs.Bytes.{Packet, bytes_of_packet};
-ghost use Rattle.version_book.specs.Book.{aired};
+ghost use Rattle.ts_packets.specs.PidCounters.{IsPidCounter, ArePidCountersOf, counter_in};
+ghost use Rattle.section_codec.specs.declared.table.Key.{Key};
+ghost use Rattle.version_book.specs.Book.{AreKeyVersionsOf, aired, given_in, given_entries};
 ghost use Rattle.air_model.specs.Air.{Aired};
 ghost use Rattle.section_codec.specs.SubTables.{AreFit};
-ghost use Rattle.carousel_player.specs.Playing.{AtEnd, Within, Begins, GaveUp, form_of};
+ghost use Rattle.carousel_player.specs.Playing.{AtEnd, AreKeptOf, Within, Begins, GaveUp, form_of};
 
 use crate::cycle::Cycle;
 use crate::sending::{BATCH, fill};
@@ -15,8 +17,8 @@ use si_causes::{Failed, Sink, write_all};
 use si_time::Moment;
 use std::alloc::{AllocError, Global};
 use std::marker::Model;
-use ts_packets::{Counters, TsPacket};
-use version_book::VersionBook;
+use ts_packets::{Counters, PidCounter, PidCounters, TsPacket};
+use version_book::{KeyVersions, VersionBook};
 
 /// A player of cycles. It stands for the air that it has handed out: the cycles of all airings swapped to, the last one
 /// as far as it has come. Versions and continuity counters go on over all cycles.
@@ -53,6 +55,50 @@ impl Player {
             buffer: [0; BATCH],
             quota,
         }
+    }
+
+    /// A player at its end that goes on from these versions, each below 32, and counters, each below 16 and of a PID below
+    /// 8,192: it stands for each air of which they are what is kept. A PID whose counter is 0 had 16, 32, .. packets, and
+    /// one that is not named had none (ISO/IEC 13818-1, 2.4.3.3 and 2.4.4.5). The quota is as for `open`. AllocError comes
+    /// where memory is wanting.
+    pub fn resume(
+        alloc: Global,
+        quota: u32,
+        kept: KeyVersions,
+        counters: &[PidCounter],
+    ) -> Result<Player, AllocError>
+        requires some { 1 ≤ quota }
+        requires most { quota ≤ 10000 }
+        requires small { All (λ k. k.version < 32) kept }
+        requires counters { All IsPidCounter counters.now }
+        ensures stands { IfOk result (λ player. (xs : List Aired) → AreKeptOf xs kept counters.now → AtEnd xs player) }
+        ensures keeps { IfOk result (λ player. (k : Key) → given_in k player.book ≡ given_in k (given_entries kept)) }
+        ensures named { IfOk result (λ player. (pid : ℕ) → pid < 8192
+            → slice_index_or player.counters pid None ≡ counter_in pid counters.now) }
+        ensures ended { IfOk result (λ player. player.left ≡ []) }
+        ensures quota { IfOk result (λ player. player.quota ≡ quota) }
+    {
+        Ok(Player {
+            book: VersionBook::of(alloc, kept)?,
+            counters: Counters::of(counters),
+            cycle: Cycle::ended(alloc),
+            buffer: [0; BATCH],
+            quota,
+        })
+    }
+
+    /// What a player at its end goes on from (`resume`): each key that an airing carried, with its last version and content,
+    /// and each PID that had a packet, with its counter, both in ascending order. What was handed in counts as carried and
+    /// as sent. AllocError comes where memory is wanting.
+    pub fn kept(&self) -> Result<(KeyVersions, PidCounters), AllocError>
+        requires { self.now.left ≡ [] }
+        ensures versions { IfOk result (λ kept. AreKeyVersionsOf self.now.book kept.0) }
+        ensures counters { IfOk result (λ kept. ArePidCountersOf self.now.counters kept.1) }
+        ensures are { IfOk result (λ kept. (xs : List Aired) → AtEnd xs self.now → AreKeptOf xs kept.0 kept.1) }
+    {
+        let versions = self.book.kept()?;
+        let counters = self.counters.kept(versions.allocator())?;
+        Ok((versions, counters))
     }
 
     /// Begins the cycle of one airing more: of these sub-tables, of the publication with this number, at the moment of
@@ -107,6 +153,7 @@ impl Player {
         ensures failed { (xs : List Aired) (x : Aired) (rest : List Packet) → Within xs x rest self.old
             → OnErr result (GaveUp xs x rest (A.written sink.old) (A.written sink.new) self.new) }
         ensures idle { self.old.left ≡ [] → IsOk result × (self.new ≡ self.old) × (sink.new ≡ sink.old) }
+        ensures ended { OnOk result (self.new.left ≡ []) }
         ensures cause { HasCause (A.faults sink.old) (A.faults sink.new) result }
         ensures same { A.same sink.old sink.new }
         ensures quota { self.new.quota ≡ self.old.quota }
