@@ -5,6 +5,7 @@
 //! and not from this program.
 #![tactic(auto)]
 
+mod counters;
 mod plans;
 mod playing;
 mod versions;
@@ -17,10 +18,14 @@ use std::io;
 fn answer(row: &mut Row) {
     match row.word() {
         "assign" => versions::assign(row),
+        "assign_on" => versions::assign_on(row),
         "plan" => plans::order(row),
         "spacing" => plans::spacing(row),
         "play" => playing::play(row),
+        "play_on" => playing::play_on(row),
+        "keep" => playing::keep(row),
         "play_into" => playing::play_into(row),
+        "counters" => counters::keep(row),
         _ => row.refuse(),
     }
 }

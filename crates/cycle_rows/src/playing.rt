@@ -1,7 +1,8 @@
 // Cycles that are played.
-ghost use Rattle.std.specs.Prelude.{◌≤◌, length, IfOk};
+ghost use Rattle.std.specs.Prelude.{◌≡◌, ◌≤◌, [], length, IfOk};
 ghost use Rattle.section_codec.specs.SubTables.{AreFit};
 
+use crate::counters::put_counters;
 use carousel_player::Player;
 use row_lines::{MOST, Row};
 use section_codec::{Key, NumberedBody, SubTable, Tables, Tier3};
@@ -9,6 +10,10 @@ use si_base::Items;
 use si_causes::MemSink;
 use si_time::Moment;
 use std::alloc::{AllocError, Global};
+use version_book::KeyVersion;
+
+// The player's quota, in packets.
+const QUOTA: u32 = 200;
 
 // 1993-10-13T12:45:00Z.
 const MOMENT: Moment = Moment(4_257_233_100);
@@ -16,17 +21,99 @@ const MOMENT: Moment = Moment(4_257_233_100);
 /// `play BODY / BODY ..`: the packets of the cycles of an SDT of one section, with one body after the other, each aired at 12:45:00 on
 /// 13 October 1993.
 pub fn play(row: &mut Row) {
-    let mut player = Player::open(row.alloc(), 200);
-    play_all(row, &mut player);
+    let mut player = Player::open(row.alloc(), QUOTA);
+    play_all(row, &mut player, None);
 }
 
-fn play_all(row: &mut Row, player: &mut Player) {
-    for _ in 0..MOST {
+/// `play_on COUNT | BODY / BODY ..`: the same, where behind so many airings a player goes on that was made of what the
+/// first one keeps.
+pub fn play_on(row: &mut Row) {
+    let count = row.number();
+    row.pass("|");
+    let mut player = Player::open(row.alloc(), QUOTA);
+    play_all(row, &mut player, Some(count));
+}
+
+fn play_all(row: &mut Row, player: &mut Player, cut: Option<u64>) {
+    for airing in 0..MOST {
+        if cut == Some(u64::from(airing)) {
+            go_on(row, player);
+        }
         let body = row.bytes();
         swap(row, player, &body);
         put_packets(row, player);
         if !row.goes_on() {
             break;
+        }
+    }
+}
+
+fn go_on(row: &mut Row, player: &mut Player) {
+    if !player.at_end() {
+        return row.refuse();
+    }
+    match resumed(row.alloc(), player) {
+        Ok(other) => *player = other,
+        Err(_) => row.lack_memory(),
+    }
+}
+
+fn resumed(alloc: Global, player: &Player) -> Result<Player, AllocError>
+    requires { player.now.left ≡ [] }
+{
+    let (versions, counters) = player.kept()?;
+    Player::resume(alloc, QUOTA, versions, counters.as_slice())
+}
+
+/// `keep BODY / BODY ..`: what the player keeps behind these cycles: of each key its PID, its table_id, its
+/// table_id_extension, the other two numbers, the version and the bodies of its sections; and of each PID that had a packet
+/// its counter.
+pub fn keep(row: &mut Row) {
+    let mut player = Player::open(row.alloc(), QUOTA);
+    for _ in 0..MOST {
+        let body = row.bytes();
+        swap(row, &mut player, &body);
+        pass_packets(&mut player);
+        if !row.goes_on() {
+            break;
+        }
+    }
+    put_kept(row, &player);
+}
+
+fn pass_packets(player: &mut Player) {
+    for _ in 0..MOST {
+        if player.next_packet().is_none() {
+            break;
+        }
+    }
+}
+
+fn put_kept(row: &mut Row, player: &Player) {
+    if !player.at_end() {
+        return row.refuse();
+    }
+    match player.kept() {
+        Ok((versions, counters)) => {
+            put_keys(row, versions.as_slice());
+            put_counters(row, counters.as_slice());
+        }
+        Err(_) => row.lack_memory(),
+    }
+}
+
+fn put_keys(row: &mut Row, versions: &[KeyVersion]) {
+    for kept in versions {
+        row.begin_part();
+        row.put_hex(" ", kept.key.pid);
+        row.put_byte(" ", kept.key.table);
+        row.put_hex(" ", kept.key.ext);
+        row.put_hex(" ", kept.key.stream);
+        row.put_hex(" ", kept.key.network);
+        row.put_number(" version ", u64::from(kept.version));
+        for section in kept.sections.as_slice() {
+            row.put(" |");
+            row.put_bytes(section.body.as_slice());
         }
     }
 }
@@ -59,7 +146,7 @@ fn put_packets(row: &mut Row, player: &mut Player) {
 pub fn play_into(row: &mut Row) {
     let size = (row.number() as usize).max(1);
     let fault = row.number();
-    let mut player = Player::open(row.alloc(), 200);
+    let mut player = Player::open(row.alloc(), QUOTA);
     take_first(row, &mut player);
     match sink(row.alloc(), size, fault) {
         Ok(mut sink) => put_played(row, &mut player, &mut sink),

@@ -12,11 +12,23 @@ use version_book::VersionBook;
 /// that of table 51.
 pub fn assign(row: &mut Row) {
     let mut book = VersionBook::open(row.alloc());
-    assign_all(row, &mut book);
+    assign_all(row, &mut book, None);
 }
 
-fn assign_all(row: &mut Row, book: &mut VersionBook) {
-    for _ in 0..MOST {
+/// `assign_on COUNT | AIRING / AIRING ..`: the same, where behind so many airings a book goes on that was made of what the
+/// first one keeps.
+pub fn assign_on(row: &mut Row) {
+    let count = row.number();
+    row.pass("|");
+    let mut book = VersionBook::open(row.alloc());
+    assign_all(row, &mut book, Some(count));
+}
+
+fn assign_all(row: &mut Row, book: &mut VersionBook, cut: Option<u64>) {
+    for airing in 0..MOST {
+        if cut == Some(u64::from(airing)) {
+            go_on(row, book);
+        }
         let bytes = row.bytes();
         row.begin_part();
         match versions(row.alloc(), book, &bytes) {
@@ -27,6 +39,17 @@ fn assign_all(row: &mut Row, book: &mut VersionBook) {
             break;
         }
     }
+}
+
+fn go_on(row: &mut Row, book: &mut VersionBook) {
+    match resumed(row.alloc(), book) {
+        Ok(other) => *book = other,
+        Err(_) => row.lack_memory(),
+    }
+}
+
+fn resumed(alloc: Global, book: &VersionBook) -> Result<VersionBook, AllocError> {
+    VersionBook::of(alloc, book.kept()?)
 }
 
 fn put_versions(row: &mut Row, versions: &[u8]) {
