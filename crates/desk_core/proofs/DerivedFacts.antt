@@ -33,7 +33,7 @@ use Rattle.desk_core.proofs.JournalFacts.{publishes-push, accepted-push, publica
 abbrev pub edited : ℕ → ℕ → Edit → Reply → Entry
 edited who feed e reply = record { who = who; step = edit feed e; outcome = Edited reply }
 
-now_accepted : (entries : List Entry) (who feed : ℕ) (e : Edit) (reply : Reply) → accepted (entries ++ edited who feed e reply ∷ []) ≡ cond (is_done reply) (accepted entries ++ e ∷ []) (accepted entries)
+pub now_accepted : (entries : List Entry) (who feed : ℕ) (e : Edit) (reply : Reply) → accepted (entries ++ edited who feed e reply ∷ []) ≡ cond (is_done reply) (accepted entries ++ e ∷ []) (accepted entries)
 now_accepted entries who feed e reply = accepted-push entries (edited who feed e reply) ∙ (elim (cases_Bool (is_done reply)) [
   | inl h ↦ rw h refl
   | inr h ↦ rw h (append-nil (accepted entries))
@@ -131,7 +131,7 @@ abbrev pub ticked_entry : ℕ → Moment → Outcome → Entry
 ticked_entry who at outcome = record { who = who; step = Tick at; outcome = outcome }
 
 -- the moment after a tick at this moment, by what it is answered
-now_ticked : (mux : Mux) (entries : List Entry) (who : ℕ) (at : Moment)
+pub now_ticked : (mux : Mux) (entries : List Entry) (who : ℕ) (at : Moment)
     → moment_of mux (entries ++ ticked_entry who at (ticked (moment_of mux entries) at) ∷ []) ≡ later_of (moment_of mux entries) at
 now_ticked mux entries who at = elim (cases_Bool (nat_lt at.0 (moment_of mux entries).0)) [
   | inl late ↦ rw late (moment-other mux entries (ticked_entry who at (Late (moment_of mux entries))) refl)
