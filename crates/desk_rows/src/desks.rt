@@ -1,8 +1,8 @@
-// What a desk answers to the steps of a script, and what is on air behind them.
+// What a desk answers to the steps of a script, and what it has behind them.
 ghost use Rattle.journal_model.specs.Steps.{IsStepWithin};
 ghost use Rattle.mux_model.specs.Sound.{IsSound};
 
-use crate::events::put_service;
+use crate::events::{put_guide, put_service};
 use crate::words::{put_last, put_outcome};
 use desk_core::{Airing, Desk};
 use journal_model::{Outcome, Step};
@@ -98,11 +98,18 @@ fn put_latest(desk: &Desk, out: &mut String) -> Result<(), AllocError> {
     put_airing(out, &airing)
 }
 
+fn put_draft(desk: &Desk, out: &mut String) -> Result<(), AllocError> {
+    let guide = desk.draft()?;
+    put_guide(out, &guide)
+}
+
 fn put_state(desk: &Desk, out: &mut String) -> Result<(), AllocError> {
     out.push_str("on air ")?;
     put_on_air(desk, out)?;
     out.push_str("; latest ")?;
     put_latest(desk, out)?;
+    out.push_str("; draft: ")?;
+    put_draft(desk, out)?;
     put_now(out, desk.now())
 }
 
@@ -120,7 +127,7 @@ fn tell_desk(
     put_state(desk, out)
 }
 
-/// Appends the outcomes of the steps of a script, and then what is on air and what is latest.
+/// Appends the outcomes of the steps of a script, and then what is on air, what is latest and what a publish would freeze.
 pub fn tell(alloc: Global, lines: &mut Lines, out: &mut String) -> Result<(), AllocError> {
     match opened(alloc)? {
         Some(mut desk) => tell_desk(alloc, lines, &mut desk, out),
