@@ -1,0 +1,42 @@
+-- Two journals that go on alike, but for the numbers of their publications.
+use Rattle.std.specs.Prelude.{◌≡◌, ℕ, ◌+◌, Bool, true, false, List, map}
+use Rattle.mux_model.specs.declared.mux.Mux.{Mux}
+use Rattle.guide_limits.specs.Guides.{book_after}
+use Rattle.feed_book.specs.Accepted.{is_done}
+use Rattle.journal_model.specs.declared.step.Outcome.{Outcome}
+use Rattle.journal_model.specs.declared.step.Outcome.TheVariants.{Edited, Ticked, Late, Published, Swapped}
+use Rattle.journal_model.specs.declared.step.Entry.{Entry}
+use Rattle.desk_core.specs.Journal.{accepted, publishes, moment_of}
+use Rattle.desk_core.specs.Publications.{publication}
+
+-- an edit was done, a tick taken, or a publication made
+abbrev pub is_taken : Outcome → Bool
+is_taken (Edited reply) = is_done reply
+is_taken Ticked = true
+is_taken (Late now) = false
+is_taken (Published n) = true
+is_taken (Swapped n at) = false
+
+-- the outcome with the number of its publication raised by the shift
+abbrev pub raised : ℕ → Outcome → Outcome
+raised shift (Edited reply) = Edited reply
+raised shift Ticked = Ticked
+raised shift (Late now) = Late now
+raised shift (Published n) = Published (shift + n)
+raised shift (Swapped n at) = Swapped (shift + n) at
+
+-- the entry with its outcome raised
+abbrev pub raised_entry : ℕ → Entry → Entry
+raised_entry shift entry = record { who = entry.who; step = entry.step; outcome = raised shift entry.outcome }
+
+-- each entry raised
+abbrev pub all_raised : ℕ → List Entry → List Entry
+all_raised shift entries = map (raised_entry shift) entries
+
+-- What a desk has behind the one journal and behind the other is equal: the book, the moment and the latest publication. The
+-- first journal has more publications, by the shift.
+pub record GoOnAlike (mux : Mux) (shift : ℕ) (journal short : List Entry) : Type 0 where
+  pub book : book_after mux.services (accepted journal) ≡ book_after mux.services (accepted short)
+  pub moment : moment_of mux journal ≡ moment_of mux short
+  pub count : publishes journal ≡ shift + publishes short
+  pub latest : publication mux journal (publishes journal) ≡ publication mux short (publishes short)
