@@ -21,5 +21,5 @@ pub use input_lines::EditStop;
 pub use journal_model::{DayItems, DayText, Edit, Item, Length, RawRating, Stamp};
 pub use kept_outcome::read_outcome;
 pub use laws::{edits_go_on, edits_read_back, items_go_on, read_edits_are_typed};
-pub use script::{ScriptItem, next_item};
+pub use script::{ScriptItem, next_item, read_command};
 pub use words::field_word;

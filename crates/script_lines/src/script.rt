@@ -106,8 +106,12 @@ fn command_from<S: Source>(
     }
 }
 
-// The command of line `at`.
-fn read_command<S: Source>(
+/// The command of line `at`, which has these fields, with its caller's number; without one the caller is 0. The items of a day are read
+/// from `lines`, as by [`read_edit`]. A desk takes each command that is read: a day has at most 2,000 items, and a tick is at a moment that
+/// 16 bits of days can say.
+///
+/// `NoCommand` has `at`, or the number of the line that stands in place of an item; `Read` comes as from [`LineReader::next`].
+pub fn read_command<S: Source>(
     alloc: Global,
     at: u64,
     fields: &LineFields,
