@@ -43,7 +43,7 @@ impl Hall {
         'edits: loop {
             match next_edit(alloc, lines) {
                 Ok(Some(edit)) => {
-                    place += 1;
+                    place = place.saturating_add(1);
                     gate.pass(Place::BeforeEdit(feed, place));
                     match self.edit(rt, pass, feed, edit) {
                         Ok(_) => gate.pass(Place::AfterEdit(feed, place)),

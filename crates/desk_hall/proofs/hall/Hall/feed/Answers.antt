@@ -12,7 +12,6 @@ pub edits-init : goal.edits-init
 edits-init g c = record {
   going = going_none g.F.Source.left first_edit edits_ahead edits_on (edit_step c.args.feed) c.args.lines.now c.args.pass.now;
   turns = refl;
-  count = omega arith;
   later = omega arith;
   same = g.met.F.Source.same_at_once c.args.lines.now.source;
 }
@@ -31,7 +30,6 @@ edits-preserved g c =
     record {
       going = going_more g.F.Source.left first_edit edits_ahead edits_on (edit_step c.args.feed) c.args.lines.now c.edits.lines c.next_edit.new.lines c.args.pass.now c.edits.pass c.edit.new.pass c.in-Ok-Some.edit _ i.going went (e.reads.gives went) (e.reads.takes went) c.in-Ok.ensures.made;
       turns = ap (λ (v : View). v.turns) c.in-Ok.ensures.made.gained ∙ i.turns;
-      count = omega (arith, i.count, e.reads.falls);
       later = omega (arith, i.later, e.reads.later);
       same = g.met.F.Source.same_later c.args.lines.now.source c.edits.lines.source c.next_edit.new.lines.source i.same e.reads.same;
     }

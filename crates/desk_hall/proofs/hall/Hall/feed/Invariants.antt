@@ -1,4 +1,4 @@
-use Rattle.std.proofs.Common.{◌≡◌, ◌≤◌, ◌+◌}
+use Rattle.std.proofs.Common.{◌≡◌, ◌≤◌}
 use Rattle.si_causes.specs.Reading.{room}
 use Rattle.script_lines.specs.Edits.{first_edit, edits_ahead}
 use Rattle.desk_hall.specs.Reads.{edit_step}
@@ -10,7 +10,6 @@ abbrev pub invariant-edits : goal.invariant-edits
 invariant-edits g l = record {
   going : Going g.F.Source.left first_edit edits_ahead edits_on (edit_step l.feed) l.fn.lines l.lines l.fn.pass l.pass;
   turns : l.pass.turns ≡ l.fn.pass.turns;
-  count : l.place + room l.lines ≤ room l.fn.lines;
   later : g.F.Source.faults l.fn.lines.source ≤ g.F.Source.faults l.lines.source;
   same : g.F.Source.same l.fn.lines.source l.lines.source;
 }
