@@ -1,0 +1,73 @@
+-- A checkpoint reads back from its text.
+use Rattle.std.proofs.Common.{◌≡◌, ◌==◌, ◌∙◌, ◌≤◌, ◌+◌, ◌-◌, ◌++◌, ◌∷◌, [], ℕ, List, true, None, refl, ap, arith, map, append_assoc, inl, inr}
+use Rattle.std.specs.Prelude.{codes, flat_map, if◌then◌else◌}
+use Rattle.std.proofs.lemmas.Bool.{cases_Bool}
+use Rattle.std.proofs.lemmas.Bool.Decides.{nat_tests}
+use Rattle.version_book.specs.Book.{GivenVersions}
+use Rattle.ts_packets.specs.declared.pid_counter.PidCounter.{PidCounter}
+use Rattle.mux_model.specs.declared.mux.Mux.{Mux}
+use Rattle.journal_model.specs.declared.step.Entry.{Entry}
+use Rattle.desk_core.specs.Journal.{publishes}
+use Rattle.desk_core.specs.Desks.{DeskState}
+use Rattle.command_text.specs.Lines.{line_text}
+use Rattle.command_text.specs.Back.{ahead_of}
+use Rattle.checkpoint_laws.specs.Steps.{checkpoint_steps, folded}
+use Rattle.checkpoint_laws.proofs.FoldFacts.{goes_on, steps_taken}
+use Rattle.desk_checkpoint.specs.Fields.{count_fields}
+use Rattle.desk_checkpoint.specs.Reads.{behind_count, checkpoint_in}
+use Rattle.desk_checkpoint.specs.Text.{counter_text, key_text, steps_text}
+use Rattle.desk_checkpoint.specs.Laws.{CanBeFolded, CheckpointsReadBack}
+use Rattle.desk_checkpoint.proofs.PartBack.{count_first}
+use Rattle.desk_checkpoint.proofs.PartsBack.{Ends, HasPublished, IsBehind, IsFromPid, counters_read, end_with, ends_behind, ends_here, given_back, kept_of, keys_read, so_far, stepped, steps_read}
+use Rattle.desk_checkpoint.proofs.StepsWritten.{steps_readable}
+
+-- the steps publish once, where there were publications
+published_once : (n p : ℕ) → n ≡ n - 1 + p → (p == (if n == 0 then 0 else 1)) ≡ true
+published_once n p e = elim (cases_Bool (n == 0)) [
+  | inl none ↦ rw none (let z : n ≡ 0 = grind (arith, nat_tests) in let q : p ≡ 0 = omega (arith, e, z) in rw q refl)
+  | inr some ↦ rw some (let z : 1 ≤ n = grind (arith, nat_tests) in let q : p ≡ 1 = omega (arith, e, z) in rw q refl)
+]
+
+has_published : (mux : Mux) (journal : List Entry) → CanBeFolded mux journal → (let desk : DeskState = record { mux = mux; entries = folded mux journal } in HasPublished (publishes journal) desk)
+has_published mux journal can = published_once (publishes journal) (publishes (folded mux journal)) (goes_on mux journal can.sound can.legal).count
+
+first_behind : (keys : GivenVersions) → IsBehind None keys
+first_behind [] = tt
+first_behind (entry ∷ keys) = refl
+
+first_pid : (counters : List PidCounter) → IsFromPid 0 counters
+first_pid [] = tt
+first_pid (c ∷ cs) = omega arith
+
+-- the count's line, and what stands behind it
+regroup : (l s k c e rest : List ℕ) → l ++ s ++ k ++ c ++ e ++ rest ≡ l ++ (s ++ (k ++ (c ++ e)) ++ rest)
+regroup l s k c e rest =
+    ap (λ (t : List ℕ). t ++ rest) (append_assoc (l ++ s ++ k) c e ∙ append_assoc (l ++ s) k (c ++ e) ∙ append_assoc l s (k ++ (c ++ e)))
+    ∙ append_assoc l (s ++ (k ++ (c ++ e))) rest
+
+pub checkpoints_back : CheckpointsReadBack
+checkpoints_back mux journal keys counters can written counted behind tail =
+    let count = publishes journal in
+    let steps = checkpoint_steps mux journal in
+    let entries = folded mux journal in
+    let desk : DeskState = record { mux = mux; entries = entries } in
+    let has = has_published mux journal can in
+    let asked = steps_read mux count [] steps (steps_readable mux journal can) (steps_taken mux journal can.sound can.legal) in
+    let given = keys_read count desk [] [] None 0 keys has written.each written.ordered (first_behind keys) refl in
+    let kept = map kept_of keys in
+    let rest = counters_read count desk given.front kept given.current given.number [] 0 counters has counted.each counted.ascend (first_pid counters) given.is in
+    let cp = so_far count desk kept None rest.number counters rest.pid in
+    let last = so_far count desk rest.front rest.current rest.number counters rest.pid in
+    let middle = so_far count desk given.front given.current given.number [] 0 in
+    let three : Ends last (codes "end\n") cp = ends_here last cp (end_with count desk rest.front kept rest.current rest.number counters rest.pid has rest.is) in
+    let two = ends_behind middle last cp (flat_map counter_text counters) (codes "end\n") rest.reads three in
+    let one = ends_behind (stepped mux count entries) middle cp (flat_map key_text keys) (flat_map counter_text counters ++ codes "end\n") given.reads two in
+    let parts = flat_map key_text keys ++ (flat_map counter_text counters ++ codes "end\n") in
+    let all = ends_behind (stepped mux count []) (stepped mux count entries) cp (steps_text steps) parts asked one in
+    let text = steps_text steps ++ parts in (
+      cp,
+      ap (λ (l : List ℕ). checkpoint_in mux (ahead_of 1 l tail)) (regroup (line_text (count_fields count)) (steps_text steps) (flat_map key_text keys) (flat_map counter_text counters) (codes "end\n") behind)
+          ∙ ap (behind_count mux) (count_first 1 count (text ++ behind) tail can.few)
+          ∙ all (1 + 1) behind tail,
+      record { count = refl; desk = refl; keys_are = given_back keys; counters_are = refl },
+    )

@@ -1,0 +1,10 @@
+pub mod CountFacts
+pub mod ReadFacts
+pub mod RestFacts
+pub mod StepFacts
+pub mod TextFacts
+pub mod RowSizes
+pub mod PartBack
+pub mod PartsBack
+pub mod StepsWritten
+pub mod CheckpointBack

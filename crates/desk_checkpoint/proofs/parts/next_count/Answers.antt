@@ -1,0 +1,33 @@
+use Rattle.std.proofs.Common.{List, ℕ, refl, arith}
+use Rattle.std.specs.Prelude.{Option, option_and_then}
+use Rattle.input_lines.specs.declared.stop.EditStop.TheVariants.{NoCommand, Read}
+use Rattle.input_lines.specs.Fields.{record_of}
+use Rattle.input_lines.specs.Ahead.{Ahead, Row, first_row, missing_at, on_line}
+use Rattle.input_lines.proofs.LineReads.{line_read, line_missing, line_stopped, read_said, read_then, read_unread}
+use Rattle.desk_checkpoint.specs.Fields.{count_of}
+use Rattle.desk_checkpoint.proofs.parts.next_count.Goals as goal
+
+abbrev count_in_line : List ℕ → Option ℕ
+count_in_line line = option_and_then count_of (record_of line)
+
+pub returns-in-Ok-Some-clause-reads : goal.returns-in-Ok-Some-clause-reads
+returns-in-Ok-Some-clause-reads g c =
+    let line = c.line.result.now in
+    let e = rw c.in-Ok-Some.field-0-is at c.in-Ok-Some.ensures in
+    read_then g.S.Source.left g.S.Source.faults g.S.Source.same g.met.S.Source.same_at_once g.met.S.Source.same_later (first_row missing_at) (λ (row : Row) (behind : Ahead). on_line row.0 (count_in_line row.1) behind)
+    c.args.lines.now c.next_record_line.new.lines c.next_record_line.new.lines (c.in-Ok-Some.at, line) c.count_on.result
+    (line_read g.S.Source.left g.S.Source.faults g.S.Source.same g.met.S.Source.same_at_once g.met.S.Source.same_later missing_at c.args.lines.now c.next_record_line.new.lines c.in-Ok-Some.at line refl c.line.ensures e)
+    (read_said g.S.Source.left g.S.Source.faults g.S.Source.same g.met.S.Source.same_at_once g.met.S.Source.same_later c.in-Ok-Some.at (count_in_line line) c.next_record_line.new.lines c.count_on.result c.count_on.ensures.says)
+
+pub returns-in-Ok-None-clause-reads : goal.returns-in-Ok-None-clause-reads
+returns-in-Ok-None-clause-reads g c =
+    let e = rw c.in-Ok-None.field-0-is at c.in-Ok-None.ensures in
+    read_unread g.S.Source.left g.S.Source.faults g.S.Source.same g.met.S.Source.same_at_once g.met.S.Source.same_later (first_row missing_at) (λ (row : Row) (behind : Ahead). on_line row.0 (count_in_line row.1) behind)
+    c.args.lines.now c.next_record_line.new.lines (NoCommand _)
+    (line_missing g.S.Source.left g.S.Source.faults g.S.Source.same g.met.S.Source.same_at_once g.met.S.Source.same_later c.args.lines.now c.next_record_line.new.lines _ (omega (arith, c.number.ensures.value)) e)
+
+pub returns-in-Err-clause-reads : goal.returns-in-Err-clause-reads
+returns-in-Err-clause-reads g c =
+    read_unread g.S.Source.left g.S.Source.faults g.S.Source.same g.met.S.Source.same_at_once g.met.S.Source.same_later (first_row missing_at) (λ (row : Row) (behind : Ahead). on_line row.0 (count_in_line row.1) behind)
+    c.args.lines.now c.next_record_line.new.lines (Read c.in-Err.stop)
+    (line_stopped g.S.Source.left g.S.Source.faults g.S.Source.same g.met.S.Source.same_at_once g.met.S.Source.same_later missing_at c.args.lines.now c.next_record_line.new.lines c.in-Err.stop refl refl c.in-Err.ensures)

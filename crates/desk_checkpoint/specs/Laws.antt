@@ -1,0 +1,98 @@
+-- The law of checkpoints: what is written is read back.
+use Rattle.std.specs.Prelude.{◌≡◌, ◌≢◌, ◌<◌, ◌≤◌, ◌^◌, ◌++◌, ℕ, true, List, [], Ok, length, map}
+use Rattle.std.specs.List.{AllByRecursion}
+use Rattle.std.specs.List.Sorted.{IsStrictlyIncreasing}
+use Rattle.si_text.specs.Decoding.{IsKept}
+use Rattle.section_codec.specs.declared.table.Key.{Key}
+use Rattle.section_codec.specs.declared.table.NumberedBody.{NumberedBody}
+use Rattle.section_codec.specs.Contents.{Ascend}
+use Rattle.version_book.specs.Book.{GivenVersion, GivenVersions, AreOrdered, given_entries}
+use Rattle.ts_packets.specs.declared.pid_counter.PidCounter.{PidCounter}
+use Rattle.mux_model.specs.declared.mux.Mux.{Mux}
+use Rattle.mux_model.specs.declared.mux.MuxService.{MuxService}
+use Rattle.mux_model.specs.Sound.{IsSound}
+use Rattle.journal_model.specs.declared.step.Entry.{Entry}
+use Rattle.journal_model.specs.Steps.{Command, IsStepWithin, IsTypedStep}
+use Rattle.desk_core.specs.Journal.{Legal, publishes}
+use Rattle.desk_core.specs.Desks.{DeskState}
+use Rattle.input_lines.specs.Ahead.{Tail}
+use Rattle.command_text.specs.Back.{IsReadableCommand, ahead_of}
+use Rattle.checkpoint_laws.specs.Steps.{checkpoint_steps, folded}
+use Rattle.desk_checkpoint.specs.Fields.{is_listed}
+use Rattle.desk_checkpoint.specs.Checkpoints.{Checkpoint}
+use Rattle.desk_checkpoint.specs.Reads.{checkpoint_in}
+use Rattle.desk_checkpoint.specs.Text.{checkpoint_text}
+
+-- ---- what is written
+
+-- the names of a service may be kept
+abbrev pub HasKeptNames : MuxService → Type 0
+HasKeptNames s = IsKept s.provider × IsKept s.name
+
+-- A journal that can be folded: a legal one of a sound multiplex whose names may be kept, with steps that a desk may be asked and that
+-- lines can give, and with fewer publications than 10^18.
+pub record CanBeFolded (mux : Mux) (journal : List Entry) : Type 0 where
+  pub sound : IsSound mux
+  pub named : AllByRecursion HasKeptNames mux.services
+  pub legal : Legal mux journal
+  pub within : AllByRecursion (λ (entry : Entry). IsStepWithin entry.step) journal
+  pub typed : AllByRecursion (λ (entry : Entry). IsTypedStep entry.step) journal
+  pub few : publishes journal < 10 ^ 18
+
+-- a section of a number of 8 bits, whose body has at most 4,084 bytes
+pub record IsSectionWritten (section : NumberedBody) : Type 0 where
+  pub number : section.number ≤ 255
+  pub bytes : AllByRecursion (λ b. b < 256) section.body
+  pub short : length section.body ≤ 4084
+
+-- A key with its last version and content: it stands in the table of PIDs and table_ids, its other numbers have 16 bits, the version has
+-- 5 bits (ISO/IEC 13818-1, 2.4.4.5), and there are sections, whose numbers ascend.
+pub record IsKeyWritten (entry : Key × GivenVersion) : Type 0 where
+  pub listed : is_listed entry.0 ≡ true
+  pub ext : entry.0.ext ≤ 65535
+  pub stream : entry.0.stream ≤ 65535
+  pub network : entry.0.network ≤ 65535
+  pub version : entry.1.version < 32
+  pub some : entry.1.content ≢ []
+  pub ascend : Ascend entry.1.content
+  pub sections : AllByRecursion IsSectionWritten entry.1.content
+
+-- such keys, in ascending order
+pub record AreKeysWritten (keys : GivenVersions) : Type 0 where
+  pub ordered : AreOrdered keys
+  pub each : AllByRecursion IsKeyWritten keys
+
+-- a counter of 4 bits of a PID that is not that of null packets (ISO/IEC 13818-1, 2.4.3.3)
+pub record IsCounterWritten (counter : PidCounter) : Type 0 where
+  pub pid : counter.pid ≤ 8190
+  pub next : counter.next < 16
+
+-- such counters, in ascending order of PIDs
+pub record AreCountersWritten (counters : List PidCounter) : Type 0 where
+  pub ascend : IsStrictlyIncreasing (map (λ (c : PidCounter). c.pid) counters)
+  pub each : AllByRecursion IsCounterWritten counters
+
+-- ---- what is read
+
+-- the checkpoint of a journal, with these keys and counters
+pub record IsCheckpointOf (mux : Mux) (journal : List Entry) (keys : GivenVersions) (counters : List PidCounter) (cp : Checkpoint) : Type 0 where
+  pub count : cp.count ≡ publishes journal
+  pub desk : (let d : DeskState = record { mux = mux; entries = folded mux journal } in cp.desk ≡ d)
+  pub keys_are : given_entries cp.keys ≡ keys
+  pub counters_are : cp.counters ≡ counters
+
+-- ---- laws
+
+-- The steps of the checkpoint of such a journal are asked by caller 0, and read back from their text.
+abbrev pub StepsAreReadable : Type 0
+StepsAreReadable =
+    (mux : Mux) (journal : List Entry) → CanBeFolded mux journal
+    → AllByRecursion (λ (command : Command). (command.0 ≡ 0) × IsReadableCommand 0 command.1) (checkpoint_steps mux journal)
+
+-- The text of the checkpoint is read as the checkpoint, whatever stands behind its end.
+abbrev pub CheckpointsReadBack : Type 0
+CheckpointsReadBack =
+    (mux : Mux) (journal : List Entry) (keys : GivenVersions) (counters : List PidCounter)
+    → CanBeFolded mux journal → AreKeysWritten keys → AreCountersWritten counters → (behind : List ℕ) (tail : Tail)
+    → let text = checkpoint_text (publishes journal) (checkpoint_steps mux journal) keys counters in
+    (cp : Checkpoint) × (checkpoint_in mux (ahead_of 1 (text ++ behind) tail) ≡ Ok cp) × IsCheckpointOf mux journal keys counters cp

@@ -1,0 +1,11 @@
+pub mod Fields
+pub mod Parts
+pub mod Checkpoints
+pub mod Answers
+pub mod Readings
+pub mod Reads
+pub mod Starts
+pub mod Text
+pub mod Raising
+pub mod Laws
+mod Rows

@@ -1,0 +1,104 @@
+// The parts of a checkpoint on the lines of a reader.
+ghost use Rattle.std.specs.Prelude.{◌<◌, ◌^◌, IfOk, OnOk, option_and_then, option_map};
+ghost use Rattle.si_causes.specs.Reading.{room};
+ghost use Rattle.input_lines.specs.Fields.{record_of};
+ghost use Rattle.input_lines.specs.Reads.{ReadOf, Says};
+ghost use Rattle.desk_checkpoint.specs.Fields.{count_of, part_of};
+ghost use Rattle.desk_checkpoint.specs.Parts.{IsFitPart};
+ghost use Rattle.desk_checkpoint.specs.Reads.{count_line, first_part, part_on};
+
+use crate::part::{Part, begins_step, count_of, read_part};
+use input_lines::{EditStop, LineFields, fields, next_record_line};
+use script_lines::read_command;
+use si_causes::{LineReader, Source};
+use si_text::Txt;
+use std::alloc::Global;
+
+// The fields of line `at`.
+fn fields_on(alloc: Global, at: u64, line: &[u8]) -> Result<LineFields, EditStop>
+    ensures says { Says at (record_of line.now) result }
+{
+    match fields(alloc, line)? {
+        Some(fields) => Ok(fields),
+        None => Err(EditStop::NoCommand(at)),
+    }
+}
+
+// What line `at` says, which is no step.
+fn said_on(alloc: Global, at: u64, fields: &[Txt]) -> Result<(u64, Part), EditStop>
+    ensures says { Says at (option_map (λ part. (at, part)) (part_of fields.now)) result }
+    ensures fit { IfOk result (λ part. IsFitPart part.1) }
+{
+    match read_part(alloc, fields)? {
+        Some(part) => Ok((at, part)),
+        None => Err(EditStop::NoCommand(at)),
+    }
+}
+
+// The part of line `at`.
+fn part_on<S: Source>(
+    alloc: Global,
+    at: u64,
+    fields: &LineFields,
+    lines: &mut LineReader<S>,
+) -> Result<(u64, Part), EditStop>
+    ensures reads { ReadOf S.left S.faults S.same (part_on at fields.now) lines.old lines.new result }
+    ensures fit { IfOk result (λ part. IsFitPart part.1) }
+{
+    if !begins_step(fields.as_slice()) {
+        return said_on(alloc, at, fields.as_slice());
+    }
+    match read_command(alloc, at, fields, lines) {
+        Ok(command) => Ok((at, Part::Step(command.1))),
+        Err(stop) => Err(stop),
+    }
+}
+
+/// The next part, with the number of its line.
+pub(crate) fn next_part<S: Source>(
+    alloc: Global,
+    lines: &mut LineReader<S>,
+) -> Result<(u64, Part), EditStop>
+    ensures reads { ReadOf S.left S.faults S.same first_part lines.old lines.new result }
+    ensures falls { OnOk result (room lines.new < room lines.old) }
+    ensures fit { IfOk result (λ part. IsFitPart part.1) }
+{
+    let at = match next_record_line(lines) {
+        Ok(Some(at)) => at,
+        Ok(None) => return Err(EditStop::NoCommand(lines.number() + 1)),
+        Err(stop) => return Err(EditStop::Read(stop)),
+    };
+    match fields_on(alloc, at, lines.line()) {
+        Ok(fields) => part_on(alloc, at, &fields, lines),
+        Err(stop) => Err(stop),
+    }
+}
+
+// The count that line `at` says.
+fn count_on(alloc: Global, at: u64, line: &[u8]) -> Result<u64, EditStop>
+    ensures says { Says at (option_and_then count_of (record_of line.now)) result }
+    ensures most { IfOk result (λ count. count < 10 ^ 18) }
+{
+    let Some(fields) = fields(alloc, line)? else {
+        return Err(EditStop::NoCommand(at));
+    };
+    match count_of(fields.as_slice()) {
+        Some(count) => Ok(count),
+        None => Err(EditStop::NoCommand(at)),
+    }
+}
+
+/// The count of the line with which a checkpoint begins.
+pub(crate) fn next_count<S: Source>(
+    alloc: Global,
+    lines: &mut LineReader<S>,
+) -> Result<u64, EditStop>
+    ensures reads { ReadOf S.left S.faults S.same count_line lines.old lines.new result }
+    ensures most { IfOk result (λ count. count < 10 ^ 18) }
+{
+    match next_record_line(lines) {
+        Ok(Some(at)) => count_on(alloc, at, lines.line()),
+        Ok(None) => Err(EditStop::NoCommand(lines.number() + 1)),
+        Err(stop) => Err(EditStop::Read(stop)),
+    }
+}
