@@ -1,0 +1,59 @@
+// What the steps of a script leave.
+ghost use Rattle.std.specs.Prelude.{◌≡◌, ◌<◌, ◌≤◌, ◌^◌, []};
+ghost use Rattle.journal_model.specs.Steps.{IsStepWithin};
+ghost use Rattle.mux_model.specs.Sound.{IsSound};
+
+use crate::starts::put_text;
+use carousel_player::Player;
+use desk_checkpoint::write_checkpoint;
+use desk_core::Desk;
+use journal_model::Step;
+use mux_model::Mux;
+use row_lines::Lines;
+use script_lines::{ScriptItem, next_item};
+use std::alloc::{AllocError, Global};
+
+// Does a step; whether there may be more.
+fn step(desk: &mut Desk, who: u32, step: Step) -> Result<bool, AllocError>
+    requires { IsStepWithin step }
+{
+    desk.step(who, step)?;
+    Ok(true)
+}
+
+// Does the next step; whether there may be more.
+fn step_next(alloc: Global, lines: &mut Lines, desk: &mut Desk) -> Result<bool, AllocError> {
+    match next_item(alloc, lines, false) {
+        Ok(ScriptItem::Step(who, asked)) => step(desk, who, asked),
+        _ => Ok(false),
+    }
+}
+
+// Does the steps of a script.
+fn steps(alloc: Global, lines: &mut Lines, desk: &mut Desk) -> Result<(), AllocError> {
+    for _ in 0..10_000 {
+        if !step_next(alloc, lines, desk)? {
+            break;
+        }
+    }
+    Ok(())
+}
+
+/// Appends the checkpoint of a desk that did the steps of a script, with this shift, and of a player that sent nothing.
+pub fn tell(
+    alloc: Global,
+    mux: Mux,
+    shift: u32,
+    lines: &mut Lines,
+    out: &mut String,
+) -> Result<(), AllocError>
+    requires { IsSound mux }
+{
+    let quota = mux.quota;
+    let mut desk = Desk::open(alloc, mux)?;
+    steps(alloc, lines, &mut desk)?;
+    let player = Player::open(alloc, quota);
+    let mut text = Vec::new(alloc);
+    write_checkpoint(alloc, &desk, u64::from(shift), &player, &mut text)?;
+    put_text(out, &text)
+}

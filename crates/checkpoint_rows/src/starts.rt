@@ -1,0 +1,43 @@
+// The multiplexes of rows, and the text of what a head-end goes on from.
+ghost use Rattle.mux_model.specs.Sound.{IsSound};
+ghost use Rattle.std.specs.Prelude.{IfOk, IfSome};
+
+use mux_config::read_mux;
+use mux_model::Mux;
+use row_lines::{WHOLE, reader};
+use std::alloc::{AllocError, Global};
+
+// Service 101 of feed 1.
+const ONE_SERVICE: &str = "network,40,Demo/stream,1,1/service,101,1,1,256,257,Acme,One/end/";
+
+// Service 5 of feed 2, and service 9 of feed 1, from 13 October 1993 at 12:45 on.
+const TWO_SERVICES: &str =
+    "network,40,Demo/stream,1,1/start,1993-10-13T12:45:00Z/service,9,1,1,100,100,P,Nine/service,5,2,1,101,100,P,Five/end/";
+
+/// The multiplex with so many services, one or two.
+pub fn mux_of(alloc: Global, services: u32) -> Result<Option<Mux>, AllocError>
+    ensures { IfOk result (λ found. IfSome found IsSound) }
+{
+    let text = if services == 1 {
+        ONE_SERVICE
+    } else {
+        TWO_SERVICES
+    };
+    let mut lines = reader(alloc, text, WHOLE)?;
+    match read_mux(alloc, &mut lines) {
+        Ok(mux) => Ok(Some(mux)),
+        Err(_) => Ok(None),
+    }
+}
+
+/// Appends a text with a slash for each LF.
+pub fn put_text(out: &mut String, text: &[u8]) -> Result<(), AllocError> {
+    let Ok(text) = str::from_utf8(text) else {
+        return out.push_str("no text");
+    };
+    for character in text.chars() {
+        let shown = if character == '\n' { '/' } else { character };
+        out.push(shown)?;
+    }
+    Ok(())
+}
