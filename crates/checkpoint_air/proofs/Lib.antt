@@ -1,0 +1,4 @@
+pub mod OwnEntries
+pub mod KeysKept
+pub mod PidsKept
+pub mod CheckpointsRead

@@ -1,0 +1,74 @@
+-- The law of the checkpoint of a journal and of its air.
+use Rattle.std.specs.Prelude.{◌≡◌, ◌<◌, ◌++◌, ℕ, List, Ok, map}
+use Rattle.std.specs.List.{All, AllByRecursion}
+use Rattle.std.specs.List.Sorted.{IsStrictlyIncreasing}
+use Rattle.section_codec.specs.declared.table.NumberedBody.{NumberedBody}
+use Rattle.version_book.specs.declared.key_version.KeyVersion.{KeyVersion}
+use Rattle.version_book.specs.Book.{BookStandsFor, AreOrdered, given_entries}
+use Rattle.ts_packets.specs.declared.pid_counter.PidCounter.{PidCounter}
+use Rattle.ts_packets.specs.Bytes.{bytes_of_packet}
+use Rattle.ts_packets.specs.PidCounters.{IsPidCounter, AreCountersOf}
+use Rattle.air_model.specs.Air.{Aired, air, airings_of, IsAirOf}
+use Rattle.carousel_player.specs.Playing.{AreKeptOf}
+use Rattle.mux_model.specs.declared.mux.Mux.{Mux}
+use Rattle.mux_model.specs.Sound.{IsSoundWithIds}
+use Rattle.journal_model.specs.declared.step.Entry.{Entry}
+use Rattle.desk_core.specs.Journal.{Legal, publishes}
+use Rattle.input_lines.specs.Ahead.{Tail}
+use Rattle.command_text.specs.Back.{ahead_of}
+use Rattle.journal_air.specs.Air.{airings}
+use Rattle.journal_air.specs.Laws.{HasTypedEdits}
+use Rattle.checkpoint_laws.specs.Steps.{checkpoint_steps}
+use Rattle.desk_checkpoint.specs.Checkpoints.{Checkpoint}
+use Rattle.desk_checkpoint.specs.Reads.{checkpoint_in}
+use Rattle.desk_checkpoint.specs.Text.{checkpoint_text}
+use Rattle.desk_checkpoint.specs.Laws.{CanBeFolded, AreKeysWritten, AreCountersWritten, IsCheckpointOf}
+
+-- ---- what is kept
+
+-- the bodies of a key's last content are bytes
+abbrev pub HasBytes : KeyVersion → Type 0
+HasBytes k = AllByRecursion (λ (s : NumberedBody). AllByRecursion (λ b. b < 256) s.body) k.sections
+
+-- counters in ascending order of their PIDs
+abbrev pub DoPidsAscend : List PidCounter → Type 0
+DoPidsAscend pids = IsStrictlyIncreasing (map (λ (c : PidCounter). c.pid) pids)
+
+-- What a player keeps that has handed out the air of xs, as it hands it over: both in ascending order, as wide as their fields.
+pub record AreHandedOver (xs : List Aired) (keys : List KeyVersion) (pids : List PidCounter) : Type 0 where
+  pub kept : AreKeptOf xs keys pids
+  pub ordered : AreOrdered (given_entries keys)
+  pub bytes : AllByRecursion HasBytes keys
+  pub ascend : DoPidsAscend pids
+  pub fit : All IsPidCounter pids
+
+-- ---- laws
+
+-- What is kept of the keys that the airings of a legal journal carried is such as the text of a checkpoint can say.
+abbrev pub KeysAreWritten : Type 0
+KeysAreWritten =
+    (mux : Mux) (journal : List Entry) (keys : List KeyVersion)
+    → IsSoundWithIds mux → HasTypedEdits journal → Legal mux journal
+    → BookStandsFor (airings mux journal) (given_entries keys)
+    → AreOrdered (given_entries keys) → AllByRecursion HasBytes keys
+    → AreKeysWritten (given_entries keys)
+
+-- So is what is kept of the PIDs of an air of these airings: none is that of null packets.
+abbrev pub CountersAreWritten : Type 0
+CountersAreWritten =
+    (mux : Mux) (journal : List Entry) (xs : List Aired) (pids : List PidCounter)
+    → IsSoundWithIds mux → HasTypedEdits journal → Legal mux journal
+    → IsAirOf (airings mux journal) xs → AreCountersOf (map bytes_of_packet (air xs)) pids
+    → DoPidsAscend pids → All IsPidCounter pids
+    → AreCountersWritten pids
+
+-- The text of the checkpoint of a journal, with what a player keeps that has handed out an air of its airings, is read as the
+-- checkpoint, whatever stands behind its end.
+abbrev pub CheckpointsAreRead : Type 0
+CheckpointsAreRead =
+    (mux : Mux) (journal : List Entry) (xs : List Aired) (keys : List KeyVersion) (pids : List PidCounter)
+    → IsSoundWithIds mux → CanBeFolded mux journal
+    → airings_of xs ≡ airings mux journal → AreHandedOver xs keys pids → (behind : List ℕ) (tail : Tail)
+    → let text = checkpoint_text (publishes journal) (checkpoint_steps mux journal) (given_entries keys) pids in
+    (cp : Checkpoint) × (checkpoint_in mux (ahead_of 1 (text ++ behind) tail) ≡ Ok cp)
+    × IsCheckpointOf mux journal (given_entries keys) pids cp
