@@ -15,7 +15,6 @@ use Rattle.journal_model.specs.declared.step.Entry.{Entry}
 use Rattle.journal_model.specs.Edits.{IsTypedEdit}
 use Rattle.journal_model.specs.Steps.{IsTypedStep}
 use Rattle.desk_core.specs.Journal.{accepted, accepted_by}
-use Rattle.journal_air.specs.Air.{airings}
 use Rattle.journal_air.specs.Laws.{HasTypedEdits}
 use Rattle.desk_checkpoint.proofs.CheckpointBack.{checkpoints_back}
 use Rattle.checkpoint_air.specs.Laws.{CheckpointsAreRead}
@@ -49,7 +48,7 @@ edits_typed (e ∷ es) all = go (accepted_by e.step e.outcome) (accepted_typed e
 -- ---- the checkpoint
 
 pub checkpoints_read : CheckpointsAreRead
-checkpoints_read mux journal xs keys pids sound can same handed behind tail =
+checkpoints_read mux journal xs keys pids behind tail sound can same handed =
     let typed = edits_typed journal can.typed in
     let stands = subst (λ (past : List AiredTables). BookStandsFor past (given_entries keys)) same handed.kept.versions in
     let is = subst (λ (past : List AiredTables). IsAirOf past xs) same handed.kept.is_air in

@@ -1,19 +1,18 @@
 -- What is kept of the PIDs of an air can be written: no packet has the PID of null packets.
-use Rattle.std.proofs.Common.{◌≡◌, ◌≢◌, Bool, true, false, ℕ, ◌<◌, ◌≤◌, ◌==◌, ◌⊎◌, inl, inr, List, [], ◌∷◌, ◌++◌, length, map, refl, sym, ap, ◌∙◌, subst, arith, eqb-true, eq-eqb}
-use Rattle.std.specs.Prelude.{if◌then◌else◌, Option, Some, None, filter_map}
+use Rattle.std.proofs.Common.{◌≡◌, ◌≢◌, Bool, true, false, ℕ, ◌<◌, ◌≤◌, ◌==◌, inl, inr, List, [], ◌∷◌, ◌++◌, length, map, refl, sym, ap, ◌∙◌, subst, arith, eqb-true, eq-eqb}
+use Rattle.std.specs.Prelude.{if◌then◌else◌, Some, None, filter_map}
 use Rattle.std.specs.List.{All, AllByRecursion, cons_option}
 use Rattle.std.proofs.lemmas.List.Elements.{All-contains, recursion_from_All}
 use Rattle.si_lists.proofs.Lists.{all_append, all_map}
 use Rattle.section_codec.specs.SubTables.{IsFit}
-use Rattle.section_codec.specs.declared.table.SubTable.{SubTable}
 use Rattle.version_book.specs.Airings.{AiredTables}
 use Rattle.ts_packets.specs.declared.pid_counter.PidCounter.{PidCounter}
 use Rattle.ts_packets.specs.Packets.{Piece, Carries, all_of, HaveSectionBytes, pieces}
 use Rattle.ts_packets.specs.Bytes.{Packet, bytes_of_packet}
-use Rattle.ts_packets.specs.Counting.{Load, loads_on, of_pid, count_on, next_after}
-use Rattle.ts_packets.specs.PidCounters.{IsPidCounter, counter_in, AreCountersOf}
+use Rattle.ts_packets.specs.Counting.{loads_on, of_pid, count_on, next_after}
+use Rattle.ts_packets.specs.PidCounters.{IsPidCounter, counter_in}
 use Rattle.ts_packets.proofs.Stamps.{count_on-written}
-use Rattle.air_model.specs.Air.{Sent, Aired, tdt, sent_on, cycle_sections, air, IsAirOf, CanBeSent}
+use Rattle.air_model.specs.Air.{Sent, Aired, sent_on, cycle_sections, air, IsAirOf, CanBeSent}
 use Rattle.air_model.specs.Repeating.{IsSentOf}
 use Rattle.air_model.proofs.Repeating.{cycle_is_sent}
 use Rattle.air_hearing.specs.Sending.{sections_sent}

@@ -66,9 +66,11 @@ CountersAreWritten =
 -- checkpoint, whatever stands behind its end.
 abbrev pub CheckpointsAreRead : Type 0
 CheckpointsAreRead =
-    (mux : Mux) (journal : List Entry) (xs : List Aired) (keys : List KeyVersion) (pids : List PidCounter)
+    (mux : Mux) (journal : List Entry) (xs : List Aired)
+    (keys : List KeyVersion) (pids : List PidCounter) (behind : List ℕ) (tail : Tail)
     → IsSoundWithIds mux → CanBeFolded mux journal
-    → airings_of xs ≡ airings mux journal → AreHandedOver xs keys pids → (behind : List ℕ) (tail : Tail)
-    → let text = checkpoint_text (publishes journal) (checkpoint_steps mux journal) (given_entries keys) pids in
+    → airings_of xs ≡ airings mux journal → AreHandedOver xs keys pids
+    → let entries = given_entries keys in
+    let text = checkpoint_text (publishes journal) (checkpoint_steps mux journal) entries pids in
     (cp : Checkpoint) × (checkpoint_in mux (ahead_of 1 (text ++ behind) tail) ≡ Ok cp)
-    × IsCheckpointOf mux journal (given_entries keys) pids cp
+    × IsCheckpointOf mux journal entries pids cp
