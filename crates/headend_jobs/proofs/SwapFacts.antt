@@ -26,7 +26,7 @@ use Rattle.desk_core.proofs.DerivedFacts.{not_aired}
 use Rattle.desk_core.proofs.JournalFacts.{publication-kept, aired-swap, legal_more}
 use Rattle.publication.specs.Tables.{tables_of}
 use Rattle.journal_air.specs.Air.{mux_form, airings, airings_by, airing_at}
-use Rattle.headend_jobs.specs.OnAir.{cycle_bytes, airing_on, HasSentAll, HasAired, IsOnAir, SentCycle, AiredTo, and_step, is_swap}
+use Rattle.headend_jobs.specs.OnAir.{cycle_bytes, airing_on, HasSentAll, HasAired, SentCycle, AiredTo, and_step, is_swap}
 use Rattle.headend_jobs.specs.declared.send.SendStop.{SendStop}
 use Rattle.headend_jobs.specs.declared.send.SendStop.TheVariants.{Air as OnFault, Memory}
 
@@ -118,15 +118,12 @@ other_airings : (desk : DeskState) (who : ℕ) (step : Step) → Legal desk.mux 
 other_airings desk who step legal h =
     sym (airings-other desk.mux desk.entries (record { who = who; step = step; outcome = outcome_of desk.mux desk.entries step }) legal (other_airs desk.mux desk.entries step h))
 
-other_sent : (desk : DeskState) (who : ℕ) (step : Step) (player : Playing) (xs : List Aired) → Legal desk.mux desk.entries → is_swap step ≡ false → HasSentAll desk player xs → HasSentAll (and_step desk who step) player xs
-other_sent desk who step player xs legal h sent =
+other_sent : (earlier : List Aired) (desk : DeskState) (who : ℕ) (step : Step) (player : Playing) (xs : List Aired) → Legal desk.mux desk.entries → is_swap step ≡ false → HasSentAll earlier desk player xs → HasSentAll earlier (and_step desk who step) player xs
+other_sent earlier desk who step player xs legal h sent =
     record { at_end = sent.at_end; airings_are = sent.airings_are ∙ other_airings desk who step legal h; made = sent.made; quota = sent.quota }
 
-pub other_on_air : (desk : DeskState) (who : ℕ) (step : Step) (player : Playing) → Legal desk.mux desk.entries → is_swap step ≡ false → IsOnAir desk player → IsOnAir (and_step desk who step) player
-other_on_air desk who step player legal h (xs, sent) = (xs, other_sent desk who step player xs legal h sent)
-
-pub other_aired : (desk : DeskState) (who : ℕ) (step : Step) (player : Playing) (before now : Option (List ℕ)) → Legal desk.mux desk.entries → is_swap step ≡ false → HasAired desk player before now → HasAired (and_step desk who step) player before now
-other_aired desk who step player before now legal h (xs, sent, bytes) = (xs, other_sent desk who step player xs legal h sent, bytes)
+pub other_aired : (earlier : List Aired) (desk : DeskState) (who : ℕ) (step : Step) (player : Playing) (before now : Option (List ℕ)) → Legal desk.mux desk.entries → is_swap step ≡ false → HasAired earlier desk player before now → HasAired earlier (and_step desk who step) player before now
+other_aired earlier desk who step player before now legal h (xs, sent, bytes) = (xs, other_sent earlier desk who step player xs legal h sent, bytes)
 
 pub airings_of-push : (xs : List Aired) (x : Aired) → airings_of (xs ++ x ∷ []) ≡ airings_of xs ++ x.airing ∷ []
 airings_of-push [] x = refl
@@ -154,28 +151,37 @@ swap_airings desk who step xs x legal h are e =
 own_form : (desk after : DeskState) (player : Playing) → player.quota ≡ desk.mux.quota → airing_on after (form_of player) ≡ airing_on after (mux_form desk.mux)
 own_form desk after player quota = ap (λ (q : ℕ). airing_on after (let form : CycleForm = record { quota = q } in form)) quota
 
+-- cycles behind earlier ones, part by part
+pub airings_of-append : (xs ys : List Aired) → airings_of (xs ++ ys) ≡ airings_of xs ++ airings_of ys
+airings_of-append [] ys = refl
+airings_of-append (x ∷ xs) ys = ap (λ l. x.airing ∷ l) (airings_of-append xs ys)
+
 -- one more cycle was sent
-swap_sent : (desk : DeskState) (who : ℕ) (step : Step) (old new : Playing) (xs : List Aired) (x : Aired) → Legal desk.mux desk.entries → is_swap step ≡ true → HasSentAll desk old xs → new.quota ≡ old.quota
-    → x.airing ≡ airing_on (and_step desk who step) (form_of old) → x.packets ≡ cycle_dense (airings_of xs) (air xs) (airing_on (and_step desk who step) (form_of old)) → AtEnd (xs ++ x ∷ []) new
-    → HasSentAll (and_step desk who step) new (xs ++ x ∷ [])
-swap_sent desk who step old new xs x legal h sent kept e made at_end = record {
-  at_end = at_end;
+swap_sent : (earlier : List Aired) (desk : DeskState) (who : ℕ) (step : Step) (old new : Playing) (xs : List Aired) (x : Aired) → Legal desk.mux desk.entries → is_swap step ≡ true → HasSentAll earlier desk old xs → new.quota ≡ old.quota
+    → x.airing ≡ airing_on (and_step desk who step) (form_of old) → x.packets ≡ cycle_dense (airings_of (earlier ++ xs)) (air (earlier ++ xs)) (airing_on (and_step desk who step) (form_of old)) → AtEnd ((earlier ++ xs) ++ x ∷ []) new
+    → HasSentAll earlier (and_step desk who step) new (xs ++ x ∷ [])
+swap_sent earlier desk who step old new xs x legal h sent kept e made at_end = record {
+  at_end = subst (λ (l : List Aired). AtEnd l new) (append_assoc earlier xs (x ∷ [])) at_end;
   airings_are = swap_airings desk who step xs x legal h sent.airings_are (e ∙ own_form desk (and_step desk who step) old sent.quota);
-  made = AreMade-push [] xs x sent.made (made ∙ ap (cycle_dense (airings_of xs) (air xs)) (sym e));
+  made = AreMade-push earlier xs x sent.made (made ∙ ap (cycle_dense (airings_of (earlier ++ xs)) (air (earlier ++ xs))) (sym e));
   quota = kept ∙ sent.quota;
 }
 
-pub swap_aired : (desk : DeskState) (who : ℕ) (step : Step) (old new : Playing) (before mid now : Option (List ℕ)) (r : Result (Unit {0}) SendStop) → Legal desk.mux desk.entries → is_swap step ≡ true → new.quota ≡ old.quota
-    → HasAired desk old before mid → ((xs : List Aired) → AtEnd xs old → SentCycle xs (airing_on (and_step desk who step) (form_of old)) new mid now r) → AiredTo (and_step desk who step) new before now r
-swap_aired desk who step old new before mid now (Ok u) legal h kept (xs, sent, bytes) sends =
-    let (x, e, made, ended, took) = sends xs sent.at_end in (
+pub swap_aired : (earlier : List Aired) (desk : DeskState) (who : ℕ) (step : Step) (old new : Playing) (before mid now : Option (List ℕ)) (r : Result (Unit {0}) SendStop) → Legal desk.mux desk.entries → is_swap step ≡ true → new.quota ≡ old.quota
+    → HasAired earlier desk old before mid → ((xs : List Aired) → AtEnd xs old → SentCycle xs (airing_on (and_step desk who step) (form_of old)) new mid now r) → AiredTo earlier (and_step desk who step) new before now r
+swap_aired earlier desk who step old new before mid now (Ok u) legal h kept (xs, sent, bytes) sends =
+    let (x, e, made, ended, took) = sends (earlier ++ xs) sent.at_end in (
       xs ++ x ∷ [],
-      swap_sent desk who step old new xs x legal h sent kept e made ended,
+      swap_sent earlier desk who step old new xs x legal h sent kept e made ended,
       subst (Appends before now) (sym (air_bytes-push xs x)) (Appends-trans before mid now (air_bytes xs) (cycle_bytes x) bytes took),
     )
-swap_aired desk who step old new before mid now (Err Memory) legal h kept has sends = tt
-swap_aired desk who step old new before mid now (Err OnFault) legal h kept (xs, sent, bytes) sends =
-    let (x, e, made, is_air, (n, proper, took)) = sends xs sent.at_end in
+swap_aired earlier desk who step old new before mid now (Err Memory) legal h kept has sends = tt
+swap_aired earlier desk who step old new before mid now (Err OnFault) legal h kept (xs, sent, bytes) sends =
+    let (x, e, made, is_air, (n, proper, took)) = sends (earlier ++ xs) sent.at_end in
+    let all : (earlier ++ xs) ++ x ∷ [] ≡ earlier ++ (xs ++ x ∷ []) = append_assoc earlier xs (x ∷ []) in
+    let are : airings_of (earlier ++ (xs ++ x ∷ [])) ≡ airings_of earlier ++ airings (and_step desk who step).mux (and_step desk who step).entries =
+    airings_of-append earlier (xs ++ x ∷ [])
+    ∙ ap (λ (l : List AiredTables). airings_of earlier ++ l) (swap_airings desk who step xs x legal h sent.airings_are (e ∙ own_form desk (and_step desk who step) old sent.quota)) in
     record {
       front = desk.entries;
       last = record { who = who; step = step; outcome = outcome_of desk.mux desk.entries step };
@@ -183,37 +189,22 @@ swap_aired desk who step old new before mid now (Err OnFault) legal h kept (xs, 
       is_swap = is_swap-Swap step h;
       whole = xs;
       cut = x;
-      is_air = subst (λ (l : List AiredTables). IsAirOf l (xs ++ x ∷ [])) (swap_airings desk who step xs x legal h sent.airings_are (e ∙ own_form desk (and_step desk who step) old sent.quota)) is_air;
-      made = AreMade-push [] xs x sent.made (made ∙ ap (cycle_dense (airings_of xs) (air xs)) (sym e));
+      is_air = subst (λ (l : List AiredTables). IsAirOf l (earlier ++ (xs ++ x ∷ []))) are (subst (λ (l : List Aired). IsAirOf (airings_of l) l) all is_air);
+      made = AreMade-push earlier xs x sent.made (made ∙ ap (cycle_dense (airings_of (earlier ++ xs)) (air (earlier ++ xs))) (sym e));
       taken = n;
       proper = proper;
       bytes = Appends-trans before mid now (air_bytes xs) (take n (cycle_bytes x)) bytes took;
     }
 
-pub swap_on_air : (desk : DeskState) (who : ℕ) (step : Step) (old new : Playing) (mid now : Option (List ℕ)) (r : Result (Unit {0}) SendStop) → Legal desk.mux desk.entries → is_swap step ≡ true → new.quota ≡ old.quota
-    → IsOnAir desk old → ((xs : List Aired) → AtEnd xs old → SentCycle xs (airing_on (and_step desk who step) (form_of old)) new mid now r) → OnOk r (IsOnAir (and_step desk who step) new)
-swap_on_air desk who step old new mid now (Ok u) legal h kept (xs, sent) sends =
-    let (x, e, made, ended, took) = sends xs sent.at_end in
-    (xs ++ x ∷ [], swap_sent desk who step old new xs x legal h sent kept e made ended)
-swap_on_air desk who step old new mid now (Err stop) legal h kept on_air sends = tt
-
 -- ---- the same, of a desk that did the step
 
-pub after_swap_aired : (desk after : DeskState) (who : ℕ) (step : Step) (old new : Playing) (before mid now : Option (List ℕ)) (r : Result (Unit {0}) SendStop) → after ≡ and_step desk who step → Legal desk.mux desk.entries → is_swap step ≡ true → new.quota ≡ old.quota
-    → HasAired desk old before mid → ((xs : List Aired) → AtEnd xs old → SentCycle xs (airing_on after (form_of old)) new mid now r) → AiredTo after new before now r
-after_swap_aired desk after who step old new before mid now r e legal h kept has =
-    subst (λ (d : DeskState). ((xs : List Aired) → AtEnd xs old → SentCycle xs (airing_on d (form_of old)) new mid now r) → AiredTo d new before now r) (sym e) (swap_aired desk who step old new before mid now r legal h kept has)
+pub after_swap_aired : (earlier : List Aired) (desk after : DeskState) (who : ℕ) (step : Step) (old new : Playing) (before mid now : Option (List ℕ)) (r : Result (Unit {0}) SendStop) → after ≡ and_step desk who step → Legal desk.mux desk.entries → is_swap step ≡ true → new.quota ≡ old.quota
+    → HasAired earlier desk old before mid → ((xs : List Aired) → AtEnd xs old → SentCycle xs (airing_on after (form_of old)) new mid now r) → AiredTo earlier after new before now r
+after_swap_aired earlier desk after who step old new before mid now r e legal h kept has =
+    subst (λ (d : DeskState). ((xs : List Aired) → AtEnd xs old → SentCycle xs (airing_on d (form_of old)) new mid now r) → AiredTo earlier d new before now r) (sym e) (swap_aired earlier desk who step old new before mid now r legal h kept has)
 
-pub after_swap_on_air : (desk after : DeskState) (who : ℕ) (step : Step) (old new : Playing) (mid now : Option (List ℕ)) (r : Result (Unit {0}) SendStop) → after ≡ and_step desk who step → Legal desk.mux desk.entries → is_swap step ≡ true → new.quota ≡ old.quota
-    → IsOnAir desk old → ((xs : List Aired) → AtEnd xs old → SentCycle xs (airing_on after (form_of old)) new mid now r) → OnOk r (IsOnAir after new)
-after_swap_on_air desk after who step old new mid now r e legal h kept on_air =
-    subst (λ (d : DeskState). ((xs : List Aired) → AtEnd xs old → SentCycle xs (airing_on d (form_of old)) new mid now r) → OnOk r (IsOnAir d new)) (sym e) (swap_on_air desk who step old new mid now r legal h kept on_air)
-
-pub after_other_aired : (desk after : DeskState) (who : ℕ) (step : Step) (player : Playing) (before now : Option (List ℕ)) → after ≡ and_step desk who step → Legal desk.mux desk.entries → is_swap step ≡ false → HasAired desk player before now → HasAired after player before now
-after_other_aired desk after who step player before now e legal h has = subst (λ (d : DeskState). HasAired d player before now) (sym e) (other_aired desk who step player before now legal h has)
-
-pub after_other_on_air : (desk after : DeskState) (who : ℕ) (step : Step) (player : Playing) → after ≡ and_step desk who step → Legal desk.mux desk.entries → is_swap step ≡ false → IsOnAir desk player → IsOnAir after player
-after_other_on_air desk after who step player e legal h on_air = subst (λ (d : DeskState). IsOnAir d player) (sym e) (other_on_air desk who step player legal h on_air)
+pub after_other_aired : (earlier : List Aired) (desk after : DeskState) (who : ℕ) (step : Step) (player : Playing) (before now : Option (List ℕ)) → after ≡ and_step desk who step → Legal desk.mux desk.entries → is_swap step ≡ false → HasAired earlier desk player before now → HasAired earlier after player before now
+after_other_aired earlier desk after who step player before now e legal h has = subst (λ (d : DeskState). HasAired earlier d player before now) (sym e) (other_aired earlier desk who step player before now legal h has)
 
 pub after_legal : (desk after : DeskState) (who : ℕ) (step : Step) → after ≡ and_step desk who step → Legal desk.mux desk.entries → Legal after.mux after.entries
 after_legal desk after who step e legal = subst (λ (d : DeskState). Legal d.mux d.entries) (sym e) (step_legal desk who step legal)

@@ -32,32 +32,28 @@ airing_by mux form on = aired (tables_of mux on.guide) on.moment.0 form
 abbrev pub airing_on : DeskState → CycleForm → AiredTables
 airing_on desk form = airing_by desk.mux form (on_air_of desk)
 
--- The player has sent these cycles and is at its end: those of the desk's journal, neighbours of one PID in packets that they
--- share. Its quota is that of the multiplex.
-pub record HasSentAll (desk : DeskState) (player : Playing) (xs : List Aired) : Type 0 where
-  pub at_end : AtEnd xs player
+-- Behind earlier cycles the player has sent these and is at its end: those of the desk's journal, neighbours of one PID in packets that
+-- they share. Its quota is that of the multiplex.
+pub record HasSentAll (earlier : List Aired) (desk : DeskState) (player : Playing) (xs : List Aired) : Type 0 where
+  pub at_end : AtEnd (earlier ++ xs) player
   pub airings_are : airings_of xs ≡ airings desk.mux desk.entries
-  pub made : AreMade [] xs
+  pub made : AreMade earlier xs
   pub quota : player.quota ≡ desk.mux.quota
 
--- the player has sent the cycles of the desk's journal
-abbrev pub IsOnAir : DeskState → Playing → Type 0
-IsOnAir desk player = (xs : List Aired) × HasSentAll desk player xs
-
 -- and the air took them, from `before` to `now`
-abbrev pub HasAired : DeskState → Playing → Option (List ℕ) → Option (List ℕ) → Type 0
-HasAired desk player before now = (xs : List Aired) × HasSentAll desk player xs × Appends before now (air_bytes xs)
+abbrev pub HasAired : List Aired → DeskState → Playing → Option (List ℕ) → Option (List ℕ) → Type 0
+HasAired earlier desk player before now = (xs : List Aired) × HasSentAll earlier desk player xs × Appends before now (air_bytes xs)
 
--- The air took whole cycles for all swaps but the last, which is the last entry, and a proper front of its cycle.
-pub record HasAiredFront (desk : DeskState) (before now : Option (List ℕ)) : Type 0 where
+-- Behind earlier cycles the air took whole ones for all swaps but the last, which is the last entry, and a proper front of its cycle.
+pub record HasAiredFront (earlier : List Aired) (desk : DeskState) (before now : Option (List ℕ)) : Type 0 where
   pub front : List Entry
   pub last : Entry
   pub entries : desk.entries ≡ front ++ last ∷ []
   pub is_swap : last.step ≡ Swap
   pub whole : List Aired
   pub cut : Aired
-  pub is_air : IsAirOf (airings desk.mux desk.entries) (whole ++ cut ∷ [])
-  pub made : AreMade [] (whole ++ cut ∷ [])
+  pub is_air : IsAirOf (airings_of earlier ++ airings desk.mux desk.entries) (earlier ++ (whole ++ cut ∷ []))
+  pub made : AreMade earlier (whole ++ cut ∷ [])
   pub taken : ℕ
   pub proper : taken < length (cycle_bytes cut)
   pub bytes : Appends before now (air_bytes whole ++ take taken (cycle_bytes cut))
@@ -80,10 +76,10 @@ is_swap (edit feed e) = false
 is_swap (Tick at) = false
 
 -- what is on air once steps are done as far as this
-abbrev pub AiredTo : DeskState → Playing → Option (List ℕ) → Option (List ℕ) → Result (Unit {0}) SendStop → Type 0
-AiredTo desk player before now (Ok u) = HasAired desk player before now
-AiredTo desk player before now (Err Air) = HasAiredFront desk before now
-AiredTo desk player before now (Err Memory) = Unit {0}
+abbrev pub AiredTo : List Aired → DeskState → Playing → Option (List ℕ) → Option (List ℕ) → Result (Unit {0}) SendStop → Type 0
+AiredTo earlier desk player before now (Ok u) = HasAired earlier desk player before now
+AiredTo earlier desk player before now (Err Air) = HasAiredFront earlier desk before now
+AiredTo earlier desk player before now (Err Memory) = Unit {0}
 
 -- a stop by a failed write has its cause
 abbrev pub HasAirCause : ℕ → ℕ → Result (Unit {0}) SendStop → Type 0

@@ -1,5 +1,5 @@
 // Sending the cycle of what is on air.
-ghost use Rattle.std.specs.Prelude.{◌≡◌, ◌≤◌, ◌<◌, ◌*◌, [], List, Err};
+ghost use Rattle.std.specs.Prelude.{◌≡◌, ◌≤◌, ◌<◌, ◌*◌, [], List, Err, OnOk};
 ghost use Rattle.air_model.specs.Air.{Aired};
 ghost use Rattle.carousel_player.specs.Playing.{AtEnd, form_of};
 ghost use Rattle.mux_model.specs.Sound.{IsSound};
@@ -50,6 +50,7 @@ pub fn send_cycle<A: Sink>(
     requires moment { airing.now.moment.0 < 65536 * 86400 }
     requires at_end { player.old.left ≡ [] }
     ensures sent { (xs : List Aired) → AtEnd xs player.old → SentCycle xs (airing_by mux.now (form_of player.old) airing.now) player.new (A.written air.old) (A.written air.new) result }
+    ensures ended { OnOk result (player.new.left ≡ []) }
     ensures quota { player.new.quota ≡ player.old.quota }
     ensures cause { HasAirCause (A.faults air.old) (A.faults air.new) result }
     ensures memory { result ≡ Err SendStop.Memory → (air.new ≡ air.old) × (player.new ≡ player.old) }
@@ -73,6 +74,7 @@ pub fn send_on_air<A: Sink>(
 ) -> Result<(), SendStop>
     requires at_end { player.old.left ≡ [] }
     ensures sent { (xs : List Aired) → AtEnd xs player.old → SentCycle xs (airing_on desk.now (form_of player.old)) player.new (A.written air.old) (A.written air.new) result }
+    ensures ended { OnOk result (player.new.left ≡ []) }
     ensures quota { player.new.quota ≡ player.old.quota }
     ensures cause { HasAirCause (A.faults air.old) (A.faults air.new) result }
     ensures memory { result ≡ Err SendStop.Memory → (air.new ≡ air.old) × (player.new ≡ player.old) }
