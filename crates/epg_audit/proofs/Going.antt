@@ -153,10 +153,10 @@ module _ {S F : Type 0} (left : S → Option (List ℕ)) (gives : F → Option (
       }
 
   -- the script stops
-  pub script_did : (old : DeskState) (c : Checking) (stop : PlayStop) → Follows gives start mid (desk_airings old) c → IsAtEnd c → ItemDid old desk (Err stop) → Stops left first now before desk (Err stop) → Did (Err (status_for stop))
+  pub script_did : (old : DeskState) (c : Checking) (stop : PlayStop) → Follows gives start mid (desk_airings old) c → IsAtEnd c → ItemDid old desk (Err stop) → Stops 0 left first now before desk (Err stop) → Did (Err (status_for stop))
   script_did old c stop f end did stops = by stop (stop_same old desk stop did) did stops
     where
-      here : (s : PlayStop) → desk ≡ old → ItemDid old desk (Err s) → Stops left first now before desk (Err s) → ScriptStops left gives first now start before desk (status_for s)
+      here : (s : PlayStop) → desk ≡ old → ItemDid old desk (Err s) → Stops 0 left first now before desk (Err s) → ScriptStops left gives first now start before desk (status_for s)
       here s same did stops = record {
         stop = s;
         is = refl;
@@ -165,7 +165,7 @@ module _ {S F : Type 0} (left : S → Option (List ℕ)) (gives : F → Option (
         behind = λ bytes told. subst (λ (d : DeskState). BeginsWithAir (desk_airings d) bytes) (sym same) (front_air (desk_airings old) c bytes f end told);
       }
 
-      by : (s : PlayStop) → (s ≡ NoMemory) ⊎ (desk ≡ old) → ItemDid old desk (Err s) → Stops left first now before desk (Err s) → Did (Err (status_for s))
+      by : (s : PlayStop) → (s ≡ NoMemory) ⊎ (desk ≡ old) → ItemDid old desk (Err s) → Stops 0 left first now before desk (Err s) → Did (Err (status_for s))
       by (Undescribed fault) is did stops = absurd did
       by (Refused n) is did stops = inl (here (Refused n) did did stops)
       by (Differs n kept found) is did stops = inl (here (Differs n kept found) did did stops)
@@ -175,11 +175,11 @@ module _ {S F : Type 0} (left : S → Option (List ℕ)) (gives : F → Option (
       by NoMemory is did stops = tt
 
   -- the recording is at fault in a cycle
-  pub cycle_did : (airings : List AiredTables) (c : Checking) (made : Option Outcome) (status : Status) → airings ≡ desk_airings desk → Went left first now before desk made → Checks gives start new airings c (Err status) → Did (Err status)
+  pub cycle_did : (airings : List AiredTables) (c : Checking) (made : Option Outcome) (status : Status) → airings ≡ desk_airings desk → Went 0 left first now before desk made → Checks gives start new airings c (Err status) → Did (Err status)
   cycle_did airings c made Memory same went checks = tt
   cycle_did airings c made status same went checks = by status went checks
     where
-      by : (s : Status) → Went left first now before desk made → Checks gives start new airings c (Err s) → Did (Err s)
+      by : (s : Status) → Went 0 left first now before desk made → Checks gives start new airings c (Err s) → Did (Err s)
       by Memory went checks = tt
       by other went checks = inr (inl (record {
         made = made;
@@ -207,7 +207,7 @@ module _ {S F : Type 0} (left : S → Option (List ℕ)) (gives : F → Option (
       by (ReadFault (Feed f)) is = is
       by other is = absurd is
 
-  pub end_did : (c : Checking) (result : Result (Unit {0}) Status) → Follows gives start mid (desk_airings desk) c → IsAtEnd c → Stops left first now before desk (Ok tt) → Ends gives mid new result → Did result
+  pub end_did : (c : Checking) (result : Result (Unit {0}) Status) → Follows gives start mid (desk_airings desk) c → IsAtEnd c → Stops 0 left first now before desk (Ok tt) → Ends gives mid new result → Did result
   end_did c (Ok u) f end stops ends = (
     stops,
     λ bytes told.

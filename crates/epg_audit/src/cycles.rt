@@ -95,7 +95,7 @@ pub(crate) fn audit_rest<S: Source, F: Source>(
 {
     let mut made = None;
     'items: loop {
-        match do_item(alloc, lines, desk, &mut made) {
+        match do_item(alloc, lines, desk, &mut made, 0) {
             Ok(ItemDone::Swap) => {
                 if let Err(status) = check_on_air(alloc, desk, packets, checker) {
                     return Err(status);

@@ -20,6 +20,7 @@ use Rattle.desk_core.specs.Journal.{LegalAfter, outcome_of}
 use Rattle.journal_model.specs.contracts.step.OutcomeEq.TheImpl.Laws as outcome_law
 use Rattle.journal_model.specs.Steps.{command_of}
 use Rattle.desk_core.specs.Desks.{DeskState, fresh}
+use Rattle.checkpoint_laws.specs.Going.{raised}
 use Rattle.desk_core.proofs.JournalFacts.{journal_only}
 use Rattle.journal_text.specs.Back.{EntryReadsBack, IsReadable}
 use Rattle.command_text.specs.Back.{ahead_of, command_lines, shown_lines}
@@ -32,6 +33,7 @@ use Rattle.epg_play.specs.Leaves.{whole_journal}
 use Rattle.epg_play.specs.Again.{Describes, JournalsPlayAgain}
 use Rattle.epg_play.specs.Items.{course_at}
 use Rattle.epg_play.proofs.CourseFacts.{Rest, and_command, step_ahead, agreed_ahead, stop_ahead}
+use Rattle.epg_play.proofs.RunFacts.{plain_course, raised_none}
 
 -- ---- an outcome agrees with itself
 
@@ -42,17 +44,18 @@ kept_agrees n kept found e = ap (λ (b : Bool). let o : Option Stop = if b then 
 
 -- the text of a journal, as what is ahead
 again : (desk : DeskState) (journal : List Entry) (n k : ℕ) → LegalAfter desk.mux desk.entries journal → AllByRecursion IsReadable journal
-    → course_at desk None (ahead_of n (journal_text journal) (Ends k)) ≡ (map command_of journal, Ended)
-again desk [] n k legal readable = stop_ahead desk None (ahead_of n [] (Ends k)) reading.End refl
+    → course_at 0 desk None (ahead_of n (journal_text journal) (Ends k)) ≡ (map command_of journal, Ended)
+again desk [] n k legal readable = stop_ahead 0 desk None (ahead_of n [] (Ends k)) reading.End refl
 again desk (e ∷ es) n k legal readable =
     let back : EntryReadsBack e n (journal_text es) (Ends k) = entries_read_back e readable.0 n (journal_text es) (Ends k) in
     let next = and_step desk e.who e.step in
-    let found = outcome_of desk.mux desk.entries e.step in
+    let outcome = outcome_of desk.mux desk.entries e.step in
+    let found = raised 0 outcome in
     let at = n + command_lines e.step in
-    let entry : (let d : Entry = record { who = e.who; step = e.step; outcome = found } in d) ≡ e = ap (λ (o : Outcome). let d : Entry = record { who = e.who; step = e.step; outcome = o } in d) (sym legal.0) in
+    let entry : (let d : Entry = record { who = e.who; step = e.step; outcome = outcome } in d) ≡ e = ap (λ (o : Outcome). let d : Entry = record { who = e.who; step = e.step; outcome = o } in d) (sym legal.0) in
     let rest = again next es (at + 1) k (subst (λ (d : Entry). LegalAfter desk.mux (desk.entries ++ d ∷ []) es) (sym entry) legal.1) readable.1 in
-    step_ahead desk None (ahead_of n (entry_text e ++ journal_text es) (Ends k)) back.behind e.who e.step back.command
-    ∙ ap (and_command (e.who, e.step)) (agreed_ahead next (Some found) back.behind (ahead_of (at + 1) (journal_text es) (Ends k)) at e.outcome back.kept (kept_agrees at e.outcome found legal.0))
+    step_ahead 0 desk None (ahead_of n (entry_text e ++ journal_text es) (Ends k)) back.behind e.who e.step back.command
+    ∙ ap (and_command (e.who, e.step)) (agreed_ahead 0 next (Some found) back.behind (ahead_of (at + 1) (journal_text es) (Ends k)) at e.outcome back.kept (kept_agrees at e.outcome found (legal.0 ∙ sym (raised_none outcome))))
     ∙ ap (and_command (e.who, e.step)) rest
 
 -- ---- the lines of two texts
@@ -144,7 +147,8 @@ script_again mux block journal d legal readable le =
     ap (λ r. described_from [] r end) rows ∙ more_behind [] (record_lines 1 (shown_lines block)) [] (record_lines n behind) (Ends n) end (Ok mux) d.whole in
     ap (λ l. script_of_lines l.0 (tail_of (1 + length l.0) l.1)) (lines_within text le)
     ∙ ap script_with whole
-    ∙ ap (λ (r : Rest). let s : Script = record { mux = Some mux; commands = r.0; stop = r.1 } in s) (again (fresh mux) journal n (1 + length lines) legal readable)
+    ∙ ap (λ (r : Rest). let s : Script = record { mux = Some mux; commands = r.0; stop = r.1 } in s)
+    (sym (plain_course mux (ahead_of n (journal_text journal) end)) ∙ again (fresh mux) journal n (1 + length lines) legal readable)
 
 pub journals-again : JournalsPlayAgain
 journals-again mux block journal d legal readable le =

@@ -1,4 +1,5 @@
 pub mod WindowFacts
+mod RaiseFacts
 pub mod CourseFacts
 pub mod RunFacts
 mod TypedFacts

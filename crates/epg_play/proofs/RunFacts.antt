@@ -1,5 +1,5 @@
 -- From what was played, and how its report ended, to what a run leaves.
-use Rattle.std.proofs.Common.{◌≡◌, ℕ, ◌+◌, List, [], ◌∷◌, ◌++◌, length, take, refl, sym, ap, ◌∙◌, subst, inl, inr, ◌⊎◌}
+use Rattle.std.proofs.Common.{◌≡◌, ℕ, ◌+◌, List, [], ◌∷◌, ◌++◌, length, take, refl, sym, ap, ◌∙◌, subst, inl, inr, ◌⊎◌, zero-add}
 use Rattle.std.specs.Prelude.{Option, Some, None, Ok, Err, Result, true, false}
 use Rattle.std.specs.Result.{result_err}
 use Rattle.std.specs.Io.KnownBytes.{Appends, Consumes}
@@ -18,7 +18,7 @@ use Rattle.mux_model.specs.declared.mux.Mux.{Mux}
 use Rattle.mux_config.specs.declared.stop.MuxStop.{MuxStop}
 use Rattle.mux_config.specs.declared.stop.MuxStop.TheVariants as mux
 use Rattle.mux_config.specs.Reads.{ReadMux}
-use Rattle.input_lines.specs.Ahead.{Breaks, Tail, ahead, tail_of, Came, Found, Stopped}
+use Rattle.input_lines.specs.Ahead.{Ahead, Breaks, Tail, ahead, tail_of, Came, Found, Stopped}
 use Rattle.input_lines.specs.Reads.{ahead_with, Leaves as LeavesAhead, Passes}
 use Rattle.mux_config.specs.Descriptions.{Description, description_ahead, fault_in}
 use Rattle.mux_config.proofs.Reading.{fault_read, read_stopped}
@@ -27,20 +27,23 @@ use Rattle.version_book.specs.Airings.{AiredTables}
 use Rattle.air_model.specs.Air.{IsAirOf}
 use Rattle.carousel_player.specs.Playing.{Playing, AtEnd as AllSent}
 use Rattle.journal_model.specs.declared.step.Entry.{Entry}
-use Rattle.desk_core.specs.Journal.{journal_of}
+use Rattle.desk_core.specs.Journal.{journal_after, journal_of}
 use Rattle.journal_model.specs.Steps.{Command}
 use Rattle.desk_core.specs.Desks.{DeskState, fresh}
 use Rattle.journal_text.specs.Entries.{journal_text}
 use Rattle.journal_air.specs.Air.{airings}
-use Rattle.headend_jobs.specs.OnAir.{HasSentAll, HasAired, HasAiredFront, IsOnAir}
+use Rattle.headend_jobs.specs.OnAir.{HasSentAll, HasAired, HasAiredFront}
 use Rattle.epg_play.specs.declared.stop.PlayStop.{PlayStop}
 use Rattle.epg_play.specs.declared.stop.PlayStop.TheVariants.{NoMux as Undescribed, NoCommand as Refused, Disagrees as Differs, Read, Air as OnAir, Memory as NoMemory}
 use Rattle.epg_report.specs.declared.status.Status.{Status}
 use Rattle.epg_report.specs.declared.status.Status.TheVariants.{Done, BadScript, Disagrees, BadMux, TooLong as PastLimit, ReadFault, WriteFault, Memory}
 use Rattle.epg_report.specs.declared.status.Origin.TheVariants.{Input, Feed, Recording}
 use Rattle.epg_report.specs.declared.status.Outlet.TheVariants.{Air, Report}
-use Rattle.epg_play.specs.Script.{Script, Stop, Ended, NoMux, NoCommand, Disagreed, TooLong, Unread, no_mux, script_in, script_taken, script_with, with_commands}
+use Rattle.epg_play.specs.Script.{Script, Stop, commands_of, first_difference, played_items, stop_of, up_to, Ended, NoMux, NoCommand, Disagreed, TooLong, Unread, no_mux, script_in, script_taken, script_with, with_commands}
 use Rattle.journal_model.specs.declared.step.Outcome.{Outcome}
+use Rattle.journal_model.specs.declared.step.Outcome.TheVariants.{Edited, Ticked, Late, Published, Swapped}
+use Rattle.checkpoint_laws.specs.Going.{all_raised, raised}
+use Rattle.script_lines.specs.Script.{asked_by, items_ahead}
 use Rattle.epg_play.specs.Items.{Stops, Went, course_at}
 use Rattle.epg_play.specs.Played.{AiredTo, PlayedWhole, RestDid, RestTaken, course, desk_after}
 use Rattle.epg_report.specs.Texts.{fault_line}
@@ -50,6 +53,36 @@ use Rattle.epg_report.specs.Told.{ReportTaken, Reported}
 use Rattle.headend_jobs.specs.Live.{AirOf}
 use Rattle.epg_play.proofs.CourseFacts.{Rest}
 use Rattle.epg_play.proofs.SentFacts.{cut_sent, whole_sent}
+
+-- ---- a script's own course, whose publications have the numbers of its journal
+
+pub raised_none : (outcome : Outcome) → raised 0 outcome ≡ outcome
+raised_none (Edited reply) = refl
+raised_none Ticked = refl
+raised_none (Late at) = refl
+raised_none (Published n) = ap Published (zero-add n)
+raised_none (Swapped n at) = ap (λ (k : ℕ). Swapped k at) (zero-add n)
+
+none_raised : (entries : List Entry) → all_raised 0 entries ≡ entries
+none_raised [] = refl
+none_raised (e ∷ es) =
+    ap (λ (o : Outcome). let x : Entry = record { who = e.who; step = e.step; outcome = o } in x ∷ all_raised 0 es) (raised_none e.outcome)
+    ∙ ap (λ (l : List Entry). e ∷ l) (none_raised es)
+
+abbrev pub plain : Mux → Ahead → Rest
+plain mux lines = played_items mux [] (items_ahead false lines)
+
+pub plain_course : (mux : Mux) (lines : Ahead) → course 0 mux [] None lines ≡ plain mux lines
+plain_course mux lines =
+    let asked = asked_by (items_ahead false lines).0 in
+    ap (λ (l : List Entry). up_to (first_difference asked l) (commands_of asked) (stop_of (items_ahead false lines).1)) (none_raised (journal_after mux [] (commands_of asked)))
+
+pub plain_rest : (mux : Mux) (lines : Ahead) (desk : DeskState) (r : Result (Unit {0}) PlayStop) → RestDid (course 0 mux [] None lines) (fresh mux) desk r → RestDid (plain mux lines) (fresh mux) desk r
+plain_rest mux lines desk r did = subst (λ (c : Rest). RestDid c (fresh mux) desk r) (plain_course mux lines) did
+
+plain_did : (mux : Mux) (lines : Ahead) (stop : Stop) (desk : DeskState) → ((course 0 mux [] None lines).1 ≡ stop) × (desk ≡ desk_after (fresh mux) (course 0 mux [] None lines).0)
+    → ((plain mux lines).1 ≡ stop) × (desk ≡ desk_after (fresh mux) (plain mux lines).0)
+plain_did mux lines stop desk did = subst (λ (c : Rest). (c.1 ≡ stop) × (desk ≡ desk_after (fresh mux) c.0)) (plain_course mux lines) did
 
 none_aired : (air : ReportTaken) → air.old ≡ air.new → IsAired None [] air
 none_aired air same = subst (λ (w : Option (List ℕ)). Appends air.old w []) same (Appends-nothing air.old)
@@ -97,7 +130,7 @@ no_mux_played left faults alike old new source text air (mux.Read Failed) e told
     (nothing_played (script_taken fault.whole.more) Unread air (ap (λ l. script_with (description_ahead (ahead_with (unread source) l Breaks))) fault.whole.whole ∙ ap script_with fault.reads) same)
 no_mux_played left faults alike old new source text air mux.Memory e told same read = tt
 
-aired_is : (mux : Mux) (desk : DeskState) (player : Playing) (commands : List Command) (air : ReportTaken) → desk ≡ desk_after (fresh mux) commands → HasAired desk player air.old air.new
+aired_is : (mux : Mux) (desk : DeskState) (player : Playing) (commands : List Command) (air : ReportTaken) → desk ≡ desk_after (fresh mux) commands → HasAired [] desk player air.old air.new
     → AirOf mux (journal_of mux commands) air.old air.new
 aired_is mux desk player commands air d (xs, sent, bytes) = record {
   cycles = xs;
@@ -106,7 +139,7 @@ aired_is mux desk player commands air d (xs, sent, bytes) = record {
   bytes = bytes;
 }
 
-front_is : (mux : Mux) (desk : DeskState) (commands : List Command) (air : ReportTaken) → desk ≡ desk_after (fresh mux) commands → HasAiredFront desk air.old air.new
+front_is : (mux : Mux) (desk : DeskState) (commands : List Command) (air : ReportTaken) → desk ≡ desk_after (fresh mux) commands → HasAiredFront [] desk air.old air.new
     → IsAiredFront (Some mux) (journal_of mux commands) air
 front_is mux desk commands air d f = record {
   mux = mux;
@@ -128,38 +161,38 @@ front_is mux desk commands air d f = record {
 
 -- all commands were played
 played_all : (script : Script) (stop : Stop) (mux : Mux) (rest : Rest) (desk : DeskState) (player : Playing) (air : ReportTaken) → script ≡ with_commands mux rest → (rest.1 ≡ stop) × (desk ≡ desk_after (fresh mux) rest.0)
-    → HasAired desk player air.old air.new → HasPlayedAll script stop air (Some desk)
+    → HasAired [] desk player air.old air.new → HasPlayedAll script stop air (Some desk)
 played_all script stop mux rest desk player air e did aired =
     subst (λ (s : Script). HasPlayedAll s stop air (Some desk)) (sym e)
     (record { stopped = did.0; air_is = aired_is mux desk player rest.0 air did.1 aired; journal = ap (λ (x : DeskState). x.entries) did.1 })
 
 -- those of the lines that were whole, where a read failed
 played_taken : {S : Type 0} (left : S → Known) (source : S) (mid new : Reading S) (text : List ℕ) (mux : Mux) (desk : DeskState) (player : Playing) (air : ReportTaken) → left source ≡ Some text
-    → Passes left description_ahead (Came (Ok mux)) (unread source) mid → PlayedWhole left mid new (fresh mux) desk → HasAired desk player air.old air.new → HasPlayedTaken text (left new.source) air (Some desk)
+    → Passes left description_ahead (Came (Ok mux)) (unread source) mid → PlayedWhole 0 left mid new (fresh mux) desk → HasAired [] desk player air.old air.new → HasPlayedTaken text (left new.source) air (Some desk)
 played_taken left source mid new text mux desk player air told came p aired =
     let both : WereWhole left (unread source) new (came.looked.lines ++ p.lines) = whole_more left (unread source) mid new came.looked.lines p.lines came.looked.handed p.unended p.whole in
-    let script : script_taken both.more ≡ with_commands mux (course mux [] None (ahead_with mid p.lines Breaks)) =
+    let script : script_taken both.more ≡ with_commands mux (plain mux (ahead_with mid p.lines Breaks)) =
     ap (λ l. script_with (description_ahead (ahead_with (unread source) l Breaks))) both.whole ∙ ap script_with (came.reads p.lines Breaks) in
     taken_played text both.more (left source) (left new.source) air (Some desk) told both.gave
-    (played_all (script_taken both.more) Unread mux (course mux [] None (ahead_with mid p.lines Breaks)) desk player air script (p.stop, p.did) aired)
+    (played_all (script_taken both.more) Unread mux (plain mux (ahead_with mid p.lines Breaks)) desk player air script (plain_did mux (ahead_with mid p.lines Breaks) Unread desk (p.stop, p.did)) aired)
 
 -- what was played behind the description of a multiplex
 pub played_behind : {S : Type 0} (left : S → Known) (source : S) (mid new : Reading S) (text : List ℕ) (mux : Mux) (desk : DeskState) (player : Playing) (air : ReportTaken) (r : Result (Unit {0}) PlayStop) → left source ≡ Some text
     → LeavesAhead left description_ahead (Came (Ok mux)) (unread source) mid text → Passes left description_ahead (Came (Ok mux)) (unread source) mid
-    → ((rest : List ℕ) → text_left left mid ≡ Some rest → RestDid (course mux [] None (ahead mid rest)) (fresh mux) desk r) → RestTaken left mid new (fresh mux) desk r → AiredTo desk player air.old air.new r
+    → ((rest : List ℕ) → text_left left mid ≡ Some rest → RestDid (plain mux (ahead mid rest)) (fresh mux) desk r) → RestTaken 0 left mid new (fresh mux) desk r → AiredTo [] desk player air.old air.new r
     → HasPlayed text (left new.source) air (Some desk) (result_err r)
 played_behind left source mid new text mux desk player air (Ok u) told d came did taken aired =
-    played_all (script_in text) Ended mux (course mux [] None (ahead mid d.rest)) desk player air (ap script_with d.reads) (did d.rest d.told) aired
+    played_all (script_in text) Ended mux (plain mux (ahead mid d.rest)) desk player air (ap script_with d.reads) (did d.rest d.told) aired
 played_behind left source mid new text mux desk player air (Err (Undescribed fault)) told d came did taken aired = absurd (did d.rest d.told)
 played_behind left source mid new text mux desk player air (Err (Refused n)) told d came did taken aired =
-    played_all (script_in text) (NoCommand n) mux (course mux [] None (ahead mid d.rest)) desk player air (ap script_with d.reads) (did d.rest d.told) aired
+    played_all (script_in text) (NoCommand n) mux (plain mux (ahead mid d.rest)) desk player air (ap script_with d.reads) (did d.rest d.told) aired
 played_behind left source mid new text mux desk player air (Err (Differs n kept found)) told d came did taken aired =
-    played_all (script_in text) (Disagreed n kept found) mux (course mux [] None (ahead mid d.rest)) desk player air (ap script_with d.reads) (did d.rest d.told) aired
+    played_all (script_in text) (Disagreed n kept found) mux (plain mux (ahead mid d.rest)) desk player air (ap script_with d.reads) (did d.rest d.told) aired
 played_behind left source mid new text mux desk player air (Err (Read Overlong)) told d came did taken aired =
-    played_all (script_in text) TooLong mux (course mux [] None (ahead mid d.rest)) desk player air (ap script_with d.reads) (did d.rest d.told) aired
+    played_all (script_in text) TooLong mux (plain mux (ahead mid d.rest)) desk player air (ap script_with d.reads) (did d.rest d.told) aired
 played_behind left source mid new text mux desk player air (Err (Read Failed)) told d came did taken aired = played_taken left source mid new text mux desk player air told came taken aired
 played_behind left source mid new text mux desk player air (Err OnAir) told d came did taken aired =
-    let rest = course mux [] None (ahead mid d.rest) in
+    let rest = plain mux (ahead mid d.rest) in
     let script : script_in text ≡ with_commands mux rest = ap script_with d.reads in
     let k = (did d.rest d.told).0 in
     let desk_is = (did d.rest d.told).1 in (
@@ -239,15 +272,12 @@ pub leaves_input : {S : Type 0} (left_of : S → Known) (source input : S) (stop
 leaves_input {S = S} left_of source input stop text air report desk status e played finished =
     subst (λ (s : S). Leaves text (left_of s) air report status) (sym e) (leaves stop text (left_of source) air report desk status played finished)
 
-start_sent : (mux : Mux) (desk : DeskState) (player : Playing) → desk ≡ fresh mux → AllSent [] player → player.quota ≡ mux.quota → HasSentAll desk player []
+start_sent : (mux : Mux) (desk : DeskState) (player : Playing) → desk ≡ fresh mux → AllSent [] player → player.quota ≡ mux.quota → HasSentAll [] desk player []
 start_sent mux desk player d end quota =
     record { at_end = end; airings_are = sym (ap (λ (x : DeskState). airings x.mux x.entries) d); made = tt; quota = quota ∙ sym (ap (λ (x : DeskState). x.mux.quota) d) }
 
-pub start_aired : (mux : Mux) (desk : DeskState) (player : Playing) (w : Option (List ℕ)) → desk ≡ fresh mux → AllSent [] player → player.quota ≡ mux.quota → HasAired desk player w w
+pub start_aired : (mux : Mux) (desk : DeskState) (player : Playing) (w : Option (List ℕ)) → desk ≡ fresh mux → AllSent [] player → player.quota ≡ mux.quota → HasAired [] desk player w w
 start_aired mux desk player w d end quota = ([], start_sent mux desk player d end quota, Appends-nothing w)
-
-pub start_on_air : (mux : Mux) (desk : DeskState) (player : Playing) → desk ≡ fresh mux → AllSent [] player → player.quota ≡ mux.quota → IsOnAir desk player
-start_on_air mux desk player d end quota = ([], start_sent mux desk player d end quota)
 
 -- where nothing fails, the script's stop decides
 pub completes : (text : List ℕ) (left : Known) (air report : ReportTaken) (status : Status) → Leaves text left air report status → (status ≡ ReadFault Input → ⊥) → (status ≡ WriteFault Air → ⊥) → (status ≡ WriteFault Report → ⊥)
@@ -316,20 +346,20 @@ taken_by text taken old left mux desk told gave played =
     record { taken = taken; behind = b.0; text_is = b.1; left_is = b.2; played = played }
 
 pub rest_played : {S : Type 0} (left : S → Known) (source : S) (mid new : Reading S) (text : List ℕ) (mux : Mux) (desk : DeskState) (r : Result (Unit {0}) PlayStop) → left source ≡ Some text
-    → LeavesAhead left description_ahead (Came (Ok mux)) (unread source) mid text → Passes left description_ahead (Came (Ok mux)) (unread source) mid → Stops left mid new (fresh mux) desk r
+    → LeavesAhead left description_ahead (Came (Ok mux)) (unread source) mid text → Passes left description_ahead (Came (Ok mux)) (unread source) mid → Stops 0 left mid new (fresh mux) desk r
     → PlayedBy text (left new.source) mux desk r
-rest_played left source mid new text mux desk (Ok u) told d came stops = rest_is (script_in text) Ended mux (course mux [] None (ahead mid d.rest)) desk (ap script_with d.reads) (stops.0 d.rest d.told)
+rest_played left source mid new text mux desk (Ok u) told d came stops = rest_is (script_in text) Ended mux (plain mux (ahead mid d.rest)) desk (ap script_with d.reads) (plain_rest mux (ahead mid d.rest) desk (Ok u) (stops.0 d.rest d.told))
 rest_played left source mid new text mux desk (Err (Undescribed fault)) told d came stops = tt
-rest_played left source mid new text mux desk (Err (Refused n)) told d came stops = rest_is (script_in text) (NoCommand n) mux (course mux [] None (ahead mid d.rest)) desk (ap script_with d.reads) (stops.0 d.rest d.told)
+rest_played left source mid new text mux desk (Err (Refused n)) told d came stops = rest_is (script_in text) (NoCommand n) mux (plain mux (ahead mid d.rest)) desk (ap script_with d.reads) (plain_rest mux (ahead mid d.rest) desk (Err (Refused n)) (stops.0 d.rest d.told))
 rest_played left source mid new text mux desk (Err (Differs n kept found)) told d came stops =
-    rest_is (script_in text) (Disagreed n kept found) mux (course mux [] None (ahead mid d.rest)) desk (ap script_with d.reads) (stops.0 d.rest d.told)
-rest_played left source mid new text mux desk (Err (Read Overlong)) told d came stops = rest_is (script_in text) TooLong mux (course mux [] None (ahead mid d.rest)) desk (ap script_with d.reads) (stops.0 d.rest d.told)
+    rest_is (script_in text) (Disagreed n kept found) mux (plain mux (ahead mid d.rest)) desk (ap script_with d.reads) (plain_rest mux (ahead mid d.rest) desk (Err (Differs n kept found)) (stops.0 d.rest d.told))
+rest_played left source mid new text mux desk (Err (Read Overlong)) told d came stops = rest_is (script_in text) TooLong mux (plain mux (ahead mid d.rest)) desk (ap script_with d.reads) (plain_rest mux (ahead mid d.rest) desk (Err (Read Overlong)) (stops.0 d.rest d.told))
 rest_played left source mid new text mux desk (Err (Read Failed)) told d came stops =
     let p = stops.1 in
     let both : WereWhole left (unread source) new (came.looked.lines ++ p.lines) = whole_more left (unread source) mid new came.looked.lines p.lines came.looked.handed p.unended p.whole in
-    let script : script_taken both.more ≡ with_commands mux (course mux [] None (ahead_with mid p.lines Breaks)) =
+    let script : script_taken both.more ≡ with_commands mux (plain mux (ahead_with mid p.lines Breaks)) =
     ap (λ l. script_with (description_ahead (ahead_with (unread source) l Breaks))) both.whole ∙ ap script_with (came.reads p.lines Breaks) in
-    taken_by text both.more (left source) (left new.source) mux desk told both.gave (rest_is (script_taken both.more) Unread mux (course mux [] None (ahead_with mid p.lines Breaks)) desk script (p.stop, p.did))
+    taken_by text both.more (left source) (left new.source) mux desk told both.gave (rest_is (script_taken both.more) Unread mux (plain mux (ahead_with mid p.lines Breaks)) desk script (plain_did mux (ahead_with mid p.lines Breaks) Unread desk (p.stop, p.did)))
 rest_played left source mid new text mux desk (Err OnAir) told d came stops = tt
 rest_played left source mid new text mux desk (Err NoMemory) told d came stops = tt
 
@@ -342,16 +372,16 @@ pub record IsPlayedTo (script : Script) (mux : Mux) (desk : DeskState) : Type 0 
   pub did : desk ≡ desk_after (fresh mux) done
 
 pub went_played : {S : Type 0} (left : S → Known) (source : S) (mid new : Reading S) (text : List ℕ) (mux : Mux) (desk : DeskState) (made : Option Outcome)
-    → LeavesAhead left description_ahead (Came (Ok mux)) (unread source) mid text → Went left mid new (fresh mux) desk made → IsPlayedTo (script_in text) mux desk
+    → LeavesAhead left description_ahead (Came (Ok mux)) (unread source) mid text → Went 0 left mid new (fresh mux) desk made → IsPlayedTo (script_in text) mux desk
 went_played left source mid new text mux desk made d went =
-    let rest = course mux [] None (ahead mid d.rest) in
+    let rest = plain mux (ahead mid d.rest) in
     let t = went.told d.rest d.told in
     let script : script_in text ≡ with_commands mux rest = ap script_with d.reads in
     subst (λ (s : Script). IsPlayedTo s mux desk) (sym script) (record {
       described = refl;
       done = went.done;
-      others = (course_at desk made (ahead new t.0)).0;
-      commands_are = ap (λ (p : Rest). p.0) t.2;
+      others = (course_at 0 desk made (ahead new t.0)).0;
+      commands_are = ap (λ (p : Rest). p.0) (sym (plain_course mux (ahead mid d.rest)) ∙ t.2);
       did = went.did;
     })
 

@@ -39,31 +39,32 @@ Falls old new (Ok item.End) = Unit {0}
 Falls old new (Ok done) = room new < room old
 Falls old new (Err stop) = Unit {0}
 
--- what is played of what is ahead of a desk; `made` is the outcome of its last entry, where it was made just before
-abbrev pub course_at : DeskState → Option Outcome → Ahead → List Command × Stop
-course_at desk made lines = course desk.mux desk.entries made lines
+-- what is played of what is ahead of a desk; `made` is the raised outcome of its last entry, where it was made just before
+abbrev pub course_at : ℕ → DeskState → Option Outcome → Ahead → List Command × Stop
+course_at shift desk made lines = course shift desk.mux desk.entries made lines
 
 -- Of what was ahead these commands were done, and this is what is played behind them.
-abbrev pub AreDone : DeskState → DeskState → Option Outcome → Ahead → Ahead → List Command → Type 0
-AreDone old desk made lines behind done = course_at old None lines ≡ (done ++ (course_at desk made behind).0, (course_at desk made behind).1)
+abbrev pub AreDone : ℕ → DeskState → DeskState → Option Outcome → Ahead → Ahead → List Command → Type 0
+AreDone shift old desk made lines behind done =
+    course_at shift old None lines ≡ (done ++ (course_at shift desk made behind).0, (course_at shift desk made behind).1)
 
--- From old to now the lines gave the steps that the desk did.
-pub record Went {S : Type 0} (left : S → Option (List ℕ)) (old now : Reading S) (before desk : DeskState) (made : Option Outcome) : Type 0 where
+-- From old to now the lines gave the steps that the desk did; kept outcomes have the numbers of publications raised by the shift.
+pub record Went {S : Type 0} (shift : ℕ) (left : S → Option (List ℕ)) (old now : Reading S) (before desk : DeskState) (made : Option Outcome) : Type 0 where
   pub done : List Command
   pub did : desk ≡ desk_after before done
-  pub told : (text : List ℕ) → text_left left old ≡ Some text → (rest : List ℕ) × (text_left left now ≡ Some rest) × AreDone before desk made (ahead old text) (ahead now rest) done
+  pub told : (text : List ℕ) → text_left left old ≡ Some text → (rest : List ℕ) × (text_left left now ≡ Some rest) × AreDone shift before desk made (ahead old text) (ahead now rest) done
   pub lines : List (List ℕ)
   pub handed : HandedOut left old now lines
-  pub reads : (more : List (List ℕ)) (tail : Tail) → AreDone before desk made (ahead_with old (lines ++ more) tail) (ahead_with now more tail) done
+  pub reads : (more : List (List ℕ)) (tail : Tail) → AreDone shift before desk made (ahead_with old (lines ++ more) tail) (ahead_with now more tail) done
 
 -- a script stops, for what was ahead of it when it began
-abbrev pub Stops : {S : Type 0} → (S → Option (List ℕ)) → Reading S → Reading S → DeskState → DeskState → Result (Unit {0}) PlayStop → Type 0
-Stops left old now before desk result =
-    ((text : List ℕ) → text_left left old ≡ Some text → RestDid (course_at before None (ahead old text)) before desk result)
-    × RestTaken left old now before desk result
+abbrev pub Stops : {S : Type 0} → ℕ → (S → Option (List ℕ)) → Reading S → Reading S → DeskState → DeskState → Result (Unit {0}) PlayStop → Type 0
+Stops shift left old now before desk result =
+    ((text : List ℕ) → text_left left old ≡ Some text → RestDid (course_at shift before None (ahead old text)) before desk result)
+    × RestTaken shift left old now before desk result
 
 -- a script that has come so far goes on by an item, or stops
-abbrev pub GoesOn : {S : Type 0} → (S → Option (List ℕ)) → Reading S → Reading S → DeskState → DeskState → Option Outcome → Result ItemDone PlayStop → Type 0
-GoesOn left old now before desk made (Ok item.End) = Stops left old now before desk (Ok tt)
-GoesOn left old now before desk made (Ok done) = Went left old now before desk made
-GoesOn left old now before desk made (Err stop) = Stops left old now before desk (Err stop)
+abbrev pub GoesOn : {S : Type 0} → ℕ → (S → Option (List ℕ)) → Reading S → Reading S → DeskState → DeskState → Option Outcome → Result ItemDone PlayStop → Type 0
+GoesOn shift left old now before desk made (Ok item.End) = Stops shift left old now before desk (Ok tt)
+GoesOn shift left old now before desk made (Ok done) = Went shift left old now before desk made
+GoesOn shift left old now before desk made (Err stop) = Stops shift left old now before desk (Err stop)

@@ -4,6 +4,7 @@ use Rattle.si_causes.specs.Causes.{Rose}
 use Rattle.si_causes.specs.Reading.{Reading}
 use Rattle.si_causes.specs.declared.stop.ReadStop.TheVariants.{Failed, TooLong as Overlong}
 use Rattle.input_lines.specs.Going.{WereWhole}
+use Rattle.air_model.specs.Air.{Aired}
 use Rattle.carousel_player.specs.Playing.{Playing}
 use Rattle.mux_model.specs.declared.mux.Mux.{Mux}
 use Rattle.input_lines.specs.declared.stop.EditStop.{EditStop}
@@ -17,13 +18,14 @@ use Rattle.desk_core.specs.Journal.{journal_after}
 use Rattle.journal_model.specs.Steps.{Command, IsInWindow}
 use Rattle.desk_core.specs.Desks.{DeskState}
 use Rattle.script_lines.specs.declared.script.ScriptItem.{ScriptItem}
-use Rattle.script_lines.specs.Script.{items_ahead, kept_first}
+use Rattle.script_lines.specs.Script.{Asked, asked_by, items_ahead, kept_first}
+use Rattle.checkpoint_laws.specs.Going.{all_raised}
 use Rattle.headend_jobs.specs.OnAir.{HasAired, HasAiredFront}
 use Rattle.headend_jobs.specs.declared.send.SendStop.{SendStop}
 use Rattle.headend_jobs.specs.declared.send.SendStop.TheVariants as send
 use Rattle.epg_play.specs.declared.stop.PlayStop.{PlayStop}
 use Rattle.epg_play.specs.declared.stop.PlayStop.TheVariants.{NoMux as Undescribed, NoCommand as Refused, Disagrees, Read, Air, Memory}
-use Rattle.epg_play.specs.Script.{Stop, Ended, NoCommand, Disagreed, TooLong, Unread, difference, played_items}
+use Rattle.epg_play.specs.Script.{Stop, Ended, NoCommand, Disagreed, TooLong, Unread, commands_of, difference, first_difference, stop_of, up_to}
 
 -- ---- one cycle
 
@@ -32,15 +34,15 @@ abbrev pub send_stop : SendStop → PlayStop
 send_stop send.Air = Air
 send_stop send.Memory = Memory
 
--- what the air has, once a script is played as far as this
-abbrev pub AiredTo : {T : Type 0} → DeskState → Playing → Option (List ℕ) → Option (List ℕ) → Result T PlayStop → Type 0
-AiredTo desk player before now (Ok u) = HasAired desk player before now
-AiredTo desk player before now (Err Air) = HasAiredFront desk before now
-AiredTo desk player before now (Err Memory) = Unit {0}
-AiredTo desk player before now (Err (Undescribed fault)) = HasAired desk player before now
-AiredTo desk player before now (Err (Refused n)) = HasAired desk player before now
-AiredTo desk player before now (Err (Disagrees n kept found)) = HasAired desk player before now
-AiredTo desk player before now (Err (Read stop)) = HasAired desk player before now
+-- what the air has behind earlier cycles, once a script is played as far as this
+abbrev pub AiredTo : {T : Type 0} → List Aired → DeskState → Playing → Option (List ℕ) → Option (List ℕ) → Result T PlayStop → Type 0
+AiredTo earlier desk player before now (Ok u) = HasAired earlier desk player before now
+AiredTo earlier desk player before now (Err Air) = HasAiredFront earlier desk before now
+AiredTo earlier desk player before now (Err Memory) = Unit {0}
+AiredTo earlier desk player before now (Err (Undescribed fault)) = HasAired earlier desk player before now
+AiredTo earlier desk player before now (Err (Refused n)) = HasAired earlier desk player before now
+AiredTo earlier desk player before now (Err (Disagrees n kept found)) = HasAired earlier desk player before now
+AiredTo earlier desk player before now (Err (Read stop)) = HasAired earlier desk player before now
 
 -- a stop by a failed write has its cause, and one by a failed read
 abbrev pub HasAirCause : {T : Type 0} → ℕ → ℕ → Result T PlayStop → Type 0
@@ -79,13 +81,19 @@ abbrev pub unless_late : Option Stop → List Command × Stop → List Command �
 unless_late (Some stop) played = ([], stop)
 unless_late None played = played
 
--- Of these items, what is played behind these entries; `made` is the outcome of the last, where it was made just before.
-abbrev pub course_of : Mux → List Entry → Option Outcome → List ScriptItem × reading.Stop → List Command × Stop
-course_of mux before made items = unless_late (late_difference made (kept_first items.0)) (played_items mux before items)
+-- As `played_after`, where the outcomes that are kept have the numbers of publications raised by the shift.
+abbrev pub played_raised : ℕ → Mux → List Entry → List Asked → Stop → List Command × Stop
+played_raised shift mux before asked stop =
+    up_to (first_difference asked (all_raised shift (journal_after mux before (commands_of asked)))) (commands_of asked) stop
+
+-- Of these items, what is played behind these entries; `made` is the raised outcome of the last, where it was made just before.
+abbrev pub course_of : ℕ → Mux → List Entry → Option Outcome → List ScriptItem × reading.Stop → List Command × Stop
+course_of shift mux before made items =
+    unless_late (late_difference made (kept_first items.0)) (played_raised shift mux before (asked_by items.0) (stop_of items.1))
 
 -- the same of what is ahead
-abbrev pub course : Mux → List Entry → Option Outcome → Ahead → List Command × Stop
-course mux before made lines = course_of mux before made (items_ahead (is_some made) lines)
+abbrev pub course : ℕ → Mux → List Entry → Option Outcome → Ahead → List Command × Stop
+course shift mux before made lines = course_of shift mux before made (items_ahead (is_some made) lines)
 
 -- the desk after these commands
 abbrev pub desk_after : DeskState → List Command → DeskState
@@ -103,14 +111,14 @@ RestDid rest old new (Err Air) = (k : ℕ) × (new ≡ desk_after old (take k re
 RestDid rest old new (Err Memory) = Unit {0}
 
 -- A read failed: of the lines that were whole in the bytes taken all commands were played.
-pub record PlayedWhole {S : Type 0} (left : S → Option (List ℕ)) (old new : Reading S) (desk after : DeskState) : Type 0 where
+pub record PlayedWhole {S : Type 0} (shift : ℕ) (left : S → Option (List ℕ)) (old new : Reading S) (desk after : DeskState) : Type 0 where
   pub lines : List (List ℕ)
   pub whole : WereWhole left old new lines
   pub unended : old.ended ≡ false
-  pub stop : (course desk.mux desk.entries None (ahead_with old lines Breaks)).1 ≡ Unread
-  pub did : after ≡ desk_after desk (course desk.mux desk.entries None (ahead_with old lines Breaks)).0
+  pub stop : (course shift desk.mux desk.entries None (ahead_with old lines Breaks)).1 ≡ Unread
+  pub did : after ≡ desk_after desk (course shift desk.mux desk.entries None (ahead_with old lines Breaks)).0
 
 -- what playing the rest of a script tells of the bytes that the source gave
-abbrev pub RestTaken : {S : Type 0} → (S → Option (List ℕ)) → Reading S → Reading S → DeskState → DeskState → Result (Unit {0}) PlayStop → Type 0
-RestTaken left old new desk after (Err (Read Failed)) = PlayedWhole left old new desk after
-RestTaken left old new desk after result = Unit {0}
+abbrev pub RestTaken : {S : Type 0} → ℕ → (S → Option (List ℕ)) → Reading S → Reading S → DeskState → DeskState → Result (Unit {0}) PlayStop → Type 0
+RestTaken shift left old new desk after (Err (Read Failed)) = PlayedWhole shift left old new desk after
+RestTaken shift left old new desk after result = Unit {0}

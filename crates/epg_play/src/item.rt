@@ -1,17 +1,19 @@
 // The items of a script, done one after the other.
-ghost use Rattle.std.specs.Prelude.{◌≡◌, ◌≤◌, ◌++◌, ◌∷◌, [], List, None, Some, Ok, IfErr, IfSome, OnOk};
+ghost use Rattle.std.specs.Prelude.{◌≡◌, ◌≤◌, ◌<◌, ◌^◌, ◌++◌, ◌∷◌, [], List, None, Some, Ok, IfErr, IfSome, OnOk};
 ghost use Rattle.std.specs.Io.KnownBytes.{IsAtEnd};
 ghost use Rattle.si_causes.specs.Reading.{Reading};
 ghost use Rattle.journal_model.specs.declared.step.Entry.{Entry as AnEntry};
 ghost use Rattle.desk_core.specs.Journal.{Legal};
 ghost use Rattle.desk_core.specs.Desks.{DeskState};
 ghost use Rattle.journal_model.specs.Steps.{IsInWindow};
+ghost use Rattle.checkpoint_laws.specs.Going.{raised};
 ghost use Rattle.headend_jobs.specs.OnAir.{is_swap};
 ghost use Rattle.epg_play.specs.Items.{Falls, GoesOn, ItemDid, Went};
 ghost use Rattle.epg_play.specs.Outcomes.{is_outcome};
 ghost use Rattle.epg_play.specs.Played.{HasReadCause, IsDifference, IsStopInWindow, late_difference, read_stop};
 
 use crate::stop::PlayStop;
+use desk_checkpoint::raise;
 use desk_core::Desk;
 use journal_model::{Outcome, Step};
 use journal_text::{ScriptItem, next_item};
@@ -36,14 +38,15 @@ fn swaps(step: &Step) -> bool
     matches!(step, Step::Swap)
 }
 
-// The outcome of the desk's last entry. It can be written.
-fn last_outcome(desk: &Desk) -> Option<Outcome>
-    ensures value { (front : List AnEntry) (last : AnEntry) → desk.now.entries ≡ front ++ last ∷ [] → result ≡ Some last.outcome }
+// The outcome of the desk's last entry, with the number of its publication raised. It can be written.
+fn last_outcome(desk: &Desk, shift: u64) -> Option<Outcome>
+    requires { shift < 10 ^ 18 }
+    ensures value { (front : List AnEntry) (last : AnEntry) → desk.now.entries ≡ front ++ last ∷ [] → result ≡ Some (raised shift last.outcome) }
     ensures window { IfSome result IsInWindow }
 {
     let _ = desk.mux();
     let last = desk.entries().last()?;
-    Some(last.outcome)
+    Some(raise(last.outcome, shift))
 }
 
 fn agree(kept: Outcome, found: Outcome) -> bool
@@ -77,8 +80,8 @@ fn stop_of(stop: EditStop) -> PlayStop
 }
 
 /// Does the next item of a script at a desk: its step, or the comparison of the outcome that is kept with `made`, the outcome of the
-/// step just before. It gives what the item did, and leaves in `made` what the next one may be compared with; a script begins with
-/// `None`. It sends nothing.
+/// step just before, whose publication has its number raised by the shift, which is below 10^18. It gives what the item did, and leaves in
+/// `made` what the next one may be compared with; a script begins with `None`. It sends nothing.
 ///
 /// `NoCommand`, `Disagrees`, `Read` and `Memory` say why the script is not played on, as [`crate::run_play`] does; no other stop comes.
 pub fn do_item<S: Source>(
@@ -86,12 +89,14 @@ pub fn do_item<S: Source>(
     lines: &mut LineReader<S>,
     desk: &mut Desk,
     made: &mut Option<Outcome>,
+    shift: u64,
 ) -> Result<ItemDone, PlayStop>
     requires going { lines.old.stop ≡ None }
+    requires shift { shift < 10 ^ 18 }
     requires legal { Legal desk.old.mux desk.old.entries }
     requires window { IfSome made.old IsInWindow }
-    ensures goes_on { (first : Reading S) (before : DeskState) → Went S.left first lines.old before desk.old made.old
-        → GoesOn S.left first lines.new before desk.new made.new result }
+    ensures goes_on { (first : Reading S) (before : DeskState) → Went shift S.left first lines.old before desk.old made.old
+        → GoesOn shift S.left first lines.new before desk.new made.new result }
     ensures did { ItemDid desk.old desk.new result }
     ensures going { OnOk result (lines.new.stop ≡ None) }
     ensures legal { OnOk result (Legal desk.new.mux desk.new.entries) }
@@ -107,7 +112,7 @@ pub fn do_item<S: Source>(
         Ok(ScriptItem::Step(who, step)) => {
             let is_swap = swaps(&step);
             desk.step(who, step)?;
-            *made = last_outcome(desk);
+            *made = last_outcome(desk, shift);
             if is_swap {
                 Ok(ItemDone::Swap)
             } else {

@@ -17,5 +17,6 @@ mod stop;
 pub use ending::status_of;
 pub use item::{ItemDone, do_item};
 pub use laws::{journals_play_again, outcomes_are_compared, play_is_heard, reports_tell_journals};
+pub use play::play_rest;
 pub use run::{mux_stop_of, run_play};
 pub use stop::PlayStop;

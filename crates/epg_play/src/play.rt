@@ -1,10 +1,11 @@
 // The commands of a script, done one after the other.
-ghost use Rattle.std.specs.Prelude.{◌≡◌, ◌≤◌, List, ℕ, Option, None, Some, IfErr, OnOk};
+ghost use Rattle.std.specs.Prelude.{◌≡◌, ◌≤◌, ◌<◌, ◌^◌, [], List, ℕ, Option, None, Some, IfErr, OnOk};
 ghost use Rattle.std.specs.Io.KnownBytes.{IsAtEnd};
 ghost use Rattle.si_causes.specs.Reading.{text_left};
 ghost use Rattle.input_lines.specs.Ahead.{ahead};
+ghost use Rattle.air_model.specs.Air.{Aired};
 ghost use Rattle.desk_core.specs.Journal.{Legal};
-ghost use Rattle.headend_jobs.specs.OnAir.{HasAired, IsOnAir};
+ghost use Rattle.headend_jobs.specs.OnAir.{HasAired};
 ghost use Rattle.epg_play.specs.Played.{AiredTo, HasAirCause, HasReadCause, IsStopInWindow, RestDid, RestTaken, course, send_stop};
 
 use crate::item::{ItemDone, do_item};
@@ -24,21 +25,25 @@ fn stop_of(stop: SendStop) -> PlayStop
     }
 }
 
-/// Does the commands that are left, up to the first line that is none, or that keeps another outcome than the desk's; each swap
-/// sends its cycle before the next line is read.
-pub(crate) fn play_rest<S: Source, A: Sink>(
+/// Does the commands that are left, up to the first line that is none, or that keeps another outcome than the desk's, whose publications
+/// have their numbers raised by the shift; each swap sends its cycle before the next line is read.
+pub fn play_rest<S: Source, A: Sink>(
     alloc: Global,
     lines: &mut LineReader<S>,
     desk: &mut Desk,
     player: &mut Player,
     air: &mut A,
+    shift: u64,
 ) -> Result<(), PlayStop>
     requires going { lines.old.stop ≡ None }
-    requires on_air { IsOnAir desk.old player.old }
+    requires at_end { player.old.left ≡ [] }
+    requires shift { shift < 10 ^ 18 }
     requires legal { Legal desk.old.mux desk.old.entries }
-    ensures did { (text : List ℕ) → text_left S.left lines.old ≡ Some text → RestDid (course desk.old.mux desk.old.entries None (ahead lines.old text)) desk.old desk.new result }
-    ensures taken { RestTaken S.left lines.old lines.new desk.old desk.new result }
-    ensures aired { (before : Option (List ℕ)) → HasAired desk.old player.old before (A.written air.old) → AiredTo desk.new player.new before (A.written air.new) result }
+    ensures did { (text : List ℕ) → text_left S.left lines.old ≡ Some text → RestDid (course shift desk.old.mux desk.old.entries None (ahead lines.old text)) desk.old desk.new result }
+    ensures taken { RestTaken shift S.left lines.old lines.new desk.old desk.new result }
+    ensures aired { (earlier : List Aired) (before : Option (List ℕ)) → HasAired earlier desk.old player.old before (A.written air.old)
+        → AiredTo earlier desk.new player.new before (A.written air.new) result }
+    ensures ended { OnOk result (player.new.left ≡ []) }
     ensures window { IfErr result IsStopInWindow }
     ensures end { OnOk result (IsAtEnd (S.left lines.new.source)) }
     ensures read_cause { HasReadCause (S.faults lines.old.source) (S.faults lines.new.source) result }
@@ -49,7 +54,7 @@ pub(crate) fn play_rest<S: Source, A: Sink>(
 {
     let mut made = None;
     'items: loop {
-        match do_item(alloc, lines, desk, &mut made) {
+        match do_item(alloc, lines, desk, &mut made, shift) {
             Ok(ItemDone::Swap) => {
                 if let Err(stop) = send_on_air(alloc, desk, player, air) {
                     return Err(stop_of(stop));

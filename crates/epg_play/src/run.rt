@@ -57,7 +57,7 @@ fn play<S: Source, A: Sink>(alloc: Global, lines: &mut LineReader<S>, air: &mut 
         };
     };
     let mut player = Player::open(alloc, quota);
-    let stop = play_rest(alloc, lines, &mut desk, &mut player, air).err();
+    let stop = play_rest(alloc, lines, &mut desk, &mut player, air, 0).err();
     Played {
         desk: Some(desk),
         stop,

@@ -25,7 +25,7 @@ items-init g c = record {
   quota = c.requires.quota;
   legal = subst (λ (l : List Entry). Legal c.args.desk.now.mux l) (sym c.requires.none) tt;
   window = tt;
-  went = went_none g.S.Source.left c.args.lines.now c.args.desk.now;
+  went = went_none 0 g.S.Source.left c.args.lines.now c.args.desk.now;
   follows = subst (λ (l : List AiredTables). Follows g.F.Source.left c.args.packets.now c.args.packets.now l c.args.checker.now) (sym (ap (airings c.args.desk.now.mux) c.requires.none))
       (follows_none g.F.Source.left c.args.packets.now c.args.packets.now c.args.packets.now c.args.checker.now c.requires.stands c.requires.first);
 }

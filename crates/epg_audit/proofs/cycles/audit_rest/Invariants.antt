@@ -21,7 +21,7 @@ invariant-items g l =
       quota : l.checker.quota ≡ l.desk.mux.quota;
       legal : Legal l.desk.mux l.desk.entries;
       window : IfSome l.made IsInWindow;
-      went : Went g.S.Source.left l.fn.lines l.lines l.fn.desk l.desk l.made;
+      went : Went 0 g.S.Source.left l.fn.lines l.lines l.fn.desk l.desk l.made;
       follows : Follows g.F.Source.left l.fn.packets l.packets (desk_airings l.desk) l.checker;
     }
 

@@ -25,7 +25,7 @@ pub returns-in_default-clause-finds : goal.returns-in_default-clause-finds
 returns-in_default-clause-finds g c = λ text tells files has.
     let mid = c.read_mux.new.lines in
     let read = first_read g.S.Source.left g.S.Source.faults g.S.Source.same c.args.lines.now mid c.args.lines.now.source text c.in-Ok.mux c.requires.unread tells c.in-Ok.ensures.read in
-    let played = went_played g.S.Source.left c.args.lines.now.source mid mid text c.in-Ok.mux (fresh c.in-Ok.mux) _ read.0 (went_none g.S.Source.left mid (fresh c.in-Ok.mux)) in
+    let played = went_played g.S.Source.left c.args.lines.now.source mid mid text c.in-Ok.mux (fresh c.in-Ok.mux) _ read.0 (went_none 0 g.S.Source.left mid (fresh c.in-Ok.mux)) in
     (refl, some_mux (script_in text).mux c.in-Ok.mux played.described)
 
 pub returns-clause-finds : goal.returns-clause-finds

@@ -1,4 +1,4 @@
-use Rattle.std.proofs.Common.{◌≡◌, List, ℕ, refl, sym, subst}
+use Rattle.std.proofs.Common.{◌≡◌, List, [], ℕ, refl, sym, subst}
 use Rattle.std.specs.Prelude.{Option, Some, None}
 use Rattle.desk_core.specs.Desks.{DeskState}
 use Rattle.epg_play.specs.declared.stop.PlayStop.{PlayStop}
@@ -7,7 +7,7 @@ use Rattle.input_lines.specs.Ahead.{ahead}
 use Rattle.si_causes.specs.Reading.{text_left}
 use Rattle.epg_play.specs.Ending.{HasPlayed}
 use Rattle.epg_report.specs.Told.{told}
-use Rattle.epg_play.proofs.RunFacts.{no_mux_played, played_behind, start_aired, start_on_air}
+use Rattle.epg_play.proofs.RunFacts.{no_mux_played, plain_rest, played_behind, start_aired}
 use Rattle.epg_play.proofs.run.play.Goals as goal
 use Rattle.mux_config.proofs.Reading.{first_read}
 
@@ -31,14 +31,14 @@ returns-clause-played g c = λ text tells.
     let air = told g.A.Sink.written g.A.Sink.faults c.args.air.now c.play_rest.new.air in
     let after = c.play_rest.new.desk in
     let r = c.play_rest.result in
-    let did = subst (λ (d : DeskState). (rest : List ℕ) → text_left g.S.Source.left mid ≡ Some rest → RestDid (course d.mux d.entries None (ahead mid rest)) d after r) desk c.play_rest.ensures.did in
-    let taken = subst (λ (d : DeskState). RestTaken g.S.Source.left mid new d after r) desk c.play_rest.ensures.taken in
-    let aired = c.play_rest.ensures.aired (g.A.Sink.written c.args.air.now) (start_aired mux c.in-Ok-open.desk c.open-player.result (g.A.Sink.written c.args.air.now) desk c.open-player.ensures.at_end c.open-player.ensures.quota) in
+    let did = subst (λ (d : DeskState). (rest : List ℕ) → text_left g.S.Source.left mid ≡ Some rest → RestDid (course 0 d.mux d.entries None (ahead mid rest)) d after r) desk c.play_rest.ensures.did in
+    let taken = subst (λ (d : DeskState). RestTaken 0 g.S.Source.left mid new d after r) desk c.play_rest.ensures.taken in
+    let aired = c.play_rest.ensures.aired [] (g.A.Sink.written c.args.air.now) (start_aired mux c.in-Ok-open.desk c.open-player.result (g.A.Sink.written c.args.air.now) desk c.open-player.ensures.at_end c.open-player.ensures.quota) in
     subst (λ (o : Option PlayStop). HasPlayed text (g.S.Source.left new.source) air (Some after) o) (sym c.err-stop.ensures.value)
-    (played_behind g.S.Source.left old.source mid new text mux after c.play_rest.new.player air r tells read.0 read.1 did taken aired)
+    (played_behind g.S.Source.left old.source mid new text mux after c.play_rest.new.player air r tells read.0 read.1 (λ rest told. plain_rest mux (ahead mid rest) after r (did rest told)) taken aired)
 
 pub returns-clause-same : goal.returns-clause-same
 returns-clause-same g c = g.met.S.Source.same_later c.args.lines.now.source c.read_mux.new.lines.source c.play_rest.new.lines.source c.in-Ok.ensures.read.reads.same c.play_rest.ensures.same
 
-pub play_rest-requires-clause-on_air : goal.play_rest-requires-clause-on_air
-play_rest-requires-clause-on_air g c = start_on_air c.in-Ok.mux c.in-Ok-open.desk c.open-player.result c.in-Ok-open.ensures c.open-player.ensures.at_end c.open-player.ensures.quota
+pub play_rest-requires-clause-at_end : goal.play_rest-requires-clause-at_end
+play_rest-requires-clause-at_end g c = c.open-player.ensures.at_end.none
