@@ -1,7 +1,7 @@
 use Rattle.std.proofs.Common.{◌+◌, ◌∙◌, ℕ, sym, ap, arith}
 use Rattle.journal_model.specs.declared.step.Entry.{Entry}
 use Rattle.desk_core.specs.Publications.{aired_by}
-use Rattle.epg_report.proofs.Counting.{counts_more, counts_same}
+use Rattle.si_lists.proofs.Counting.{counts_more, counts_same}
 use Rattle.epg_audit.proofs.cycles.swap_count.Goals.{then-is_swapped, else-is_swapped}
 use Rattle.epg_audit.proofs.cycles.swap_count.Goals as goal
 
