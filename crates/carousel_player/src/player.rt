@@ -57,10 +57,11 @@ impl Player {
         }
     }
 
-    /// A player at its end that goes on from these versions, each below 32, and counters, each below 16 and of a PID below
-    /// 8,192: it stands for each air of which they are what is kept. A PID whose counter is 0 had 16, 32, .. packets, and
-    /// one that is not named had none (ISO/IEC 13818-1, 2.4.3.3 and 2.4.4.5). The quota is as for `open`. AllocError comes
-    /// where memory is wanting.
+    /// A player at its end that goes on from these versions, each below 32, and counters, each
+    /// below 16 and of a PID below 8,192: it stands for each air of which they are what is kept. A
+    /// PID whose counter is 0 had 16, 32, .. packets, and one that is not named had none (ISO/IEC
+    /// 13818-1, 2.4.3.3 and 2.4.4.5). The quota is as for `open`. AllocError comes where memory is
+    /// wanting.
     pub fn resume(
         alloc: Global,
         quota: u32,
@@ -71,8 +72,10 @@ impl Player {
         requires most { quota ≤ 10000 }
         requires small { All (λ k. k.version < 32) kept }
         requires counters { All IsPidCounter counters.now }
-        ensures stands { IfOk result (λ player. (xs : List Aired) → AreKeptOf xs kept counters.now → AtEnd xs player) }
-        ensures keeps { IfOk result (λ player. (k : Key) → given_in k player.book ≡ given_in k (given_entries kept)) }
+        ensures stands { IfOk result (λ player.
+            (xs : List Aired) → AreKeptOf xs kept counters.now → AtEnd xs player) }
+        ensures keeps { IfOk result (λ player.
+            (k : Key) → given_in k player.book ≡ given_in k (given_entries kept)) }
         ensures named { IfOk result (λ player. (pid : ℕ) → pid < 8192
             → slice_index_or player.counters pid None ≡ counter_in pid counters.now) }
         ensures ended { IfOk result (λ player. player.left ≡ []) }
@@ -87,27 +90,32 @@ impl Player {
         })
     }
 
-    /// What a player at its end goes on from (`resume`): each key that an airing carried, with its last version and content,
-    /// and each PID that had a packet, with its counter, both in ascending order. What was handed in counts as carried and
-    /// as sent. AllocError comes where memory is wanting.
+    /// What a player at its end goes on from (`resume`): each key that an airing carried, with its
+    /// last version and content, and each PID that had a packet, with its counter, both in
+    /// ascending order. What was handed in counts as carried and as sent. AllocError comes where
+    /// memory is wanting.
     pub fn kept(&self) -> Result<(KeyVersions, PidCounters), AllocError>
         requires { self.now.left ≡ [] }
         ensures versions { IfOk result (λ kept. AreKeyVersionsOf self.now.book kept.0) }
         ensures counters { IfOk result (λ kept. ArePidCountersOf self.now.counters kept.1) }
-        ensures are { IfOk result (λ kept. (xs : List Aired) → AtEnd xs self.now → AreKeptOf xs kept.0 kept.1) }
+        ensures are { IfOk result (λ kept.
+            (xs : List Aired) → AtEnd xs self.now → AreKeptOf xs kept.0 kept.1) }
     {
         let versions = self.book.kept()?;
         let counters = self.counters.kept(versions.allocator())?;
         Ok((versions, counters))
     }
 
-    /// Begins the cycle of one airing more: of these sub-tables, of the publication with this number, at the moment of
-    /// the swap (EN 300 468, 5.1.1), in a cycle of the player's quota. The moment is sent as the cycle's TDT (EN 300 468,
-    /// 5.2.5); no packet tells the number. Each section is laid once, and is sent as often as its tier and the quota say
-    /// (`cycle_plan`); sections of one PID that follow each other share packets (ISO/IEC 13818-1, 2.4.4). It needs a player at its end, a moment whose day has 16 bits, and
-    /// sub-tables whose keys differ, in the order of their tiers (TR 101 211, 4.4), with PIDs below 8,191, each with at least
-    /// one section, ascending numbers and bodies that fit a section in the long form, and none with the table_id 0xFF, which
-    /// is fill. All memory is taken first: where it is wanting, the player stays as it was, at its end.
+    /// Begins the cycle of one airing more: of these sub-tables, of the publication with this
+    /// number, at the moment of the swap (EN 300 468, 5.1.1), in a cycle of the player's quota. The
+    /// moment is sent as the cycle's TDT (EN 300 468, 5.2.5); no packet tells the number. Each
+    /// section is laid once, and is sent as often as its tier and the quota say (`cycle_plan`);
+    /// sections of one PID that follow each other share packets (ISO/IEC 13818-1, 2.4.4). It needs
+    /// a player at its end, a moment whose day has 16 bits, and sub-tables whose keys differ, in
+    /// the order of their tiers (TR 101 211, 4.4), with PIDs below 8,191, each with at least one
+    /// section, ascending numbers and bodies that fit a section in the long form, and none with the
+    /// table_id 0xFF, which is fill. All memory is taken first: where it is wanting, the player
+    /// stays as it was, at its end.
     pub fn swap(&mut self, tables: Tables, number: u64, moment: Moment) -> Result<(), AllocError>
         requires at_end { self.old.left ≡ [] }
         requires fit { AreFit tables.list }

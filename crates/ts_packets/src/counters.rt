@@ -36,13 +36,15 @@ impl Counters {
         Counters { next: [None; 8192] }
     }
 
-    /// Counters that go on from these, each below 16 and of a PID below 8,192: each PID that is named goes on with its
-    /// counter, with the first one where it is named again, and every other PID with 0. They stand for all packets of which
-    /// these are the counters. It takes no memory.
+    /// Counters that go on from these, each below 16 and of a PID below 8,192: each PID that is
+    /// named goes on with its counter, with the first one where it is named again, and every other
+    /// PID with 0. They stand for all packets of which these are the counters. It takes no memory.
     pub fn of(kept: &[PidCounter]) -> Counters
         requires { All IsPidCounter kept.now }
-        ensures each { (pid : ℕ) → pid < 8192 → slice_index_or result pid None ≡ counter_in pid kept.now }
-        ensures stands { (past : List (List ℕ)) → AreCountersOf past kept.now → StandFor past result }
+        ensures each { (pid : ℕ) → pid < 8192
+            → slice_index_or result pid None ≡ counter_in pid kept.now }
+        ensures stands { (past : List (List ℕ)) → AreCountersOf past kept.now
+            → StandFor past result }
     {
         let mut next = [None; 8192];
         for counter in kept {
@@ -52,12 +54,14 @@ impl Counters {
         Counters { next }
     }
 
-    /// The counter of each PID that had a packet, or that was named to `of`, in ascending order of PIDs: from these `of` goes
-    /// on. AllocError comes where memory is wanting.
+    /// The counter of each PID that had a packet, or that was named to `of`, in ascending order of
+    /// PIDs: from these `of` goes on. AllocError comes where memory is wanting.
     pub fn kept(&self, alloc: Global) -> Result<PidCounters, AllocError>
         ensures kept { IfOk result (λ kept. ArePidCountersOf self.now kept) }
-        ensures counters { IfOk result (λ kept. (past : List (List ℕ)) → StandFor past self.now → AreCountersOf past kept) }
-        ensures all { IfOk result (λ kept. (past : List (List ℕ)) → StandFor past self.now → kept ≡ counters_of past) }
+        ensures counters { IfOk result (λ kept.
+            (past : List (List ℕ)) → StandFor past self.now → AreCountersOf past kept) }
+        ensures all { IfOk result (λ kept.
+            (past : List (List ℕ)) → StandFor past self.now → kept ≡ counters_of past) }
     {
         let mut kept = Items::new(alloc);
         for pid in 0..8192u16 {

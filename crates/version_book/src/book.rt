@@ -51,13 +51,15 @@ impl VersionBook {
         }
     }
 
-    /// A book that goes on from these keys, whose versions are below 32: it stands for each airing list that leaves just
-    /// them, each with this version and this content. A key that stands among them again has what it has first. AllocError
-    /// comes where memory is wanting.
+    /// A book that goes on from these keys, whose versions are below 32: it stands for each airing
+    /// list that leaves just them, each with this version and this content. A key that stands among
+    /// them again has what it has first. AllocError comes where memory is wanting.
     pub fn of(alloc: Global, kept: KeyVersions) -> Result<VersionBook, AllocError>
         requires { All (λ k. k.version < 32) kept }
-        ensures keeps { IfOk result (λ book. (k : Key) → given_in k book ≡ given_in k (given_entries kept)) }
-        ensures stands { IfOk result (λ book. (past : List AiredTables) → BookStandsFor past (given_entries kept)
+        ensures keeps { IfOk result (λ book.
+            (k : Key) → given_in k book ≡ given_in k (given_entries kept)) }
+        ensures stands { IfOk result (λ book.
+            (past : List AiredTables) → BookStandsFor past (given_entries kept)
             → BookStandsFor past book) }
     {
         let mut slots = BTreeMap::new(alloc);
@@ -68,8 +70,9 @@ impl VersionBook {
         Ok(VersionBook { alloc, slots })
     }
 
-    /// Each key that an airing carried, or that was handed in by `of`, with its last version and content, in ascending order
-    /// of keys: from these `of` goes on. AllocError comes where memory is wanting.
+    /// Each key that an airing carried, or that was handed in by `of`, with its last version and
+    /// content, in ascending order of keys: from these `of` goes on. AllocError comes where memory
+    /// is wanting.
     pub fn kept(&self) -> Result<KeyVersions, AllocError>
         ensures { IfOk result (λ kept. AreKeyVersionsOf self.now kept) }
     {
