@@ -1,12 +1,12 @@
 // What bodies say, as a value or none.
-ghost use Rattle.std.specs.Prelude.{◌≡◌, ◌<◌, IfOk};
-ghost use Rattle.table_entries.specs.Loops.{AreBytes};
+ghost use Rattle.std.specs.Prelude.{◌≡◌, IfOk};
 ghost use Rattle.guide_screen.specs.Reading.{pmt_in, nit_in, sdt_in, eit_in};
 
 use eit_codec::{Eit, read_eit};
 use nit_sdt::{Nit, Sdt, read_nit, read_sdt};
 use pat_pmt::{Pmt, read_pmt};
 use std::alloc::{AllocError, Global};
+use table_entries::are_bytes;
 
 // What a program map table says.
 pub(crate) fn pmt_in(alloc: Global, body: &[u8]) -> Result<Option<Pmt>, AllocError>
@@ -59,16 +59,3 @@ pub(crate) fn eit_in(alloc: Global, body: &[u8]) -> Result<Option<Eit>, AllocErr
         }
     }
 }
-
-// That each is a byte.
-fn are_bytes(bytes: &[u8])
-    ensures { AreBytes bytes.now }
-{
-    for byte in bytes {
-        is_byte(*byte);
-    }
-}
-
-fn is_byte(number: u8)
-    ensures { number < 256 }
-{}

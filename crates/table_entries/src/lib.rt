@@ -5,13 +5,15 @@
 //! The layers above use: [`split_entry`] cuts an entry off the front of bytes, and [`read_entries`] reads a whole loop of a kind of
 //! entries ([`EntryKind`]). Bytes are the entries of one list of values at most (`AreEntries`, in `specs/`). [`are_entries`] and
 //! [`behind_entry`] look at entries without reading them, by the words of `specs/Loops.antt`; the lemmas that tie both are in
-//! `proofs/Looks.antt`.
+//! `proofs/Looks.antt`. [`are_bytes`] tells that what stands in a slice is bytes (`AreBytes`).
 #![tactic(auto)]
 
+mod byte;
 mod entry;
 mod loops;
 mod read;
 
+pub use byte::are_bytes;
 pub use entry::{RawEntry, split_entry};
 pub use loops::{are_descriptors, are_entries, behind_entry};
 pub use read::{EntryKind, read_entries};

@@ -1,6 +1,6 @@
 use Rattle.std.proofs.Common.{take}
 use Rattle.table_entries.specs.Loops.{AreBytes}
-use Rattle.guide_screen.proofs.bodies.are_bytes.Given as goal
+use Rattle.table_entries.proofs.byte.are_bytes.Given as goal
 
 -- those so far are bytes
 abbrev pub invariant-loop-byte : goal.invariant-loop-byte
