@@ -20,12 +20,12 @@ use Rattle.journal_model.specs.declared.step.Entry.{Entry}
 use Rattle.journal_model.specs.Steps.{Command}
 use Rattle.desk_core.specs.Journal.{publishes, moment_of, outcome_of, LegalAfter, Legal, journal_after}
 use Rattle.desk_core.specs.Publications.{publication, aired_by, swaps}
-use Rattle.desk_core.proofs.JournalFacts.{journal_legal}
+use Rattle.desk_core.proofs.JournalFacts.{journal_legal, publication_stays}
 use Rattle.desk_core.proofs.DerivedFacts.{not_aired}
 use Rattle.journal_air.specs.Air.{mux_form, airing_at, airings, airings_by}
 use Rattle.checkpoint_laws.specs.Steps.{checkpoint_steps, folded, shift_of}
 use Rattle.checkpoint_laws.specs.Going.{is_taken, raised, all_raised, GoOnAlike}
-use Rattle.checkpoint_laws.proofs.GoFacts.{journals_alike, publications_alike, publication_stays}
+use Rattle.checkpoint_laws.proofs.GoFacts.{journals_alike, publications_alike}
 use Rattle.checkpoint_laws.proofs.FoldFacts.{steps_taken, goes_on}
 
 -- ---- what is taken puts nothing on air

@@ -32,7 +32,7 @@ use Rattle.journal_model.specs.declared.step.Entry.{Entry}
 use Rattle.desk_core.specs.Journal.{is_publish, accepted, publishes, moment_of, later_of, ticked, outcome_of, LegalAfter, Legal, entry_after, journal_after}
 use Rattle.journal_model.specs.Steps.{Command}
 use Rattle.desk_core.specs.Publications.{publication, guide_after}
-use Rattle.desk_core.proofs.JournalFacts.{publishes-push, accepted-push, publication-kept, publication-new, moment-other, legal_more, journal_legal}
+use Rattle.desk_core.proofs.JournalFacts.{publishes-push, accepted-push, publication-kept, publication-new, publication_stays, moment-other, legal_more, journal_legal}
 use Rattle.desk_core.proofs.DerivedFacts.{edited, now_accepted, now_ticked}
 use Rattle.desk_core.proofs.WithinFacts.{draft_within}
 use Rattle.checkpoint_laws.specs.Steps.{checkpoint_steps, steps_of}
@@ -186,13 +186,6 @@ pub all_legal : (mux : Mux) (entries : List Entry) (commands : List Command) →
 all_legal mux entries commands legal = legal_on mux [] entries (journal_after mux entries commands) legal (journal_legal mux entries commands)
 
 -- ---- publications
-
-pub publication_stays : (mux : Mux) (xs es : List Entry) (n : ℕ) → n ≤ publishes xs → publication mux (xs ++ es) n ≡ publication mux xs n
-publication_stays mux xs [] n le = ap (λ (l : List Entry). publication mux l n) (append-nil xs)
-publication_stays mux xs (e ∷ es) n le =
-    ap (λ (l : List Entry). publication mux l n) (sym (append_assoc xs (e ∷ []) es))
-    ∙ publication_stays mux (xs ++ e ∷ []) es n (omega (arith, publishes-push xs e, le))
-    ∙ publication-kept mux xs e n le
 
 below : {m n : ℕ} → m ≤ n → (n ≡ m → ⊥) → m < n
 below {m} {n} low other = grind arith

@@ -18,6 +18,7 @@ use Rattle.guide_limits.specs.Events.{end_of}
 use Rattle.guide_limits.specs.Readings.{event_of, rating_of, read_moment, read_duration}
 use Rattle.guide_limits.specs.Limits.{is_small, is_capital, IsRatingWithin, IsEventWithin, AreNamesWithin}
 use Rattle.feed_book.specs.Replies.{refused_if, is_outside, is_wide, rating_fails, misses_day, field_fault, name_fault}
+use Rattle.feed_book.proofs.Faults.{not_outside}
 use Rattle.checkpoint_laws.specs.Items.{raw_rating, event_item}
 
 start_read : (event : Event) → IsEventWithin event → read_moment (event_item event).start ≡ Some event.start.0
@@ -38,9 +39,6 @@ event_back event within = rw (start_read event within, length_read event within,
 fine : {F : Type 0} (b : Bool) (f : F) (rest : Option F) → b ≡ false → rest ≡ None → refused_if b f rest ≡ None
 fine b f rest p q = cond-false b (Some f) rest p ∙ q
 
-inside : (low high n : ℕ) → low ≤ n → n ≤ high → is_outside low high n ≡ false
-inside low high n p q = grind (arith, nat_tests)
-
 three : (xs : List ℕ) (p : ℕ → Bool) → length xs ≡ 3 → list_all p xs ≡ true → not (eqb (length xs) 3 && list_all p xs) ≡ false
 three xs p l h = rw (l, h) refl
 
@@ -55,7 +53,7 @@ country_fine (Some rating) h = three rating.country is_capital h.0 h.1
 value_fine : (o : Option Rating) → IsRatingWithin o
     → rating_fails (λ (r : RawRating). is_outside 1 15 r.value) (option_map raw_rating o) ≡ false
 value_fine None h = refl
-value_fine (Some rating) h = inside 1 15 rating.value h.2 h.3
+value_fine (Some rating) h = not_outside 1 15 rating.value h.2 h.3
 
 narrow : (genre : Genre) → HasNibbles genre → is_wide genre ≡ false
 narrow genre h = grind (arith, nat_tests)
@@ -68,14 +66,14 @@ fields_fine event within =
     let start_is : start ≡ event.start.0 = ap (λ (o : Option ℕ). unwrap_or o 0) (start_read event within) in
     let seconds_is : seconds ≡ event.seconds = ap (λ (o : Option ℕ). unwrap_or o 0) (length_read event within) in
     let early : ltb (65536 * 86400) (start + seconds) ≡ false = rw (start_is, seconds_is) (late event within.window) in
-    let lasts : is_outside 1 86399 seconds ≡ false = rw seconds_is (inside 1 86399 event.seconds within.lasts.0 within.lasts.1) in
+    let lasts : is_outside 1 86399 seconds ≡ false = rw seconds_is (not_outside 1 86399 event.seconds within.lasts.0 within.lasts.1) in
     fine (is_none (read_moment item.start)) field.Start _ (ap is_none (start_read event within)) (
     fine (is_none (read_duration item.length) || is_outside 1 86399 seconds) field.Duration _ (neither _ _ (ap is_none (length_read event within)) lasts) (
     fine (ltb (65536 * 86400) (start + seconds) || misses_day None start) field.Window _ (neither _ _ early refl) (
     fine (not (eqb (length item.language) 3 && list_all is_small item.language)) field.Language _ (three event.language is_small within.language.0 within.language.1) (
-    fine (is_outside 1 100 (coded_size item.name)) field.Name _ (inside 1 100 (coded_size event.name) within.named within.limits.name) (
-    fine (is_outside 0 150 (coded_size item.short)) field.Short _ (inside 0 150 (coded_size event.short) (omega arith) within.limits.short) (
-    fine (is_outside 0 1000 (length item.extended)) field.Extended _ (inside 0 1000 (length event.extended) (omega arith) within.limits.extended) (
+    fine (is_outside 1 100 (coded_size item.name)) field.Name _ (not_outside 1 100 (coded_size event.name) within.named within.limits.name) (
+    fine (is_outside 0 150 (coded_size item.short)) field.Short _ (not_outside 0 150 (coded_size event.short) (omega arith) within.limits.short) (
+    fine (is_outside 0 1000 (length item.extended)) field.Extended _ (not_outside 0 1000 (length event.extended) (omega arith) within.limits.extended) (
     fine (rating_fails (λ (r : RawRating). not (eqb (length r.country) 3 && list_all is_capital r.country)) item.rating) field.Country _ (country_fine event.rating within.rating) (
     fine (rating_fails (λ (r : RawRating). is_outside 1 15 r.value) item.rating) field.Rating _ (value_fine event.rating within.rating) (
     fine (ltb 8 (length item.genres) || list_any is_wide item.genres) field.Genre None
@@ -89,5 +87,5 @@ fields_fine event within =
 
 pub names_fine : (provider name : List ℕ) → AreNamesWithin provider name → name_fault provider name ≡ None
 names_fine provider name within =
-    fine (is_outside 0 100 (coded_size provider)) field.Provider _ (inside 0 100 (coded_size provider) (omega arith) within.provider)
-    (fine (is_outside 1 100 (coded_size name)) field.ServiceName None (inside 1 100 (coded_size name) within.name.0 within.name.1) refl)
+    fine (is_outside 0 100 (coded_size provider)) field.Provider _ (not_outside 0 100 (coded_size provider) (omega arith) within.provider)
+    (fine (is_outside 1 100 (coded_size name)) field.ServiceName None (not_outside 1 100 (coded_size name) within.name.0 within.name.1) refl)

@@ -5,10 +5,10 @@ use Rattle.std.specs.List.{AllByRecursion, flat_map, zip}
 use Rattle.std.proofs.lemmas.Bool.{cases_Bool, cond-true, cond-false}
 use Rattle.std.proofs.lemmas.List.Concat.{flat_map-cons}
 use Rattle.si_lists.proofs.Lists.{all_append, all_map, all_through, all_to_map}
-use Rattle.si_time.specs.Moments.{moment_text, duration_text}
-use Rattle.si_time.specs.Readings.{has_shape, moment_in, duration_in, seconds_at, date_at_front, clock_at}
+use Rattle.si_time.specs.Moments.{moment_text}
+use Rattle.si_time.specs.Readings.{has_shape, moment_in, seconds_at, date_at_front, clock_at}
 use Rattle.si_time.proofs.RoundTrips.{behind_test}
-use Rattle.si_time.proofs.TextFacts.{moment_in-moment_text, duration_in-duration_text}
+use Rattle.si_time.proofs.TextFacts.{moment_in-moment_text}
 use Rattle.guide_model.specs.declared.event.Event.{Event}
 use Rattle.guide_model.specs.declared.event.Rating.{Rating}
 use Rattle.guide_model.specs.declared.guide.ServiceGuide.{ServiceGuide}
@@ -26,6 +26,7 @@ use Rattle.journal_model.specs.declared.step.Entry.{Entry}
 use Rattle.journal_model.specs.Edits.{IsShapedItem}
 use Rattle.journal_model.specs.Steps.{IsStepWithin, Command}
 use Rattle.script_lines.specs.Script.{IsShapedStep}
+use Rattle.script_lines.proofs.Shapes.{duration_shaped}
 use Rattle.desk_core.specs.Journal.{is_publish, moment_of, publishes, Legal}
 use Rattle.desk_core.specs.Publications.{before_publish, publication, guide_after}
 use Rattle.desk_core.proofs.MomentFacts.{InRange, written_steps, moment_range}
@@ -45,10 +46,6 @@ start_shaped t h =
     let text = moment_text t in
     (behind_test (has_shape (codes "dddd-dd-ddTdd:dd:ddZ") text) (seconds_at (date_at_front text) (clock_at 24 11 text)) t (moment_in-moment_text t h)).0
 
-length_shaped : (t : ℕ) → t < 360000 → has_shape (codes "dd:dd:dd") (duration_text t) ≡ true
-unfolding duration_in
-length_shaped t h = (behind_test (has_shape (codes "dd:dd:dd") (duration_text t)) (clock_at 100 0 (duration_text t)) t (duration_in-duration_text t h)).0
-
 country_there : (o : Option Rating) → IsRatingWithin o → IfSome (option_map raw_rating o) (λ (r : RawRating). r.country ≢ [])
 country_there None h = tt
 country_there (Some rating) h = λ e. (let none : length rating.country ≡ 0 = ap length e in let three : length rating.country ≡ 3 = h.0 in omega arith)
@@ -56,7 +53,7 @@ country_there (Some rating) h = λ e. (let none : length rating.country ≡ 0 = 
 item_shaped : (event : Event) → IsEventWithin event → IsShapedItem (event_item event)
 item_shaped event within = record {
   start = start_shaped event.start.0 (omega (arith, within.lasts, within.window));
-  length = length_shaped event.seconds (omega (arith, within.lasts));
+  length = duration_shaped event.seconds (omega (arith, within.lasts));
   country = country_there event.rating within.rating;
 }
 

@@ -12,18 +12,18 @@ use Rattle.si_lists.proofs.Filters.{list_all-more}
 use Rattle.section_codec.specs.declared.table.Key.{Key}
 use Rattle.section_codec.specs.declared.table.NumberedBody.{NumberedBody}
 use Rattle.ts_packets.specs.declared.pid_counter.PidCounter.{PidCounter}
-use Rattle.si_text.specs.Decoding.{IsKept}
 use Rattle.input_lines.specs.Fields.{record_of, fields_compute}
 use Rattle.input_lines.specs.Lines.{record_lines}
 use Rattle.input_lines.specs.Ahead.{Ahead, Row, Tail, Came, and_then, on_line}
 use Rattle.journal_model.specs.declared.step.Step.{Step}
 use Rattle.script_lines.specs.Script.{read_command}
-use Rattle.script_lines.proofs.NumberBack.{number_back, numeral_back, digits_of, decimal_some, value_back, low}
+use Rattle.script_lines.proofs.NumberBack.{number_back, numeral_back, digits_of, decimal_some, value_back}
 use Rattle.command_text.specs.Lines.{line_text, item_text}
 use Rattle.command_text.specs.Commands.{command_text, step_items}
 use Rattle.command_text.specs.Back.{IsRow, IsReadableCommand, ahead_of, command_lines, command_row, row_line, shown_lines}
 use Rattle.command_text.proofs.CleanRows.{line_first, line_shown}
 use Rattle.command_text.proofs.PlainFields.{is_written, written_kept, number_kept}
+use Rattle.command_text.proofs.CommandFields.{small_kept}
 use Rattle.command_text.proofs.CommandBack.{command_back, command_is_row, items_first, numbered, row_fields, row_first, step_rows}
 use Rattle.desk_checkpoint.specs.declared.part.Part.{Part}
 use Rattle.desk_checkpoint.specs.declared.part.Part.TheVariants.{Step as step, Version, Section, Counter, End}
@@ -152,16 +152,13 @@ unfolding part_of
 version_back key version h ext stream network lt =
     rw (key_back key h ext stream network, number_back version 31 (omega arith) (omega arith)) refl
 
-number_field : (n high : ℕ) → n ≤ high → high ≤ 65535 → IsKept (decimal n)
-number_field n high le wide = number_kept n (low n (omega arith))
-
 version_is_row : (key : Key) (version : ℕ) → is_listed key ≡ true → key.ext ≤ 65535 → key.stream ≤ 65535 → key.network ≤ 65535 → version < 32
     → IsRow (version_fields key version)
 version_is_row key version h ext stream network lt =
     let numbers = listed_pid key h in
     record {
       front = (refl, refl);
-      kept = (written_kept (codes "version") refl, (number_field key.pid 8190 numbers.0 (omega arith), (number_field key.table 255 numbers.1 (omega arith), (number_field key.ext 65535 ext (omega arith), (number_field key.stream 65535 stream (omega arith), (number_field key.network 65535 network (omega arith), (number_field version 31 (omega arith) (omega arith), tt)))))));
+      kept = (written_kept (codes "version") refl, (small_kept key.pid 8190 numbers.0 (omega arith), (small_kept key.table 255 numbers.1 (omega arith), (small_kept key.ext 65535 ext (omega arith), (small_kept key.stream 65535 stream (omega arith), (small_kept key.network 65535 network (omega arith), (small_kept version 31 (omega arith) (omega arith), tt)))))));
       short = omega (
         arith,
         row_size (version_fields key version),
@@ -227,7 +224,7 @@ section_back section h = rw (body_back section h, number_back section.number 255
 section_is_row : (section : NumberedBody) → IsSectionWritten section → IsRow (section_fields section)
 section_is_row section h = record {
   front = (refl, refl);
-  kept = (written_kept (codes "body") refl, (number_field section.number 255 h.number (omega arith), (written_kept (encode_lower section.body) (list_all-more is_lower_digit is_written lower_written (encode_lower section.body) (digits_lower section.body h.bytes)), tt)));
+  kept = (written_kept (codes "body") refl, (small_kept section.number 255 h.number (omega arith), (written_kept (encode_lower section.body) (list_all-more is_lower_digit is_written lower_written (encode_lower section.body) (digits_lower section.body h.bytes)), tt)));
   short = omega (
     arith,
     row_size (section_fields section),
@@ -252,7 +249,7 @@ counter_back counter h =
 counter_is_row : (counter : PidCounter) → IsCounterWritten counter → IsRow (counter_fields counter)
 counter_is_row counter h = record {
   front = (refl, refl);
-  kept = (written_kept (codes "counter") refl, (number_field counter.pid 8190 h.pid (omega arith), (number_field counter.next 15 (omega (arith, h.next)) (omega arith), tt)));
+  kept = (written_kept (codes "counter") refl, (small_kept counter.pid 8190 h.pid (omega arith), (small_kept counter.next 15 (omega (arith, h.next)) (omega arith), tt)));
   short = omega (
     arith,
     row_size (counter_fields counter),

@@ -1,11 +1,11 @@
 -- The parts of a checkpoint read back one behind another.
 use Rattle.std.proofs.Common.{◌≡◌, ◌≢◌, ◌==◌, ◌∙◌, ◌<◌, ◌≤◌, ◌+◌, ◌++◌, ◌∷◌, [], ℕ, suc, List, Bool, true, false, Option, Some, None, Ok, refl, sym, ap, subst, arith, map, append-nil, append_assoc}
-use Rattle.std.specs.Prelude.{codes, slice_index, flat_map, nat_le, if◌then◌else◌}
+use Rattle.std.specs.Prelude.{codes, slice_index, flat_map, if◌then◌else◌}
 use Rattle.std.specs.List.{AllByRecursion}
 use Rattle.std.specs.List.Sorted.{IsStrictlySortedBy, IsStrictlyIncreasing}
 use Rattle.std.specs.Map.{keys_of}
 use Rattle.std.specs.declared.cmp.Ordering.TheVariants.{Less}
-use Rattle.std.proofs.lemmas.Bool.Decides.{nat_tests}
+use Rattle.std.proofs.lemmas.Bool.{le-leb}
 use Rattle.section_codec.specs.declared.table.Key.{Key}
 use Rattle.section_codec.specs.declared.table.NumberedBody.{NumberedBody}
 use Rattle.section_codec.specs.Contents.{Ascend}
@@ -140,9 +140,6 @@ ascend_next : (s : NumberedBody) (ss : List NumberedBody) → Ascend (s ∷ ss) 
 ascend_next s [] h = (tt, tt)
 ascend_next s (t ∷ ss) h = (let lt = h.0 in omega arith, h.1)
 
-le_test : (a b : ℕ) → a ≤ b → nat_le a b ≡ true
-le_test a b h = grind (arith, nat_tests)
-
 -- a key of which these sections were read
 abbrev begun : Key → ℕ → List NumberedBody → KeyVersion
 begun key version sections = record { key = key; version = version; sections = sections }
@@ -163,7 +160,7 @@ sections_read count desk front key version before number (s ∷ ss) from ascend 
     subst (λ (l : List NumberedBody). Reads start (flat_map section_text (s ∷ ss)) (so_far count desk front (Some (begun key version l)) end [] 0)) (append_assoc before (s ∷ []) ss)
     (reads_both start middle (so_far count desk front (Some (begun key version (first ++ ss))) end [] 0) (section_text s) (flat_map section_text ss)
     (reads_part start middle (section_text s) (Section s) (λ n rest tail. (n + 1, section_first n s rest tail written.0))
-    (ap (λ (b : Bool). let o : Option Checkpoint = if b then Some middle else None in o) (le_test number s.number from)) refl)
+    (ap (λ (b : Bool). let o : Option Checkpoint = if b then Some middle else None in o) (le-leb number s.number from)) refl)
     (sections_read count desk front key version first (s.number + 1) ss next.0 next.1 written.1))
 
 version_with : (count : ℕ) (desk : DeskState) (front all : List KeyVersion) (current : Option KeyVersion) (number : ℕ) (key : Key) (version : ℕ)
@@ -272,7 +269,7 @@ pub record ReadCounters (count : ℕ) (desk : DeskState) (start : Checkpoint) (t
 counter_with : (count : ℕ) (desk : DeskState) (front all : List KeyVersion) (current : Option KeyVersion) (number : ℕ) (before : List PidCounter) (pid : ℕ) (counter : PidCounter)
     → HasPublished count desk → pid ≤ counter.pid → and_current front current ≡ Some all
     → with_part (so_far count desk front current number before pid) (Counter counter) ≡ Some (so_far count desk all None number (before ++ counter ∷ []) (counter.pid + 1))
-counter_with count desk front all current number before pid counter has low is = rw (le_test pid counter.pid low, has, is) refl
+counter_with count desk front all current number before pid counter has low is = rw (le-leb pid counter.pid low, has, is) refl
 
 pub counters_read : (count : ℕ) (desk : DeskState) (front all : List KeyVersion) (current : Option KeyVersion) (number : ℕ) (before : List PidCounter) (pid : ℕ) (counters : List PidCounter)
     → HasPublished count desk → AllByRecursion IsCounterWritten counters → IsStrictlyIncreasing (pids counters) → IsFromPid pid counters → and_current front current ≡ Some all

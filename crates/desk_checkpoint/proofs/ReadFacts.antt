@@ -1,32 +1,18 @@
 -- How a checkpoint is read, part by part.
-use Rattle.std.proofs.Common.{◌≡◌, ◌≤◌, ◌-◌, ◌∙◌, ℕ, zero, suc, Bool, true, false, List, [], ◌∷◌, drop, length, refl, ap, sym, arith, subst}
+use Rattle.std.proofs.Common.{◌≡◌, ◌≤◌, ◌-◌, ◌∙◌, ℕ, zero, suc, Bool, true, false, List, [], ◌∷◌, length, refl, ap, sym, arith}
 use Rattle.std.specs.Prelude.{Option, Some, None, Ok, Err, Result, option_map, if◌then◌else◌}
 use Rattle.input_lines.specs.Fields.{record_of}
 use Rattle.input_lines.specs.Ahead.{Ahead, Row, Tail, Found, Came, Stopped, Stop, NoCommand, and_then, first_row, missing_at, on_line}
 use Rattle.input_lines.proofs.ValuesAhead.{Within, then_within, row_within, line_within}
-use Rattle.journal_model.specs.declared.step.Step.{Step}
-use Rattle.journal_model.specs.declared.step.Step.TheVariants.{Edit as edit}
 use Rattle.journal_model.specs.Steps.{Command}
-use Rattle.script_lines.specs.Edits.{read_edit}
-use Rattle.script_lines.specs.Script.{caller_of, command_by, command_with, feed_command, feed_of, read_command, short_step}
-use Rattle.script_lines.proofs.LinesLeft.{read_within}
-use Rattle.desk_checkpoint.specs.declared.part.Part.{Part}
+use Rattle.script_lines.specs.Script.{caller_of, read_command}
+use Rattle.script_lines.proofs.ItemsAhead.{caller_within}
 use Rattle.desk_checkpoint.specs.declared.part.Part.TheVariants.{Step as step}
 use Rattle.desk_checkpoint.specs.Fields.{begins_step, part_of}
 use Rattle.desk_checkpoint.specs.Checkpoints.{Checkpoint, is_end, with_part}
 use Rattle.desk_checkpoint.specs.Reads.{NumberedPart, and_part, first_part, on_part, part_on, read_on, step_part, upto}
 
 -- ---- with each part fewer lines are left
-
-command_within : (k who n : ℕ) (short : Option Step) (fields : List (List ℕ)) (behind : Ahead) → length behind.rows ≤ k → Within k (command_with who n short fields behind)
-command_within k who n (Some s) fields behind h = h
-command_within k who n None fields behind h =
-    then_within k k (on_line n (feed_of fields) behind) (λ feed more. feed_command who feed (read_edit n (drop 2 fields) more)) (line_within k n (feed_of fields) behind h)
-    (λ feed more le. then_within k k (read_edit n (drop 2 fields) more) (λ e rest. let r : Found Command = Came (who, edit feed e) rest in r) (read_within k n (drop 2 fields) more le) (λ e rest few. few))
-
-caller_within : (k n : ℕ) (who : Option ℕ) (fields : List (List ℕ)) (behind : Ahead) → length behind.rows ≤ k → Within k (command_by who n fields behind)
-caller_within k n (Some who) fields behind h = command_within k who n (short_step (drop 1 fields)) (drop 1 fields) behind h
-caller_within k n None fields behind h = command_within k 0 n (short_step fields) fields behind h
 
 part_within : (k n : ℕ) (fields : List (List ℕ)) (behind : Ahead) → length behind.rows ≤ k → Within k (part_on n fields behind)
 part_within k n fields behind h = go (begins_step fields)

@@ -1,13 +1,12 @@
 -- The steps of a checkpoint read back, since what stands came from edits that lines gave, or from the multiplex.
 use Rattle.std.proofs.Common.{◌≡◌, ◌==◌, ◌≤◌, ◌-◌, ◌++◌, ◌∷◌, [], ℕ, List, true, false, Option, Some, None, refl, sym, ap, subst, arith, length, map, inl, inr}
 use Rattle.std.specs.Prelude.{IfSome, option_map, filter_map}
-use Rattle.std.specs.List.{AllByRecursion, cons_option, flat_map, zip}
+use Rattle.std.specs.List.{AllByRecursion, flat_map, zip}
 use Rattle.std.proofs.lemmas.Bool.{cases_Bool, cond-true, cond-false}
 use Rattle.std.proofs.lemmas.Bool.Decides.{nat_tests}
 use Rattle.std.proofs.lemmas.List.Concat.{flat_map-cons}
 use Rattle.si_lists.proofs.Lists.{all_append, all_map, all_to_map, all_two}
 use Rattle.si_lists.proofs.Filters.{list_all-more}
-use Rattle.si_lists.proofs.Outcomes.{if_some}
 use Rattle.si_text.specs.Decoding.{IsKept}
 use Rattle.si_text.proofs.CutFacts.{coded_size-bounds}
 use Rattle.guide_model.specs.declared.event.Event.{Event}
@@ -20,25 +19,24 @@ use Rattle.mux_model.specs.Sound.{IsSoundService}
 use Rattle.journal_model.specs.declared.edit.RawRating.{RawRating}
 use Rattle.journal_model.specs.declared.edit.Item.{Item}
 use Rattle.journal_model.specs.declared.edit.Edit.{Edit}
-use Rattle.journal_model.specs.declared.edit.Edit.TheVariants.{Put, Withdraw, Clear, Name, Day}
+use Rattle.journal_model.specs.declared.edit.Edit.TheVariants.{Put, Clear, Name}
 use Rattle.journal_model.specs.declared.step.Step.{Step}
 use Rattle.journal_model.specs.declared.step.Step.TheVariants.{Edit as edit, Tick, Publish}
-use Rattle.journal_model.specs.declared.step.Outcome.{Outcome}
-use Rattle.journal_model.specs.declared.step.Outcome.TheVariants.{Edited}
 use Rattle.journal_model.specs.declared.step.Entry.{Entry}
-use Rattle.journal_model.specs.Edits.{HasGenreNumbers, IsTypedItem, IsTypedEdit}
+use Rattle.journal_model.specs.Edits.{IsTypedItem, IsTypedEdit}
 use Rattle.journal_model.specs.Steps.{Command, IsStepWithin, IsTypedStep}
 use Rattle.script_lines.specs.EditFields.{country_field, rating_field}
 use Rattle.script_lines.specs.Script.{IsShapedStep}
 use Rattle.guide_limits.specs.KeptService.{KeptService}
 use Rattle.guide_limits.specs.Guides.{kept_after}
-use Rattle.guide_limits.specs.Readings.{event_of}
-use Rattle.guide_limits.specs.Standing.{Names, last_or, names_in}
+use Rattle.guide_limits.specs.Standing.{names_in}
 use Rattle.guide_limits.specs.Limits.{is_small, is_capital, AreNamesWithin, IsRatingWithin, IsEventWithin, IsServiceWithin}
-use Rattle.feed_book.specs.Accepted.{is_done}
+use Rattle.guide_limits.proofs.NamesKept.{all_given, last_kept}
 use Rattle.eit_tables.proofs.StandingFacts.{OfEachItem, standing_all}
-use Rattle.desk_core.specs.Journal.{accepted, accepted_by, is_publish, publishes}
+use Rattle.eit_tables.proofs.TypedFacts.{IsGiven, edit_gives}
+use Rattle.desk_core.specs.Journal.{accepted, is_publish, publishes}
 use Rattle.desk_core.specs.Publications.{before_publish, guide_after, publication}
+use Rattle.desk_core.proofs.TypedFacts.{accepted_typed}
 use Rattle.desk_core.proofs.WithinFacts.{draft_within, publications_within}
 use Rattle.command_text.specs.Lines.{item_row}
 use Rattle.command_text.specs.Commands.{step_items}
@@ -51,25 +49,6 @@ use Rattle.desk_checkpoint.specs.Laws.{CanBeFolded, HasKeptNames, StepsAreReadab
 use Rattle.desk_checkpoint.proofs.RowSizes.{duration_size, genres_size, moment_size, number_size, row_size, small_size}
 
 -- ---- events
-
--- what an event has of the item that gave it
-record IsGiven (e : Event) : Type 0 where
-  id : e.id ≤ 65535
-  name : IsKept e.name
-  short : IsKept e.short
-  extended : IsKept e.extended
-  genres : AllByRecursion HasGenreNumbers e.genres
-
-item_given : (item : Item) → IsTypedItem item → IsGiven (event_of item)
-item_given item typed =
-    record { id = typed.numbers.id; name = typed.name; short = typed.short; extended = typed.extended; genres = typed.numbers.genres }
-
-edit_gives : (e : Edit) → IsTypedEdit e → OfEachItem IsGiven e
-edit_gives (Put service item) typed = item_given item typed.1
-edit_gives (Withdraw service event) typed = tt
-edit_gives (Clear service) typed = tt
-edit_gives (Name service provider name) typed = tt
-edit_gives (Day service day items) typed = all_map IsTypedItem (λ (item : Item). IsGiven (event_of item)) item_given items typed.1
 
 small_written : (b : ℕ) → is_small b ≡ true → is_written b ≡ true
 small_written b h = grind (arith, nat_tests)
@@ -189,32 +168,6 @@ refilling_written : AreWritten refilling
 refilling_written feed guide narrow given =
     (((narrow, given.service), clear_short feed guide.service narrow given.service, tt), filling_written feed guide narrow given)
 
--- ---- names
-
-abbrev AreNames : Names → Type 0
-AreNames names = IsKept names.0 × IsKept names.1
-
-last_kept : (first : Names) (xs : List Names) → AreNames first → AllByRecursion AreNames xs → AreNames (last_or first xs)
-last_kept first [] here all = here
-last_kept first (x ∷ xs) here all = last_kept x xs all.0 all.1
-
-names_given : (service : ℕ) (e : Edit) → IsTypedEdit e → IfSome (names_in service e) AreNames
-names_given service (Put at item) typed = tt
-names_given service (Withdraw at gone) typed = tt
-names_given service (Clear at) typed = tt
-names_given service (Name at provider name) typed = if_some AreNames (at == service) (Some (provider, name)) None (typed.1, typed.2) tt
-names_given service (Day at day items) typed = tt
-
--- one that is there has it, and so have the others
-with_front : {X : Type 0} (P : X → Type 0) (o : Option X) (xs : List X) → IfSome o P → AllByRecursion P xs → AllByRecursion P (cons_option o xs)
-with_front P None xs one rest = rest
-with_front P (Some x) xs one rest = (one, rest)
-
-all_given : (service : ℕ) (past : List Edit) → AllByRecursion IsTypedEdit past → AllByRecursion AreNames (filter_map (names_in service) past)
-all_given service [] typed = tt
-all_given service (e ∷ past) typed =
-    with_front AreNames (names_in service e) (filter_map (names_in service) past) (names_given service e typed.0) (all_given service past typed.1)
-
 -- ---- guides
 
 kept_given : (s : MuxService) (past : List Edit) → IsSoundService s → HasKeptNames s → AllByRecursion IsTypedEdit past → IsServiceWithin (kept_after past s).guide
@@ -265,15 +218,6 @@ guide_written edits way mux before sound kept typed within =
 
 abbrev HasTypedStep : Entry → Type 0
 HasTypedStep entry = IsTypedStep entry.step
-
-edit_typed : (s : Step) (outcome : Outcome) → IsTypedStep s → IfSome (accepted_by s outcome) IsTypedEdit
-edit_typed (edit feed e) (Edited reply) typed = if_some IsTypedEdit (is_done reply) (Some e) None typed.1 tt
-edit_typed s outcome typed = tt
-
-accepted_typed : (entries : List Entry) → AllByRecursion HasTypedStep entries → AllByRecursion IsTypedEdit (accepted entries)
-accepted_typed [] typed = tt
-accepted_typed (x ∷ xs) typed =
-    with_front IsTypedEdit (accepted_by x.step x.outcome) (accepted xs) (edit_typed x.step x.outcome typed.0) (accepted_typed xs typed.1)
 
 front_typed : (n : ℕ) (entries : List Entry) → AllByRecursion HasTypedStep entries → AllByRecursion HasTypedStep (before_publish n entries)
 front_typed n [] h = tt

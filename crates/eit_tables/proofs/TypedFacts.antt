@@ -12,7 +12,7 @@ use Rattle.mux_model.specs.declared.mux.MuxService.{MuxService}
 use Rattle.journal_model.specs.declared.edit.Item.{Item}
 use Rattle.journal_model.specs.declared.edit.Edit.{Edit}
 use Rattle.journal_model.specs.declared.edit.Edit.TheVariants.{Put, Withdraw, Clear, Name, Day}
-use Rattle.journal_model.specs.Edits.{IsTypedItem, IsTypedEdit}
+use Rattle.journal_model.specs.Edits.{HasGenreNumbers, IsTypedItem, IsTypedEdit}
 use Rattle.guide_limits.specs.KeptService.{KeptService}
 use Rattle.guide_limits.specs.Guides.{kept_after}
 use Rattle.guide_limits.specs.Readings.{event_of}
@@ -23,16 +23,18 @@ use Rattle.eit_codec.specs.Eit.{IsTyped}
 use Rattle.eit_tables.specs.Laws.{ReadEditsLeaveTypedEvents}
 
 -- what an event has of the item that gave it
-record IsGiven (e : Event) : Type 0 where
-  id : e.id ≤ 65535
-  name : IsKept e.name
-  short : IsKept e.short
-  extended : IsKept e.extended
+pub record IsGiven (e : Event) : Type 0 where
+  pub id : e.id ≤ 65535
+  pub name : IsKept e.name
+  pub short : IsKept e.short
+  pub extended : IsKept e.extended
+  pub genres : AllByRecursion HasGenreNumbers e.genres
 
 item_given : (item : Item) → IsTypedItem item → IsGiven (event_of item)
-item_given item typed = record { id = typed.numbers.id; name = typed.name; short = typed.short; extended = typed.extended }
+item_given item typed =
+    record { id = typed.numbers.id; name = typed.name; short = typed.short; extended = typed.extended; genres = typed.numbers.genres }
 
-edit_gives : (edit : Edit) → IsTypedEdit edit → OfEachItem IsGiven edit
+pub edit_gives : (edit : Edit) → IsTypedEdit edit → OfEachItem IsGiven edit
 edit_gives (Put service item) typed = item_given item typed.1
 edit_gives (Withdraw service event) typed = tt
 edit_gives (Clear service) typed = tt

@@ -1,22 +1,17 @@
 -- The edits of a script's commands, and those of its journals, have numbers as wide as their fields, and texts that may be kept; their ticks are at
 -- moments that can be written.
-use Rattle.std.proofs.Common.{ℕ, false, List, [], ◌∷◌, ◌++◌, Option, Some, None, Bool, true, take}
-use Rattle.std.specs.Prelude.{IfSome, if◌then◌else◌, Ok, Err}
-use Rattle.std.specs.List.{AllByRecursion, cons_option}
+use Rattle.std.proofs.Common.{ℕ, false, List, [], ◌∷◌, ◌++◌, Option, Some, None, take}
+use Rattle.std.specs.Prelude.{Ok, Err}
+use Rattle.std.specs.List.{AllByRecursion}
 use Rattle.std.proofs.lemmas.List.Elements.{All-from_recursion, All-take, recursion_from_All}
 use Rattle.input_lines.specs.Lines.{record_lines}
 use Rattle.mux_model.specs.declared.mux.Mux.{Mux}
 use Rattle.mux_config.specs.Descriptions.{Description, description_ahead}
-use Rattle.journal_model.specs.declared.edit.Edit.{Edit}
-use Rattle.feed_book.specs.Accepted.{is_done}
 use Rattle.input_lines.specs.Ahead.{Came, Found, Stopped, Tail}
-use Rattle.journal_model.specs.Edits.{IsTypedEdit}
 use Rattle.journal_model.specs.declared.step.Step.{Step}
-use Rattle.journal_model.specs.declared.step.Step.TheVariants.{Edit as edit}
-use Rattle.journal_model.specs.declared.step.Outcome.{Outcome}
-use Rattle.journal_model.specs.declared.step.Outcome.TheVariants.{Edited}
 use Rattle.journal_model.specs.declared.step.Entry.{Entry}
-use Rattle.desk_core.specs.Journal.{accepted, accepted_by, entry_after, journal_after, journal_of}
+use Rattle.desk_core.specs.Journal.{entry_after, journal_after, journal_of}
+use Rattle.desk_core.proofs.TypedFacts.{accepted_typed}
 use Rattle.journal_model.specs.Steps.{Command, IsStepInWindow, IsTypedStep}
 use Rattle.script_lines.specs.declared.script.ScriptItem.{ScriptItem}
 use Rattle.script_lines.specs.declared.script.ScriptItem.TheVariants.{Step as step, Kept, End}
@@ -64,27 +59,12 @@ script-typed lines tail = with_typed (description_ahead (record { rows = record_
 
 -- ---- its journals
 
-accepted_one : (s : Step) (outcome : Outcome) → IsTypedStep s → IfSome (accepted_by s outcome) IsTypedEdit
-accepted_one (edit feed e) (Edited reply) typed = go (is_done reply)
-  where
-    go : (done : Bool) → IfSome (if done then Some e else None) IsTypedEdit
-    go true = typed.1
-    go false = tt
-accepted_one s outcome typed = tt
-
-cons_typed : (o : Option Edit) (edits : List Edit) → IfSome o IsTypedEdit → AllByRecursion IsTypedEdit edits → AllByRecursion IsTypedEdit (cons_option o edits)
-cons_typed None edits one rest = rest
-cons_typed (Some e) edits one rest = (one, rest)
-
-after_typed : (mux : Mux) (before : List Entry) (commands : List Command) → AreTypedCommands commands → AllByRecursion IsTypedEdit (accepted (journal_after mux before commands))
+after_typed : (mux : Mux) (before : List Entry) (commands : List Command) → AreTypedCommands commands → AllByRecursion (λ (e : Entry). IsTypedStep e.step) (journal_after mux before commands)
 after_typed mux before [] typed = tt
-after_typed mux before (command ∷ commands) typed =
-    let entry = entry_after mux before command in
-    let rest = before ++ entry ∷ [] in
-    cons_typed (accepted_by entry.step entry.outcome) (accepted (journal_after mux rest commands)) (accepted_one entry.step entry.outcome typed.0.0) (after_typed mux rest commands typed.1)
+after_typed mux before (command ∷ commands) typed = (typed.0.0, after_typed mux (before ++ entry_after mux before command ∷ []) commands typed.1)
 
 pub journal-typed : (mux : Mux) (commands : List Command) → AreTypedCommands commands → HasTypedEdits (journal_of mux commands)
-journal-typed mux commands typed = after_typed mux [] commands typed
+journal-typed mux commands typed = accepted_typed (journal_of mux commands) (after_typed mux [] commands typed)
 
 after_window : (mux : Mux) (before : List Entry) (commands : List Command) → AreTypedCommands commands → AllByRecursion (λ (e : Entry). IsStepInWindow e.step) (journal_after mux before commands)
 after_window mux before [] typed = tt

@@ -1,5 +1,5 @@
 -- What a swap puts on air, in each journal that begins with what its pass has then seen.
-use Rattle.std.proofs.Common.{◌≡◌, ℕ, ◌≤◌, List, [], ◌∷◌, ◌++◌, take, refl, sym, ap, ◌∙◌, subst, arith, append-nil, append_assoc}
+use Rattle.std.proofs.Common.{◌≡◌, ℕ, ◌≤◌, List, [], ◌∷◌, ◌++◌, take, refl, sym, ap, ◌∙◌, subst, arith}
 use Rattle.std.specs.Prelude.{Option, Some, Ok, Err}
 use Rattle.std.specs.Io.KnownBytes.{Appends}
 use Rattle.std.proofs.KnownBytes.{Appends-trans}
@@ -21,7 +21,7 @@ use Rattle.journal_model.specs.declared.step.Entry.{Entry}
 use Rattle.desk_core.specs.Journal.{publishes}
 use Rattle.desk_core.specs.Publications.{aired_by, publication}
 use Rattle.desk_core.specs.Desks.{on_air_of}
-use Rattle.desk_core.proofs.JournalFacts.{publication-kept}
+use Rattle.desk_core.proofs.JournalFacts.{publication_stays}
 use Rattle.headend_jobs.specs.declared.send.SendStop.TheVariants.{Air}
 use Rattle.headend_jobs.specs.OnAir.{airing_by, cycle_bytes}
 use Rattle.journal_air.specs.Air.{airings_by, mux_form}
@@ -36,14 +36,6 @@ use Rattle.desk_hall.proofs.Passes.{made_began}
 abbrev Known : Type 0
 Known = Option (List ℕ)
 
--- a publication stays what it is in each longer journal
-pub publication_front : (mux : Mux) (xs zs : List Entry) (n : ℕ) → n ≤ publishes xs → publication mux (xs ++ zs) n ≡ publication mux xs n
-publication_front mux xs [] n le = ap (λ (l : List Entry). publication mux l n) (append-nil xs)
-publication_front mux xs (z ∷ zs) n le =
-    ap (λ (l : List Entry). publication mux l n) (sym (append_assoc xs (z ∷ []) zs))
-    ∙ publication_front mux (xs ++ z ∷ []) zs n (omega (arith, le, publishes-front xs (z ∷ [])))
-    ∙ publication-kept mux xs z n le
-
 -- the number of a swap is the number of a publication that its pass has seen
 pub swap_number : (n : ℕ) (airing : Airing) (v w : View) → (m : Made Swap (Swapped airing.number airing.moment) v w) → airing.number ≤ publishes w.seen
 swap_number n airing v w m =
@@ -57,7 +49,7 @@ puts mux airing v w m is journal (zs, e) =
     let le = swap_number 0 airing v w m in
     let guide : airing.guide ≡ publication mux w.seen airing.number = subst (λ (x : Airing). x.guide ≡ publication mux w.seen x.number) (sym is) refl in
     let there : publication mux journal airing.number ≡ publication mux w.seen airing.number =
-    ap (λ (l : List Entry). publication mux l airing.number) (sym e) ∙ publication_front mux w.seen zs airing.number le in
+    ap (λ (l : List Entry). publication mux l airing.number) (sym e) ∙ publication_stays mux w.seen zs airing.number le in
     ap (λ (g : Guide). let a : AiredTables = record { tables = tables_of mux g; moment = airing.moment.0; form = mux_form mux } in a ∷ []) (guide ∙ sym there)
 
 -- what is on air in longer journals too

@@ -21,6 +21,7 @@ use Rattle.journal_model.specs.declared.step.Entry.{Entry}
 use Rattle.desk_core.specs.declared.airing.Airing.{Airing}
 use Rattle.desk_core.specs.Desks.{on_air_of}
 use Rattle.desk_core.specs.Publications.{publication, swaps}
+use Rattle.desk_core.proofs.JournalFacts.{publication_stays}
 use Rattle.guide_board.specs.declared.post.Post.{Post}
 use Rattle.guide_board.specs.Posts.{IsInOrder, Sight, post, services_in, services_of, with_post}
 use Rattle.turn_lock.specs.declared.known.Caller.{Caller}
@@ -30,7 +31,7 @@ use Rattle.desk_hall.specs.Turn.{View, Made, caller_of, desk_with, entry_of}
 use Rattle.desk_hall.proofs.Passes.{made_began}
 use Rattle.headend_jobs.specs.Posting.{HasPosted, HasPostedAll, HaveServicesOf, KeepsBoard, opening_of, post_at, posts_by, posts_of}
 use Rattle.headend_jobs.specs.Whole.{JournalDid}
-use Rattle.headend_jobs.proofs.Airs.{publication_front, swap_number}
+use Rattle.headend_jobs.proofs.Airs.{swap_number}
 use Rattle.headend_jobs.proofs.SwapFacts.{swaps-append}
 
 -- ---- what can be posted
@@ -117,7 +118,7 @@ posted_swap mux airing v w old new m is put = record {
   posts = λ journal (zs, e).
       let guide : airing.guide ≡ publication mux w.seen airing.number = subst (λ (x : Airing). x.guide ≡ publication mux w.seen x.number) (sym is) refl in
       let there : publication mux journal airing.number ≡ publication mux w.seen airing.number =
-      ap (λ (l : List Entry). publication mux l airing.number) (sym e) ∙ publication_front mux w.seen zs airing.number (swap_number 0 airing v w m) in
+      ap (λ (l : List Entry). publication mux l airing.number) (sym e) ∙ publication_stays mux w.seen zs airing.number (swap_number 0 airing v w m) in
       ap (λ (s : Sight). s.posts) put ∙ ap (λ (g : Guide). old.posts ++ post airing.number g ∷ []) (guide ∙ sym there);
 }
 

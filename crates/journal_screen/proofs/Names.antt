@@ -1,47 +1,23 @@
 -- The names of a journal's publications may be kept.
-use Rattle.std.proofs.Common.{ℕ, ◌==◌, List, [], ◌∷◌, Option, Some, None}
-use Rattle.std.specs.Prelude.{map, IfSome, if◌then◌else◌}
-use Rattle.std.specs.List.{AllByRecursion, cons_option, filter_map}
-use Rattle.si_lists.proofs.Outcomes.{if_some}
+use Rattle.std.proofs.Common.{ℕ, ◌==◌, List, [], ◌∷◌}
+use Rattle.std.specs.Prelude.{map, if◌then◌else◌}
+use Rattle.std.specs.List.{AllByRecursion, filter_map}
 use Rattle.si_text.specs.Decoding.{IsKept}
 use Rattle.guide_model.specs.declared.guide.ServiceGuide.{ServiceGuide}
 use Rattle.mux_model.specs.declared.mux.MuxService.{MuxService}
 use Rattle.mux_model.specs.declared.mux.Mux.{Mux}
 use Rattle.journal_model.specs.declared.edit.Edit.{Edit}
-use Rattle.journal_model.specs.declared.edit.Edit.TheVariants.{Put, Withdraw, Clear, Name, Day}
 use Rattle.journal_model.specs.Edits.{IsTypedEdit}
 use Rattle.guide_limits.specs.KeptService.{KeptService}
-use Rattle.guide_limits.specs.Standing.{Names, last_or, names_in}
+use Rattle.guide_limits.specs.Standing.{last_or, names_in}
 use Rattle.guide_limits.specs.Guides.{kept_after}
+use Rattle.guide_limits.proofs.NamesKept.{AreNames, all_given, last_kept}
 use Rattle.journal_model.specs.declared.step.Entry.{Entry}
 use Rattle.desk_core.specs.Journal.{accepted}
 use Rattle.desk_core.specs.Publications.{before_publish, publication}
 use Rattle.publication_screen.specs.Shown.{HasKeptNames}
 use Rattle.journal_air.specs.Laws.{HasTypedEdits}
 use Rattle.journal_air.proofs.Published.{edits_before}
-
-abbrev AreNames : Names → Type 0
-AreNames names = IsKept names.0 × IsKept names.1
-
-last_kept : (first : Names) (xs : List Names) → AreNames first → AllByRecursion AreNames xs → AreNames (last_or first xs)
-last_kept first [] here all = here
-last_kept first (x ∷ xs) here all = last_kept x xs all.0 all.1
-
-given : (service : ℕ) (e : Edit) → IsTypedEdit e → IfSome (names_in service e) AreNames
-given service (Put at item) typed = tt
-given service (Withdraw at gone) typed = tt
-given service (Clear at) typed = tt
-given service (Name at provider name) typed = if_some AreNames (at == service) (Some (provider, name)) None (typed.1, typed.2) tt
-given service (Day at day items) typed = tt
-
-all_given : (service : ℕ) (past : List Edit) → AllByRecursion IsTypedEdit past → AllByRecursion AreNames (filter_map (names_in service) past)
-all_given service [] typed = tt
-all_given service (e ∷ past) typed = with_front (names_in service e) (given service e typed.0) (all_given service past typed.1)
-  where
-    with_front : (o : Option Names) → IfSome o AreNames → AllByRecursion AreNames (filter_map (names_in service) past)
-        → AllByRecursion AreNames (cons_option o (filter_map (names_in service) past))
-    with_front None one rest = rest
-    with_front (Some names) one rest = (one, rest)
 
 services_kept : (services : List MuxService) (past : List Edit) → AllByRecursion (λ (s : MuxService). IsKept s.provider × IsKept s.name) services → AllByRecursion IsTypedEdit past
     → AllByRecursion (λ (s : ServiceGuide). IsKept s.provider × IsKept s.name) (map (λ (kept : KeptService). kept.guide) (map (kept_after past) services))

@@ -21,7 +21,7 @@ command_within k who n None fields behind h =
     then_within k k (on_line n (feed_of fields) behind) (λ feed more. feed_command who feed (read_edit n (drop 2 fields) more)) (line_within k n (feed_of fields) behind h)
     (λ feed more le. then_within k k (read_edit n (drop 2 fields) more) (λ e rest. let r : Found Command = Came (who, edit feed e) rest in r) (read_within k n (drop 2 fields) more le) (λ e rest few. few))
 
-caller_within : (k n : ℕ) (who : Option ℕ) (fields : List (List ℕ)) (behind : Ahead) → length behind.rows ≤ k → Within k (command_by who n fields behind)
+pub caller_within : (k n : ℕ) (who : Option ℕ) (fields : List (List ℕ)) (behind : Ahead) → length behind.rows ≤ k → Within k (command_by who n fields behind)
 caller_within k n (Some who) fields behind h = command_within k who n (short_step (drop 1 fields)) (drop 1 fields) behind h
 caller_within k n None fields behind h = command_within k 0 n (short_step fields) fields behind h
 

@@ -1,8 +1,11 @@
 -- What is read has its shape.
-use Rattle.std.proofs.Common.{◌≡◌, ◌≢◌, ℕ, true, List, [], ◌∷◌, subst, inl, inr}
+use Rattle.std.proofs.Common.{◌≡◌, ◌≢◌, ◌<◌, ℕ, true, List, [], ◌∷◌, subst, inl, inr}
 use Rattle.std.specs.Prelude.{Option, Some, None, IfSome, codes, option_map}
 use Rattle.std.proofs.lemmas.Bool.{cases_Bool}
-use Rattle.si_time.specs.Readings.{has_shape}
+use Rattle.si_time.specs.Moments.{duration_text}
+use Rattle.si_time.specs.Readings.{has_shape, duration_in, clock_at}
+use Rattle.si_time.proofs.RoundTrips.{behind_test}
+use Rattle.si_time.proofs.TextFacts.{duration_in-duration_text}
 use Rattle.guide_model.specs.declared.event.Genre.{Genre}
 use Rattle.input_lines.specs.Numbers.{number_in}
 use Rattle.journal_model.specs.declared.edit.Stamp.{Stamp}
@@ -54,3 +57,8 @@ unfolding item_of
 item_shaped (a ∷ b ∷ c ∷ d ∷ e ∷ f ∷ g ∷ h ∷ i ∷ j ∷ []) item is =
     with_shaped d e f g (number_in 0 65535 a) (stamp_of b) (length_of c) (rating_of h i) (genres_of j) item (stamp_shaped b) (length_shaped c) (rating_shaped h i) is
 item_shaped fields item is = absurd cc
+
+-- what is written has it too
+pub duration_shaped : (t : ℕ) → t < 360000 → has_shape (codes "dd:dd:dd") (duration_text t) ≡ true
+unfolding duration_in
+duration_shaped t h = (behind_test (has_shape (codes "dd:dd:dd") (duration_text t)) (clock_at 100 0 (duration_text t)) t (duration_in-duration_text t h)).0

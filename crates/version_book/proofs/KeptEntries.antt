@@ -157,7 +157,7 @@ kept_of k past (c ∷ cs) kept e f =
     subst (WasCarried past k) same (last_carried k past c cs e)
 
 -- each entry is what is kept of its key
-own_entries : (all entries : GivenVersions) → AreOrdered entries → ((k : Key) (kept : GivenVersion) → given_in k entries ≡ Some kept → given_in k all ≡ Some kept)
+pub own_entries : (all entries : GivenVersions) → AreOrdered entries → ((k : Key) (kept : GivenVersion) → given_in k entries ≡ Some kept → given_in k all ≡ Some kept)
     → AllByRecursion (λ (e : Key × GivenVersion). given_in e.0 all ≡ Some e.1) entries
 unfolding IsStrictlySortedBy
 own_entries all [] p same = tt

@@ -18,6 +18,7 @@ use Rattle.feed_book.specs.Replies.{is_outside, off_day, day_fault, day_reply, r
 use Rattle.feed_book.specs.Changes.{puts, day_put, events_with}
 use Rattle.feed_book.specs.Accepted.{AreAccepted}
 use Rattle.feed_book.proofs.Accepted.{standing-after}
+use Rattle.feed_book.proofs.Faults.{not_outside}
 use Rattle.si_workload.specs.declared.shows.Show.{Show}
 use Rattle.si_workload.specs.Shows.{shows_of, shows_on}
 use Rattle.si_workload.specs.Texts.{moment_at}
@@ -25,7 +26,7 @@ use Rattle.workload_laws.specs.Load.{show_item, name_edit, day_edit, service_edi
 use Rattle.workload_laws.proofs.Chains.{IsChain, chain_of}
 use Rattle.workload_laws.proofs.MadeLines.{number_short}
 use Rattle.workload_laws.proofs.MadeEdits.{date_read}
-use Rattle.workload_laws.proofs.Events.{show_event, IsOn, chain_front, day_fine, day_puts, inside, not_above, size_within, same_number, other_number}
+use Rattle.workload_laws.proofs.Events.{show_event, IsOn, chain_front, day_fine, day_puts, not_above, size_within, same_number, other_number}
 
 -- ---- the shows before a day
 
@@ -151,7 +152,7 @@ name_fine service le events =
     let a = number_short service le in
     let b = length-append (codes "Station ") (decimal service) in
     let size = size_within name in
-    let named : is_outside 1 100 (coded_size name) ≡ false = inside 1 100 (coded_size name) (omega (arith, b, size)) (omega (arith, a, b, size)) in
+    let named : is_outside 1 100 (coded_size name) ≡ false = not_outside 1 100 (coded_size name) (omega (arith, b, size)) (omega (arith, a, b, size)) in
     rw named refl
 
 module _ (number service : ℕ) where

@@ -22,6 +22,7 @@ use Rattle.guide_limits.specs.Readings.{event_of}
 use Rattle.guide_limits.specs.Standing.{or_else, placed}
 use Rattle.feed_book.specs.Replies.{is_outside, field_fault, share_instant, without, put, place_fault, item_fault, day_fault}
 use Rattle.feed_book.specs.Changes.{puts}
+use Rattle.feed_book.proofs.Faults.{not_outside}
 use Rattle.si_workload.specs.declared.shows.Show.{Show}
 use Rattle.si_workload.specs.Texts.{moment_at}
 use Rattle.workload_laws.specs.Load.{show_item}
@@ -65,9 +66,6 @@ size_within text = elim (cases_Bool (all_plain text)) [
   | inr e ↦ rw e (omega arith, omega arith)
 ]
 
-pub inside : (low high n : ℕ) → low ≤ n → n ≤ high → is_outside low high n ≡ false
-inside low high n le ge = grind (arith, nat_tests)
-
 pub not_above : (n m : ℕ) → m ≤ n → nat_lt n m ≡ false
 not_above n m le = grind (arith, nat_tests)
 
@@ -93,10 +91,10 @@ fields_fine day s is on =
     let starts = is.starts in
     let long = name_long s is in
     let size = size_within (codes "Show " ++ decimal s.title) in
-    let lasts : is_outside 1 86399 d ≡ false = inside 1 86399 d (omega (arith, some)) (omega (arith, most)) in
+    let lasts : is_outside 1 86399 d ≡ false = not_outside 1 86399 d (omega (arith, some)) (omega (arith, most)) in
     let window : nat_lt (65536 * 86400) (t + d) ≡ false = not_above (65536 * 86400) (t + d) (omega (arith, starts, most)) in
     let same : (midnight t == moment_at (96 * day)) ≡ true = same_number (midnight t) (moment_at (96 * day)) (midnight_is day s.start on) in
-    let named : is_outside 1 100 (coded_size (codes "Show " ++ decimal s.title)) ≡ false = inside 1 100 (coded_size (codes "Show " ++ decimal s.title)) (omega (arith, long, size)) (omega (arith, long, size)) in
+    let named : is_outside 1 100 (coded_size (codes "Show " ++ decimal s.title)) ≡ false = not_outside 1 100 (coded_size (codes "Show " ++ decimal s.title)) (omega (arith, long, size)) (omega (arith, long, size)) in
     rw (start_read s is, length_read s is, lasts, window, same, named) refl
 
 both_false : (b : Bool) → (b && false) ≡ false

@@ -1,21 +1,20 @@
 -- The made text of a feed is read to its edits.
-use Rattle.std.proofs.Common.{◌≡◌, ◌≤◌, ◌<◌, ◌+◌, ◌*◌, ◌/◌, ℕ, true, List, length, map, refl, ap, ◌∙◌, arith, inl, inr}
-use Rattle.std.specs.Prelude.{Option, Some, nat_le, codes}
+use Rattle.std.proofs.Common.{◌≡◌, ◌≤◌, ◌<◌, ◌+◌, ◌*◌, ◌/◌, ℕ, true, List, length, map, refl, ap, ◌∙◌, arith}
+use Rattle.std.specs.Prelude.{Option, Some, nat_le}
 use Rattle.std.specs.List.{AllByRecursion, filter, range_with_len}
-use Rattle.std.proofs.lemmas.Bool.{cases_Bool}
 use Rattle.std.proofs.lemmas.Bool.Decides.{nat_tests}
 use Rattle.std.proofs.lemmas.List.{length-map}
 use Rattle.std.proofs.lemmas.List.Elements.{All-from_recursion}
 use Rattle.si_lists.proofs.Lists.{all_through, all_flat}
-use Rattle.si_lists.proofs.Outcomes.{none_some}
 use Rattle.si_causes.specs.Text.{text_lines}
-use Rattle.si_time.specs.Moments.{moment_text, duration_text}
-use Rattle.si_time.specs.Readings.{has_shape, day_in, duration_in}
-use Rattle.si_time.proofs.TextFacts.{moment_in-moment_text, moment_in-only, duration_in-duration_text, take-moment_text, day_in-date_text, day_in-only}
+use Rattle.si_time.specs.Moments.{moment_text}
+use Rattle.si_time.specs.Readings.{day_in}
+use Rattle.si_time.proofs.TextFacts.{moment_in-moment_text, moment_in-only, take-moment_text, day_in-date_text, day_in-only}
 use Rattle.input_lines.specs.Ahead.{Ends, ahead_in}
 use Rattle.journal_model.specs.declared.edit.Item.{Item}
 use Rattle.journal_model.specs.Edits.{IsShapedItem, HasItemNumbers}
 use Rattle.script_lines.specs.Edits.{edits_ahead}
+use Rattle.script_lines.proofs.Shapes.{duration_shaped}
 use Rattle.si_workload.specs.declared.shows.Show.{Show}
 use Rattle.si_workload.specs.Shows.{shows_of, shows_on}
 use Rattle.si_workload.specs.Texts.{moment_at, feed_text}
@@ -30,13 +29,6 @@ use Rattle.workload_laws.proofs.MadeLines.{IsSoakService, date_of, days_below, s
 use Rattle.workload_laws.proofs.Reading.{IsPlainEdit, edits_read, edits_short}
 
 -- ---- what the times of shows are read as
-
-duration_shape : (t : ℕ) → t < 360000 → has_shape (codes "dd:dd:dd") (duration_text t) ≡ true
-unfolding duration_in
-duration_shape t lt = elim (cases_Bool (has_shape (codes "dd:dd:dd") (duration_text t))) [
-  | inl e ↦ e
-  | inr e ↦ absurd (let read = duration_in-duration_text t lt in none_some (rw e at read))
-]
 
 whole_day : (day : ℕ) → moment_at (96 * day) / 86400 * 86400 ≡ moment_at (96 * day)
 whole_day day = omega arith
@@ -53,7 +45,7 @@ item_shaped s h =
     let in_range : s.start < 1352 = (let a = h.show.starts in omega (arith, a)) in
     record {
       start = (moment_in-only (moment_text t) t (moment_in-moment_text t (in_window s.start in_range))).shape;
-      length = duration_shape (900 * s.quarters) (in_clock s.quarters h.show.most);
+      length = duration_shaped (900 * s.quarters) (in_clock s.quarters h.show.most);
       country = tt;
     }
 
