@@ -33,7 +33,8 @@ use Rattle.journal_air.specs.Laws.{HasTypedEdits}
 use Rattle.journal_air.proofs.CarryFacts.{each_airing, airings_heard}
 use Rattle.desk_checkpoint.specs.Fields.{is_listed}
 use Rattle.desk_checkpoint.specs.Laws.{IsSectionWritten, IsKeyWritten}
-use Rattle.checkpoint_air.specs.Laws.{HasBytes, KeysAreWritten}
+use Rattle.desk_checkpoint.specs.Text.{HasByteBodies, HasByteContent}
+use Rattle.checkpoint_air.specs.Laws.{KeysAreWritten}
 use Rattle.checkpoint_air.proofs.OwnEntries.{HasSmallVersion, versions_small}
 
 -- ---- keys that stand in the table of PIDs and table_ids
@@ -156,7 +157,7 @@ sections_written [] numbers bytes short = tt
 sections_written (s ∷ ss) numbers bytes short =
     (record { number = numbers.0; bytes = bytes.0; short = short.0 }, sections_written ss numbers.1 bytes.1 short.1)
 
-key_written : (k : KeyVersion) → IsCarried k.key k.sections → k.version < 32 → HasBytes k → IsKeyWritten (given_entry k)
+key_written : (k : KeyVersion) → IsCarried k.key k.sections → k.version < 32 → HasByteContent (given_entry k) → IsKeyWritten (given_entry k)
 key_written k is small bytes = record {
   listed = is.listed;
   ext = is.ext;
@@ -169,7 +170,7 @@ key_written k is small bytes = record {
 }
 
 each_written : (keys : List KeyVersion) → AllByRecursion (λ (e : Key × GivenVersion). IsCarried e.0 e.1.content) (given_entries keys)
-    → AllByRecursion HasSmallVersion (given_entries keys) → AllByRecursion HasBytes keys → AllByRecursion IsKeyWritten (given_entries keys)
+    → AllByRecursion HasSmallVersion (given_entries keys) → HasByteBodies (given_entries keys) → AllByRecursion IsKeyWritten (given_entries keys)
 each_written [] are small bytes = tt
 each_written (k ∷ keys) are small bytes = (key_written k are.0 small.0 bytes.0, each_written keys are.1 small.1 bytes.1)
 

@@ -1,8 +1,7 @@
 -- The law of the checkpoint of a journal and of its air.
-use Rattle.std.specs.Prelude.{◌≡◌, ◌<◌, ◌++◌, ℕ, List, Ok, map}
-use Rattle.std.specs.List.{All, AllByRecursion}
+use Rattle.std.specs.Prelude.{◌≡◌, ◌++◌, ℕ, List, Ok, map}
+use Rattle.std.specs.List.{All}
 use Rattle.std.specs.List.Sorted.{IsStrictlyIncreasing}
-use Rattle.section_codec.specs.declared.table.NumberedBody.{NumberedBody}
 use Rattle.version_book.specs.declared.key_version.KeyVersion.{KeyVersion}
 use Rattle.version_book.specs.Book.{BookStandsFor, AreOrdered, given_entries}
 use Rattle.ts_packets.specs.declared.pid_counter.PidCounter.{PidCounter}
@@ -21,14 +20,10 @@ use Rattle.journal_air.specs.Laws.{HasTypedEdits}
 use Rattle.checkpoint_laws.specs.Steps.{checkpoint_steps}
 use Rattle.desk_checkpoint.specs.Checkpoints.{Checkpoint}
 use Rattle.desk_checkpoint.specs.Reads.{checkpoint_in}
-use Rattle.desk_checkpoint.specs.Text.{checkpoint_text}
+use Rattle.desk_checkpoint.specs.Text.{HasByteBodies, checkpoint_text}
 use Rattle.desk_checkpoint.specs.Laws.{CanBeFolded, AreKeysWritten, AreCountersWritten, IsCheckpointOf}
 
 -- ---- what is kept
-
--- the bodies of a key's last content are bytes
-abbrev pub HasBytes : KeyVersion → Type 0
-HasBytes k = AllByRecursion (λ (s : NumberedBody). AllByRecursion (λ b. b < 256) s.body) k.sections
 
 -- counters in ascending order of their PIDs
 abbrev pub DoPidsAscend : List PidCounter → Type 0
@@ -38,7 +33,7 @@ DoPidsAscend pids = IsStrictlyIncreasing (map (λ (c : PidCounter). c.pid) pids)
 pub record AreHandedOver (xs : List Aired) (keys : List KeyVersion) (pids : List PidCounter) : Type 0 where
   pub kept : AreKeptOf xs keys pids
   pub ordered : AreOrdered (given_entries keys)
-  pub bytes : AllByRecursion HasBytes keys
+  pub bytes : HasByteBodies (given_entries keys)
   pub ascend : DoPidsAscend pids
   pub fit : All IsPidCounter pids
 
@@ -50,7 +45,7 @@ KeysAreWritten =
     (mux : Mux) (journal : List Entry) (keys : List KeyVersion)
     → IsSoundWithIds mux → HasTypedEdits journal → Legal mux journal
     → BookStandsFor (airings mux journal) (given_entries keys)
-    → AreOrdered (given_entries keys) → AllByRecursion HasBytes keys
+    → AreOrdered (given_entries keys) → HasByteBodies (given_entries keys)
     → AreKeysWritten (given_entries keys)
 
 -- So is what is kept of the PIDs of an air of these airings: none is that of null packets.

@@ -1,5 +1,7 @@
 -- The text of a checkpoint.
 use Rattle.std.specs.Prelude.{ℕ, ◌+◌, ◌++◌, Bool, true, false, List, flat_map, map, codes}
+use Rattle.std.specs.List.{AllByRecursion}
+use Rattle.table_entries.specs.Loops.{AreBytes}
 use Rattle.section_codec.specs.declared.table.Key.{Key}
 use Rattle.section_codec.specs.declared.table.NumberedBody.{NumberedBody}
 use Rattle.version_book.specs.Book.{GivenVersion, GivenVersions}
@@ -51,6 +53,14 @@ section_text section = line_text (section_fields section)
 -- a key with what it was last given: its version, and then the sections of its content
 abbrev pub key_text : Key × GivenVersion → List ℕ
 key_text entry = line_text (version_fields entry.0 entry.1.version) ++ flat_map section_text entry.1.content
+
+-- the bodies of its sections are of bytes
+abbrev pub HasByteContent : Key × GivenVersion → Type 0
+HasByteContent entry = AllByRecursion (λ (section : NumberedBody). AreBytes section.body) entry.1.content
+
+-- each section's body is of bytes
+abbrev pub HasByteBodies : GivenVersions → Type 0
+HasByteBodies keys = AllByRecursion HasByteContent keys
 
 abbrev pub counter_text : PidCounter → List ℕ
 counter_text counter = line_text (counter_fields counter)

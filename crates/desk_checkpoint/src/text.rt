@@ -2,6 +2,7 @@
 ghost use Rattle.std.specs.Prelude.{◌≡◌, ◌<◌, ◌*◌, ◌+◌, ◌^◌, ◌++◌, ◌∷◌, [], IfOk, OnOk, OnErr, flat_map, option_map};
 ghost use Rattle.std.specs.List.{AllByRecursion, zip};
 ghost use Rattle.si_text.specs.Decoding.{IsKept};
+ghost use Rattle.table_entries.specs.Loops.{AreBytes};
 ghost use Rattle.guide_limits.specs.Limits.{IsGuideWithin, IsServiceWithin, IsEventWithin};
 ghost use Rattle.version_book.specs.Book.{given_entries, given_entry};
 ghost use Rattle.journal_model.specs.Steps.{IsStepInWindow};
@@ -11,7 +12,7 @@ ghost use Rattle.checkpoint_laws.specs.Steps.{guide_steps, publication_steps};
 ghost use Rattle.desk_checkpoint.specs.Fields.{count_fields, version_fields};
 ghost use Rattle.desk_core.specs.Journal.{publishes};
 ghost use Rattle.ts_packets.specs.PidCounters.{kept_from};
-ghost use Rattle.desk_checkpoint.specs.Text.{counter_text, desk_steps, edits_of, feed_steps, key_text};
+ghost use Rattle.desk_checkpoint.specs.Text.{HasByteBodies, HasByteContent, counter_text, desk_steps, edits_of, feed_steps, key_text};
 ghost use Rattle.desk_checkpoint.specs.Text.{put_text, section_text, service_text, start_text, step_text, steps_text};
 
 use carousel_player::Player;
@@ -26,6 +27,7 @@ use si_base::Copies;
 use si_text::Txt;
 use si_time::{write_duration, write_moment};
 use std::alloc::{AllocError, Global};
+use table_entries::are_bytes;
 use ts_packets::PidCounter;
 use version_book::KeyVersion;
 
@@ -257,9 +259,12 @@ fn put_steps(alloc: Global, out: &mut Vec<u8>, desk: &Desk, shift: u64) -> Resul
 // ---- keys and counters
 
 fn put_section(alloc: Global, out: &mut Vec<u8>, section: &NumberedBody) -> Result<(), AllocError>
-    ensures { OnOk result (out.new.items ≡ out.old.items ++ section_text section.now) }
+    ensures text { OnOk result (out.new.items ≡ out.old.items ++ section_text section.now) }
+    ensures bytes { AreBytes section.now.body }
 {
-    let digits = hex::encode(alloc, section.body.as_slice())?;
+    let body = section.body.as_slice();
+    are_bytes(body);
+    let digits = hex::encode(alloc, body)?;
     let mut row = LineWriter::open(alloc);
     row.field(b"body")?;
     row.number(alloc, u64::from(section.number))?;
@@ -287,7 +292,9 @@ fn put_sections(
     out: &mut Vec<u8>,
     sections: &[NumberedBody],
 ) -> Result<(), AllocError>
-    ensures { OnOk result (out.new.items ≡ out.old.items ++ flat_map section_text sections.now) }
+    ensures text { OnOk result (out.new.items
+        ≡ out.old.items ++ flat_map section_text sections.now) }
+    ensures bytes { OnOk result (AllByRecursion (λ section. AreBytes section.body) sections.now) }
 {
     for section in sections {
         put_section(alloc, out, section)?;
@@ -297,7 +304,8 @@ fn put_sections(
 
 // Appends a key, and the sections of its last content.
 fn put_key(alloc: Global, out: &mut Vec<u8>, key: &KeyVersion) -> Result<(), AllocError>
-    ensures { OnOk result (out.new.items ≡ out.old.items ++ key_text (given_entry key.now)) }
+    ensures text { OnOk result (out.new.items ≡ out.old.items ++ key_text (given_entry key.now)) }
+    ensures bytes { OnOk result (HasByteContent (given_entry key.now)) }
 {
     put_version(alloc, out, key)?;
     put_sections(alloc, out, key.sections.as_slice())
@@ -314,8 +322,9 @@ fn put_counter(alloc: Global, out: &mut Vec<u8>, counter: &PidCounter) -> Result
 }
 
 fn put_keys(alloc: Global, out: &mut Vec<u8>, keys: &[KeyVersion]) -> Result<(), AllocError>
-    ensures { OnOk result (out.new.items
+    ensures text { OnOk result (out.new.items
         ≡ out.old.items ++ flat_map key_text (given_entries keys.now)) }
+    ensures bytes { OnOk result (HasByteBodies (given_entries keys.now)) }
 {
     for key in keys {
         put_key(alloc, out, key)?;
@@ -335,8 +344,9 @@ fn put_counters(alloc: Global, out: &mut Vec<u8>, counters: &[PidCounter]) -> Re
 // Appends what a player goes on from.
 fn put_player(alloc: Global, out: &mut Vec<u8>, player: &Player) -> Result<(), AllocError>
     requires { player.now.left ≡ [] }
-    ensures { OnOk result (out.new.items ≡ out.old.items
+    ensures text { OnOk result (out.new.items ≡ out.old.items
         ++ (flat_map key_text player.now.book ++ flat_map counter_text (kept_from 0 player.now.counters))) }
+    ensures bytes { OnOk result (HasByteBodies player.now.book) }
 {
     let (keys, counters) = player.kept()?;
     put_keys(alloc, out, keys.as_slice())?;
@@ -349,7 +359,8 @@ fn put_player(alloc: Global, out: &mut Vec<u8>, player: &Player) -> Result<(), A
 fn text_of(alloc: Global, desk: &Desk, shift: u64, player: &Player) -> Result<Vec<u8>, AllocError>
     requires shift { shift < 10 ^ 18 }
     requires at_end { player.now.left ≡ [] }
-    ensures { IfOk result (λ text. text.items ≡ start_text shift desk.now player.now) }
+    ensures text { IfOk result (λ text. text.items ≡ start_text shift desk.now player.now) }
+    ensures bytes { OnOk result (HasByteBodies player.now.book) }
 {
     let mut text = Vec::new(alloc);
     put_steps(alloc, &mut text, desk, shift)?;
@@ -362,7 +373,7 @@ fn text_of(alloc: Global, desk: &Desk, shift: u64, player: &Player) -> Result<Ve
 /// the shift than those of the journal that goes on: how many publications there are; the steps that make the latest of
 /// them, where there is one, and then what stands; each key that an airing carried, or that was handed in, with its last
 /// version and content; the continuity counter of each PID that had a packet, or was handed in (ISO/IEC 13818-1,
-/// 2.4.3.3); and the end. Want of memory leaves `out` with what it had.
+/// 2.4.3.3); and the end. Each body is of bytes, as its type says. Want of memory leaves `out` with what it had.
 pub fn write_checkpoint(
     alloc: Global,
     desk: &Desk,
@@ -374,6 +385,7 @@ pub fn write_checkpoint(
     requires at_end { player.now.left ≡ [] }
     ensures text { OnOk result (out.new.items
         ≡ out.old.items ++ start_text shift desk.now player.now) }
+    ensures bytes { OnOk result (HasByteBodies player.now.book) }
     ensures kept { OnErr result (out.new.items ≡ out.old.items) }
 {
     let text = text_of(alloc, desk, shift, player)?;
