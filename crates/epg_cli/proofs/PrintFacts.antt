@@ -14,7 +14,7 @@ use Rattle.epg_live.specs.declared.reporting.Observed.{Observed}
 use Rattle.epg_report.specs.Ends.{ReportEnds}
 use Rattle.epg_live.specs.Ends.{HasMet, run_text}
 use Rattle.epg_live.specs.Leaves.{LeavesLive}
-use Rattle.epg_live.specs.Runs.{described}
+use Rattle.mux_config.specs.Texts.{described}
 use Rattle.epg_live.proofs.LeavesFacts.{by_memory}
 use Rattle.epg_cli.specs.Prints.{IsScript, PrintsScript}
 

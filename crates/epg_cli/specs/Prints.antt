@@ -14,7 +14,7 @@ use Rattle.epg_report.specs.Told.{ReportTaken, told}
 use Rattle.epg_play.specs.Script.{script_in}
 use Rattle.epg_play.specs.Again.{Describes, PlaysAgain}
 use Rattle.epg_live.specs.declared.reporting.Observed.{Observed}
-use Rattle.epg_live.specs.Runs.{described}
+use Rattle.mux_config.specs.Texts.{described}
 use Rattle.epg_report.specs.Ends.{ReportEnds}
 use Rattle.epg_live.specs.Ends.{run_text}
 

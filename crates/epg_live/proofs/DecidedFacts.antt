@@ -29,7 +29,8 @@ use Rattle.epg_report.specs.declared.status.Origin.TheVariants.{Input, Feed, Rec
 use Rattle.epg_report.specs.declared.status.Outlet.TheVariants.{Air}
 use Rattle.epg_report.specs.Told.{ReportTaken}
 use Rattle.epg_live.specs.Stops.{HasStatusCause, HaveReadCauses, feeds_stop, live_status}
-use Rattle.epg_live.specs.Runs.{EndsBefore, FeedsDid, JobsRan, ahead_of, described}
+use Rattle.mux_config.specs.Texts.{ahead_of, described}
+use Rattle.epg_live.specs.Runs.{EndsBefore, FeedsDid, JobsRan}
 use Rattle.epg_live.specs.Decided.{AreWhole, HasEdits, feed_text_stop, job_stop, jobs_status, text_status, description_status, views_status}
 use Rattle.epg_report.specs.Ends.{ReportEnds}
 use Rattle.epg_live.specs.Ends.{HasMet, run_text}

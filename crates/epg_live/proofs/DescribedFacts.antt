@@ -25,7 +25,8 @@ use Rattle.headend_live.specs.declared.watched.LivePlan.{LivePlan}
 use Rattle.epg_live.specs.declared.reporting.Observed.{Observed}
 use Rattle.epg_report.specs.declared.status.Status.TheVariants.{Memory}
 use Rattle.epg_live.specs.Stops.{mux_status}
-use Rattle.epg_live.specs.Runs.{ControlTook, HasRead, NoJobs, ahead_taken, nothing_observed}
+use Rattle.mux_config.specs.Texts.{ahead_taken}
+use Rattle.epg_live.specs.Runs.{ControlTook, HasRead, NoJobs, nothing_observed}
 
 -- of known bytes some were taken, and the others are left
 bytes_left : (left : Option (List ℕ)) (text taken : List ℕ) → Consumes (Some text) left taken → (rest : List ℕ) × (text ≡ taken ++ rest) × (left ≡ Some rest)

@@ -29,7 +29,8 @@ use Rattle.epg_report.specs.declared.status.Status.TheVariants.{Done, Memory}
 use Rattle.epg_report.specs.Told.{ReportTaken}
 use Rattle.epg_live.specs.declared.reporting.Observed.{Observed}
 use Rattle.epg_live.specs.Stops.{feeds_stop}
-use Rattle.epg_live.specs.Runs.{EndsBefore, JobsRan, NoJobs, described, ahead_of}
+use Rattle.mux_config.specs.Texts.{ahead_of, described}
+use Rattle.epg_live.specs.Runs.{EndsBefore, JobsRan, NoJobs}
 use Rattle.epg_report.specs.Ends.{ReportEnds, or_report}
 use Rattle.epg_live.specs.Ends.{HasMet, run_text}
 use Rattle.epg_live.specs.Leaves.{LeavesLive}

@@ -29,7 +29,8 @@ use Rattle.headend_jobs.specs.Live.{LastMade}
 use Rattle.headend_jobs.specs.Playing.{swaps_by}
 use Rattle.headend_jobs.specs.Whole.{final_commands}
 use Rattle.headend_jobs.proofs.TypedJournals.{IsReadStep, AreReadCommands, CallerIsRead, caller_typed, journal_typed, journal_window}
-use Rattle.epg_live.specs.Runs.{CallerDid, FeedsDid, IsJournal, ahead_of}
+use Rattle.mux_config.specs.Texts.{ahead_of}
+use Rattle.epg_live.specs.Runs.{CallerDid, FeedsDid, IsJournal}
 use Rattle.epg_live.proofs.ControlFacts.{controls_within}
 
 first_of : {X : Type 0} (P : X → Type 0) (k : ℕ) (xs : List X) → AllByRecursion P xs → AllByRecursion P (take k xs)

@@ -16,7 +16,7 @@ use Rattle.headend_jobs.specs.Live.{run_stop}
 use Rattle.epg_report.specs.declared.status.Status.{Status}
 use Rattle.epg_report.specs.declared.status.Status.TheVariants.{BadMux, TooLong as PastLimit, NoView}
 use Rattle.epg_report.specs.declared.status.Origin.TheVariants.{Input}
-use Rattle.epg_live.specs.Runs.{ahead_of, described}
+use Rattle.mux_config.specs.Texts.{ahead_of, described}
 use Rattle.epg_live.specs.Stops.{feeds_stop, live_status}
 use Rattle.epg_live.specs.Views.{unserved}
 

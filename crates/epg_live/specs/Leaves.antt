@@ -12,7 +12,7 @@ use Rattle.epg_report.specs.declared.status.Status.{Status}
 use Rattle.epg_report.specs.declared.status.Status.TheVariants.{Done, Memory}
 use Rattle.epg_report.specs.Told.{ReportTaken}
 use Rattle.epg_live.specs.declared.reporting.Observed.{Observed}
-use Rattle.epg_live.specs.Runs.{described}
+use Rattle.mux_config.specs.Texts.{described}
 use Rattle.epg_report.specs.Ends.{ReportEnds}
 use Rattle.epg_live.specs.Ends.{HasMet, run_text}
 

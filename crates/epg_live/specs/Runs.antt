@@ -4,15 +4,13 @@ use Rattle.std.specs.Io.KnownBytes.{Appends}
 use Rattle.headend_live.specs.declared.watched.LivePlan.{LivePlan}
 use Rattle.si_causes.specs.Opening.{Files, file_at}
 use Rattle.si_causes.specs.Reading.{Reading, fresh}
-use Rattle.si_causes.specs.Text.{text_lines}
 use Rattle.si_causes.specs.declared.stop.ReadStop.TheVariants.{Failed}
-use Rattle.input_lines.specs.Lines.{record_lines}
-use Rattle.input_lines.specs.Going.{shown_whole}
 use Rattle.mux_model.specs.declared.mux.Mux.{Mux}
-use Rattle.mux_config.specs.Descriptions.{Description, description_ahead, fault_in}
+use Rattle.mux_config.specs.Descriptions.{description_ahead, fault_in}
+use Rattle.mux_config.specs.Texts.{ahead_of, described, described_taken}
 use Rattle.input_lines.specs.declared.stop.EditStop.{EditStop}
 use Rattle.input_lines.specs.declared.stop.EditStop.TheVariants.{Read}
-use Rattle.input_lines.specs.Ahead.{Ahead, Breaks, Came, Found, Stop, Stopped, TooLong as Exceeded, Unread, ahead_in}
+use Rattle.input_lines.specs.Ahead.{Ahead, Came, Stop, Stopped, TooLong as Exceeded, Unread}
 use Rattle.input_lines.specs.Reads.{Leaves, Passes}
 use Rattle.script_lines.specs.Edits.{edits_ahead}
 use Rattle.journal_model.specs.declared.step.Step.{Step}
@@ -38,18 +36,6 @@ use Rattle.epg_live.specs.Stops.{HaveReadCauses, feeds_stop, live_status}
 
 -- ---- what was asked for
 
--- what is ahead in a text
-abbrev pub ahead_of : List ℕ → Ahead
-ahead_of text = ahead_in 1 (text_lines text)
-
--- the description in a text
-abbrev pub described : List ℕ → Found Description
-described text = description_ahead (ahead_of text)
-
--- what is ahead in the lines that are whole in bytes, behind which a read failed
-abbrev pub ahead_taken : List ℕ → Ahead
-ahead_taken bytes = record { rows = record_lines 1 (shown_whole bytes); tail = Breaks }
-
 -- Under its number the journal has the commands that were ahead of a caller up to its own stop, and then these.
 abbrev pub CallerDid : {T : Type 0} → List Entry → ℕ → (T → Step) → List T × Stop → List Command → Option EditStop → Type 0
 CallerDid journal who step all then stop = ToldDid (λ values. CommandsAre journal who (commands_by who step values ++ then)) all stop
@@ -61,7 +47,7 @@ pub record IsTaken (text : List ℕ) (left : Option (List ℕ)) (mux : Mux) (beh
   pub rest : List ℕ
   pub text_is : text ≡ taken ++ rest
   pub left_is : left ≡ Some rest
-  pub whole : description_ahead (ahead_taken taken) ≡ Came (Ok mux) behind
+  pub whole : described_taken taken ≡ Came (Ok mux) behind
 
 -- A read of the control's lines failed: it has exactly the commands of the lines that were whole in the bytes taken, and each of these
 -- is one.
@@ -154,7 +140,7 @@ pub record IsUnread (text : List ℕ) (left : Option (List ℕ)) : Type 0 where
   pub rest : List ℕ
   pub text_is : text ≡ taken ++ rest
   pub left_is : left ≡ Some rest
-  pub unended : description_ahead (ahead_taken taken) ≡ Stopped Unread
+  pub unended : described_taken taken ≡ Stopped Unread
 
 -- why no job started
 abbrev pub EndsBefore : LivePlan → List ℕ → Option (List ℕ) → Status → Type 0

@@ -1,5 +1,6 @@
 pub mod Fields
 pub mod Descriptions
+pub mod Texts
 pub mod Kinds
 pub mod Reads
 mod Rows

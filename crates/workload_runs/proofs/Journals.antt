@@ -20,7 +20,8 @@ use Rattle.headend_live.specs.declared.watched.LivePlan.{LivePlan}
 use Rattle.epg_report.specs.declared.status.Status.TheVariants.{Done}
 use Rattle.epg_live.specs.declared.reporting.Observed.{Observed}
 use Rattle.epg_live.specs.Stops.{feeds_stop}
-use Rattle.epg_live.specs.Runs.{CallerDid, FeedsDid, JobsRan, described}
+use Rattle.mux_config.specs.Texts.{described}
+use Rattle.epg_live.specs.Runs.{CallerDid, FeedsDid, JobsRan}
 use Rattle.epg_live.specs.Ends.{HasMet}
 use Rattle.si_workload.specs.Texts.{feed_text}
 use Rattle.workload_laws.specs.Load.{soak_controls, soak_edits, soak_mux}
