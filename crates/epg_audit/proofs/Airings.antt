@@ -1,17 +1,11 @@
 -- What the commands of a script put on air, and what the first of them do.
-use Rattle.std.proofs.Common.{◌≡◌, ℕ, ◌+◌, ◌*◌, ◌/◌, List, [], ◌∷◌, ◌++◌, length, take, sym, ap, ◌∙◌, subst, arith, map, append-nil, append_assoc}
+use Rattle.std.proofs.Common.{◌≡◌, ℕ, ◌+◌, List, [], ◌∷◌, ◌++◌, length, sym, ap, ◌∙◌, subst, append-nil, append_assoc}
 use Rattle.std.specs.Prelude.{Option, Some}
-use Rattle.std.proofs.lemmas.List.{length-map, take_all}
 use Rattle.si_causes.specs.Text.{text_lines}
 use Rattle.input_lines.specs.Ahead.{tail_of}
 use Rattle.version_book.specs.Airings.{AiredTables}
-use Rattle.ts_packets.specs.Bytes.{bytes_of_packet}
-use Rattle.ts_packets.specs.WholePackets.{whole_packets}
-use Rattle.air_model.specs.Air.{Aired, CanBeSent, IsAirOf, air, air_bytes, airings_of}
-use Rattle.air_model.proofs.Repeating.{airs_repeat}
+use Rattle.air_model.specs.Air.{CanBeSent}
 use Rattle.air_hearing.proofs.Told.{sent_of}
-use Rattle.air_coherence.specs.Coherence.{IsCoherent}
-use Rattle.air_coherence.proofs.Coherent.{front_is_coherent, front_packets}
 use Rattle.air_audit.specs.Audits.{AreAnAir}
 use Rattle.mux_model.specs.declared.mux.Mux.{Mux}
 use Rattle.journal_model.specs.Steps.{Command}
@@ -20,15 +14,15 @@ use Rattle.desk_core.specs.Desks.{DeskState}
 use Rattle.desk_core.proofs.JournalFacts.{journal_legal, journal_more}
 use Rattle.journal_air.specs.Air.{airings, airings_by}
 use Rattle.journal_air.proofs.CarryFacts.{airings_heard}
-use Rattle.journal_screen.specs.Shown.{IsAsRead, IsExact}
-use Rattle.journal_screen.proofs.Shown.{journals_shown}
+use Rattle.journal_screen.specs.Shown.{IsAsRead}
+use Rattle.journal_screen.specs.Heard.{IsHeardAs}
+use Rattle.journal_screen.proofs.Heard.{airs_heard}
 use Rattle.headend_jobs.proofs.SwapFacts.{airings-push}
 use Rattle.epg_play.specs.Script.{Script, Stop, script_in}
 use Rattle.epg_play.specs.Leaves.{whole_journal}
 use Rattle.epg_play.proofs.RunFacts.{IsPlayed, IsPlayedTo}
 use Rattle.epg_play.proofs.SentFacts.{script_as_read}
 use Rattle.epg_audit.specs.Audits.{desk_airings}
-use Rattle.epg_audit.specs.Finds.{IsHeardAs}
 use Rattle.epg_audit.specs.Recorded.{airings_for, script_airings}
 
 -- ---- the first commands
@@ -73,26 +67,8 @@ script_sent text mux e =
 
 -- ---- how an air of it is heard
 
-all_packets : (aired : List AiredTables) (cycles : List Aired) → IsAirOf aired cycles → whole_packets (take (188 * length (air cycles)) (air_bytes cycles)) ≡ map bytes_of_packet (air cycles)
-all_packets aired cycles is =
-    let n = 188 * length (air cycles) in
-    let count : n / 188 ≡ length (air cycles) = omega arith in
-    front_packets aired cycles (airs_repeat aired cycles is) n ∙ take_all (n / 188) (map bytes_of_packet (air cycles)) (omega (arith, count, length-map (air cycles) bytes_of_packet))
-
 pub script_heard : (text : List ℕ) (mux : Mux) (packets : List (List ℕ)) → (script_in text).mux ≡ Some mux → AreAnAir (airings mux (journal_of mux (script_in text).commands)) packets
     → IsHeardAs mux (journal_of mux (script_in text).commands) packets
 script_heard text mux packets e is =
     let journal = journal_of mux (script_in text).commands in
-    let aired = airings mux journal in
-    let read = script_read text mux e in
-    let legal = journal_legal mux [] (script_in text).commands in
-    let n = 188 * length (air is.xs) in
-    let all = all_packets aired is.xs is.is_air ∙ is.packets_are in
-    let own = subst (λ (l : List AiredTables). IsAirOf l is.xs) (sym is.is_air.airings_are) is.is_air in
-    record {
-      cycles = is.xs;
-      is_air = is.is_air;
-      packets_are = is.packets_are;
-      coherent = subst (IsCoherent is.xs) all (front_is_coherent aired is.xs (airs_repeat aired is.xs is.is_air) (airings_heard mux journal read.sound read.edits legal) n);
-      exact = subst (IsExact mux journal is.xs) all (journals_shown mux journal read legal is.xs [] (sym is.is_air.airings_are ∙ sym (append-nil (airings_of is.xs))) (airs_repeat (airings_of is.xs) is.xs own) n);
-    }
+    subst (IsHeardAs mux journal) is.packets_are (airs_heard mux journal is.xs (script_read text mux e) (journal_legal mux [] (script_in text).commands) is.is_air)

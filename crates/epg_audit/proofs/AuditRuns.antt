@@ -5,24 +5,26 @@ use Rattle.std.specs.Io.KnownBytes.{Appends, IsAtEnd}
 use Rattle.std.proofs.lemmas.List.{take-append-drop}
 use Rattle.si_causes.specs.Causes.{Rose, AppendsFront}
 use Rattle.si_causes.proofs.CauseFacts.{Rose-from}
-use Rattle.si_causes.specs.Opening.{Files, GivesFile, TakesBack, Tries, file_at}
+use Rattle.si_causes.specs.Opening.{Files, TakesBack, Tries, file_at}
 use Rattle.mux_model.specs.declared.mux.Mux.{Mux}
 use Rattle.version_book.specs.Airings.{AiredTables}
 use Rattle.ts_packets.specs.WholePackets.{whole_packets}
 use Rattle.air_audit.specs.Audits.{AreAnAir}
 use Rattle.epg_report.specs.declared.status.Status.{Status}
-use Rattle.epg_report.specs.declared.status.Status.TheVariants.{Done, Usage, BadScript, Disagrees, BadMux, BadFeed, BadStream, TooLong as PastLimit, OpenFault, ReadFault, WriteFault, Memory, TooMany, NoView, NotAir, Short}
+use Rattle.epg_report.specs.declared.status.Status.TheVariants.{Done, Usage, BadScript, Disagrees, BadMux, BadFeed, BadStream, TooLong as PastLimit, OpenFault, ReadFault, WriteFault, Memory, TooMany, NoView, NotAir, Short, BadCheckpoint}
 use Rattle.epg_report.specs.declared.status.Origin.TheVariants.{Input, Feed, Recording}
 use Rattle.epg_report.specs.declared.status.Outlet.TheVariants.{Air, Report}
 use Rattle.epg_report.specs.Ends.{ReportEnds, or_report}
 use Rattle.epg_report.specs.Texts.{fault_lines}
+use Rattle.epg_report.specs.Asked.{AtPath, HasAskedFor}
 use Rattle.epg_report.specs.Told.{OpenerAsked, ReportTaken, Reported, SourceGave}
+use Rattle.epg_report.proofs.Asking.{asked_memory, some_fault}
 use Rattle.epg_play.specs.Script.{Stop, Ended, NoMux, NoCommand, Disagreed, TooLong, script_in}
 use Rattle.epg_play.specs.Leaves.{whole_journal}
 use Rattle.epg_audit.specs.declared.cycles.AirCount.{AirCount}
 use Rattle.epg_audit.specs.Ends.{air_line, count_text, met_by}
 use Rattle.epg_audit.specs.Audits.{HasAuditCause}
-use Rattle.epg_audit.specs.Finds.{AtPath, FindsIn, HasAskedFor, HasMetCause, IsFound, IsMetBehind, IsMetByAudit}
+use Rattle.epg_audit.specs.Finds.{FindsIn, HasMetCause, IsFound, IsMetBehind, IsMetByAudit}
 use Rattle.epg_audit.specs.Leaves.{AuditRun, DecidedBy, IsOfAudit, IsUnhindered, LeavesAudit}
 use Rattle.epg_audit.specs.Recorded.{IsFaulty, IsRecordedAir, airings_for, script_airings}
 
@@ -69,17 +71,6 @@ of_audit report (Ok count) status is (inr (inl (took, same))) = subst IsOfAudit 
 of_audit report (Ok count) status is (inr (inr (rose, took, same))) = subst IsOfAudit (sym same) tt
 of_audit report (Err met) status is (inr (inl (took, same))) = subst IsOfAudit (sym same) (met_audit met is)
 of_audit report (Err met) status is (inr (inr (rose, took, same))) = subst IsOfAudit (sym (same ∙ same_met met is)) (met_audit met is)
-
-asked_memory : (path : List ℕ) (old new : Option (List (List ℕ))) (met : Status) → HasAskedFor path old new met → HasAskedFor path old new Memory
-asked_memory path old new (BadMux fault) asked = inl asked
-asked_memory path old new (PastLimit Input) asked = asked
-asked_memory path old new (PastLimit (Feed f)) asked = inr asked
-asked_memory path old new (PastLimit Recording) asked = inr asked
-asked_memory path old new (ReadFault Input) asked = asked
-asked_memory path old new (ReadFault (Feed f)) asked = inr asked
-asked_memory path old new (ReadFault Recording) asked = inr asked
-asked_memory path old new Memory asked = asked
-asked_memory path old new other asked = inr asked
 
 asked_of : (path : List ℕ) (old new : Option (List (List ℕ))) (report : ReportTaken) (audited : Result AirCount Status) (status : Status) → IfErr audited IsMetByAudit → HasAskedFor path old new (met_by audited)
     → Finished audited report status → HasAskedFor path old new status
@@ -149,6 +140,7 @@ module _ (path : List ℕ) (files : Files) (text : List ℕ) (left : Option (Lis
   decided (BadFeed f n) leaves ended no_input no_reading no_opening no_report = absurd leaves.0
   decided (NoView service) leaves ended no_input no_reading no_opening no_report = absurd leaves.0
   decided (TooMany n) leaves ended no_input no_reading no_opening no_report = absurd leaves.0
+  decided (BadCheckpoint n) leaves ended no_input no_reading no_opening no_report = absurd leaves.0
 
   -- ---- an air is not at fault
 
@@ -243,11 +235,6 @@ pub results_asked : (path : List ℕ) (old new : Option (List (List ℕ))) (resu
 results_asked path old new (Ok count) is tried = tried
 results_asked path old new (Err status) is tried = asked_behind path old new status is tried
 
--- the count of a source without a fault rose
-some_fault : (now : ℕ) → Rose 0 now → 0 < now
-some_fault now (inl more) = more
-some_fault now (inr last) = omega (arith, last)
-
 pub results_caused : (input_before input_mid input_now failed : ℕ) (opener : OpenerAsked) (result : Result AirCount Status) → IfErr result IsMetBehind → input_before ≤ input_mid → HasAuditCause input_mid input_now 0 failed result
     → TakesBack failed opener.read_old opener.read_new → IfErr result (HasMetCause input_before input_now opener)
 results_caused input_before input_mid input_now failed opener (Ok count) is le cause back = tt
@@ -256,8 +243,3 @@ results_caused input_before input_mid input_now failed opener (Err (ReadFault Re
 results_caused input_before input_mid input_now failed opener (Err (ReadFault (Feed f))) is le cause back = tt
 results_caused input_before input_mid input_now failed opener (Err (OpenFault n)) is le cause back = absurd is
 results_caused input_before input_mid input_now failed opener (Err other) is le cause back = tt
-
--- an opener that tells its files gives the bytes of one
-pub given_file : (files : Files) (path : List ℕ) (left : Option (List ℕ)) → GivesFile (Some files) path left → (bytes : List ℕ) × (left ≡ Some bytes) × (file_at path files ≡ Some bytes)
-given_file files path None gives = absurd gives
-given_file files path (Some bytes) gives = (bytes, refl, gives)

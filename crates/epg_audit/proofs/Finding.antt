@@ -31,7 +31,9 @@ use Rattle.epg_audit.specs.declared.cycles.AirCount.{AirCount}
 use Rattle.epg_audit.specs.Audits.{AuditDid, CycleStops, EndStops, IsCounted, IsOfScript, RecordingAudited, ScriptStops, desk_airings}
 use Rattle.journal_model.specs.declared.step.Entry.{Entry}
 use Rattle.air_audit.specs.Audits.{AreAnAir}
-use Rattle.epg_audit.specs.Finds.{AtPath, FindsIn, IsAccepted, IsFound, IsHeardAs, StopsBehind}
+use Rattle.epg_report.specs.Asked.{AtPath}
+use Rattle.epg_audit.specs.Finds.{FindsIn, IsAccepted, IsFound, StopsBehind}
+use Rattle.journal_screen.specs.Heard.{IsHeardAs}
 use Rattle.epg_audit.specs.Recorded.{BeginsWithAir, IsFaulty, IsRecordedAir, airings_for, script_airings}
 use Rattle.epg_audit.proofs.Airings.{desk_begins_script, desk_is_script, script_heard, script_sent}
 

@@ -1,39 +1,22 @@
 -- What an audit finds of the text of its input and of the file of its recording.
 use Rattle.std.specs.Prelude.{◌≡◌, ◌⊎◌, ℕ, List, ◌++◌, map, Option, Some, IfSome, IsSome, Ok, Err, Result}
 use Rattle.si_causes.specs.Causes.{Rose}
-use Rattle.si_causes.specs.Opening.{Files, Tries, file_at}
+use Rattle.si_causes.specs.Opening.{Files, file_at}
 use Rattle.mux_model.specs.declared.mux.Mux.{Mux}
 use Rattle.journal_model.specs.declared.step.Entry.{Entry}
-use Rattle.ts_packets.specs.Bytes.{bytes_of_packet}
 use Rattle.ts_packets.specs.WholePackets.{whole_packets}
-use Rattle.air_model.specs.Air.{Aired, IsAirOf, air}
-use Rattle.air_coherence.specs.Coherence.{IsCoherent}
 use Rattle.journal_air.specs.Air.{airings}
-use Rattle.journal_screen.specs.Shown.{IsExact}
+use Rattle.journal_screen.specs.Heard.{IsHeardAs}
 use Rattle.epg_report.specs.declared.status.Status.{Status}
 use Rattle.epg_report.specs.declared.status.Status.TheVariants.{BadMux, BadScript, BadStream, Disagrees, Memory, NotAir, OpenFault, ReadFault, Short, TooLong as PastLimit}
 use Rattle.epg_report.specs.declared.status.Origin.TheVariants.{Input, Recording}
+use Rattle.epg_report.specs.Asked.{AtPath}
 use Rattle.epg_report.specs.Told.{OpenerAsked}
 use Rattle.epg_play.specs.Script.{Script, Stop, Ended, NoMux, NoCommand, Disagreed, TooLong, Unread, script_in, script_taken}
 use Rattle.epg_play.specs.Leaves.{whole_journal}
 use Rattle.epg_audit.specs.declared.cycles.AirCount.{AirCount}
 use Rattle.epg_audit.specs.Audits.{IsCounted}
 use Rattle.epg_audit.specs.Recorded.{BeginsWithAir, IsFaulty, IsRecordedAir, script_airings}
-
--- of the bytes of the file at a path
-pub record AtPath (path : List ℕ) (files : Files) (Is : List ℕ → Type 0) : Type 0 where
-  pub bytes : List ℕ
-  pub file : file_at path files ≡ Some bytes
-  pub is : Is bytes
-
--- These packets are an air of a journal, whoever made it: whatever is completed of a part of it is the content of one airing, and once a
--- cycle was heard whole, the guide is that of its publication, as long as that stays on air.
-pub record IsHeardAs (mux : Mux) (journal : List Entry) (packets : List (List ℕ)) : Type 0 where
-  pub cycles : List Aired
-  pub is_air : IsAirOf (airings mux journal) cycles
-  pub packets_are : map bytes_of_packet (air cycles) ≡ packets
-  pub coherent : IsCoherent cycles packets
-  pub exact : IsExact mux journal cycles packets
 
 -- The script is whole, and the recording is an air of its journal, of so many packets and swaps.
 pub record IsAccepted (path : List ℕ) (files : Files) (script : Script) (count : AirCount) : Type 0 where
@@ -83,14 +66,6 @@ FindsIn path files text left (Err status) = IsFound path files text left status
 abbrev pub Finds : {S : Type 0} → List ℕ → OpenerAsked → (S → Option (List ℕ)) → S → S → Result AirCount Status → Type 0
 Finds path opener left old new result =
     (text : List ℕ) → left old ≡ Some text → (files : Files) → opener.files ≡ Some files → FindsIn path files text (left new) result
-
--- The opener was asked for the path behind the description of the multiplex alone.
-abbrev pub HasAskedFor : List ℕ → Option (List (List ℕ)) → Option (List (List ℕ)) → Status → Type 0
-HasAskedFor path old new (BadMux fault) = new ≡ old
-HasAskedFor path old new (PastLimit Input) = (new ≡ old) ⊎ Tries old new path
-HasAskedFor path old new (ReadFault Input) = (new ≡ old) ⊎ Tries old new path
-HasAskedFor path old new Memory = (new ≡ old) ⊎ Tries old new path
-HasAskedFor path old new status = Tries old new path
 
 -- a fault of the outside has its cause
 abbrev pub HasMetCause : ℕ → ℕ → OpenerAsked → Status → Type 0

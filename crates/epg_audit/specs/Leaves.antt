@@ -12,7 +12,8 @@ use Rattle.epg_report.specs.Told.{OpenerAsked, ReportTaken, Reported, SourceGave
 use Rattle.epg_play.specs.Script.{Ended, script_in}
 use Rattle.epg_audit.specs.declared.cycles.AirCount.{AirCount}
 use Rattle.epg_audit.specs.Ends.{air_line}
-use Rattle.epg_audit.specs.Finds.{AtPath, HasAskedFor, HasMetCause, IsAccepted, IsFound, IsMetByAudit}
+use Rattle.epg_report.specs.Asked.{AtPath, HasAskedFor}
+use Rattle.epg_audit.specs.Finds.{HasMetCause, IsAccepted, IsFound, IsMetByAudit}
 use Rattle.epg_audit.specs.Recorded.{IsFaulty, IsRecordedAir, script_airings}
 
 -- What a run of `audit` leaves with each status. With Done the report is the one line of the air, and with a fault its line alone.

@@ -8,7 +8,8 @@ ghost use Rattle.epg_report.specs.Texts.{CanBeSaid};
 ghost use Rattle.epg_report.specs.Told.{asked};
 ghost use Rattle.epg_audit.specs.Audits.{HasAuditCause, RecordingAudited};
 ghost use Rattle.epg_audit.specs.Ends.{met_by};
-ghost use Rattle.epg_audit.specs.Finds.{Finds, HasAskedFor, HasMetCause, IsMetBehind, IsMetByAudit};
+ghost use Rattle.epg_report.specs.Asked.{HasAskedFor};
+ghost use Rattle.epg_audit.specs.Finds.{Finds, HasMetCause, IsMetBehind, IsMetByAudit};
 ghost use Rattle.epg_audit.specs.Leaves.{AuditRan};
 
 use crate::cycles::{AirCount, audit_rest, swap_count};

@@ -2,3 +2,4 @@ pub mod Codes
 pub mod Texts
 pub mod Told
 pub mod Ends
+pub mod Asked

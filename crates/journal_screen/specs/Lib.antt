@@ -1,3 +1,4 @@
 pub mod Shown
+pub mod Heard
 pub mod Last
 pub mod Laws

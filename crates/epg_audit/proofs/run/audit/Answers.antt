@@ -11,7 +11,8 @@ use Rattle.epg_play.proofs.CourseFacts.{went_none}
 use Rattle.epg_play.proofs.RunFacts.{undescribed, went_played}
 use Rattle.epg_audit.specs.Audits.{HasAuditCause}
 use Rattle.epg_audit.specs.Finds.{IsFound}
-use Rattle.epg_audit.proofs.AuditRuns.{given_file, results_asked, results_caused}
+use Rattle.epg_report.proofs.Asking.{given_file}
+use Rattle.epg_audit.proofs.AuditRuns.{results_asked, results_caused}
 use Rattle.epg_audit.proofs.Finding.{audited_finds, mux_found, some_mux}
 use Rattle.epg_audit.proofs.run.audit.Goals as goal
 
