@@ -1,14 +1,12 @@
 -- The law of the checkpoint of a journal and of its air.
 use Rattle.std.specs.Prelude.{◌≡◌, ◌++◌, ℕ, List, Ok, map}
 use Rattle.std.specs.List.{All}
-use Rattle.std.specs.List.Sorted.{IsStrictlyIncreasing}
 use Rattle.version_book.specs.declared.key_version.KeyVersion.{KeyVersion}
 use Rattle.version_book.specs.Book.{BookStandsFor, AreOrdered, given_entries}
 use Rattle.ts_packets.specs.declared.pid_counter.PidCounter.{PidCounter}
 use Rattle.ts_packets.specs.Bytes.{bytes_of_packet}
 use Rattle.ts_packets.specs.PidCounters.{IsPidCounter, AreCountersOf}
 use Rattle.air_model.specs.Air.{Aired, air, airings_of, IsAirOf}
-use Rattle.carousel_player.specs.Playing.{AreKeptOf}
 use Rattle.mux_model.specs.declared.mux.Mux.{Mux}
 use Rattle.mux_model.specs.Sound.{IsSoundWithIds}
 use Rattle.journal_model.specs.declared.step.Entry.{Entry}
@@ -20,22 +18,9 @@ use Rattle.journal_air.specs.Laws.{HasTypedEdits}
 use Rattle.checkpoint_laws.specs.Steps.{checkpoint_steps}
 use Rattle.desk_checkpoint.specs.Checkpoints.{Checkpoint}
 use Rattle.desk_checkpoint.specs.Reads.{checkpoint_in}
+use Rattle.desk_checkpoint.specs.HandedOver.{AreHandedOver, DoPidsAscend}
 use Rattle.desk_checkpoint.specs.Text.{HasByteBodies, checkpoint_text}
 use Rattle.desk_checkpoint.specs.Laws.{CanBeFolded, AreKeysWritten, AreCountersWritten, IsCheckpointOf}
-
--- ---- what is kept
-
--- counters in ascending order of their PIDs
-abbrev pub DoPidsAscend : List PidCounter → Type 0
-DoPidsAscend pids = IsStrictlyIncreasing (map (λ (c : PidCounter). c.pid) pids)
-
--- What a player keeps that has handed out the air of xs, as it hands it over: both in ascending order, as wide as their fields.
-pub record AreHandedOver (xs : List Aired) (keys : List KeyVersion) (pids : List PidCounter) : Type 0 where
-  pub kept : AreKeptOf xs keys pids
-  pub ordered : AreOrdered (given_entries keys)
-  pub bytes : HasByteBodies (given_entries keys)
-  pub ascend : DoPidsAscend pids
-  pub fit : All IsPidCounter pids
 
 -- ---- laws
 

@@ -3,6 +3,7 @@ pub mod ReadFacts
 pub mod RestFacts
 pub mod StepFacts
 pub mod TextFacts
+pub mod HandedFacts
 pub mod RowSizes
 pub mod PartBack
 pub mod PartsBack

@@ -6,6 +6,7 @@ pub mod Readings
 pub mod Reads
 pub mod Starts
 pub mod Text
+pub mod HandedOver
 pub mod Raising
 pub mod Laws
 mod Rows

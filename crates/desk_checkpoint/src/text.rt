@@ -12,6 +12,7 @@ ghost use Rattle.checkpoint_laws.specs.Steps.{guide_steps, publication_steps};
 ghost use Rattle.desk_checkpoint.specs.Fields.{count_fields, version_fields};
 ghost use Rattle.desk_core.specs.Journal.{publishes};
 ghost use Rattle.ts_packets.specs.PidCounters.{kept_from};
+ghost use Rattle.desk_checkpoint.specs.HandedOver.{HandsOver};
 ghost use Rattle.desk_checkpoint.specs.Text.{HasByteBodies, HasByteContent, counter_text, desk_steps, edits_of, feed_steps, key_text};
 ghost use Rattle.desk_checkpoint.specs.Text.{put_text, section_text, service_text, start_text, step_text, steps_text};
 
@@ -346,7 +347,7 @@ fn put_player(alloc: Global, out: &mut Vec<u8>, player: &Player) -> Result<(), A
     requires { player.now.left ≡ [] }
     ensures text { OnOk result (out.new.items ≡ out.old.items
         ++ (flat_map key_text player.now.book ++ flat_map counter_text (kept_from 0 player.now.counters))) }
-    ensures bytes { OnOk result (HasByteBodies player.now.book) }
+    ensures handed { OnOk result (HandsOver player.now) }
 {
     let (keys, counters) = player.kept()?;
     put_keys(alloc, out, keys.as_slice())?;
@@ -360,7 +361,7 @@ fn text_of(alloc: Global, desk: &Desk, shift: u64, player: &Player) -> Result<Ve
     requires shift { shift < 10 ^ 18 }
     requires at_end { player.now.left ≡ [] }
     ensures text { IfOk result (λ text. text.items ≡ start_text shift desk.now player.now) }
-    ensures bytes { OnOk result (HasByteBodies player.now.book) }
+    ensures handed { OnOk result (HandsOver player.now) }
 {
     let mut text = Vec::new(alloc);
     put_steps(alloc, &mut text, desk, shift)?;
@@ -373,7 +374,7 @@ fn text_of(alloc: Global, desk: &Desk, shift: u64, player: &Player) -> Result<Ve
 /// the shift than those of the journal that goes on: how many publications there are; the steps that make the latest of
 /// them, where there is one, and then what stands; each key that an airing carried, or that was handed in, with its last
 /// version and content; the continuity counter of each PID that had a packet, or was handed in (ISO/IEC 13818-1,
-/// 2.4.3.3); and the end. Each body is of bytes, as its type says. Want of memory leaves `out` with what it had.
+/// 2.4.3.3); and the end. Want of memory leaves `out` with what it had.
 pub fn write_checkpoint(
     alloc: Global,
     desk: &Desk,
@@ -385,7 +386,7 @@ pub fn write_checkpoint(
     requires at_end { player.now.left ≡ [] }
     ensures text { OnOk result (out.new.items
         ≡ out.old.items ++ start_text shift desk.now player.now) }
-    ensures bytes { OnOk result (HasByteBodies player.now.book) }
+    ensures handed { OnOk result (HandsOver player.now) }
     ensures kept { OnErr result (out.new.items ≡ out.old.items) }
 {
     let text = text_of(alloc, desk, shift, player)?;
