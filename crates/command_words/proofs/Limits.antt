@@ -98,7 +98,7 @@ cycles_all (Join j ∷ settings) (here, all) = cycles_all settings all
 cycles_all (View s ∷ settings) (here, all) = cycles_all settings all
 
 abbrev IsLineWithin : CommandLine → Type 0
-IsLineWithin Play = Unit {0}
+IsLineWithin (Play fold resume) = Unit {0}
 IsLineWithin Listen = Unit {0}
 IsLineWithin (Live feeds cycles join views) = (length feeds ≤ 16) × (cycles ≤ 1000) × (length views ≤ 8)
 IsLineWithin (Soak number) = Unit {0}

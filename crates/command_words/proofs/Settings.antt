@@ -1,13 +1,13 @@
 -- Options of `live`, one more, and those that words spell.
-use Rattle.std.proofs.Common.{◌≡◌, ◌<◌, ℕ, ◌+◌, true, false, List, [], ◌∷◌, ◌++◌, length, Option, Some, None, refl, sym, ap, ◌∙◌, subst, arith, append-nil, append_assoc, length-append, inl, inr, ap₂}
-use Rattle.std.specs.Prelude.{◌==◌, filter_map, min, option_map, String}
+use Rattle.std.proofs.Common.{◌≡◌, ◌<◌, ℕ, ◌+◌, true, false, List, [], ◌∷◌, ◌++◌, length, Option, Some, None, refl, sym, ap, ◌∙◌, arith, append-nil, append_assoc, length-append, inl, inr, ap₂}
+use Rattle.std.specs.Prelude.{filter_map, min, option_map}
 use Rattle.std.specs.List.{list_any, position_or_len, before_first, after_first}
 use Rattle.std.proofs.lemmas.List.Elements.{filter_map-append}
-use Rattle.std.proofs.lemmas.Bool.{cases_Bool, eqb-true}
+use Rattle.std.proofs.lemmas.Bool.{cases_Bool}
 use Rattle.command_words.specs.declared.uses.Uses.{Uses}
 use Rattle.command_words.specs.declared.setting.LiveOption.{LiveOption}
 use Rattle.command_words.specs.declared.setting.LiveOption.TheVariants as option
-use Rattle.command_words.specs.Commands.{option_of, texts}
+use Rattle.command_words.specs.Commands.{option_of}
 use Rattle.command_words.specs.Counts.{Counted, counted}
 use Rattle.command_words.specs.Grammar.{Setting, Feed, Cycles, Join, View, feed_of, cycles_of, join_of, view_of, settings_of, setting_of, setting_in, is_equals, is_dashed, and_setting, front_option}
 

@@ -1,8 +1,9 @@
 -- A command as it was read, and what its words spelled.
-use Rattle.std.specs.Prelude.{◌≤◌, List, ℕ, length, map, String, string_bytes}
+use Rattle.std.specs.Prelude.{◌≤◌, List, ℕ, length, map, option_map, String, string_bytes}
 use Rattle.command_words.specs.declared.command.Command.{Command}
 use Rattle.command_words.specs.declared.command.Command.TheVariants as command
 use Rattle.command_words.specs.declared.command.LiveWords.{LiveWords}
+use Rattle.command_words.specs.declared.play.PlayWords.{PlayWords}
 use Rattle.command_words.specs.declared.setting.LiveOption.{LiveOption}
 use Rattle.command_words.specs.declared.setting.LiveOption.TheVariants as option
 use Rattle.command_words.specs.Grammar.{CommandLine, Play, Listen, Live, Soak, Audit, Setting, Feed, Cycles, Join, View}
@@ -22,9 +23,13 @@ option_of (View s) = option.View
 abbrev pub said_live : LiveWords → CommandLine
 said_live live = Live (texts live.feeds.items) live.cycles live.join live.views
 
+-- the words of this `play` say this
+abbrev pub said_play : PlayWords → CommandLine
+said_play play = Play play.fold (option_map string_bytes play.resume)
+
 -- the words of this command say this
 abbrev pub said : Command → CommandLine
-said command.Play = Play
+said (command.Play play) = said_play play
 said command.Listen = Listen
 said (command.Live live) = said_live live
 said (command.Soak number) = Soak number
@@ -32,7 +37,7 @@ said (command.Audit path) = Audit (string_bytes path)
 
 -- the limits of a command: at most 16 feeds, 1,000 cycles, and 8 views; the number of a load has at most nine digits
 abbrev pub IsWithin : Command → Type 0
-IsWithin command.Play = Unit {0}
+IsWithin (command.Play play) = Unit {0}
 IsWithin command.Listen = Unit {0}
 IsWithin (command.Live live) = (length live.feeds.items ≤ 16) × (live.cycles ≤ 1000) × (length live.views ≤ 8)
 IsWithin (command.Soak number) = number ≤ 999999999

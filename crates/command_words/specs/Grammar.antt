@@ -20,6 +20,10 @@ abbrev pub is_empty : List ℕ → Bool
 is_empty [] = true
 is_empty (b ∷ bs) = false
 
+abbrev pub is_none : List (List ℕ) → Bool
+is_none [] = true
+is_none (word ∷ words) = false
+
 -- whether a word begins with `-`
 abbrev pub is_dashed : List ℕ → Bool
 is_dashed [] = false
@@ -90,7 +94,8 @@ view_of (View s) = Some s
 -- ---- commands
 
 pub data CommandLine : Type 0 where
-  Play : CommandLine
+  -- whether the report is a checkpoint, and the path of the checkpoint from which it goes on
+  Play : Bool → Option (List ℕ) → CommandLine
   Listen : CommandLine
   -- the paths of its feeds, in order, the number of cycles, the first packet that its monitor hears, and the services of its views, in order
   Live : List (List ℕ) → ℕ → ℕ → List ℕ → CommandLine
@@ -108,13 +113,9 @@ abbrev pub live_of : List Setting → Option CommandLine
 live_of settings = live_with (filter_map feed_of settings) (filter_map cycles_of settings) (filter_map join_of settings) (filter_map view_of settings)
 
 -- a command without options
-abbrev pub alone : List ℕ → Option CommandLine
-alone word = if bytes_eq word (codes "play") then Some Play else if bytes_eq word (codes "listen") then Some Listen else None
-
--- a word behind which no other stands
-abbrev alone_with : List ℕ → List (List ℕ) → Option CommandLine
-alone_with word [] = alone word
-alone_with word (next ∷ words) = None
+abbrev pub listen_of : List (List ℕ) → Option CommandLine
+listen_of [] = Some Listen
+listen_of (word ∷ words) = None
 
 -- one word, the number of a load
 abbrev pub soak_of : List (List ℕ) → Option CommandLine
@@ -140,11 +141,40 @@ air_alone (name, value, word ∷ words) = None
 abbrev pub audit_of : List (List ℕ) → Option CommandLine
 audit_of words = option_and_then air_alone (front_option words)
 
+-- whether `--fold` stands at the front of words, and the words behind it
+abbrev pub fold_front : List (List ℕ) → Bool × List (List ℕ)
+fold_front [] = (false, [])
+fold_front (word ∷ words) = if bytes_eq word (codes "--fold") then (true, words) else (false, word ∷ words)
+
+-- the path of an option `--resume`, and the words behind it
+abbrev pub path_behind : List ℕ × List ℕ × List (List ℕ) → Option (List ℕ × List (List ℕ))
+path_behind (name, value, behind) = if bytes_eq name (codes "--resume") && is_path value then Some (value, behind) else None
+
+-- `--resume` with a path at the front of words
+abbrev pub resume_front : List (List ℕ) → Option (List ℕ × List (List ℕ))
+resume_front words = option_and_then path_behind (front_option words)
+
+-- `play` that goes on from a path, behind which `--fold` may stand, where it did not stand before
+abbrev pub play_from : Bool → List ℕ × List (List ℕ) → Option CommandLine
+play_from fold (path, behind) =
+    let last = fold_front behind in
+    if is_none last.1 && not (fold && last.0) then Some (Play (fold || last.0) (Some path)) else None
+
+abbrev pub play_behind : Bool → List (List ℕ) → Option CommandLine
+play_behind fold [] = Some (Play fold None)
+play_behind fold (word ∷ words) = option_and_then (play_from fold) (resume_front (word ∷ words))
+
+-- `--fold` and `--resume` with a path, each at most once
+abbrev pub play_of : List (List ℕ) → Option CommandLine
+play_of words = let first = fold_front words in play_behind first.0 first.1
+
 -- the command that words spell
 abbrev pub command_of : List (List ℕ) → Option CommandLine
 command_of [] = None
 command_of (word ∷ words) =
-    if bytes_eq word (codes "live") then option_and_then live_of (settings_of words)
+    if bytes_eq word (codes "play") then play_of words
+    else if bytes_eq word (codes "listen") then listen_of words
+    else if bytes_eq word (codes "live") then option_and_then live_of (settings_of words)
     else if bytes_eq word (codes "soak") then soak_of words
     else if bytes_eq word (codes "audit") then audit_of words
-    else alone_with word words
+    else None

@@ -1,12 +1,44 @@
 -- Worked rows of the definitions.
-use Rattle.std.specs.Prelude.{◌≡◌, [], ◌∷◌, Some, None, codes, refl}
+use Rattle.std.specs.Prelude.{◌≡◌, [], ◌∷◌, Some, None, true, false, codes, refl}
 use Rattle.command_words.specs.Grammar.{command_of, Play, Live, Soak, Audit}
 
 two_feeds : command_of (codes "live" ∷ codes "--join=0" ∷ codes "--feed" ∷ codes "a" ∷ codes "--cycles" ∷ codes "3" ∷ codes "--feed=b" ∷ []) ≡ Some (Live (codes "a" ∷ codes "b" ∷ []) 3 0 [])
 two_feeds = refl
 
-one_word : command_of (codes "play" ∷ []) ≡ Some Play
+one_word : command_of (codes "play" ∷ []) ≡ Some (Play false None)
 one_word = refl
+
+-- the options of `play`, in any order
+play_fold : command_of (codes "play" ∷ codes "--fold" ∷ []) ≡ Some (Play true None)
+play_fold = refl
+
+play_resume : command_of (codes "play" ∷ codes "--resume" ∷ codes "night.cp" ∷ []) ≡ Some (Play false (Some (codes "night.cp")))
+play_resume = refl
+
+play_both : command_of (codes "play" ∷ codes "--fold" ∷ codes "--resume=--fold" ∷ []) ≡ Some (Play true (Some (codes "--fold")))
+play_both = refl
+
+play_both_again : command_of (codes "play" ∷ codes "--resume" ∷ codes "a=b" ∷ codes "--fold" ∷ []) ≡ Some (Play true (Some (codes "a=b")))
+play_both_again = refl
+
+-- an option twice, a path that is none, a value of `--fold`
+play_fold_twice : command_of (codes "play" ∷ codes "--fold" ∷ codes "--resume=a" ∷ codes "--fold" ∷ []) ≡ None
+play_fold_twice = refl
+
+play_folds : command_of (codes "play" ∷ codes "--fold" ∷ codes "--fold" ∷ []) ≡ None
+play_folds = refl
+
+play_resumes : command_of (codes "play" ∷ codes "--resume=a" ∷ codes "--resume=a" ∷ []) ≡ None
+play_resumes = refl
+
+play_without_path : command_of (codes "play" ∷ codes "--resume" ∷ codes "--fold" ∷ []) ≡ None
+play_without_path = refl
+
+play_from_nothing : command_of (codes "play" ∷ codes "--resume=" ∷ []) ≡ None
+play_from_nothing = refl
+
+play_fold_value : command_of (codes "play" ∷ codes "--fold=1" ∷ []) ≡ None
+play_fold_value = refl
 
 -- a word more is none of `play`
 word_more : command_of (codes "play" ∷ codes "--join=0" ∷ []) ≡ None

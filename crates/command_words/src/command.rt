@@ -2,9 +2,10 @@
 ghost use Rattle.std.specs.Prelude.{◌≡◌, ◌↔◌, Some, None, Err, IfNone, IfOk, IfSome, option_and_then, option_map};
 ghost use Rattle.command_words.specs.declared.command.WordsStop.TheVariants.{Usage};
 ghost use Rattle.command_words.specs.Commands.{IsWithin, said, texts};
-ghost use Rattle.command_words.specs.Grammar.{Audit, alone as alone_in, audit_of, command_of, live_of, settings_of, soak_of};
+ghost use Rattle.command_words.specs.Grammar.{Audit, audit_of, command_of, listen_of, live_of, play_of, settings_of, soak_of};
 
 use crate::matches::live_words;
+use crate::play::{PlayWords, play_words};
 use crate::setting::{first_option, is_path};
 use crate::uses::are_live;
 use input_lines::number;
@@ -27,7 +28,7 @@ pub struct LiveWords {
 /// What the program is to do.
 #[derive(Drop)]
 pub enum Command {
-    Play,
+    Play(PlayWords),
     Listen,
     Live(LiveWords),
     /// A run of a load of its own making: the number of the load, 0 to 999,999,999.
@@ -45,10 +46,11 @@ pub enum WordsStop {
 
 /// The command that words spell; the program's name is not among them.
 ///
-/// `play` and `listen` have no further word. `soak` has one, the number of its load, 0 to 999,999,999. `live` has, in any order,
-/// `--feed PATH` 1 to 16 times, `--cycles N` once, `--join J` once and `--view SERVICE`, 0 to 65,535, at most 8 times. `audit` has
-/// `--air PATH` once. An option is one word with `=`, or two words, of which the second does not begin with `-`. A path is not empty and is not `-`. A number has one to nine digits and lies in its range. There
-/// are no short spellings.
+/// `listen` has no further word. `play` has, in any order, `--fold` and `--resume PATH`, each at most once. `soak` has one,
+/// the number of its load, 0 to 999,999,999. `live` has, in any order, `--feed PATH` 1 to 16 times, `--cycles N` once,
+/// `--join J` once and `--view SERVICE`, 0 to 65,535, at most 8 times. `audit` has `--air PATH` once. An option with a value
+/// is one word with `=`, or two words, of which the second does not begin with `-`. A path is not empty and is not `-`. A
+/// number has one to nine digits and lies in its range. There are no short spellings.
 ///
 /// `Usage` comes exactly where the words spell no command. `Memory` comes only where they do and memory is wanting.
 pub fn parse_words(alloc: Global, words: &[String]) -> Result<Command, WordsStop>
@@ -59,6 +61,12 @@ pub fn parse_words(alloc: Global, words: &[String]) -> Result<Command, WordsStop
     let Some((word, behind)) = words.split_first() else {
         return Err(WordsStop::Usage);
     };
+    if word.as_str() == "play" {
+        return play(alloc, behind);
+    }
+    if word.as_str() == "listen" {
+        return listen(behind).ok_or(WordsStop::Usage);
+    }
     if word.as_str() == "live" {
         return live(alloc, behind);
     }
@@ -68,20 +76,27 @@ pub fn parse_words(alloc: Global, words: &[String]) -> Result<Command, WordsStop
     if word.as_str() == "audit" {
         return audit(alloc, behind);
     }
-    match alone(word.as_str()) {
-        Some(command) if behind.is_empty() => Ok(command),
-        _ => Err(WordsStop::Usage),
+    Err(WordsStop::Usage)
+}
+
+// The command of these options of `play`.
+fn play(alloc: Global, words: &[String]) -> Result<Command, WordsStop>
+    ensures command { IfOk result (λ command. play_of (texts words.now) ≡ Some (said command)) }
+    ensures within { IfOk result IsWithin }
+    ensures usage { result ≡ Err Usage ↔ (play_of (texts words.now) ≡ None) }
+{
+    match play_words(alloc, words) {
+        Ok(play) => Ok(Command::Play(play)),
+        Err(stop) => Err(stop),
     }
 }
 
-// The command without options that this word is.
-fn alone(word: &str) -> Option<Command>
-    ensures value { option_map said result ≡ alone_in word.now }
+// `listen`, behind which no word stands.
+fn listen(words: &[String]) -> Option<Command>
+    ensures value { option_map said result ≡ listen_of (texts words.now) }
     ensures within { IfSome result IsWithin }
 {
-    if word == "play" {
-        Some(Command::Play)
-    } else if word == "listen" {
+    if words.is_empty() {
         Some(Command::Listen)
     } else {
         None

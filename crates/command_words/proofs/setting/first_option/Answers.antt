@@ -1,4 +1,4 @@
-use Rattle.std.proofs.Common.{◌≡◌, List, ℕ, [], false, arith, sym, ap, ap₂, ◌∙◌, ◌∷◌}
+use Rattle.std.proofs.Common.{◌≡◌, List, ℕ, false, arith, sym, ap, ap₂, ◌∙◌, ◌∷◌}
 use Rattle.std.specs.Prelude.{Some, option_map, string_bytes}
 use Rattle.std.proofs.lemmas.List.{length-map}
 use Rattle.std.proofs.lemmas.Str.Pattern.{split_once_first}
