@@ -16,14 +16,15 @@ use Rattle.input_lines.specs.Ahead.{Ahead, Came}
 use Rattle.journal_model.specs.declared.step.Entry.{Entry}
 use Rattle.epg_live.specs.declared.reporting.Observed.{Observed}
 use Rattle.epg_report.specs.declared.status.Status.{Status}
-use Rattle.epg_report.specs.declared.status.Status.TheVariants.{Done, Usage, Disagrees, BadMux, BadStream, TooLong, OpenFault, ReadFault, WriteFault, Memory, NoView, NotAir, Short, TooMany}
+use Rattle.epg_report.specs.declared.status.Status.TheVariants.{Done, Usage, Disagrees, BadMux, BadStream, TooLong, OpenFault, ReadFault, WriteFault, Memory, NoView, NotAir, Short, TooMany, BadCheckpoint}
 use Rattle.epg_report.specs.declared.status.Origin.TheVariants.{Input, Feed, Recording}
 use Rattle.epg_report.specs.declared.status.Outlet.TheVariants.{Air, Report}
 use Rattle.epg_live.specs.declared.feeds.OpenStop.{OpenStop}
 use Rattle.epg_live.specs.declared.feeds.OpenStop.TheVariants as opening
 use Rattle.epg_live.specs.Opened.{HasOpenCause, HasTried, OpenedTo}
 use Rattle.epg_live.specs.Stops.{HasStatusCause, IsMet, IsOfLive, IsOfRun, mux_status, open_status}
-use Rattle.epg_live.specs.Runs.{NoJobs, Ran, described, nothing_observed}
+use Rattle.mux_config.specs.Texts.{described}
+use Rattle.epg_live.specs.Runs.{NoJobs, Ran, nothing_observed}
 use Rattle.epg_report.specs.Ends.{ReportEnds, or_report}
 use Rattle.epg_live.specs.Ends.{AskedFor, HasAsked, HasMet}
 use Rattle.epg_report.specs.Told.{ReportTaken}
@@ -119,6 +120,7 @@ run_asked n k (OpenFault f) is e = absurd is
 run_asked n k (NoView service) is e = absurd is
 run_asked n k (NotAir m rule) is e = absurd is
 run_asked n k (Short m) is e = absurd is
+run_asked n k (BadCheckpoint m) is e = absurd is
 run_asked n k (ReadFault Input) is e = inr e
 run_asked n k (ReadFault (Feed f)) is e = e
 run_asked n k (ReadFault Recording) is e = absurd is
@@ -203,6 +205,7 @@ report_of_live (BadStream m) is = is
 report_of_live (TooMany m) is = is
 report_of_live (NotAir m rule) is = is
 report_of_live (Short m) is = is
+report_of_live (BadCheckpoint m) is = is
 report_of_live (TooLong Recording) is = is
 report_of_live (ReadFault Recording) is = is
 report_of_live other is = tt
@@ -214,6 +217,7 @@ met_of_live (BadStream m) is = is
 met_of_live (TooMany m) is = is
 met_of_live (NotAir m rule) is = is
 met_of_live (Short m) is = is
+met_of_live (BadCheckpoint m) is = is
 met_of_live (TooLong Recording) is = is
 met_of_live (ReadFault Recording) is = is
 met_of_live other is = tt

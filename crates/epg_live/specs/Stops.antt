@@ -11,7 +11,7 @@ use Rattle.headend_jobs.specs.declared.live.LiveStop.{LiveStop}
 use Rattle.headend_jobs.specs.declared.live.LiveStop.TheVariants as live
 use Rattle.headend_jobs.specs.Live.{or_feed}
 use Rattle.epg_report.specs.declared.status.Status.{Status}
-use Rattle.epg_report.specs.declared.status.Status.TheVariants.{Done, Usage, BadScript, Disagrees, BadMux, BadFeed, BadStream, TooLong, OpenFault, ReadFault, WriteFault, Memory, NoView, NotAir, Short, TooMany}
+use Rattle.epg_report.specs.declared.status.Status.TheVariants.{Done, Usage, BadScript, Disagrees, BadMux, BadFeed, BadStream, TooLong, OpenFault, ReadFault, WriteFault, Memory, NoView, NotAir, Short, TooMany, BadCheckpoint}
 use Rattle.epg_report.specs.declared.status.Origin.TheVariants.{Input, Feed, Recording}
 use Rattle.epg_report.specs.declared.status.Outlet.TheVariants.{Air, Report}
 use Rattle.epg_live.specs.declared.feeds.OpenStop.{OpenStop}
@@ -76,6 +76,7 @@ IsOfLive (BadStream n) = ⊥
 IsOfLive (TooMany n) = ⊥
 IsOfLive (NotAir n rule) = ⊥
 IsOfLive (Short n) = ⊥
+IsOfLive (BadCheckpoint n) = ⊥
 IsOfLive (TooLong Recording) = ⊥
 IsOfLive (ReadFault Recording) = ⊥
 IsOfLive status = Unit {0}

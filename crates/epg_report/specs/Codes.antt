@@ -1,7 +1,7 @@
 -- The exit status of each status.
 use Rattle.std.specs.Prelude.{ℕ}
 use Rattle.epg_report.specs.declared.status.Status.{Status}
-use Rattle.epg_report.specs.declared.status.Status.TheVariants.{Done, Usage, BadScript, Disagrees, BadMux, BadFeed, BadStream, TooLong, OpenFault, ReadFault, WriteFault, Memory, NoView, NotAir, Short, TooMany}
+use Rattle.epg_report.specs.declared.status.Status.TheVariants.{Done, Usage, BadScript, Disagrees, BadMux, BadFeed, BadStream, TooLong, OpenFault, ReadFault, WriteFault, Memory, NoView, NotAir, Short, TooMany, BadCheckpoint}
 
 abbrev pub code_of : Status → ℕ
 code_of Done = 0
@@ -20,3 +20,4 @@ code_of (TooMany packet) = 13
 code_of (NoView service) = 14
 code_of (NotAir packet rule) = 15
 code_of (Short packet) = 16
+code_of (BadCheckpoint line) = 17

@@ -9,7 +9,7 @@ use Rattle.journal_model.specs.Steps.{IsInWindow}
 use Rattle.air_model.specs.declared.rule.Rule.{Rule}
 use Rattle.air_model.specs.declared.rule.Rule.TheVariants.{Shape, Pid, Counter, Pointer, Bytes}
 use Rattle.epg_report.specs.declared.status.Status.{Status}
-use Rattle.epg_report.specs.declared.status.Status.TheVariants.{Done, Usage, BadScript, Disagrees, BadMux, BadFeed, BadStream, TooLong, OpenFault, ReadFault, WriteFault, Memory, NoView, NotAir, Short, TooMany}
+use Rattle.epg_report.specs.declared.status.Status.TheVariants.{Done, Usage, BadScript, Disagrees, BadMux, BadFeed, BadStream, TooLong, OpenFault, ReadFault, WriteFault, Memory, NoView, NotAir, Short, TooMany, BadCheckpoint}
 use Rattle.epg_report.specs.declared.status.Origin.{Origin}
 use Rattle.epg_report.specs.declared.status.Origin.TheVariants.{Input, Feed, Recording}
 use Rattle.epg_report.specs.declared.status.Outlet.TheVariants.{Air, Report}
@@ -36,7 +36,7 @@ origin_text Input = codes "input"
 origin_text (Feed f) = codes "feed " ++ decimal f
 origin_text Recording = codes "recording"
 
--- what is opened by its number: the recording by 0, and a feed by its own
+-- what is opened by its number: a recording or a checkpoint by 0, and a feed by its own
 abbrev pub opened : ℕ → Origin
 opened zero = Recording
 opened (suc f) = Feed (suc f)
@@ -68,6 +68,7 @@ fault_text (TooMany n) = codes "packet " ++ decimal n ++ codes " has a key too m
 fault_text (NoView service) = codes "no service " ++ decimal service
 fault_text (NotAir n rule) = codes "packet " ++ decimal n ++ codes " breaks " ++ rule_text rule
 fault_text (Short n) = codes "packet " ++ decimal n ++ codes " is missing"
+fault_text (BadCheckpoint n) = codes "checkpoint line " ++ decimal n
 
 -- Done has no line, nor has a report that could not be written
 abbrev pub has_line : Status → Bool

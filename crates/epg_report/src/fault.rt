@@ -114,6 +114,19 @@ fn rule_word(rule: Rule) -> &'static str
     }
 }
 
+// Appends a text and a number behind it.
+fn put_numbered(
+    alloc: Global,
+    out: &mut Vec<u8>,
+    front: &[u8],
+    number: u64,
+) -> Result<(), AllocError>
+    ensures { OnOk result (out.new.items ≡ out.old.items ++ (front.now ++ decimal number)) }
+{
+    out.extend_from_slice(front)?;
+    put_number(alloc, out, number)
+}
+
 // Appends `packet N`, and what stands behind it.
 fn put_packet(
     alloc: Global,
@@ -171,10 +184,7 @@ fn put_fault(alloc: Global, out: &mut Vec<u8>, status: Status) -> Result<(), All
         Status::Disagrees(line, kept, found) => put_disagreement(alloc, out, line, kept, found),
         Status::BadMux(fault) => put_mux_fault(alloc, out, fault),
         Status::BadFeed(feed, line) => put_no_command(alloc, out, Origin::Feed(feed), line),
-        Status::BadStream(packet) => {
-            out.extend_from_slice(b"packet ")?;
-            put_number(alloc, out, packet)
-        }
+        Status::BadStream(packet) => put_numbered(alloc, out, b"packet ", packet),
         Status::TooLong(origin) => put_of(alloc, out, origin, b" too long"),
         Status::OpenFault(number) => put_of(alloc, out, opened(number), b" not opened"),
         Status::ReadFault(origin) => put_of(alloc, out, origin, b" not read"),
@@ -186,12 +196,10 @@ fn put_fault(alloc: Global, out: &mut Vec<u8>, status: Status) -> Result<(), All
             put_number(alloc, out, packet)?;
             out.extend_from_slice(b" has a key too many")
         }
-        Status::NoView(service) => {
-            out.extend_from_slice(b"no service ")?;
-            put_number(alloc, out, u64::from(service))
-        }
+        Status::NoView(service) => { put_numbered(alloc, out, b"no service ", u64::from(service)) }
         Status::NotAir(packet, rule) => put_breach(alloc, out, packet, rule),
         Status::Short(packet) => put_packet(alloc, out, packet, b" is missing"),
+        Status::BadCheckpoint(line) => put_numbered(alloc, out, b"checkpoint line ", line),
     }
 }
 

@@ -6,7 +6,7 @@ use air_model::Rule;
 use journal_model::Outcome;
 use mux_config::MuxFault;
 
-/// What is read: the input, the text of a feed, by its number, or a recording.
+/// What is read: the input, the text of a feed, by its number, or a recording; a checkpoint counts as one.
 #[derive(Clone, Copy, PartialEq, Eq)]
 pub enum Origin {
     Input,
@@ -40,7 +40,7 @@ pub enum Status {
     BadStream(u64),
     /// The text goes on past its limit.
     TooLong(Origin),
-    /// The text of this feed could not be opened, or with 0 the recording.
+    /// The text of this feed could not be opened, or with 0 the recording or the checkpoint.
     OpenFault(u8),
     /// The text could not be read.
     ReadFault(Origin),
@@ -56,6 +56,8 @@ pub enum Status {
     NotAir(u64, Rule),
     /// The recording ends before this packet, which an air of the journal still has.
     Short(u64),
+    /// This line of the checkpoint, from 1, is the first that may not stand there.
+    BadCheckpoint(u64),
 }
 
 impl Status {
@@ -79,6 +81,7 @@ impl Status {
             Status::NoView(_) => 14,
             Status::NotAir(..) => 15,
             Status::Short(_) => 16,
+            Status::BadCheckpoint(_) => 17,
         }
     }
 }

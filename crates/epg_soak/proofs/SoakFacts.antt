@@ -15,13 +15,14 @@ use Rattle.publication_screen.specs.Screen.{screen_of}
 use Rattle.headend_live.specs.SentAir.{SentAir}
 use Rattle.headend_live.proofs.Sent.{air_sent}
 use Rattle.epg_report.specs.declared.status.Status.{Status}
-use Rattle.epg_report.specs.declared.status.Status.TheVariants.{Done, Usage, BadScript, Disagrees, BadMux, BadFeed, BadStream, TooLong, OpenFault, ReadFault, WriteFault, Memory, NoView, NotAir, Short, TooMany}
+use Rattle.epg_report.specs.declared.status.Status.TheVariants.{Done, Usage, BadScript, Disagrees, BadMux, BadFeed, BadStream, TooLong, OpenFault, ReadFault, WriteFault, Memory, NoView, NotAir, Short, TooMany, BadCheckpoint}
 use Rattle.epg_report.specs.declared.status.Origin.TheVariants.{Input, Feed, Recording}
 use Rattle.epg_report.specs.declared.status.Outlet.TheVariants.{Air, Report}
 use Rattle.epg_report.specs.Told.{ReportTaken}
 use Rattle.epg_live.specs.declared.reporting.LiveResult.{LiveResult}
 use Rattle.epg_live.specs.Stops.{HasStatusCause, IsMet}
-use Rattle.epg_live.specs.Runs.{Ran, described}
+use Rattle.mux_config.specs.Texts.{described}
+use Rattle.epg_live.specs.Runs.{Ran}
 use Rattle.epg_report.specs.Ends.{ReportEnds}
 use Rattle.epg_live.specs.Ends.{HasMet, entries_of}
 use Rattle.epg_live.proofs.DecidedFacts.{met_decided}
@@ -92,6 +93,7 @@ met_by_load number air run load = by run.met load.met.known (caused number air r
     by (ReadFault Recording) known cause has = absurd known
     by (NotAir n rule) known cause has = absurd known
     by (Short n) known cause has = absurd known
+    by (BadCheckpoint n) known cause has = absurd known
     by (BadScript n) known cause has = elim (decided number load.left air run (BadScript n) has (λ f e. cc e) (λ e. cc e) (λ e. cc e)) [ inl e ↦ cc e | inr e ↦ cc e ]
     by (BadMux fault) known cause has = elim (decided number load.left air run (BadMux fault) has (λ f e. cc e) (λ e. cc e) (λ e. cc e)) [ inl e ↦ cc e | inr e ↦ cc e ]
     by (BadFeed f n) known cause has = elim (decided number load.left air run (BadFeed f n) has (λ f e. cc e) (λ e. cc e) (λ e. cc e)) [ inl e ↦ cc e | inr e ↦ cc e ]
