@@ -31,7 +31,7 @@ use Rattle.headend_jobs.specs.declared.send.SendStop.TheVariants as send
 use Rattle.carousel_player.specs.Playing.{Playing}
 use Rattle.epg_play.specs.declared.stop.PlayStop.TheVariants.{NoMux, NoCommand as Refused, Disagrees, Read, Air, Memory}
 use Rattle.epg_play.specs.Script.{Stop, Ended, NoCommand, Disagreed, TooLong, Unread, commands_of, difference, first_difference, first_of, stop_of, up_to}
-use Rattle.epg_play.specs.Played.{AiredTo, HasAirCause, HasReadCause, IsDifference, PlayedWhole, RestDid, RestTaken, course_of, desk_after, late_difference, played_raised, read_stop, send_stop, unless_late}
+use Rattle.epg_play.specs.Played.{AiredTo, HasAirCause, HasReadCause, IsBehindMux, IsDifference, PlayedWhole, RestDid, RestTaken, course_of, desk_after, late_difference, played_raised, read_stop, send_stop, unless_late}
 use Rattle.air_model.specs.Air.{Aired}
 use Rattle.checkpoint_laws.specs.Going.{all_raised, raised}
 use Rattle.epg_play.specs.Items.{AreDone, ItemDid, Stops, Went, course_at}
@@ -290,3 +290,17 @@ module _ (shift : ℕ) where
   read_caused left faults old now new after (edits.Read Overlong) le f = tt
   read_caused left faults old now new after (edits.NoCommand n) le f = tt
   read_caused left faults old now new after edits.Memory le f = tt
+
+-- ---- which stops come behind the description
+
+pub item_behind : (old new : DeskState) (stop : PlayStop) → ItemDid old new (Err stop) → IsBehindMux stop
+item_behind old new (NoMux fault) did = did
+item_behind old new (Refused n) did = tt
+item_behind old new (Disagrees n kept found) did = tt
+item_behind old new (Read stop) did = tt
+item_behind old new Air did = tt
+item_behind old new Memory did = tt
+
+pub sent_behind : (stop : SendStop) → IsBehindMux (send_stop stop)
+sent_behind send.Air = tt
+sent_behind send.Memory = tt

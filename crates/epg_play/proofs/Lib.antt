@@ -1,8 +1,8 @@
 pub mod WindowFacts
-mod RaiseFacts
+pub mod RaiseFacts
 pub mod CourseFacts
 pub mod RunFacts
-mod TypedFacts
+pub mod TypedFacts
 pub mod HearingFacts
 pub mod AgainFacts
 pub mod ReportFacts

@@ -1,7 +1,8 @@
 -- The outcome of each entry of a journal can have the number of its publication raised.
-use Rattle.std.proofs.Common.{◌≡◌, ℕ, zero, suc, ◌+◌, ◌≤◌, ◌<◌, ◌^◌, List, [], ◌∷◌, ◌++◌, length, length-append, sym, ap, ◌∙◌, subst, arith, inl, inr}
+use Rattle.std.proofs.Common.{◌≡◌, ℕ, ◌+◌, ◌≤◌, ◌<◌, ◌^◌, List, [], ◌∷◌, ◌++◌, length, length-append, sym, subst, arith, inl, inr}
 use Rattle.std.specs.Prelude.{nat_lt, Some}
-use Rattle.std.specs.List.{slice_get}
+use Rattle.std.specs.List.{AllByRecursion, slice_get}
+use Rattle.si_lists.proofs.Lists.{all_map}
 use Rattle.std.proofs.lemmas.Bool.{cases_Bool}
 use Rattle.si_time.specs.declared.moment.Moment.{Moment}
 use Rattle.mux_model.specs.declared.mux.Mux.{Mux}
@@ -15,6 +16,7 @@ use Rattle.desk_core.proofs.DerivedFacts.{few_publishes}
 use Rattle.journal_model.specs.Steps.{IsInWindow}
 use Rattle.checkpoint_laws.specs.Going.{raised}
 use Rattle.desk_checkpoint.specs.Raising.{CanBeRaised}
+use Rattle.epg_play.proofs.WindowFacts.{at_place}
 
 -- the number of the outcome's publication is at most this
 abbrev pub IsNumbered : ℕ → Outcome → Type 0
@@ -36,15 +38,13 @@ step_numbered mux before (Tick at) most le = ticked_numbered most (moment_of mux
 step_numbered mux before Publish most le = le
 step_numbered mux before Swap most le = omega (arith, le)
 
-after_numbered : (mux : Mux) (before entries : List Entry) (k : ℕ) (entry : Entry) (most : ℕ) → LegalAfter mux before entries → slice_get entries k ≡ Some entry
-    → length before + length entries ≤ most → IsNumbered most entry.outcome
-after_numbered mux before [] k entry most legal e le = cc
-after_numbered mux before (x ∷ xs) zero entry most legal e le =
-    let same : x ≡ entry = cc in
-    let few : 1 + publishes before ≤ most = omega (arith, few_publishes before, le) in
-    subst (λ (y : Entry). IsNumbered most y.outcome) same (subst (λ (o : Outcome). IsNumbered most o) (sym legal.0) (step_numbered mux before x.step most few))
-after_numbered mux before (x ∷ xs) (suc k) entry most legal e le =
-    after_numbered mux (before ++ x ∷ []) xs k entry most legal.1 e (omega (arith, le, length-append before (x ∷ [])))
+after_numbered : (mux : Mux) (before entries : List Entry) (most : ℕ) → LegalAfter mux before entries → length before + length entries ≤ most → AllByRecursion (λ (entry : Entry). IsNumbered most entry.outcome) entries
+after_numbered mux before [] most legal le = tt
+after_numbered mux before (x ∷ xs) most legal le =
+    let few : 1 + publishes before ≤ most = omega (arith, few_publishes before, le) in (
+      subst (λ (o : Outcome). IsNumbered most o) (sym legal.0) (step_numbered mux before x.step most few),
+      after_numbered mux (before ++ x ∷ []) xs most legal.1 (omega (arith, le, length-append before (x ∷ []))),
+    )
 
 can_raise : (shift most : ℕ) (outcome : Outcome) → shift < 10 ^ 18 → most < 2 ^ 63 → IsNumbered most outcome → CanBeRaised shift outcome
 can_raise shift most (Edited reply) low small numbered = tt
@@ -53,11 +53,15 @@ can_raise shift most (Late at) low small numbered = tt
 can_raise shift most (Published n) low small numbered = omega (arith, low, small, numbered)
 can_raise shift most (Swapped n at) low small numbered = omega (arith, low, small, numbered)
 
--- an entry of a journal that is legal and not too long
+-- the entries of a journal that is legal and not too long
+pub entries_raise : (mux : Mux) (entries : List Entry) (shift : ℕ) → Legal mux entries → length entries < 2 ^ 63 → shift < 10 ^ 18 → AllByRecursion (λ (entry : Entry). CanBeRaised shift entry.outcome) entries
+entries_raise mux entries shift legal small low =
+    all_map (λ (entry : Entry). IsNumbered (length entries) entry.outcome) (λ (entry : Entry). CanBeRaised shift entry.outcome)
+    (λ entry numbered. can_raise shift (length entries) entry.outcome low small numbered) entries (after_numbered mux [] entries (length entries) legal (omega arith))
+
 pub entry_raises : (mux : Mux) (entries : List Entry) (k : ℕ) (entry : Entry) (shift : ℕ) → Legal mux entries → slice_get entries k ≡ Some entry → length entries < 2 ^ 63 → shift < 10 ^ 18
     → CanBeRaised shift entry.outcome
-entry_raises mux entries k entry shift legal e small low =
-    can_raise shift (length entries) entry.outcome low small (after_numbered mux [] entries k entry (length entries) legal e (omega arith))
+entry_raises mux entries k entry shift legal e small low = at_place (λ (x : Entry). CanBeRaised shift x.outcome) entries k entry e (entries_raise mux entries shift legal small low)
 
 -- its moment stays as it is
 pub raised_window : (shift : ℕ) (outcome : Outcome) → IsInWindow outcome → IsInWindow (raised shift outcome)

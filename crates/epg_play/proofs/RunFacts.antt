@@ -106,7 +106,7 @@ nothing_played : (script : Script) (stop : Stop) (air : ReportTaken) → script 
 nothing_played script stop air e same = subst (λ (s : Script). HasPlayedAll s stop air None) (sym e) (record { stopped = refl; air_is = none_aired air same; journal = refl })
 
 -- of known bytes some were taken, and the others are left
-bytes_left : (left : Known) (text taken : List ℕ) → Consumes (Some text) left taken → (behind : List ℕ) × (text ≡ taken ++ behind) × (left ≡ Some behind)
+pub bytes_left : (left : Known) (text taken : List ℕ) → Consumes (Some text) left taken → (behind : List ℕ) × (text ≡ taken ++ behind) × (left ≡ Some behind)
 bytes_left None text taken h = absurd h
 bytes_left (Some behind) text taken h = (behind, h, refl)
 

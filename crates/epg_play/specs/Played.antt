@@ -53,6 +53,11 @@ abbrev pub HasReadCause : {T : Type 0} → ℕ → ℕ → Result T PlayStop →
 HasReadCause before now (Err (Read Failed)) = Rose before now
 HasReadCause before now result = Unit {0}
 
+-- a script that goes on behind its description meets no fault of that
+abbrev pub IsBehindMux : PlayStop → Type 0
+IsBehindMux (Undescribed fault) = ⊥
+IsBehindMux stop = Unit {0}
+
 -- the outcomes of a disagreement can be written
 abbrev pub IsStopInWindow : PlayStop → Type 0
 IsStopInWindow (Disagrees n kept found) = IsInWindow kept × IsInWindow found

@@ -6,7 +6,7 @@ ghost use Rattle.input_lines.specs.Ahead.{ahead};
 ghost use Rattle.air_model.specs.Air.{Aired};
 ghost use Rattle.desk_core.specs.Journal.{Legal};
 ghost use Rattle.headend_jobs.specs.OnAir.{HasAired};
-ghost use Rattle.epg_play.specs.Played.{AiredTo, HasAirCause, HasReadCause, IsStopInWindow, RestDid, RestTaken, course, send_stop};
+ghost use Rattle.epg_play.specs.Played.{AiredTo, HasAirCause, HasReadCause, IsBehindMux, IsStopInWindow, RestDid, RestTaken, course, send_stop};
 
 use crate::item::{ItemDone, do_item};
 use crate::stop::PlayStop;
@@ -45,6 +45,7 @@ pub fn play_rest<S: Source, A: Sink>(
         → AiredTo earlier desk.new player.new before (A.written air.new) result }
     ensures ended { OnOk result (player.new.left ≡ []) }
     ensures window { IfErr result IsStopInWindow }
+    ensures behind { IfErr result IsBehindMux }
     ensures end { OnOk result (IsAtEnd (S.left lines.new.source)) }
     ensures read_cause { HasReadCause (S.faults lines.old.source) (S.faults lines.new.source) result }
     ensures air_cause { HasAirCause (A.faults air.old) (A.faults air.new) result }

@@ -8,8 +8,8 @@ use Rattle.desk_core.specs.Desks.{DeskState}
 use Rattle.headend_jobs.specs.OnAir.{HasAired}
 use Rattle.headend_jobs.proofs.SwapFacts.{after_swap_aired, after_other_aired}
 use Rattle.epg_play.specs.Items.{Stops, StepAt}
-use Rattle.epg_play.specs.Played.{AiredTo}
-use Rattle.epg_play.proofs.CourseFacts.{went_none, cut_stop, cut_aired, stopped_aired, stopped_no_air}
+use Rattle.epg_play.specs.Played.{AiredTo, IsBehindMux}
+use Rattle.epg_play.proofs.CourseFacts.{went_none, cut_stop, cut_aired, item_behind, sent_behind, stopped_aired, stopped_no_air}
 use Rattle.epg_play.proofs.play.play_rest.Goals as goal
 
 other_aired : (earlier : List Aired) (old desk : DeskState) (player : Playing) (before now : Option (List ℕ)) → StepAt false old desk ⊎ (desk ≡ old) → Legal old.mux old.entries → HasAired earlier old player before now → HasAired earlier desk player before now
@@ -99,3 +99,9 @@ returns-in-Err-clause-aired g c = λ earlier before has.
 
 pub returns-in-Err-clause-air_cause : goal.returns-in-Err-clause-air_cause
 returns-in-Err-clause-air_cause g c = stopped_no_air c.args.shift c.items.desk c.do_item.new.desk (g.A.Sink.faults c.args.air.now) (g.A.Sink.faults c.items.air) c.in-Err.stop c.in-Err.ensures.did
+
+pub returns-in-Err-send_on_air-clause-behind : goal.returns-in-Err-send_on_air-clause-behind
+returns-in-Err-send_on_air-clause-behind g c = subst IsBehindMux (sym c.stop_of.ensures) (sent_behind c.in-Err-send_on_air.stop)
+
+pub returns-in-Err-clause-behind : goal.returns-in-Err-clause-behind
+returns-in-Err-clause-behind g c = item_behind c.items.desk c.do_item.new.desk c.in-Err.stop c.in-Err.ensures.did
