@@ -1,5 +1,5 @@
 -- The command that the words of a run spell, and the statuses that a command has not.
-use Rattle.std.proofs.Common.{◌≡◌, ℕ, List, refl, subst, inl, inr, ◌⊎◌}
+use Rattle.std.proofs.Common.{◌≡◌, ℕ, Bool, true, false, List, refl, subst, inl, inr, ◌⊎◌}
 use Rattle.std.specs.Prelude.{Option, Some, None, Result, Err}
 use Rattle.headend_live.specs.declared.watched.LivePlan.{LivePlan}
 use Rattle.si_causes.specs.Causes.{Rose}
@@ -10,7 +10,6 @@ use Rattle.epg_report.specs.declared.status.Status.{Status}
 use Rattle.epg_report.specs.declared.status.Status.TheVariants.{Usage, OpenFault, ReadFault, WriteFault, Memory}
 use Rattle.epg_report.specs.declared.status.Origin.TheVariants.{Input, Feed, Recording}
 use Rattle.epg_report.specs.declared.status.Outlet.TheVariants.{Air, Report}
-use Rattle.epg_play.specs.Leaves.{IsOfPlay}
 use Rattle.epg_listen.specs.Leaves.{IsOfListen}
 use Rattle.epg_live.specs.Stops.{HasStatusCause, IsOfLive}
 use Rattle.epg_soak.specs.SoakRun.{IsOfSoak}
@@ -20,11 +19,11 @@ use Rattle.epg_audit.specs.Leaves.{IsOfAudit}
 
 -- ---- words spell one command
 
-pub play_listen : (c : Option CommandLine) → c ≡ Some Play → c ≡ Some Listen → ⊥
-play_listen c e f = cc
+pub play_listen : (c : Option CommandLine) (fold : Bool) (resume : Option (List ℕ)) → c ≡ Some (Play fold resume) → c ≡ Some Listen → ⊥
+play_listen c fold resume e f = cc
 
-pub play_live : (c : Option CommandLine) (paths : List (List ℕ)) (plan : LivePlan) → c ≡ Some Play → c ≡ Some (Live paths plan.cycles plan.join plan.views) → ⊥
-play_live c paths plan e f = cc
+pub play_live : (c : Option CommandLine) (fold : Bool) (resume : Option (List ℕ)) (paths : List (List ℕ)) (plan : LivePlan) → c ≡ Some (Play fold resume) → c ≡ Some (Live paths plan.cycles plan.join plan.views) → ⊥
+play_live c fold resume paths plan e f = cc
 
 pub listen_live : (c : Option CommandLine) (paths : List (List ℕ)) (plan : LivePlan) → c ≡ Some Listen → c ≡ Some (Live paths plan.cycles plan.join plan.views) → ⊥
 listen_live c paths plan e f = cc
@@ -32,8 +31,8 @@ listen_live c paths plan e f = cc
 pub some_none : (c : Option CommandLine) (k : CommandLine) → c ≡ Some k → c ≡ None → ⊥
 some_none c k e f = cc
 
-pub play_soak : (c : Option CommandLine) (number : ℕ) → c ≡ Some Play → c ≡ Some (Soak number) → ⊥
-play_soak c number e f = cc
+pub play_soak : (c : Option CommandLine) (fold : Bool) (resume : Option (List ℕ)) (number : ℕ) → c ≡ Some (Play fold resume) → c ≡ Some (Soak number) → ⊥
+play_soak c fold resume number e f = cc
 
 pub listen_soak : (c : Option CommandLine) (number : ℕ) → c ≡ Some Listen → c ≡ Some (Soak number) → ⊥
 listen_soak c number e f = cc
@@ -41,8 +40,8 @@ listen_soak c number e f = cc
 pub live_soak : (c : Option CommandLine) (paths : List (List ℕ)) (plan : LivePlan) (number : ℕ) → c ≡ Some (Live paths plan.cycles plan.join plan.views) → c ≡ Some (Soak number) → ⊥
 live_soak c paths plan number e f = cc
 
-pub play_audit : (c : Option CommandLine) (path : List ℕ) → c ≡ Some Play → c ≡ Some (Audit path) → ⊥
-play_audit c path e f = cc
+pub play_audit : (c : Option CommandLine) (fold : Bool) (resume : Option (List ℕ)) (path : List ℕ) → c ≡ Some (Play fold resume) → c ≡ Some (Audit path) → ⊥
+play_audit c fold resume path e f = cc
 
 pub listen_audit : (c : Option CommandLine) (path : List ℕ) → c ≡ Some Listen → c ≡ Some (Audit path) → ⊥
 listen_audit c path e f = cc
@@ -54,9 +53,9 @@ pub soak_audit : (c : Option CommandLine) (number : ℕ) (path : List ℕ) → c
 soak_audit c number path e f = cc
 
 -- neither `listen` nor `audit`
-pub play_sends : (c : Option CommandLine) → c ≡ Some Play → (c ≡ Some Listen) ⊎ ((path : List ℕ) × (c ≡ Some (Audit path))) → ⊥
-play_sends c e (inl listen) = play_listen c e listen
-play_sends c e (inr (path, audit)) = play_audit c path e audit
+pub play_sends : (c : Option CommandLine) (fold : Bool) (resume : Option (List ℕ)) → c ≡ Some (Play fold resume) → (c ≡ Some Listen) ⊎ ((path : List ℕ) × (c ≡ Some (Audit path))) → ⊥
+play_sends c fold resume e (inl listen) = play_listen c fold resume e listen
+play_sends c fold resume e (inr (path, audit)) = play_audit c fold resume path e audit
 
 pub live_sends : (c : Option CommandLine) (paths : List (List ℕ)) (plan : LivePlan) → c ≡ Some (Live paths plan.cycles plan.join plan.views) → (c ≡ Some Listen) ⊎ ((path : List ℕ) × (c ≡ Some (Audit path))) → ⊥
 live_sends c paths plan e (inl listen) = listen_live c paths plan listen e
@@ -71,19 +70,33 @@ none_sends c none (inl listen) = some_none c Listen listen none
 none_sends c none (inr (path, audit)) = some_none c (Audit path) audit none
 
 -- none of those that open no file
-pub audit_others : (c : Option CommandLine) (path : List ℕ) → c ≡ Some (Audit path) → (c ≡ Some Play) ⊎ ((c ≡ Some Listen) ⊎ ((number : ℕ) × (c ≡ Some (Soak number)))) → ⊥
-audit_others c path e (inl play) = play_audit c path play e
-audit_others c path e (inr (inl listen)) = listen_audit c path listen e
-audit_others c path e (inr (inr (number, soak))) = soak_audit c number path soak e
+pub audit_others : (c : Option CommandLine) (path : List ℕ) → c ≡ Some (Audit path) → (c ≡ Some (Play false None)) ⊎ ((c ≡ Some (Play true None)) ⊎ ((c ≡ Some Listen) ⊎ ((number : ℕ) × (c ≡ Some (Soak number))))) → ⊥
+audit_others c path e (inl play) = play_audit c false None path play e
+audit_others c path e (inr (inl fold)) = play_audit c true None path fold e
+audit_others c path e (inr (inr (inl listen))) = listen_audit c path listen e
+audit_others c path e (inr (inr (inr (number, soak)))) = soak_audit c number path soak e
 
 pub audit_is : (P : List ℕ → Type 0) (c : Option CommandLine) (read path : List ℕ) → c ≡ Some (Audit read) → c ≡ Some (Audit path) → P read → P path
 audit_is P c read path e f p = let same : read ≡ path = cc in subst P same p
 
 pub live_others : (c : Option CommandLine) (paths : List (List ℕ)) (plan : LivePlan) → c ≡ Some (Live paths plan.cycles plan.join plan.views)
-    → (c ≡ Some Play) ⊎ ((c ≡ Some Listen) ⊎ ((number : ℕ) × (c ≡ Some (Soak number)))) → ⊥
-live_others c paths plan e (inl play) = play_live c paths plan play e
-live_others c paths plan e (inr (inl listen)) = listen_live c paths plan listen e
-live_others c paths plan e (inr (inr (number, soak))) = live_soak c paths plan number e soak
+    → (c ≡ Some (Play false None)) ⊎ ((c ≡ Some (Play true None)) ⊎ ((c ≡ Some Listen) ⊎ ((number : ℕ) × (c ≡ Some (Soak number))))) → ⊥
+live_others c paths plan e (inl play) = play_live c false None paths plan play e
+live_others c paths plan e (inr (inl fold)) = play_live c true None paths plan fold e
+live_others c paths plan e (inr (inr (inl listen))) = listen_live c paths plan listen e
+live_others c paths plan e (inr (inr (inr (number, soak)))) = live_soak c paths plan number e soak
+
+-- the words that were read are those that were spelled
+pub play_is : (c : Option CommandLine) (read line : CommandLine) → c ≡ Some read → c ≡ Some line → read ≡ line
+play_is c read line e f = cc
+
+-- the opener is asked where a checkpoint is gone on from alone
+pub play_opens : (P : Type 0) (c : Option CommandLine) (fold : Bool) (resume : Option (List ℕ)) → c ≡ Some (Play fold resume) → ((f : Bool) → Play fold resume ≡ Play f None → P)
+    → (c ≡ Some (Play false None)) ⊎ ((c ≡ Some (Play true None)) ⊎ ((c ≡ Some Listen) ⊎ ((number : ℕ) × (c ≡ Some (Soak number))))) → P
+play_opens P c fold resume e kept (inl play) = kept false (play_is c (Play fold resume) (Play false None) e play)
+play_opens P c fold resume e kept (inr (inl folds)) = kept true (play_is c (Play fold resume) (Play true None) e folds)
+play_opens P c fold resume e kept (inr (inr (inl listen))) = absurd (play_listen c fold resume e listen)
+play_opens P c fold resume e kept (inr (inr (inr (number, soak)))) = absurd (play_soak c fold resume number e soak)
 
 -- what holds of the words that were read holds of those that were spelled
 pub live_is : (P : List (List ℕ) → LivePlan → Type 0) (c : Option CommandLine) (read paths : List (List ℕ)) (said plan : LivePlan) → c ≡ Some (Live read said.cycles said.join said.views) → c ≡ Some (Live paths plan.cycles plan.join plan.views) → P read said → P paths plan
@@ -100,17 +113,11 @@ soak_is P c read number e f p = let same : read ≡ number = cc in subst P same 
 
 -- ---- statuses that a command has not
 
-pub play_usage : (s : Status) → IsOfPlay s → s ≡ Usage → ⊥
-play_usage s is e = subst IsOfPlay e is
-
 pub listen_usage : (s : Status) → IsOfListen s → s ≡ Usage → ⊥
 listen_usage s is e = subst IsOfListen e is
 
 pub live_usage : (s : Status) → IsOfLive s → s ≡ Usage → ⊥
 live_usage s is e = subst IsOfLive e is
-
-pub play_open : (s : Status) (f : ℕ) → IsOfPlay s → s ≡ OpenFault f → ⊥
-play_open s f is e = subst IsOfPlay e is
 
 pub listen_open : (s : Status) (f : ℕ) → IsOfListen s → s ≡ OpenFault f → ⊥
 listen_open s f is e = subst IsOfListen e is
@@ -131,14 +138,6 @@ pub memory_read : {T : Type 0} → (let r : Result T WordsStop = Err words.Memor
 memory_read e = cc
 
 -- ---- each fault has its cause
-
-pub play_cause : (i j f g a b : ℕ) (s : Status) → IsOfPlay s → (s ≡ ReadFault Input → Rose i j) → (s ≡ WriteFault Air → Rose a b) → HasStatusCause i j f g a b s
-play_cause i j f g a b (ReadFault Input) is read air = read refl
-play_cause i j f g a b (ReadFault (Feed k)) is read air = absurd is
-play_cause i j f g a b (ReadFault Recording) is read air = absurd is
-play_cause i j f g a b (WriteFault Air) is read air = air refl
-play_cause i j f g a b (WriteFault Report) is read air = tt
-play_cause i j f g a b other is read air = tt
 
 pub listen_cause : (i j f g a b : ℕ) (s : Status) → IsOfListen s → (s ≡ ReadFault Input → Rose i j) → HasStatusCause i j f g a b s
 listen_cause i j f g a b (ReadFault Input) is read = read refl

@@ -1,2 +1,3 @@
 mod PrintFacts
 mod CommandFacts
+mod PlayFacts

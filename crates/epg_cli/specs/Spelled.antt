@@ -1,14 +1,23 @@
 -- Which command the words of a run spell.
 use Rattle.headend_live.specs.declared.watched.LivePlan.{LivePlan}
-use Rattle.std.specs.Prelude.{◌≡◌, ℕ, List, None, Some, String}
+use Rattle.std.specs.Prelude.{◌≡◌, ℕ, Bool, true, false, List, None, Some, String}
 use Rattle.command_words.specs.Commands.{texts}
 use Rattle.command_words.specs.Grammar.{Audit, Listen, Live, Play, Soak, command_of}
 
 abbrev pub IsUsage : {Y : Type 0} → List (String Y) → Type 0
 IsUsage words = command_of (texts words) ≡ None
 
+-- `play` with neither option
 abbrev pub IsPlay : {Y : Type 0} → List (String Y) → Type 0
-IsPlay words = command_of (texts words) ≡ Some Play
+IsPlay words = command_of (texts words) ≡ Some (Play false None)
+
+-- with `--fold` alone
+abbrev pub IsFold : {Y : Type 0} → List (String Y) → Type 0
+IsFold words = command_of (texts words) ≡ Some (Play true None)
+
+-- from the checkpoint at this path, with `--fold` or without
+abbrev pub IsResume : {Y : Type 0} → List (String Y) → List ℕ → Bool → Type 0
+IsResume words path fold = command_of (texts words) ≡ Some (Play fold (Some path))
 
 abbrev pub IsListen : {Y : Type 0} → List (String Y) → Type 0
 IsListen words = command_of (texts words) ≡ Some Listen

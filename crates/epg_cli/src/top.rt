@@ -1,31 +1,72 @@
 // The top call.
-ghost use Rattle.std.specs.Prelude.{◌≡◌, ◌↔◌, ◌⊎◌, List, ℕ, codes};
+ghost use Rattle.std.specs.Prelude.{◌≡◌, ◌↔◌, ◌⊎◌, Bool, false, true, List, ℕ, None, Some, codes};
 ghost use Rattle.std.specs.Io.KnownBytes.{IsAtEnd};
 ghost use Rattle.si_causes.specs.Causes.{Rose};
 ghost use Rattle.epg_report.specs.Texts.{fault_line};
-ghost use Rattle.epg_report.specs.Told.{Reported, told};
+ghost use Rattle.epg_report.specs.Told.{Reported, asked, gave, told};
+ghost use Rattle.command_words.specs.Commands.{said_play};
+ghost use Rattle.command_words.specs.Grammar.{Play};
 ghost use Rattle.epg_play.specs.Leaves.{PlayRan};
+ghost use Rattle.epg_resume.specs.Leaves.{FoldRan, ResumeRan};
 ghost use Rattle.epg_listen.specs.Leaves.{ListenRan};
 ghost use Rattle.epg_live.specs.LiveRun.{LiveRan};
 ghost use Rattle.epg_live.specs.Stops.{HasStatusCause};
 ghost use Rattle.epg_soak.specs.SoakRun.{SoakRan};
 ghost use Rattle.epg_audit.specs.Leaves.{AuditRan};
 ghost use Rattle.headend_live.specs.declared.watched.LivePlan.{LivePlan};
+ghost use Rattle.epg_cli.specs.Plays.{PlayEnds};
 ghost use Rattle.epg_cli.specs.Prints.{PrintedScript};
-ghost use Rattle.epg_cli.specs.Spelled.{IsUsage, IsPlay, IsListen, IsLive, IsSoak, IsAudit, SpellsAudit, SpellsSoak};
+ghost use Rattle.epg_cli.specs.Spelled.{IsUsage, IsPlay, IsFold, IsResume, IsListen, IsLive, IsSoak, IsAudit, SpellsAudit, SpellsSoak};
 
-use command_words::{Command, WordsStop, parse_words};
+use command_words::{Command, PlayWords, WordsStop, parse_words};
 use epg_audit::run_audit;
 use epg_listen::run_listen;
 use epg_live::run_live_files;
 use epg_play::run_play;
 use epg_report::{Outlet, Status, out_of_memory};
+use epg_resume::{run_folded, run_resumed};
 use epg_soak::run_soak;
 use si_causes::{Gate, Opener, Sink, Source, write_all};
 use std::alloc::Global;
 use std::marker::{Send, Sync};
 use std::sync::Wait;
 use std::thread::Threads;
+
+// `play` with its options.
+fn run_play_words<O: Opener, S: Source, A: Sink, R: Sink>(
+    alloc: Global,
+    play: &PlayWords,
+    opener: &mut O,
+    input: &mut S,
+    air: &mut A,
+    report: &mut R,
+) -> Status
+    ensures plain { said_play play.now ≡ Play false None → PlayRan S.left S.faults input.old input.new
+        A.written A.faults air.old air.new R.written R.faults report.old report.new result }
+    ensures fold { said_play play.now ≡ Play true None → FoldRan S.left S.faults input.old input.new
+        A.written A.faults air.old air.new R.written R.faults report.old report.new result }
+    ensures resume { (path : List ℕ) (fold : Bool) → said_play play.now ≡ Play fold (Some path)
+        → ResumeRan path fold O.files O.tried O.faults O.read_faults opener.old opener.new
+        S.left S.faults input.old input.new
+        A.written A.faults air.old air.new R.written R.faults report.old report.new result }
+    ensures opener_kept { (fold : Bool) → said_play play.now ≡ Play fold None
+        → opener.new ≡ opener.old }
+    ensures ends { PlayEnds
+        (asked O.files O.tried O.faults O.read_faults opener.old opener.new)
+        (gave S.left S.faults input.old input.new) (told A.written A.faults air.old air.new)
+        (told R.written R.faults report.old report.new) result }
+{
+    match &play.resume {
+        Some(path) => run_resumed(alloc, path.as_str(), play.fold, opener, input, air, report),
+        None => {
+            if play.fold {
+                run_folded(alloc, input, air, report)
+            } else {
+                run_play(alloc, input, air, report)
+            }
+        }
+    }
+}
 
 /// Does all that the program does: it takes the words of the command line without the program's name, what opens files, the input,
 /// the air, the report, and the gate that the jobs of `live` and `soak` pass. Which command the words spell is told by `command_of` of
@@ -48,6 +89,12 @@ pub fn run<W: Threads + Wait + Sync, O: Opener, S: Source + Send, A: Sink + Send
     // A run of each command.
     ensures play { IsPlay words.now → PlayRan S.left S.faults input.old input.new
         A.written A.faults air.old air.new R.written R.faults report.old report.new result }
+    ensures fold { IsFold words.now → FoldRan S.left S.faults input.old input.new
+        A.written A.faults air.old air.new R.written R.faults report.old report.new result }
+    ensures resume { (path : List ℕ) (fold : Bool) → IsResume words.now path fold
+        → ResumeRan path fold O.files O.tried O.faults O.read_faults opener.old opener.new
+        S.left S.faults input.old input.new
+        A.written A.faults air.old air.new R.written R.faults report.old report.new result }
     ensures listen { IsListen words.now → ListenRan S.left S.faults input.old input.new
         R.written R.faults report.old report.new result }
     ensures live { (paths : List (List ℕ)) (plan : LivePlan)
@@ -65,10 +112,11 @@ pub fn run<W: Threads + Wait + Sync, O: Opener, S: Source + Send, A: Sink + Send
     ensures audit { (path : List ℕ) → IsAudit words.now path → AuditRan path
         O.files O.tried O.faults O.read_faults opener.old opener.new
         S.left S.faults input.old input.new R.written R.faults report.old report.new result }
-    // With `listen` and `audit` nothing is sent, only `live` and `audit` open files, and `soak` makes its input itself.
+    // With `listen` and `audit` nothing is sent, only `live`, `audit` and `play --resume` open files, and `soak` makes
+    // its input itself.
     ensures air_kept { IsListen words.now ⊎ SpellsAudit words.now → air.new ≡ air.old }
-    ensures opener_kept { IsPlay words.now ⊎ (IsListen words.now ⊎ SpellsSoak words.now)
-        → opener.new ≡ opener.old }
+    ensures opener_kept { IsPlay words.now ⊎ (IsFold words.now
+        ⊎ (IsListen words.now ⊎ SpellsSoak words.now)) → opener.new ≡ opener.old }
     ensures input_kept { SpellsSoak words.now → input.new ≡ input.old }
     // With Done the input was read to its end, but with `soak`; each fault has its cause.
     ensures end { result ≡ Status.Done → SpellsSoak words.now ⊎ IsAtEnd (S.left input.new) }
@@ -81,7 +129,7 @@ pub fn run<W: Threads + Wait + Sync, O: Opener, S: Source + Send, A: Sink + Send
         → Rose (R.faults report.old) (R.faults report.new) }
 {
     match parse_words(alloc, words) {
-        Ok(Command::Play) => run_play(alloc, input, air, report),
+        Ok(Command::Play(play)) => run_play_words(alloc, &play, opener, input, air, report),
         Ok(Command::Listen) => run_listen(alloc, input, report),
         Ok(Command::Live(live)) => {
             run_live_files(rt, alloc, &live, opener, input, air, report, gate)

@@ -1,5 +1,5 @@
-use Rattle.std.proofs.Common.{◌≡◌, refl, [], List, ℕ, subst, codes, inl, inr}
-use Rattle.std.specs.Prelude.{Some, None, string_bytes}
+use Rattle.std.proofs.Common.{◌≡◌, refl, true, false, [], List, ℕ, subst, codes, inl, inr}
+use Rattle.std.specs.Prelude.{Some, None, option_map, string_bytes}
 use Rattle.command_words.specs.Commands.{texts}
 use Rattle.epg_live.specs.Views.{plan_of}
 use Rattle.command_words.specs.Grammar.{command_of, Play, Listen, Live, Soak, Audit}
@@ -14,32 +14,36 @@ use Rattle.epg_soak.specs.SoakRun.{SoakRun}
 use Rattle.epg_soak.proofs.SoakFacts.{soak_memory}
 use Rattle.epg_audit.specs.Leaves.{AuditRun}
 use Rattle.epg_audit.proofs.AuditRuns.{audit_memory}
+use Rattle.epg_resume.proofs.RunFacts.{fold_memory, resume_memory}
 use Rattle.epg_cli.proofs.PrintFacts.{prints}
-use Rattle.epg_cli.proofs.CommandFacts.{play_audit, listen_audit, live_audit, soak_audit, play_sends, live_sends, soak_sends, none_sends, audit_others, audit_is, audit_usage, audit_cause, audit_open, play_listen, play_live, listen_live, play_soak, listen_soak, live_soak, live_others, some_none, live_is, soak_is, play_usage, listen_usage, live_usage, soak_usage, play_open, listen_open, soak_open, play_cause, listen_cause, soak_cause, memory_usage, memory_read}
+use Rattle.epg_cli.proofs.CommandFacts.{play_audit, listen_audit, live_audit, soak_audit, play_sends, live_sends, soak_sends, none_sends, audit_others, audit_is, audit_usage, audit_cause, audit_open, play_listen, play_live, listen_live, play_soak, listen_soak, live_soak, live_others, some_none, live_is, soak_is, listen_usage, live_usage, soak_usage, listen_open, soak_open, listen_cause, soak_cause, memory_usage, memory_read, play_is, play_opens}
 use Rattle.epg_cli.proofs.top.run.Goals as goal
 
 pub returns-in-Ok-Play : goal.returns-in-Ok-Play
 returns-in-Ok-Play g c =
     let command = command_of (texts c.args.words.now) in
-    let spells : command ≡ Some Play = rw c.in-Ok-Play.field-0-is at c.in-Ok-Play.ensures.command in
-    let run = c.run_play.ensures.run in
+    let words = c.in-Ok-Play.play in
+    let resume = option_map string_bytes words.resume in
+    let spells : command ≡ Some (Play words.fold resume) = rw c.in-Ok-Play.field-0-is at c.in-Ok-Play.ensures.command in
+    let run = c.run_play_words.ensures in
     record {
-      usage = (λ e. absurd (play_usage c.run_play.result run.known e), λ none. absurd (some_none command Play spells none));
-      usage_leaves = λ e. absurd (play_usage c.run_play.result run.known e);
-      play = λ spelled. run;
-      listen = λ spelled. absurd (play_listen command spells spelled);
-      live = λ paths plan spelled. absurd (play_live command paths plan spells spelled);
-      live_again = λ paths plan spelled. absurd (play_live command paths plan spells spelled);
-      soak = λ number spelled. absurd (play_soak command number spells spelled);
-      audit = λ path spelled. absurd (play_audit command path spells spelled);
-      air_kept = λ spelled. absurd (play_sends command spells spelled);
-      opener_kept = λ spelled. refl;
-      input_kept = λ spelled. absurd (play_soak command spelled.0 spells spelled.1);
-      end = λ done. inr (run.end done);
-      cause = play_cause (g.S.Source.faults c.args.input.now) (g.S.Source.faults c.run_play.new.input) (g.O.Opener.read_faults c.args.opener.now) (g.O.Opener.read_faults c.args.opener.now)
-          (g.A.Sink.faults c.args.air.now) (g.A.Sink.faults c.run_play.new.air) c.run_play.result run.known run.input_cause run.air_cause;
-      open_cause = λ feed e. absurd (play_open c.run_play.result feed run.known e);
-      report = run.report_cause;
+      usage = (λ e. absurd (run.ends.no_usage e), λ none. absurd (some_none command (Play words.fold resume) spells none));
+      usage_leaves = λ e. absurd (run.ends.no_usage e);
+      play = λ spelled. run.plain (play_is command (Play words.fold resume) (Play false None) spells spelled);
+      fold = λ spelled. run.fold (play_is command (Play words.fold resume) (Play true None) spells spelled);
+      resume = λ path fold spelled. run.resume path fold (play_is command (Play words.fold resume) (Play fold (Some path)) spells spelled);
+      listen = λ spelled. absurd (play_listen command words.fold resume spells spelled);
+      live = λ paths plan spelled. absurd (play_live command words.fold resume paths plan spells spelled);
+      live_again = λ paths plan spelled. absurd (play_live command words.fold resume paths plan spells spelled);
+      soak = λ number spelled. absurd (play_soak command words.fold resume number spells spelled);
+      audit = λ path spelled. absurd (play_audit command words.fold resume path spells spelled);
+      air_kept = λ spelled. absurd (play_sends command words.fold resume spells spelled);
+      opener_kept = λ spelled. play_opens _ command words.fold resume spells run.opener_kept spelled;
+      input_kept = λ spelled. absurd (play_soak command words.fold resume spelled.0 spells spelled.1);
+      end = λ done. inr (run.ends.end done);
+      cause = run.ends.cause;
+      open_cause = run.ends.open_cause;
+      report = run.ends.report_cause;
     }
 
 pub returns-in-Ok-Listen : goal.returns-in-Ok-Listen
@@ -50,7 +54,9 @@ returns-in-Ok-Listen g c =
     record {
       usage = (λ e. absurd (listen_usage c.run_listen.result run.known e), λ none. absurd (some_none command Listen spells none));
       usage_leaves = λ e. absurd (listen_usage c.run_listen.result run.known e);
-      play = λ spelled. absurd (play_listen command spelled spells);
+      play = λ spelled. absurd (play_listen command false None spelled spells);
+      fold = λ spelled. absurd (play_listen command true None spelled spells);
+      resume = λ path fold spelled. absurd (play_listen command fold (Some path) spelled spells);
       listen = λ spelled. run;
       live = λ paths plan spelled. absurd (listen_live command paths plan spells spelled);
       live_again = λ paths plan spelled. absurd (listen_live command paths plan spells spelled);
@@ -80,7 +86,9 @@ returns-in-Ok-Live g c =
     record {
       usage = (λ e. absurd (live_usage c.run_live_files.result run.known e), λ none. absurd (some_none command (Live read words.cycles words.join words.views) spells none));
       usage_leaves = λ e. absurd (live_usage c.run_live_files.result run.known e);
-      play = λ spelled. absurd (play_live command read (plan_of words) spelled spells);
+      play = λ spelled. absurd (play_live command false None read (plan_of words) spelled spells);
+      fold = λ spelled. absurd (play_live command true None read (plan_of words) spelled spells);
+      resume = λ path fold spelled. absurd (play_live command fold (Some path) read (plan_of words) spelled spells);
       listen = λ spelled. absurd (listen_live command read (plan_of words) spelled spells);
       live = λ paths plan spelled.
           live_is (λ ps p. LiveRun ps p opener input air report c.run_live_files.result) command read paths (plan_of words) plan spells spelled run;
@@ -117,7 +125,9 @@ returns-in-Ok-Soak g c =
     record {
       usage = (λ e. absurd (soak_usage c.run_soak.result run.known e), λ none. absurd (some_none command (Soak read) spells none));
       usage_leaves = λ e. absurd (soak_usage c.run_soak.result run.known e);
-      play = λ spelled. absurd (play_soak command read spelled spells);
+      play = λ spelled. absurd (play_soak command false None read spelled spells);
+      fold = λ spelled. absurd (play_soak command true None read spelled spells);
+      resume = λ path fold spelled. absurd (play_soak command fold (Some path) read spelled spells);
       listen = λ spelled. absurd (listen_soak command read spelled spells);
       live = λ paths plan spelled. absurd (live_soak command paths plan read spelled spells);
       live_again = λ paths plan spelled. absurd (live_soak command paths plan read spelled spells);
@@ -145,7 +155,9 @@ returns-in-Ok-Audit g c =
     record {
       usage = (λ e. absurd (audit_usage c.run_audit.result run.known e), λ none. absurd (some_none command (Audit read) spells none));
       usage_leaves = λ e. absurd (audit_usage c.run_audit.result run.known e);
-      play = λ spelled. absurd (play_audit command read spelled spells);
+      play = λ spelled. absurd (play_audit command false None read spelled spells);
+      fold = λ spelled. absurd (play_audit command true None read spelled spells);
+      resume = λ path fold spelled. absurd (play_audit command fold (Some path) read spelled spells);
       listen = λ spelled. absurd (listen_audit command read spelled spells);
       live = λ paths plan spelled. absurd (live_audit command paths plan read spelled spells);
       live_again = λ paths plan spelled. absurd (live_audit command paths plan read spelled spells);
@@ -173,6 +185,8 @@ returns-in-Err-Memory g c =
       usage = (λ e. absurd (memory_usage c.out_of_memory.result is e), λ none. absurd (memory_read ((rw c.in-Err-Memory.field-0-is at c.in-Err-Memory.ensures.usage).1 none)));
       usage_leaves = λ e. absurd (memory_usage c.out_of_memory.result is e);
       play = λ spelled. play_memory input air report c.out_of_memory.result is;
+      fold = λ spelled. fold_memory input air report c.out_of_memory.result is;
+      resume = λ path fold spelled. resume_memory path fold opener input air report c.out_of_memory.result is refl;
       listen = λ spelled. listen_memory input report c.out_of_memory.result is;
       live = λ paths plan spelled. live_memory paths plan opener input air report c.out_of_memory.result is (none_asked paths tried);
       live_again = λ paths plan spelled text tells files known. inl is;
@@ -199,7 +213,9 @@ returns-in-Err-Usage g c =
         refl,
         reported c.write_all.result (told g.R.Sink.written g.R.Sink.faults c.args.report.now c.write_all.new.sink) (fault_line (codes "usage")) c.write_all.ensures.done c.write_all.ensures.failed c.write_all.ensures.cause.failed,
       );
-      play = λ spelled. absurd (some_none command Play spelled none);
+      play = λ spelled. absurd (some_none command (Play false None) spelled none);
+      fold = λ spelled. absurd (some_none command (Play true None) spelled none);
+      resume = λ path fold spelled. absurd (some_none command (Play fold (Some path)) spelled none);
       listen = λ spelled. absurd (some_none command Listen spelled none);
       live = λ paths plan spelled. absurd (some_none command (Live paths plan.cycles plan.join plan.views) spelled none);
       live_again = λ paths plan spelled. absurd (some_none command (Live paths plan.cycles plan.join plan.views) spelled none);

@@ -1,0 +1,57 @@
+-- How a run of `play` ends, by its record.
+use Rattle.std.proofs.Common.{◌≡◌, ℕ, Bool, List, refl, subst}
+use Rattle.si_causes.specs.Causes.{Rose}
+use Rattle.epg_report.specs.declared.status.Status.{Status}
+use Rattle.epg_report.specs.declared.status.Status.TheVariants.{OpenFault, ReadFault, Usage, WriteFault}
+use Rattle.epg_report.specs.declared.status.Origin.TheVariants.{Input, Feed, Recording}
+use Rattle.epg_report.specs.declared.status.Outlet.TheVariants.{Air, Report}
+use Rattle.epg_report.specs.Told.{OpenerAsked, ReportTaken, SourceGave}
+use Rattle.epg_live.specs.Stops.{HasStatusCause}
+use Rattle.epg_play.specs.Leaves.{IsOfPlay, PlayRun}
+use Rattle.epg_resume.specs.Beginning.{IsOfResume}
+use Rattle.epg_resume.specs.Leaves.{FoldRun, ResumeRun}
+use Rattle.epg_cli.specs.Plays.{PlayEnds}
+
+play_cause : (i j f g a b : ℕ) (s : Status) → IsOfPlay s → (s ≡ ReadFault Input → Rose i j) → (s ≡ WriteFault Air → Rose a b) → HasStatusCause i j f g a b s
+play_cause i j f g a b (ReadFault Input) is read air = read refl
+play_cause i j f g a b (ReadFault (Feed k)) is read air = absurd is
+play_cause i j f g a b (ReadFault Recording) is read air = absurd is
+play_cause i j f g a b (WriteFault Air) is read air = air refl
+play_cause i j f g a b (WriteFault Report) is read air = tt
+play_cause i j f g a b other is read air = tt
+
+resume_cause : (i j f g a b : ℕ) (s : Status) → IsOfResume s → (s ≡ ReadFault Input → Rose i j) → (s ≡ ReadFault Recording → Rose f g) → (s ≡ WriteFault Air → Rose a b) → HasStatusCause i j f g a b s
+resume_cause i j f g a b (ReadFault Input) is read file air = read refl
+resume_cause i j f g a b (ReadFault (Feed k)) is read file air = absurd is
+resume_cause i j f g a b (ReadFault Recording) is read file air = file refl
+resume_cause i j f g a b (WriteFault Air) is read file air = air refl
+resume_cause i j f g a b (WriteFault Report) is read file air = tt
+resume_cause i j f g a b other is read file air = tt
+
+pub play_ends : (opener : OpenerAsked) (input : SourceGave) (air report : ReportTaken) (status : Status) → PlayRun input air report status → PlayEnds opener input air report status
+play_ends opener input air report status run = record {
+  no_usage = λ e. subst IsOfPlay e run.known;
+  end = run.end;
+  cause = play_cause input.faults_old input.faults_new opener.read_old opener.read_new air.faults_old air.faults_new status run.known run.input_cause run.air_cause;
+  open_cause = λ n e. absurd (subst IsOfPlay e run.known);
+  report_cause = run.report_cause;
+}
+
+pub fold_ends : (opener : OpenerAsked) (input : SourceGave) (air report : ReportTaken) (status : Status) → FoldRun input air report status → PlayEnds opener input air report status
+fold_ends opener input air report status run = record {
+  no_usage = λ e. subst IsOfPlay e run.known;
+  end = run.end;
+  cause = play_cause input.faults_old input.faults_new opener.read_old opener.read_new air.faults_old air.faults_new status run.known run.input_cause run.air_cause;
+  open_cause = λ n e. absurd (subst IsOfPlay e run.known);
+  report_cause = run.report_cause;
+}
+
+pub resume_ends : (path : List ℕ) (fold : Bool) (opener : OpenerAsked) (input : SourceGave) (air report : ReportTaken) (status : Status) → ResumeRun path fold opener input air report status
+    → PlayEnds opener input air report status
+resume_ends path fold opener input air report status run = record {
+  no_usage = λ e. subst IsOfResume e run.known;
+  end = run.end;
+  cause = resume_cause input.faults_old input.faults_new opener.read_old opener.read_new air.faults_old air.faults_new status run.known run.input_cause run.read_cause run.air_cause;
+  open_cause = run.open_cause;
+  report_cause = run.report_cause;
+}

@@ -1,0 +1,10 @@
+pub mod GoingOn
+pub mod Bases
+pub mod BehindFacts
+pub mod OverFacts
+pub mod ReadBack
+pub mod PlayedFacts
+pub mod WrittenFacts
+pub mod StopFacts
+pub mod RunFacts
+pub mod BeginFacts

@@ -1,0 +1,102 @@
+-- What a run leaves that goes on behind a journal and an air of it.
+use Rattle.std.specs.Prelude.{◌≡◌, ◌<◌, ◌^◌, ℕ, List, [], ◌∷◌, ◌++◌, length, map, take, Bool, true, false}
+use Rattle.std.specs.Io.KnownBytes.{Appends}
+use Rattle.si_causes.specs.Causes.{AppendsFront}
+use Rattle.input_lines.specs.Ahead.{Ahead}
+use Rattle.ts_packets.specs.Bytes.{bytes_of_packet}
+use Rattle.air_model.specs.Air.{Aired, IsAirOf, air, air_bytes}
+use Rattle.air_model.specs.Making.{AreMade}
+use Rattle.mux_model.specs.declared.mux.Mux.{Mux}
+use Rattle.journal_model.specs.declared.step.Step.TheVariants.{Swap}
+use Rattle.journal_model.specs.declared.step.Entry.{Entry}
+use Rattle.journal_model.specs.Steps.{Command}
+use Rattle.desk_core.specs.Journal.{Legal, journal_after, publishes}
+use Rattle.script_lines.specs.Script.{items_ahead}
+use Rattle.journal_text.specs.Entries.{journal_text}
+use Rattle.journal_air.specs.Air.{airings}
+use Rattle.journal_screen.specs.Heard.{IsHeardAs}
+use Rattle.headend_jobs.specs.OnAir.{cycle_bytes}
+use Rattle.epg_report.specs.declared.status.Status.{Status}
+use Rattle.epg_report.specs.declared.status.Status.TheVariants.{BadScript, Disagrees, Done, Memory, OpenFault, ReadFault, TooLong as PastLimit, WriteFault}
+use Rattle.epg_report.specs.declared.status.Origin.TheVariants.{Input, Recording}
+use Rattle.epg_report.specs.declared.status.Outlet.TheVariants.{Air, Report}
+use Rattle.epg_report.specs.Texts.{fault_lines}
+use Rattle.epg_report.specs.Told.{ReportTaken, Reported}
+use Rattle.epg_play.specs.Script.{Stop, Ended, NoCommand, Disagreed, TooLong, Unread, played_items}
+use Rattle.epg_resume.specs.Checkpointed.{HasRun, IsCheckpoint}
+
+-- of the script ahead, what is played behind a journal, and why no more is
+abbrev pub played_behind : Mux → List Entry → Ahead → List Command × Stop
+played_behind mux journal lines = played_items mux journal (items_ahead false lines)
+
+-- Behind earlier cycles the air took cycles that make with them an air of the journal with more entries; neighbours of one PID share
+-- packets. So who hears both parts hears one airing at a time, and is shown the guide of what stays on air.
+pub record AirOn (mux : Mux) (journal more : List Entry) (earlier : List Aired) (air_took : ReportTaken) : Type 0 where
+  pub cycles : List Aired
+  pub is_air : IsAirOf (airings mux (journal ++ more)) (earlier ++ cycles)
+  pub made : AreMade earlier cycles
+  pub bytes : Appends air_took.old air_took.new (air_bytes cycles)
+  pub heard : IsHeardAs mux (journal ++ more) (map bytes_of_packet (air (earlier ++ cycles)))
+
+-- The last entry is a swap, and of such cycles the air took all but the last, and a proper front of that.
+pub record CutAirOn (mux : Mux) (journal more : List Entry) (earlier : List Aired) (air_took : ReportTaken) : Type 0 where
+  pub front : List Entry
+  pub last : Entry
+  pub entries : more ≡ front ++ last ∷ []
+  pub is_swap : last.step ≡ Swap
+  pub whole : List Aired
+  pub cut : Aired
+  pub is_air : IsAirOf (airings mux (journal ++ more)) (earlier ++ (whole ++ cut ∷ []))
+  pub made : AreMade earlier (whole ++ cut ∷ [])
+  pub taken : ℕ
+  pub proper : taken < length (cycle_bytes cut)
+  pub bytes : Appends air_took.old air_took.new (air_bytes whole ++ take taken (cycle_bytes cut))
+
+-- the whole report of more entries, behind which these are all cycles: their text, or with `--fold` the checkpoint of all
+abbrev pub IsReport : Bool → Mux → List Entry → List Entry → List Aired → List ℕ → Type 0
+IsReport false mux journal more cycles text = text ≡ journal_text more
+IsReport true mux journal more cycles text = IsCheckpoint mux (journal ++ more) cycles text
+
+-- what the report has before the line of a fault
+abbrev pub before_fault : Bool → List Entry → List ℕ
+before_fault false more = journal_text more
+before_fault true more = []
+
+module _ (fold : Bool) (mux : Mux) (journal : List Entry) (earlier : List Aired) (air_took report : ReportTaken) where
+  -- The script was played to its end: its journal goes on with the one before, its air with the one before, and the whole report is
+  -- `text`. It can be gone on from again.
+  pub record WentOn (rest : List Command × Stop) (text : List ℕ) : Type 0 where
+    pub ended : rest.1 ≡ Ended
+    pub legal : Legal mux (journal ++ journal_after mux journal rest.0)
+    pub air_is : AirOn mux journal (journal_after mux journal rest.0) earlier air_took
+    pub text_is : IsReport fold mux journal (journal_after mux journal rest.0) (earlier ++ air_is.cycles) text
+    pub goes_on : publishes (journal ++ journal_after mux journal rest.0) < 10 ^ 18
+        → HasRun mux (journal ++ journal_after mux journal rest.0) (earlier ++ air_is.cycles)
+
+  -- a fault ended the script behind its commands
+  pub record StoppedOn (rest : List Command × Stop) (stop : Stop) (status : Status) : Type 0 where
+    pub stopped : rest.1 ≡ stop
+    pub legal : Legal mux (journal ++ journal_after mux journal rest.0)
+    pub air_is : AirOn mux journal (journal_after mux journal rest.0) earlier air_took
+    pub report_is : Reported report (before_fault fold (journal_after mux journal rest.0) ++ fault_lines status)
+
+  -- the air failed in the cycle of the last of the first k commands
+  pub record CutOn (rest : List Command × Stop) : Type 0 where
+    pub k : ℕ
+    pub legal : Legal mux (journal ++ journal_after mux journal (take k rest.0))
+    pub air_is : CutAirOn mux journal (journal_after mux journal (take k rest.0)) earlier air_took
+    pub report_is : Reported report (before_fault fold (journal_after mux journal (take k rest.0)) ++ fault_lines (WriteFault Air))
+
+  -- What a run leaves with each status, of what is ahead of it behind the description of its multiplex.
+  abbrev pub LeavesBehind : Ahead → Status → Type 0
+  LeavesBehind lines Done = (text : List ℕ) × WentOn (played_behind mux journal lines) text × Appends report.old report.new text
+  LeavesBehind lines (BadScript n) = StoppedOn (played_behind mux journal lines) (NoCommand n) (BadScript n)
+  LeavesBehind lines (Disagrees n kept found) = StoppedOn (played_behind mux journal lines) (Disagreed n kept found) (Disagrees n kept found)
+  LeavesBehind lines (PastLimit Input) = StoppedOn (played_behind mux journal lines) TooLong (PastLimit Input)
+  LeavesBehind lines (ReadFault Input) = StoppedOn (played_behind mux journal lines) Unread (ReadFault Input)
+  LeavesBehind lines (WriteFault Air) = CutOn (played_behind mux journal lines)
+  LeavesBehind lines (WriteFault Report) = (text : List ℕ) × WentOn (played_behind mux journal lines) text × AppendsFront report.old report.new text
+  LeavesBehind lines (OpenFault n) = Unit {0}
+  LeavesBehind lines (ReadFault Recording) = Unit {0}
+  LeavesBehind lines Memory = Unit {0}
+  LeavesBehind lines status = ⊥

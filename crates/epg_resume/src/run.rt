@@ -1,0 +1,187 @@
+// Runs of `play` that are folded or go on.
+ghost use Rattle.std.specs.Prelude.{◌≡◌, ◌≤◌, ◌<◌, ◌^◌, [], List, ℕ, None, Some, IfSome};
+ghost use Rattle.std.specs.Io.KnownBytes.{IsAtEnd};
+ghost use Rattle.si_causes.specs.Causes.{Rose};
+ghost use Rattle.si_causes.specs.Opening.{Files};
+ghost use Rattle.si_causes.specs.Reading.{fresh};
+ghost use Rattle.epg_report.specs.Asked.{HasAskedFor};
+ghost use Rattle.epg_report.specs.Texts.{CanBeSaid};
+ghost use Rattle.epg_resume.specs.Courses.{HasPlayedOn, IsCourse, IsMetByResume, IsMetByScript, IsNoDescription, PlayedNew, PlayedResumed, met_by};
+ghost use Rattle.epg_resume.specs.Leaves.{FoldRan, ResumeRan};
+
+use crate::begin::{new_start, start_at};
+use crate::played::{Course, Played};
+use crate::report::finish;
+use desk_checkpoint::Start;
+use epg_play::{PlayStop, mux_stop_of, play_rest, status_of};
+use epg_report::{Origin, Outlet, Status, out_of_memory};
+use mux_config::read_mux;
+use si_causes::{LineReader, Opener, Sink, Source};
+use std::alloc::Global;
+
+// Nothing was played, for this status.
+fn not_played(met: Status) -> Played
+    ensures course { result.course ≡ None }
+    ensures met { result.met ≡ met }
+{
+    Played { course: None, met }
+}
+
+fn met_of(played: Result<(), PlayStop>) -> Status
+    ensures { result ≡ met_by played }
+{
+    match played {
+        Ok(()) => Status::Done,
+        Err(stop) => status_of(stop),
+    }
+}
+
+// Plays the commands that are left, from a start on.
+fn play_on<S: Source, A: Sink>(
+    alloc: Global,
+    lines: &mut LineReader<S>,
+    start: Start,
+    air: &mut A,
+) -> Played
+    requires going { lines.old.stop ≡ None }
+    requires ended { start.player.left ≡ [] }
+    requires shift { start.shift < 10 ^ 18 }
+    ensures played { HasPlayedOn S.left lines.old lines.new start
+        (A.written air.old) (A.written air.new) result }
+    ensures course { IfSome result.course (IsCourse result.met) }
+    ensures said { CanBeSaid result.met }
+    ensures known { IsMetByScript result.met }
+    ensures behind { IsNoDescription result.met }
+    ensures end { result.met ≡ Status.Done → IsAtEnd (S.left lines.new.source) }
+    ensures input_cause { result.met ≡ Status.ReadFault Origin.Input
+        → Rose (S.faults lines.old.source) (S.faults lines.new.source) }
+    ensures air_cause { result.met ≡ Status.WriteFault Outlet.Air
+        → Rose (A.faults air.old) (A.faults air.new) }
+    ensures same { S.same lines.old.source lines.new.source }
+{
+    let shift = start.shift;
+    let mut desk = start.desk;
+    let mut player = start.player;
+    let folded = desk.entries().len();
+    let played = play_rest(alloc, lines, &mut desk, &mut player, air, shift);
+    let _ = desk.entries();
+    let end = Start {
+        desk,
+        shift,
+        player,
+    };
+    Played {
+        course: Some(Course { end, folded }),
+        met: met_of(played),
+    }
+}
+
+// Plays the script of an input, from a head-end that did nothing yet.
+fn play_new<S: Source, A: Sink>(alloc: Global, lines: &mut LineReader<S>, air: &mut A) -> Played
+    requires unread { lines.old ≡ fresh lines.old.source }
+    ensures played { (text : List ℕ) → S.left lines.old.source ≡ Some text
+        → PlayedNew text (S.left lines.new.source) (A.written air.old) (A.written air.new) result }
+    ensures course { IfSome result.course (IsCourse result.met) }
+    ensures said { CanBeSaid result.met }
+    ensures known { IsMetByScript result.met }
+    ensures end { result.met ≡ Status.Done → IsAtEnd (S.left lines.new.source) }
+    ensures input_cause { result.met ≡ Status.ReadFault Origin.Input
+        → Rose (S.faults lines.old.source) (S.faults lines.new.source) }
+    ensures air_cause { result.met ≡ Status.WriteFault Outlet.Air
+        → Rose (A.faults air.old) (A.faults air.new) }
+    ensures same { S.same lines.old.source lines.new.source }
+{
+    let mux = match read_mux(alloc, lines) {
+        Ok(mux) => mux,
+        Err(stop) => return not_played(status_of(mux_stop_of(stop))),
+    };
+    match new_start(alloc, mux) {
+        Ok(start) => play_on(alloc, lines, start, air),
+        Err(_) => not_played(Status::Memory),
+    }
+}
+
+// Plays the script of an input, from the checkpoint in the file of this path.
+fn play_from<O: Opener, S: Source, A: Sink>(
+    alloc: Global,
+    lines: &mut LineReader<S>,
+    path: &str,
+    opener: &mut O,
+    air: &mut A,
+) -> Played
+    requires unread { lines.old ≡ fresh lines.old.source }
+    ensures played { (text : List ℕ) → S.left lines.old.source ≡ Some text
+        → (files : Files) → O.files opener.old ≡ Some files
+        → PlayedResumed path.now files text (S.left lines.new.source)
+        (A.written air.old) (A.written air.new) result }
+    ensures course { IfSome result.course (IsCourse result.met) }
+    ensures said { CanBeSaid result.met }
+    ensures known { IsMetByResume result.met }
+    ensures asked { HasAskedFor path.now (O.tried opener.old) (O.tried opener.new) result.met }
+    ensures end { result.met ≡ Status.Done → IsAtEnd (S.left lines.new.source) }
+    ensures input_cause { result.met ≡ Status.ReadFault Origin.Input
+        → Rose (S.faults lines.old.source) (S.faults lines.new.source) }
+    ensures open_cause { (n : ℕ) → result.met ≡ Status.OpenFault n
+        → Rose (O.faults opener.old) (O.faults opener.new) }
+    ensures read_cause { result.met ≡ Status.ReadFault Origin.Recording
+        → Rose (O.read_faults opener.old) (O.read_faults opener.new) }
+    ensures air_cause { result.met ≡ Status.WriteFault Outlet.Air
+        → Rose (A.faults air.old) (A.faults air.new) }
+    ensures same { S.same lines.old.source lines.new.source }
+{
+    let mux = match read_mux(alloc, lines) {
+        Ok(mux) => mux,
+        Err(stop) => return not_played(status_of(mux_stop_of(stop))),
+    };
+    match start_at(alloc, mux, path, opener) {
+        Ok(start) => play_on(alloc, lines, start, air),
+        Err(met) => not_played(met),
+    }
+}
+
+/// `play --fold`: plays the script of the input as [`epg_play::run_play`] does, but reports the checkpoint of its journal and of
+/// the air that it sent, from which [`run_resumed`] goes on. Where a fault ends the run, the report is the line of the fault alone.
+pub fn run_folded<S: Source, A: Sink, R: Sink>(
+    alloc: Global,
+    input: &mut S,
+    air: &mut A,
+    report: &mut R,
+) -> Status
+    ensures run { FoldRan S.left S.faults input.old input.new
+        A.written A.faults air.old air.new R.written R.faults report.old report.new result }
+{
+    let Ok(mut lines) = LineReader::open(alloc, &mut *input) else {
+        return out_of_memory(report);
+    };
+    let played = play_new(alloc, &mut lines, air);
+    let _source = lines.close();
+    finish(alloc, &played, true, report)
+}
+
+/// `play --resume PATH`: reads the description of the multiplex from the input, then the checkpoint from the file of this path, up
+/// to its line `end` and at most 1,073,741,824 bytes, and plays the script behind the description as if the head-end had not been
+/// stopped. The report is the text of the new entries, whose publications go on with the numbers of the journal that was folded, and
+/// the line of the fault where there is one; with `fold`, it is that of [`run_folded`], over both journals and both airs together.
+///
+/// `OpenFault(0)`, `ReadFault(Recording)`, `TooLong(Recording)` and `BadCheckpoint`, with the first line of the checkpoint that may
+/// not stand there, come before any step is done.
+pub fn run_resumed<O: Opener, S: Source, A: Sink, R: Sink>(
+    alloc: Global,
+    path: &str,
+    fold: bool,
+    opener: &mut O,
+    input: &mut S,
+    air: &mut A,
+    report: &mut R,
+) -> Status
+    ensures run { ResumeRan path.now fold O.files O.tried O.faults O.read_faults opener.old opener.new
+        S.left S.faults input.old input.new
+        A.written A.faults air.old air.new R.written R.faults report.old report.new result }
+{
+    let Ok(mut lines) = LineReader::open(alloc, &mut *input) else {
+        return out_of_memory(report);
+    };
+    let played = play_from(alloc, &mut lines, path, opener, air);
+    let _source = lines.close();
+    finish(alloc, &played, fold, report)
+}
