@@ -1,10 +1,19 @@
-//! The auditor of an air: whether recorded packets are an air of an airing list, whoever made them
+//! The auditor: whether recorded packets are an air of a list of airings, whoever made them
 //! (ISO/IEC 13818-1, 2.4.3 and 2.4.4).
 //!
-//! A layer above relies on this contract: a `Checker` stands for an airing list and for the packets that it accepted, which are a prefix
-//! of an air of that list. `swap` adds an airing, `check` accepts a packet or names the first rule that it breaks, and `at_end` tells
-//! whether the packets accepted are an air. A packet that is refused by the list so far is refused by each longer one
-//! (`longer_lists_agree`), and packets that go on consistently can always be completed (`consistent_is_prefix`).
+//! A `Checker` holds a list of airings, to which `swap` adds one, and the packets accepted so far,
+//! a prefix of an air of that list. `check` accepts a packet exactly where the packets with it are
+//! still such a prefix. Otherwise it gives the first of five rules that the packet breaks, and
+//! changes nothing (`accepted`, `exactly`, `rule`, `kept`). `at_end` is true exactly where the
+//! packets accepted are an air of the list. Packets that go on consistently can be completed to an
+//! air, and no others (`consistent_is_prefix`). While a cycle has not ended, a longer list accepts
+//! the same next packets (`longer_lists_agree`). Lists and packets determine what is still to come,
+//! and so the rule (`one_is_to_come`).
+//!
+//! Tested in `publication_rows`: recordings made by hand, and a player's air changed bit by bit.
+//!
+//! Not promised: how often sections of such an air repeat, and that `swap` fails only where memory
+//! runs out.
 #![tactic(auto)]
 
 mod checker;

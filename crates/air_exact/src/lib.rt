@@ -1,7 +1,9 @@
-//! What a receiver has of what stays on air: where it heard all packets of a cycle, and behind it packets alone of cycles with the same
-//! sub-tables, the content that it completed last of each key is the one on air (EN 300 468, 5.1.1).
+//! Laws: what a receiver has of an airing that stays on air (EN 300 468, 5.1.1).
 //!
-//! This crate has definitions and laws alone. A law is a function with an empty body, whose clause is the law.
+//! It has no code. A receiver hears all packets of one cycle, and after it only packets of cycles
+//! with the same sub-tables. Then the last content that it completed of each key is the one on air,
+//! whatever it heard before (`contents_on_air_are_heard`). Where all airings have one PAT, one NIT
+//! and one SDT of the stream, it has these keys and a moment (`what_is_on_air_is_heard`).
 #![tactic(auto)]
 
 mod laws;

@@ -1,7 +1,11 @@
-//! What is heard of an air by a receiver that joins at any packet and loses none of those that follow, and what versions tell along an
-//! airing list (ISO/IEC 13818-1, 2.4.4; EN 300 468, 5.1.1).
+//! Laws: what a receiver hears that joins an air at any packet and loses none after that
+//! (ISO/IEC 13818-1, 2.4.4; EN 300 468, 5.1.1).
 //!
-//! This crate has definitions and laws alone. A law is a function with an empty body, whose clause is the law.
+//! It has no code. On each PID such a receiver hears exactly the sections that begin and end in the
+//! packets that it heard, in order (`joined_air_is_heard`, `joined_repeating_air_is_heard`). A
+//! section heard is of an airing whose cycle has a packet among them, and of a cycle that was heard
+//! whole each section is heard (`cycles_are_heard`). Two contents under one version_number have
+//! another content between them, 32 changes apart (`versions_wrap`).
 #![tactic(auto)]
 
 mod laws;

@@ -1,9 +1,11 @@
-//! A monitor of an air: it passes on what it is given to a sink, and hears what the sink took.
+//! A sink that passes packets on to an air, and hears those that the air took.
 //!
-//! The layers above use two facts. A [`Monitor`] is a sink whose `same` says that it heard all that its air took in between
-//! (`WatchedOn`), so whoever writes through it need not know that it is there. And [`Monitor::take_log`] gives the completions
-//! of the whole packets that the air took since [`Monitor::open`], from one packet on (`HasHeard`), or a front of them where
-//! memory was wanting.
+//! Whoever writes through a [`Monitor`] need not know of it: it takes and fails as its air does.
+//! [`Monitor::take_log`] gives the completions of the whole packets that the air took since
+//! [`Monitor::open`], from a chosen packet on. These are a prefix of them where memory ran out or
+//! there was a key too many (`HasHeard`). [`MonitorLog::guide`] gives the guide of these packets.
+//! Where the air does not show its bytes, nothing says which packets these are. A packet that does
+//! not begin with 0x47 is passed over, and no line after it is promised.
 #![tactic(auto)]
 
 mod done_line;

@@ -1,7 +1,11 @@
-//! What a receiver shows of an air of publications: where it heard all packets of a cycle, and behind it packets alone of cycles of the same
-//! publication, its guide is just the screen of that publication, with the moment that it heard last (EN 300 468, 5.2).
+//! Laws: the guide that a receiver shows while a publication stays on air (EN 300 468, 5.2).
 //!
-//! This crate has definitions and laws alone. A law is a function with an empty body, whose clause is the law.
+//! It has no code. A receiver hears all packets of one cycle, and after it only packets of cycles
+//! of the same publication. Then its guide is whole and is the screen of that publication, with the
+//! moment of the last TDT heard (`what_is_published_is_shown`). What was on air and heard before
+//! makes no difference.
+//!
+//! Not promised: how many packets a receiver needs that joins within a cycle.
 #![tactic(auto)]
 
 mod laws;

@@ -1,7 +1,7 @@
-//! Rows of whole runs of `audit`, as a program.
+//! Tests of whole runs of `audit` by `run`.
 //!
-//! A row is `call arguments`, and the program prints it with what it gives: `call arguments = answer`. An empty line and a line
-//! that begins with `#` are printed as they are. The head of the rows explains their calls.
+//! A row is `call arguments`, and the program prints `call arguments = answer`. The head of `stdin`
+//! explains the calls.
 #![tactic(auto)]
 
 mod changes;

@@ -1,8 +1,8 @@
-//! The rows of boards: reads rows of text on its standard input, and prints each with what its calls give. A blank line and
-//! a line that begins with `#` are printed as they are.
+//! Tests of the viewers' board: steps of a writer and of a viewer that reads while another thread
+//! posts.
 //!
-//! `stdin` has the rows, and its head says how they are written; `stdout` has what they give, which stands there from the
-//! rules of a board and not from this program.
+//! A line of `stdin` is a call with its arguments, and the program prints it with what it gives.
+//! `stdout` has the expected values, to be compared with the rules of a board.
 #![tactic(auto)]
 
 mod guides;

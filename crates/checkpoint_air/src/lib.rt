@@ -1,7 +1,10 @@
-//! The checkpoint of a journal and of its air is never refused: what a player keeps of an air of the journal can be written, and the
-//! text of the checkpoint is read back.
+//! A law: the checkpoint of a journal and of its air is never refused.
 //!
-//! This crate has definitions and laws alone. A law is a function with an empty body, whose clause is the law.
+//! It has no code. What a player keeps of an air of a legal journal over a sound multiplex can be
+//! written, and so can the counters. So the text of that checkpoint reads back, whatever follows it
+//! (`checkpoints_are_never_refused`). The journal's commands were read from lines, and it has fewer
+//! than 10^18 publications. That bodies are bytes and that PIDs and counters fit their fields are
+//! premises, which `HandsOver` of `desk_checkpoint` gives.
 #![tactic(auto)]
 
 mod laws;

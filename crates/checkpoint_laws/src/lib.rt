@@ -1,8 +1,10 @@
-//! Checkpoints: a journal folded into a few steps, behind which a desk goes on as behind the journal.
+//! A journal folded into a few steps, after which a desk goes on as after the whole journal.
 //!
-//! The layers above use that the steps are all taken (`checkpoints_are_taken`), that whatever is asked then is answered as before but
-//! for the shift of the numbers of publications (`desks_go_on`), and that a desk which went on can be folded again
-//! (`checkpoints_fold_again`). This crate has definitions and laws alone. A law is a function with an empty body, whose clause is the law.
+//! It has no code, only definitions and laws. A fresh desk accepts each of these steps, they put
+//! nothing on air, and then the desk has the journal's book, moment and latest publication
+//! (`checkpoints_are_taken`). The numbers of its publications are lower by a fixed number, the
+//! shift. Whatever is asked next gets equal replies and outcomes up to that shift, and puts the
+//! same on air (`desks_go_on`). A desk that went on can be folded again (`checkpoints_fold_again`).
 #![tactic(auto)]
 
 mod laws;

@@ -1,7 +1,7 @@
-//! Rows of checkpoints, as a program: what is read of a text, and what a desk and a player leave.
+//! Tests of checkpoints: what is read of a text, and what a desk and a player leave.
 //!
-//! A row is `call arguments`, and the program prints it with what it gives: `call arguments = answer`. An empty line and a line
-//! that begins with `#` are printed as they are. The head of the rows explains their calls and their notation.
+//! A row is `call arguments`, and the program prints `call arguments = answer`. The head of `stdin`
+//! explains the calls and the notation.
 #![tactic(auto)]
 
 mod folds;

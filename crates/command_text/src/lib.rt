@@ -1,8 +1,10 @@
-//! The text of commands: the line of a step behind its caller's number, and those of the items of a day.
+//! The text of commands, and lines of fields as csv writes them.
 //!
-//! The layers above use one fact of each call that writes: what it appends is the text that the definitions say. Such a text is a piece of
-//! a script, and reads back as the command ([`commands_read_back`]). A [`LineWriter`] makes a line of fields, as csv writes those of a
-//! record; such a line reads back as the fields ([`rows_read_back`]).
+//! `write_command` and the calls of [`LineWriter`] append exactly the text that the definitions
+//! say. A written row of texts reads back as the row (`rows_read_back`). A readable command reads
+//! back as the command, whatever follows it (`commands_read_back`).
+//!
+//! Not promised: what these calls leave where memory runs out.
 #![tactic(auto)]
 
 mod command;

@@ -1,9 +1,14 @@
 //! The words of a command line, and the command that they spell.
 //!
-//! The layer above uses [`parse_words`], which gives exactly the command, `Usage` exactly where the words are in no
-//! command's grammar, and `Memory` only where they are.
+//! [`parse_words`] gives exactly the command that the words spell (`command_of` of
+//! `specs/Grammar.antt`), within its limits. `Usage` comes exactly where they spell none, and
+//! `Memory` only where they spell one. The grammar decides by itself, without taking memory; clap
+//! then splits the options.
 //!
-//! `uses` decides by the grammar alone, and takes no memory. `matches` has clap split the options of `live` that it takes.
+//! Tested in `headend_rows` and `epg_live_rows`: words that are no command, options in each
+//! spelling.
+//!
+//! Not promised: that `Memory` comes only where memory runs out.
 #![tactic(auto)]
 
 mod command;

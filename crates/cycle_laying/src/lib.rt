@@ -1,8 +1,12 @@
-//! What a cycle is sent from: its sections, laid end to end, each once, and the order in which it sends them
-//! (ISO/IEC 13818-1, 2.4.4; EN 300 468, 5.1).
+//! The sections of one cycle, laid end to end, and the plan of their order (ISO/IEC 13818-1, 2.4.4;
+//! EN 300 468, 5.1).
 //!
-//! A layer above relies on these contracts: `plan_cycle` gives the order of a cycle of sub-tables, and behind `LaidSections::lay` what
-//! stands at the places of that order are the sections of the airing's cycle. Both the player and the auditor send or check from it.
+//! `plan_cycle` gives the order of a cycle of sub-tables, and `take_room` takes the memory for
+//! their bytes. After `LaidSections::lay` the bytes at the places of that order are exactly the
+//! sections of the airing's cycle (`versions`, `sections`, `placed`, `within`). The player sends
+//! from it and the auditor checks against it.
+//!
+//! Not promised: that these calls fail only where memory runs out.
 #![tactic(auto)]
 
 mod laying;

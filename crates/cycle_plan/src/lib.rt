@@ -1,14 +1,16 @@
-//! The order in which one cycle sends its sections, by their tiers (TR 101 211, 4.4).
+//! The order in which one cycle sends its sections, by tiers (TR 101 211, 4.4).
 //!
-//! `specs/Cycle.antt` has the order: Far is sent once, in chunks; before each chunk stand all Near sections; and this body is sent in
-//! runs, before each of which stand all Fast sections. `plan` gives this order without storing it: a plan is seen as the sections
-//! still to come, and `next` takes the first, in constant time and without memory. A section is named by its place among those
-//! that were given.
+//! A section is of tier Fast, Near or Far. Far sections are sent once, in chunks; all Near sections
+//! stand before each chunk; all Fast sections stand before each run of the result
+//! (`specs/Cycle.antt`). `plan` gives this order without storing it, and `CyclePlan::next` its next
+//! section, by its place among the given ones. A cycle has each section and no other
+//! (`cycles_are_whole`), and its cut into chunks and runs is the only one by the rule
+//! (`cuts_are_unique`). Sections of one PID that follow each other may share packets, and then take
+//! no more packets than without sharing (`packing_is_dense`). Fast and Near sections repeat within
+//! bounds, also into a next cycle of the same sections (`cycles_are_spaced`). The bound for Fast
+//! sections holds where no Near or Far section has the PID of the first section.
 //!
-//! A cycle has each section and no other (`cycles_are_whole`). A cut into chunks and runs is the only one by its rule
-//! (`cuts_are_unique`). Where neighbours of one PID share packets within a cycle (`specs/Packing.antt`), they take no more packets
-//! than alone (`packing_is_dense`), and Fast and Near sections repeat within bounds, also from the end of a cycle into a next one of
-//! the same sections (`cycles_are_spaced`).
+//! Not promised: that `next` takes constant time.
 #![tactic(auto)]
 
 mod body;

@@ -1,13 +1,11 @@
-//! The descriptors of an event, both ways: short_event, extended_event, content and parental_rating
-//! (EN 300 468, 6.1, 6.2.9, 6.2.15, 6.2.28 and 6.2.37).
+//! The descriptors of an event: short_event, extended_event, content and parental_rating
+//! (EN 300 468, 6.2.9, 6.2.15, 6.2.28 and 6.2.37).
 //!
-//! The layers above use: a writer appends the written form or changes nothing; a reader gives the value of a body, and
-//! `None` exactly where it has none; reading a written body gives its value back (`written_descriptors_read_back`).
-//! `write_event_descriptors` appends all those of an event, and `event_len` is the size of its entry in a section.
-//!
-//! Each descriptor has a module, and its written form and its reading side by side in the file of that name in
-//! `specs/`; `specs/EventDescriptors.antt` has the descriptors of an event. What all descriptors are made of is a crate
-//! of its own, `desc_parts`, whose loop of descriptors is passed on here.
+//! A writer appends the written form, or changes nothing where memory runs out. A reader gives
+//! exactly the value of a body, or `None` where it has none. Written descriptors read back
+//! (`written_descriptors_read_back`). `write_event_descriptors` appends all descriptors of an
+//! event. `event_len` is the size of an event's entry in a section, at most 1,338 bytes. The
+//! written form and the reading of a descriptor stand in one file of `specs/`.
 #![tactic(auto)]
 
 mod content;

@@ -1,10 +1,10 @@
-//! What the descriptors of all tables are made of (EN 300 468, 6.1): descriptors one after the other, bytes behind a length of 8 bits,
-//! both ways, and the coded bytes of a text.
+//! What the descriptors of all tables are made of (EN 300 468, 6.1).
 //!
-//! The layers above use: [`read_descriptors`] gives the descriptors of a loop, of which there is one list at most
-//! (`descriptors_are_unique`); [`Coded`] writes a text, alone or behind its length, into room that was taken before, and
-//! [`split_length`] and [`behind_length`] read what stands behind a length back (`lengths_read_back`); [`no_text`] is the text that
-//! no descriptor tells.
+//! [`read_descriptors`] gives the one list of descriptors that bytes are, or `None` where they are
+//! none (`descriptors_are_unique`). [`Coded`] writes a text, with or without its length, into room
+//! that was taken before. [`split_length`] and [`behind_length`] read bytes that follow a length of
+//! 8 bits. Bytes written after their length read back (`lengths_read_back`). [`no_text`] is the
+//! empty text, for a descriptor without one.
 #![tactic(auto)]
 
 mod coded;

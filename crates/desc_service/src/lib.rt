@@ -1,11 +1,10 @@
-//! The descriptors of networks, streams, services and their components, both ways: ISO_639_language (ISO/IEC 13818-1, 2.6.18),
-//! network_name, service_list, cable_delivery_system and service (EN 300 468, 6.2.27, 6.2.35, 6.2.13.1 and 6.2.33).
+//! The descriptors of networks, streams, services and components (EN 300 468, 6.2.13.1, 6.2.27,
+//! 6.2.33 and 6.2.35; ISO/IEC 13818-1, 2.6.18).
 //!
-//! The layers above use: a writer appends the written form or changes nothing; a reader gives the value of a body, and `None` exactly
-//! where it has none; reading a written body gives its value back (`written_descriptors_read_back`).
-//!
-//! Each descriptor has a module, and its written form and its reading side by side in one file of `specs/`. The loop of descriptors is
-//! that of `desc_parts`, which is passed on here.
+//! These are network_name, service_list, cable_delivery_system, service and ISO_639_language. A
+//! writer appends the written form, or changes nothing where memory runs out. A reader gives
+//! exactly the value of a body, or `None` where it has none. Written descriptors read back
+//! (`written_descriptors_read_back`).
 #![tactic(auto)]
 
 mod cable_delivery;

@@ -1,10 +1,18 @@
-//! The text of a checkpoint both ways: what a head-end writes when it stops, and from what it goes on as if it had not stopped.
+//! The text of a checkpoint: what a headend writes when it stops, and what it goes on from.
 //!
-//! A checkpoint has how many publications there were, steps that make the latest of them and what stands, the last version and content of
-//! each key that was on air, and the continuity counters. `checkpoint_laws` says why these steps are always done, and that a desk after
-//! them goes on as the desk whose journal was folded. Here [`write_checkpoint`] appends the text that the definitions say
-//! (`specs/Text.antt`), and [`read_checkpoint`] reads the checkpoint that lines are (`specs/Reads.antt`), or names the first line that may
-//! not stand there. Edits are written by `command_text` and read by `script_lines`, as in a script.
+//! A checkpoint has the count of publications, the steps of `checkpoint_laws`, the last version and
+//! content of each key that was on air, and the continuity counters. [`write_checkpoint`] appends
+//! that text for a desk and for a player at the end of a cycle, or nothing where memory runs out
+//! (`text`, `handed`, `kept`). [`read_checkpoint`] gives exactly the checkpoint that the lines are,
+//! as a desk and a player that go on, or the first line that may not stand there (`gives`,
+//! `start`). `Failed` comes only where a read failed. The checkpoint of a journal whose commands
+//! were read from lines, with fewer publications than 10^18, reads back whatever follows it
+//! (`checkpoints_read_back`).
+//!
+//! Tested in `checkpoint_rows`: checkpoints of each form, each kind of refused line, desks and
+//! players that go on.
+//!
+//! Not promised: that `Memory` comes only where memory runs out.
 #![tactic(auto)]
 
 mod laws;

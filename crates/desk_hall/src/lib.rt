@@ -1,9 +1,17 @@
-//! The hall: one desk that callers use in turns, and the jobs that read for it.
+//! One desk for many callers, and the jobs that read lines for it.
 //!
-//! A [`Hall`] keeps a desk behind a lock that is taken in turns. Each caller has a [`HallPass`], and each call of a hall with it is
-//! one turn with one step of the desk, which makes one entry of that caller's number. A pass knows what it has seen, a legal journal,
-//! and what it made. The layers above use two contracts: what one call makes of both (`Made`), and that a job that reads makes just
-//! the commands of its lines, each once, in order (`Did`, `ToldDid`, `TakenDid`), whatever other passes do between its turns.
+//! A [`Hall`] guards the desk by a `turn_lock`. Each caller has a [`HallPass`]; `edit`, `tick`,
+//! `publish` and `swap` add one entry of that caller, whose outcome is their answer (`Made`). What
+//! a caller has seen is a legal journal. Lack of memory adds no entry (`Idle`). Where a source
+//! shows its text, `feed` and `control` do its commands, each once, in order, up to the reader's
+//! own stop, whatever other callers do between (`ToldDid`). Where a read fails they have done
+//! exactly the lines that were whole by then (`TakenDid`). `close` gives the desk; its journal is
+//! legal and has exactly what the callers made.
+//!
+//! Tested in `live_rows`: feeds and controls with bad lines, a failing read at each place, callers
+//! in two threads, the places of the gate.
+//!
+//! Not promised: that a turn is ever got, and that the gate is passed before and after each edit.
 #![tactic(auto)]
 
 mod control;

@@ -1,7 +1,8 @@
-//! Rows of descriptions, edits, scripts and their answers, as a program.
+//! Tests of descriptions, edits, scripts and their answers: the calls from `mux_config` to
+//! `journal_text`.
 //!
-//! A row is `call arguments`, and the program prints it with what it gives: `call arguments = answer`. An empty line and a line
-//! that begins with `#` are printed as they are. The head of the rows explains their calls and their notation.
+//! A row is `call arguments`, and the program prints `call arguments = answer`. The head of `stdin`
+//! explains the calls and the notation.
 #![tactic(auto)]
 
 mod books;

@@ -1,11 +1,12 @@
-//! Bodies of event information sections, both ways (EN 300 468, 5.2.4).
+//! The bodies of event information sections (EN 300 468, 5.2.4).
 //!
-//! The layers above use: `write_eit` gives the written form; `read_eit` gives the one value of a body, and `None` exactly
-//! where it has none; reading what was written of events gives those events back, all texts as `Text`
-//! (`written_events_read_back`). `is_eit_body` tells whether a body is one, and makes no event.
+//! `write_eit` gives the body of events. `read_eit` gives the one value of a body, or `None`
+//! exactly where it has none. Written events read back with all texts as `Text`, and a body has at
+//! most one value (`written_events_read_back`). An entry has the size that `event_len` gives.
+//! `is_eit_body` says whether bytes are such a body, without making events; it accepts exactly the
+//! bodies that `read_eit` reads (`read_bodies_are_bodies`).
 //!
-//! `specs/Entries.antt` has the bytes of an entry, `specs/ShownEvent.antt` what the descriptors of an event show, and
-//! `specs/Eit.antt` the body, written and read, with the laws; `specs/Bodies.antt` says by computing whether bytes are one.
+//! Not promised: how much memory a body takes.
 #![tactic(auto)]
 
 mod bodies;

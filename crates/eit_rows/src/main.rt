@@ -1,8 +1,8 @@
-//! The rows of schedules: each line of the input is a call and its arguments, and the program prints what the call gives. A blank
-//! line and a line that begins with `#` are printed as they are. What is no row has the answer `no row`.
+//! Tests of schedules: the public calls of `eit_segments`.
 //!
-//! `stdin` has the rows, and its head says how they are written; `stdout` has what they give, which stands there from the
-//! standard and not from this program.
+//! A line of `stdin` is a call with its arguments, and the program prints it with what it gives.
+//! `stdout` has the expected values, to be compared with the standard. What is no row gets the
+//! answer `no row`.
 #![tactic(auto)]
 
 mod answers;

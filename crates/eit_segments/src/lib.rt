@@ -1,11 +1,18 @@
-//! Where the events of a service stand in its schedule, and which of them are present and following (EN 300 468, 5.2.4).
+//! The place of each event in the schedule of a service, and the present and following event
+//! (EN 300 468, 5.2.4).
 //!
-//! The layers above use `segments`: the sections of a schedule, each with its table, its numbers and its events, are
-//! `schedule_of` the events; `sections_in_table` gives those of one table, and `last_table` says which is the last. An
-//! event's place is by its own start alone. `present_following` gives the event that is on at
-//! a moment, and the next one that starts after it. Both take the events of a service in order; `events_can_be_placed` says that
-//! those of a guide within its limits are such as they take, `tables_are_whole` that a table's sections are just those that a
-//! receiver needs, and `schedules_have_their_events` that each event of the 64 days stands once, in its own segment.
+//! `segments` gives the sections of a schedule. An event stands in the segment of the three hours
+//! in which it starts. A section takes the next events while their entries fit 4,078 bytes, and a
+//! segment without events before the last used one has one empty section. `sections_in_table` gives
+//! the sections of one table, `last_table` which table is the last, and `present_following` exactly
+//! the event that is on at a moment and the first that starts after it. Each event of the 64 days
+//! stands once, in order (`schedules_have_their_events`). A table's section numbers are exactly
+//! those that a receiver needs (`tables_are_whole`). The events of a guide within its limits can be
+//! placed (`events_can_be_placed`).
+//!
+//! Tested in `eit_rows`: midnight, full blocks, the last day and the day after it.
+//!
+//! Not promised: the time that `segments` takes, and that it fails only where memory runs out.
 #![tactic(auto)]
 
 mod blocks;

@@ -1,9 +1,14 @@
-//! The event information of a guide, table by table: of each service present and following, and the tables of its schedule
+//! The event information of one service: present and following, and its schedule tables
 //! (EN 300 468, 5.2.4).
 //!
-//! The layers above use `put_service`: its sub-tables are `present_table`, `near_tables` and `far_tables` of the service, at a moment.
-//! `events_are_fit` says that their sections can be sent, and that they describe themselves: what they tell a receiver to need is just
-//! what they are. In which section each event stands is `eit_segments`'; the bytes of a body are `eit_codec`'s.
+//! `put_service` gives exactly `present_table` at a moment, and `near_tables` and `far_tables` of
+//! the day of that moment. Their sections can be sent, name the multiplex, and are read as event
+//! information; the section numbers that they ask for are exactly their own (`events_are_fit`). An
+//! event's entry has at most 1,338 bytes (`small`, `entries_are_small`). Edits that were read leave
+//! events that these calls accept (`read_edits_leave_typed_events`).
+//!
+//! Not promised: that the tables of a service joined are `schedule_of` its events, and that
+//! `put_service` fails only where memory runs out.
 #![tactic(auto)]
 
 mod events;

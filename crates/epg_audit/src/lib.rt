@@ -1,10 +1,17 @@
-//! A run of `audit`: it reads a script as `play` does, and holds the packets of a recording against the cycles that its swaps put on air.
+//! A run of `audit`: it reads a script as `play` does, and compares a recording with the cycles of
+//! its swaps.
 //!
-//! The promise is on [`run_audit`], in the record `AuditRun`, which `AuditRan` says of a call. Where a run ends with status Done, the
-//! recording is an air of the journal of the script, whoever made it: on each PID the sections of its cycles in their order, with
-//! continuity counters that count on. Whatever a receiver completes of it is of one airing (`IsCoherent`), and once a cycle was heard
-//! whole, the guide is that of its publication (`IsExact`). For each fault the record says which packet is the first that differs, and
-//! the rule that it breaks.
+//! The promise is on [`run_audit`], in the record `AuditRun`. The status is Done exactly where the
+//! script is whole and the recording is an air of its journal, whoever made it, if nothing fails
+//! and memory lasts. So whatever a receiver completes of it is of one airing, and after a whole
+//! cycle the guide is the one published. For any other recording the report names the first packet
+//! that differs and the rule that it breaks, or says that the recording is too short or too long.
+//!
+//! Tested in `audit_rows`: the airs of rows and examples, whole, short and changed; files that
+//! cannot be opened or read.
+//!
+//! Not promised: how often sections repeat, what is left after Memory, and that it comes only where
+//! memory runs out.
 #![tactic(auto)]
 
 mod cycles;

@@ -1,14 +1,15 @@
-//! The top call. With `play` it reads a script, keeps one desk, sends one cycle to the air at each swap, and reports the
-//! journal of all steps done, or the checkpoint of it; and it goes on from a checkpoint. With `listen` it hears the packets of a
-//! recording, and reports each sub-table that is complete, and then the guide. With `live` it runs feeds, control and player
-//! side by side, and with `soak` it does so over a load of its own making. With `audit` it holds a recording against the air
-//! of a journal.
+//! The top call [`run`]: it reads the command words, and does what they spell.
 //!
-//! The promise is on [`run`]: usage comes exactly where the words spell no command, and for each command one record says all
-//! of its run, over what was left in the input and what the air and the report took: `PlayRun` of `epg_play`, `FoldRun` and
-//! `ResumeRun` of `epg_resume`, `ListenRun` of `epg_listen`, `LiveRun` of `epg_live`, `SoakRun` of `epg_soak`, and `AuditRun` of
-//! `epg_audit`. A clause names it by what the call ran, with its input and its sinks: `PlayRan`, `FoldRan`, `ResumeRan`,
-//! `ListenRan`, `LiveRan`, `SoakRan`, `AuditRan`.
+//! The promise of the program is on `run`. `Usage` comes exactly where the words spell no command,
+//! and nothing is then read, opened or sent. For each command one record says all of its run:
+//! `PlayRun`, `FoldRun`, `ResumeRun`, `ListenRun`, `LiveRun`, `SoakRun` and `AuditRun`, each in the
+//! crate of its command. `live_again`: the journal that `live` prints is a script that plays again,
+//! where its entries can be read and it is not too long. `listen` and `audit` send nothing; only
+//! `live`, `audit` and `play --resume` open files; `soak` reads no input (`air_kept`,
+//! `opener_kept`, `input_kept`). `cause`, `open_cause` and `report` hold for all words: each fault
+//! has its cause.
+//!
+//! Tested by whole runs in `headend_rows`, `epg_live_rows`, `listen_rows` and `example_rows`.
 #![tactic(auto)]
 
 mod top;

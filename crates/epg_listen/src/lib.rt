@@ -1,7 +1,13 @@
-//! A run of `listen`: it hears the packets of a recording, and reports each sub-table that is complete, and then the guide.
+//! A run of `listen`: it hears the packets of a recording, and reports each table that is
+//! completed, then the guide.
 //!
-//! The promise is on [`run_listen`], in the record `ListenRun`, which `ListenRan` says of a call. Where a recording is heard with status
-//! Done, each piece of it is a packet, and the report took the completions of all of them and the text of the guide that they give.
+//! The promise is on [`run_listen`], in the record `ListenRun`. With Done each piece of 188 bytes
+//! is a packet, and the report has the completions of all packets and the text of their guide.
+//!
+//! Tested in `listen_rows` and `headend_rows`: a completion is reported before the next packet is
+//! read.
+//!
+//! Not promised: what is left after Memory, and that it comes only where memory runs out.
 #![tactic(auto)]
 
 mod listen;

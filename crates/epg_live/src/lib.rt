@@ -1,9 +1,17 @@
-//! A run of `live`: it reads the description of a multiplex from the input, opens the files of the feeds, runs feeds, control and player
-//! side by side, and reports the journal, and the completions and the guide that were heard of the air.
+//! A run of `live`: it reads a description, opens the feeds' files, runs feeds, control, player and
+//! viewers in threads, and reports.
 //!
-//! The promise is on [`run_live_files`], in the record `LiveRun`, which `LiveRan` says of a call: what the air and the report took, over
-//! the text of the input and the files of the opener, and how that air is heard (`LeavesLive`); its faults have their causes, and it asks
-//! the opener for the paths of its words alone, each once, in order, before a job starts.
+//! The promise is on [`run_live_files`], in the record `LiveRun`. It says for each status but
+//! Memory what the air and the report have (`leaves`, `LeavesLive`). The report has one legal
+//! journal, in which the control, each feed and the player have exactly their commands up to their
+//! own stops. The air is an air of that journal, or the first bytes of one. The completions are
+//! what the packets sent give, from a chosen one on; the guide and the views' lines come only where
+//! nothing stopped. The status names the first stop in the order air, control, feeds. Where nothing
+//! fails the texts decide it (`completes`, `whole`). The paths are opened in order, each once
+//! (`asked_for`), and each fault has its cause.
+//!
+//! Not promised: that the threads overlap in time, what is left with Memory, and that a feed whose
+//! read failed has done all lines that were whole.
 #![tactic(auto)]
 
 mod feeds;

@@ -1,7 +1,9 @@
-//! Rows of whole runs of `live` and `soak`, as a program.
+//! Tests of whole runs of `live` and `soak` by `run`.
 //!
-//! A row is `call arguments`, and the program prints it with what it gives: `call arguments = answer`. An empty line and a line
-//! that begins with `#` are printed as they are. The head of the rows explains their calls.
+//! A row is `call arguments`, and the program prints `call arguments = answer`. The head of `stdin`
+//! explains the calls. Rows cover bad lines, files that are not there, sixteen feeds, and orders of
+//! player and feeds that a gate asks for. Each read, opening and write fails in turn, and what is
+//! left is compared with `play`, `listen` and `audit`.
 #![tactic(auto)]
 
 mod ends;

@@ -1,10 +1,19 @@
-//! A run of `play`: it reads a script, keeps one desk, sends one cycle to the air at each swap, and reports the journal of all steps
-//! done.
+//! A run of `play`: it reads a script, keeps one desk, sends a cycle at each swap, and reports the
+//! journal.
 //!
-//! The promise is on [`run_play`], in the record `PlayRun`, which `PlayRan` says of a call. Where a run ends with status Done, the input
-//! holds a description of the multiplex and a script of which each line is passed over, or is part of a command, or keeps an outcome that
-//! the desk gave; the air took the packets of the cycles of that script, whole, and the report took its journal. For each other status but
-//! Memory the record says what was left: never the cycle of a step that the journal does not hold, and no step twice.
+//! The promise is on [`run_play`]: its clause `run` is the record `PlayRun`, which says what the
+//! air and the report have with each status but Memory. With Done the script is whole, each kept
+//! outcome is the desk's, the air has the whole cycles, and the report has the journal. With a
+//! fault the air and the report have what was done before it. What `play` sends, `listen` hears
+//! (`play_is_heard`). A printed journal is a script that plays again (`journals_play_again`). Equal
+//! reports of `play` have one journal and one fault line, where the edits were read from lines
+//! (`reports_tell_journals`). `do_item` and `play_rest` play a script at any desk, also at one that
+//! goes on from a checkpoint.
+//!
+//! Tested in `headend_rows`: how much the air has after a failed write, and that a cycle is sent
+//! before the next line is read.
+//!
+//! Not promised: what is left after Memory, and that it comes only where memory runs out.
 #![tactic(auto)]
 
 mod ending;

@@ -1,7 +1,10 @@
-//! How a run ends: its status, the exit status of the program, and what the report says of it.
+//! How a run ends: its status, its exit code, and what the report says of it.
 //!
-//! The layers above use one table: the line of each status ([`put_fault_line`]) and its code ([`Status::code`]). [`journal_of`] gives
-//! the text of a desk's journal, with which a report begins. What a sink told before and after a call is the record `Told`.
+//! [`Status::code`] gives the code of each status, and [`put_fault_line`] appends its line
+//! (`fault_text` of `specs/Texts.antt`). [`journal_of`] gives the text of a desk's journal, with
+//! which a report begins.
+//!
+//! Not promised: the line of `Memory`.
 #![tactic(auto)]
 
 mod ending;

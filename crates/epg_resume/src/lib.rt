@@ -1,10 +1,16 @@
-//! A run of `play` that is folded or goes on: with `--fold` its report is the checkpoint of its journal and of its air, and with
-//! `--resume` it goes on from such a checkpoint as if the head-end had not been stopped.
+//! A run of `play` that writes a checkpoint (`--fold`), or goes on from one (`--resume`).
 //!
-//! The promises are on [`run_folded`], in the record `FoldRun`, and on [`run_resumed`], in `ResumeRun`; `FoldRan` and
-//! `ResumeRan` say them of a call. A checkpoint of a journal and of an air of it is never refused. Played on, the entries
-//! are those behind that journal, the cycles make one air with those before, and, folded again, the report is the checkpoint
-//! of both together. A file that holds no checkpoint is refused before any step is done.
+//! The promises are on [`run_folded`] (the record `FoldRun`) and [`run_resumed`] (`ResumeRun`).
+//! With `--fold` the report is the checkpoint of the run's journal and air. Such a checkpoint is
+//! never refused. With `--resume` the entries go on from that journal, and the packets make one air
+//! with those before. Folded again, the report is the checkpoint of both runs together. A file that
+//! is no checkpoint is refused before any step is done.
+//!
+//! Tested in `resume_rows`: scripts cut after each swap, joined again and compared with the whole;
+//! refused checkpoints; files that cannot be opened or read.
+//!
+//! Not promised: how far apart sections are, how a cut cycle is heard, and what is left after
+//! Memory.
 #![tactic(auto)]
 
 mod begin;

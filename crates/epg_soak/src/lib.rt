@@ -1,9 +1,15 @@
-//! A run of `soak`: a load of its own making. The number of the load gives the texts of the input and of two feeds; they are run as `live`
-//! runs them, with three cycles, heard from packet 0 on, and the report is a summary.
+//! A run of `soak`: a load of its own making, run as `live` runs it, and a summary.
 //!
-//! The promise is on [`run_soak`], in the record `SoakRun`. With Done, and where the air tells what it took, the summary is the one that
-//! the number determines, all edits done and the guide whole, however the threads interleave. What was sent is an air of the journal, or
-//! the first bytes of one where the air failed. Where neither the air nor the report fails, the run ends with Done, but for want of memory.
+//! The promise is on [`run_soak`], in the record `SoakRun`. The texts of input and feeds come from
+//! the number of the load; the run has three cycles and is heard from packet 0 on. With Done, where
+//! the air shows what it took, the summary is the one that the number determines: all edits done
+//! and the guide whole, however the threads interleave. What was sent is an air of the journal, or
+//! the first bytes of one where the air failed. Where neither air nor report fails the status is
+//! Done, if memory lasts.
+//!
+//! Tested in `epg_live_rows`: the summaries of some numbers, a failing air or report.
+//!
+//! Not promised: that the threads overlap in time, and what is left with Memory.
 #![tactic(auto)]
 
 mod feed_texts;

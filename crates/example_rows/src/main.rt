@@ -1,7 +1,8 @@
-//! The examples, as a program.
+//! The examples as tests, run by `run` over the files of its folder `data`.
 //!
-//! A row is a command line, and the program prints it with what the run leaves: `> play < week.txt`. The files are those of the folder
-//! in which it runs, `data`, which `examples/` shows. An empty line and a line that begins with `#` are printed as they are.
+//! A row is a command line, and the program prints it with what the run leaves: status, journal,
+//! and the number and CRC of the packets. For `live` it prints what no order of its threads
+//! changes.
 #![tactic(auto)]
 
 mod rows;

@@ -1,7 +1,7 @@
-//! Texts of fields that stand both in a journal and in a printed guide: genres.
+//! The text of genres, for fields of a journal and of a printed guide.
 //!
-//! The layers above use one fact of each call: what it appends is the text that the definitions say. After want of memory a part of it
-//! may have been appended.
+//! [`put_genres`] appends exactly the text that the definition says. Where memory runs out a part
+//! of it may have been appended.
 #![tactic(auto)]
 
 mod genres;

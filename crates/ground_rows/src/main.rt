@@ -1,8 +1,10 @@
-//! The rows of the ground: each line of the input is a call and its arguments, and the program prints what the call
-//! gives. `stdin` says at its head how arguments are written; `stdout` is the table of what must be printed.
+//! Tests of the ground: lines, recordings, texts, times, bytes, shared pages and the texts of
+//! loads.
 //!
-//! A line without a byte and one that begins with `#` are printed as they are. What is no row has the answer `no row`.
-//! What no row can say, as a source that fails, stands in the tests beside it.
+//! A line of `stdin` is a call with its arguments, and the program prints what it gives; `stdout`
+//! is the table to compare with the standards. What is no row gets the answer `no row`. Tests
+//! beside it have what no row can say: failing sources and sinks, texts and recordings in pieces of
+//! each size, adapters over streams, pages that cross threads.
 #![tactic(auto)]
 
 mod bytes;

@@ -1,13 +1,18 @@
-//! The viewers' board: what is on now and next of each service, for viewers that read while another thread posts guides.
+//! A board of what is on now and next, for viewers that read while another thread posts guides.
 //!
-//! The layers above use this. `board` opens a board with its first post, and gives its writer and so many viewers. The
-//! posts are the opening guide and each that was posted, in order. Contracts see a writer, what it told, and a viewer alike,
-//! as a `Sight`: which board it is of, and the posts that it knows of, from the opening one on. `Viewer::now_next` answers
-//! from one post, with its number and the present and following event of a service; no post that this viewer saw or learnt
-//! is newer, and it has then seen this one. A `Told` carries what was posted to a viewer, which then sees no less
-//! (`Viewer::learn`). Neither call waits or takes memory. That a viewer sees a post of which it was not told is not said.
+//! `board` opens a board with its first guide, and gives its writer and the viewers;
+//! `BoardWriter::post` adds a guide. `Viewer::now_next` gives the number of one post with the
+//! present and following event of a service, or says that its guide has no such service. That post
+//! is not older than any that this viewer saw or learnt before (`seen`, `answer`, `served`).
+//! `BoardWriter::tell` gives a `Told` with what was posted; a viewer that learns it sees no older
+//! post (`Viewer::learn`). `now_next` and `learn` neither wait nor take memory. The writer is ended
+//! by `close`, and the viewers go on.
 //!
-//! The writer is not `Drop`: it is ended by `close`, and the viewers go on.
+//! Tested in `board_rows`: a viewer that learnt nothing reads what another thread posted; a viewer
+//! whose writer is closed.
+//!
+//! Not promised: that a wait ends, and that a viewer that learnt nothing knows only posts of its
+//! writer.
 #![tactic(auto)]
 
 mod kept;

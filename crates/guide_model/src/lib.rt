@@ -1,8 +1,8 @@
-//! The records of a guide: events, services, what a multiplex sends beside them, and what a receiver shows of it
-//! (EN 300 468, 5.2 and 6.2).
+//! The records of a guide: events, services, and what a receiver shows of a multiplex (EN 300 468,
+//! 5.2 and 6.2).
 //!
-//! The layers above use the records as they stand, and that a copy of a guide equals its source. Every list is an
-//! `Items`: contracts see its elements alone.
+//! A list in these records is an `Items`, which contracts see as its elements. A copy of a guide
+//! equals its source (`Guide::copy`).
 #![tactic(auto)]
 
 mod event;

@@ -1,11 +1,13 @@
-//! What a receiver hears of the packets of a transport stream (ISO/IEC 13818-1, 2.4; EN 300 468, 5.1 and 5.2): the sub-tables that
-//! are complete, each with its version_number, and the guide that they make. What counts are the sections of PAT, PMT, NIT, SDT and event
-//! information of this multiplex, in force, whose body is one of their table; a section with a broken body is passed over. The time of day
-//! is that of the last TDT.
+//! A receiver of packets: the tables that it completes, and the guide that they make
+//! (ISO/IEC 13818-1, 2.4; EN 300 468, 5.1 and 5.2).
 //!
-//! The layer above uses two facts: a [`Receiver`] stands for the packets that it heard (`ReceiverStandsFor`), and [`Receiver::hear`] gives
-//! just the completions that the definitions show at one packet more (`dones_by`), and [`Receiver::guide`] just the guide of these packets
-//! (`guide_of`). [`write_done`] appends the line of a completion.
+//! [`Receiver::hear`] takes one packet more and gives exactly the completions that this packet
+//! brings (`dones`), by the definition over all packets heard. A section with a broken body is
+//! passed over. The time of day comes from the last TDT. `TooMany` comes only where the counted
+//! sections have more than 65,536 keys, and no completion comes where they have (`too_many`,
+//! `few`). [`Receiver::guide`] gives exactly the guide of these packets: the needs that are not
+//! met, or the whole screen (`guide_of`). After `Memory` and `TooMany` nothing more is promised of
+//! a receiver. Not promised: that a repeated section costs no CRC.
 #![tactic(auto)]
 
 mod clock;

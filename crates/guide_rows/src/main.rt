@@ -1,9 +1,10 @@
-//! The rows of hearing: reads rows of text on its standard input, hears the packets of each, and compares what the receiver shows and
-//! prints with the lines that the row wants.
+//! Tests of hearing: what a receiver shows of packets, or still needs, and the guide that it
+//! prints.
 //!
-//! Each row that differs is printed as `FAIL` with its name and the first line that differs, and at the end stands how many rows there
-//! are. `stdin` has the rows, and its head says how they are written. What they want stands there from the worked rows of the format
-//! and from a program of reference, and not from this product. Sections and packets are written here and not by the product's crates.
+//! A row of `stdin` has sections or packets, and the lines that are wanted. The program prints
+//! `FAIL` for each row that differs, with the first such line, and the number of rows. The wanted
+//! lines come from the format's worked examples and from a program of reference. Sections and
+//! packets are made here, without the product's crates.
 #![tactic(auto)]
 
 mod air;

@@ -1,12 +1,12 @@
-//! What a receiver shows of the sub-tables that it heard whole: the needs that are not met, or the whole screen (ISO/IEC 13818-1,
-//! 2.4.4; EN 300 468, 5.2).
+//! What a receiver shows of the tables that it completed, or still needs (ISO/IEC 13818-1, 2.4.4;
+//! EN 300 468, 5.2).
 //!
-//! The layer above uses `heard_guide`: of a collector and what was completed last (`Latest`), which are what a view has (`Holds` of
-//! `specs/Holding.antt`), it gives what the view has to show (`heard_of` of `specs/Screen.antt`).
-//!
-//! `specs/View.antt` says what a receiver has, `specs/Reading.antt` what the bodies of its tables say by computing, which is just what
-//! they are read as (`bodies_say_what_is_read`), `specs/Needs.antt` what it needs, and `specs/Screen.antt` what it shows; the screen is
-//! whole exactly where there is no need (`screens_need_nothing`). `specs/Rows.antt` has worked screens.
+//! `heard_guide` gives exactly the needs that are not met, in order, or else the whole screen, with
+//! the moment of the last TDT. The screen is whole exactly where nothing is needed
+//! (`screens_need_nothing`). `specs/Needs.antt` says what is needed, `specs/Screen.antt` what is
+//! shown, and `specs/Reading.antt` what table bodies say; that agrees with the readers
+//! (`bodies_say_what_is_read`). Worked screens stand in `specs/Rows.antt`. Not promised: that it
+//! fails only where memory runs out.
 #![tactic(auto)]
 
 mod bodies;

@@ -1,10 +1,10 @@
-//! The text of a guide that was heard: the report of a receiver.
+//! The text of a guide that was heard, as `listen` and `live` print it.
 //!
-//! The layers above use one fact: [`print_heard`] appends just the text that the definitions say (`guide_text` of
-//! `specs/Guides.antt`), or it finds no memory and appends nothing.
-//!
-//! A line is a word and fields, with tabs between. `specs/Fields.antt` says what each kind of field is written as, and
-//! `specs/Guides.antt` has the table of the lines. `specs/Rows.antt` has worked guides.
+//! [`print_heard`] appends exactly the text that the definitions say (`guide_text`), or nothing
+//! where memory runs out. A line is a word and fields with tabs between. `specs/Fields.antt` says
+//! how each kind of field is written, and `specs/Guides.antt` has the table of the lines. A moment
+//! that 16 bits of days cannot hold, or a duration of 100 hours or more, is written as an empty
+//! field. Not promised: that no heard guide has one.
 #![tactic(auto)]
 
 mod event;

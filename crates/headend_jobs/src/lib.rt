@@ -1,13 +1,15 @@
-//! What the steps of a desk put on air: one cycle for each swap, of the sub-tables of the publication that the swap names; and the jobs of
-//! feeds, control, player and viewers side by side.
+//! What a desk puts on air, and the threads of feeds, control, player and viewers at one desk.
 //!
-//! The layers above use one contract: after a swap [`send_on_air`] sends the whole cycle of what is on air, so that the air stays the
-//! air of the journal's airing list, or it tells that the air failed, and then the air has a proper front of that last cycle.
-//! [`send_cycle`] does the same of a publication that was taken from a desk.
-//! A publication has the service information of the whole multiplex (ISO/IEC 13818-1, 2.4.4; EN 300 468, 5.2).
+//! [`send_cycle`] adds one whole cycle of a publication to the air, or a proper prefix of it where
+//! a write failed; lack of memory sends nothing. [`send_on_air`] does so with what is on air at the
+//! desk. The player is then at the end of a cycle, and all cycles together are one air.
+//! [`run_hall`] runs these threads, into any sink. Its clause `did` (`HasRun`) says what holds
+//! however they interleave: one legal journal with the commands of each caller, an air of that
+//! journal, and each caller's stop. Its other clauses say what was posted on the board (`posted`),
+//! what the viewers were answered (`views`), and that a failed write has its cause (`cause`). A
+//! swap is posted on the board before its cycle is sent.
 //!
-//! [`run_hall`] runs the jobs of a run in threads, over one desk that they use in turns, into any sink. Its contract, `HasRun`, says of
-//! the run what holds however its threads interleave. What is put on air is posted on a board first, for viewers that ask beside it.
+//! Tested by whole runs in `headend_rows`. Not promised: that the threads overlap in time.
 #![tactic(auto)]
 
 mod jobs;

@@ -1,7 +1,9 @@
-//! The program: standard input is the input, standard output the air, standard error the report.
+//! The program `lepnugan`: standard input is the input, standard output the air, standard error the
+//! report.
 //!
-//! The adapters over the standard streams and the files are proved against the traits that the top call asks for; that the real
-//! streams and files behave so is not proved. All else is the top call's.
+//! It drops the first word, the program's name, calls `run` of `epg_cli`, and exits with the code
+//! of the status. Words that are not valid text give `Usage`. `main` has no contract. Tested: one
+//! stored run, from the standard streams to six packets.
 #![tactic(auto)]
 
 use epg_cli::{Status, run};

@@ -1,6 +1,9 @@
-//! Worked examples of whole runs, as tests alone: what `run` leaves in the air and in the report, and its status.
+//! Tests of whole runs of `play` by `run`, as functions: what they leave in the air and in the
+//! report, and their status.
 //!
-//! They stand on the contract of `epg_cli` and on sources and sinks in memory. Each end fails at each of its calls in turn.
+//! They cover each kind of line, replies and limits of edits, faults of a description, kept
+//! outcomes that disagree, versions and counters, and the smallest run byte for byte. Each read and
+//! each write fails in turn. The order of reads and writes is tested too.
 #![tactic(auto)]
 
 #[cfg(test)]

@@ -1,8 +1,11 @@
-//! The sections of packets that count, and the completions that they show (ISO/IEC 13818-1, 2.4.4; EN 300 468, 5.1): those of PAT, PMT,
-//! NIT, SDT and event information of this multiplex, in force, whose body is one of their table.
+//! Which sections of a packet list count, and the completions that they give (ISO/IEC 13818-1,
+//! 2.4.4; EN 300 468, 5.1).
 //!
-//! The layers above use: [`counted_section`] gives the section that counts, or nothing (`counted_in` of `specs/Counting.antt`); what a
-//! packet list shows is `dones_of` of `specs/Dones.antt`; [`write_done`] appends the line of a completion.
+//! A section counts where it is current, is of PAT, PMT, NIT, SDT or event information of this
+//! multiplex, and its body is one of its table. [`counted_section`] gives the section that counts,
+//! or `None` exactly where it does not. The completions of a packet list are `dones_of`
+//! (`specs/Dones.antt`). [`write_done`] appends the `done` line of a completion, or nothing where
+//! memory runs out.
 #![tactic(auto)]
 
 mod counting;

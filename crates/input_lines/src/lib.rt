@@ -1,10 +1,15 @@
-//! The lines of input as records: the fields of a line, the numbers in them, and the lines that are no records.
+//! Lines as records: the fields of a line, the numbers in them, and which lines are passed over.
 //!
-//! The layers above use: [`fields`] gives the fields of the one record that csv reads of a line, or nothing where the
-//! line is too long, no UTF-8 or has a control character; [`numeral`] and [`number`] read a field as a number;
-//! [`next_record_line`] goes on to the next line that is not passed over, in whatever pieces the source gives its text. What is read of
-//! the lines ahead of a reader, value after value, and what a call that reads one tells, is defined here once for all that reads lines
-//! (`ReadOf`, `NextOf`), with its lemmas; the one stop of such a call is an [`EditStop`].
+//! [`fields`] gives exactly the fields of the one record that csv reads of a line. It gives `None`
+//! exactly where the line has more than 16,384 bytes, is not UTF-8 or has a control character.
+//! [`numeral`] and [`number`] read a field of one to nine digits. [`next_record_line`] gives the
+//! next line that is not empty and no comment, however the source cuts its text (`NextRecord`).
+//! Where a read fails, each line that was whole by then was passed over. `ReadOf` and `NextOf` are
+//! the records of clauses for every call that reads a value from lines; [`EditStop`] says why such
+//! a call stopped.
+//!
+//! Not promised: that csv reports only that memory ran out; each of its errors over a slice is
+//! taken as that.
 #![tactic(auto)]
 
 mod numbers;

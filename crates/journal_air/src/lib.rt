@@ -1,7 +1,10 @@
-//! What a journal puts on air: an airing for each swap, of the sub-tables of the publication that the swap names, at its moment. Each
-//! airing of a legal journal can be sent and heard (ISO/IEC 13818-1, 2.4.4; EN 300 468, 5.2), and all together carry at most 1,155 keys.
+//! What a journal puts on air: one airing for each swap (ISO/IEC 13818-1, 2.4.4; EN 300 468, 5.2).
 //!
-//! This crate has definitions and laws alone. A law is a function with an empty body, whose clause is the law.
+//! It has no code, only definitions and laws. `airings` is the list of what the swaps of a journal
+//! put on air: the sub-tables of the publication that each swap names, and its moment. Each airing
+//! of a legal journal can be sent and heard, and receivers count all its tables
+//! (`airings_can_be_heard`). All airings together carry at most 1,155 keys
+//! (`airings_have_few_keys`).
 #![tactic(auto)]
 
 mod laws;

@@ -1,8 +1,11 @@
-//! The journal's text: what the report says of each step of a desk and of its outcome.
+//! The text of a journal, as the report has it; it is a script again.
 //!
-//! An entry is the line of its command behind its caller's number, the lines of a day's items, and the line of its outcome behind
-//! `=,`. The layers above use one fact of each call that writes: what it appends is the text that the definitions say, or it finds no memory and appends nothing.
-//! Such a text is a script; `script_lines` reads it ([`next_item`]).
+//! An entry is the line of its command after its caller's number, the lines of a day's items, and
+//! the line of its outcome after `=,`. `write_entry`, `write_entry_with` and `write_outcome` append
+//! exactly the text that the definitions say, or nothing where memory runs out. A written outcome
+//! reads back as the outcome (`outcomes_read_back`), and a readable entry as its step and outcome,
+//! whatever follows (`entries_read_back`). Journals whose edits were read from lines are equal
+//! where their texts are (`journals_differ_in_their_texts`).
 #![tactic(auto)]
 
 mod entry;

@@ -1,7 +1,9 @@
-//! Rows of whole runs of `listen`, as a program.
+//! Tests of whole runs of `listen` by `run`.
 //!
-//! A row is `call arguments`, and the program prints it with what it gives: `call arguments = answer`. An empty line and a line
-//! that begins with `#` are printed as they are. The head of the rows explains their calls.
+//! A row is `call arguments`, and the program prints `call arguments = answer`. The head of `stdin`
+//! explains the calls. Rows cover empty, short, broken and hostile recordings, 10,000 packets,
+//! 65,536 keys and one more, parts of a cycle, and each line of a guide. Each read and write fails
+//! in turn.
 #![tactic(auto)]
 
 mod recording;

@@ -1,6 +1,8 @@
-//! How next things are cut into runs within a limit: each run takes the next thing where it still fits.
+//! How things in order are split into groups within a limit, each as long as possible.
 //!
-//! This crate has definitions and a law alone: [`runs_are_longest`] says what the longest runs are.
+//! It has no code, only definitions and one law. Things that fit by themselves are split so that
+//! the groups join to the whole, each is within the limit, and none could take one thing more
+//! (`runs_are_longest`).
 #![tactic(auto)]
 
 mod laws;

@@ -1,7 +1,13 @@
-//! The description of a multiplex: its network, its stream and its services (EN 300 468, 5.2.1 and 5.2.3).
+//! The description of a multiplex: its network, stream and services (EN 300 468, 5.2.1 and 5.2.3).
 //!
-//! [`read_mux`] reads a description from the lines of a text, and gives its multiplex, which is sound, or its first fault.
-//! The records that it makes are those of `mux_model`.
+//! [`read_mux`] gives the multiplex that the lines describe, which is sound, or exactly their first
+//! fault; lines after `end` are left unread. That holds however the source cuts its text. A source
+//! that does not show its text gives the lines that make the multiplex or the fault, and no more
+//! than needed are taken. Where a read fails, the lines that were whole have neither a fault nor
+//! the end. Each whole description makes a sound multiplex, whose names may be kept
+//! (`whole_descriptions_are_sound`, `described_texts_are_kept`).
+//!
+//! Tested in `desk_rows`: descriptions cut into pieces. Not promised: how long a description takes.
 #![tactic(auto)]
 
 mod fault;

@@ -1,7 +1,8 @@
-//! The records of a multiplex: its network, its stream and its services (EN 300 468, 5.2.1 and 5.2.3).
+//! The records of a multiplex: its network, its stream and its services (EN 300 468, 5.2.1 and
+//! 5.2.3).
 //!
-//! The layers above use the records as they stand, what makes a multiplex sound (`IsSound` of `specs/Sound.antt`), and that
-//! a copy equals its source.
+//! `IsSound` (`specs/Sound.antt`) is what makes a multiplex sound. A copy equals its source
+//! (`Mux::copy`).
 #![tactic(auto)]
 
 mod mux;

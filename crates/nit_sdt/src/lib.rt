@@ -1,11 +1,12 @@
-//! The bodies of the tables of networks and services, both ways: the network information table and the service description table
-//! (EN 300 468, 5.2.1 and 5.2.3).
+//! The bodies of NIT and SDT (EN 300 468, 5.2.1 and 5.2.3).
 //!
-//! The layers above use: `write_nit` and `write_sdt` give the body of a section; `read_nit` and `read_sdt` give the value of a body,
-//! and `None` exactly where it has none; reading a written body gives its value back (`written_networks_read_back`). `is_nit_body` and
-//! `is_sdt_body` tell whether a body is one, and make no value (`read_networks_are_bodies`, `written_networks_are_bodies`). `service_len`
-//! tells what a service adds to the body of a section, for those who part services among sections, and `bodies_have_their_sizes` how
-//! long bodies are.
+//! `write_nit` and `write_sdt` give the body of a section. `read_nit` and `read_sdt` give the one
+//! value of a body, or `None` exactly where it has none. Written bodies read back
+//! (`written_networks_read_back`). `service_len` gives the size of a service's entry, for whoever
+//! splits services into sections. `bodies_have_their_sizes` says how long bodies are. `is_nit_body`
+//! and `is_sdt_body` say whether bytes are such a body, without taking memory. They accept exactly
+//! the bodies that are read, and so each written one (`read_networks_are_bodies`,
+//! `written_networks_are_bodies`).
 #![tactic(auto)]
 
 mod laws;

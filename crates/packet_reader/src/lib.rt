@@ -1,9 +1,16 @@
-//! The packets of a recording.
+//! The packets of a recording, one by one.
 //!
-//! A [`PacketReader`] gives the packets of a source one by one, by large reads, and each where it lies in the buffer. Its contract for
-//! the layer above is the clause `packets` of [`PacketReader::next`]: where the source tells its bytes, the calls give the packets of
-//! that recording, however the source is cut into pieces, and then its stop: the end, a piece that is no packet, or a byte behind the
-//! 4,294,967,295th packet.
+//! [`PacketReader::next`] gives the packets of 188 bytes, however the source is cut into pieces
+//! (`packets`, `takes`, `counts`). It stops at the end, at a piece that is no packet, or at a byte
+//! after packet 4,294,967,295, and stays stopped (`over`, `sticky`). A failed read has its cause
+//! (`cause`), and the bytes not yet handed out are then less than one packet. A packet is given
+//! where it lies in the buffer, and is not copied. When a call begins with a whole packet in the
+//! buffer it takes nothing from the source (`lazy`).
+//!
+//! Tested in `ground_rows`: recordings longer than the buffer, reads of each size, a failed read at
+//! each place.
+//!
+//! The limit of packets is reached by no test.
 #![tactic(auto)]
 
 mod reader;

@@ -1,8 +1,7 @@
-//! The rows of publications: reads rows of text on its standard input, and prints each with what its call gives. A blank line and a
-//! line that begins with `#` are printed as they are.
+//! Tests of publications: `build` of `publication`, and `Checker` of `air_audit`.
 //!
-//! `stdin` has the rows, and its head says how they are written; `stdout` has what they give, which stands there from the standards
-//! and not from this program.
+//! A line of `stdin` is a call with its arguments, and the program prints it with what it gives.
+//! `stdout` has the expected values, to be compared with the standards.
 #![tactic(auto)]
 
 mod audits;

@@ -1,7 +1,8 @@
-//! What a receiver shows of a publication: a view that has its tables, the keys of its PAT, NIT and SDT, and a moment needs nothing more, and
-//! shows just the screen of the guide that was published (EN 300 468, 5.2).
+//! What a receiver shows that has completed the tables of a publication (EN 300 468, 5.2).
 //!
-//! This crate has definitions and laws alone. A law is a function with an empty body, whose clause is the law.
+//! It has no code, only definitions and a law. `screen_of` is the screen of a publication's guide.
+//! A receiver that has a publication's bodies, of schedules only its sections, and a moment shows
+//! exactly that screen, whole (`publications_are_shown`).
 #![tactic(auto)]
 
 mod laws;

@@ -1,4 +1,6 @@
-//! What programs of rows share that run feeds and player side by side: a gate that holds places of a run until others are passed.
+//! A gate for test programs: it holds places of a run of threads until others are passed.
+//!
+//! It has no contract. `live_rows` and `epg_live_rows` use it.
 #![tactic(auto)]
 
 mod gates;

@@ -1,5 +1,7 @@
-//! What programs of rows share: a row as it is read, word by word, and its answer as it grows; bytes, numbers, codes and texts in the
-//! notation of rows; and long texts in a notation that writes them out, with readers of their lines.
+//! What the test programs share: a row as it is read word by word, its answer, and the notation of
+//! bytes, numbers and texts.
+//!
+//! It has no contract. A row that cannot be read gets the answer `no row`.
 #![tactic(auto)]
 
 mod line;

@@ -1,9 +1,18 @@
-//! The lines of a script: edits, controls, commands and the outcomes that are kept behind them (the edits are of the events and the names
-//! of a service, EN 300 468, 5.2.4 and 6.2).
+//! The lines of a script: edits, control lines, commands, and the outcomes that a journal keeps
+//! after them (EN 300 468, 5.2.4 and 6.2).
 //!
-//! The layers above use [`next_edit`], [`next_control`] and [`next_item`], which give exactly the edits, the control lines, and the
-//! commands and kept outcomes of the lines ahead of a reader, and [`read_edit`], [`read_control`] and [`read_outcome`], which say what the
-//! fields of a line are. The records of an edit, a step and an outcome are those of `journal_model`.
+//! [`next_edit`], [`next_control`] and [`next_item`] give exactly the next edit, control line, or
+//! command or kept outcome ahead of a reader, or the end, or the stop with its line (`NextOf`).
+//! [`read_edit`], [`read_command`], [`read_control`] and [`read_outcome`] do so for the fields of
+//! one line (`ReadOf`). No more lines are taken than needed. Where a read fails, the lines that
+//! were whole are no whole edit and hold no refusal. What is read is what a desk accepts: numbers
+//! as wide as their fields, texts that may be kept, moments that can be written
+//! (`read_edits_are_typed`, `items_go_on`). Reading goes on edit by edit and item by item
+//! (`edits_go_on`, `items_go_on`). The fields of an edit read back as the edit (`edits_read_back`).
+//!
+//! Tested in `desk_rows`: edits cut into pieces, control lines and scripts of each form.
+//!
+//! Not promised: that `Memory` comes only where memory runs out.
 #![tactic(auto)]
 
 mod control;

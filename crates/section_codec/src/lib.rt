@@ -1,10 +1,11 @@
-//! Sections and sub-tables: the bytes of a section both ways, and the keys by which sub-tables are named
-//! (ISO/IEC 13818-1, 2.4.4; EN 300 468, 5.1).
+//! Sections in bytes, and the keys that name sub-tables (ISO/IEC 13818-1, 2.4.4; EN 300 468, 5.1).
 //!
-//! `specs/Section.antt` has the bytes of a section and the section that bytes are, `specs/Keys.antt` the key
-//! of a section, `specs/Tables.antt` the tables by PID and table_id. Writers give those bytes, `read_section`
-//! that section or the first reason why there is none, and reading a written section gives it back. `specs/SubTables.antt` says
-//! which sub-tables can be sent, `specs/Contents.antt` what a content is.
+//! `write_long`, `write_short` and `put_section` give the bytes of a section, with its CRC.
+//! `read_section` gives exactly the section that bytes are, or the first reason to refuse them.
+//! Written sections read back (`written_sections_read_back`). `key_of` gives the key of a section:
+//! its PID, table_id and extension, as `specs/Keys.antt` says. `specs/SubTables.antt` says which
+//! sub-tables can be sent. `eit_numbers`, `segment_last`, `is_eit` and `same_content` are exact;
+//! `same_content` compares contents by value (`contents_are_compared`).
 #![tactic(auto)]
 
 mod content;

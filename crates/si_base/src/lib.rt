@@ -1,9 +1,13 @@
-//! The ground of the wire: lists as values of a contract, byte fields and the CRC.
+//! Lists, bytes and CRC_32: what every crate of the wire format stands on.
 //!
-//! `crc32` is the remainder of `specs/Crc.antt`, which goes bit by bit (ISO/IEC 13818-1, annex A); it looks
-//! eight bytes up at a turn. A `Reader` is the bytes that are left. `Items` is the list of its elements.
-//! `put` appends bytes to a buffer that has room for them. `put_number` appends the digits of a number.
-//! No other call takes memory but `Items::push` and copies.
+//! `Items` is a list that contracts see as its elements, and `Copies` the trait of values whose
+//! copy equals its source. A `Reader` holds the bytes that are left; `take` cuts some off the
+//! front, or gives `None` where there are too few. `put` appends bytes to a buffer that has room
+//! for them, and `put_number` the decimal digits of a number. `crc32` is the bit-by-bit remainder
+//! of ISO/IEC 13818-1, annex A (`crc_of`), computed eight bytes at a time. Bytes followed by their
+//! CRC have CRC 0 (`crc_leaves_nothing`).
+//!
+//! Not promised: the speed of `crc32` (measured in `bench/`).
 #![tactic(auto)]
 
 mod appending;

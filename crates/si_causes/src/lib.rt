@@ -1,21 +1,16 @@
-//! What the product asks of the outside, and the lines of a source.
+//! What the program asks of the outside: sources, sinks, files, and the lines of a source.
 //!
-//! What comes from outside comes through three traits: a [`Source`] gives bytes, a [`Sink`] takes bytes, an
-//! [`Opener`] gives a source for a path. Each counts its faults, and a call answers [`Failed`] only where that
-//! count rose in the call, or stands at its last value, 2^64 - 1. So a caller that answers a fault can show its
-//! cause: a count that rose. What a source has still to give, and what a sink took, are meanings that an object
-//! tells or does not: bytes in memory are told, those of a file are not.
-//! A [`Gate`] is passed by the jobs of a run, so that a test can hold them in an order of its own.
+//! A [`Source`] gives bytes, a [`Sink`] takes bytes, an [`Opener`] gives a source for a path. Each
+//! counts its faults: a call gives [`Failed`] only where that count rose or stands at its last
+//! value, 2^64 - 1. Contracts see the bytes that are left in a source and that a sink took where
+//! these are in memory; of a file they see nothing. [`LineReader::next`] gives the lines of a
+//! source, however its bytes are cut into pieces (`lines`, `came`). It stops at the end or after
+//! 67,108,864 bytes, and stays stopped (`limit`, `sticky`); a call that finds a whole line in the
+//! buffer takes nothing from the source (`lazy`). [`write_all`] writes all bytes or gives the
+//! failure (`done`, `failed`, `cause`). Sources, sinks and openers in memory do exactly what their
+//! definitions say. A [`Gate`] lets a test hold the threads of a run in an order of its own.
 //!
-//! A [`LineReader`] gives the lines of a source. Its contract for the layer above is the clause `lines` of
-//! [`LineReader::next`]: where the source tells its bytes, the calls give the lines of that text one by one,
-//! however the source is cut into pieces, and then its stop: the end, or a byte past the 67,108,864th. Where it
-//! does not tell them, `came` says the same of the bytes that it gave.
-//! Readers keep what was read and not yet used in a [`ReadBuffer`].
-//!
-//! A list that is handed in brings its allocator: [`MemSource::open`] and [`NeverFails::open`] take none.
-//! [`MemSink::open`], [`MemOpener::open_with`], [`ReadBuffer::new`] and [`LineReader::open`] make lists of their own,
-//! and take it first.
+//! Tested in `ground_rows`: large reads, each byte searched once.
 #![tactic(auto)]
 
 mod causes;

@@ -1,4 +1,5 @@
-//! Lemmas of lists, options, results and truth values that name nothing of a multiplex and that `std` does not have.
+//! Lemmas on lists, options, results and truth values that `std` lacks and that say nothing about
+//! DVB.
 //!
-//! This crate has lemmas alone. One stands here as soon as two crates need it.
+//! It has no code, only lemmas. A lemma moves here as soon as a second crate needs it.
 #![tactic(auto)]

@@ -1,10 +1,11 @@
-//! Texts: kept texts, which have no control character, and how they are coded in descriptors and read there
-//! (EN 300 468, annex A).
+//! Texts and their coded form in descriptors (EN 300 468, annex A).
 //!
-//! The layers above use: a `Txt` never has a control character; `coded_len` and `encode_text` are the length and the
-//! bytes of the coded form; `decode_text` shows bytes, and what was encoded from a `Txt` as that text; `cut_len` cuts a
-//! long text into pieces that join to it. A `Txt` knows whether it is plain, so that its coded length is found without a
-//! look at it, and `plain_cut_len` cuts one that is.
+//! A `Txt` has no control character; `Txt::of` takes exactly such texts. `encode_text` and
+//! `append_text` give the coded bytes, and `coded_len` their number. `decode_text` gives exactly
+//! what bytes are shown as. An encoded text decodes to itself (`coded_texts_decode`). `cut_len`
+//! gives the longest prefix that one descriptor takes (`size`, `whole`, `fits`, `longest`). The
+//! pieces of a long text join to that text (`pieces_join`). A `Txt` knows whether it is plain, so
+//! its coded length is found without reading it again, and `plain_cut_len` cuts it.
 #![tactic(auto)]
 
 mod coding;

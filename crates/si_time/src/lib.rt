@@ -1,5 +1,9 @@
-//! Times of service information: moments as seconds since Modified Julian Date 0 (EN 300 468, annex C), days and
-//! durations, read and written as texts and in BCD. No call takes memory.
+//! Moments, days and durations, as texts and in BCD (EN 300 468, 5.2.4, 5.2.5 and annex C).
+//!
+//! A moment is a number of seconds since Modified Julian Date 0. Each reader gives the exact value,
+//! or `None` exactly where there is none (`value`, `some`). Writing and reading are inverse
+//! (`written`, `back`). Dates follow the civil calendar (`date`) and annex C (`annex_c`).
+//! `has_shape` says whether a text has the shape of a moment. No call takes memory.
 #![tactic(auto)]
 
 mod dates;

@@ -1,8 +1,10 @@
-//! A load that is made of a number: the description of a multiplex of eight services, the edits of its two feeds for 14 days, and the lines
-//! of the control. One number gives the same three texts wherever they are made.
+//! A load made from a number: the description of eight services, the edits of two feeds for 14
+//! days, and the control's lines.
 //!
-//! The layer above uses one fact of each call: its text is exactly that of the definitions (`specs/Texts.antt`, over `specs/Shows.antt`).
-//! No call gives or takes a `Show`: it is what the definitions speak of.
+//! `made_mux`, `made_feed` and `made_control` give exactly the texts of the definitions
+//! (`specs/Texts.antt`), so one number always gives the same texts.
+//!
+//! Tested in `ground_rows`: lengths and sums of the texts.
 #![tactic(auto)]
 
 mod control;

@@ -1,9 +1,11 @@
-//! Standard streams as sources and sinks, and the files of the host as an opener: adapters over any reader, any writer and any files of
-//! `std`.
+//! Standard streams and files of the host as sources, sinks and an opener.
 //!
-//! All are proved against the traits of `si_causes`, from what `std` says of readers and writers: what a source has still to give is
-//! what its reader tells, and each error of the reader is a fault. A path that cannot be opened is a fault of its opener. That the real
-//! streams and files behave as `std` says is trusted.
+//! They are adapters over any reader, writer and files of `std`, proved against the traits of
+//! `si_causes`. Each error of a reader is a fault, and so is a path that cannot be opened.
+//!
+//! Tested in `ground_rows`: a reader is a source, and standard error takes a line.
+//!
+//! Trusted: that the real streams and files behave as `std` says, and give and keep their bytes.
 #![tactic(auto)]
 
 mod opening;

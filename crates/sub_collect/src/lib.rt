@@ -1,11 +1,15 @@
-//! Sub-tables of the sections that are heard: a sub-table is complete when one version of it was heard whole
-//! (ISO/IEC 13818-1, 2.4.4; EN 300 468, 5.1.1).
+//! The sub-tables that heard sections complete (ISO/IEC 13818-1, 2.4.4; EN 300 468, 5.1.1).
 //!
-//! A `Collector` stands for a list of counted sections, in the order in which they ended (`CollectorStandsFor` of
-//! `specs/Collectors.antt`). `take` counts one section more, and tells whether it shows a completion
-//! (`shown_at` of `specs/Completions.antt`); `latest` is the latest completion of a key. What a key's sections
-//! complete is said in `specs/Runs.antt`. It keeps at most 65,536 keys (`key_count` of `specs/KeyCounts.antt`): `take` refuses
-//! the section that would bring one more.
+//! `Collector::take` counts one section more, and gives a completion exactly where the sections of
+//! one version now hold all that is needed, with a version or content that is new (`shown`). It
+//! refuses the section that would bring key 65,537 (`too_many`), and an error changes nothing
+//! (`unchanged`). `latest` gives the last completion of a key, and `keys` how many keys there are.
+//! Where `repeats` is true the section would change nothing and show nothing. Completions of a key
+//! do not depend on other keys (`completions_by_key`). A version that was carried whole completes
+//! (`whole_versions_complete`, `runs_complete_their_content`), and is shown once
+//! (`contents_are_shown_once`). For event information the needed sections go by segments.
+//!
+//! Not promised: that a repeated section costs one comparison.
 #![tactic(auto)]
 
 mod collector;

@@ -1,11 +1,11 @@
-//! Entries of tables: some fields, four bits, and descriptors behind a length of 12 bits. The loops of the PMT (ISO/IEC 13818-1,
-//! 2.4.4.8), the NIT, the SDT and the EIT (EN 300 468, 5.2.1, 5.2.3 and 5.2.4) are lists of such entries; they differ in how many
-//! bytes their fields have.
+//! The entries of a table: fields, four bits, and descriptors after a length of 12 bits.
 //!
-//! The layers above use: [`split_entry`] cuts an entry off the front of bytes, and [`read_entries`] reads a whole loop of a kind of
-//! entries ([`EntryKind`]). Bytes are the entries of one list of values at most (`AreEntries`, in `specs/`). [`are_entries`] and
-//! [`behind_entry`] look at entries without reading them, by the words of `specs/Loops.antt`; the lemmas that tie both are in
-//! `proofs/Looks.antt`. [`are_bytes`] tells that what stands in a slice is bytes (`AreBytes`).
+//! The loops of PMT (ISO/IEC 13818-1, 2.4.4.8), NIT, SDT and EIT (EN 300 468, 5.2.1, 5.2.3 and
+//! 5.2.4) are lists of such entries, with fields of different sizes. [`split_entry`] cuts an entry
+//! off the front of bytes, or gives `None` exactly where they end within it. [`read_entries`] gives
+//! the values of a whole loop of a kind of entries ([`EntryKind`]), or `None` exactly where bytes
+//! are no such loop. [`are_entries`] and [`behind_entry`] check entries without making values.
+//! [`are_bytes`] does nothing when run; it shows contracts that the numbers of a slice are bytes.
 #![tactic(auto)]
 
 mod byte;

@@ -1,7 +1,7 @@
-//! The time and date table, both ways (EN 300 468, 5.2.5).
+//! The time and date table, TDT (EN 300 468, 5.2.5).
 //!
-//! The layers above use: `write_tdt` gives the whole section; `read_tdt` gives the moment of its body, and `None` exactly where it has
-//! none; `read_section` of `section_codec` reads the written section, and reading its body gives the moment back
+//! `write_tdt` gives the whole section of a moment. `read_tdt` gives exactly the moment of a body,
+//! or `None` where it has none. `read_section` reads a written section, and its body reads back
 //! (`written_times_read_back`). No call takes memory.
 #![tactic(auto)]
 

@@ -1,9 +1,14 @@
-//! Hearing: the sections that a packet list carries, whatever packets come (ISO/IEC 13818-1, 2.4.3.3 and 2.4.4).
+//! The sections that packets carry, whatever packets come (ISO/IEC 13818-1, 2.4.3.3 and 2.4.4).
 //!
-//! `specs/Hearing.antt` has the sections that are heard of a stretch of packets, `specs/Arrivals.antt` repeats, gaps and
-//! stretches, `specs/Sections.antt` the sections of all PIDs in the order in which they end. A `Demux` stands for a packet
-//! list (`specs/Keeping.antt`) without storing it; `hear` gives the sections that one packet more ends. The laws of
-//! `specs/Laws.antt` are on `order_is_kept` and `carried_is_heard`: a layer that sends or hears whole airs relies on them.
+//! `Demux::hear` takes one packet more and gives exactly the sections that it ends, in order
+//! (`heard`). The definition speaks of the whole list of packets so far, which is not stored. One
+//! PID's sections are heard as if no other PID were there (`order_is_kept`). Any part of one PID's
+//! packets gives exactly the sections that begin and end in it, however they share packets
+//! (`carried_is_heard`).
+//!
+//! Tested in `wire_rows`: 40 lists of packets with the sections that the standard gives.
+//!
+//! Not promised: how much memory it takes.
 #![tactic(auto)]
 
 mod demux;

@@ -1,9 +1,13 @@
-//! Transport stream packets: sections cut into packets, continuity counters, and what a heard packet is
-//! (ISO/IEC 13818-1, 2.4.3.2 and 2.4.4.2).
+//! Transport stream packets: sections cut into packets, and continuity counters (ISO/IEC 13818-1,
+//! 2.4.3.2 and 2.4.4.2).
 //!
-//! No call but `Counters::kept` takes memory. A layer above relies on these contracts: `packet` gives the packets of a section that
-//! begins in a packet of its own, and `Packer` those of sections that share packets; the packets carry the sections
-//! (`packets_carry_sections`); `stamp` gives the next continuity_counter of the PID; `read_packet` says what a packet is by its header.
+//! `packet`, `put_packet` and `packets_of` give the packets of a section that begins a packet of
+//! its own. A `Packer` gives the packets of sections that share packets. The packets carry exactly
+//! the sections (`packets_carry_sections`). `read_packet` says exactly what a packet is by its
+//! header. `Counters::stamp` gives a packet the next continuity_counter of its PID. `next` gives
+//! that counter without stamping, and `count` counts a packet that has it already. `kept` gives the
+//! counter of each PID in ascending order, and `Counters::of` makes counters that go on from there.
+//! Only `kept` takes memory. Not promised: that it fails only where memory runs out.
 #![tactic(auto)]
 
 mod counters;

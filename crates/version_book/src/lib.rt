@@ -1,10 +1,16 @@
-//! Versions of sub-tables: how airings are listed, and the version_number of each sub-table at each airing
-//! (EN 300 468, 5.1.1; ISO/IEC 13818-1, 2.4.4.5).
+//! The version_number of each sub-table in each airing (EN 300 468, 5.1.1; ISO/IEC 13818-1,
+//! 2.4.4.5).
 //!
-//! `specs/Airings.antt` has airing lists and the version of a key at an airing: how often, up to there, what
-//! the key carried was another content than before, modulo 32. A `VersionBook` stands for an airing list
-//! (`specs/Book.antt`) without storing it; `assign` gives the versions of one airing more. `kept` gives what it
-//! keeps of each key, and `of` a book that goes on from that.
+//! An airing is what one swap puts on air: sub-tables and a moment. The version of a sub-table is
+//! the number of times that its content changed so far, modulo 32 (`specs/Airings.antt`). A
+//! `VersionBook` knows these versions without storing the airings; `assign` gives the versions of
+//! one airing more, whatever was aired before (`versions`, `each`). A sub-table that changes from
+//! one airing to the next gets another version (`versions_tell_contents`). `kept` gives the last
+//! version and content of each key in ascending order, and `VersionBook::of` makes a book that goes
+//! on from there. What a book keeps is determined by the airings (`books_keep_the_same`,
+//! `books_keep_what_was_carried`).
+//!
+//! Not promised: that `of` and `kept` fail only where memory runs out.
 #![tactic(auto)]
 
 mod book;

@@ -1,8 +1,7 @@
-//! The rows of the wire: reads rows of text on its standard input, and prints each with what its call gives. A blank line and a line
-//! that begins with `#` are printed as they are.
+//! Tests of bytes and hearing: the public calls of crates from `section_codec` to `guide_receiver`.
 //!
-//! `stdin` has the rows, and its head says how they are written; `stdout` has what they give, which stands there from the standards
-//! and not from this program.
+//! A line of `stdin` is a call with its arguments, and the program prints it with what it gives.
+//! `stdout` has the expected values, to be compared with the standards.
 #![tactic(auto)]
 
 mod bodies;

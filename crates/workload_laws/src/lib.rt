@@ -1,7 +1,11 @@
-//! What the load is that `si_workload` makes of a number, once its texts are read: the multiplex, the ticks and publishes, and the edits of
-//! each feed. In each journal of that load every edit is done, and at its end the guide has just the events of all items.
+//! What the texts of `si_workload` are read as, and that each of their edits is done.
 //!
-//! This crate has definitions and laws alone. A law is a function with an empty body, whose clause is the law.
+//! It has no code, only definitions and laws. The description makes the multiplex `soak_mux`, the
+//! control has three pairs of a tick and a publish, and each feed has 60 edits
+//! (`made_description_is_read`, `made_feeds_are_read`). In each journal of this load every edit is
+//! done, in whatever order the feeds interleave (`made_edits_are_done`). At the end there are 120,
+//! and the guide has as many events as the feeds have lines of items. The journal of a whole run
+//! has 132 entries (`made_runs_are_counted`).
 #![tactic(auto)]
 
 mod laws;

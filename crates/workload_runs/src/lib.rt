@@ -1,6 +1,8 @@
-//! What a run of `live` leaves over the made texts of a load: its journal is that of a whole run of the load.
+//! Laws: what a run of `live` leaves over the texts of the load.
 //!
-//! This crate has definitions and laws alone. A law is a function with an empty body, whose clause is the law.
+//! It has no code. The made texts are whole, so they decide that the status is Done where nothing
+//! fails (`made_texts_are_whole`). A run of three cycles with status Done has a journal of 132
+//! entries, and each of its 120 edits is done (`done_runs_are_counted`).
 #![tactic(auto)]
 
 mod laws;

@@ -1,6 +1,7 @@
-//! What a receiver shows at the end of a run of the load that `workload_laws` describes: the events of all items.
+//! A law: the screen after a whole run of the load has the events of all items.
 //!
-//! This crate has definitions and laws alone. A law is a function with an empty body, whose clause is the law.
+//! It has no code. However the callers interleave, the schedules on that screen have as many events
+//! as the feeds' texts have lines of items (`made_runs_are_shown`).
 #![tactic(auto)]
 
 mod laws;
