@@ -5,7 +5,7 @@
 //! packets that it heard, in order (`joined_air_is_heard`, `joined_repeating_air_is_heard`). A
 //! section heard is of an airing whose cycle has a packet among them, and of a cycle that was heard
 //! whole each section is heard (`cycles_are_heard`). Two contents under one version_number have
-//! another content between them, 32 changes apart (`versions_wrap`).
+//! another version between them, and are at least 32 changes apart (`versions_wrap`).
 #![tactic(auto)]
 
 mod laws;

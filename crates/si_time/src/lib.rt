@@ -3,7 +3,8 @@
 //! A moment is a number of seconds since Modified Julian Date 0. Each reader gives the exact value,
 //! or `None` exactly where there is none (`value`, `some`). Writing and reading are inverse
 //! (`written`, `back`). Dates follow the civil calendar (`date`) and annex C (`annex_c`).
-//! `has_shape` says whether a text has the shape of a moment. No call takes memory.
+//! `has_shape` says whether a text has a given shape, in which `d` stands for any digit. No call
+//! takes memory.
 #![tactic(auto)]
 
 mod dates;

@@ -2,9 +2,9 @@
 //!
 //! `Demux::hear` takes one packet more and gives exactly the sections that it ends, in order
 //! (`heard`). The definition speaks of the whole list of packets so far, which is not stored. One
-//! PID's sections are heard as if no other PID were there (`order_is_kept`). Any part of one PID's
-//! packets gives exactly the sections that begin and end in it, however they share packets
-//! (`carried_is_heard`).
+//! PID's sections are heard as if no other PID were there (`order_is_kept`). Any part of packets
+//! that carry sections on a PID gives exactly those that begin and end in it, however they share
+//! packets (`carried_is_heard`).
 //!
 //! Tested in `wire_rows`: 40 lists of packets with the sections that the standard gives.
 //!
