@@ -1,0 +1,53 @@
+"""What the tools know of this repository: where it is, its crates, and the blocks of its documents."""
+from __future__ import annotations
+
+from pathlib import Path
+from typing import Dict, Iterable, Iterator, List, NamedTuple, Set
+
+TOP = Path(__file__).resolve().parent.parent
+
+Crates = Dict[str, List[str]]
+
+
+class Block(NamedTuple):
+    """A fenced block of a document: the line of its fence (from 1), the word after the fence, and its lines."""
+
+    line: int
+    language: str
+    lines: List[str]
+
+
+def read_crates(top: Path = TOP) -> Crates:
+    """The crates of crates.txt in order, each with the crates that it may stand on."""
+    crates: Crates = {}
+    for line in (top / "crates.txt").read_text(encoding="utf-8").splitlines():
+        head, colon, below = line.split("#")[0].partition(":")
+        if colon and head.split():
+            crates[head.split()[0]] = below.split()
+    return crates
+
+
+def crates_below(names: Iterable[str], crates: Crates) -> Set[str]:
+    """These names, and all that they stand on, whether crates.txt has a line for it or not."""
+    found: Set[str] = set()
+    todo = list(names)
+    while todo:
+        name = todo.pop()
+        if name not in found:
+            found.add(name)
+            todo += crates.get(name, [])
+    return found
+
+
+def blocks_of(text: str) -> Iterator[Block]:
+    """The fenced blocks of a document, in order."""
+    block = None
+    for number, line in enumerate(text.splitlines(), 1):
+        if block is None:
+            if line.startswith("```"):
+                block = Block(number, line[3:].strip(), [])
+        elif line.startswith("```"):
+            yield block
+            block = None
+        else:
+            block.lines.append(line)
