@@ -65,7 +65,7 @@ ended_by-is past packet =
     let new = adds pid past (arrival_on pid packet) in
     ap (λ (x : List (List ℕ)). map (on_pid pid) (drop (length old) x)) (sections_on-push pid past packet) ∙ ap (map (on_pid pid)) (drop_at old new (length old) refl)
 
-mapped : (pid q : ℕ) (b : Bool) → (q == pid) ≡ b → (ss : List (List ℕ)) → filter_map (bytes_on pid) (map (on_pid q) ss) ≡ (if b then ss else [])
+pub mapped : (pid q : ℕ) (b : Bool) → (q == pid) ≡ b → (ss : List (List ℕ)) → filter_map (bytes_on pid) (map (on_pid q) ss) ≡ (if b then ss else [])
 mapped pid q true e [] = refl
 mapped pid q false e [] = refl
 mapped pid q true e (s ∷ ss) = ap (λ (x : Bool). cons_option (if x then Some s else None) (filter_map (bytes_on pid) (map (on_pid q) ss))) e ∙ ap (λ (x : List (List ℕ)). s ∷ x) (mapped pid q true e ss)

@@ -4,6 +4,7 @@ pub mod Heard
 pub mod Hear
 pub mod Machine
 pub mod Stretches
+pub mod Splitting
 pub mod Windows
 pub mod Adding
 pub mod Written

@@ -19,7 +19,7 @@ use Rattle.ts_demux.proofs.Windows.{length-pieces, left-append, heard_part}
 use Rattle.ts_demux.proofs.Adding.{elsewhere}
 
 -- a written packet arrives on its PID
-arrives : (pid : ℕ) → pid < 8191 → (p : Packet) → HasFields p → arrival_on pid (bytes_of_packet p) ≡ option_map Came (load_on pid p)
+pub arrives : (pid : ℕ) → pid < 8191 → (p : Packet) → HasFields p → arrival_on pid (bytes_of_packet p) ≡ option_map Came (load_on pid p)
 arrives pid small p h = go (p.pid == pid) refl
   where
     load : Load
@@ -39,12 +39,12 @@ cons-mapped : (o : Option Load) (ls : List Load) → cons_option (option_map Cam
 cons-mapped None ls = refl
 cons-mapped (Some l) ls = refl
 
-arrive : (pid : ℕ) → pid < 8191 → (ps : List Packet) → AllByRecursion HasFields ps → arrivals_on pid (map bytes_of_packet ps) ≡ map Came (loads_on pid ps)
+pub arrive : (pid : ℕ) → pid < 8191 → (ps : List Packet) → AllByRecursion HasFields ps → arrivals_on pid (map bytes_of_packet ps) ≡ map Came (loads_on pid ps)
 arrive pid small [] h = refl
 arrive pid small (p ∷ ps) h =
     ap₂ (λ (o : Option Arrival) (xs : List Arrival). cons_option o xs) (arrives pid small p h.0) (arrive pid small ps h.1) ∙ cons-mapped (load_on pid p) (loads_on pid ps)
 
-pieces_of_loads : (pid : ℕ) (ps : List Packet) → map (λ (l : Load). l.piece) (loads_on pid ps) ≡ of_pid pid ps
+pub pieces_of_loads : (pid : ℕ) (ps : List Packet) → map (λ (l : Load). l.piece) (loads_on pid ps) ≡ of_pid pid ps
 pieces_of_loads pid [] = refl
 pieces_of_loads pid (p ∷ ps) = go (p.pid == pid) (pieces_of_loads pid ps)
   where
@@ -58,7 +58,7 @@ pub heard_written : (pid : ℕ) → pid < 8191 → (ps : List Packet) → GoOn p
 heard_written pid small ps h =
     ap heard_of (arrive pid small ps h.fields) ∙ heard_of-counting h.counted.0 (loads_on pid ps) h.counted.1 ∙ ap heard (pieces_of_loads pid ps)
 
-each_group : (groups : List (List (List ℕ))) → AllByRecursion IsSection (all_of groups) → AllSections groups
+pub each_group : (groups : List (List (List ℕ))) → AllByRecursion IsSection (all_of groups) → AllSections groups
 each_group [] h = tt
 each_group (g ∷ groups) h = (all_front IsSection g (all_of groups) h, each_group groups (all_behind IsSection g (all_of groups) h))
 

@@ -3,6 +3,8 @@ pub mod Arrivals
 pub mod Sections
 pub mod Keeping
 pub mod Steps
+pub mod Breaks
+pub mod BreakLaws
 pub mod Laws
 pub mod Reaching
 pub mod Rows

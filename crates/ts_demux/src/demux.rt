@@ -3,6 +3,7 @@ ghost use Rattle.std.specs.Prelude.{◌≡◌, ◌++◌, ◌∷◌, [], List, �
 ghost use Rattle.ts_packets.specs.Bytes.{shape_in};
 ghost use Rattle.ts_demux.specs.Sections.{ended_by};
 ghost use Rattle.ts_demux.specs.Keeping.{DemuxStandsFor};
+ghost use Rattle.ts_demux.specs.Breaks.{follows_in};
 
 use crate::places::Places;
 use crate::section::RawSections;
@@ -78,6 +79,35 @@ impl Demux {
                     at,
                 };
                 self.places.hear(self.alloc, packet, load)
+            }
+        }
+    }
+
+    /// Whether a load goes on with the last load of its PID: its continuity_counter is the next one, or it
+    /// repeats that load (ISO/IEC 13818-1, 2.4.3.3). It is None where there is no last load, as before the
+    /// first load and after a gap, and where the packet is no load. It needs the shape that `read_packet`
+    /// gives of the packet. It takes no memory.
+    pub fn follows(&self, packet: &[u8; 188], shape: &Shape) -> Option<bool>
+        requires { shape_in packet.now ≡ Ok shape.now }
+        ensures { (past : List (List ℕ)) → DemuxStandsFor past self.now
+            → result ≡ follows_in past packet.now }
+    {
+        match *shape {
+            Shape::Pass => None,
+            Shape::Gap(_) => None,
+            Shape::Load {
+                pid,
+                start,
+                counter,
+                at,
+            } => {
+                let load = LoadShape {
+                    pid,
+                    start,
+                    counter,
+                    at,
+                };
+                self.places.follows(packet, load)
             }
         }
     }

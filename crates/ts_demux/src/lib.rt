@@ -20,5 +20,5 @@ mod section;
 mod slot;
 
 pub use demux::Demux;
-pub use laws::{carried_is_heard, order_is_kept};
+pub use laws::{breaks_split, carried_is_heard, order_is_kept};
 pub use section::{RawSection, RawSections};

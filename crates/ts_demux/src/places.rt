@@ -1,9 +1,10 @@
 // A place for each PID.
-ghost use Rattle.std.specs.Prelude.{◌≡◌, ◌<◌, ◌≤◌, ◌==◌, [], ℕ, length, map, if◌then◌else◌, IfOk, OnOk, OnErr};
+ghost use Rattle.std.specs.Prelude.{◌≡◌, ◌<◌, ◌≤◌, ◌==◌, [], ℕ, length, map, Some, if◌then◌else◌, IfOk, OnOk, OnErr};
 ghost use Rattle.ts_demux.specs.Arrivals.{Arrival, Arrival.Came, load_in};
 ghost use Rattle.ts_demux.specs.Sections.{on_pid};
 ghost use Rattle.ts_demux.specs.Keeping.{nothing, kept_on};
 ghost use Rattle.ts_demux.specs.Steps.{kept_after, given_after};
+ghost use Rattle.ts_demux.specs.Breaks.{follows_by};
 
 use crate::section::RawSections;
 use crate::slot::{LoadShape, PidSlot};
@@ -64,6 +65,22 @@ impl Places {
         let heard = slot.hear(alloc, packet, load);
         self.put_slot(load.pid, slot);
         heard
+    }
+
+    // Whether a load goes on with the last load of its PID. It takes no memory.
+    pub(crate) fn follows(&self, packet: &[u8; 188], load: LoadShape) -> Option<bool>
+        requires { load.at < 188 }
+        ensures { result ≡ follows_by (kept_on load.pid self.now).last
+            (Some (Came (load_in load.start load.counter load.at packet.now))) }
+    {
+        let place = usize::from(load.pid);
+        if place >= self.slots.len() {
+            return None;
+        }
+        match &self.slots[place] {
+            Some(slot) => slot.follows(packet, load),
+            None => None,
+        }
     }
 
     // Takes out what is kept of a PID. Want of memory leaves what is kept.

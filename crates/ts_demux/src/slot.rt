@@ -1,9 +1,10 @@
 // What is kept of a PID, and what a load of the PID gives.
-ghost use Rattle.std.specs.Prelude.{◌≡◌, ◌<◌, ◌==◌, ◌+◌, ◌%◌, ◌&&◌, length, drop, map, bytes_eq, IfOk, OnOk, OnErr};
+ghost use Rattle.std.specs.Prelude.{◌≡◌, ◌<◌, ◌==◌, ◌+◌, ◌%◌, ◌&&◌, length, drop, map, Some, bytes_eq, IfOk, OnOk, OnErr};
 ghost use Rattle.ts_packets.specs.Counting.{Load};
 ghost use Rattle.ts_demux.specs.Arrivals.{Arrival, Arrival.Came, load_in};
 ghost use Rattle.ts_demux.specs.Sections.{on_pid};
 ghost use Rattle.ts_demux.specs.Keeping.{nothing};
+ghost use Rattle.ts_demux.specs.Breaks.{follows_by};
 ghost use Rattle.ts_demux.specs.Steps.{kept_after, given_after, is_again_at, is_next_at};
 
 use crate::joining::take_payload;
@@ -87,6 +88,19 @@ impl PidSlot {
             at: load.at,
         });
         Ok(sections)
+    }
+
+    // Whether a load goes on with the last one.
+    pub(crate) fn follows(&self, packet: &[u8; 188], load: LoadShape) -> Option<bool>
+        requires { load.at < 188 }
+        ensures { result ≡ follows_by self.now.last
+            (Some (Came (load_in load.start load.counter load.at packet.now))) }
+    {
+        let (_, payload) = packet.split_at(usize::from(load.at));
+        match &self.last {
+            Some(_) => Some(self.is_next(load.counter) || self.is_again(load.counter, payload)),
+            None => None,
+        }
     }
 
     // Whether the last load has this counter and payload.
