@@ -7,6 +7,10 @@ pub mod Gathering
 pub mod Needing
 pub mod Putting
 pub mod Taking
+pub mod Marking
+pub mod MarksShown
+pub mod Forgetting
+pub mod KeyWalk
 pub mod Keys
 pub mod KeyCounts
 pub mod OneContent

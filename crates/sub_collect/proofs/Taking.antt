@@ -2,7 +2,6 @@
 use Rattle.std.proofs.Common.{◌≡◌, ℕ, ◌<◌, List, [], ◌∷◌, ◌++◌, Bool, true, false, ◌&&◌, ◌==◌, refl, sym, ap, ap₂, ◌∙◌, subst, eqb-true}
 use Rattle.std.specs.Prelude.{if◌then◌else◌, Option, Some, None, is_some, option_map}
 use Rattle.std.specs.Option.{option_or}
-use Rattle.std.specs.List.{AllByRecursion}
 use Rattle.std.proofs.lemmas.Slice.Eq.{bytes_eq-Decides}
 use Rattle.std.proofs.lemmas.Bool.{and_parts}
 use Rattle.section_codec.specs.declared.table.Key.{Key}
@@ -10,13 +9,13 @@ use Rattle.section_codec.specs.Contents.{Content}
 use Rattle.section_codec.specs.Tables.{is_eit}
 use Rattle.section_codec.specs.Segments.{segment_of}
 use Rattle.sub_collect.specs.Runs.{Counted, all_of_version, latest_section, latest_with, segment_last_of, run_of, whole, completed}
-use Rattle.sub_collect.specs.Completions.{IsOfKey, done_at, completion_at, completion, completions, latest_done, repeats, shown_after}
-use Rattle.sub_collect.specs.Collectors.{KeptRun, KeyHeard, body_in, body_of, last_in, StandsForRun, IsKeptOf}
+use Rattle.sub_collect.specs.Completions.{done_at, completion_at, completion, repeats, shown_after}
+use Rattle.sub_collect.specs.Collectors.{KeptRun, KeyHeard, body_in, body_of, last_in, StandsForRun, IsKeptOf, AreOfKey}
 use Rattle.sub_collect.specs.Slots.{held_with, told_with, needed_by, is_body, same_last, whole_by, latest_with_done}
 use Rattle.sub_collect.specs.declared.completed.Completed.{Completed}
 use Rattle.sub_collect.proofs.Runs.{run_of-push, latest-run, latest-push, all-latest, no-latest}
 use Rattle.sub_collect.proofs.Slots.{whole-by}
-use Rattle.sub_collect.proofs.Done.{done_key, latest-more, latest-whole, latest-key, latest_done-key, completion-push, repeats-itself, repeats-same}
+use Rattle.sub_collect.proofs.Done.{done_key, latest-key, completion-push, repeats-itself, repeats-same}
 use Rattle.sub_collect.proofs.Putting.{put-stands}
 
 -- ---- a section that is put into a run
@@ -33,20 +32,18 @@ latest-kept (Some b) (Some d) keys = go (repeats b d) refl
     go false e = refl
 
 -- the run goes on behind these sections of it, which may be none
-module _ (k : Key) (heard : List Counted) (all : AllByRecursion (IsOfKey k) heard) (s : Counted) (of_key : s.key ≡ k) (front : List Counted) (run : run_of (heard ++ s ∷ []) ≡ front ++ s ∷ []) where
+module _ (k : Key) (heard : List Counted) (latest : Option Completed) (are : AreOfKey k heard latest) (s : Counted) (of_key : s.key ≡ k) (front : List Counted) (run : run_of (heard ++ s ∷ []) ≡ front ++ s ∷ []) where
   pub put-done : completion (heard ++ s ∷ []) ≡ option_map (done_at s) (whole (front ++ s ∷ []))
   put-done = completion-push heard s ∙ ap (λ (l : List Counted). option_map (done_at s) (whole l)) run
 
-  pub put-kept : (latest : Option Completed) → latest ≡ latest_done (completions [] heard) → (kept : KeptRun) → StandsForRun (front ++ s ∷ []) kept
-      → IsKeptOf (heard ++ s ∷ []) (record { run = kept; latest = latest_with_done latest (option_map (done_at s) (whole (front ++ s ∷ []))) })
-  put-kept latest is kept stands = record {
+  pub put-kept : (own : Option Completed) → own ≡ latest → (kept : KeptRun) → StandsForRun (front ++ s ∷ []) kept
+      → IsKeptOf (heard ++ s ∷ []) (option_or (completion (heard ++ s ∷ [])) latest) (record { run = kept; latest = latest_with_done own (option_map (done_at s) (whole (front ++ s ∷ []))) })
+  put-kept own is kept stands = record {
     run = subst (λ (l : List Counted). StandsForRun l kept) (sym run) stands;
-    latest =
-        latest-kept latest (option_map (done_at s) (whole (front ++ s ∷ [])))
-        (λ b d e f. latest_done-key k heard b all (sym is ∙ e) ∙ sym (done_key s (whole (front ++ s ∷ [])) d f ∙ of_key))
-        ∙ ap (λ (o : Option Completed). option_or o latest) (sym put-done)
-        ∙ ap (option_or (completion (heard ++ s ∷ []))) is
-        ∙ sym (latest-more heard s);
+    latest_is =
+        latest-kept own (option_map (done_at s) (whole (front ++ s ∷ [])))
+        (λ b d e f. are.key b (sym is ∙ e) ∙ sym (done_key s (whole (front ++ s ∷ [])) d f ∙ of_key))
+        ∙ ap₂ option_or (sym put-done) is;
   }
 
 -- ---- a section that repeats what is held
@@ -82,7 +79,7 @@ told-stays lasts number told e n = go (segment_of number == n) refl
 done_at-same : (s t : Counted) (c : Content) → s.key ≡ t.key → s.version ≡ t.version → done_at s c ≡ done_at t c
 done_at-same s t c k v = λ i. record { key = k i; version = v i; sections = c }
 
-module _ (k : Key) (heard : List Counted) (all : AllByRecursion (IsOfKey k) heard) (s : Counted) (of_key : s.key ≡ k) (kept : KeyHeard) (is : IsKeptOf heard kept)
+module _ (k : Key) (heard : List Counted) (latest : Option Completed) (are : AreOfKey k heard latest) (s : Counted) (of_key : s.key ≡ k) (kept : KeyHeard) (is : IsKeptOf heard latest kept)
     (version : s.version ≡ kept.run.version) (last : kept.run.last ≡ s.last) (told : last_in kept.run.lasts (segment_of s.number) ≡ segment_last_of s)
     (held : body_in s.number kept.run.held ≡ Some s.body) where
   some : (t : Counted) × (latest_section (run_of heard) ≡ Some t)
@@ -103,7 +100,7 @@ module _ (k : Key) (heard : List Counted) (all : AllByRecursion (IsOfKey k) hear
   same_last_number = sym last ∙ is.run.last some.0 some.1
 
   same_key : s.key ≡ some.0.key
-  same_key = of_key ∙ sym (latest-key k heard some.0 all (sym (latest-run heard) ∙ some.1))
+  same_key = of_key ∙ sym (latest-key k heard some.0 are.each (sym (latest-run heard) ∙ some.1))
 
   same_content : completed (heard ++ s ∷ []) ≡ completed heard
   same_content =
@@ -128,28 +125,28 @@ module _ (k : Key) (heard : List Counted) (all : AllByRecursion (IsOfKey k) hear
           (version ∙ sym (all-latest kept.run.version (run_of heard) some.0 is.run.version some.1)))
 
   -- it leaves all that is kept
-  pub repeat-kept : IsKeptOf (heard ++ s ∷ []) kept
+  pub repeat-kept : IsKeptOf (heard ++ s ∷ []) (option_or (completion (heard ++ s ∷ [])) latest) kept
   repeat-kept = record {
     run = subst (λ (l : List Counted). StandsForRun l kept.run) (sym more) stands;
-    latest = is.latest ∙ go (completion heard) refl ∙ ap (λ (o : Option Completed). option_or o (latest_done (completions [] heard))) (sym same_completion) ∙ sym (latest-more heard s);
+    latest_is = is.latest_is ∙ go (completion heard) refl ∙ ap (λ (o : Option Completed). option_or o latest) (sym same_completion);
   }
     where
-      go : (o : Option Completed) → completion heard ≡ o → latest_done (completions [] heard) ≡ option_or (completion heard) (latest_done (completions [] heard))
-      go None e = ap (λ (p : Option Completed). option_or p (latest_done (completions [] heard))) (sym e)
-      go (Some d) e = latest-whole heard d e ∙ ap (λ (p : Option Completed). option_or p (latest_done (completions [] heard))) (sym e)
+      go : (o : Option Completed) → completion heard ≡ o → latest ≡ option_or (completion heard) latest
+      go None e = ap (λ (p : Option Completed). option_or p latest) (sym e)
+      go (Some d) e = are.whole d e ∙ ap (λ (p : Option Completed). option_or p latest) (sym e)
 
   -- and shows nothing
-  pub repeat-shows : shown_after (latest_done (completions [] heard)) (completion (heard ++ s ∷ [])) ≡ None
-  repeat-shows = ap (shown_after (latest_done (completions [] heard))) same_completion ∙ go (completion heard) refl
+  pub repeat-shows : shown_after latest (completion (heard ++ s ∷ [])) ≡ None
+  repeat-shows = ap (shown_after latest) same_completion ∙ go (completion heard) refl
     where
       none : (o : Option Completed) → shown_after o None ≡ None
       none None = refl
       none (Some b) = refl
 
-      go : (o : Option Completed) → completion heard ≡ o → shown_after (latest_done (completions [] heard)) (completion heard) ≡ None
-      go None e = ap (shown_after (latest_done (completions [] heard))) e ∙ none (latest_done (completions [] heard))
+      go : (o : Option Completed) → completion heard ≡ o → shown_after latest (completion heard) ≡ None
+      go None e = ap (shown_after latest) e ∙ none latest
       go (Some d) e =
-          ap (λ (o : Option Completed). shown_after o (completion heard)) (latest-whole heard d e)
+          ap (λ (o : Option Completed). shown_after o (completion heard)) (are.whole d e)
           ∙ ap (shown_after (Some d)) e
           ∙ ap (λ (b : Bool). if b then None else Some d) (repeats-itself d)
 

@@ -1,11 +1,13 @@
 -- What a collector keeps, and the counted sections that it stands for.
-use Rattle.std.specs.Prelude.{◌≡◌, ◌≢◌, ℕ, ◌<◌, List, [], ◌∷◌, ◌++◌, true, ◌==◌, if◌then◌else◌, Option, Some, None, option_map, is_some, slice_index_or}
+use Rattle.std.specs.Prelude.{◌≡◌, ◌≢◌, ℕ, ◌<◌, List, [], ◌∷◌, ◌++◌, Bool, true, ◌==◌, if◌then◌else◌, replicate, Option, Some, None, option_map, is_some, slice_index_or}
+use Rattle.std.specs.Option.{option_or}
 use Rattle.std.specs.List.{AllByRecursion}
 use Rattle.section_codec.specs.declared.table.Key.{Key}
 use Rattle.section_codec.specs.KeyOrder.{is_key}
 use Rattle.sub_collect.specs.Runs.{Counted, all_of_version, run_of, latest_section, latest_with, last_told}
 use Rattle.sub_collect.specs.KeyCounts.{HaveFewKeys}
-use Rattle.sub_collect.specs.Completions.{IsOfKey, of_key, completion, completions, latest_done, shown_after, shown_at}
+use Rattle.sub_collect.specs.Completions.{IsOfKey, of_key, completion, shown_after}
+use Rattle.sub_collect.specs.Marks.{Taken, Taken.Took, since_mark, latest_over, shown_over, all_took, sections_taken}
 use Rattle.sub_collect.specs.declared.completed.Completed.{Completed}
 
 -- what is kept of a run: its version, the last_section_number of its latest section, the latest body of each number that it holds, how many numbers it holds from 0 on, and of each of
@@ -56,34 +58,61 @@ pub record StandsForRun (run : List Counted) (kept : KeptRun) : Type 0 where
   pub front : IsFront (λ n. body_in n kept.held) kept.front
   pub lasts : (segment : ℕ) → last_in kept.lasts segment ≡ last_told run segment
 
--- What is kept of a key stands for these sections of it.
-pub record IsKeptOf (heard : List Counted) (kept : KeyHeard) : Type 0 where
+-- What is kept of a key stands for these sections of it since a mark, and this latest completion of all.
+pub record IsKeptOf (heard : List Counted) (latest : Option Completed) (kept : KeyHeard) : Type 0 where
   pub run : StandsForRun (run_of heard) kept.run
-  pub latest : kept.latest ≡ latest_done (completions [] heard)
+  pub latest_is : kept.latest ≡ latest
 
 -- Of a key without a section nothing is kept, and of each other key something is.
-abbrev pub StandsFor : List Counted → Option KeyHeard → Type 0
-StandsFor heard None = heard ≡ []
-StandsFor heard (Some kept) = (heard ≢ []) × IsKeptOf heard kept
+abbrev pub StandsFor : Key → List Taken → Option KeyHeard → Type 0
+StandsFor k past None = of_key k (sections_taken past) ≡ []
+StandsFor k past (Some kept) = (of_key k (sections_taken past) ≢ []) × IsKeptOf (since_mark k past) (latest_over k past) kept
 
--- What is kept of each key stands for its sections among these.
-abbrev pub EachStandsFor : List Counted → KeysHeard → Type 0
-EachStandsFor past collector = (k : Key) → StandsFor (of_key k past) (kept_in k collector)
+-- What is kept of each key stands for its sections among these sections and marks.
+abbrev pub EachStandsFor : List Taken → KeysHeard → Type 0
+EachStandsFor past collector = (k : Key) → StandsFor k past (kept_in k collector)
 
--- The collector stands for these counted sections, in the order in which they ended. They have no more keys than it keeps.
-pub record CollectorStandsFor (past : List Counted) (collector : KeysHeard) : Type 0 where
+-- The collector stands for these counted sections, in the order in which they ended, and the marks between them.
+-- They have no more keys than it keeps.
+pub record CollectorStandsOver (past : List Taken) (collector : KeysHeard) : Type 0 where
   pub each : EachStandsFor past collector
-  pub few : HaveFewKeys past
+  pub few : HaveFewKeys (sections_taken past)
+
+-- It stands for these counted sections, without a mark.
+abbrev pub CollectorStandsFor : List Counted → KeysHeard → Type 0
+CollectorStandsFor past collector = CollectorStandsOver (all_took past) collector
+
+-- ---- a mark
+
+-- a run of which all sections are forgotten
+abbrev pub cleared : KeptRun → KeptRun
+cleared run = record { version = run.version; last = 0; held = []; front = 0; lasts = replicate 32 None }
+
+-- what is kept of a key after a mark of its PID: no section, and the same completion
+abbrev pub forgotten : KeyHeard → KeyHeard
+forgotten kept = record { run = cleared kept.run; latest = kept.latest }
+
+abbrev pub forgotten_if : Bool → Option KeyHeard → Option KeyHeard
+forgotten_if here None = None
+forgotten_if here (Some kept) = Some (if here then forgotten kept else kept)
 
 -- ---- a section that is held already
 
+-- These are sections of a key, of which all make this completion the latest.
+pub record AreOfKey (k : Key) (heard : List Counted) (latest : Option Completed) : Type 0 where
+  pub each : AllByRecursion (IsOfKey k) heard
+  pub key : (d : Completed) → latest ≡ Some d → d.key ≡ k
+  pub whole : (d : Completed) → completion heard ≡ Some d → latest ≡ Some d
+
 -- One section more of a key of which this is kept shows nothing, and the same is kept of it.
 pub record IsRepeatedOf (kept : KeyHeard) (s : Counted) : Type 0 where
-  pub quiet : (heard : List Counted) → IsKeptOf heard kept → AllByRecursion (IsOfKey s.key) heard
-      → shown_after (latest_done (completions [] heard)) (completion (heard ++ s ∷ [])) ≡ None
-  pub stands : (heard : List Counted) → IsKeptOf heard kept → AllByRecursion (IsOfKey s.key) heard → IsKeptOf (heard ++ s ∷ []) kept
+  pub quiet : (heard : List Counted) (latest : Option Completed) → IsKeptOf heard latest kept → AreOfKey s.key heard latest
+      → shown_after latest (completion (heard ++ s ∷ [])) ≡ None
+  pub stands : (heard : List Counted) (latest : Option Completed) → IsKeptOf heard latest kept → AreOfKey s.key heard latest
+      → IsKeptOf (heard ++ s ∷ []) (option_or (completion (heard ++ s ∷ [])) latest) kept
 
 -- One section more shows nothing, and the collector stands for it too.
 pub record IsRepeated (collector : KeysHeard) (s : Counted) : Type 0 where
-  pub quiet : (past : List Counted) → CollectorStandsFor past collector → shown_at past s ≡ None
-  pub stands : (past : List Counted) → CollectorStandsFor past collector → CollectorStandsFor (past ++ s ∷ []) collector
+  pub quiet : (past : List Taken) → CollectorStandsOver past collector → shown_over past s ≡ None
+  pub stands : (past : List Taken) → CollectorStandsOver past collector
+      → CollectorStandsOver (past ++ Took s ∷ []) collector

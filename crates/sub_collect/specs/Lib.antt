@@ -1,7 +1,10 @@
 pub mod Runs
 pub mod KeyCounts
 pub mod Completions
+pub mod Marks
 pub mod Collectors
+pub mod KeyWalk
 pub mod Slots
 pub mod Laws
+pub mod MarkLaws
 pub mod Rows

@@ -1,11 +1,16 @@
 // Completions, kept by key.
-ghost use Rattle.std.specs.Prelude.{◌≡◌, ◌≤◌, ◌<◌, ◌+◌, ◌++◌, ◌∷◌, ◌↔◌, ℕ, [], List, map, Option, Some, None, Err, option_map, option_copied, IfOk, OnOk, OnErr, IsTrue, if◌then◌else◌, true};
-ghost use Rattle.std.specs.List.{AllByRecursion};
+ghost use Rattle.std.specs.Prelude.{◌≡◌, ◌≤◌, ◌<◌, ◌+◌, ◌++◌, ◌∷◌, ◌↔◌, ℕ, [], List, map, Option, Some, None, Err, option_map, option_copied, IfOk, OnOk, OnErr, IsTrue, IfSome, MatchOption, ◌==◌, false, true};
+ghost use Rattle.std.specs.Option.{option_or};
+ghost use Rattle.std.specs.Ordering.{is_gt};
+ghost use Rattle.std.specs.Map.{keys_of};
 ghost use Rattle.section_codec.specs.declared.table.Key.{Key};
+ghost use Rattle.section_codec.specs.KeyOrder.{is_key, key_cmp};
 ghost use Rattle.sub_collect.specs.Runs.{Counted, counted};
-ghost use Rattle.sub_collect.specs.Completions.{IsOfKey, completion, completions, latest_done, latest_of, shown_after, shown_at};
+ghost use Rattle.sub_collect.specs.Completions.{completion, shown_after};
+ghost use Rattle.sub_collect.specs.Marks.{Taken, Taken.Took, Taken.Forgot, latest_over, shown_over, sections_taken};
 ghost use Rattle.sub_collect.specs.KeyCounts.{key_count, HaveTooManyKeys};
-ghost use Rattle.sub_collect.specs.Collectors.{CollectorStandsFor, EachStandsFor, IsKeptOf, IsRepeated, IsRepeatedOf};
+ghost use Rattle.sub_collect.specs.Collectors.{CollectorStandsFor, CollectorStandsOver, EachStandsFor, IsKeptOf, AreOfKey, IsRepeated, IsRepeatedOf, kept_in, forgotten, forgotten_if};
+ghost use Rattle.sub_collect.specs.KeyWalk.{HasNoKeyAfter, IsNextKey, BeginsAfter};
 ghost use Rattle.sub_collect.specs.Slots.{kept_by, shown, latest_with_done};
 ghost use Rattle.sub_collect.specs.declared.completed.Completed.{Completed};
 
@@ -16,6 +21,7 @@ use si_base::Bytes;
 use std::alloc::{AllocError, Global};
 use std::collections::BTreeMap;
 use std::marker::Model;
+use std::ops::Bound;
 
 /// Why a section is not taken: a collector keeps sections of at most 65,536 keys, and this one would bring a key more; or memory was
 /// wanting.
@@ -29,8 +35,8 @@ pub enum TakeStop {
 const MOST_KEYS: usize = 65_536;
 
 /// What was heard of sub-tables. It stands for the counted sections that were taken, in the order in which
-/// they ended: it keeps, of each key, the latest bodies of the present run and the latest completion.
-/// Contracts see it as these, in the order of the keys. It keeps its allocator.
+/// they ended, and the marks between them: it keeps, of each key, the latest bodies of the present run and
+/// the latest completion. Contracts see it as these, in the order of the keys. It keeps its allocator.
 #[derive(Drop)]
 pub struct Collector {
     alloc: Global,
@@ -84,12 +90,13 @@ impl Collector {
         header: &LongHeader,
         body: Bytes,
     ) -> Result<Option<u8>, TakeStop>
-        ensures shown { IfOk result (λ shown. (past : List Counted) → CollectorStandsFor past self.old
-            → shown ≡ option_map (λ d. d.version) (shown_at past (counted key header.now body))) }
-        ensures stands { OnOk result ((past : List Counted) → CollectorStandsFor past self.old
-            → CollectorStandsFor (past ++ counted key header.now body ∷ []) self.new) }
-        ensures too_many { (past : List Counted) → CollectorStandsFor past self.old
-            → (result ≡ Err TakeStop.TooMany) ↔ HaveTooManyKeys (past ++ counted key header.now body ∷ []) }
+        ensures shown { IfOk result (λ shown. (past : List Taken) → CollectorStandsOver past self.old
+            → shown ≡ option_map (λ d. d.version) (shown_over past (counted key header.now body))) }
+        ensures stands { OnOk result ((past : List Taken) → CollectorStandsOver past self.old
+            → CollectorStandsOver (past ++ Took (counted key header.now body) ∷ []) self.new) }
+        ensures too_many { (past : List Taken) → CollectorStandsOver past self.old
+            → (result ≡ Err TakeStop.TooMany)
+            ↔ HaveTooManyKeys (sections_taken past ++ counted key header.now body ∷ []) }
         ensures unchanged { OnErr result (self.new ≡ self.old) }
     {
         if self.lacks_room(key) {
@@ -103,15 +110,16 @@ impl Collector {
 
     /// How many keys have a section. It takes no memory.
     pub fn keys(&self) -> usize
-        ensures { (past : List Counted) → CollectorStandsFor past self.now → result ≡ key_count past }
+        ensures { (past : List Taken) → CollectorStandsOver past self.now
+            → result ≡ key_count (sections_taken past) }
     {
         self.slots.len()
     }
 
     // Whether a section of this key would bring a key too many.
     fn lacks_room(&self, key: Key) -> bool
-        ensures { (past : List Counted) (s : Counted) → s.key ≡ key → CollectorStandsFor past self.now
-            → IsTrue result ↔ HaveTooManyKeys (past ++ s ∷ []) }
+        ensures { (past : List Taken) (s : Counted) → s.key ≡ key → CollectorStandsOver past self.now
+            → IsTrue result ↔ HaveTooManyKeys (sections_taken past ++ s ∷ []) }
     {
         self.slots.len() >= MOST_KEYS && !self.slots.contains_key(&key)
     }
@@ -123,10 +131,10 @@ impl Collector {
         header: &LongHeader,
         body: Bytes,
     ) -> Result<Option<u8>, AllocError>
-        ensures shown { IfOk result (λ shown. (past : List Counted) → EachStandsFor past self.old
-            → shown ≡ option_map (λ d. d.version) (shown_at past (counted key header.now body))) }
-        ensures stands { OnOk result ((past : List Counted) → EachStandsFor past self.old
-            → EachStandsFor (past ++ counted key header.now body ∷ []) self.new) }
+        ensures shown { IfOk result (λ shown. (past : List Taken) → EachStandsFor past self.old
+            → shown ≡ option_map (λ d. d.version) (shown_over past (counted key header.now body))) }
+        ensures stands { OnOk result ((past : List Taken) → EachStandsFor past self.old
+            → EachStandsFor (past ++ Took (counted key header.now body) ∷ []) self.new) }
         ensures memory { OnErr result (self.new ≡ self.old) }
     {
         match self.slots.get_mut(&key) {
@@ -154,24 +162,93 @@ impl Collector {
 
     /// The latest completion of a key, or None where it never had one.
     pub fn latest(&self, key: Key) -> Option<&Completed>
-        ensures latest { (past : List Counted) → CollectorStandsFor past self.now → option_copied result ≡ latest_of key past }
+        ensures latest { (past : List Taken) → CollectorStandsOver past self.now
+            → option_copied result ≡ latest_over key past }
     {
         match self.slots.get(&key) {
             Some(slot) => slot.latest.as_ref(),
             None => None,
         }
     }
+
+    /// Adds a mark of a PID: from here on the keys of the PID have no section, until one is taken. Their
+    /// completions stay, and they still count as keys that have a section. It takes no memory, and its time
+    /// is that of the keys of this PID.
+    pub fn forget(&mut self, pid: u16)
+        ensures kept { (k : Key) → kept_in k self.new
+            ≡ forgotten_if (k.pid == pid) (kept_in k self.old) }
+        ensures stands { (past : List Taken) → CollectorStandsOver past self.old
+            → CollectorStandsOver (past ++ Forgot pid ∷ []) self.new }
+    {
+        let mut last = None;
+        while let Some(key) = self.next_key(pid, last) {
+            self.forget_key(key);
+            last = Some(key);
+        }
+    }
+
+    // The first key of a PID after the last one that was met, or of all its keys. It takes no memory.
+    fn next_key(&self, pid: u16, last: Option<Key>) -> Option<Key>
+        requires { IfSome last (λ key. key.pid ≡ pid) }
+        ensures { MatchOption result (HasNoKeyAfter pid last self.now) (IsNextKey pid last self.now) }
+    {
+        let start = start_after(pid, last);
+        let (key, _) = self.slots.range((start, Bound::Unbounded)).next()?;
+        if key.pid == pid { Some(*key) } else { None }
+    }
+
+    // Forgets the sections of a key. It takes no memory.
+    fn forget_key(&mut self, key: Key)
+        ensures kept { (k : Key) → kept_in k self.new ≡ forgotten_if (is_key key k) (kept_in k self.old) }
+        ensures keys { keys_of self.new ≡ keys_of self.old }
+    {
+        if let Some(slot) = self.slots.get_mut(&key) {
+            slot.forget();
+        }
+    }
+}
+
+// Where a range begins that has the keys of a PID after the last one that was met, or all its keys.
+fn start_after(pid: u16, last: Option<Key>) -> Bound<Key>
+    requires { IfSome last (λ key. key.pid ≡ pid) }
+    ensures { BeginsAfter pid last result }
+{
+    match last {
+        Some(key) => Bound::Excluded(key),
+        None => Bound::Included(first_key(pid)),
+    }
+}
+
+// The least key that a PID can have.
+fn first_key(pid: u16) -> Key
+    ensures pid { result.pid ≡ pid }
+    ensures first { (k : Key) → k.pid ≡ pid → is_gt (key_cmp result k) ≡ false }
+{
+    Key {
+        pid,
+        table: 0,
+        ext: 0,
+        stream: 0,
+        network: 0,
+    }
 }
 
 impl KeySlot {
     // A slot of a key without a section. It takes no memory.
     fn open(alloc: Global, version: u8) -> KeySlot
-        ensures stands { IsKeptOf [] (kept_by result) }
+        ensures stands { IsKeptOf [] None (kept_by result) }
     {
         KeySlot {
             run: Run::open(alloc, version),
             latest: None,
         }
+    }
+
+    // Forgets the sections of the key, and keeps its completion. It takes no memory.
+    fn forget(&mut self)
+        ensures { kept_by self.new ≡ forgotten (kept_by self.old) }
+    {
+        self.run.clear();
     }
 
     // Counts one section more of the key. A carousel repeats its sections for ever: what is held already
@@ -183,10 +260,14 @@ impl KeySlot {
         header: &LongHeader,
         body: Bytes,
     ) -> Result<Option<u8>, AllocError>
-        ensures shown { IfOk result (λ shown. (heard : List Counted) → IsKeptOf heard (kept_by self.old) → AllByRecursion (IsOfKey key) heard
-            → shown ≡ option_map (λ d. d.version) (shown_after (latest_done (completions [] heard)) (completion (heard ++ counted key header.now body ∷ [])))) }
-        ensures stands { OnOk result ((heard : List Counted) → IsKeptOf heard (kept_by self.old) → AllByRecursion (IsOfKey key) heard
-            → IsKeptOf (heard ++ counted key header.now body ∷ []) (kept_by self.new)) }
+        ensures shown { IfOk result (λ shown. (heard : List Counted) (latest : Option Completed)
+            → IsKeptOf heard latest (kept_by self.old) → AreOfKey key heard latest
+            → let more = heard ++ counted key header.now body ∷ [] in
+            shown ≡ option_map (λ d. d.version) (shown_after latest (completion more))) }
+        ensures stands { OnOk result ((heard : List Counted) (latest : Option Completed)
+            → IsKeptOf heard latest (kept_by self.old) → AreOfKey key heard latest
+            → let more = heard ++ counted key header.now body ∷ [] in
+            IsKeptOf more (option_or (completion more) latest) (kept_by self.new)) }
         ensures memory { OnErr result (kept_by self.new ≡ kept_by self.old) }
     {
         if self.repeats(key, header, body.as_slice()) {

@@ -1,5 +1,6 @@
 // Laws of completions.
 ghost use Rattle.sub_collect.specs.Laws.{KeysApart, LatestApart, LatestIsShown, LatestOneMore, DonesGoOn, DonesOneMore, FromZeroIsNumbered, BySegmentsIsNumbered, WholeCompletes, RunCompletes, RunCompletesNoOther, VersionBeginsRun, VersionKeepsRun, NewIsShown, SameIsQuiet};
+ghost use Rattle.sub_collect.specs.MarkLaws.{MarkFree, ShownMarkFree, MarkForgets, LatestOverIsShown, CompletedSinceMark};
 
 /// The completions of a key depend on the sections of that key alone: those that are shown, and the latest
 /// one, which is the last one that was shown.
@@ -44,4 +45,15 @@ pub fn runs_complete_their_content()
 pub fn contents_are_shown_once()
     ensures new { NewIsShown }
     ensures same { SameIsQuiet }
+{}
+
+/// Laws of marks. Without marks nothing changes. A mark forgets the sections of its PID's keys, and nothing
+/// else. Each completion is made of sections since one mark, and the latest completion of a key is the last
+/// one that was shown.
+pub fn marks_forget()
+    ensures free { MarkFree }
+    ensures shown_free { ShownMarkFree }
+    ensures forgets { MarkForgets }
+    ensures since { CompletedSinceMark }
+    ensures shown { LatestOverIsShown }
 {}

@@ -21,6 +21,6 @@ mod run;
 pub use collector::{Collector, TakeStop};
 pub use completed::Completed;
 pub use laws::{
-    completions_by_key, completions_go_on, contents_are_shown_once, runs_complete_their_content,
-    versions_part_runs, whole_versions_complete,
+    completions_by_key, completions_go_on, contents_are_shown_once, marks_forget,
+    runs_complete_their_content, versions_part_runs, whole_versions_complete,
 };

@@ -5,7 +5,7 @@ ghost use Rattle.section_codec.specs.Contents.{numbers_from};
 ghost use Rattle.section_codec.specs.Segments.{segment_of};
 ghost use Rattle.sub_collect.specs.Runs.{Counted, counted, segment_last_of, whole};
 ghost use Rattle.sub_collect.specs.Completions.{done_at};
-ghost use Rattle.sub_collect.specs.Collectors.{StandsForRun, IsFront, body_in, last_in};
+ghost use Rattle.sub_collect.specs.Collectors.{StandsForRun, IsFront, body_in, last_in, cleared};
 ghost use Rattle.sub_collect.specs.Slots.{kept_run, held_with, told_with, needed_by, is_body, same_last, content_by, whole_by};
 
 use crate::completed::Completed;
@@ -39,6 +39,16 @@ impl Run {
             front: 0,
             lasts: [None; 32],
         }
+    }
+
+    // Forgets its sections. It takes no memory.
+    pub fn clear(&mut self)
+        ensures { kept_run self.new ≡ cleared (kept_run self.old) }
+    {
+        self.held.clear();
+        self.last = 0;
+        self.front = 0;
+        self.lasts = [None; 32];
     }
 
     // Puts one section more of the version of the run, and gives what it completes. Where memory is wanting,

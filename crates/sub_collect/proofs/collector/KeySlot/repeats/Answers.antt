@@ -13,6 +13,6 @@ returns-then-self-header c = λ held.
     let test = repeat-test kept.run.last s.last (last_in kept.run.lasts (segment_of s.number)) (segment_last_of s) (body_in s.number kept.run.held) s.body (sym c.repeats.ensures ∙ held) in
     let version = sym c.if-self-header.true in
     record {
-      quiet = λ heard is all. repeat-shows s.key heard all s refl kept is version test.0 test.1 test.2;
-      stands = λ heard is all. repeat-kept s.key heard all s refl kept is version test.0 test.1 test.2;
+      quiet = λ heard latest is are. repeat-shows s.key heard latest are s refl kept is version test.0 test.1 test.2;
+      stands = λ heard latest is are. repeat-kept s.key heard latest are s refl kept is version test.0 test.1 test.2;
     }
