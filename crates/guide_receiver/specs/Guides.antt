@@ -1,12 +1,13 @@
 -- The heard guide of a packet list: what a receiver that heard just these packets has to show (EN 300 468, 5.2).
 use Rattle.std.specs.Prelude.{ℕ, List, [], filter}
 use Rattle.ts_demux.specs.Sections.{heard_all}
+use Rattle.sub_collect.specs.Marks.{Taken, content_over}
 use Rattle.guide_screen.specs.View.{View}
 use Rattle.guide_screen.specs.Holding.{content_in}
 use Rattle.guide_screen.specs.Screen.{heard_of}
 use Rattle.guide_screen.specs.declared.need.Heard.{Heard}
 use Rattle.heard_completions.specs.Dones.{counted_heard}
-use Rattle.guide_receiver.specs.Latest.{last_of, keys_shown, is_pat_key, is_nit_key, is_sdt_key, clock_of}
+use Rattle.guide_receiver.specs.Latest.{last_of, keys_shown, keys_shown_over, is_pat_key, is_nit_key, is_sdt_key, clock_of}
 
 -- What is heard: of each key the content that it completed last; of the PAT, of the NIT and of the SDT of each
 -- transport_stream_id the key whose completion was shown last; and the moment that the last TDT tells.
@@ -18,6 +19,19 @@ view_of packets = record {
   sdt = λ ext. last_of (filter (is_sdt_key ext) (keys_shown (counted_heard packets)));
   clock = clock_of (heard_all [] packets);
 }
+
+-- The same of packets, and of their sections that count with the marks between them.
+abbrev pub view_over : List (List ℕ) → List Taken → View
+view_over packets taken = record {
+  content = content_over taken;
+  pat = last_of (filter is_pat_key (keys_shown_over taken));
+  nit = last_of (filter is_nit_key (keys_shown_over taken));
+  sdt = λ ext. last_of (filter (is_sdt_key ext) (keys_shown_over taken));
+  clock = clock_of (heard_all [] packets);
+}
+
+abbrev pub guide_over : List (List ℕ) → List Taken → Heard
+guide_over packets taken = heard_of (view_over packets taken)
 
 -- what is shown of it: the needs that are not met, or the whole screen
 abbrev pub guide_of : List (List ℕ) → Heard

@@ -2,12 +2,13 @@
 use Rattle.std.specs.Prelude.{ℕ, List, [], Option, Some, ◌≡◌}
 use Rattle.ts_demux.specs.declared.section.RawSection.{RawSection}
 use Rattle.ts_demux.specs.Keeping.{PidState, DemuxStandsFor}
-use Rattle.ts_demux.specs.Sections.{heard_all}
+use Rattle.ts_demux.specs.Sections.{ended_by, heard_all}
 use Rattle.sub_collect.specs.Runs.{Counted}
-use Rattle.sub_collect.specs.Collectors.{KeysHeard, CollectorStandsFor, IsRepeated}
+use Rattle.sub_collect.specs.Marks.{Taken, all_took}
+use Rattle.sub_collect.specs.Collectors.{KeysHeard, CollectorStandsOver, IsRepeated}
 use Rattle.si_time.specs.declared.moment.Moment.{Moment}
-use Rattle.heard_completions.specs.Counting.{counted_in}
-use Rattle.guide_receiver.specs.Latest.{LatestKept, keys_shown, AreLatest, IsClock}
+use Rattle.heard_completions.specs.Counting.{counted_in, counted_among}
+use Rattle.guide_receiver.specs.Latest.{LatestKept, keys_shown_over, AreLatest, IsClock}
 use Rattle.heard_completions.specs.Dones.{counted_heard}
 
 -- what a receiver keeps: its demultiplexer, its collector, the keys that were completed last, and the moment that it heard last
@@ -17,12 +18,21 @@ pub record Hearing : Type 0 where
   pub latest : LatestKept
   pub clock : Option Moment
 
--- A receiver stands for these packets, each by its bytes.
-pub record ReceiverStandsFor (past : List (List ℕ)) (receiver : Hearing) : Type 0 where
-  pub sections : DemuxStandsFor past receiver.demux
-  pub completions : CollectorStandsFor (counted_heard past) receiver.collector
-  pub latest : AreLatest (keys_shown (counted_heard past)) receiver.latest
-  pub clock : IsClock (heard_all [] past) receiver.clock
+-- the sections that a packet ends after others, and that count
+abbrev pub took_by : List (List ℕ) → List ℕ → List Taken
+took_by packets packet = all_took (counted_among (ended_by packets packet))
+
+-- A receiver stands for these packets, each by its bytes, and for their sections that count, with the marks between
+-- them.
+pub record ReceiverStandsOver (packets : List (List ℕ)) (taken : List Taken) (receiver : Hearing) : Type 0 where
+  pub sections : DemuxStandsFor packets receiver.demux
+  pub completions : CollectorStandsOver taken receiver.collector
+  pub latest : AreLatest (keys_shown_over taken) receiver.latest
+  pub clock : IsClock (heard_all [] packets) receiver.clock
+
+-- It stands for these packets, without a mark.
+abbrev pub ReceiverStandsFor : List (List ℕ) → Hearing → Type 0
+ReceiverStandsFor past receiver = ReceiverStandsOver past (all_took (counted_heard past)) receiver
 
 -- A section counts that the collector holds already: it shows nothing, and the collector stands for it too.
 pub record CountsAgain (collector : KeysHeard) (section : RawSection) : Type 0 where

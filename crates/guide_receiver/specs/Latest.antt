@@ -12,6 +12,7 @@ use Rattle.time_tables.specs.Tdt.{tdt_in}
 use Rattle.ts_demux.specs.declared.section.RawSection.{RawSection}
 use Rattle.sub_collect.specs.Runs.{Counted}
 use Rattle.sub_collect.specs.Completions.{dones}
+use Rattle.sub_collect.specs.Marks.{Taken, dones_over}
 use Rattle.sub_collect.specs.declared.completed.Completed.{Completed}
 use Rattle.guide_receiver.specs.declared.latest_keys.LatestKeys.{LatestKeys}
 
@@ -25,6 +26,10 @@ last_of (x ∷ xs) = option_or (last_of xs) (Some x)
 -- the keys of the completions that these sections show, in order
 abbrev pub keys_shown : List Counted → List Key
 keys_shown heard = map (λ (d : Completed). d.key) (dones [] heard)
+
+-- the keys of the completions that these sections and marks show, in order
+abbrev pub keys_shown_over : List Taken → List Key
+keys_shown_over taken = map (λ (d : Completed). d.key) (dones_over [] taken)
 
 abbrev pub is_pat_key : Key → Bool
 is_pat_key k = k.table == 0x00

@@ -1,18 +1,20 @@
 // The receiver.
-ghost use Rattle.std.specs.Prelude.{◌≡◌, ◌≢◌, ◌↔◌, ◌++◌, ◌∷◌, [], List, ℕ, Option, Err, IfOk, OnOk, map, option_map, option_to_list, slice_index};
+ghost use Rattle.std.specs.Prelude.{◌≡◌, ◌≢◌, ◌↔◌, ◌++◌, ◌∷◌, [], List, ℕ, Option, Ok, Err, IfOk, OnOk, map, option_map, option_to_list, slice_index};
 ghost use Rattle.section_codec.specs.declared.table.Key.{Key};
-ghost use Rattle.sub_collect.specs.Runs.{Counted};
+ghost use Rattle.ts_packets.specs.Bytes.{shape_in};
+ghost use Rattle.ts_demux.specs.Sections.{ended_by};
+ghost use Rattle.ts_demux.specs.Breaks.{follows_in};
 ghost use Rattle.sub_collect.specs.KeyCounts.{HaveFewKeys, HaveTooManyKeys};
 ghost use Rattle.sub_collect.specs.declared.collector.TakeStop.{TakeStop};
-ghost use Rattle.sub_collect.specs.Completions.{dones};
-ghost use Rattle.sub_collect.specs.Collectors.{CollectorStandsFor};
+ghost use Rattle.sub_collect.specs.Marks.{Taken, Taken.Forgot, dones_over, all_took, sections_taken};
+ghost use Rattle.sub_collect.specs.Collectors.{CollectorStandsOver};
 ghost use Rattle.heard_completions.specs.declared.done.DoneKey.{DoneKey};
 ghost use Rattle.heard_completions.specs.Counting.{counted_in, counted_among};
-ghost use Rattle.guide_receiver.specs.Latest.{keys_shown, kept_keys, AreLatest};
-ghost use Rattle.guide_receiver.specs.Heard.{ReceiverStandsFor};
+ghost use Rattle.guide_receiver.specs.Latest.{keys_shown_over, kept_keys, AreLatest};
+ghost use Rattle.guide_receiver.specs.Heard.{took_by, ReceiverStandsFor, ReceiverStandsOver};
 ghost use Rattle.guide_receiver.specs.Known.{AreKnown};
 ghost use Rattle.heard_completions.specs.Dones.{counted_heard, done_key, dones_by};
-ghost use Rattle.guide_receiver.specs.Guides.{guide_of};
+ghost use Rattle.guide_receiver.specs.Guides.{guide_of, guide_over};
 
 use crate::clock::clock_behind;
 use crate::known::KnownSections;
@@ -25,7 +27,7 @@ use std::alloc::{AllocError, Global};
 use std::marker::Model;
 use sub_collect::{Collector, TakeStop};
 use ts_demux::{Demux, RawSection};
-use ts_packets::read_packet;
+use ts_packets::{Shape, read_packet};
 
 /// Why a packet is not heard: its first byte is not the sync_byte 0x47, a section that ends in it would bring the 65,537th key, or want of
 /// memory.
@@ -36,9 +38,10 @@ pub enum HearStop {
     Memory,
 }
 
-/// A receiver of a transport stream. It stands for the packets that it heard, and keeps of each PID the section that is open, the
-/// sections that counted last, of each sub-table its present run of sections and its latest completion, the keys of PAT, NIT and SDTs
-/// that were completed last, and the last moment that it heard. It keeps its allocator.
+/// A receiver of a transport stream. It stands for the packets that it heard, and for their sections that
+/// count with the marks between them. It keeps of each PID the section that is open and the sections that
+/// counted last, of each sub-table its present run of sections and its latest completion, the keys of PAT,
+/// NIT and SDTs that were completed last, and the last moment that it heard. It keeps its allocator.
 #[derive(Drop)]
 pub struct Receiver {
     alloc: Global,
@@ -83,6 +86,15 @@ impl Receiver {
     pub fn hear(&mut self, packet: &[u8; 188]) -> Result<Dones, HearStop>
         ensures sync { result ≡ Err HearStop.Sync ↔ (slice_index packet.now 0 ≢ 0x47) }
         ensures unchanged { result ≡ Err HearStop.Sync → self.new ≡ self.old }
+        ensures too_many_over { (packets : List (List ℕ)) (taken : List Taken)
+            → ReceiverStandsOver packets taken self.old → result ≡ Err HearStop.TooMany
+            → HaveTooManyKeys (sections_taken taken ++ counted_among (ended_by packets packet.now)) }
+        ensures dones_over { (packets : List (List ℕ)) (taken : List Taken)
+            → ReceiverStandsOver packets taken self.old → IfOk result (λ dones. dones
+            ≡ map done_key (dones_over taken (took_by packets packet.now))) }
+        ensures stands_over { (packets : List (List ℕ)) (taken : List Taken)
+            → ReceiverStandsOver packets taken self.old → OnOk result (ReceiverStandsOver
+            (packets ++ packet.now ∷ []) (taken ++ took_by packets packet.now) self.new) }
         ensures too_many { (past : List (List ℕ)) → ReceiverStandsFor past self.old
             → result ≡ Err HearStop.TooMany → HaveTooManyKeys (counted_heard (past ++ packet.now ∷ [])) }
         ensures few { (past : List (List ℕ)) → ReceiverStandsFor past self.old
@@ -118,10 +130,34 @@ impl Receiver {
         }
     }
 
+    /// Adds a mark of a PID: from here on the keys of the PID have no section, until one is taken
+    /// (`Collector::forget`). It takes no memory.
+    pub fn forget(&mut self, pid: u16)
+        ensures { (packets : List (List ℕ)) (taken : List Taken)
+            → ReceiverStandsOver packets taken self.old
+            → ReceiverStandsOver packets (taken ++ Forgot pid ∷ []) self.new }
+    {
+        self.known.next_round(self.alloc);
+        self.collector.forget(pid);
+    }
+
+    /// Whether a load goes on with the last load of its PID, as `Demux::follows` says. It takes no memory.
+    pub fn follows(&self, packet: &[u8; 188], shape: &Shape) -> Option<bool>
+        requires { shape_in packet.now ≡ Ok shape.now }
+        ensures { (packets : List (List ℕ)) (taken : List Taken)
+            → ReceiverStandsOver packets taken self.now → result ≡ follows_in packets packet.now }
+    {
+        self.demux.follows(packet, shape)
+    }
+
     /// What the receiver has to show of the packets that it stands for: the needs that are not met, of which there is one at least, or
     /// else the whole screen (EN 300 468, 5.2). Its time is that of `heard_guide`.
     pub fn guide(&self) -> Result<Heard, AllocError>
-        ensures { (past : List (List ℕ)) → ReceiverStandsFor past self.now → IfOk result (λ heard. heard ≡ guide_of past) }
+        ensures over { (packets : List (List ℕ)) (taken : List Taken)
+            → ReceiverStandsOver packets taken self.now
+            → IfOk result (λ heard. heard ≡ guide_over packets taken) }
+        ensures heard { (past : List (List ℕ)) → ReceiverStandsFor past self.now
+            → IfOk result (λ heard. heard ≡ guide_of past) }
     {
         let latest = Latest {
             pat: self.latest.pat,
@@ -144,11 +180,17 @@ fn count_all(
 ) -> Result<(), TakeStop>
     requires known { AreKnown collector.old known.old }
     ensures known { AreKnown collector.new known.new }
-    ensures too_many { (past : List Counted) → CollectorStandsFor past collector.old → result ≡ Err TakeStop.TooMany → HaveTooManyKeys (past ++ counted_among sections.now) }
-    ensures dones { (past : List Counted) → CollectorStandsFor past collector.old → OnOk result (shown.new ≡ shown.old ++ map done_key (dones past (counted_among sections.now))) }
-    ensures stands { (past : List Counted) → CollectorStandsFor past collector.old → OnOk result (CollectorStandsFor (past ++ counted_among sections.now) collector.new) }
-    ensures latest { (past : List Counted) → CollectorStandsFor past collector.old → AreLatest (keys_shown past) (kept_keys latest.old)
-        → OnOk result (AreLatest (keys_shown (past ++ counted_among sections.now)) (kept_keys latest.new)) }
+    ensures too_many { (past : List Taken) → CollectorStandsOver past collector.old
+        → result ≡ Err TakeStop.TooMany
+        → HaveTooManyKeys (sections_taken past ++ counted_among sections.now) }
+    ensures dones { (past : List Taken) → CollectorStandsOver past collector.old
+        → OnOk result (shown.new
+        ≡ shown.old ++ map done_key (dones_over past (all_took (counted_among sections.now)))) }
+    ensures stands { (past : List Taken) → CollectorStandsOver past collector.old → OnOk result
+        (CollectorStandsOver (past ++ all_took (counted_among sections.now)) collector.new) }
+    ensures latest { (past : List Taken) → CollectorStandsOver past collector.old
+        → AreLatest (keys_shown_over past) (kept_keys latest.old) → OnOk result (AreLatest
+        (keys_shown_over (past ++ all_took (counted_among sections.now))) (kept_keys latest.new)) }
 {
     for section in sections {
         let done = match count(alloc, known, collector, section) {
@@ -172,9 +214,14 @@ fn count(
 ) -> Result<Option<DoneKey>, TakeStop>
     requires known { AreKnown collector.old known.old }
     ensures known { AreKnown collector.new known.new }
-    ensures too_many { (past : List Counted) → CollectorStandsFor past collector.old → result ≡ Err TakeStop.TooMany → HaveTooManyKeys (past ++ option_to_list (counted_in section.now)) }
-    ensures done { (past : List Counted) → CollectorStandsFor past collector.old → IfOk result (λ done. option_to_list done ≡ map done_key (dones past (option_to_list (counted_in section.now)))) }
-    ensures stands { (past : List Counted) → CollectorStandsFor past collector.old → OnOk result (CollectorStandsFor (past ++ option_to_list (counted_in section.now)) collector.new) }
+    ensures too_many { (past : List Taken) → CollectorStandsOver past collector.old
+        → result ≡ Err TakeStop.TooMany
+        → HaveTooManyKeys (sections_taken past ++ option_to_list (counted_in section.now)) }
+    ensures done { (past : List Taken) → CollectorStandsOver past collector.old
+        → IfOk result (λ done. option_to_list done
+        ≡ map done_key (dones_over past (all_took (option_to_list (counted_in section.now))))) }
+    ensures stands { (past : List Taken) → CollectorStandsOver past collector.old → OnOk result
+        (CollectorStandsOver (past ++ all_took (option_to_list (counted_in section.now))) collector.new) }
 {
     if known.counts_again(collector, section) {
         return Ok(None);

@@ -5,7 +5,8 @@ use Rattle.section_codec.specs.declared.table.Key.{Key}
 use Rattle.section_codec.specs.Contents.{Content}
 use Rattle.sub_collect.specs.Runs.{Counted}
 use Rattle.sub_collect.specs.Completions.{latest_of}
-use Rattle.sub_collect.specs.Collectors.{KeysHeard, CollectorStandsFor}
+use Rattle.sub_collect.specs.Marks.{Taken, content_over}
+use Rattle.sub_collect.specs.Collectors.{KeysHeard, CollectorStandsOver}
 use Rattle.sub_collect.specs.declared.completed.Completed.{Completed}
 use Rattle.guide_screen.specs.declared.contents.Latest.{Latest}
 use Rattle.guide_screen.specs.declared.screen.Named.{Named}
@@ -17,9 +18,9 @@ content_in past k = option_map (λ (d : Completed). d.sections) (latest_of k pas
 
 -- A collector keeps these contents.
 pub record KeepsContents (collector : KeysHeard) (content : Key → Option Content) : Type 0 where
-  pub past : List Counted
-  pub stands : CollectorStandsFor past collector
-  pub each : (k : Key) → content k ≡ content_in past k
+  pub past : List Taken
+  pub stands : CollectorStandsOver past collector
+  pub each : (k : Key) → content k ≡ content_over past k
 
 -- A collector and what was completed last are what a view has.
 pub record Holds (collector : KeysHeard) (latest : Latest) (V : View) : Type 0 where

@@ -33,11 +33,11 @@ shown_key past s d is =
 abbrev pub keyed : Counted → ℕ → DoneKey
 keyed s version = record { key = s.key; version = version }
 
-by_version : (s : Counted) (o : Option Completed) → ((d : Completed) → o ≡ Some d → d.key ≡ s.key) → option_to_list (option_map (keyed s) (option_map (λ (d : Completed). d.version) o)) ≡ map done_key (option_to_list o)
+pub by_version : (s : Counted) (o : Option Completed) → ((d : Completed) → o ≡ Some d → d.key ≡ s.key) → option_to_list (option_map (keyed s) (option_map (λ (d : Completed). d.version) o)) ≡ map done_key (option_to_list o)
 by_version s None same = refl
 by_version s (Some d) same = ap (λ k. let key : DoneKey = record { key = k; version = d.version } in key ∷ []) (sym (same d refl))
 
-listed : (o : Option Completed) → map done_key (option_to_list o) ≡ map done_key (cons_option o [])
+pub listed : (o : Option Completed) → map done_key (option_to_list o) ≡ map done_key (cons_option o [])
 listed None = refl
 listed (Some d) = refl
 
