@@ -1,0 +1,4 @@
+pub mod Flags
+pub mod Losing
+pub mod Alike
+pub mod Shown

@@ -1,0 +1,3 @@
+pub mod Strict
+pub mod Standing
+pub mod Laws

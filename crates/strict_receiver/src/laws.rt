@@ -1,0 +1,8 @@
+// Laws of a strict receiver.
+ghost use Rattle.strict_receiver.specs.Laws.{UnbrokenIsHeardAlike};
+
+/// Where no packet is a break on its PID, a strict receiver reports no loss, completes what any receiver
+/// completes, and has the same guide.
+pub fn unbroken_packets_are_heard_alike()
+    ensures { UnbrokenIsHeardAlike }
+{}
