@@ -37,12 +37,12 @@ use Rattle.air_coherence.proofs.Steady.{IsSteady, steady_told, steady_front, lat
 
 module _ (k : Key) (low high : ℕ) (all : List Aired) where
   -- a completion is of the airing of its last section
-  record IsOfLast (d : Completed) : Type 0 where
-    last : Told
-    is : IsToldOf k low high all last
-    key : d.key ≡ k
-    sections : d.sections ≡ is.content
-    version : d.version ≡ last.section.version
+  pub record IsOfLast (d : Completed) : Type 0 where
+    pub last : Told
+    pub is : IsToldOf k low high all last
+    pub key : d.key ≡ k
+    pub sections : d.sections ≡ is.content
+    pub version : d.version ≡ last.section.version
 
   of_run : (ts : List Told) (r : IsRun k low high all ts) (d : Completed) (o : Option Content) → completed (map section_of ts) ≡ o
       → completion_at (Some r.last.section) o ≡ Some d → IsOfLast d
@@ -64,7 +64,7 @@ module _ (k : Key) (low high : ℕ) (all : List Aired) where
       of_run (t ∷ ts) r d (completed (map section_of (t ∷ ts))) refl
       (ap (λ (o : Option Counted). completion_at o (completed (map section_of (t ∷ ts)))) (sym (latest_of_told (t ∷ ts) r.last r.latest)) ∙ e)
 
-  each_completion : (P : Completed → Type 0) → ((d : Completed) → IsOfLast d → P d) → (done ts : List Told) → AllByRecursion (IsToldOf k low high all) (done ++ ts)
+  pub each_completion : (P : Completed → Type 0) → ((d : Completed) → IsOfLast d → P d) → (done ts : List Told) → AllByRecursion (IsToldOf k low high all) (done ++ ts)
       → IsSteady k (done ++ ts) → AllByRecursion P (completions (map section_of done) (map section_of ts))
   each_completion P holds done [] each steady = tt
   each_completion P holds done (t ∷ ts) each steady =

@@ -100,7 +100,7 @@ behind_cycle k (Some kept) c before x (s ∷ ss) rest is are h none = (
 
 module _ (k : Key) (counted : is_counted k.pid k.table ≡ true) where
   -- it has a section of each key that it carries
-  some_heard : (past : List AiredTables) (x : Aired) (xs : List Aired) (h : RepeatingCycles past (x ∷ xs)) → CanBeHeard x.airing → (c : Content) → content_at k x.airing ≡ Some c
+  pub some_heard : (past : List AiredTables) (x : Aired) (xs : List Aired) (h : RepeatingCycles past (x ∷ xs)) → CanBeHeard x.airing → (c : Content) → content_at k x.airing ≡ Some c
       → (low high : ℕ) → low ≡ 0 → length (h.0.carried k.pid).groups ≤ high → part_told k past x h.0 low high ≡ [] → Prim.⊥
   some_heard past x xs h can c is low high first whole none =
       let own : Carries (of_pid k.pid x.packets) (filter_map (sent_on k.pid) h.0.sections) = h.0.carried k.pid in
@@ -110,7 +110,7 @@ module _ (k : Key) (counted : is_counted k.pid k.table ≡ true) where
       (subst (HoldAll c) (sym all ∙ none) (block-complete past x.airing can k c is counted h.0.sections h.0.are))
 
   -- what is kept with one airing more
-  kept-none : (past : List AiredTables) (a : AiredTables) → content_at k a ≡ None → kept_after (carried k (past ++ a ∷ [])) ≡ kept_after (carried k past)
+  pub kept-none : (past : List AiredTables) (a : AiredTables) → content_at k a ≡ None → kept_after (carried k (past ++ a ∷ [])) ≡ kept_after (carried k past)
   kept-none past a e =
       ap kept_after (carried-push k past a ∙ ap (λ (o : Option Content). carried k past ++ option_to_list o) e ∙ append-nil (carried k past))
 

@@ -24,7 +24,7 @@ use Rattle.air_joins.specs.Joining.{heard_between}
 use Rattle.air_joins.proofs.Whole.{cycle_is_heard}
 
 -- of lists with an element there is a last one
-some_last : {X : Type 0} (xs : List X) → (xs ≡ [] → Prim.⊥) → (x : X) × (last_of xs ≡ Some x)
+pub some_last : {X : Type 0} (xs : List X) → (xs ≡ [] → Prim.⊥) → (x : X) × (last_of xs ≡ Some x)
 some_last [] some = absurd (some refl)
 some_last (x ∷ xs) some = go (last_of xs) refl
   where
@@ -33,7 +33,7 @@ some_last (x ∷ xs) some = go (last_of xs) refl
     go (Some y) e = (y, ap (λ o. option_or o (Some x)) e)
 
 -- a section on a PID among all
-on_own_pid : (pid : ℕ) (bytes : List ℕ) (front rest : List (List ℕ)) (rs : List RawSection) → filter_map (bytes_on pid) rs ≡ front ++ bytes ∷ rest
+pub on_own_pid : (pid : ℕ) (bytes : List ℕ) (front rest : List (List ℕ)) (rs : List RawSection) → filter_map (bytes_on pid) rs ≡ front ++ bytes ∷ rest
     → (before : List RawSection) × (r : RawSection) × (after : List RawSection) × (rs ≡ before ++ r ∷ after) × (r.pid ≡ pid) × (r.bytes ≡ bytes)
 on_own_pid pid bytes front rest [] e = none front e
   where
@@ -60,12 +60,12 @@ on_own_pid pid bytes front rest (r ∷ rs) e = go (r.pid == pid) refl front e (�
         let behind : filter_map (bytes_on pid) rs ≡ front ++ bytes ∷ rest = cc in
         later (rec front behind)
 
-told_moment : (r : RawSection) (at : ℕ) → at < 65536 * 86400 → r.pid ≡ 0x0014 → r.bytes ≡ tdt_section at → moment_in r ≡ Some at
+pub told_moment : (r : RawSection) (at : ℕ) → at < 65536 * 86400 → r.pid ≡ 0x0014 → r.bytes ≡ tdt_section at → moment_in r ≡ Some at
 told_moment r at lt pid bytes =
     ap (λ (b : Bool). if b then moment_by (section_in r.bytes) else None) (eq-eqb r.pid 0x0014 pid) ∙ ap (λ (l : List ℕ). moment_by (section_in l)) bytes
     ∙ ap moment_by (tdt-is_a_section at lt) ∙ moment_from_bcd-moment_bcd at lt
 
-some_moment : (before after : List RawSection) (r : RawSection) (at : ℕ) → moment_in r ≡ Some at → filter_map moment_in (before ++ r ∷ after) ≡ [] → Prim.⊥
+pub some_moment : (before after : List RawSection) (r : RawSection) (at : ℕ) → moment_in r ≡ Some at → filter_map moment_in (before ++ r ∷ after) ≡ [] → Prim.⊥
 some_moment before after r at told none =
     let parts : filter_map moment_in (before ++ r ∷ after) ≡ filter_map moment_in before ++ (at ∷ filter_map moment_in after) =
     filter_map-append moment_in before (r ∷ after) ∙ ap (λ (o : Option ℕ). filter_map moment_in before ++ cons_option o (filter_map moment_in after)) told in

@@ -31,7 +31,7 @@ use Rattle.air_exact.proofs.Ends.{CarryWhileHeard, ends_whole, ends_completed}
 
 -- ---- a cycle among others
 
-cycle_at : (past : List AiredTables) (before : List Aired) (x : Aired) (after : List Aired) → RepeatingCycles past (before ++ x ∷ after) → (p : List AiredTables) × IsRepeatingCycle p x
+pub cycle_at : (past : List AiredTables) (before : List Aired) (x : Aired) (after : List Aired) → RepeatingCycles past (before ++ x ∷ after) → (p : List AiredTables) × IsRepeatingCycle p x
 cycle_at past [] x after h = (past, h.0)
 cycle_at past (y ∷ before) x after h = cycle_at (past ++ y.airing ∷ []) before x after h.1
 
@@ -53,7 +53,7 @@ some_packet past x h =
 
 -- ---- the last completion of a key
 
-last_content : (heard : List Counted) (c : Content) → completed heard ≡ Some c → option_map (λ (d : Completed). d.sections) (latest_done (completions [] heard)) ≡ Some c
+pub last_content : (heard : List Counted) (c : Content) → completed heard ≡ Some c → option_map (λ (d : Completed). d.sections) (latest_done (completions [] heard)) ≡ Some c
 last_content heard c e = go (latest_section heard) refl
   where
     go : (o : Option Counted) → latest_section heard ≡ o → option_map (λ (d : Completed). d.sections) (latest_done (completions [] heard)) ≡ Some c
@@ -80,7 +80,7 @@ contents_heard airings before x after is can join end stays k counted c content 
     ∙ last_content (map section_of (part_heard airings xs is can k join end)) c done
   where
     carry : CarryWhileHeard k counted c (count_before k.pid (air (before ++ x ∷ after)) end - (length (of_pid k.pid (air before)) + length (of_pid k.pid x.packets))) after
-    carry one two y e lt =
+    carry one two y e has lt =
         let xs : List Aired = before ++ x ∷ after in
         let front : List Aired = before ++ x ∷ one in
         let cut : xs ≡ front ++ y ∷ two = ap (λ (l : List Aired). before ++ x ∷ l) e ∙ sym (append_assoc before (x ∷ one) (y ∷ two)) in

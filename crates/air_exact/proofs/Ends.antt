@@ -15,7 +15,7 @@ use Rattle.version_book.specs.Book.{GivenVersion, kept_after}
 use Rattle.version_book.specs.Slots.{next_version}
 use Rattle.ts_packets.specs.Packets.{Carries}
 use Rattle.ts_packets.specs.Counting.{of_pid}
-use Rattle.ts_demux.proofs.Parts.{within-all}
+use Rattle.ts_demux.proofs.Parts.{within-all, within-none}
 use Rattle.sub_collect.specs.Runs.{Counted, run_of, latest_section, has_number, latest_with, completed}
 use Rattle.sub_collect.specs.Laws.{HoldAll, IsSectionOf, IsWith, IsNumbered}
 use Rattle.sub_collect.proofs.Runs.{version-joins, run_of-new, latest-push, no-latest}
@@ -29,7 +29,7 @@ use Rattle.air_hearing.proofs.Blocks.{block, block-complete}
 use Rattle.air_joins.proofs.Cycles.{length_groups, count_both}
 use Rattle.air_coherence.proofs.Counts.{key_heard, sent_of_key}
 use Rattle.air_coherence.proofs.Told.{Told, section_of, told_each, part_told, told_by, sections_each, none_told, part_sound, IsToldOf}
-use Rattle.air_coherence.proofs.Steady.{carried_by, IsSteady, latest_told, IsRun, run_of_steady, some_latest, kept-some, version-some}
+use Rattle.air_coherence.proofs.Steady.{carried_by, IsSteady, latest_told, IsRun, run_of_steady, some_latest, kept-none, kept-some, version-some, some_heard}
 
 -- ---- more sections hold what some hold
 
@@ -164,12 +164,13 @@ ends_completed k low high all c v ts numbered each steady ends = go ends.last en
 module _ (k : Key) (counted : is_counted k.pid k.table ≡ true) (c : Content) where
   -- the sections of a cycle that is reached carry it
   abbrev pub CarryWhileHeard : ℕ → List Aired → Type 0
-  CarryWhileHeard high xs = (one two : List Aired) (y : Aired) → xs ≡ one ++ y ∷ two → length (of_pid k.pid (air one)) < high → content_at k y.airing ≡ Some c
+  CarryWhileHeard high xs =
+      (one two : List Aired) (y : Aired) → xs ≡ one ++ y ∷ two → 0 < length (of_pid k.pid y.packets) → length (of_pid k.pid (air one)) < high → content_at k y.airing ≡ Some c
 
   carry_on : (high : ℕ) (x : Aired) (xs : List Aired) (n : ℕ) → n ≡ length (of_pid k.pid x.packets) → CarryWhileHeard high (x ∷ xs) → CarryWhileHeard (high - n) xs
-  carry_on high x xs n size carry one two y e lt =
+  carry_on high x xs n size carry one two y e some lt =
       let both = count_both k.pid x.packets (air one) in
-      carry (x ∷ one) two y (ap (λ (l : List Aired). x ∷ l) e) (let near : length (of_pid k.pid (air (x ∷ one))) < high = omega (arith, both, size, lt) in near)
+      carry (x ∷ one) two y (ap (λ (l : List Aired). x ∷ l) e) some (let near : length (of_pid k.pid (air (x ∷ one))) < high = omega (arith, both, size, lt) in near)
 
   late_each : (v : ℕ) (before : List Aired) (x : Aired) (ss : List Counted) → content_at k x.airing ≡ Some c → AllByRecursion (λ (s : Counted). s.version ≡ v) ss
       → AllByRecursion (IsLate k c v) (told_each before x ss)
@@ -194,9 +195,11 @@ module _ (k : Key) (counted : is_counted k.pid k.table ≡ true) (c : Content) w
   late_told : (v : ℕ) (past : List AiredTables) (before xs : List Aired) (h : RepeatingCycles past xs) → AllByRecursion CanBeHeard (airings_of xs) → (low high : ℕ) → low ≡ 0
       → kept_after (carried k past) ≡ Some (record { version = v; content = c }) → CarryWhileHeard high xs → AllByRecursion (IsLate k c v) (told_by k past before xs h low high)
   late_told v past before [] h can low high first kept carry = tt
-  late_told v past before (x ∷ xs) h can low high first kept carry = go (lt_or 0 high)
+  late_told v past before (x ∷ xs) h can low high first kept carry = go (lt_or 0 high) (lt_or 0 n)
       (λ is. late_told v (past ++ x.airing ∷ []) (before ++ x ∷ []) xs h.1 can.1 (low - n) (high - n) (let none : low - n ≡ 0 = omega (arith, first) in none)
       (still_kept past x.airing v kept is) (carry_on high x xs n size carry))
+      (λ none. late_told v (past ++ x.airing ∷ []) (before ++ x ∷ []) xs h.1 can.1 (low - n) (high - n) (let z : low - n ≡ 0 = omega (arith, first) in z)
+      (kept-none k counted past x.airing none ∙ kept) (carry_on high x xs n size carry))
     where
       own : Carries (of_pid k.pid x.packets) (filter_map (sent_on k.pid) h.0.sections)
       own = h.0.carried k.pid
@@ -210,12 +213,23 @@ module _ (k : Key) (counted : is_counted k.pid k.table ≡ true) (c : Content) w
       rest : List Told
       rest = told_by k (past ++ x.airing ∷ []) (before ++ x ∷ []) xs h.1 (low - n) (high - n)
 
-      go : (0 < high) ⊎ (high ≤ 0) → (content_at k x.airing ≡ Some c → AllByRecursion (IsLate k c v) rest)
+      -- of a cycle without packets of the PID nothing is heard
+      silent : n ≤ 0 → part_told k past x h.0 low high ≡ []
+      silent few = ap (key_heard k) (within-none low high own.groups (inr (let le : n ≤ low = omega (arith, few) in le)))
+
+      none_carried : n ≤ 0 → (o : Option Content) → content_at k x.airing ≡ o → content_at k x.airing ≡ None
+      none_carried few None e = e
+      none_carried few (Some d) e = absurd (some_heard k counted past x xs h can.0 d e low high first (let le : n ≤ high = omega (arith, few) in le) (silent few))
+
+      go : (0 < high) ⊎ (high ≤ 0) → (0 < n) ⊎ (n ≤ 0) → (content_at k x.airing ≡ Some c → AllByRecursion (IsLate k c v) rest)
+          → (content_at k x.airing ≡ None → AllByRecursion (IsLate k c v) rest)
           → AllByRecursion (IsLate k c v) (told_each before x (part_told k past x h.0 low high) ++ rest)
-      go (inr none) more =
+      go (inr none) has more less =
           subst (AllByRecursion (IsLate k c v)) (sym (none_told k past before (x ∷ xs) h low high (let le : high ≤ low = omega (arith, none) in le))) tt
-      go (inl some) more =
-          let is : content_at k x.airing ≡ Some c = carry [] xs x refl some in
+      go (inl some) (inr few) more less =
+          subst (λ (l : List Counted). AllByRecursion (IsLate k c v) (told_each before x l ++ rest)) (sym (silent few)) (less (none_carried few (content_at k x.airing) refl))
+      go (inl some) (inl has) more less =
+          let is : content_at k x.airing ≡ Some c = carry [] xs x refl (let any : 0 < length (of_pid k.pid x.packets) = omega (arith, has, size) in any) some in
           let version = same_version past x.airing v kept is in
           all_append (IsLate k c v) (told_each before x (part_told k past x h.0 low high)) rest
           (late_each v before x (part_told k past x h.0 low high) is

@@ -6,6 +6,7 @@ use Rattle.std.specs.List.{AllByRecursion, cons_option}
 use Rattle.std.proofs.lemmas.List.Elements.{filter-append}
 use Rattle.section_codec.specs.declared.table.Key.{Key}
 use Rattle.section_codec.proofs.KeyOrderFacts.{is_key-itself}
+use Rattle.sub_collect.proofs.MarksShown.{shown_some}
 use Rattle.sub_collect.specs.Runs.{Counted}
 use Rattle.sub_collect.specs.Completions.{is_of, of_key, completion, completions, shown_after, shown_at, latest_of, repeats, dones}
 use Rattle.sub_collect.specs.declared.completed.Completed.{Completed}
@@ -41,19 +42,6 @@ completion_at_place P before (t ∷ ts) all (x ∷ front) more s e d f =
 
 -- ---- what is shown
 
-shown_is : (before o : Option Completed) (d : Completed) → shown_after before o ≡ Some d → o ≡ Some d
-shown_is before None d e = (let none : None ≡ Some d = nothing before ∙ e in cc)
-  where
-    nothing : (before : Option Completed) → None ≡ shown_after before None
-    nothing None = refl
-    nothing (Some b) = refl
-shown_is None (Some c) d e = e
-shown_is (Some b) (Some c) d e = go (repeats b c) e
-  where
-    go : (t : Bool) → (if t then None else Some c) ≡ Some d → Some c ≡ Some d
-    go true e = cc
-    go false e = e
-
 each_done : (P : Completed → Type 0) (past ss : List Counted)
     → ((front more : List Counted) (s : Counted) → ss ≡ front ++ s ∷ more → (d : Completed) → shown_at (past ++ front) s ≡ Some d → P d)
     → AllByRecursion P (dones past ss)
@@ -81,5 +69,5 @@ all_shown P heard each = each_done P [] heard one
         let parts : of_key k heard ≡ of_key k front ++ s ∷ of_key k more =
         ap (of_key k) e ∙ filter-append (is_of k) front (s ∷ more) ∙ ap (λ (l : List Counted). of_key k front ++ l) (of_own_key s more) in
         let done : completion (of_key k front ++ s ∷ []) ≡ Some d =
-        ap completion (sym (of_key-one k front s refl)) ∙ shown_is (latest_of k front) (completion (of_key k (front ++ s ∷ []))) d f in
+        ap completion (sym (of_key-one k front s refl)) ∙ shown_some (latest_of k front) (completion (of_key k (front ++ s ∷ []))) d f in
         completion_at_place P [] (of_key k heard) (each k) (of_key k front) (of_key k more) s parts d done

@@ -34,7 +34,7 @@ pub element_at : (P : AiredTables → Type 0) (before : List Aired) (x : Aired) 
 element_at P [] x after all = all.0
 element_at P (y ∷ before) x after all = element_at P before x after all.1
 
-key_carried : (Q : Key → Type 0) (k : Key) (ts : List SubTable) → AllByRecursion (λ (t : SubTable). Q t.key) ts → (c : Content) → content_among k ts ≡ Some c → Q k
+pub key_carried : (Q : Key → Type 0) (k : Key) (ts : List SubTable) → AllByRecursion (λ (t : SubTable). Q t.key) ts → (c : Content) → content_among k ts ≡ Some c → Q k
 key_carried Q k [] all c e = cc
 key_carried Q k (t ∷ ts) all c e = pick (is_key k t.key) refl e (λ f. key_carried Q k ts all.1 c f)
   where
@@ -42,11 +42,11 @@ key_carried Q k (t ∷ ts) all c e = pick (is_key k t.key) refl e (λ f. key_car
     pick true f g rest = subst Q (sym (is_key-same k t.key f)) all.0
     pick false f g rest = rest g
 
-some_content : (o : Option Content) → IsSome o → (c : Content) × (o ≡ Some c)
+pub some_content : (o : Option Content) → IsSome o → (c : Content) × (o ≡ Some c)
 some_content None some = (let no : false ≡ true = some in cc)
 some_content (Some c) some = (c, refl)
 
-some_done : (o : Option Completed) (c : Content) → option_map (λ (d : Completed). d.sections) o ≡ Some c → (d : Completed) × (o ≡ Some d)
+pub some_done : (o : Option Completed) (c : Content) → option_map (λ (d : Completed). d.sections) o ≡ Some c → (d : Completed) × (o ≡ Some d)
 some_done None c e = cc
 some_done (Some d) c e = (d, refl)
 

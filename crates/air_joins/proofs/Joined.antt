@@ -34,7 +34,7 @@ abbrev pub groups_by : (pid : ℕ) (past : List AiredTables) (xs : List Aired) �
 groups_by pid past [] h = []
 groups_by pid past (x ∷ xs) h = (h.0.carried pid).groups ++ groups_by pid (past ++ x.airing ∷ []) xs h.1
 
-pieces_by : (pid : ℕ) (past : List AiredTables) (xs : List Aired) (h : RepeatingCycles past xs)
+pub pieces_by : (pid : ℕ) (past : List AiredTables) (xs : List Aired) (h : RepeatingCycles past xs)
     → of_pid pid (air xs) ≡ pieces [] (groups_by pid past xs h)
 pieces_by pid past [] h = refl
 pieces_by pid past (x ∷ xs) h =
@@ -44,7 +44,7 @@ pieces_by pid past (x ∷ xs) h =
     pieces_by pid (past ++ x.airing ∷ []) xs h.1 ∙ ap (λ (r : List ℕ). pieces r rest) (sym own.ended) in
     of_pid-append pid x.packets (air xs) ∙ ap₂ (λ (ps qs : List Piece). ps ++ qs) own.are later ∙ sym (pieces-append [] own.groups rest)
 
-room_by : (pid : ℕ) (past : List AiredTables) (xs : List Aired) (h : RepeatingCycles past xs) → HaveSectionBytes [] (groups_by pid past xs h)
+pub room_by : (pid : ℕ) (past : List AiredTables) (xs : List Aired) (h : RepeatingCycles past xs) → HaveSectionBytes [] (groups_by pid past xs h)
 room_by pid past [] h = tt
 room_by pid past (x ∷ xs) h =
     let own : Carries (of_pid pid x.packets) (filter_map (sent_on pid) h.0.sections) = h.0.carried pid in
@@ -52,7 +52,7 @@ room_by pid past (x ∷ xs) h =
     HaveRoom-append [] own.groups rest own.have_room
     (subst (λ (r : List ℕ). HaveSectionBytes r rest) (sym own.ended) (room_by pid (past ++ x.airing ∷ []) xs h.1))
 
-sections_by : (pid : ℕ) (past : List AiredTables) (xs : List Aired) (h : RepeatingCycles past xs)
+pub sections_by : (pid : ℕ) (past : List AiredTables) (xs : List Aired) (h : RepeatingCycles past xs)
     → filter_map (sent_on pid) (sent_by past xs h) ≡ all_of (groups_by pid past xs h)
 sections_by pid past [] h = refl
 sections_by pid past (x ∷ xs) h =
@@ -82,7 +82,7 @@ carried_by pid past xs h = record {
 pub repeating_carries : RepeatingAirCarries
 repeating_carries airings xs is pid = carried_by pid [] xs is.cycles
 
-sent_each : (past : List AiredTables) (xs : List Aired) (h : RepeatingCycles past xs) → CanBeSent (airings_of xs)
+pub sent_each : (past : List AiredTables) (xs : List Aired) (h : RepeatingCycles past xs) → CanBeSent (airings_of xs)
     → AllByRecursion (λ (x : Sent). IsSection x.bytes) (sent_by past xs h)
 sent_each past [] h fit = tt
 sent_each past (x ∷ xs) h fit =

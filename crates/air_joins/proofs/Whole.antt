@@ -56,12 +56,12 @@ heard_is_sent airings xs is fit pid lt join end =
 -- ---- a cycle that is heard whole
 
 -- what the cycle behind others sends
-abbrev sections_at : (past : List AiredTables) (before : List Aired) (x : Aired) (after : List Aired)
+abbrev pub sections_at : (past : List AiredTables) (before : List Aired) (x : Aired) (after : List Aired)
     → RepeatingCycles past (before ++ x ∷ after) → List Sent
 sections_at past [] x after h = h.0.sections
 sections_at past (y ∷ before) x after h = sections_at (past ++ y.airing ∷ []) before x after h.1
 
-are_at : (past : List AiredTables) (before : List Aired) (x : Aired) (after : List Aired) (h : RepeatingCycles past (before ++ x ∷ after))
+pub are_at : (past : List AiredTables) (before : List Aired) (x : Aired) (after : List Aired) (h : RepeatingCycles past (before ++ x ∷ after))
     → AreSentOf (past ++ airings_of before) x.airing (sections_at past before x after h)
 are_at past [] x after h = subst (λ (l : List AiredTables). AreSentOf l x.airing h.0.sections) (sym (append-nil past)) h.0.are
 are_at past (y ∷ before) x after h =
@@ -82,7 +82,7 @@ first_high : (high n l z : ℕ) → n ≡ l → z ≡ 0 → z + l ≤ high → n
 first_high high n l z e f le = omega (arith, e, f, le)
 
 -- all of it is heard, behind and before others
-cycle_part : (pid : ℕ) (past : List AiredTables) (before : List Aired) (x : Aired) (after : List Aired)
+pub cycle_part : (pid : ℕ) (past : List AiredTables) (before : List Aired) (x : Aired) (after : List Aired)
     (h : RepeatingCycles past (before ++ x ∷ after)) (low high : ℕ)
     → low ≤ length (of_pid pid (air before)) → length (of_pid pid (air before)) + length (of_pid pid x.packets) ≤ high
     → (front back : List (List ℕ))
@@ -121,7 +121,7 @@ cycle_part pid past (y ∷ before) x after h low high under over =
           ∙ sym (append_assoc first r.0 (sections ++ r.1)),
     )
 
-among : (past : List AiredTables) (a : AiredTables) (ss : List Sent) (s : Sent) → AreSentOf past a ss → IsSentOf past a s → Contains ss s
+pub among : (past : List AiredTables) (a : AiredTables) (ss : List Sent) (s : Sent) → AreSentOf past a ss → IsSentOf past a s → Contains ss s
 among past a ss s are (inl (t, p, has_t, has_p, e)) = subst (Contains ss) (sym e) (are.all t p has_t has_p)
 among past a ss s are (inr e) = subst (Contains ss) (sym e) are.time
 

@@ -1,0 +1,9 @@
+pub mod Lanes
+pub mod Covers
+pub mod ByParts
+pub mod Heard
+pub mod Coherent
+pub mod Exact
+pub mod Views
+pub mod Dones
+pub mod Alike
