@@ -39,7 +39,7 @@ use Rattle.air_exact.proofs.Contents.{can_at}
 -- ---- the publication of an airing
 
 -- the tables of the airing with this place
-tables_at : (mux : Mux) (guides : ℕ → Guide) (numbers : List ℕ) (before : List Aired) (x : Aired) (after : List Aired)
+pub tables_at : (mux : Mux) (guides : ℕ → Guide) (numbers : List ℕ) (before : List Aired) (x : Aired) (after : List Aired)
     → ArePublished mux guides numbers (airings_of (before ++ x ∷ after)) → x.airing.tables ≡ tables_of mux (guides (number_at numbers (length before)))
 tables_at mux guides [] [] x after e = cc
 tables_at mux guides (n ∷ numbers) [] x after e = (let first : x.airing.tables ≡ tables_of mux (guides n) = cc in first)
@@ -58,7 +58,7 @@ each_published P mux guides holds (n ∷ numbers) (a ∷ airings) e =
     let rest : ArePublished mux guides numbers airings = cc in
     (subst P (sym first) (holds n), each_published P mux guides holds numbers airings rest)
 
-some_clock : (o : Option ℕ) → IsSome o → (clock : ℕ) × (o ≡ Some clock)
+pub some_clock : (o : Option ℕ) → IsSome o → (clock : ℕ) × (o ≡ Some clock)
 some_clock None some = (let no : false ≡ true = some in cc)
 some_clock (Some at) some = (at, refl)
 
@@ -70,10 +70,10 @@ module _ (nit_back : NitReadsBack) (sdt_back : SdtReadsBack) (mux : Mux) (guides
   abbrev guide : Guide
   guide = guides (number_at numbers (length before))
 
-  published : ArePublished mux guides numbers (airings_of (before ++ x ∷ after))
+  pub published : ArePublished mux guides numbers (airings_of (before ++ x ∷ after))
   published = subst (ArePublished mux guides numbers) (sym is.airings_are) are
 
-  own : x.airing.tables ≡ tables_of mux guide
+  pub own : x.airing.tables ≡ tables_of mux guide
   own = tables_at mux guides numbers before x after published
 
   stays_on_air : (join end : ℕ) → StaysPublished numbers join end before x after → StaysOnAir join end before x after
@@ -102,7 +102,7 @@ module _ (nit_back : NitReadsBack) (sdt_back : SdtReadsBack) (mux : Mux) (guides
   others_found =
       all_behind Found (pmt_tables mux) (nit_table mux ∷ sdt_table mux guide ∷ (present_tables mux guide ++ (all_near_tables mux guide ++ all_far_tables mux guide))) found.1
 
-  once : HaveOneEach airings x.airing (pat_key mux) (nit_key mux) (sdt_key mux)
+  pub once : HaveOneEach airings x.airing (pat_key mux) (nit_key mux) (sdt_key mux)
   once = record {
     pats = each_published (AllByRecursion (λ (t : SubTable). is_pat_key t.key ≡ true → t.key ≡ pat_key mux)) mux guides (λ n. only_pat mux (guides n) sound.sound) numbers airings are;
     nits = each_published (AllByRecursion (λ (t : SubTable). is_nit_key t.key ≡ true → t.key ≡ nit_key mux)) mux guides (λ n. only_nit mux (guides n) sound.sound) numbers airings are;
@@ -112,7 +112,7 @@ module _ (nit_back : NitReadsBack) (sdt_back : SdtReadsBack) (mux : Mux) (guides
     sdt_is = record { passes = eq-eqb mux.stream mux.stream refl; counted = refl; some = some_of (sdt_key mux) (sdt_table mux guide).sections others_found.1.0 };
   }
 
-  has_publication : (clock : ℕ) (V : View) → HasOnAir x.airing (pat_key mux) (nit_key mux) (sdt_key mux) V → V.clock ≡ Some clock → HasPublication mux guide clock V
+  pub has_publication : (clock : ℕ) (V : View) → HasOnAir x.airing (pat_key mux) (nit_key mux) (sdt_key mux) V → V.clock ≡ Some clock → HasPublication mux guide clock V
   has_publication clock V on told = record {
     contents = all_two (λ (t : SubTable). is_counted t.key.pid t.key.table ≡ true) Found (λ (t : SubTable). V.content t.key ≡ Some t.sections)
         (λ t counted found. on.content t.key t.sections counted found) (tables_of mux guide) (published_counted mux guide sound.sound) found;

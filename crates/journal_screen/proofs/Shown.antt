@@ -32,10 +32,10 @@ use Rattle.journal_screen.proofs.Names.{published_named}
 use Rattle.journal_screen.proofs.ReadBack.{nit_back, sdt_back}
 
 module _ (mux : Mux) (journal : List Entry) (is : IsAsRead mux journal) (legal : Legal mux journal) where
-  abbrev guides : ℕ → Guide
+  abbrev pub guides : ℕ → Guide
   guides n = publication mux journal n
 
-  can_publish : (n : ℕ) → CanBePublished mux (guides n)
+  pub can_publish : (n : ℕ) → CanBePublished mux (guides n)
   can_publish n =
       let within = publications_within mux journal n is.sound.sound.services is.sound.sound.ascend legal in
       record {
@@ -46,7 +46,7 @@ module _ (mux : Mux) (journal : List Entry) (is : IsAsRead mux journal) (legal :
       }
 
   -- the first airings of a journal have the tables of the publications with its first numbers
-  front_published : (front others : List AiredTables) (aired : List (ℕ × Moment)) → map (airing_at mux journal) aired ≡ front ++ others
+  pub front_published : (front others : List AiredTables) (aired : List (ℕ × Moment)) → map (airing_at mux journal) aired ≡ front ++ others
       → ArePublished mux guides (map (λ (swap : ℕ × Moment). swap.0) aired) front
   front_published [] others aired e = refl
   front_published (a ∷ front) others [] e = cc
@@ -55,7 +55,7 @@ module _ (mux : Mux) (journal : List Entry) (is : IsAsRead mux journal) (legal :
       let rest : map (airing_at mux journal) aired ≡ front ++ others = cc in
       ap₂ (λ (ts : List SubTable) (tables : List (List SubTable)). ts ∷ tables) (ap (λ (x : AiredTables). x.tables) (sym here)) (front_published front others aired rest)
 
-  abbrev IsInRange : AiredTables → Type 0
+  abbrev pub IsInRange : AiredTables → Type 0
   IsInRange a = a.moment < 65536 * 86400
 
   moments : (aired : List (ℕ × Moment)) → AllByRecursion (λ (swap : ℕ × Moment). (swap.1).0 < 65536 * 86400) aired → AllByRecursion IsInRange (map (airing_at mux journal) aired)
@@ -63,10 +63,10 @@ module _ (mux : Mux) (journal : List Entry) (is : IsAsRead mux journal) (legal :
   moments (swap ∷ aired) all = (all.0, moments aired all.1)
 
   module _ (cycles : List Aired) (others : List AiredTables) (are : airings mux journal ≡ airings_of cycles ++ others) (air_is : IsRepeatingAirOf (airings_of cycles) cycles) where
-    can : AllByRecursion CanBeHeard (airings_of cycles)
+    pub can : AllByRecursion CanBeHeard (airings_of cycles)
     can = all_front CanBeHeard (airings_of cycles) others (subst (AllByRecursion CanBeHeard) are (airings_heard mux journal is.sound is.edits legal))
 
-    in_range : AllByRecursion IsInRange (airings_of cycles)
+    pub in_range : AllByRecursion IsInRange (airings_of cycles)
     in_range =
         all_front IsInRange (airings_of cycles) others
         (subst (AllByRecursion IsInRange) are (moments (swaps journal) (swaps_range mux journal is.sound.sound is.steps legal)))
