@@ -30,7 +30,7 @@ said_play play = Play play.fold (option_map string_bytes play.resume)
 -- the words of this command say this
 abbrev pub said : Command → CommandLine
 said (command.Play play) = said_play play
-said command.Listen = Listen
+said (command.Listen strict) = Listen strict
 said (command.Live live) = said_live live
 said (command.Soak number) = Soak number
 said (command.Audit path) = Audit (string_bytes path)
@@ -38,7 +38,7 @@ said (command.Audit path) = Audit (string_bytes path)
 -- the limits of a command: at most 16 feeds, 1,000 cycles, and 8 views; the number of a load has at most nine digits
 abbrev pub IsWithin : Command → Type 0
 IsWithin (command.Play play) = Unit {0}
-IsWithin command.Listen = Unit {0}
+IsWithin (command.Listen strict) = Unit {0}
 IsWithin (command.Live live) = (length live.feeds.items ≤ 16) × (live.cycles ≤ 1000) × (length live.views ≤ 8)
 IsWithin (command.Soak number) = number ≤ 999999999
 IsWithin (command.Audit path) = Unit {0}

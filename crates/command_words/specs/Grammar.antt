@@ -96,7 +96,8 @@ view_of (View s) = Some s
 pub data CommandLine : Type 0 where
   -- whether the report is a checkpoint, and the path of the checkpoint from which it goes on
   Play : Bool → Option (List ℕ) → CommandLine
-  Listen : CommandLine
+  -- whether it forgets a PID at each break of its continuity counters
+  Listen : Bool → CommandLine
   -- the paths of its feeds, in order, the number of cycles, the first packet that its monitor hears, and the services of its views, in order
   Live : List (List ℕ) → ℕ → ℕ → List ℕ → CommandLine
   -- the number of its load
@@ -112,10 +113,11 @@ live_with feeds cycles joins views = None
 abbrev pub live_of : List Setting → Option CommandLine
 live_of settings = live_with (filter_map feed_of settings) (filter_map cycles_of settings) (filter_map join_of settings) (filter_map view_of settings)
 
--- a command without options
+-- `--strict` at most once, and no other word
 abbrev pub listen_of : List (List ℕ) → Option CommandLine
-listen_of [] = Some Listen
-listen_of (word ∷ words) = None
+listen_of [] = Some (Listen false)
+listen_of (word ∷ []) = if bytes_eq word (codes "--strict") then Some (Listen true) else None
+listen_of (word ∷ next ∷ words) = None
 
 -- one word, the number of a load
 abbrev pub soak_of : List (List ℕ) → Option CommandLine

@@ -29,7 +29,8 @@ pub struct LiveWords {
 #[derive(Drop)]
 pub enum Command {
     Play(PlayWords),
-    Listen,
+    /// A recording, heard; with true it forgets a PID at each break of its continuity counters.
+    Listen(bool),
     Live(LiveWords),
     /// A run of a load of its own making: the number of the load, 0 to 999,999,999.
     Soak(u64),
@@ -46,7 +47,7 @@ pub enum WordsStop {
 
 /// The command that words spell; the program's name is not among them.
 ///
-/// `listen` has no further word. `play` has, in any order, `--fold` and `--resume PATH`, each at most once. `soak` has one,
+/// `listen` may have the one word `--strict`. `play` has, in any order, `--fold` and `--resume PATH`, each at most once. `soak` has one,
 /// the number of its load, 0 to 999,999,999. `live` has, in any order, `--feed PATH` 1 to 16 times, `--cycles N` once,
 /// `--join J` once and `--view SERVICE`, 0 to 65,535, at most 8 times. `audit` has `--air PATH` once. An option with a value
 /// is one word with `=`, or two words, of which the second does not begin with `-`. A path is not empty and is not `-`. A
@@ -91,13 +92,16 @@ fn play(alloc: Global, words: &[String]) -> Result<Command, WordsStop>
     }
 }
 
-// `listen`, behind which no word stands.
+// `listen`, which `--strict` may follow, and no other word.
 fn listen(words: &[String]) -> Option<Command>
     ensures value { option_map said result ≡ listen_of (texts words.now) }
     ensures within { IfSome result IsWithin }
 {
-    if words.is_empty() {
-        Some(Command::Listen)
+    let Some((word, behind)) = words.split_first() else {
+        return Some(Command::Listen(false));
+    };
+    if behind.is_empty() && word.as_str() == "--strict" {
+        Some(Command::Listen(true))
     } else {
         None
     }
