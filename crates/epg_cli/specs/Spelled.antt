@@ -19,8 +19,17 @@ IsFold words = command_of (texts words) ≡ Some (Play true None)
 abbrev pub IsResume : {Y : Type 0} → List (String Y) → List ℕ → Bool → Type 0
 IsResume words path fold = command_of (texts words) ≡ Some (Play fold (Some path))
 
+-- `listen` without a word
 abbrev pub IsListen : {Y : Type 0} → List (String Y) → Type 0
-IsListen words = command_of (texts words) ≡ Some Listen
+IsListen words = command_of (texts words) ≡ Some (Listen false)
+
+-- with `--strict`
+abbrev pub IsStrictListen : {Y : Type 0} → List (String Y) → Type 0
+IsStrictListen words = command_of (texts words) ≡ Some (Listen true)
+
+-- with it or without
+abbrev pub SpellsListen : {Y : Type 0} → List (String Y) → Type 0
+SpellsListen words = (strict : Bool) × (command_of (texts words) ≡ Some (Listen strict))
 
 -- over the files of these paths, with so many cycles, heard from a packet on, and these views
 abbrev pub IsLive : {Y : Type 0} → List (String Y) → List (List ℕ) → LivePlan → Type 0

@@ -14,7 +14,7 @@
 
 mod top;
 
-pub use epg_listen::run_listen;
+pub use epg_listen::{run_listen, run_strict_listen};
 pub use epg_play::{
     journals_play_again, outcomes_are_compared, play_is_heard, reports_tell_journals, run_play,
 };

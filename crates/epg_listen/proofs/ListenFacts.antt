@@ -1,12 +1,11 @@
 -- Packets of a recording, one after another, and what is reported of them.
-use Rattle.std.proofs.Common.{◌≡◌, ℕ, zero, suc, ◌+◌, ◌*◌, ◌/◌, ◌-◌, ◌<◌, ◌≤◌, List, [], ◌∷◌, ◌++◌, length, length-take, take, drop, slice_index, map, get_or, refl, sym, ap, ◌∙◌, subst, arith, append-nil, append_assoc, length-append, inl, inr, true}
-use Rattle.std.specs.Prelude.{Option, Some, None, Ok, Err, Result}
-use Rattle.std.proofs.lemmas.List.{map_more, take_at}
+use Rattle.std.proofs.Common.{◌≡◌, ℕ, zero, suc, ◌+◌, ◌*◌, ◌/◌, ◌-◌, ◌<◌, ◌≤◌, List, [], ◌∷◌, ◌++◌, length, length-take, take, drop, slice_index, refl, sym, ap, ◌∙◌, subst, arith, append-nil, append_assoc, length-append, inl, inr, true}
+use Rattle.std.specs.Prelude.{Bool, Option, Some, None, Ok, Err, Result}
+use Rattle.std.proofs.lemmas.List.{take_at}
 use Rattle.std.proofs.Math.Seq.{take-append_seam, drop-append_seam}
 use Rattle.std.specs.Io.KnownBytes.{Appends, Consumes, prepend_known}
 use Rattle.std.proofs.KnownBytes.{Appends-trans, prepend_known-nil}
-use Rattle.heard_completions.proofs.Dones.{dones_push}
-use Rattle.si_causes.proofs.CauseFacts.{Rose-from, front_behind, Appends-nothing}
+use Rattle.si_causes.proofs.CauseFacts.{Rose-from, front_behind}
 use Rattle.si_causes.specs.Causes.{AppendsFront}
 use Rattle.packet_reader.specs.Recordings.{RecordingEnd, RecordingEnd.AtEnd, RecordingEnd.Broken, RecordingEnd.PastLimit, packet_limit, is_packet, and_packet, packets_in, recording}
 use Rattle.packet_reader.specs.Reading.{PacketReading, GivesPacket, TakesPacket, Counts, bytes_left, packets_to_come, fresh}
@@ -14,11 +13,8 @@ use Rattle.packet_reader.proofs.RecordingFacts.{packet_step, broken_step, short_
 use Rattle.packet_reader.proofs.Giving.{given_end, given_broken, given_past}
 use Rattle.packet_reader.specs.declared.stop.PacketStop.{PacketStop}
 use Rattle.packet_reader.specs.declared.stop.PacketStop.TheVariants as packet
-use Rattle.heard_completions.specs.declared.done.DoneKey.{DoneKey}
-use Rattle.guide_receiver.specs.Heard.{Hearing, ReceiverStandsFor}
 use Rattle.sub_collect.specs.KeyCounts.{HaveFewKeys, HaveTooManyKeys}
-use Rattle.heard_completions.specs.Dones.{DoneAt, at_packet, counted_heard, dones_by, dones_behind}
-use Rattle.heard_completions.specs.Texts.{done_line, done_lines}
+use Rattle.heard_completions.specs.Dones.{counted_heard}
 use Rattle.epg_listen.specs.declared.listen.ListenStop.{ListenStop}
 use Rattle.epg_listen.specs.declared.listen.ListenStop.TheVariants as stop
 use Rattle.epg_report.specs.declared.status.Status.{Status}
@@ -28,32 +24,10 @@ use Rattle.epg_report.specs.declared.status.Origin.TheVariants as origin
 use Rattle.epg_report.specs.declared.status.Outlet.TheVariants.{Air, Report}
 use Rattle.epg_report.specs.Texts.{fault_line, fault_text}
 use Rattle.epg_report.specs.Told.{ReportTaken, Reported}
-use Rattle.epg_listen.specs.Leaves.{Recording, heard_text, heard_guide, packet_stop_text, packet_stop_status, IsKeyTooMany, LeavesHeard, IsOfListen, HearsThrough}
+use Rattle.epg_listen.specs.Lines.{packet_lines, heard_text, heard_guide}
+use Rattle.epg_listen.proofs.LineFacts.{text_push}
+use Rattle.epg_listen.specs.Leaves.{Recording, packet_stop_text, packet_stop_status, IsKeyTooMany, LeavesHeard, IsOfListen, HearsThrough}
 use Rattle.epg_listen.specs.Hearing.{HasHeard, ReportsLines, EndsHeard, HasReadCause, IsNoReadStop, IsTooManyAt}
-
--- ---- lines
-
-lines_append : (xs ys : List DoneAt) → done_lines (xs ++ ys) ≡ done_lines xs ++ done_lines ys
-lines_append [] ys = refl
-lines_append (x ∷ xs) ys = ap (λ t. done_line x ++ t) (lines_append xs ys) ∙ sym (append_assoc (done_line x) (done_lines xs) (done_lines ys))
-
-pub lines_next : (n : ℕ) (dones : List DoneKey) (i : ℕ) (d item : DoneKey) (text new : List ℕ) → i < length dones → item ≡ get_or dones i d
-    → text ≡ done_lines (map (at_packet n) (take i dones)) → new ≡ text ++ done_line (at_packet n item) → new ≡ done_lines (map (at_packet n) (take (i + 1) dones))
-lines_next n dones i d item text new lt is before more =
-    more ∙ ap (λ t. t ++ done_line (at_packet n item)) before
-    ∙ ap (λ t. done_lines (map (at_packet n) (take i dones)) ++ t) (sym (append-nil (done_line (at_packet n item))))
-    ∙ sym (lines_append (map (at_packet n) (take i dones)) (at_packet n item ∷ []))
-    ∙ ap (λ x. done_lines (map (at_packet n) (take i dones) ++ at_packet n x ∷ [])) is
-    ∙ ap done_lines (sym (map_more (at_packet n) dones i d lt))
-
--- the report of one packet more
-pub text_push : (heard : List (List ℕ)) (p : List ℕ) → heard_text (heard ++ p ∷ []) ≡ heard_text heard ++ done_lines (map (at_packet (length heard)) (dones_by heard p))
-text_push heard p = ap done_lines (dones_push [] heard p) ∙ lines_append (dones_behind [] heard) (map (at_packet (length heard)) (dones_by heard p))
-
--- a packet that shows nothing
-pub no_lines : (n : ℕ) (dones : List DoneKey) (w : Option (List ℕ)) → length dones ≡ 0 → Appends w w (done_lines (map (at_packet n) dones))
-no_lines n [] w e = Appends-nothing w
-no_lines n (d ∷ ds) w e = absurd (omega arith)
 
 -- ---- packets
 
@@ -74,11 +48,11 @@ pub start_recording : (n : ℕ) (bytes : List ℕ) → n ≡ 0 → recording byt
 start_recording n bytes e = ap (λ k. packets_in (packet_limit - k) bytes) (sym e)
 
 -- and reported
-pub reported_more : (heard : List (List ℕ)) (p : List ℕ) (n : ℕ) (a b c : Option (List ℕ)) → n ≡ length heard → Appends a b (heard_text heard)
-    → Appends b c (done_lines (map (at_packet n) (dones_by heard p))) → Appends a c (heard_text (heard ++ p ∷ []))
-reported_more heard p n a b c number done more =
-    let lines = ap (λ k. done_lines (map (at_packet k) (dones_by heard p))) number in
-    subst (Appends a c) (ap (λ l. heard_text heard ++ l) lines ∙ sym (text_push heard p)) (Appends-trans a b c (heard_text heard) (done_lines (map (at_packet n) (dones_by heard p))) done more)
+pub reported_more : (strict : Bool) (heard : List (List ℕ)) (p : List ℕ) (n : ℕ) (a b c : Option (List ℕ)) → n ≡ length heard → Appends a b (heard_text strict heard)
+    → Appends b c (packet_lines strict n heard p) → Appends a c (heard_text strict (heard ++ p ∷ []))
+reported_more strict heard p n a b c number done more =
+    let lines = ap (λ k. packet_lines strict k heard p) number in
+    subst (Appends a c) (ap (λ l. heard_text strict heard ++ l) lines ∙ sym (text_push strict heard p)) (Appends-trans a b c (heard_text strict heard) (packet_lines strict n heard p) done more)
 
 -- nothing is left
 last_heard : (all y : Recording) (heard : List (List ℕ)) (end : RecordingEnd) → all ≡ (heard ++ y.0, y.1) → y ≡ ([], end) → all ≡ (heard, end)
@@ -89,17 +63,22 @@ last_heard all y heard end e t =
 front_heard : (all y : Recording) (heard : List (List ℕ)) → all ≡ (heard ++ y.0, y.1) → take (length heard) all.0 ≡ heard
 front_heard all y heard e = ap (λ (r : Recording). take (length heard) r.0) e ∙ take-append_seam heard y.0
 
-text_is : (old new : Option (List ℕ)) (xs ys : List (List ℕ)) → xs ≡ ys → Appends old new (heard_text ys) → Appends old new (heard_text xs)
-text_is old new xs ys e done = subst (λ (l : List (List ℕ)). Appends old new (heard_text l)) (sym e) done
+text_is : (strict : Bool) (old new : Option (List ℕ)) (xs ys : List (List ℕ)) → xs ≡ ys → Appends old new (heard_text strict ys) → Appends old new (heard_text strict xs)
+text_is strict old new xs ys e done = subst (λ (l : List (List ℕ)). Appends old new (heard_text strict l)) (sym e) done
 
-pub heard_end : {S : Type 0} (left : S → Option (List ℕ)) (before after : PacketReading S) (bytes : List ℕ) (y : Recording) (heard : List (List ℕ)) (receiver : Hearing) (old new : Option (List ℕ))
-    → recording bytes ≡ (heard ++ y.0, y.1) → GivesPacket left before after y (Ok None) → Appends old new (heard_text heard) → ReceiverStandsFor heard receiver → HasHeard bytes (left after.source) receiver old new (Ok tt)
-heard_end left before after bytes y heard receiver old new e gives done stands =
+-- packets that are the same have few keys alike
+few_are : (xs ys : List (List ℕ)) → xs ≡ ys → HaveFewKeys (counted_heard ys) → HaveFewKeys (counted_heard xs)
+few_are xs ys e few = subst (λ (l : List (List ℕ)). HaveFewKeys (counted_heard l)) (sym e) few
+
+pub heard_end : {S : Type 0} (strict : Bool) (left : S → Option (List ℕ)) (before after : PacketReading S) (bytes : List ℕ) (y : Recording) (heard : List (List ℕ)) (stands : List (List ℕ) → Type 0) (old new : Option (List ℕ))
+    → recording bytes ≡ (heard ++ y.0, y.1) → GivesPacket left before after y (Ok None) → Appends old new (heard_text strict heard) → stands heard → HaveFewKeys (counted_heard heard) → HasHeard strict bytes (left after.source) stands old new (Ok tt)
+heard_end strict left before after bytes y heard stands old new e gives done is few =
     let last = last_heard (recording bytes) y heard AtEnd e (given_end left before after y gives) in
     let packets : (recording bytes).0 ≡ heard = ap (λ (r : Recording). r.0) last in (
       ap (λ (r : Recording). r.1) last,
-      text_is old new (recording bytes).0 heard packets done,
-      subst (λ (l : List (List ℕ)). ReceiverStandsFor l receiver) (sym packets) stands,
+      text_is strict old new (recording bytes).0 heard packets done,
+      subst stands (sym packets) is,
+      few_are (recording bytes).0 heard packets few,
     )
 
 -- ---- what was taken
@@ -152,19 +131,16 @@ left_behind (Some xs) (Some ys) held more rest e gave =
     let same : held ++ xs ≡ rest = cc in
     (ys, refl, sym same ∙ ap (λ l. held ++ l) gave ∙ sym (append_assoc held more ys))
 
-few_are : (xs ys : List (List ℕ)) → xs ≡ ys → HaveFewKeys (counted_heard ys) → HaveFewKeys (counted_heard xs)
-few_are xs ys e few = subst (λ (l : List (List ℕ)). HaveFewKeys (counted_heard l)) (sym e) few
-
-pub heard_stop : {S : Type 0} (left : S → Option (List ℕ)) (before after : PacketReading S) (s : PacketStop) (bytes done rest : List ℕ) (heard : List (List ℕ)) (receiver : Hearing) (old new : Option (List ℕ))
+pub heard_stop : {S : Type 0} (strict : Bool) (left : S → Option (List ℕ)) (before after : PacketReading S) (s : PacketStop) (bytes done rest : List ℕ) (heard : List (List ℕ)) (stands : List (List ℕ) → Type 0) (old new : Option (List ℕ))
     → bytes_left left before ≡ Some rest → HasParted bytes done heard (packets_to_come before) rest → before.number ≡ length heard → GivesPacket left before after (packets_in (packets_to_come before) rest) (Err s)
-    → TakesPacket left before after (Err s) → Counts before after (Err s) → Appends old new (heard_text heard) → HaveFewKeys (counted_heard heard) → HasHeard bytes (left after.source) receiver old new (Err (stop.Read s))
-heard_stop left before after (packet.Broken n) bytes done rest heard receiver old new tells parted count gives takes counts lines few =
+    → TakesPacket left before after (Err s) → Counts before after (Err s) → Appends old new (heard_text strict heard) → HaveFewKeys (counted_heard heard) → HasHeard strict bytes (left after.source) stands old new (Err (stop.Read s))
+heard_stop strict left before after (packet.Broken n) bytes done rest heard stands old new tells parted count gives takes counts lines few =
     let last = last_heard (recording bytes) (packets_in (packets_to_come before) rest) heard Broken (parted_recording bytes done rest heard (packets_to_come before) parted) (given_broken left before after (packets_in (packets_to_come before) rest) n gives) in
-    (ap (λ (r : Recording). r.1) last, counts.0 ∙ count ∙ ap (λ (r : Recording). length r.0) (sym last), text_is old new (recording bytes).0 heard (ap (λ (r : Recording). r.0) last) lines, few_are (recording bytes).0 heard (ap (λ (r : Recording). r.0) last) few)
-heard_stop left before after packet.TooLong bytes done rest heard receiver old new tells parted count gives takes counts lines few =
+    (ap (λ (r : Recording). r.1) last, counts.0 ∙ count ∙ ap (λ (r : Recording). length r.0) (sym last), text_is strict old new (recording bytes).0 heard (ap (λ (r : Recording). r.0) last) lines, few_are (recording bytes).0 heard (ap (λ (r : Recording). r.0) last) few)
+heard_stop strict left before after packet.TooLong bytes done rest heard stands old new tells parted count gives takes counts lines few =
     let last = last_heard (recording bytes) (packets_in (packets_to_come before) rest) heard PastLimit (parted_recording bytes done rest heard (packets_to_come before) parted) (given_past left before after (packets_in (packets_to_come before) rest) gives) in
-    (ap (λ (r : Recording). r.1) last, text_is old new (recording bytes).0 heard (ap (λ (r : Recording). r.0) last) lines, few_are (recording bytes).0 heard (ap (λ (r : Recording). r.0) last) few)
-heard_stop left before after packet.Failed bytes done rest heard receiver old new tells parted count gives takes counts lines few =
+    (ap (λ (r : Recording). r.1) last, text_is strict old new (recording bytes).0 heard (ap (λ (r : Recording). r.0) last) lines, few_are (recording bytes).0 heard (ap (λ (r : Recording). r.0) last) few)
+heard_stop strict left before after packet.Failed bytes done rest heard stands old new tells parted count gives takes counts lines few =
     let short = before.held ++ takes.0 in
     let behind = left_behind (left before.source) (left after.source) before.held takes.0 rest tells takes.1 in
     let none = ap (λ (r : Recording). r.0) (parted.packets short) ∙ ap (λ (l : List (List ℕ)). heard ++ l) (none_in_short (packets_to_come before) short takes.2) ∙ append-nil heard in (
@@ -175,7 +151,7 @@ heard_stop left before after packet.Failed bytes done rest heard receiver old ne
         left_is = behind.1;
         whole = ap (λ (l : List (List ℕ)). length l) none ∙ whole_pieces (length heard) done short parted.size takes.2;
       },
-      text_is old new (recording (done ++ short)).0 heard none lines,
+      text_is strict old new (recording (done ++ short)).0 heard none lines,
       few_are (recording (done ++ short)).0 heard none few,
     )
 
@@ -193,30 +169,30 @@ too_many_behind all y x heard p n e t number few many =
     }
 
 -- the lines of a packet were not all written, or there was no memory for them, or none came, for it brings a key too many
-pub heard_line : (s : ListenStop) (bytes : List ℕ) (left : Option (List ℕ)) (receiver : Hearing) (y x : Recording) (heard : List (List ℕ)) (p : List ℕ) (n : ℕ) (a b c : Option (List ℕ))
-    → recording bytes ≡ (heard ++ y.0, y.1) → y ≡ and_packet p x → n ≡ length heard → Appends a b (heard_text heard)
-    → ReportsLines b c (done_lines (map (at_packet n) (dones_by heard p))) (Err s) → HaveFewKeys (counted_heard heard) → IsTooManyAt n (heard ++ p ∷ []) (Err s) → HasHeard bytes left receiver a c (Err s)
-heard_line (stop.Read s) bytes left receiver y x heard p n a b c e t number done reports few many = absurd reports
-heard_line (stop.TooMany k) bytes left receiver y x heard p n a b c e t number done reports few many =
+pub heard_line : (strict : Bool) (s : ListenStop) (bytes : List ℕ) (left : Option (List ℕ)) (stands : List (List ℕ) → Type 0) (y x : Recording) (heard : List (List ℕ)) (p : List ℕ) (n : ℕ) (a b c : Option (List ℕ))
+    → recording bytes ≡ (heard ++ y.0, y.1) → y ≡ and_packet p x → n ≡ length heard → Appends a b (heard_text strict heard)
+    → ReportsLines b c (packet_lines strict n heard p) (Err s) → HaveFewKeys (counted_heard heard) → IsTooManyAt n (heard ++ p ∷ []) (Err s) → HasHeard strict bytes left stands a c (Err s)
+heard_line strict (stop.Read s) bytes left stands y x heard p n a b c e t number done reports few many = absurd reports
+heard_line strict (stop.TooMany k) bytes left stands y x heard p n a b c e t number done reports few many =
     let at : k ≡ length heard = many.0 ∙ number in (
       too_many_behind (recording bytes) y x heard p k e t at few many.1,
-      subst (λ (w : Option (List ℕ)). Appends a w (heard_text (take k (recording bytes).0))) reports
-          (text_is a b (take k (recording bytes).0) heard (ap (λ m. take m (recording bytes).0) at ∙ front_heard (recording bytes) y heard e) done),
+      subst (λ (w : Option (List ℕ)). Appends a w (heard_text strict (take k (recording bytes).0))) reports
+          (text_is strict a b (take k (recording bytes).0) heard (ap (λ m. take m (recording bytes).0) at ∙ front_heard (recording bytes) y heard e) done),
     )
-heard_line stop.Memory bytes left receiver y x heard p n a b c e t number done reports few many = tt
-heard_line stop.Report bytes left receiver y x heard p n a b c e t number done reports few many =
-    let lines = ap (λ k. done_lines (map (at_packet k) (dones_by heard p))) number in
-    let text = ap (λ l. heard_text heard ++ l) lines ∙ sym (text_push heard p) ∙ ap heard_text (sym (front_heard (recording bytes) x (heard ++ p ∷ []) (more_heard (recording bytes) y x heard p e t))) in
-    (length (heard ++ p ∷ []), subst (AppendsFront a c) text (front_behind a b c (heard_text heard) (done_lines (map (at_packet n) (dones_by heard p))) done reports))
+heard_line strict stop.Memory bytes left stands y x heard p n a b c e t number done reports few many = tt
+heard_line strict stop.Report bytes left stands y x heard p n a b c e t number done reports few many =
+    let lines = ap (λ k. packet_lines strict k heard p) number in
+    let text = ap (λ l. heard_text strict heard ++ l) lines ∙ sym (text_push strict heard p) ∙ ap (heard_text strict) (sym (front_heard (recording bytes) x (heard ++ p ∷ []) (more_heard (recording bytes) y x heard p e t))) in
+    (length (heard ++ p ∷ []), subst (AppendsFront a c) text (front_behind a b c (heard_text strict heard) (packet_lines strict n heard p) done reports))
 
 -- ---- the run is over
 
 -- the guide was reported by a text that is the guide's, or a proper front of it
-pub guide_told : (packets : List (List ℕ)) (old new : Option (List ℕ)) (text : List ℕ) → text ≡ heard_guide packets → Appends old new text → Appends old new (heard_guide packets)
-guide_told packets old new text e told = subst (Appends old new) e told
+pub guide_told : (strict : Bool) (packets : List (List ℕ)) (old new : Option (List ℕ)) (text : List ℕ) → text ≡ heard_guide strict packets → Appends old new text → Appends old new (heard_guide strict packets)
+guide_told strict packets old new text e told = subst (Appends old new) e told
 
-pub guide_front : (packets : List (List ℕ)) (old new : Option (List ℕ)) (text : List ℕ) → text ≡ heard_guide packets → AppendsFront old new text → AppendsFront old new (heard_guide packets)
-guide_front packets old new text e told = subst (AppendsFront old new) e told
+pub guide_front : (strict : Bool) (packets : List (List ℕ)) (old new : Option (List ℕ)) (text : List ℕ) → text ≡ heard_guide strict packets → AppendsFront old new text → AppendsFront old new (heard_guide strict packets)
+guide_front strict packets old new text e told = subst (AppendsFront old new) e told
 
 -- what is reported behind something that was written
 behind : (a b c : Option (List ℕ)) (f g h : ℕ) (xs ys : List ℕ) → f ≤ g → Appends a b xs → Reported (record { old = b; new = c; faults_old = g; faults_new = h }) ys
@@ -224,52 +200,52 @@ behind : (a b c : Option (List ℕ)) (f g h : ℕ) (xs ys : List ℕ) → f ≤ 
 behind a b c f g h xs ys le done (inl all) = inl (Appends-trans a b c xs ys done all)
 behind a b c f g h xs ys le done (inr (rose, front)) = inr (Rose-from f g h le rose, front_behind a b c xs ys done front)
 
-pub leaves_heard : (heard : Result (Unit {0}) ListenStop) (bytes : List ℕ) (left : Option (List ℕ)) (receiver : Hearing) (old mid new : Option (List ℕ)) (f g h : ℕ) (status : Status) → f ≤ g → HasHeard bytes left receiver old mid heard
-    → EndsHeard receiver heard (record { old = mid; new = new; faults_old = g; faults_new = h }) status → LeavesHeard bytes left (record { old = old; new = new; faults_old = f; faults_new = h }) status
-leaves_heard (Ok u) bytes left receiver old mid new f g h Done le (ended, done, stands) ends = record { ended = ended; few = stands.completions.few; report_is = Appends-trans old mid new (heard_text (recording bytes).0) (heard_guide (recording bytes).0) done (ends (recording bytes).0 stands) }
-leaves_heard (Ok u) bytes left receiver old mid new f g h (WriteFault Report) le (ended, done, stands) ends = inr (ended, front_behind old mid new (heard_text (recording bytes).0) (heard_guide (recording bytes).0) done (ends.0 (recording bytes).0 stands))
-leaves_heard (Ok u) bytes left receiver old mid new f g h Memory le has ends = tt
-leaves_heard (Ok u) bytes left receiver old mid new f g h other le has ends = absurd ends
-leaves_heard (Err stop.Memory) bytes left receiver old mid new f g h status le has ends = subst (LeavesHeard bytes left (record { old = old; new = new; faults_old = f; faults_new = h })) (sym ends) tt
-leaves_heard (Err stop.Report) bytes left receiver old mid new f g h status le has ends =
+pub leaves_heard : (strict : Bool) (heard : Result (Unit {0}) ListenStop) (bytes : List ℕ) (left : Option (List ℕ)) (stands : List (List ℕ) → Type 0) (old mid new : Option (List ℕ)) (f g h : ℕ) (status : Status) → f ≤ g → HasHeard strict bytes left stands old mid heard
+    → EndsHeard strict stands heard (record { old = mid; new = new; faults_old = g; faults_new = h }) status → LeavesHeard strict bytes left (record { old = old; new = new; faults_old = f; faults_new = h }) status
+leaves_heard strict (Ok u) bytes left stands old mid new f g h Done le (ended, done, is, few) ends = record { ended = ended; few = few; report_is = Appends-trans old mid new (heard_text strict (recording bytes).0) (heard_guide strict (recording bytes).0) done (ends (recording bytes).0 is) }
+leaves_heard strict (Ok u) bytes left stands old mid new f g h (WriteFault Report) le (ended, done, is, few) ends = inr (ended, front_behind old mid new (heard_text strict (recording bytes).0) (heard_guide strict (recording bytes).0) done (ends.0 (recording bytes).0 is))
+leaves_heard strict (Ok u) bytes left stands old mid new f g h Memory le has ends = tt
+leaves_heard strict (Ok u) bytes left stands old mid new f g h other le has ends = absurd ends
+leaves_heard strict (Err stop.Memory) bytes left stands old mid new f g h status le has ends = subst (LeavesHeard strict bytes left (record { old = old; new = new; faults_old = f; faults_new = h })) (sym ends) tt
+leaves_heard strict (Err stop.Report) bytes left stands old mid new f g h status le has ends =
     let told : ReportTaken = record { old = old; new = new; faults_old = f; faults_new = h } in
-    subst (LeavesHeard bytes left told) (sym ends.0) (inl (has.0, subst (λ (w : Option (List ℕ)). AppendsFront old w (heard_text (take has.0 (recording bytes).0))) ends.1 has.1))
-leaves_heard (Err (stop.Read s)) bytes left receiver old mid new f g h status le has (inl memory) = subst (LeavesHeard bytes left (record { old = old; new = new; faults_old = f; faults_new = h })) (sym memory) tt
-leaves_heard (Err (stop.Read (packet.Broken n))) bytes left receiver old mid new f g h status le has (inr (is, reported)) =
-    subst (LeavesHeard bytes left (record { old = old; new = new; faults_old = f; faults_new = h })) (sym is) (has.0, has.1, record { few = has.3; report_is = behind old mid new f g h (heard_text (recording bytes).0) (fault_line (packet_stop_text (packet.Broken n))) le has.2 reported })
-leaves_heard (Err (stop.Read packet.TooLong)) bytes left receiver old mid new f g h status le has (inr (is, reported)) =
-    subst (LeavesHeard bytes left (record { old = old; new = new; faults_old = f; faults_new = h })) (sym is) (has.0, record { few = has.2; report_is = behind old mid new f g h (heard_text (recording bytes).0) (fault_line (packet_stop_text packet.TooLong)) le has.1 reported })
-leaves_heard (Err (stop.Read packet.Failed)) bytes left receiver old mid new f g h status le has (inr (is, reported)) =
-    subst (LeavesHeard bytes left (record { old = old; new = new; faults_old = f; faults_new = h })) (sym is) (record { taken = has.0; is_taken = has.1; few = has.3; report_is = behind old mid new f g h (heard_text (recording has.0).0) (fault_line (packet_stop_text packet.Failed)) le has.2 reported })
-leaves_heard (Err (stop.TooMany n)) bytes left receiver old mid new f g h status le has (inl memory) = subst (LeavesHeard bytes left (record { old = old; new = new; faults_old = f; faults_new = h })) (sym memory) tt
-leaves_heard (Err (stop.TooMany n)) bytes left receiver old mid new f g h status le has (inr (is, reported)) =
-    subst (LeavesHeard bytes left (record { old = old; new = new; faults_old = f; faults_new = h })) (sym is)
-    (record { first = has.0; report_is = behind old mid new f g h (heard_text (take n (recording bytes).0)) (fault_line (fault_text (TooMany n))) le has.1 reported })
+    subst (LeavesHeard strict bytes left told) (sym ends.0) (inl (has.0, subst (λ (w : Option (List ℕ)). AppendsFront old w (heard_text strict (take has.0 (recording bytes).0))) ends.1 has.1))
+leaves_heard strict (Err (stop.Read s)) bytes left stands old mid new f g h status le has (inl memory) = subst (LeavesHeard strict bytes left (record { old = old; new = new; faults_old = f; faults_new = h })) (sym memory) tt
+leaves_heard strict (Err (stop.Read (packet.Broken n))) bytes left stands old mid new f g h status le has (inr (is, reported)) =
+    subst (LeavesHeard strict bytes left (record { old = old; new = new; faults_old = f; faults_new = h })) (sym is) (has.0, has.1, record { few = has.3; report_is = behind old mid new f g h (heard_text strict (recording bytes).0) (fault_line (packet_stop_text (packet.Broken n))) le has.2 reported })
+leaves_heard strict (Err (stop.Read packet.TooLong)) bytes left stands old mid new f g h status le has (inr (is, reported)) =
+    subst (LeavesHeard strict bytes left (record { old = old; new = new; faults_old = f; faults_new = h })) (sym is) (has.0, record { few = has.2; report_is = behind old mid new f g h (heard_text strict (recording bytes).0) (fault_line (packet_stop_text packet.TooLong)) le has.1 reported })
+leaves_heard strict (Err (stop.Read packet.Failed)) bytes left stands old mid new f g h status le has (inr (is, reported)) =
+    subst (LeavesHeard strict bytes left (record { old = old; new = new; faults_old = f; faults_new = h })) (sym is) (record { taken = has.0; is_taken = has.1; few = has.3; report_is = behind old mid new f g h (heard_text strict (recording has.0).0) (fault_line (packet_stop_text packet.Failed)) le has.2 reported })
+leaves_heard strict (Err (stop.TooMany n)) bytes left stands old mid new f g h status le has (inl memory) = subst (LeavesHeard strict bytes left (record { old = old; new = new; faults_old = f; faults_new = h })) (sym memory) tt
+leaves_heard strict (Err (stop.TooMany n)) bytes left stands old mid new f g h status le has (inr (is, reported)) =
+    subst (LeavesHeard strict bytes left (record { old = old; new = new; faults_old = f; faults_new = h })) (sym is)
+    (record { first = has.0; report_is = behind old mid new f g h (heard_text strict (take n (recording bytes).0)) (fault_line (fault_text (TooMany n))) le has.1 reported })
 
 -- the source of the reader is the input, which was lent
-pub heard_input : {S : Type 0} (left_of : S → Option (List ℕ)) (source input : S) (bytes : List ℕ) (report : ReportTaken) (status : Status) → input ≡ source
-    → LeavesHeard bytes (left_of source) report status → LeavesHeard bytes (left_of input) report status
-heard_input {S = S} left_of source input bytes report status e leaves = subst (λ (s : S). LeavesHeard bytes (left_of s) report status) (sym e) leaves
+pub heard_input : {S : Type 0} (strict : Bool) (left_of : S → Option (List ℕ)) (source input : S) (bytes : List ℕ) (report : ReportTaken) (status : Status) → input ≡ source
+    → LeavesHeard strict bytes (left_of source) report status → LeavesHeard strict bytes (left_of input) report status
+heard_input {S = S} strict left_of source input bytes report status e leaves = subst (λ (s : S). LeavesHeard strict bytes (left_of s) report status) (sym e) leaves
 
 -- a reader at the front of its source has the whole recording to give
 pub started : {S : Type 0} (left : S → Option (List ℕ)) (reader : PacketReading S) (source : S) (bytes : List ℕ) → reader ≡ fresh source → left source ≡ Some bytes → bytes_left left reader ≡ Some bytes
 started left reader source bytes e tells = ap (bytes_left left) e ∙ prepend_known-nil (left source) ∙ tells
 
 -- where nothing fails, the end of the recording decides
-pub hears_through : (bytes : List ℕ) (left : Option (List ℕ)) (report : ReportTaken) (status : Status) → LeavesHeard bytes left report status → (status ≡ ReadFault Input → ⊥) → (status ≡ WriteFault Report → ⊥) → HearsThrough (recording bytes) status
-hears_through bytes left report Done leave r w = (leave.ended, leave.few)
-hears_through bytes left report (BadStream n) leave r w = (leave.0, leave.1, leave.2.few)
-hears_through bytes left report (TooMany n) leave r w = leave.first
-hears_through bytes left report (TooLong Input) leave r w = (leave.0, leave.1.few)
-hears_through bytes left report (TooLong (Feed f)) leave r w = absurd leave
-hears_through bytes left report (TooLong origin.Recording) leave r w = absurd leave
-hears_through bytes left report (ReadFault Input) leave r w = absurd (r refl)
-hears_through bytes left report (ReadFault (Feed f)) leave r w = absurd leave
-hears_through bytes left report (ReadFault origin.Recording) leave r w = absurd leave
-hears_through bytes left report (WriteFault Report) leave r w = absurd (w refl)
-hears_through bytes left report (WriteFault Air) leave r w = absurd leave
-hears_through bytes left report Memory leave r w = tt
-hears_through bytes left report other leave r w = absurd leave
+pub hears_through : (strict : Bool) (bytes : List ℕ) (left : Option (List ℕ)) (report : ReportTaken) (status : Status) → LeavesHeard strict bytes left report status → (status ≡ ReadFault Input → ⊥) → (status ≡ WriteFault Report → ⊥) → HearsThrough (recording bytes) status
+hears_through strict bytes left report Done leave r w = (leave.ended, leave.few)
+hears_through strict bytes left report (BadStream n) leave r w = (leave.0, leave.1, leave.2.few)
+hears_through strict bytes left report (TooMany n) leave r w = leave.first
+hears_through strict bytes left report (TooLong Input) leave r w = (leave.0, leave.1.few)
+hears_through strict bytes left report (TooLong (Feed f)) leave r w = absurd leave
+hears_through strict bytes left report (TooLong origin.Recording) leave r w = absurd leave
+hears_through strict bytes left report (ReadFault Input) leave r w = absurd (r refl)
+hears_through strict bytes left report (ReadFault (Feed f)) leave r w = absurd leave
+hears_through strict bytes left report (ReadFault origin.Recording) leave r w = absurd leave
+hears_through strict bytes left report (WriteFault Report) leave r w = absurd (w refl)
+hears_through strict bytes left report (WriteFault Air) leave r w = absurd leave
+hears_through strict bytes left report Memory leave r w = tt
+hears_through strict bytes left report other leave r w = absurd leave
 
 pub no_read_cause : (before now : ℕ) (s : ListenStop) → IsNoReadStop (let r : Result (Unit {0}) ListenStop = Err s in r) → HasReadCause before now (Err s)
 no_read_cause before now (stop.Read s) none = absurd none
@@ -282,14 +258,14 @@ stop_of_listen : (s : PacketStop) → IsOfListen (packet_stop_status s)
 stop_of_listen (packet.Broken n) = tt
 stop_of_listen other = tt
 
-pub of_listen : (receiver : Hearing) (heard : Result (Unit {0}) ListenStop) (t : ReportTaken) (status : Status) → EndsHeard receiver heard t status → IsOfListen status
-of_listen receiver (Ok u) t Done ends = tt
-of_listen receiver (Ok u) t (WriteFault Report) ends = tt
-of_listen receiver (Ok u) t Memory ends = tt
-of_listen receiver (Ok u) t other ends = absurd ends
-of_listen receiver (Err stop.Report) t status ends = subst IsOfListen (sym ends.0) tt
-of_listen receiver (Err stop.Memory) t status ends = subst IsOfListen (sym ends) tt
-of_listen receiver (Err (stop.TooMany n)) t status (inl memory) = subst IsOfListen (sym memory) tt
-of_listen receiver (Err (stop.TooMany n)) t status (inr (is, reported)) = subst IsOfListen (sym is) tt
-of_listen receiver (Err (stop.Read s)) t status (inl memory) = subst IsOfListen (sym memory) tt
-of_listen receiver (Err (stop.Read s)) t status (inr (is, reported)) = subst IsOfListen (sym is) (stop_of_listen s)
+pub of_listen : (strict : Bool) (stands : List (List ℕ) → Type 0) (heard : Result (Unit {0}) ListenStop) (t : ReportTaken) (status : Status) → EndsHeard strict stands heard t status → IsOfListen status
+of_listen strict stands (Ok u) t Done ends = tt
+of_listen strict stands (Ok u) t (WriteFault Report) ends = tt
+of_listen strict stands (Ok u) t Memory ends = tt
+of_listen strict stands (Ok u) t other ends = absurd ends
+of_listen strict stands (Err stop.Report) t status ends = subst IsOfListen (sym ends.0) tt
+of_listen strict stands (Err stop.Memory) t status ends = subst IsOfListen (sym ends) tt
+of_listen strict stands (Err (stop.TooMany n)) t status (inl memory) = subst IsOfListen (sym memory) tt
+of_listen strict stands (Err (stop.TooMany n)) t status (inr (is, reported)) = subst IsOfListen (sym is) tt
+of_listen strict stands (Err (stop.Read s)) t status (inl memory) = subst IsOfListen (sym memory) tt
+of_listen strict stands (Err (stop.Read s)) t status (inr (is, reported)) = subst IsOfListen (sym is) (stop_of_listen s)

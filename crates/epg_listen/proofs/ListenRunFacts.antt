@@ -1,6 +1,6 @@
 -- A run of `listen`, from what it leaves and how it ended.
 use Rattle.std.proofs.Common.{◌≡◌, ◌+◌, ◌≤◌, ◌⊎◌, ◌++◌, ◌∙◌, ℕ, List, [], ◌∷◌, take, drop, inl, inr, refl, sym, ap, subst, arith, append-nil, append_assoc, take-append-drop}
-use Rattle.std.specs.Prelude.{Option, Some, Ok, Err, Result, OnOk}
+use Rattle.std.specs.Prelude.{Bool, Option, Some, Ok, Err, Result, OnOk}
 use Rattle.std.specs.Io.KnownBytes.{IsAtEnd}
 use Rattle.si_causes.specs.Causes.{Rose}
 use Rattle.si_causes.proofs.CauseFacts.{Rose-from, Rose-to}
@@ -13,7 +13,6 @@ use Rattle.sub_collect.proofs.KeyCounts.{count-grows}
 use Rattle.heard_completions.specs.Counting.{counted_among}
 use Rattle.heard_completions.specs.Dones.{counted_heard}
 use Rattle.heard_completions.proofs.Shown.{counted-push}
-use Rattle.guide_receiver.specs.Heard.{Hearing}
 use Rattle.epg_listen.specs.declared.listen.ListenStop.{ListenStop}
 use Rattle.epg_listen.specs.declared.listen.ListenStop.TheVariants as stop
 use Rattle.epg_report.specs.declared.status.Status.{Status}
@@ -37,36 +36,36 @@ not_written (packet.Broken n) e = cc
 not_written packet.TooLong e = cc
 not_written packet.Failed e = cc
 
-at_end : (receiver : Hearing) (r : Result (Unit {0}) ListenStop) (report : ReportTaken) (status : Status) (P : Type 0) → EndsHeard receiver r report status → OnOk r P → status ≡ Done → P
-at_end receiver (Ok u) report status P ends end e = end
-at_end receiver (Err (stop.Read s)) report status P (inl memory) end e = cc
-at_end receiver (Err (stop.Read s)) report status P (inr (is, told)) end e = absurd (not_done s (sym is ∙ e))
-at_end receiver (Err (stop.TooMany n)) report status P (inl memory) end e = cc
-at_end receiver (Err (stop.TooMany n)) report status P (inr (is, told)) end e = cc
-at_end receiver (Err stop.Report) report status P (is, same) end e = cc
-at_end receiver (Err stop.Memory) report status P is end e = cc
+at_end : (strict : Bool) (stands : List (List ℕ) → Type 0) (r : Result (Unit {0}) ListenStop) (report : ReportTaken) (status : Status) (P : Type 0) → EndsHeard strict stands r report status → OnOk r P → status ≡ Done → P
+at_end strict stands (Ok u) report status P ends end e = end
+at_end strict stands (Err (stop.Read s)) report status P (inl memory) end e = cc
+at_end strict stands (Err (stop.Read s)) report status P (inr (is, told)) end e = absurd (not_done s (sym is ∙ e))
+at_end strict stands (Err (stop.TooMany n)) report status P (inl memory) end e = cc
+at_end strict stands (Err (stop.TooMany n)) report status P (inr (is, told)) end e = cc
+at_end strict stands (Err stop.Report) report status P (is, same) end e = cc
+at_end strict stands (Err stop.Memory) report status P is end e = cc
 
-read_rose : (receiver : Hearing) (r : Result (Unit {0}) ListenStop) (report : ReportTaken) (status : Status) (before now : ℕ) → EndsHeard receiver r report status → HasReadCause before now r → status ≡ ReadFault Input → Rose before now
-read_rose receiver (Ok u) report status before now ends cause e = absurd (subst (EndsHeard receiver (Ok u) report) e ends)
-read_rose receiver (Err (stop.Read (packet.Broken n))) report status before now (inl memory) cause e = cc
-read_rose receiver (Err (stop.Read (packet.Broken n))) report status before now (inr (is, told)) cause e = cc
-read_rose receiver (Err (stop.Read packet.TooLong)) report status before now (inl memory) cause e = cc
-read_rose receiver (Err (stop.Read packet.TooLong)) report status before now (inr (is, told)) cause e = cc
-read_rose receiver (Err (stop.Read packet.Failed)) report status before now ends cause e = cause
-read_rose receiver (Err (stop.TooMany n)) report status before now (inl memory) cause e = cc
-read_rose receiver (Err (stop.TooMany n)) report status before now (inr (is, told)) cause e = cc
-read_rose receiver (Err stop.Report) report status before now (is, same) cause e = cc
-read_rose receiver (Err stop.Memory) report status before now is cause e = cc
+read_rose : (strict : Bool) (stands : List (List ℕ) → Type 0) (r : Result (Unit {0}) ListenStop) (report : ReportTaken) (status : Status) (before now : ℕ) → EndsHeard strict stands r report status → HasReadCause before now r → status ≡ ReadFault Input → Rose before now
+read_rose strict stands (Ok u) report status before now ends cause e = absurd (subst (EndsHeard strict stands (Ok u) report) e ends)
+read_rose strict stands (Err (stop.Read (packet.Broken n))) report status before now (inl memory) cause e = cc
+read_rose strict stands (Err (stop.Read (packet.Broken n))) report status before now (inr (is, told)) cause e = cc
+read_rose strict stands (Err (stop.Read packet.TooLong)) report status before now (inl memory) cause e = cc
+read_rose strict stands (Err (stop.Read packet.TooLong)) report status before now (inr (is, told)) cause e = cc
+read_rose strict stands (Err (stop.Read packet.Failed)) report status before now ends cause e = cause
+read_rose strict stands (Err (stop.TooMany n)) report status before now (inl memory) cause e = cc
+read_rose strict stands (Err (stop.TooMany n)) report status before now (inr (is, told)) cause e = cc
+read_rose strict stands (Err stop.Report) report status before now (is, same) cause e = cc
+read_rose strict stands (Err stop.Memory) report status before now is cause e = cc
 
-report_rose : (receiver : Hearing) (r : Result (Unit {0}) ListenStop) (report : ReportTaken) (status : Status) (before : ℕ) → before ≤ report.faults_old → report.faults_old ≤ report.faults_new
-    → EndsHeard receiver r report status → HasReportCause before report.faults_old r → status ≡ WriteFault Report → Rose before report.faults_new
-report_rose receiver (Ok u) report status before le later ends cause e = Rose-from before report.faults_old report.faults_new le (subst (EndsHeard receiver (Ok u) report) e ends).1
-report_rose receiver (Err (stop.Read s)) report status before le later (inl memory) cause e = cc
-report_rose receiver (Err (stop.Read s)) report status before le later (inr (is, told)) cause e = absurd (not_written s (sym is ∙ e))
-report_rose receiver (Err (stop.TooMany n)) report status before le later (inl memory) cause e = cc
-report_rose receiver (Err (stop.TooMany n)) report status before le later (inr (is, told)) cause e = cc
-report_rose receiver (Err stop.Report) report status before le later ends cause e = Rose-to before report.faults_old report.faults_new le cause later
-report_rose receiver (Err stop.Memory) report status before le later is cause e = cc
+report_rose : (strict : Bool) (stands : List (List ℕ) → Type 0) (r : Result (Unit {0}) ListenStop) (report : ReportTaken) (status : Status) (before : ℕ) → before ≤ report.faults_old → report.faults_old ≤ report.faults_new
+    → EndsHeard strict stands r report status → HasReportCause before report.faults_old r → status ≡ WriteFault Report → Rose before report.faults_new
+report_rose strict stands (Ok u) report status before le later ends cause e = Rose-from before report.faults_old report.faults_new le (subst (EndsHeard strict stands (Ok u) report) e ends).1
+report_rose strict stands (Err (stop.Read s)) report status before le later (inl memory) cause e = cc
+report_rose strict stands (Err (stop.Read s)) report status before le later (inr (is, told)) cause e = absurd (not_written s (sym is ∙ e))
+report_rose strict stands (Err (stop.TooMany n)) report status before le later (inl memory) cause e = cc
+report_rose strict stands (Err (stop.TooMany n)) report status before le later (inr (is, told)) cause e = cc
+report_rose strict stands (Err stop.Report) report status before le later ends cause e = Rose-to before report.faults_old report.faults_new le cause later
+report_rose strict stands (Err stop.Memory) report status before le later is cause e = cc
 
 -- ---- a recording that is whole
 
@@ -97,13 +96,13 @@ heard_whole recording other through end few = absurd through
 
 -- ---- the run
 
-pub listen_run : (input : SourceGave) (report : ReportTaken) (status : Status) → ((bytes : List ℕ) → input.old ≡ Some bytes → LeavesHeard bytes input.new report status) → IsOfListen status → (status ≡ Done → IsAtEnd input.new)
-    → (status ≡ ReadFault Input → Rose input.faults_old input.faults_new) → (status ≡ WriteFault Report → Rose report.faults_old report.faults_new) → ListenRun input report status
-listen_run input report status leaves known end read_rose report_rose = record {
+pub listen_run : (strict : Bool) (input : SourceGave) (report : ReportTaken) (status : Status) → ((bytes : List ℕ) → input.old ≡ Some bytes → LeavesHeard strict bytes input.new report status) → IsOfListen status → (status ≡ Done → IsAtEnd input.new)
+    → (status ≡ ReadFault Input → Rose input.faults_old input.faults_new) → (status ≡ WriteFault Report → Rose report.faults_old report.faults_new) → ListenRun strict input report status
+listen_run strict input report status leaves known end read_rose report_rose = record {
   leaves = leaves;
-  completes = λ bytes tells no_read no_report. hears_through bytes input.new report status (leaves bytes tells) (λ e. no_read (read_rose e)) (λ e. no_report (report_rose e));
+  completes = λ bytes tells no_read no_report. hears_through strict bytes input.new report status (leaves bytes tells) (λ e. no_read (read_rose e)) (λ e. no_report (report_rose e));
   whole = λ bytes tells ended few no_read no_report.
-      heard_whole (recording bytes) status (hears_through bytes input.new report status (leaves bytes tells) (λ e. no_read (read_rose e)) (λ e. no_report (report_rose e))) ended few;
+      heard_whole (recording bytes) status (hears_through strict bytes input.new report status (leaves bytes tells) (λ e. no_read (read_rose e)) (λ e. no_report (report_rose e))) ended few;
   known = known;
   end = end;
   input_cause = read_rose;
@@ -111,9 +110,9 @@ listen_run input report status leaves known end read_rose report_rose = record {
 }
 
 -- where memory was wanting
-pub listen_memory : (input : SourceGave) (report : ReportTaken) (status : Status) → status ≡ Memory → ListenRun input report status
-listen_memory input report status e =
-    listen_run input report status (λ bytes tells. subst (λ (s : Status). LeavesHeard bytes input.new report s) (sym e) tt) (subst IsOfListen (sym e) tt)
+pub listen_memory : (strict : Bool) (input : SourceGave) (report : ReportTaken) (status : Status) → status ≡ Memory → ListenRun strict input report status
+listen_memory strict input report status e =
+    listen_run strict input report status (λ bytes tells. subst (λ (s : Status). LeavesHeard strict bytes input.new report s) (sym e) tt) (subst IsOfListen (sym e) tt)
     (λ h. absurd (no_end h)) (λ h. absurd (no_read h)) (λ h. absurd (no_report h))
   where
     no_end : status ≡ Done → ⊥
@@ -126,16 +125,16 @@ listen_memory input report status e =
     no_report h = cc
 
 -- A run that heard its recording as far as this (`r`), and then ended its report.
-pub heard_run : {S : Type 0} (left : S → Option (List ℕ)) (faults : S → ℕ) (before source input : S) (old mid new : Option (List ℕ)) (f g h : ℕ) (receiver : Hearing) (r : Result (Unit {0}) ListenStop) (status : Status) → input ≡ source
-    → ((bytes : List ℕ) → left before ≡ Some bytes → HasHeard bytes (left source) receiver old mid r) → OnOk r (IsAtEnd (left source)) → HasReadCause (faults before) (faults source) r → HasReportCause f g r → f ≤ g → g ≤ h
-    → EndsHeard receiver r (record { old = mid; new = new; faults_old = g; faults_new = h }) status → ListenRun (gave left faults before input) (record { old = old; new = new; faults_old = f; faults_new = h }) status
-heard_run {S = S} left faults before source input old mid new f g h receiver r status is heard end read_cause report_cause le later ends =
+pub heard_run : {S : Type 0} (left : S → Option (List ℕ)) (faults : S → ℕ) (before source input : S) (old mid new : Option (List ℕ)) (f g h : ℕ) (strict : Bool) (stands : List (List ℕ) → Type 0) (r : Result (Unit {0}) ListenStop) (status : Status) → input ≡ source
+    → ((bytes : List ℕ) → left before ≡ Some bytes → HasHeard strict bytes (left source) stands old mid r) → OnOk r (IsAtEnd (left source)) → HasReadCause (faults before) (faults source) r → HasReportCause f g r → f ≤ g → g ≤ h
+    → EndsHeard strict stands r (record { old = mid; new = new; faults_old = g; faults_new = h }) status → ListenRun strict (gave left faults before input) (record { old = old; new = new; faults_old = f; faults_new = h }) status
+heard_run {S = S} left faults before source input old mid new f g h strict stands r status is heard end read_cause report_cause le later ends =
     let report : ReportTaken = record { old = old; new = new; faults_old = f; faults_new = h } in
     let last : ReportTaken = record { old = mid; new = new; faults_old = g; faults_new = h } in
-    subst (λ (s : S). ListenRun (gave left faults before s) report status) (sym is)
-    (listen_run (gave left faults before source) report status
-    (λ bytes tells. leaves_heard r bytes (left source) receiver old mid new f g h status le (heard bytes tells) ends)
-    (of_listen receiver r last status ends)
-    (at_end receiver r last status (IsAtEnd (left source)) ends end)
-    (read_rose receiver r last status (faults before) (faults source) ends read_cause)
-    (report_rose receiver r last status f le later ends report_cause))
+    subst (λ (s : S). ListenRun strict (gave left faults before s) report status) (sym is)
+    (listen_run strict (gave left faults before source) report status
+    (λ bytes tells. leaves_heard strict r bytes (left source) stands old mid new f g h status le (heard bytes tells) ends)
+    (of_listen strict stands r last status ends)
+    (at_end strict stands r last status (IsAtEnd (left source)) ends end)
+    (read_rose strict stands r last status (faults before) (faults source) ends read_cause)
+    (report_rose strict stands r last status f le later ends report_cause))

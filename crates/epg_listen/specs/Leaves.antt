@@ -1,37 +1,28 @@
--- What a run of `listen` leaves, for each status, and all that it promises.
-use Rattle.std.specs.Prelude.{◌≡◌, ℕ, ◌+◌, ◌/◌, ◌<◌, ◌⊎◌, ◌++◌, List, length, take, Option, Some}
+-- What a run of `listen` leaves, for each status, and all that it promises: with `--strict` where `strict` is true, and without it where it
+-- is false. The lines of packets are their completions, with `--strict` also their breaks.
+use Rattle.std.specs.Prelude.{◌≡◌, ℕ, ◌+◌, ◌/◌, ◌<◌, ◌⊎◌, ◌++◌, List, Bool, false, true, length, take, Option, Some}
 use Rattle.std.specs.Io.KnownBytes.{Appends, IsAtEnd}
 use Rattle.si_causes.specs.Causes.{Rose, AppendsFront}
 use Rattle.packet_reader.specs.Recordings.{RecordingEnd, RecordingEnd.AtEnd, RecordingEnd.Broken, RecordingEnd.PastLimit, recording}
 use Rattle.packet_reader.specs.declared.stop.PacketStop.{PacketStop}
 use Rattle.packet_reader.specs.declared.stop.PacketStop.TheVariants as packet
 use Rattle.sub_collect.specs.KeyCounts.{HaveFewKeys, HaveTooManyKeys}
-use Rattle.heard_completions.specs.Dones.{counted_heard, dones_of}
-use Rattle.guide_receiver.specs.Guides.{guide_of}
-use Rattle.heard_completions.specs.Texts.{done_lines}
-use Rattle.guide_text.specs.Guides.{guide_text}
+use Rattle.heard_completions.specs.Dones.{counted_heard}
 use Rattle.epg_report.specs.declared.status.Status.{Status}
 use Rattle.epg_report.specs.declared.status.Status.TheVariants.{Done, BadStream, TooLong, ReadFault, WriteFault, Memory, TooMany}
 use Rattle.epg_report.specs.declared.status.Origin.TheVariants.{Input}
 use Rattle.epg_report.specs.declared.status.Outlet.TheVariants.{Report}
 use Rattle.epg_report.specs.Texts.{fault_line, fault_text}
 use Rattle.epg_report.specs.Told.{ReportTaken, Reported, SourceGave, gave, told}
+use Rattle.epg_listen.specs.Lines.{heard_text, heard_guide}
 
 -- the packets of a recording, and how it stops
 abbrev pub Recording : Type 0
 Recording = List (List ℕ) × RecordingEnd
 
--- the lines of the completions that these packets show
-abbrev pub heard_text : List (List ℕ) → List ℕ
-heard_text packets = done_lines (dones_of packets)
-
--- the text of the guide that was heard of them
-abbrev pub heard_guide : List (List ℕ) → List ℕ
-heard_guide packets = guide_text (guide_of packets)
-
 -- the whole report of a recording of these packets
-abbrev pub report_of : List (List ℕ) → List ℕ
-report_of packets = heard_text packets ++ heard_guide packets
+abbrev pub report_of : Bool → List (List ℕ) → List ℕ
+report_of strict packets = heard_text strict packets ++ heard_guide strict packets
 
 -- the status of a stop
 abbrev pub packet_stop_status : PacketStop → Status
@@ -53,21 +44,21 @@ pub record IsKeyTooMany (packets : List (List ℕ)) (n : ℕ) : Type 0 where
 abbrev pub HasRoom : Recording → Type 0
 HasRoom recording = HaveFewKeys (counted_heard recording.0)
 
--- with Done: each piece of the recording is a packet, and the report is the completions of all of them and the guide
-pub record HeardWhole (recording : Recording) (report : ReportTaken) : Type 0 where
+-- with Done: each piece of the recording is a packet, and the report is the lines of all of them and the guide
+pub record HeardWhole (strict : Bool) (recording : Recording) (report : ReportTaken) : Type 0 where
   pub ended : recording.1 ≡ AtEnd
   pub few : HasRoom recording
-  pub report_is : Appends report.old report.new (report_of recording.0)
+  pub report_is : Appends report.old report.new (report_of strict recording.0)
 
 -- with a fault behind all packets of the recording
-pub record HeardAll (recording : Recording) (fault : List ℕ) (report : ReportTaken) : Type 0 where
+pub record HeardAll (strict : Bool) (recording : Recording) (fault : List ℕ) (report : ReportTaken) : Type 0 where
   pub few : HasRoom recording
-  pub report_is : Reported report (heard_text recording.0 ++ fault_line fault)
+  pub report_is : Reported report (heard_text strict recording.0 ++ fault_line fault)
 
--- With a key too many in packet n: the completions of the packets before it, and the fault.
-pub record HeardFront (recording : Recording) (n : ℕ) (report : ReportTaken) : Type 0 where
+-- With a key too many in packet n: the lines of the packets before it, and the fault.
+pub record HeardFront (strict : Bool) (recording : Recording) (n : ℕ) (report : ReportTaken) : Type 0 where
   pub first : IsKeyTooMany recording.0 n
-  pub report_is : Reported report (heard_text (take n recording.0) ++ fault_line (fault_text (TooMany n)))
+  pub report_is : Reported report (heard_text strict (take n recording.0) ++ fault_line (fault_text (TooMany n)))
 
 -- These bytes were taken from the input, and the others are left; each whole piece that was taken is a packet.
 pub record WasTaken (bytes : List ℕ) (left : Option (List ℕ)) (taken : List ℕ) : Type 0 where
@@ -76,30 +67,30 @@ pub record WasTaken (bytes : List ℕ) (left : Option (List ℕ)) (taken : List 
   pub left_is : left ≡ Some behind
   pub whole : length (recording taken).0 ≡ length taken / 188
 
--- with a failed read: the completions of the whole packets that were taken, and the fault
-pub record HeardTaken (bytes : List ℕ) (left : Option (List ℕ)) (report : ReportTaken) : Type 0 where
+-- with a failed read: the lines of the whole packets that were taken, and the fault
+pub record HeardTaken (strict : Bool) (bytes : List ℕ) (left : Option (List ℕ)) (report : ReportTaken) : Type 0 where
   pub taken : List ℕ
   pub is_taken : WasTaken bytes left taken
   pub few : HasRoom (recording taken)
-  pub report_is : Reported report (heard_text (recording taken).0 ++ fault_line (packet_stop_text packet.Failed))
+  pub report_is : Reported report (heard_text strict (recording taken).0 ++ fault_line (packet_stop_text packet.Failed))
 
--- With a fault of the report no fault of the recording was met: the report has a proper front of the completions of the first k packets,
--- or, where the recording was heard to its end, of all completions and the guide.
-abbrev pub HeardUnreported : Recording → ReportTaken → Type 0
-HeardUnreported recording report =
-    ((k : ℕ) × AppendsFront report.old report.new (heard_text (take k recording.0)))
-    ⊎ ((recording.1 ≡ AtEnd) × AppendsFront report.old report.new (report_of recording.0))
+-- With a fault of the report no fault of the recording was met: the report has a proper front of the lines of the first k packets, or, where
+-- the recording was heard to its end, of all lines and the guide.
+abbrev pub HeardUnreported : Bool → Recording → ReportTaken → Type 0
+HeardUnreported strict recording report =
+    ((k : ℕ) × AppendsFront report.old report.new (heard_text strict (take k recording.0)))
+    ⊎ ((recording.1 ≡ AtEnd) × AppendsFront report.old report.new (report_of strict recording.0))
 
 -- What a run of `listen` leaves with each status, of the bytes of a recording, and of what is left of them. No other status comes.
-abbrev pub LeavesHeard : List ℕ → Option (List ℕ) → ReportTaken → Status → Type 0
-LeavesHeard bytes left report Done = HeardWhole (recording bytes) report
-LeavesHeard bytes left report (BadStream n) = ((recording bytes).1 ≡ Broken) × (n ≡ length (recording bytes).0) × HeardAll (recording bytes) (packet_stop_text (packet.Broken n)) report
-LeavesHeard bytes left report (TooLong Input) = ((recording bytes).1 ≡ PastLimit) × HeardAll (recording bytes) (packet_stop_text packet.TooLong) report
-LeavesHeard bytes left report (TooMany n) = HeardFront (recording bytes) n report
-LeavesHeard bytes left report (ReadFault Input) = HeardTaken bytes left report
-LeavesHeard bytes left report (WriteFault Report) = HeardUnreported (recording bytes) report
-LeavesHeard bytes left report Memory = Unit {0}
-LeavesHeard bytes left report status = ⊥
+abbrev pub LeavesHeard : Bool → List ℕ → Option (List ℕ) → ReportTaken → Status → Type 0
+LeavesHeard strict bytes left report Done = HeardWhole strict (recording bytes) report
+LeavesHeard strict bytes left report (BadStream n) = ((recording bytes).1 ≡ Broken) × (n ≡ length (recording bytes).0) × HeardAll strict (recording bytes) (packet_stop_text (packet.Broken n)) report
+LeavesHeard strict bytes left report (TooLong Input) = ((recording bytes).1 ≡ PastLimit) × HeardAll strict (recording bytes) (packet_stop_text packet.TooLong) report
+LeavesHeard strict bytes left report (TooMany n) = HeardFront strict (recording bytes) n report
+LeavesHeard strict bytes left report (ReadFault Input) = HeardTaken strict bytes left report
+LeavesHeard strict bytes left report (WriteFault Report) = HeardUnreported strict (recording bytes) report
+LeavesHeard strict bytes left report Memory = Unit {0}
+LeavesHeard strict bytes left report status = ⊥
 
 -- the statuses of `listen`
 abbrev pub IsOfListen : Status → Type 0
@@ -123,9 +114,9 @@ HearsThrough recording Memory = Unit {0}
 HearsThrough recording status = ⊥
 
 -- A run of `listen`: what its input gave, what its report took, and its status.
-pub record ListenRun (input : SourceGave) (report : ReportTaken) (status : Status) : Type 0 where
-  -- what is left with each status: the completions and the guide that the report has
-  pub leaves : (bytes : List ℕ) → input.old ≡ Some bytes → LeavesHeard bytes input.new report status
+pub record ListenRun (strict : Bool) (input : SourceGave) (report : ReportTaken) (status : Status) : Type 0 where
+  -- what is left with each status: the lines and the guide that the report has
+  pub leaves : (bytes : List ℕ) → input.old ≡ Some bytes → LeavesHeard strict bytes input.new report status
   -- where neither the input nor the report fails, the recording decides the status, but for want of memory
   pub completes : (bytes : List ℕ) → input.old ≡ Some bytes → ¬ (Rose input.faults_old input.faults_new)
       → ¬ (Rose report.faults_old report.faults_new) → HearsThrough (recording bytes) status
@@ -141,6 +132,14 @@ pub record ListenRun (input : SourceGave) (report : ReportTaken) (status : Statu
   pub report_cause : status ≡ WriteFault Report → Rose report.faults_old report.faults_new
 
 -- So a call ran with this input and this report: of each what tells its bytes and its faults, and how it was before and behind.
+abbrev pub ListenRanAs : Bool → {S R : Type 0} → (S → Option (List ℕ)) → (S → ℕ) → S → S → (R → Option (List ℕ)) → (R → ℕ) → R → R → Status → Type 0
+ListenRanAs strict left read_faults input input_then taken report_faults report report_then status =
+    ListenRun strict (gave left read_faults input input_then) (told taken report_faults report report_then) status
+
+-- without `--strict`
 abbrev pub ListenRan : {S R : Type 0} → (S → Option (List ℕ)) → (S → ℕ) → S → S → (R → Option (List ℕ)) → (R → ℕ) → R → R → Status → Type 0
-ListenRan left read_faults input input_then taken report_faults report report_then status =
-    ListenRun (gave left read_faults input input_then) (told taken report_faults report report_then) status
+ListenRan = ListenRanAs false
+
+-- and with it
+abbrev pub StrictRan : {S R : Type 0} → (S → Option (List ℕ)) → (S → ℕ) → S → S → (R → Option (List ℕ)) → (R → ℕ) → R → R → Status → Type 0
+StrictRan = ListenRanAs true

@@ -10,7 +10,9 @@
 //! Not promised: what is left after Memory, and that it comes only where memory runs out.
 #![tactic(auto)]
 
+mod lines;
 mod listen;
+mod listener;
 mod run;
 
-pub use run::run_listen;
+pub use run::{run_listen, run_strict_listen};

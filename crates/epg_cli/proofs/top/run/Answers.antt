@@ -8,6 +8,7 @@ use Rattle.epg_report.specs.Told.{asked, gave, told}
 use Rattle.epg_report.proofs.Reporting.{reported}
 use Rattle.epg_play.proofs.PlayRunFacts.{play_memory}
 use Rattle.epg_listen.proofs.ListenRunFacts.{listen_memory}
+use Rattle.epg_listen.specs.Leaves.{ListenRun}
 use Rattle.epg_live.specs.LiveRun.{LiveRun}
 use Rattle.epg_live.proofs.LiveRunFacts.{live_memory, none_asked}
 use Rattle.epg_soak.specs.SoakRun.{SoakRun}
@@ -16,7 +17,7 @@ use Rattle.epg_audit.specs.Leaves.{AuditRun}
 use Rattle.epg_audit.proofs.AuditRuns.{audit_memory}
 use Rattle.epg_resume.proofs.RunFacts.{fold_memory, resume_memory}
 use Rattle.epg_cli.proofs.PrintFacts.{prints}
-use Rattle.epg_cli.proofs.CommandFacts.{play_audit, listen_audit, live_audit, soak_audit, play_sends, live_sends, soak_sends, none_sends, audit_others, audit_is, audit_usage, audit_cause, audit_open, play_listen, play_live, listen_live, play_soak, listen_soak, live_soak, live_others, some_none, live_is, soak_is, listen_usage, live_usage, soak_usage, listen_open, soak_open, listen_cause, soak_cause, memory_usage, memory_read, play_is, play_opens}
+use Rattle.epg_cli.proofs.CommandFacts.{play_audit, listen_audit, live_audit, soak_audit, play_sends, live_sends, soak_sends, none_sends, audit_others, audit_is, audit_usage, audit_cause, audit_open, play_listen, play_live, listen_live, play_soak, listen_soak, live_soak, live_others, some_none, live_is, soak_is, listen_usage, live_usage, soak_usage, listen_open, soak_open, listen_cause, soak_cause, memory_usage, memory_read, play_is, play_opens, listen_is}
 use Rattle.epg_cli.proofs.top.run.Goals as goal
 
 pub returns-in-Ok-Play : goal.returns-in-Ok-Play
@@ -32,7 +33,8 @@ returns-in-Ok-Play g c =
       play = λ spelled. run.plain (play_is command (Play words.fold resume) (Play false None) spells spelled);
       fold = λ spelled. run.fold (play_is command (Play words.fold resume) (Play true None) spells spelled);
       resume = λ path fold spelled. run.resume path fold (play_is command (Play words.fold resume) (Play fold (Some path)) spells spelled);
-      listen = λ spelled. absurd (play_listen command words.fold resume spells spelled);
+      listen = λ spelled. absurd (play_listen command words.fold resume false spells spelled);
+      strict_listen = λ spelled. absurd (play_listen command words.fold resume true spells spelled);
       live = λ paths plan spelled. absurd (play_live command words.fold resume paths plan spells spelled);
       live_again = λ paths plan spelled. absurd (play_live command words.fold resume paths plan spells spelled);
       soak = λ number spelled. absurd (play_soak command words.fold resume number spells spelled);
@@ -49,26 +51,30 @@ returns-in-Ok-Play g c =
 pub returns-in-Ok-Listen : goal.returns-in-Ok-Listen
 returns-in-Ok-Listen g c =
     let command = command_of (texts c.args.words.now) in
-    let spells : command ≡ Some Listen = rw c.in-Ok-Listen.field-0-is at c.in-Ok-Listen.ensures.command in
-    let run = c.run_listen.ensures.run in
+    let strict = c.in-Ok-Listen.strict in
+    let spells : command ≡ Some (Listen strict) = rw c.in-Ok-Listen.field-0-is at c.in-Ok-Listen.ensures.command in
+    let run = c.run_listen_words.ensures.run in
+    let input = gave g.S.Source.left g.S.Source.faults c.args.input.now c.run_listen_words.new.input in
+    let report = told g.R.Sink.written g.R.Sink.faults c.args.report.now c.run_listen_words.new.report in
     record {
-      usage = (λ e. absurd (listen_usage c.run_listen.result run.known e), λ none. absurd (some_none command Listen spells none));
-      usage_leaves = λ e. absurd (listen_usage c.run_listen.result run.known e);
-      play = λ spelled. absurd (play_listen command false None spelled spells);
-      fold = λ spelled. absurd (play_listen command true None spelled spells);
-      resume = λ path fold spelled. absurd (play_listen command fold (Some path) spelled spells);
-      listen = λ spelled. run;
-      live = λ paths plan spelled. absurd (listen_live command paths plan spells spelled);
-      live_again = λ paths plan spelled. absurd (listen_live command paths plan spells spelled);
-      soak = λ number spelled. absurd (listen_soak command number spells spelled);
-      audit = λ path spelled. absurd (listen_audit command path spells spelled);
+      usage = (λ e. absurd (listen_usage c.run_listen_words.result run.known e), λ none. absurd (some_none command (Listen strict) spells none));
+      usage_leaves = λ e. absurd (listen_usage c.run_listen_words.result run.known e);
+      play = λ spelled. absurd (play_listen command false None strict spelled spells);
+      fold = λ spelled. absurd (play_listen command true None strict spelled spells);
+      resume = λ path fold spelled. absurd (play_listen command fold (Some path) strict spelled spells);
+      listen = λ spelled. listen_is (λ s. ListenRun s input report c.run_listen_words.result) command strict false spells spelled run;
+      strict_listen = λ spelled. listen_is (λ s. ListenRun s input report c.run_listen_words.result) command strict true spells spelled run;
+      live = λ paths plan spelled. absurd (listen_live command strict paths plan spells spelled);
+      live_again = λ paths plan spelled. absurd (listen_live command strict paths plan spells spelled);
+      soak = λ number spelled. absurd (listen_soak command strict number spells spelled);
+      audit = λ path spelled. absurd (listen_audit command strict path spells spelled);
       air_kept = λ spelled. refl;
       opener_kept = λ spelled. refl;
-      input_kept = λ spelled. absurd (listen_soak command spelled.0 spells spelled.1);
+      input_kept = λ spelled. absurd (listen_soak command strict spelled.0 spells spelled.1);
       end = λ done. inr (run.end done);
-      cause = listen_cause (g.S.Source.faults c.args.input.now) (g.S.Source.faults c.run_listen.new.input) (g.O.Opener.read_faults c.args.opener.now) (g.O.Opener.read_faults c.args.opener.now)
-          (g.A.Sink.faults c.args.air.now) (g.A.Sink.faults c.args.air.now) c.run_listen.result run.known run.input_cause;
-      open_cause = λ feed e. absurd (listen_open c.run_listen.result feed run.known e);
+      cause = listen_cause (g.S.Source.faults c.args.input.now) (g.S.Source.faults c.run_listen_words.new.input) (g.O.Opener.read_faults c.args.opener.now) (g.O.Opener.read_faults c.args.opener.now)
+          (g.A.Sink.faults c.args.air.now) (g.A.Sink.faults c.args.air.now) c.run_listen_words.result run.known run.input_cause;
+      open_cause = λ feed e. absurd (listen_open c.run_listen_words.result feed run.known e);
       report = run.report_cause;
     }
 
@@ -89,7 +95,8 @@ returns-in-Ok-Live g c =
       play = λ spelled. absurd (play_live command false None read (plan_of words) spelled spells);
       fold = λ spelled. absurd (play_live command true None read (plan_of words) spelled spells);
       resume = λ path fold spelled. absurd (play_live command fold (Some path) read (plan_of words) spelled spells);
-      listen = λ spelled. absurd (listen_live command read (plan_of words) spelled spells);
+      listen = λ spelled. absurd (listen_live command false read (plan_of words) spelled spells);
+      strict_listen = λ spelled. absurd (listen_live command true read (plan_of words) spelled spells);
       live = λ paths plan spelled.
           live_is (λ ps p. LiveRun ps p opener input air report c.run_live_files.result) command read paths (plan_of words) plan spells spelled run;
       live_again = λ paths plan spelled text tells files known.
@@ -128,7 +135,8 @@ returns-in-Ok-Soak g c =
       play = λ spelled. absurd (play_soak command false None read spelled spells);
       fold = λ spelled. absurd (play_soak command true None read spelled spells);
       resume = λ path fold spelled. absurd (play_soak command fold (Some path) read spelled spells);
-      listen = λ spelled. absurd (listen_soak command read spelled spells);
+      listen = λ spelled. absurd (listen_soak command false read spelled spells);
+      strict_listen = λ spelled. absurd (listen_soak command true read spelled spells);
       live = λ paths plan spelled. absurd (live_soak command paths plan read spelled spells);
       live_again = λ paths plan spelled. absurd (live_soak command paths plan read spelled spells);
       soak = λ number spelled. soak_is (λ n. SoakRun n air report c.run_soak.result) command read number spells spelled run;
@@ -158,7 +166,8 @@ returns-in-Ok-Audit g c =
       play = λ spelled. absurd (play_audit command false None read spelled spells);
       fold = λ spelled. absurd (play_audit command true None read spelled spells);
       resume = λ path fold spelled. absurd (play_audit command fold (Some path) read spelled spells);
-      listen = λ spelled. absurd (listen_audit command read spelled spells);
+      listen = λ spelled. absurd (listen_audit command false read spelled spells);
+      strict_listen = λ spelled. absurd (listen_audit command true read spelled spells);
       live = λ paths plan spelled. absurd (live_audit command paths plan read spelled spells);
       live_again = λ paths plan spelled. absurd (live_audit command paths plan read spelled spells);
       soak = λ number spelled. absurd (soak_audit command number read spelled spells);
@@ -187,7 +196,8 @@ returns-in-Err-Memory g c =
       play = λ spelled. play_memory input air report c.out_of_memory.result is;
       fold = λ spelled. fold_memory input air report c.out_of_memory.result is;
       resume = λ path fold spelled. resume_memory path fold opener input air report c.out_of_memory.result is refl;
-      listen = λ spelled. listen_memory input report c.out_of_memory.result is;
+      listen = λ spelled. listen_memory false input report c.out_of_memory.result is;
+      strict_listen = λ spelled. listen_memory true input report c.out_of_memory.result is;
       live = λ paths plan spelled. live_memory paths plan opener input air report c.out_of_memory.result is (none_asked paths tried);
       live_again = λ paths plan spelled text tells files known. inl is;
       soak = λ number spelled. soak_memory number air report c.out_of_memory.result is;
@@ -216,7 +226,8 @@ returns-in-Err-Usage g c =
       play = λ spelled. absurd (some_none command (Play false None) spelled none);
       fold = λ spelled. absurd (some_none command (Play true None) spelled none);
       resume = λ path fold spelled. absurd (some_none command (Play fold (Some path)) spelled none);
-      listen = λ spelled. absurd (some_none command Listen spelled none);
+      listen = λ spelled. absurd (some_none command (Listen false) spelled none);
+      strict_listen = λ spelled. absurd (some_none command (Listen true) spelled none);
       live = λ paths plan spelled. absurd (some_none command (Live paths plan.cycles plan.join plan.views) spelled none);
       live_again = λ paths plan spelled. absurd (some_none command (Live paths plan.cycles plan.join plan.views) spelled none);
       soak = λ number spelled. absurd (some_none command (Soak number) spelled none);

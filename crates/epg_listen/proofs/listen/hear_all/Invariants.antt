@@ -2,8 +2,7 @@ use Rattle.std.proofs.Common.{◌≡◌, ◌≤◌, List, ℕ, length}
 use Rattle.std.specs.Prelude.{Some, None}
 use Rattle.std.specs.Io.KnownBytes.{Appends}
 use Rattle.packet_reader.specs.Reading.{bytes_left, packets_to_come}
-use Rattle.guide_receiver.specs.Heard.{ReceiverStandsFor}
-use Rattle.epg_listen.specs.Leaves.{heard_text}
+use Rattle.epg_listen.specs.Lines.{heard_text}
 use Rattle.epg_listen.proofs.ListenFacts.{HasParted}
 use Rattle.epg_listen.proofs.listen.hear_all.Given as goal
 
@@ -17,8 +16,8 @@ invariant-loop-number g l =
       told : (bytes : List ℕ) → bytes_left g.S.Source.left l.fn.packets ≡ Some bytes →
           (heard : List (List ℕ)) × (done : List ℕ) × (rest : List ℕ) × (bytes_left g.S.Source.left l.packets ≡ Some rest)
           × HasParted bytes done heard (packets_to_come l.packets) rest
-          × ReceiverStandsFor heard l.receiver × (l.packets.number ≡ length heard)
-          × Appends (g.R.Sink.written l.fn.report) (g.R.Sink.written l.report) (heard_text heard);
+          × g.L.Listener.stands l.listener heard × (l.packets.number ≡ length heard)
+          × Appends (g.R.Sink.written l.fn.report) (g.R.Sink.written l.report) (heard_text g.L.Listener.strict heard);
     }
 
 abbrev pub decreases-loop-number : goal.decreases-loop-number

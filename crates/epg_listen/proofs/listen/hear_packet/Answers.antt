@@ -8,8 +8,5 @@ returns-in-Ok-write_all g c = record { reports = grind (arith, common_steps); st
 pub returns-in-Err-Memory : goal.returns-in-Err-Memory
 returns-in-Err-Memory g c = record { reports = grind (arith, common_steps); stands = grind (arith, common_steps); too_many = λ past stands. tt; cause = grind (arith, common_steps); no_read = grind (arith, common_steps); later = grind (arith, common_steps) }
 
-pub returns-in_default : goal.returns-in_default
-returns-in_default g c = record { reports = grind (arith, common_steps); stands = grind (arith, common_steps); too_many = λ past stands. tt; cause = grind (arith, common_steps); no_read = grind (arith, common_steps); later = grind (arith, common_steps) }
-
 pub returns : goal.returns
 returns g c = record { reports = grind (arith, common_steps); stands = grind (arith, common_steps); too_many = λ past stands. tt; cause = grind (arith, common_steps); no_read = grind (arith, common_steps); later = grind (arith, common_steps) }

@@ -1,6 +1,6 @@
 use Rattle.std.proofs.Common.{refl}
-use Rattle.epg_listen.proofs.ListenFacts.{lines_next}
-use Rattle.epg_listen.proofs.listen.lines_of.Goals as goal
+use Rattle.epg_listen.proofs.LineFacts.{lines_next}
+use Rattle.epg_listen.proofs.lines.lines_of.Goals as goal
 
 pub loop-done-preserved : goal.loop-done-preserved
 loop-done-preserved c =
