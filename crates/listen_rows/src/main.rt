@@ -6,6 +6,7 @@
 //! in turn.
 #![tactic(auto)]
 
+mod file;
 mod recording;
 mod report;
 mod rows;
@@ -16,8 +17,14 @@ use std::io;
 fn main(rt: HostRuntime) -> io::Result<()> {
     for line in rt.lines(rt.alloc()) {
         let line = line?;
-        let told = rows::told(&rt, rt.alloc(), line.as_str())?;
-        println!(rt; "{told}")?;
+        if let Some(path) = line.as_str().strip_prefix("file ") {
+            let mut answer = String::new(rt.alloc());
+            file::put_file(&rt, rt.alloc(), path, &mut answer)?;
+            println!(rt; "{line} = {answer}")?;
+        } else {
+            let told = rows::told(&rt, rt.alloc(), line.as_str())?;
+            println!(rt; "{told}")?;
+        }
     }
     Ok(())
 }

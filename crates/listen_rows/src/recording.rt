@@ -1,11 +1,16 @@
 // The recording of a row.
-use crate::run::{WHOLE, run_word};
+use crate::run::{WHOLE, run_words};
 use row_lines::written_out;
 use si_base::crc32;
 use std::alloc::{AllocError, Global};
 use std::marker::Sync;
 use std::sync::Wait;
 use std::thread::Threads;
+
+/// The first word of a text, and the rest of it.
+pub fn cut(text: &str) -> (&str, &str) {
+    text.split_once(' ').unwrap_or((text, ""))
+}
 
 /// The bytes that a text spells: each word is a byte in hex, and behind a star how often it stands.
 fn spelled(alloc: Global, text: &str) -> Result<Vec<u8>, AllocError> {
@@ -40,7 +45,7 @@ fn air_of<W: Threads + Wait + Sync>(
     for b in script.as_bytes() {
         bytes.push(if *b == b'/' { b'\n' } else { *b })?;
     }
-    let left = run_word(rt, alloc, "play", &bytes, WHOLE)?;
+    let left = run_words(rt, alloc, "play", &bytes, WHOLE)?;
     Vec::from_slice(alloc, left.air.taken())
 }
 
@@ -102,13 +107,74 @@ fn pmts(alloc: Global, count: u64) -> Result<Vec<u8>, AllocError> {
     Ok(all)
 }
 
+// Whether this number is one of these, which have commas between.
+fn is_among(number: usize, numbers: &str) -> bool {
+    numbers
+        .split(',')
+        .any(|word| word.parse::<usize>().ok() == Some(number))
+}
+
+// The packets of a recording but those with these numbers.
+fn without(alloc: Global, bytes: &[u8], numbers: &str) -> Result<Vec<u8>, AllocError> {
+    let mut left = Vec::new(alloc);
+    for (i, packet) in bytes.chunks(188).enumerate() {
+        if !is_among(i, numbers) {
+            left.extend_from_slice(packet)?;
+        }
+    }
+    Ok(left)
+}
+
+// Whether a packet is of this PID.
+fn is_on(packet: &[u8], pid: u64) -> bool {
+    match packet {
+        [_, high, low, ..] => u64::from(*high % 32) * 256 + u64::from(*low) == pid,
+        _ => false,
+    }
+}
+
+// Of the packets on a PID those with these numbers, from 0.
+fn kept(alloc: Global, bytes: &[u8], pid: u64, numbers: &str) -> Result<Vec<u8>, AllocError> {
+    let mut left = Vec::new(alloc);
+    let mut count = 0;
+    for packet in bytes.chunks(188) {
+        if is_on(packet, pid) {
+            if is_among(count, numbers) {
+                left.extend_from_slice(packet)?;
+            }
+            count = count.saturating_add(1);
+        }
+    }
+    Ok(left)
+}
+
 /// The recording that this text tells.
 pub fn recording_of<W: Threads + Wait + Sync>(
     rt: &W,
     alloc: Global,
     text: &str,
 ) -> Result<Vec<u8>, AllocError> {
-    let (form, text) = text.split_once(' ').unwrap_or((text, ""));
+    match cut(text) {
+        ("without", rest) => {
+            let (numbers, rest) = cut(rest);
+            without(alloc, &whole_of(rt, alloc, rest)?, numbers)
+        }
+        ("kept", rest) => {
+            let (pid, rest) = cut(rest);
+            let (numbers, rest) = cut(rest);
+            kept(alloc, &whole_of(rt, alloc, rest)?, number(pid), numbers)
+        }
+        _ => whole_of(rt, alloc, text),
+    }
+}
+
+// A recording before packets are taken out.
+fn whole_of<W: Threads + Wait + Sync>(
+    rt: &W,
+    alloc: Global,
+    text: &str,
+) -> Result<Vec<u8>, AllocError> {
+    let (form, text) = cut(text);
     match form {
         "hex" => spelled(alloc, text),
         "play" => air_of(rt, alloc, text),
@@ -119,7 +185,7 @@ pub fn recording_of<W: Threads + Wait + Sync>(
         }
         "pmts" => pmts(alloc, number(text)),
         "bytes" => {
-            let (len, text) = text.split_once(' ').unwrap_or((text, ""));
+            let (len, text) = cut(text);
             let bytes = spelled(alloc, text)?;
             again(alloc, number(len) as usize, &bytes)
         }

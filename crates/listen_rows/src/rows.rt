@@ -1,7 +1,7 @@
 // A row and its answer.
-use crate::recording::recording_of;
+use crate::recording::{cut, recording_of};
 use crate::report::{put_crc, put_guide, put_table, put_whole};
-use crate::run::{Ends, Left, WHOLE, run_word};
+use crate::run::{Ends, Left, WHOLE, run_words};
 use row_lines::parts_counted;
 use std::alloc::{AllocError, Global};
 use std::marker::Sync;
@@ -11,14 +11,14 @@ use std::thread::Threads;
 // The most runs of a row.
 const MOST: u64 = 256;
 
-// The first word of a row, and what is behind it.
-fn cut(row: &str) -> (&str, &str) {
-    row.split_once(' ').unwrap_or((row, ""))
-}
-
-fn left_of<W: Threads + Wait + Sync>(rt: &W, alloc: Global, row: &str) -> Result<Left, AllocError> {
+fn left_of<W: Threads + Wait + Sync>(
+    rt: &W,
+    alloc: Global,
+    words: &str,
+    row: &str,
+) -> Result<Left, AllocError> {
     let recording = recording_of(rt, alloc, row)?;
-    run_word(rt, alloc, "listen", &recording, WHOLE)
+    run_words(rt, alloc, words, &recording, WHOLE)
 }
 
 fn ends_of(kind: &str, piece: usize, call: u64) -> Ends {
@@ -34,13 +34,14 @@ fn ends_of(kind: &str, piece: usize, call: u64) -> Ends {
 fn each_of<W: Threads + Wait + Sync>(
     rt: &W,
     alloc: Global,
+    words: &str,
     kind: &str,
     piece: usize,
     recording: &[u8],
 ) -> Result<String, AllocError> {
     let mut all = String::new(alloc);
     for call in 0..MOST {
-        let left = run_word(rt, alloc, "listen", recording, ends_of(kind, piece, call))?;
+        let left = run_words(rt, alloc, words, recording, ends_of(kind, piece, call))?;
         put_whole(&mut all, &left)?;
         if left.status.code() == 0 {
             break;
@@ -54,6 +55,7 @@ fn each_of<W: Threads + Wait + Sync>(
 fn tell_each<W: Threads + Wait + Sync>(
     rt: &W,
     alloc: Global,
+    words: &str,
     row: &str,
     out: &mut String,
 ) -> Result<(), AllocError> {
@@ -61,7 +63,7 @@ fn tell_each<W: Threads + Wait + Sync>(
     let (piece, row) = cut(row);
     let piece = piece.parse::<usize>().unwrap_or(1);
     let recording = recording_of(rt, alloc, row)?;
-    let all = each_of(rt, alloc, kind, piece, &recording)?;
+    let all = each_of(rt, alloc, words, kind, piece, &recording)?;
     out.push_str(parts_counted(alloc, all.as_str())?.as_str())
 }
 
@@ -69,28 +71,45 @@ fn tell_each<W: Threads + Wait + Sync>(
 fn tell_table<W: Threads + Wait + Sync>(
     rt: &W,
     alloc: Global,
+    words: &str,
     row: &str,
     out: &mut String,
 ) -> Result<(), AllocError> {
     let (table, row) = cut(row);
-    put_table(out, &left_of(rt, alloc, row)?, table)
+    put_table(out, &left_of(rt, alloc, words, row)?, table)
 }
 
-// Appends what a row gives.
+// Appends what a row gives whose runs have these words.
 fn tell<W: Threads + Wait + Sync>(
     rt: &W,
     alloc: Global,
-    call: &str,
+    words: &str,
     row: &str,
     out: &mut String,
 ) -> Result<(), AllocError> {
+    let (call, row) = cut(row);
     match call {
-        "reports" => put_whole(out, &left_of(rt, alloc, row)?),
-        "guide" => put_guide(out, &left_of(rt, alloc, row)?),
-        "lines" => put_crc(out, &left_of(rt, alloc, row)?),
-        "table" => tell_table(rt, alloc, row, out),
-        "each" => tell_each(rt, alloc, row, out),
+        "reports" => put_whole(out, &left_of(rt, alloc, words, row)?),
+        "guide" => put_guide(out, &left_of(rt, alloc, words, row)?),
+        "lines" => put_crc(out, &left_of(rt, alloc, words, row)?),
+        "table" => tell_table(rt, alloc, words, row, out),
+        "each" => tell_each(rt, alloc, words, row, out),
         _ => out.push_str("no row"),
+    }
+}
+
+// Appends what a row gives: one that begins with `strict` is of `listen --strict`, and one that begins with `words` of its own words over
+// an empty recording.
+fn tell_row<W: Threads + Wait + Sync>(
+    rt: &W,
+    alloc: Global,
+    row: &str,
+    out: &mut String,
+) -> Result<(), AllocError> {
+    match cut(row) {
+        ("strict", row) => tell(rt, alloc, "listen --strict", row, out),
+        ("words", words) => put_whole(out, &run_words(rt, alloc, words, &[], WHOLE)?),
+        _ => tell(rt, alloc, "listen", row, out),
     }
 }
 
@@ -104,8 +123,7 @@ pub fn told<W: Threads + Wait + Sync>(
     if line.is_empty() || line.starts_with('#') {
         return Ok(out);
     }
-    let (call, row) = cut(line);
     out.push_str(" = ")?;
-    tell(rt, alloc, call, row, &mut out)?;
+    tell_row(rt, alloc, line, &mut out)?;
     Ok(out)
 }

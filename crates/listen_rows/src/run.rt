@@ -1,8 +1,8 @@
 // A run of the top call over a source and sinks in memory.
 use epg_cli::{Status, run};
-use si_causes::{MemOpener, MemSink, MemSource, OpenGate};
+use si_causes::{MemOpener, MemSink, MemSource, OpenGate, Source};
 use std::alloc::{AllocError, Global};
-use std::marker::Sync;
+use std::marker::{Send, Sync};
 use std::sync::Wait;
 use std::thread::Threads;
 
@@ -38,27 +38,48 @@ fn failing(alloc: Global, call: Option<u64>) -> Result<Vec<u64>, AllocError> {
     Ok(calls)
 }
 
-/// Runs this one word over this input.
-pub fn run_word<W: Threads + Wait + Sync>(
+// The words of a command line with a space between.
+fn words_of(alloc: Global, text: &str) -> Result<Vec<String>, AllocError> {
+    let mut words = Vec::new(alloc);
+    for word in text.split(' ') {
+        words.push(String::from_str(alloc, word)?)?;
+    }
+    Ok(words)
+}
+
+/// Runs these words, with a space between, over this input.
+pub fn run_words<W: Threads + Wait + Sync>(
     rt: &W,
     alloc: Global,
-    word: &str,
+    words: &str,
     input: &[u8],
     ends: Ends,
 ) -> Result<Left, AllocError> {
-    let words = vec![in alloc; String::from_str(alloc, word)?; 1]?;
     let bytes = Vec::from_slice(alloc, input)?;
     let piece = ends.piece.max(1);
     let mut source = MemSource::open(bytes, piece, failing(alloc, ends.read)?);
+    let report = MemSink::open(alloc, piece, failing(alloc, ends.write)?);
+    run_over(rt, alloc, words, &mut source, report)
+}
+
+/// Runs these words over what this source gives, with this report.
+pub fn run_over<W: Threads + Wait + Sync, S: Source + Send>(
+    rt: &W,
+    alloc: Global,
+    words: &str,
+    source: &mut S,
+    report: MemSink,
+) -> Result<Left, AllocError> {
+    let words = words_of(alloc, words)?;
     let mut none = MemOpener::open_with(alloc, Vec::new(alloc), Vec::new(alloc), None);
-    let mut air = MemSink::open(alloc, piece, Vec::new(alloc));
-    let mut report = MemSink::open(alloc, piece, failing(alloc, ends.write)?);
+    let mut air = MemSink::open(alloc, 65_536, Vec::new(alloc));
+    let mut report = report;
     let status = run(
         rt,
         alloc,
         &words,
         &mut none,
-        &mut source,
+        source,
         &mut air,
         &mut report,
         &OpenGate,
