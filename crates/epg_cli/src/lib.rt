@@ -2,12 +2,12 @@
 //!
 //! The promise of the program is on `run`. `Usage` comes exactly where the words spell no command,
 //! and nothing is then read, opened or sent. For each command one record says all of its run:
-//! `PlayRun`, `FoldRun`, `ResumeRun`, `ListenRun`, `LiveRun`, `SoakRun` and `AuditRun`, each in the
-//! crate of its command. `live_again`: the journal that `live` prints is a script that plays again,
-//! where its entries can be read and it is not too long. `listen` and `audit` send nothing; only
-//! `live`, `audit` and `play --resume` open files; `soak` reads no input (`air_kept`,
-//! `opener_kept`, `input_kept`). `cause`, `open_cause` and `report` hold for all words: each fault
-//! has its cause.
+//! `PlayRun`, `FoldRun`, `ResumeRun`, `ListenRun` (with and without `--strict`), `LiveRun`,
+//! `SoakRun` and `AuditRun`, each in the crate of its command. `live_again`: the journal that
+//! `live` prints is a script that plays again, where its entries can be read and it is not too
+//! long. `listen` and `audit` send nothing; only `live`, `audit` and `play --resume` open files;
+//! `soak` reads no input (`air_kept`, `opener_kept`, `input_kept`). `cause`, `open_cause` and
+//! `report` hold for all words: each fault has its cause.
 //!
 //! Tested by whole runs in `headend_rows`, `epg_live_rows`, `listen_rows` and `example_rows`.
 #![tactic(auto)]

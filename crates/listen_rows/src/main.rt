@@ -3,7 +3,8 @@
 //! A row is `call arguments`, and the program prints `call arguments = answer`. The head of `stdin`
 //! explains the calls. Rows cover empty, short, broken and hostile recordings, 10,000 packets,
 //! 65,536 keys and one more, parts of a cycle, and each line of a guide. Each read and write fails
-//! in turn.
+//! in turn. With `--strict` they cover losses, gaps, repeats, a key too many at a break, and an
+//! independent recording of 1,234 packets with 91 breaks.
 #![tactic(auto)]
 
 mod file;

@@ -7,7 +7,9 @@
 //! Where `repeats` is true the section would change nothing and show nothing. Completions of a key
 //! do not depend on other keys (`completions_by_key`). A version that was carried whole completes
 //! (`whole_versions_complete`, `runs_complete_their_content`), and is shown once
-//! (`contents_are_shown_once`). For event information the needed sections go by segments.
+//! (`contents_are_shown_once`). For event information the needed sections go by segments. `forget`
+//! drops the sections of a PID, and no completion; each completion is made of sections taken since
+//! then (`marks_forget`).
 //!
 //! Not promised: that a repeated section costs one comparison.
 #![tactic(auto)]

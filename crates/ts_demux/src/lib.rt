@@ -4,7 +4,8 @@
 //! (`heard`). The definition speaks of the whole list of packets so far, which is not stored. One
 //! PID's sections are heard as if no other PID were there (`order_is_kept`). Any part of packets
 //! that carry sections on a PID gives exactly those that begin and end in it, however they share
-//! packets (`carried_is_heard`).
+//! packets (`carried_is_heard`). `Demux::follows` says whether a packet continues the last one of
+//! its PID. No section is heard over a break, so a PID is heard part by part (`breaks_split`).
 //!
 //! Tested in `wire_rows`: 40 lists of packets with the sections that the standard gives.
 //!
