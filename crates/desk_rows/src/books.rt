@@ -5,6 +5,7 @@ ghost use Rattle.mux_model.specs.Sound.{IsSound};
 use crate::events::put_guide;
 use crate::words::{put_last, put_reply};
 use feed_book::Book;
+use guide_model::Guide;
 use journal_model::{Reply, Step};
 use journal_text::{ScriptItem, next_item};
 use mux_config::read_mux;
@@ -88,10 +89,16 @@ fn put_standing(book: &Book, out: &mut String) -> Result<(), AllocError> {
     put_guide(out, &guide)
 }
 
-/// Appends what pages show.
+// Appends the copy of a guide.
+fn put_copy(guide: &Guide, out: &mut String) -> Result<(), AllocError> {
+    let copy = guide.copy()?;
+    put_guide(out, &copy)
+}
+
+/// Appends what the copy of what pages show has.
 pub fn put_pages_of(shared: &PageGuide, out: &mut String) -> Result<(), AllocError> {
     let guide = shared.copy()?;
-    put_guide(out, &guide)
+    put_copy(&guide, out)
 }
 
 // What the pages show that the book shares.

@@ -1,66 +1,51 @@
 // Sums of bytes, and bytes taken from their front.
-use crate::notation::{add_hex, bytes, hex};
-use crate::row::{NoAnswer, first_word, number_below};
+use crate::notation::{append, bytes, put_hex};
+use crate::row::{first_word, number_below};
+use row_lines::Row;
 use si_base::{Reader, crc32};
-use std::alloc::{AllocError, Global};
 
-/// The calls that this module answers.
-pub const CALLS: &str = "crc32 crc32_of_mixed take";
-
-/// What such a call gives for these arguments.
-pub fn answer(alloc: Global, call: &str, arguments: &str) -> Result<String, NoAnswer> {
-    match call {
-        "crc32" => crc(alloc, &bytes(alloc, arguments)?),
-        "crc32_of_mixed" => crc_of_mixed(alloc, arguments),
-        "take" => taken(alloc, arguments),
-        _ => Err(NoAnswer::NoRow),
-    }
+/// The CRC of bytes.
+pub fn put_crc(row: &mut Row, bytes: &[u8]) {
+    put_hex(row, &crc32(bytes).to_be_bytes());
 }
 
-fn crc(alloc: Global, bytes: &[u8]) -> Result<String, NoAnswer> {
-    hex(alloc, &crc32(bytes).to_be_bytes())
-}
-
-// The CRC of so many mixed bytes.
-fn crc_of_mixed(alloc: Global, arguments: &str) -> Result<String, NoAnswer> {
-    let count = number_below(100_000, arguments)?;
-    crc(alloc, &mixed(alloc, count)?)
+/// The CRC of so many mixed bytes.
+pub fn put_crc_of_mixed(row: &mut Row, arguments: &str) {
+    let count = number_below(row, 100_000, arguments);
+    let mixed = mixed(row, count);
+    put_crc(row, &mixed);
 }
 
 // The high bytes of numbers of which each is made of the one before it.
-fn mixed(alloc: Global, count: u64) -> Result<Vec<u8>, AllocError> {
-    let mut bytes = Vec::new(alloc);
+fn mixed(row: &mut Row, count: u64) -> Vec<u8> {
+    let mut bytes = Vec::new(row.alloc());
     let mut state = 1u32;
     for _ in 0..count {
         state = state.wrapping_mul(1_664_525).wrapping_add(1_013_904_223);
-        bytes.push((state >> 24) as u8)?;
+        append(row, &mut bytes, &[(state >> 24) as u8]);
     }
-    Ok(bytes)
+    bytes
 }
 
-// What is taken by calls that ask for these numbers of bytes, with commas between them.
-fn taken(alloc: Global, arguments: &str) -> Result<String, NoAnswer> {
-    let (counts, arguments) = first_word(arguments)?;
-    let bytes = bytes(alloc, arguments)?;
-    take_all(alloc, counts, &bytes)
-}
-
-fn take_all(alloc: Global, counts: &str, bytes: &[u8]) -> Result<String, NoAnswer> {
-    let mut line = String::new(alloc);
-    let mut reader = Reader::open(bytes);
+/// What is taken by calls that ask for these numbers of bytes, with commas between them.
+pub fn take(row: &mut Row, arguments: &str) {
+    let (counts, arguments) = first_word(row, arguments);
+    let bytes = bytes(row, arguments);
+    let mut reader = Reader::open(&bytes);
+    let mut is_first = true;
     for count in counts.split(',') {
-        add_taken(&mut line, &mut reader, number_below(100_000, count)?)?;
+        if !is_first {
+            row.put(",");
+        }
+        is_first = false;
+        let count = number_below(row, 100_000, count);
+        put_taken(row, &mut reader, count as usize);
     }
-    Ok(line)
 }
 
-fn add_taken(line: &mut String, reader: &mut Reader, count: u64) -> Result<(), NoAnswer> {
-    if !line.is_empty() {
-        line.push_str(", ")?;
+fn put_taken(row: &mut Row, reader: &mut Reader, count: usize) {
+    match reader.take(count) {
+        Some(front) => put_hex(row, front),
+        None => row.put(" none"),
     }
-    match reader.take(count as usize) {
-        Some(front) => add_hex(line, front)?,
-        None => line.push_str("none")?,
-    }
-    Ok(())
 }

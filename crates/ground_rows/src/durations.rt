@@ -1,40 +1,31 @@
 // Durations, as texts and in BCD.
-use crate::notation::{bytes, hex};
-use crate::row::{NoAnswer, number_below, number_or_none, word};
-use si_time::{duration_bcd, duration_from_bcd, read_duration, write_duration};
-use std::alloc::Global;
+use crate::notation::put_hex;
+use crate::row::{number_below, put_number_or_none};
+use row_lines::{Row, text_of};
+use si_time::{duration_bcd, duration_from_bcd, write_duration};
 
-/// The calls that this module answers.
-pub const CALLS: &str = "read_duration write_duration duration_bcd duration_from_bcd";
-
-/// What such a call gives for these arguments.
-pub fn answer(alloc: Global, call: &str, arguments: &str) -> Result<String, NoAnswer> {
-    match call {
-        "read_duration" => seconds(alloc, read_duration(&bytes(alloc, arguments)?)),
-        "duration_from_bcd" => of_bcd(alloc, &bytes(alloc, arguments)?),
-        _ => of_seconds(alloc, call, arguments),
-    }
+/// A number of seconds, or none.
+pub fn put_seconds(row: &mut Row, seconds: Option<u32>) {
+    put_number_or_none(row, seconds.map(u64::from));
 }
 
-fn seconds(alloc: Global, seconds: Option<u32>) -> Result<String, NoAnswer> {
-    number_or_none(alloc, seconds.map(u64::from))
-}
-
-fn of_bcd(alloc: Global, bytes: &[u8]) -> Result<String, NoAnswer> {
+/// What these bytes are in BCD.
+pub fn put_of_bcd(row: &mut Row, bytes: &[u8]) {
     match bytes {
-        [h, m, s] => seconds(alloc, duration_from_bcd([*h, *m, *s])),
-        _ => Err(NoAnswer::NoRow),
+        [h, m, s] => put_seconds(row, duration_from_bcd([*h, *m, *s])),
+        _ => row.refuse(),
     }
 }
 
-fn of_seconds(alloc: Global, call: &str, arguments: &str) -> Result<String, NoAnswer> {
-    let seconds = number_below(360_000, arguments)? as u32;
-    match call {
-        "write_duration" => match str::from_utf8(&write_duration(seconds)) {
-            Ok(text) => word(alloc, text),
-            Err(_) => Err(NoAnswer::NoRow),
-        },
-        "duration_bcd" => hex(alloc, &duration_bcd(seconds)),
-        _ => Err(NoAnswer::NoRow),
-    }
+/// The text of a duration.
+pub fn put_text(row: &mut Row, arguments: &str) {
+    let seconds = number_below(row, 360_000, arguments);
+    row.put(" ");
+    row.put(text_of(&write_duration(seconds as u32)));
+}
+
+/// A duration in BCD.
+pub fn put_bcd(row: &mut Row, arguments: &str) {
+    let seconds = number_below(row, 360_000, arguments);
+    put_hex(row, &duration_bcd(seconds as u32));
 }

@@ -1,76 +1,63 @@
 // Fields of lines, and numbers and words in them.
-use crate::notation::{add_written, bytes, text};
-use crate::row::{NoAnswer, first_word, number_below, number_or_none, word};
+use crate::notation::{bytes, put_written, text};
+use crate::row::{first_word, number_below, put_number_or_none};
 use input_lines::{LineFields, fields, is_word, number, numeral};
-use std::alloc::{AllocError, Global};
+use row_lines::Row;
 
-/// The calls that this module answers.
-pub const CALLS: &str = "fields numeral number is_word";
-
-/// What such a call gives for these arguments.
-pub fn answer(alloc: Global, call: &str, arguments: &str) -> Result<String, NoAnswer> {
-    match call {
-        "fields" => fields_of_line(alloc, arguments),
-        "numeral" => spelled(alloc, arguments),
-        "number" => spelled_in(alloc, arguments),
-        "is_word" => is_this_word(alloc, arguments),
-        _ => Err(NoAnswer::NoRow),
+/// The fields of a line.
+pub fn put_fields(row: &mut Row, line: &[u8]) {
+    match fields(row.alloc(), line) {
+        Ok(Some(fields)) => put_all(row, &fields),
+        Ok(None) => row.put(" none"),
+        Err(_) => row.lack_memory(),
     }
 }
 
-fn fields_of_line(alloc: Global, arguments: &str) -> Result<String, NoAnswer> {
-    match fields(alloc, &bytes(alloc, arguments)?)? {
-        Some(fields) => all_written(alloc, &fields),
-        None => word(alloc, "none"),
-    }
-}
-
-fn all_written(alloc: Global, fields: &LineFields) -> Result<String, NoAnswer> {
-    let mut line = String::new(alloc);
+fn put_all(row: &mut Row, fields: &LineFields) {
     let mut between = "";
     for field in fields.as_slice() {
-        line.push_str(between)?;
-        add_field(&mut line, field.as_str())?;
-        between = " | ";
+        row.put(between);
+        put_field(row, field.as_str());
+        between = " |";
     }
     if between.is_empty() {
-        line.push_str("no field")?;
+        row.put(" no field");
     }
-    Ok(line)
 }
 
 // A field, or how many bytes it has where these are more than 100.
-fn add_field(line: &mut String, field: &str) -> Result<(), AllocError> {
-    let size = field.len();
-    if size > 100 {
-        return write!(line, "{size} bytes");
+fn put_field(row: &mut Row, field: &str) {
+    if field.len() > 100 {
+        row.put_number(" ", field.len() as u64);
+        return row.put(" bytes");
     }
-    add_written(line, field.as_bytes())
+    put_written(row, field.as_bytes());
 }
 
-fn spelled(alloc: Global, arguments: &str) -> Result<String, NoAnswer> {
-    let bytes = bytes(alloc, arguments)?;
-    number_or_none(alloc, numeral(text(&bytes)?).map(u64::from))
+/// The number that a text spells.
+pub fn put_numeral(row: &mut Row, text: &str) {
+    put_number_or_none(row, numeral(text).map(u64::from));
 }
 
-// Of a range and a field.
-fn spelled_in(alloc: Global, arguments: &str) -> Result<String, NoAnswer> {
-    let (low, arguments) = bound(arguments)?;
-    let (high, arguments) = bound(arguments)?;
-    let bytes = bytes(alloc, arguments)?;
-    number_or_none(alloc, number(text(&bytes)?, low, high).map(u64::from))
+/// The number in a range that a field spells: of the range and the field.
+pub fn put_number(row: &mut Row, arguments: &str) {
+    let (low, arguments) = bound(row, arguments);
+    let (high, arguments) = bound(row, arguments);
+    let bytes = bytes(row, arguments);
+    let text = text(row, &bytes);
+    put_number_or_none(row, number(text, low, high).map(u64::from));
 }
 
 // The number in front of other arguments.
-fn bound(arguments: &str) -> Result<(u32, &str), NoAnswer> {
-    let (number, arguments) = first_word(arguments)?;
-    Ok((number_below(1 << 32, number)? as u32, arguments))
+fn bound<'a>(row: &mut Row, arguments: &'a str) -> (u32, &'a str) {
+    let (number, arguments) = first_word(row, arguments);
+    (number_below(row, 1 << 32, number) as u32, arguments)
 }
 
-// Of a word and a field.
-fn is_this_word(alloc: Global, arguments: &str) -> Result<String, NoAnswer> {
-    let (wanted, arguments) = first_word(arguments)?;
-    let bytes = bytes(alloc, arguments)?;
-    let is_it = is_word(text(&bytes)?, wanted);
-    word(alloc, if is_it { "yes" } else { "no" })
+/// Whether a field is a word: of the word and the field.
+pub fn put_is_word(row: &mut Row, arguments: &str) {
+    let (wanted, arguments) = first_word(row, arguments);
+    let bytes = bytes(row, arguments);
+    let text = text(row, &bytes);
+    row.put(if is_word(text, wanted) { " yes" } else { " no" });
 }

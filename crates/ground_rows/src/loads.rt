@@ -1,31 +1,39 @@
 // Texts of loads, as their length and the CRC_32 of their bytes.
-use crate::row::{NoAnswer, first_word, number_below};
+use crate::row::{first_word, number_below};
+use row_lines::Row;
 use si_base::crc32;
 use si_workload::{made_control, made_feed, made_mux};
-use std::alloc::Global;
+use std::alloc::AllocError;
 
-/// The calls that this module answers.
-pub const CALLS: &str = "made_mux made_feed made_control";
-
-/// What such a call gives for these arguments.
-pub fn answer(alloc: Global, call: &str, arguments: &str) -> Result<String, NoAnswer> {
-    let text = match call {
-        "made_mux" => made_mux(alloc, number_below(1_000_000_000, arguments)?)?,
-        "made_control" => made_control(alloc, number_below(1_000_000_000, arguments)?)?,
-        _ => feed(alloc, arguments)?,
-    };
-    let mut line = (text.len() as u64).to_string(alloc)?;
-    line.push_str(" bytes, CRC ")?;
-    line.push_str(&u64::from(crc32(&text)).to_string(alloc)?)?;
-    Ok(line)
+fn put_sum(row: &mut Row, text: Result<Vec<u8>, AllocError>) {
+    match text {
+        Ok(text) => {
+            row.put_number(" ", text.len() as u64);
+            row.put_number(" bytes, CRC ", u64::from(crc32(&text)));
+        }
+        Err(_) => row.lack_memory(),
+    }
 }
 
-// The edits of feed 1 or 2 of a load.
-fn feed(alloc: Global, arguments: &str) -> Result<Vec<u8>, NoAnswer> {
-    let (number, feed) = first_word(arguments)?;
-    match (number_below(1_000_000_000, number)?, feed) {
-        (number, "1") => Ok(made_feed(alloc, number, 1)?),
-        (number, "2") => Ok(made_feed(alloc, number, 2)?),
-        _ => Err(NoAnswer::NoRow),
+/// The multiplex of a load.
+pub fn put_mux(row: &mut Row, arguments: &str) {
+    let number = number_below(row, 1_000_000_000, arguments);
+    put_sum(row, made_mux(row.alloc(), number));
+}
+
+/// The control lines of a load.
+pub fn put_control(row: &mut Row, arguments: &str) {
+    let number = number_below(row, 1_000_000_000, arguments);
+    put_sum(row, made_control(row.alloc(), number));
+}
+
+/// The edits of feed 1 or 2 of a load.
+pub fn put_feed(row: &mut Row, arguments: &str) {
+    let (number, feed) = first_word(row, arguments);
+    let number = number_below(row, 1_000_000_000, number);
+    match feed {
+        "1" => put_sum(row, made_feed(row.alloc(), number, 1)),
+        "2" => put_sum(row, made_feed(row.alloc(), number, 2)),
+        _ => row.refuse(),
     }
 }

@@ -1,43 +1,51 @@
 // Moments and days, as texts and in BCD.
-use crate::notation::{bytes, hex};
-use crate::row::{NoAnswer, number_below, number_or_none, word};
-use si_time::{Moment, block_of, from_bcd, midnight, read_day, read_moment, to_bcd, write_moment};
-use std::alloc::Global;
+ghost use Rattle.std.specs.Prelude.{◌<◌, ◌*◌};
 
-/// The calls that this module answers.
-pub const CALLS: &str = "read_moment write_moment to_bcd from_bcd read_day midnight block_of";
+use crate::notation::put_hex;
+use crate::row::{number_below, put_number_or_none};
+use row_lines::{Row, text_of};
+use si_time::{Moment, block_of, from_bcd, midnight, to_bcd, write_moment};
 
-/// What such a call gives for these arguments.
-pub fn answer(alloc: Global, call: &str, arguments: &str) -> Result<String, NoAnswer> {
-    match call {
-        "read_moment" => seconds(alloc, read_moment(&bytes(alloc, arguments)?)),
-        "read_day" => seconds(alloc, read_day(&bytes(alloc, arguments)?)),
-        "from_bcd" => of_bcd(alloc, &bytes(alloc, arguments)?),
-        _ => of_moment(alloc, call, arguments),
-    }
+/// A number of seconds, or none.
+pub fn put_seconds(row: &mut Row, at: Option<Moment>) {
+    put_number_or_none(row, at.map(|at| at.0));
 }
 
-fn seconds(alloc: Global, at: Option<Moment>) -> Result<String, NoAnswer> {
-    number_or_none(alloc, at.map(|at| at.0))
-}
-
-fn of_bcd(alloc: Global, bytes: &[u8]) -> Result<String, NoAnswer> {
+/// What these bytes are in BCD.
+pub fn put_of_bcd(row: &mut Row, bytes: &[u8]) {
     match bytes {
-        [high, low, h, m, s] => seconds(alloc, from_bcd([*high, *low, *h, *m, *s])),
-        _ => Err(NoAnswer::NoRow),
+        [high, low, h, m, s] => put_seconds(row, from_bcd([*high, *low, *h, *m, *s])),
+        _ => row.refuse(),
     }
 }
 
-fn of_moment(alloc: Global, call: &str, arguments: &str) -> Result<String, NoAnswer> {
-    let at = Moment(number_below(65_536 * 86_400, arguments)?);
-    match call {
-        "write_moment" => match str::from_utf8(&write_moment(at)) {
-            Ok(text) => word(alloc, text),
-            Err(_) => Err(NoAnswer::NoRow),
-        },
-        "to_bcd" => hex(alloc, &to_bcd(at)),
-        "midnight" => Ok(midnight(at).0.to_string(alloc)?),
-        "block_of" => Ok(block_of(at).to_string(alloc)?),
-        _ => Err(NoAnswer::NoRow),
-    }
+fn moment(row: &mut Row, arguments: &str) -> Moment
+    ensures { result.0 < 65536 * 86400 }
+{
+    Moment(number_below(row, 65_536 * 86_400, arguments))
+}
+
+/// The text of a moment.
+pub fn put_text(row: &mut Row, arguments: &str) {
+    let at = moment(row, arguments);
+    row.put(" ");
+    row.put(text_of(&write_moment(at)));
+}
+
+/// A moment in BCD.
+pub fn put_bcd(row: &mut Row, arguments: &str) {
+    let at = moment(row, arguments);
+    put_hex(row, &to_bcd(at));
+}
+
+/// The midnight before a moment.
+pub fn put_midnight(row: &mut Row, arguments: &str) {
+    let at = moment(row, arguments);
+    row.put_number(" ", midnight(at).0);
+}
+
+/// The block of a moment.
+pub fn put_block(row: &mut Row, arguments: &str) {
+    let at = moment(row, arguments);
+    row.put_number(" ", block_of(at));
 }

@@ -1,7 +1,7 @@
 // How bytes are written in a row: in parts with spaces between them. A part is bytes in two hexadecimal digits each, or
 // printable ASCII between back quotes; `*n` behind it says that it stands n times.
-use crate::row::{NoAnswer, number_below};
-use std::alloc::{AllocError, Global};
+use crate::row::number_below;
+use row_lines::Row;
 
 // The bytes of some parts, and where those of the last part begin.
 #[derive(Drop)]
@@ -11,110 +11,117 @@ struct Spelled {
 }
 
 /// The bytes that are written so.
-pub fn bytes(alloc: Global, text: &str) -> Result<Vec<u8>, NoAnswer> {
+pub fn bytes(row: &mut Row, text: &str) -> Vec<u8> {
     let mut spelled = Spelled {
-        bytes: Vec::new(alloc),
+        bytes: Vec::new(row.alloc()),
         last: 0,
     };
-    read_all(alloc, text, &mut spelled)?;
-    Ok(spelled.bytes)
+    read_all(row, text, &mut spelled);
+    spelled.bytes
+}
+
+/// Appends bytes to others.
+pub fn append(row: &mut Row, bytes: &mut Vec<u8>, more: &[u8]) {
+    if bytes.extend_from_slice(more).is_err() {
+        row.lack_memory();
+    }
 }
 
 // Every second piece of the text stands between back quotes.
-fn read_all(alloc: Global, text: &str, spelled: &mut Spelled) -> Result<(), NoAnswer> {
+fn read_all(row: &mut Row, text: &str, spelled: &mut Spelled) {
     let mut quoted = true;
     for piece in text.split('`') {
         quoted = !quoted;
         if quoted {
             spelled.last = spelled.bytes.len();
-            spelled.bytes.extend_from_slice(piece.as_bytes())?;
+            append(row, &mut spelled.bytes, piece.as_bytes());
         } else {
-            read_words(alloc, piece, spelled)?;
+            read_words(row, piece, spelled);
         }
     }
     if quoted {
-        return Err(NoAnswer::NoRow);
+        row.refuse();
     }
-    Ok(())
 }
 
-fn read_words(alloc: Global, piece: &str, spelled: &mut Spelled) -> Result<(), NoAnswer> {
+fn read_words(row: &mut Row, piece: &str, spelled: &mut Spelled) {
     for word in piece.split(' ') {
         if !word.is_empty() {
-            read_word(alloc, word, spelled)?;
+            read_word(row, word, spelled);
         }
     }
-    Ok(())
 }
 
 // Bytes, or a number of times that stands behind a part.
-fn read_word(alloc: Global, word: &str, spelled: &mut Spelled) -> Result<(), NoAnswer> {
+fn read_word(row: &mut Row, word: &str, spelled: &mut Spelled) {
     let (digits, times) = word.split_once('*').unwrap_or((word, "1"));
     if !digits.is_empty() {
         spelled.last = spelled.bytes.len();
-        read_digits(digits, &mut spelled.bytes)?;
+        read_digits(row, digits, &mut spelled.bytes);
     }
-    repeat(alloc, number_below(100_000, times)?, spelled)
+    let times = number_below(row, 100_000, times);
+    repeat(row, times, spelled);
 }
 
-fn read_digits(digits: &str, bytes: &mut Vec<u8>) -> Result<(), NoAnswer> {
+fn read_digits(row: &mut Row, digits: &str, bytes: &mut Vec<u8>) {
     for pair in digits.as_bytes().chunks(2) {
-        bytes.push(byte(pair)?).map_err(AllocError::from)?;
+        let byte = byte(row, pair);
+        append(row, bytes, &[byte]);
     }
-    Ok(())
 }
 
 // The last part stands so many times.
-fn repeat(alloc: Global, times: u64, spelled: &mut Spelled) -> Result<(), NoAnswer> {
-    let Some(part) = spelled.bytes.as_slice().get(spelled.last..) else {
-        return Err(NoAnswer::NoRow);
-    };
-    let part = Vec::from_slice(alloc, part)?;
+fn repeat(row: &mut Row, times: u64, spelled: &mut Spelled) {
+    let mut part = Vec::new(row.alloc());
+    append(
+        row,
+        &mut part,
+        spelled.bytes.get(spelled.last..).unwrap_or(&[]),
+    );
     spelled.bytes.truncate(spelled.last);
     for _ in 0..times {
-        spelled.bytes.extend_from_slice(&part)?;
+        append(row, &mut spelled.bytes, &part);
     }
-    Ok(())
 }
 
 // A byte of two hexadecimal digits.
-fn byte(pair: &[u8]) -> Result<u8, NoAnswer> {
-    match u8::from_str_radix(text(pair)?, 16) {
-        Ok(byte) if pair.len() == 2 => Ok(byte),
-        _ => Err(NoAnswer::NoRow),
+fn byte(row: &mut Row, pair: &[u8]) -> u8 {
+    match u8::from_str_radix(text(row, pair), 16) {
+        Ok(byte) if pair.len() == 2 => byte,
+        _ => {
+            row.refuse();
+            0
+        }
     }
 }
 
 /// The text that these bytes are.
-pub fn text(bytes: &[u8]) -> Result<&str, NoAnswer> {
+pub fn text<'a>(row: &mut Row, bytes: &'a [u8]) -> &'a str {
     match str::from_utf8(bytes) {
-        Ok(text) => Ok(text),
-        Err(_) => Err(NoAnswer::NoRow),
+        Ok(text) => text,
+        Err(_) => {
+            row.refuse();
+            ""
+        }
     }
 }
 
-/// Bytes as they are written in a row, without `*n`.
-pub fn written(alloc: Global, bytes: &[u8]) -> Result<String, NoAnswer> {
-    let mut line = String::new(alloc);
-    add_written(&mut line, bytes)?;
-    Ok(line)
-}
-
-/// Appends bytes as they are written in a row.
-pub fn add_written(line: &mut String, bytes: &[u8]) -> Result<(), AllocError> {
+/// Appends bytes as they are written in a row, without `*n`.
+pub fn put_written(row: &mut Row, bytes: &[u8]) {
+    row.put(" ");
     if bytes.is_empty() {
-        return line.push_str("``");
+        return row.put("``");
     }
     let mut space = "";
     let mut quoted = false;
     for b in bytes {
         let is_text = (b' '..=b'~').contains(b) && *b != b'`';
-        line.push_str(between(space, quoted, is_text))?;
-        put(line, space, is_text, *b)?;
+        row.put(between(space, quoted, is_text));
+        put(row, space, is_text, *b);
         space = " ";
         quoted = is_text;
     }
-    line.push_str(if quoted { "`" } else { "" })
+    row.put(if quoted { "`" } else { "" });
 }
 
 // The quotes between a byte and the one before it.
@@ -129,33 +136,17 @@ fn between(space: &'static str, quoted: bool, is_text: bool) -> &'static str {
 }
 
 // A byte of a text, or with a space in front in hexadecimal digits.
-fn put(line: &mut String, space: &str, is_text: bool, b: u8) -> Result<(), AllocError> {
+fn put(row: &mut Row, space: &str, is_text: bool, b: u8) {
     if is_text {
-        line.push(b as char)
+        row.put_char(char::from(b));
     } else {
-        line.push_str(space)?;
-        add_byte(line, b)
+        row.put_byte(space, b);
     }
-}
-
-fn add_byte(line: &mut String, b: u8) -> Result<(), AllocError> {
-    write!(line, "{b:02X}")
-}
-
-/// Bytes in hexadecimal digits, with spaces between them.
-pub fn hex(alloc: Global, bytes: &[u8]) -> Result<String, NoAnswer> {
-    let mut line = String::new(alloc);
-    add_hex(&mut line, bytes)?;
-    Ok(line)
 }
 
 /// Appends bytes in hexadecimal digits, with spaces between them.
-pub fn add_hex(line: &mut String, bytes: &[u8]) -> Result<(), AllocError> {
-    let mut space = "";
+pub fn put_hex(row: &mut Row, bytes: &[u8]) {
     for b in bytes {
-        line.push_str(space)?;
-        add_byte(line, *b)?;
-        space = " ";
+        row.put_byte(" ", *b);
     }
-    Ok(())
 }

@@ -1,62 +1,37 @@
-// A row, its numbers and its answer.
-ghost use Rattle.std.specs.Prelude.{◌<◌, IfOk};
+// Numbers and words of rows.
+ghost use Rattle.std.specs.Prelude.{◌<◌};
 
-use std::alloc::{AllocError, Global};
+use row_lines::Row;
 
-/// Why a row has no answer: it is none, or memory is wanting.
-#[derive(Drop)]
-pub enum NoAnswer {
-    NoRow,
-    Memory,
-}
-
-impl From<AllocError> for NoAnswer {
-    fn from(_error: AllocError) -> NoAnswer {
-        NoAnswer::Memory
-    }
-}
-
-/// The answer as it is printed.
-pub fn answered(alloc: Global, answer: Result<String, NoAnswer>) -> Result<String, AllocError> {
-    match answer {
-        Ok(answer) => Ok(answer),
-        Err(NoAnswer::NoRow) => String::from_str(alloc, "no row"),
-        Err(NoAnswer::Memory) => Err(AllocError),
-    }
-}
-
-/// Whether a call is one of these, which have spaces between them.
-pub fn is_among(call: &str, calls: &str) -> bool {
-    calls.split(' ').any(|name| name == call)
-}
-
-/// A number below a limit, in decimal digits.
-pub fn number_below(limit: u64, text: &str) -> Result<u64, NoAnswer>
-    ensures { IfOk result (λ n. n < limit) }
+/// A number below a limit, in decimal digits; 0 where it is none.
+pub fn number_below(row: &mut Row, limit: u64, text: &str) -> u64
+    requires { 0 < limit }
+    ensures { result < limit }
 {
     match text.parse::<u64>() {
-        Ok(number) if number < limit => Ok(number),
-        _ => Err(NoAnswer::NoRow),
+        Ok(number) if number < limit => number,
+        _ => {
+            row.refuse();
+            0
+        }
     }
 }
 
 /// The first word of some arguments, and those behind it.
-pub fn first_word(arguments: &str) -> Result<(&str, &str), NoAnswer> {
+pub fn first_word<'a>(row: &mut Row, arguments: &'a str) -> (&'a str, &'a str) {
     match arguments.split_once(' ') {
-        Some(parts) => Ok(parts),
-        None => Err(NoAnswer::NoRow),
+        Some(parts) => parts,
+        None => {
+            row.refuse();
+            (arguments, "")
+        }
     }
 }
 
-/// A number, or `none`.
-pub fn number_or_none(alloc: Global, number: Option<u64>) -> Result<String, NoAnswer> {
+/// Appends a number, or `none`.
+pub fn put_number_or_none(row: &mut Row, number: Option<u64>) {
     match number {
-        Some(number) => Ok(number.to_string(alloc)?),
-        None => word(alloc, "none"),
+        Some(number) => row.put_number(" ", number),
+        None => row.put(" none"),
     }
-}
-
-/// A word that answers a row.
-pub fn word(alloc: Global, word: &str) -> Result<String, NoAnswer> {
-    Ok(String::from_str(alloc, word)?)
 }

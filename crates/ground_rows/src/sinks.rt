@@ -1,96 +1,90 @@
-// Ends in memory: a sink that fails, a source that never fails, an opener of files and a gate that holds nothing.
-use si_causes::{
-    Failed, Gate, MemOpener, MemSink, NeverFails, OpenGate, Opener, Place, Source, write_all,
-};
+// Ends in memory: a sink that fails, a source that never fails, and an opener of files.
+ghost use Rattle.std.specs.Prelude.{◌<◌};
+
+use crate::ends::{failing, piece, sink};
+use crate::notation::{append, put_written};
+use crate::row::first_word;
+use row_lines::Row;
+use si_causes::{Failed, MemOpener, MemSink, NeverFails, Opener, Source, write_all};
 use std::alloc::{AllocError, Global};
-use std::test::Fail;
 
-fn write_two(sink: &mut MemSink) -> [Result<(), Failed>; 2] {
-    let first = write_all(sink, b"abcdef");
-    [first, write_all(sink, b"xyz")]
+fn put_whole(row: &mut Row, whole: Result<(), Failed>) {
+    row.put(if whole.is_ok() { " whole" } else { " failed" });
 }
 
-// Whether a sink that fails at its fourth call takes these bytes of two writes, and tells of each whether it was whole.
-fn takes(alloc: Global, piece: usize, taken: &[u8], whole: [bool; 2]) -> Result<bool, AllocError> {
-    let mut sink = MemSink::open(alloc, piece.max(1), vec![in alloc; 3; 1]?);
-    let [first, second] = write_two(&mut sink);
-    Ok([first.is_ok(), second.is_ok()] == whole && sink.taken() == taken)
+fn put_writes(row: &mut Row, sink: &mut MemSink) {
+    put_whole(row, write_all(sink, b"abcdef"));
+    put_whole(row, write_all(sink, b"xyz"));
+    put_written(row, sink.taken());
 }
 
-#[test]
-fn writes_of_sinks(rt: HostRuntime) -> Result<(), Fail> {
-    for (piece, taken, whole) in [
-        (1, b"abcxyz".as_slice(), [false, true]),
-        (2, b"abcdef".as_slice(), [true, false]),
-        (9, b"abcdefxyz".as_slice(), [true, true]),
-    ] {
-        assert!(rt; takes(rt.alloc(), piece, taken, whole)?, "by {piece}");
+/// Whether each of two writes of six and three letters is whole to a sink that takes pieces of this size and of which a call fails, and
+/// what it took.
+pub fn put_sink(row: &mut Row, arguments: &str) {
+    let (size, fails) = first_word(row, arguments);
+    let (piece, fails) = (piece(row, size), failing(row, fails));
+    match sink(row.alloc(), piece, fails) {
+        Ok(mut sink) => put_writes(row, &mut sink),
+        Err(_) => row.lack_memory(),
     }
-    Ok(())
 }
 
-fn reads_front(alloc: Global) -> Result<bool, AllocError> {
+fn put_count(row: &mut Row, count: Result<usize, Failed>) {
+    match count {
+        Ok(count) => row.put_number(" ", count as u64),
+        Err(_) => row.put(" failed"),
+    }
+}
+
+/// What a read of two bytes gives of a source that never fails.
+pub fn put_front(row: &mut Row, bytes: &[u8]) {
     let mut into = [0; 2];
-    let read = NeverFails::open(Vec::from_slice(alloc, b"abc")?).read(&mut into);
-    Ok(read == Ok(2) && into == *b"ab")
+    let mut copy = Vec::new(row.alloc());
+    append(row, &mut copy, bytes);
+    let count = NeverFails::open(copy).read(&mut into);
+    put_count(row, count);
+    put_written(row, &into);
 }
 
-#[test]
-fn other_ends(rt: HostRuntime) -> Result<(), Fail> {
-    assert!(rt; reads_front(rt.alloc())?);
-    OpenGate.pass(Place::BeforeSwap(1));
+fn add_file(
+    alloc: Global,
+    files: &mut Vec<(String, Vec<u8>)>,
+    path: &str,
+    bytes: &[u8],
+) -> Result<(), AllocError> {
+    let path = String::from_str(alloc, path)?;
+    let bytes = Vec::from_slice(alloc, bytes)?;
+    files.push((path, bytes))?;
     Ok(())
-}
-
-fn two_files(alloc: Global) -> Result<Vec<(String, Vec<u8>)>, AllocError> {
-    let mut files = Vec::new(alloc);
-    for (path, bytes) in [("a", b"first".as_slice()), ("b", b"second".as_slice())] {
-        files.push((
-            String::from_str(alloc, path)?,
-            Vec::from_slice(alloc, bytes)?,
-        ))?;
-    }
-    Ok(files)
 }
 
 // An opener of two files whose second opening fails, and of whose fourth opening the second read fails.
 fn two_files_opener(alloc: Global) -> Result<MemOpener, AllocError> {
-    let files = two_files(alloc)?;
-    Ok(MemOpener::open_with(alloc, files, vec![in alloc; 1; 1]?, Some((3, 1))))
+    let mut files = Vec::new(alloc);
+    add_file(alloc, &mut files, "a", b"first")?;
+    add_file(alloc, &mut files, "b", b"second")?;
+    let fails = vec![in alloc; 1; 1]?;
+    Ok(MemOpener::open_with(alloc, files, fails, Some((3, 1))))
 }
 
-// How many bytes two reads of a path give, where it opens.
-fn reads_of(opener: &mut MemOpener, path: &str) -> Option<[Result<usize, Failed>; 2]> {
-    let mut from = opener.open(path).ok()?;
+// Appends how many bytes two reads of a path give, or that it does not open.
+fn put_reads(row: &mut Row, opener: &mut MemOpener, path: &str) {
+    let Ok(mut from) = opener.open(path) else {
+        return row.put(" none");
+    };
     let mut into = [0; 4];
-    let first = from.read(&mut into);
-    let second = from.read(&mut into);
+    put_count(row, from.read(&mut into));
+    put_count(row, from.read(&mut into));
     opener.close(from);
-    Some([first, second])
 }
 
-fn openings_agree(alloc: Global) -> Result<bool, AllocError> {
-    let mut opener = two_files_opener(alloc)?;
-    let all = [
-        reads_of(&mut opener, "b"),
-        reads_of(&mut opener, "b"),
-        reads_of(&mut opener, "c"),
-        reads_of(&mut opener, "a"),
-        reads_of(&mut opener, "a"),
-    ];
-    Ok(
-        all == [
-            Some([Ok(4), Ok(2)]),
-            None,
-            None,
-            Some([Ok(4), Err(Failed)]),
-            Some([Ok(4), Ok(1)]),
-        ],
-    )
-}
-
-#[test]
-fn openings(rt: HostRuntime) -> Result<(), Fail> {
-    assert!(rt; openings_agree(rt.alloc())?);
-    Ok(())
+/// What two reads of each of these paths give.
+pub fn put_openings(row: &mut Row, paths: &str) {
+    let Ok(mut opener) = two_files_opener(row.alloc()) else {
+        return row.lack_memory();
+    };
+    for path in paths.split(',') {
+        row.begin_part();
+        put_reads(row, &mut opener, path);
+    }
 }

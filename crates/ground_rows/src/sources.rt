@@ -1,10 +1,14 @@
-// Sources of our own: one without an end in sight, and one that counts the calls.
-ghost use Rattle.std.specs.Prelude.{◌≤◌, None};
+// Sources of our own: one without an end in sight, one that counts the calls, and a reader of std.
+ghost use Rattle.std.specs.Prelude.{◌≤◌, ◌<◌, None};
 
-use crate::lines::{bytes, sign};
+use crate::ends::{NEVER, piece, source};
+use crate::lines::put_answer;
+use crate::notation::{bytes, put_written};
+use crate::row::{first_word, number_below};
+use row_lines::Row;
 use si_causes::{Failed, LineReader, MemSource, Source};
 use std::alloc::{AllocError, Global};
-use std::test::Fail;
+use std_streams::ReaderSource;
 
 // A source of so many bytes `a`.
 #[derive(Drop)]
@@ -31,24 +35,17 @@ impl Source for Repeated {
     }
 }
 
-// The signs of what the first three calls give, `|` for the first line.
-fn signs(alloc: Global, left: u64) -> Result<[u8; 3], AllocError> {
-    let mut lines = LineReader::open(alloc, Repeated { left })?;
-    let first = lines.next();
-    let first = if first == Ok(Some(1)) {
-        b'|'
-    } else {
-        sign(first)
-    };
-    Ok([first, sign(lines.next()), sign(lines.next())])
-}
-
-// A text of as many bytes as it may have, and of one more.
-#[test]
-fn longest_text(rt: HostRuntime) -> Result<(), Fail> {
-    assert!(rt; signs(rt.alloc(), 67_108_864)? == *b"|..");
-    assert!(rt; signs(rt.alloc(), 67_108_865)? == *b">>>");
-    Ok(())
+/// What the first three calls answer of a text of so many bytes without a line's end.
+pub fn put_long(row: &mut Row, arguments: &str) {
+    let left = number_below(row, 100_000_000, arguments);
+    match LineReader::open(row.alloc(), Repeated { left }) {
+        Ok(mut lines) => {
+            for _ in 0..3 {
+                put_answer(row, lines.next());
+            }
+        }
+        Err(_) => row.lack_memory(),
+    }
 }
 
 // A source that counts the calls.
@@ -75,7 +72,7 @@ impl Source for Counted {
     }
 }
 
-fn read_lines<S: Source>(alloc: Global, source: S, count: usize) -> Result<(), AllocError> {
+fn read_lines<S: Source>(alloc: Global, source: S, count: u64) -> Result<(), AllocError> {
     let mut lines = LineReader::open(alloc, source)?;
     for _ in 0..count {
         let _ = lines.next();
@@ -85,29 +82,35 @@ fn read_lines<S: Source>(alloc: Global, source: S, count: usize) -> Result<(), A
 }
 
 // How often a source is read for so many lines.
-fn calls(alloc: Global, text: &str, piece: usize, count: usize) -> Result<u64, AllocError> {
-    let source = MemSource::open(bytes(alloc, text)?, piece.max(1), Vec::new(alloc));
+fn calls(alloc: Global, bytes: &[u8], piece: usize, count: u64) -> Result<u64, AllocError>
+    requires { 0 < piece }
+{
+    let source = source(alloc, bytes, piece, NEVER)?;
     let mut counted = Counted { source, calls: 0 };
     read_lines(alloc, &mut counted, count)?;
     Ok(counted.calls)
 }
 
-// A text, of which size the pieces are, how many lines are asked for, and how often the source is read.
-const CALLS: [(&str, usize, usize, u64); 8] = [
-    ("a/b/c/", 100, 1, 1),
-    ("a/b/c/", 100, 3, 1),
-    ("a/b/c/", 100, 5, 2),
-    ("a/b/c/", 2, 2, 2),
-    ("ab/cd/", 4, 1, 1),
-    ("ab/cd/", 4, 2, 2),
-    ("ab", 1, 1, 3),
-    ("ab", 1, 4, 3),
-];
-
-#[test]
-fn calls_of_sources(rt: HostRuntime) -> Result<(), Fail> {
-    for (text, piece, count, wanted) in CALLS {
-        assert!(rt; calls(rt.alloc(), text, piece, count)? == wanted, "{text}");
+/// How often a source is read for so many lines: of the size of the pieces, the number of lines, and the bytes.
+pub fn put_calls(row: &mut Row, arguments: &str) {
+    let (size, arguments) = first_word(row, arguments);
+    let (count, arguments) = first_word(row, arguments);
+    let (piece, count) = (piece(row, size), number_below(row, 1_000, count));
+    let bytes = bytes(row, arguments);
+    match calls(row.alloc(), &bytes, piece, count) {
+        Ok(calls) => row.put_number(" ", calls),
+        Err(_) => row.lack_memory(),
     }
-    Ok(())
+}
+
+/// What reads of one byte give of a source over a reader of these bytes, up to the first that gives none.
+pub fn put_reader(row: &mut Row, bytes: &[u8]) {
+    let mut source = ReaderSource::open(bytes);
+    let mut into = [0; 1];
+    for _ in 0..100 {
+        if source.read(&mut into) != Ok(1) {
+            return row.put(" end");
+        }
+        put_written(row, &into);
+    }
 }

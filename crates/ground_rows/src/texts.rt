@@ -1,117 +1,128 @@
 // Texts, their coded forms, and the pieces of long ones.
-use crate::notation::{add_written, bytes, text, written};
-use crate::row::{NoAnswer, word};
+use crate::fields::put_numeral;
+use crate::notation::{append, put_written};
+use row_lines::Row;
 use si_base::Copies;
 use si_text::{
     Shown, Txt, append_text, coded_len, cut_len, decode_text, encode_text, is_plain_byte,
 };
-use std::alloc::{AllocError, Global};
 
-/// The calls that this module answers.
-pub const CALLS: &str =
-    "kept_text plain_bytes encode_text append_text coded_len decode_text write_shown cut_len pieces";
-
-/// What such a call gives for these arguments.
-pub fn answer(alloc: Global, call: &str, arguments: &str) -> Result<String, NoAnswer> {
-    let bytes = bytes(alloc, arguments)?;
+/// What a call gives for a text.
+pub fn answer(row: &mut Row, call: &str, text: &str) {
     match call {
-        "plain_bytes" => plain_bytes(alloc),
-        "decode_text" => decoded(alloc, &bytes),
-        "write_shown" => shown_again(alloc, &bytes),
-        _ => of_text(alloc, call, text(&bytes)?),
+        "numeral" => put_numeral(row, text),
+        "kept_text" => put_kept(row, text),
+        "encode_text" => put_encoded(row, text),
+        "append_text" => put_appended(row, text),
+        "coded_len" => row.put_number(" ", coded_len(text) as u64),
+        "cut_len" => row.put_number(" ", cut_len(text) as u64),
+        "pieces" => put_pieces(row, text),
+        _ => row.refuse(),
     }
 }
 
-fn of_text(alloc: Global, call: &str, text: &str) -> Result<String, NoAnswer> {
-    match call {
-        "kept_text" => kept(alloc, text),
-        "encode_text" => written(alloc, encode_text(alloc, text)?.as_slice()),
-        "append_text" => appended(alloc, text),
-        "coded_len" => Ok(coded_len(text).to_string(alloc)?),
-        "cut_len" => Ok(cut_len(text).to_string(alloc)?),
-        "pieces" => pieces(alloc, text),
-        _ => Err(NoAnswer::NoRow),
+fn put_kept(row: &mut Row, text: &str) {
+    match Txt::of(row.alloc(), text) {
+        Ok(Some(text)) => put_copy(row, &text),
+        Ok(None) => row.put(" none"),
+        Err(_) => row.lack_memory(),
     }
 }
 
-fn kept(alloc: Global, text: &str) -> Result<String, NoAnswer> {
-    match Txt::of(alloc, text)? {
-        Some(text) => copied(alloc, &text),
-        None => word(alloc, "none"),
+fn put_copy(row: &mut Row, text: &Txt) {
+    match text.copy() {
+        Ok(copy) => put_written(row, copy.as_str().as_bytes()),
+        Err(_) => row.lack_memory(),
     }
 }
 
-fn copied(alloc: Global, text: &Txt) -> Result<String, NoAnswer> {
-    let copy = text.copy()?;
-    written(alloc, copy.as_str().as_bytes())
+fn put_encoded(row: &mut Row, text: &str) {
+    match encode_text(row.alloc(), text) {
+        Ok(coded) => put_written(row, coded.as_slice()),
+        Err(_) => row.lack_memory(),
+    }
 }
 
-// The bytes of the plain set, from the lowest on.
-fn plain_bytes(alloc: Global) -> Result<String, NoAnswer> {
-    let mut plain = Vec::new(alloc);
+/// The bytes of the plain set, from the lowest on.
+pub fn put_plain_bytes(row: &mut Row) {
+    let mut plain = Vec::new(row.alloc());
     for b in 0..=255u8 {
         if is_plain_byte(b) {
-            plain.push(b).map_err(AllocError::from)?;
+            append(row, &mut plain, &[b]);
         }
     }
-    written(alloc, &plain)
+    put_written(row, &plain);
 }
 
 // What a text is appended as, behind `<`.
-fn appended(alloc: Global, text: &str) -> Result<String, NoAnswer> {
-    let mut out = Vec::from_slice(alloc, b"<")?;
-    append_text(text, &mut out)?;
-    written(alloc, &out)
+fn put_appended(row: &mut Row, text: &str) {
+    let mut out = Vec::new(row.alloc());
+    append(row, &mut out, b"<");
+    if append_text(text, &mut out).is_err() {
+        row.lack_memory();
+    }
+    put_written(row, &out);
 }
 
-fn decoded(alloc: Global, bytes: &[u8]) -> Result<String, NoAnswer> {
-    let shown = decode_text(alloc, bytes)?;
-    match &shown {
-        Shown::Text(text) => behind(alloc, "text ", text.as_str().as_bytes()),
-        Shown::Hex(bytes) => behind(alloc, "hex ", bytes.as_slice()),
+/// The text that bytes are decoded to.
+pub fn put_decoded(row: &mut Row, bytes: &[u8]) {
+    match decode_text(row.alloc(), bytes) {
+        Ok(shown) => put_shown(row, &shown),
+        Err(_) => row.lack_memory(),
     }
 }
 
-// Bytes behind a word.
-fn behind(alloc: Global, word: &str, bytes: &[u8]) -> Result<String, NoAnswer> {
-    let mut line = String::from_str(alloc, word)?;
-    add_written(&mut line, bytes)?;
-    Ok(line)
+fn put_shown(row: &mut Row, shown: &Shown) {
+    match shown {
+        Shown::Text(text) => {
+            row.put(" text");
+            put_written(row, text.as_str().as_bytes());
+        }
+        Shown::Hex(bytes) => {
+            row.put(" hex");
+            put_written(row, bytes.as_slice());
+        }
+    }
 }
 
-fn shown_again(alloc: Global, bytes: &[u8]) -> Result<String, NoAnswer> {
-    let shown = decode_text(alloc, bytes)?;
-    let copy = shown.copy()?;
-    size_and_bytes(alloc, &copy)
+/// What the copy of a decoded text is written as.
+pub fn put_shown_again(row: &mut Row, bytes: &[u8]) {
+    match decode_text(row.alloc(), bytes) {
+        Ok(shown) => put_copy_shown(row, &shown),
+        Err(_) => row.lack_memory(),
+    }
+}
+
+fn put_copy_shown(row: &mut Row, shown: &Shown) {
+    match shown.copy() {
+        Ok(copy) => put_size_and_bytes(row, &copy),
+        Err(_) => row.lack_memory(),
+    }
 }
 
 // How many bytes this has, and what it is appended as, behind `<`.
-fn size_and_bytes(alloc: Global, shown: &Shown) -> Result<String, NoAnswer> {
-    let mut out = Vec::from_slice(alloc, b"<")?;
-    shown.append_to(&mut out)?;
-    let mut line = shown.coded_len().to_string(alloc)?;
-    line.push(' ')?;
-    add_written(&mut line, &out)?;
-    Ok(line)
+fn put_size_and_bytes(row: &mut Row, shown: &Shown) {
+    let mut out = Vec::new(row.alloc());
+    append(row, &mut out, b"<");
+    if shown.append_to(&mut out).is_err() {
+        row.lack_memory();
+    }
+    row.put_number(" ", shown.coded_len() as u64);
+    put_written(row, &out);
 }
 
 // How long the pieces of a text are.
-fn pieces(alloc: Global, text: &str) -> Result<String, NoAnswer> {
+fn put_pieces(row: &mut Row, text: &str) {
     if text.is_empty() {
-        return word(alloc, "none");
+        return row.put(" none");
     }
-    let mut line = String::new(alloc);
     let mut rest = text;
     for _ in 0..text.len() {
         if rest.is_empty() {
             break;
         }
         let cut = cut_len(rest);
-        if !line.is_empty() {
-            line.push(' ')?;
-        }
-        write!(line, "{cut}")?;
+        row.put_number(" ", cut as u64);
         rest = rest.split_at(cut).1;
     }
-    Ok(line)
 }
