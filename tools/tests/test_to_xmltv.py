@@ -1,0 +1,139 @@
+"""Tests of tools/xmltv/to_xmltv, on guides that are written here as docs/FORMATS.md says that `listen` prints them."""
+import shutil
+import subprocess
+import sys
+import tempfile
+import unittest
+from pathlib import Path
+from typing import Dict, List, Optional
+from xml.etree import ElementTree
+
+from xmltv_listings import XMLTV, run_tool, texts_of
+
+DTD = Path("/usr/share/xmltv/xmltv.dtd")
+HEAD = ["done\t0\t0\t0\t1\t0\t0\t0", "clock\t2026-11-30T20:20:00Z", "network\t40\tDemo", "stream\t7\t65281", "cable\t3460000\t3\t69000\t2\t15"]
+SERVICE = "service\t101\t25\tARD\tDas Erste\t256\t257"
+
+
+def event(number: int = 1, word: str = "event", **fields: str) -> str:
+    values = {"start": "2026-11-30T20:00:00Z", "duration": "01:30:00", "language": "ger", "name": "Tatort", "short": "", "extended": "",
+              "country": "", "rating": "", "genres": "", **fields}
+    return "\t".join([word, str(number), *values.values()])
+
+
+def guide(*lines: str, head: Optional[List[str]] = None) -> bytes:
+    return "\n".join([*(HEAD if head is None else head), *lines, "end", ""]).encode()
+
+
+class Documents(unittest.TestCase):
+    def written(self, data: bytes, *words: str, status: int = 0) -> bytes:
+        found, out, said = run_tool("to_xmltv", words, data)
+        self.assertEqual(found, status, said)
+        return out
+
+    def programmes(self, *lines: str, words: "tuple[str, ...]" = ()) -> List[ElementTree.Element]:
+        return ElementTree.fromstring(self.written(guide(SERVICE, *lines), *words)).findall("programme")
+
+    def texts(self, *words: str, **fields: str) -> Dict[str, Optional[str]]:
+        (programme,) = self.programmes(event(**fields), words=words)
+        return {tag: text for tag, text in texts_of(programme).items() if text is not None}
+
+    def test_help(self) -> None:
+        run = subprocess.run([sys.executable, "-B", str(XMLTV / "to_xmltv"), "--help"], capture_output=True, text=True, check=True)
+        self.assertIn("usage: to_xmltv", run.stdout)
+
+    def test_a_service_is_a_channel(self) -> None:
+        tv = ElementTree.fromstring(self.written(guide(SERVICE, "component\t27\t1024\tdeu", "service\t102\t1\t\t\t260\t261")))
+        self.assertEqual(tv.get("date"), "20261130202000 +0000")
+        self.assertEqual([(c.get("id"), [n.text for n in c]) for c in tv], [("101.7.65281.dvb", ["Das Erste", "101"]), ("102.7.65281.dvb", ["102"])])
+
+    def test_an_event_is_a_programme(self) -> None:
+        (found,) = self.programmes(event(country="DEU", rating="9", genres="1.1.0 15.3.7", short="hex:526164696f204772c86ffb65", extended="D"))
+        self.assertEqual(found.attrib, {"start": "20261130200000 +0000", "stop": "20261130213000 +0000", "channel": "101.7.65281.dvb"})
+        self.assertEqual([(e.tag, e.text, e.attrib) for e in found if e.tag != "rating"], [
+            ("title", "Tatort", {"lang": "de"}), ("sub-title", "Radio Größe", {"lang": "de"}), ("desc", "D", {"lang": "de"}),
+            ("category", "Detective / Thriller", {"lang": "en"}), ("category", "genre 15.3", {"lang": "en"})])
+        self.assertEqual([(r.get("system"), r.findtext("value")) for r in found.findall("rating")], [("DEU", "12")])
+
+    def test_sub_titles_and_descriptions(self) -> None:
+        rows = (
+            (("a", ""), {"desc": "a"}), (("a", "b"), {"sub-title": "a", "desc": "b"}), (("", "b"), {"desc": "b"}), (("", ""), {}),
+            (("S1 E2: a", ""), {"sub-title": "a", "episode-num": "0.1."}), (("S1 E2: a", "b"), {"sub-title": "a", "desc": "b", "episode-num": "0.1."}),
+            (("S3", "b"), {"desc": "b", "episode-num": "2.."}), (("E42", ""), {"episode-num": ".41."}), (("S1 E0: a", ""), {"desc": "S1 E0: a"}),
+            (("E: a", ""), {"desc": "E: a"}), (("S1E2 a", "b"), {"sub-title": "S1E2 a", "desc": "b"}),
+        )
+        for (short, extended), wanted in rows:
+            self.assertEqual(self.texts(short=short, extended=extended), {"title": "Tatort", **wanted}, short)
+
+    def test_what_a_short_text_is_can_be_chosen(self) -> None:
+        self.assertEqual(self.texts("--short", "sub", short="a"), {"title": "Tatort", "sub-title": "a"})
+        self.assertEqual(self.texts("--short", "desc", short="S1 E2: a", extended="b"), {"title": "Tatort", "desc": "S1 E2: a b"})
+
+    def test_texts_that_xml_needs_care_for(self) -> None:
+        texts = self.texts(name="<b>&amp; \"x\" ]]>", short="hex:0541\ufffe", extended="hex:0541078a420b")
+        self.assertEqual(texts, {"title": "<b>&amp; \"x\" ]]>", "sub-title": "hex:0541", "desc": "A B"})
+        self.assertEqual(self.texts(name="", extended="hex:1f0041"), {"title": "-", "desc": "hex:1f0041"})
+
+    def test_languages_and_ratings_that_are_none(self) -> None:
+        (found,) = self.programmes(event(language="hex:010203", country="hex:414243", rating="1"))
+        self.assertEqual((found[0].attrib, found[1].get("system")), ({}, "DVB"))
+        for rating in ("", "0", "16"):
+            self.assertEqual([e.tag for e in self.programmes(event(country="DEU", rating=rating))[0]], ["title"])
+
+    def test_present_and_following_stand_once_in_order(self) -> None:
+        late = event(2, start="2026-11-30T22:00:00Z")
+        found = self.programmes(event(0, word="now", start="2026-11-29T23:00:00Z"), event(2, word="next", start="2026-11-30T22:00:00Z"), late, event(1))
+        self.assertEqual([e.get("start") for e in found], ["20261129230000 +0000", "20261130200000 +0000", "20261130220000 +0000"])
+
+    def test_channel_ids(self) -> None:
+        with tempfile.NamedTemporaryFile("w", suffix=".csv") as table:
+            table.write("bbc1.uk,102,1,60\nbbc1.uk,101,1\n")
+            table.flush()
+            tv = ElementTree.fromstring(self.written(guide(SERVICE, "service\t102\t1\t\t\t260\t261"), "--map", table.name, "--id", "{network}-{service}"))
+        self.assertEqual([c.get("id") for c in tv.findall("channel")], ["bbc1.uk", "65281-102"])
+        status, out, said = run_tool("to_xmltv", ["--id", "x"], guide(SERVICE, "service\t102\t1\t\t\t260\t261"))
+        self.assertEqual((status, out, "same channel id" in said), (1, b"", True))
+        self.assertEqual(run_tool("to_xmltv", ["--id", "{other}"], b"")[0], 2)
+
+    def test_what_is_wanting_is_said(self) -> None:
+        data = guide("wanting\tpmt\t256\t101", SERVICE, event(), head=HEAD[:1])
+        status, out, said = run_tool("to_xmltv", [], data)
+        self.assertEqual((status, said), (3, "to_xmltv: wanting pmt 256 101\n"))
+        self.assertIn(b"<!-- wanting pmt 256 101 -->", out)
+        self.assertIn(b"Tatort", out)
+
+    def test_what_is_no_guide(self) -> None:
+        rows = (
+            (b"", "no line `end`"), (b"fault: packet 0\n", "fault: packet 0"), (guide(event()), "line 6 "), (guide(SERVICE, "event\t1"), "line 7 "),
+            (guide(SERVICE, event(start="today")), "line 7 "), (guide(SERVICE, event(start="2026-02-30T00:00:00Z")), "line 7 "),
+            (guide(SERVICE)[:-4], "no line `end`"), (b"\xff\x00\n", "no line `end`"),
+        )
+        for data, what in rows:
+            status, out, said = run_tool("to_xmltv", [], data)
+            self.assertEqual((status, out, what in said), (1, b"", True), said)
+
+    def test_a_file_is_written_whole_or_not_at_all(self) -> None:
+        with tempfile.TemporaryDirectory() as folder:
+            path = Path(folder) / "guide.xml"
+            path.write_text("old", encoding="utf-8")
+            self.assertEqual(run_tool("to_xmltv", ["--output", str(path)], guide("event\t1"))[0], 1)
+            self.assertEqual(path.read_text(encoding="utf-8"), "old")
+            self.written(guide(SERVICE), "--output", str(path))
+            self.assertIn("Das Erste", path.read_text(encoding="utf-8"))
+            self.assertEqual([file.name for file in Path(folder).iterdir()], ["guide.xml"])
+
+    def test_other_programs_take_it(self) -> None:
+        full = event(1, country="DEU", rating="9", genres="1.1.0", short="S1 E2: a", extended="b")
+        data = self.written(guide(SERVICE, full, event(2, start="2026-11-30T22:00:00Z", name="")))
+        with tempfile.TemporaryDirectory() as folder:
+            path = Path(folder) / "guide.xml"
+            path.write_bytes(data)
+            if shutil.which("xmllint") and DTD.is_file():
+                subprocess.run(["xmllint", "--nowarning", "--noout", "--dtdvalid", str(DTD), str(path)], check=True)
+            if shutil.which("tv_sort"):
+                run = subprocess.run(["tv_sort", "--output", str(Path(folder) / "sorted.xml"), str(path)], check=True, capture_output=True)
+                self.assertEqual(run.stderr, b"")
+
+
+if __name__ == "__main__":
+    unittest.main()
