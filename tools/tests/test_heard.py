@@ -1,0 +1,68 @@
+"""Tests of heard.py: lines as `listen` prints them."""
+import json
+import unittest
+from datetime import datetime, timedelta, timezone
+
+from examples import stored_lines
+from heard import Genre, HeardError, heard_json, lines_of, read_heard
+
+EVENT = "14\t2026-11-30T20:00:00Z\t01:30:00\teng\tThe Lighthouse\tDrama\tTwo keepers\tGBR\t12\t1.0.0 7.0.15"
+LINES = ["done\t5\t18\t78\t101\t7\t65281\t3", "lost\t9\t18", "clock\t2026-11-30T20:20:00Z", "network\t65281\tHarbour Cable", "stream\t7\t65281",
+         "cable\t3460000\t3\t69000\t2\t15", "service\t101\t1\tHarbour Media\tHarbour One\t256\t257", "component\t3\t258\teng",
+         "now\t" + EVENT, "next\t15\t2026-11-30T22:00:00Z\t02:00:00\teng\tNight Ship\t\t\t\t\t", "event\t" + EVENT, "end"]
+
+
+class Lines(unittest.TestCase):
+    def test_each_line(self) -> None:
+        heard = read_heard(LINES)
+        self.assertEqual(heard.clock, datetime(2026, 11, 30, 20, 20, tzinfo=timezone.utc))
+        self.assertEqual((heard.network, heard.stream, heard.cable), ((65281, "Harbour Cable"), (7, 65281), (3460000, 3, 69000, 2, 15)))
+        self.assertEqual((heard.completions, heard.losses), ([(5, 18, 78, 101, 7, 65281, 3)], [(9, 18)]))
+        (service,) = heard.services
+        self.assertEqual((service.id, service.type, service.pmt_pid, service.pcr_pid), (101, 1, 256, 257))
+        self.assertEqual((service.provider, service.name, service.components), ("Harbour Media", "Harbour One", [(3, 258, "eng")]))
+        (event,) = service.events
+        self.assertEqual((event, event.duration, event.end.hour), (service.present, timedelta(minutes=90), 21))
+        self.assertEqual((event.rating, event.least_age, event.genres), (12, 15, (Genre(1, 0, 0), Genre(7, 0, 15))))
+        assert service.following
+        self.assertEqual((service.following.rating, service.following.genres, service.following.short), (None, (), ""))
+        self.assertTrue(heard.is_whole)
+
+    def test_the_examples(self) -> None:
+        heard = read_heard(stored_lines("play < week.txt"))
+        self.assertEqual((heard.is_whole, heard.passed_over, len(heard.completions)), (True, 0, 20))
+        self.assertEqual([(service.id, len(service.events)) for service in heard.services], [(101, 28), (102, 14), (103, 2)])
+
+    def test_what_is_wanting(self) -> None:
+        heard = read_heard(["wanting\tpat", "wanting\tpmt\t256\t101", "end"])
+        self.assertEqual((heard.wanting, heard.is_whole), ([("pat",), ("pmt", "256", "101")], False))
+
+    def test_a_fault_and_a_report_that_is_cut_off(self) -> None:
+        self.assertEqual(read_heard([*LINES[:1], "fault: packet 7 is no packet"]).fault, "packet 7 is no packet")
+        self.assertFalse(read_heard(LINES[:-1]).is_whole)
+
+    def test_other_lines_are_passed_over(self) -> None:
+        heard = read_heard(["# lepnugan: building", "0,publish", "view\t101\t0\t\t", "", *LINES])
+        self.assertEqual((heard.passed_over, heard.is_whole), (3, True))
+
+    def test_lines_that_listen_does_not_print(self) -> None:
+        for line in ("done\t1", "lost\t1\tx", "clock\t2026-11-31T00:00:00Z", "clock\t٢٠٢٦-11-30T00:00:00Z", "network\t1", "wanting", "end\t1",
+                     "event\t" + EVENT, "component\t1\t2\teng", "service\t1\t1\tA\tB\t1"):
+            with self.assertRaises(HeardError) as caught:
+                read_heard(["", line])
+            self.assertIn("line 2 is no `", str(caught.exception))
+
+    def test_only_a_line_feed_ends_a_line(self) -> None:
+        self.assertEqual(lines_of("a\u2028b\x85c\r\nd".encode()), ["a\u2028b\x85c", "d"])
+
+    def test_json_has_what_was_printed(self) -> None:
+        made = json.loads(json.dumps(heard_json(read_heard(LINES))))
+        self.assertEqual((made["whole"], made["clock"], made["network"]["name"]), (True, "2026-11-30T20:20:00Z", "Harbour Cable"))
+        (event,) = made["services"][0]["events"]
+        self.assertEqual((event, event["end"], event["duration"]), (made["services"][0]["present"], "2026-11-30T21:30:00Z", "01:30:00"))
+        self.assertEqual(event["genres"][1], {"level_1": 7, "level_2": 0, "user": 15})
+        self.assertEqual(made["completions"][0]["version"], 3)
+
+
+if __name__ == "__main__":
+    unittest.main()
