@@ -297,7 +297,8 @@ class Browser(unittest.TestCase):
 class Program(unittest.TestCase):
     def test_the_page_of_what_the_program_hears(self) -> None:
         here = program()
-        air = subprocess.run([here, "play"], stdin=(TOP / "examples" / "week.txt").open("rb"), capture_output=True, timeout=60, check=True).stdout
+        with (TOP / "examples" / "week.txt").open("rb") as script:
+            air = subprocess.run([here, "play"], stdin=script, capture_output=True, timeout=60, check=True).stdout
         report = subprocess.run([here, "listen"], input=air, capture_output=True, timeout=60, check=True).stderr.decode("utf-8")
         page = Page(run(report.split("\n"))[1])
         self.assertEqual((len(page.events), page.classes["button.now"]), (44, 3))

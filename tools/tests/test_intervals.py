@@ -371,7 +371,8 @@ class Command(unittest.TestCase):
             air = subprocess.run([program(), "play"], stdin=script, capture_output=True, timeout=60, check=True).stdout
         rows = rows_of(air, 500_000)
         assert rows["PAT"].most
-        self.assertAlmostEqual(rows["PAT"].most.seconds, len(air) / 2 * 8 / 500_000)
+        first, second = [at for at in range(0, len(air), 188) if air[at + 1] % 32 == 0 and air[at + 2] == 0]
+        self.assertAlmostEqual(rows["PAT"].most.seconds, (second - first) * 8 / 500_000)
         self.assertEqual([table for table, row in rows.items() if row.state == "absent"], [])
 
 
