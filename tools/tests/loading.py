@@ -13,7 +13,10 @@ sys.path.insert(0, str(TOOLS))
 
 
 def load(name: str) -> ModuleType:
-    """The tool with this name."""
+    """The tool with this name; of a folder of tools `air/on_air`, which finds what stands beside it."""
+    folder = str((TOOLS / name).parent)
+    if folder not in sys.path:
+        sys.path.insert(0, folder)
     loader = SourceFileLoader(name.replace("-", "_"), str(TOOLS / name))
     spec = spec_from_loader(loader.name, loader)
     assert spec is not None
