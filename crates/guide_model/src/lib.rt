@@ -7,10 +7,12 @@
 
 mod event;
 mod guide;
+mod offset;
 mod screen;
 mod stream;
 
 pub use event::{Event, Events, Genre, Genres, Rating};
 pub use guide::{Guide, ServiceGuide, ServiceGuides};
+pub use offset::{Offset, Offsets};
 pub use screen::{Screen, ScreenEvent, ScreenEvents, ScreenService, ScreenServices};
 pub use stream::{Cable, Component, Components};

@@ -1,5 +1,6 @@
 // What a receiver shows.
 use crate::event::{Genres, Rating};
+use crate::offset::Offsets;
 use crate::stream::{Cable, Components};
 use si_base::Items;
 use si_text::Shown;
@@ -43,12 +44,13 @@ pub struct ScreenService {
 /// Services in ascending order of service_id.
 pub type ScreenServices = Items<ScreenService>;
 
-/// What a receiver shows of a multiplex: the last moment that it heard, network_id and name of the network,
+/// What a receiver shows of a multiplex: the last moment that it heard, how far the clocks of regions are from UTC, network_id and name of the network,
 /// transport_stream_id (`stream`) and original_network_id, how the stream is sent by cable where it is told, and the
-/// services (EN 300 468, 5.2.1, 5.2.3 and 5.2.5).
+/// services (EN 300 468, 5.2.1, 5.2.3, 5.2.5 and 5.2.6).
 #[derive(Drop)]
 pub struct Screen {
     pub clock: Moment,
+    pub offsets: Offsets,
     pub network: u16,
     pub network_name: Shown,
     pub stream: u16,
