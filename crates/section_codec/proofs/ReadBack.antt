@@ -1,5 +1,5 @@
 -- Reading a written section gives it back.
-use Rattle.std.proofs.Common.{◌≡◌, ◌≢◌, ℕ, ◌+◌, ◌-◌, ◌*◌, ◌/◌, ◌%◌, ◌<◌, ◌≤◌, Bool, true, false, List, ◌∷◌, ◌++◌, length, take, drop, refl, sym, ap, ◌∙◌, arith, length-append, le-leb, eq-eqb, ne_eqb}
+use Rattle.std.proofs.Common.{◌≡◌, ℕ, ◌+◌, ◌-◌, ◌*◌, ◌/◌, ◌%◌, ◌<◌, ◌≤◌, Bool, true, false, List, ◌∷◌, ◌++◌, length, take, drop, refl, sym, ap, ◌∙◌, arith, length-append, le-leb, eq-eqb}
 use Rattle.std.specs.Prelude.{◌&&◌, ◌||◌, ◌==◌, not, if◌then◌else◌, nat_le, slice_index, Ok, Err}
 use Rattle.std.proofs.lemmas.List.{get_or-append-add}
 use Rattle.std.proofs.Math.Seq.{take-append_seam}
@@ -7,8 +7,8 @@ use Rattle.std.proofs.lemmas.Bool.{and_from}
 use Rattle.si_base.specs.Fields.{four, four_at}
 use Rattle.si_base.specs.Crc.{crc_of}
 use Rattle.si_base.proofs.Remainder.{crc_of-lt, crc_of-own_crc}
-use Rattle.section_codec.specs.Tables.{is_eit, has_long_form}
-use Rattle.section_codec.specs.Section.{long_flags, current_bit, before_crc, section_bytes, short_bytes, longest_body, is_long, section_length, long_header, long_body, kept_crc, found_crc, has_its_length, has_its_crc, has_long_syntax, has_its_syntax, section_of, section_in, FitsLong, FitsShort, LongReadsBack, ShortReadsBack}
+use Rattle.section_codec.specs.Tables.{is_eit, has_long_form, has_short_form}
+use Rattle.section_codec.specs.Section.{long_flags, current_bit, before_crc, section_bytes, short_bytes, before_short_crc, short_crc_bytes, longest_body, is_long, is_tot, least, section_length, long_header, long_body, short_body, kept_crc, found_crc, has_its_length, has_its_crc, has_long_syntax, has_its_syntax, section_of, section_in, FitsLong, FitsShort, LongReadsBack, ShortReadsBack, TotReadsBack}
 use Rattle.section_codec.specs.declared.section.LongHeader.{LongHeader}
 use Rattle.section_codec.specs.declared.section.Section.TheVariants.{Long, Short}
 use Rattle.section_codec.specs.declared.section.BadSection.TheVariants.{Length, Crc, Syntax}
@@ -24,6 +24,10 @@ length-section_bytes h body =
 
 pub length-short_bytes : (table : ℕ) (body : List ℕ) → length (short_bytes table body) ≡ 3 + length body
 length-short_bytes table body = omega arith
+
+pub length-short_crc_bytes : (table : ℕ) (body : List ℕ) → length (short_crc_bytes table body) ≡ 7 + length body
+length-short_crc_bytes table body =
+    length-append (before_short_crc table body) (four (crc_of (before_short_crc table body))) ∙ omega arith
 
 -- ---- the steps of reading
 
@@ -63,10 +67,19 @@ or_right : (a b : Bool) → b ≡ true → (a || b) ≡ true
 or_right true b e = refl
 or_right false b e = e
 
+-- bytes that are just those that are told, and not too many or too few
+its_length_is : (bytes : List ℕ) (fewest : ℕ) → least bytes ≡ fewest → 3 ≤ fewest → length bytes ≡ 3 + section_length bytes → length bytes ≤ 4096 → fewest ≤ length bytes → has_its_length bytes ≡ true
+its_length_is bytes fewest is three told most some =
+    and_from (nat_le 3 (length bytes) && length bytes == 3 + section_length bytes && nat_le (length bytes) 4096) (nat_le (least bytes) (length bytes))
+    (and_from (nat_le 3 (length bytes) && length bytes == 3 + section_length bytes) (nat_le (length bytes) 4096)
+    (and_from (nat_le 3 (length bytes)) (length bytes == 3 + section_length bytes) (le-leb 3 (length bytes) (omega arith)) (eq-eqb (length bytes) (3 + section_length bytes) told))
+    (le-leb (length bytes) 4096 most))
+    (le-leb (least bytes) (length bytes) (omega (arith, is)))
+
 -- in the long form, with its CRC in four bytes behind the front
 long_in : (t a b e f v n l crc : ℕ) (body : List ℕ)
     → a / 128 % 2 ≡ 1 → (256 * a + b) % 4096 ≡ 9 + length body → length body ≤ 4084
-    → crc ≡ crc_of (t ∷ a ∷ b ∷ e ∷ f ∷ v ∷ n ∷ l ∷ body) → crc < 4294967296 → t ≢ 112 → n ≤ l
+    → crc ≡ crc_of (t ∷ a ∷ b ∷ e ∷ f ∷ v ∷ n ∷ l ∷ body) → crc < 4294967296 → has_short_form t ≡ false → n ≤ l
     → section_in ((t ∷ a ∷ b ∷ e ∷ f ∷ v ∷ n ∷ l ∷ body) ++ four crc)
     ≡ Ok (Long (record { table = t; ext = 256 * e + f; version = v / 2 % 32; current = v % 2 == 1; number = n; last = l }) body)
 long_in t a b e f v n l crc body high low le sound lt form order =
@@ -75,42 +88,60 @@ long_in t a b e f v n l crc body high low le sound lt form order =
     let len : length bytes ≡ 12 + length body = length-append front (four crc) ∙ omega arith in
     let long : is_long bytes ≡ true = eq-eqb (a / 128 % 2) 1 high in
     let told : length bytes ≡ 3 + section_length bytes = omega arith in
-    let its_length : has_its_length bytes ≡ true =
-    and_from (nat_le 3 (length bytes) && length bytes == 3 + section_length bytes && nat_le (length bytes) 4096) (not (is_long bytes) || nat_le 12 (length bytes))
-    (and_from (nat_le 3 (length bytes) && length bytes == 3 + section_length bytes) (nat_le (length bytes) 4096)
-    (and_from (nat_le 3 (length bytes)) (length bytes == 3 + section_length bytes) (le-leb 3 (length bytes) (omega arith)) (eq-eqb (length bytes) (3 + section_length bytes) told))
-    (le-leb (length bytes) 4096 (omega arith)))
-    (or_right (not (is_long bytes)) (nat_le 12 (length bytes)) (le-leb 12 (length bytes) (omega arith))) in
+    let fewest : least bytes ≡ 12 = ap (λ (x : Bool). if x then 12 else if is_tot bytes then 7 else 3) long in
+    let its_length : has_its_length bytes ≡ true = its_length_is bytes 12 fewest (omega arith) told (omega arith) (omega arith) in
     let kept : kept_crc bytes ≡ crc = four_at-end front crc lt in
     let found : found_crc bytes ≡ crc = ap crc_of (take-end front (four crc) refl) ∙ sym sound in
-    let its_crc : has_its_crc bytes ≡ true = or_right (not (is_long bytes)) (kept_crc bytes == found_crc bytes) (eq-eqb (kept_crc bytes) (found_crc bytes) (kept ∙ sym found)) in
+    let its_crc : has_its_crc bytes ≡ true = or_right (not (is_long bytes || is_tot bytes)) (kept_crc bytes == found_crc bytes) (eq-eqb (kept_crc bytes) (found_crc bytes) (kept ∙ sym found)) in
     let its_syntax : has_its_syntax bytes ≡ true =
     ap (λ (x : Bool). if x then has_long_syntax bytes else not (has_long_form t)) long
-    ∙ and_from (not (t == 112)) (nat_le n l) (ap not (ne_eqb t 112 form)) (le-leb n l order) in
+    ∙ and_from (not (has_short_form t)) (nat_le n l) (ap not form) (le-leb n l order) in
     let at : length bytes - 12 ≡ length body = omega arith in
     let inner : long_body bytes ≡ body = ap (λ i. take i (body ++ four crc)) at ∙ take-append_seam body (four crc) in
     section_in-section bytes its_length its_crc its_syntax
-    ∙ ap (λ (x : Bool). Ok (if x then Long (long_header bytes) (long_body bytes) else Short t (drop 3 bytes))) long
+    ∙ ap (λ (x : Bool). Ok (if x then Long (long_header bytes) (long_body bytes) else Short t (short_body bytes))) long
     ∙ ap (λ (x : List ℕ). Ok (Long (long_header bytes) x)) inner
 
 -- in the short form
-short_in : (t a b : ℕ) (body : List ℕ) → a / 128 % 2 ≡ 0 → (256 * a + b) % 4096 ≡ length body → length body ≤ 4093 → has_long_form t ≡ false
+short_in : (t a b : ℕ) (body : List ℕ) → a / 128 % 2 ≡ 0 → (256 * a + b) % 4096 ≡ length body → length body ≤ 4093 → has_long_form t ≡ false → (t == 0x73) ≡ false
     → section_in (t ∷ a ∷ b ∷ body) ≡ Ok (Short t body)
-short_in t a b body high low le form =
+short_in t a b body high low le form no_crc =
     let bytes = t ∷ a ∷ b ∷ body in
     let short : is_long bytes ≡ false = ap (λ x. x == 1) high in
     let told : length bytes ≡ 3 + section_length bytes = omega arith in
-    let its_length : has_its_length bytes ≡ true =
-    and_from (nat_le 3 (length bytes) && length bytes == 3 + section_length bytes && nat_le (length bytes) 4096) (not (is_long bytes) || nat_le 12 (length bytes))
-    (and_from (nat_le 3 (length bytes) && length bytes == 3 + section_length bytes) (nat_le (length bytes) 4096)
-    (and_from (nat_le 3 (length bytes)) (length bytes == 3 + section_length bytes) (le-leb 3 (length bytes) (omega arith)) (eq-eqb (length bytes) (3 + section_length bytes) told))
-    (le-leb (length bytes) 4096 (omega arith)))
-    (ap (λ (x : Bool). not x || nat_le 12 (length bytes)) short) in
-    let its_crc : has_its_crc bytes ≡ true = ap (λ (x : Bool). not x || kept_crc bytes == found_crc bytes) short in
+    let fewest : least bytes ≡ 3 =
+    ap (λ (x : Bool). if x then 12 else if is_tot bytes then 7 else 3) short ∙ ap (λ (x : Bool). if x then 7 else 3) no_crc in
+    let its_length : has_its_length bytes ≡ true = its_length_is bytes 3 fewest (omega arith) told (omega arith) (omega arith) in
+    let its_crc : has_its_crc bytes ≡ true =
+    ap (λ (x : Bool). not (x || is_tot bytes) || kept_crc bytes == found_crc bytes) short ∙ ap (λ (x : Bool). not x || kept_crc bytes == found_crc bytes) no_crc in
     let its_syntax : has_its_syntax bytes ≡ true =
     ap (λ (x : Bool). if x then has_long_syntax bytes else not (has_long_form t)) short ∙ ap not form in
     section_in-section bytes its_length its_crc its_syntax
-    ∙ ap (λ (x : Bool). Ok (if x then Long (long_header bytes) (long_body bytes) else Short t body)) short
+    ∙ ap (λ (x : Bool). Ok (if x then Long (long_header bytes) (long_body bytes) else Short t (short_body bytes))) short
+    ∙ ap (λ (x : Bool). Ok (Short t (if x then take (length bytes - 7) body else body))) no_crc
+
+-- the TOT, with its CRC in four bytes behind the front
+tot_in : (a b crc : ℕ) (body : List ℕ) → a / 128 % 2 ≡ 0 → (256 * a + b) % 4096 ≡ 4 + length body → length body ≤ 4089
+    → crc ≡ crc_of (0x73 ∷ a ∷ b ∷ body) → crc < 4294967296 → section_in ((0x73 ∷ a ∷ b ∷ body) ++ four crc) ≡ Ok (Short 0x73 body)
+tot_in a b crc body high low le sound lt =
+    let front = 0x73 ∷ a ∷ b ∷ body in
+    let bytes = front ++ four crc in
+    let len : length bytes ≡ 7 + length body = length-append front (four crc) ∙ omega arith in
+    let short : is_long bytes ≡ false = ap (λ x. x == 1) high in
+    let told : length bytes ≡ 3 + section_length bytes = omega arith in
+    let fewest : least bytes ≡ 7 = ap (λ (x : Bool). if x then 12 else 7) short in
+    let its_length : has_its_length bytes ≡ true = its_length_is bytes 7 fewest (omega arith) told (omega arith) (omega arith) in
+    let kept : kept_crc bytes ≡ crc = four_at-end front crc lt in
+    let found : found_crc bytes ≡ crc = ap crc_of (take-end front (four crc) refl) ∙ sym sound in
+    let its_crc : has_its_crc bytes ≡ true =
+    or_right (not (is_long bytes || is_tot bytes)) (kept_crc bytes == found_crc bytes) (eq-eqb (kept_crc bytes) (found_crc bytes) (kept ∙ sym found)) in
+    let its_syntax : has_its_syntax bytes ≡ true =
+    ap (λ (x : Bool). if x then has_long_syntax bytes else true) short in
+    let at : length bytes - 7 ≡ length body = omega arith in
+    let inner : take (length bytes - 7) (body ++ four crc) ≡ body = ap (λ i. take i (body ++ four crc)) at ∙ take-append_seam body (four crc) in
+    section_in-section bytes its_length its_crc its_syntax
+    ∙ ap (λ (x : Bool). Ok (if x then Long (long_header bytes) (long_body bytes) else Short 0x73 (short_body bytes))) short
+    ∙ ap (λ (x : List ℕ). Ok (Short 0x73 x)) inner
 
 -- ---- written and read
 
@@ -162,7 +193,12 @@ section_in-section_bytes h body fits =
 
 pub section_in-short_bytes : ShortReadsBack
 section_in-short_bytes table body fits =
-    short_in table ((0x7000 + length body) / 256 % 256) ((0x7000 + length body) % 256) body (omega (arith, fits.within)) (omega (arith, fits.within)) fits.within fits.form
+    short_in table ((0x7000 + length body) / 256 % 256) ((0x7000 + length body) % 256) body (omega (arith, fits.within)) (omega (arith, fits.within)) fits.within fits.form fits.no_crc
+
+pub section_in-short_crc_bytes : TotReadsBack
+section_in-short_crc_bytes body le =
+    tot_in ((0x7000 + (4 + length body)) / 256 % 256) ((0x7000 + (4 + length body)) % 256) (crc_of (before_short_crc 0x73 body)) body
+    (omega (arith, le)) (omega (arith, le)) le refl (crc_of-lt (before_short_crc 0x73 body))
 
 -- ---- what section_length of written sections tells
 
@@ -171,6 +207,9 @@ section_length-section_bytes h body fits = flags_low h.table (9 + length body) (
 
 pub section_length-short_bytes : (table : ℕ) (body : List ℕ) → FitsShort table body → section_length (short_bytes table body) ≡ length body
 section_length-short_bytes table body fits = omega (arith, fits.within)
+
+pub section_length-short_crc_bytes : (body : List ℕ) → length body ≤ 4089 → section_length (short_crc_bytes 0x73 body) ≡ 4 + length body
+section_length-short_crc_bytes body le = omega (arith, le)
 
 pub length-section_bytes-le : (h : LongHeader) (body : List ℕ) → FitsLong h body → length (section_bytes h body) ≤ 4096
 length-section_bytes-le h body fits = omega (arith, length-section_bytes h body, within h.table (length body) fits.within)

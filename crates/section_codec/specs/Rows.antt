@@ -1,7 +1,7 @@
 -- Worked sections, and their keys.
 use Rattle.std.specs.Prelude.{◌≡◌, ℕ, ◌*◌, ◌==◌, if◌then◌else◌, true, false, List, [], ◌∷◌, ◌++◌, Some, None, Ok, Err, refl, replicate}
 use Rattle.si_base.specs.Crc.{crc_of, crc_from}
-use Rattle.section_codec.specs.Section.{section_bytes, before_crc, short_bytes, section_in}
+use Rattle.section_codec.specs.Section.{section_bytes, before_crc, short_bytes, short_crc_bytes, section_in}
 use Rattle.section_codec.specs.Keys.{key_in, eit_numbers_in}
 use Rattle.section_codec.specs.Segments.{segment_last_in, table_needs}
 use Rattle.section_codec.specs.declared.section.LongHeader.{LongHeader}
@@ -141,3 +141,31 @@ longest_read = refl
 
 too_long : section_in (0x90 ∷ 0x7F ∷ 0xFE ∷ replicate 4094 0x55) ≡ Err Length
 too_long = refl
+
+-- ---- a TOT of 1993-10-13, 12:45:00, in the short form with a CRC: GBR an hour ahead, and on UTC from 1993-10-24, 01:00:00, on
+
+abbrev tot_body : List ℕ
+tot_body = 0xC0 ∷ 0x79 ∷ 0x12 ∷ 0x45 ∷ 0x00 ∷ 0xF0 ∷ 0x0F ∷ 0x58 ∷ 0x0D ∷ 0x47 ∷ 0x42 ∷ 0x52 ∷ 0x02 ∷ 0x01 ∷ 0x00 ∷ 0xC0 ∷ 0x84 ∷ 0x01 ∷ 0x00 ∷ 0x00 ∷ 0x00 ∷ 0x00 ∷ []
+
+abbrev tot : List ℕ
+tot = 0x73 ∷ 0x70 ∷ 0x1A ∷ 0xC0 ∷ 0x79 ∷ 0x12 ∷ 0x45 ∷ 0x00 ∷ 0xF0 ∷ 0x0F ∷ 0x58 ∷ 0x0D ∷ 0x47 ∷ 0x42 ∷ 0x52 ∷ 0x02 ∷ 0x01 ∷ 0x00 ∷ 0xC0 ∷ 0x84 ∷ 0x01 ∷ 0x00 ∷ 0x00 ∷ 0x00 ∷ 0x00 ∷ 0xCE ∷ 0xD9 ∷ 0x71 ∷ 0x70 ∷ []
+
+tot_written : short_crc_bytes 0x73 tot_body ≡ tot
+unfolding crc_of crc_from
+tot_written = refl
+
+tot_read : section_in tot ≡ Ok (Short 0x73 tot_body)
+unfolding crc_of crc_from
+tot_read = refl
+
+-- with one byte changed; with 6 bytes; and in the long form
+tot_with_other_byte : section_in (0x73 ∷ 0x70 ∷ 0x1A ∷ 0xC0 ∷ 0xC1 ∷ 0x12 ∷ 0x45 ∷ 0x00 ∷ 0xF0 ∷ 0x0F ∷ 0x58 ∷ 0x0D ∷ 0x47 ∷ 0x42 ∷ 0x52 ∷ 0x02 ∷ 0x01 ∷ 0x00 ∷ 0xC0 ∷ 0x84 ∷ 0x01 ∷ 0x00 ∷ 0x00 ∷ 0x00 ∷ 0x00 ∷ 0xCE ∷ 0xD9 ∷ 0x71 ∷ 0x70 ∷ []) ≡ Err (Crc 0xCED97170 0x33E0DDB7)
+unfolding crc_of crc_from
+tot_with_other_byte = refl
+
+short_tot : section_in (0x73 ∷ 0x70 ∷ 0x03 ∷ 0x00 ∷ 0x00 ∷ 0x00 ∷ []) ≡ Err Length
+short_tot = refl
+
+long_tot : section_in (0x73 ∷ 0xF0 ∷ 0x09 ∷ 0x00 ∷ 0x01 ∷ 0xC1 ∷ 0x00 ∷ 0x00 ∷ 0xDB ∷ 0x00 ∷ 0xAF ∷ 0x08 ∷ []) ≡ Err Syntax
+unfolding crc_of crc_from
+long_tot = refl

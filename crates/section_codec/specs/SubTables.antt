@@ -1,12 +1,12 @@
 -- Sub-tables by their keys, and those that can be sent, and then be heard.
-use Rattle.std.specs.Prelude.{◌≡◌, ◌≢◌, ℕ, true, ◌<◌, ◌≤◌, List, [], ◌∷◌, length}
+use Rattle.std.specs.Prelude.{◌≡◌, ◌≢◌, ℕ, true, false, ◌<◌, ◌≤◌, List, [], ◌∷◌, length}
 use Rattle.std.specs.List.{All}
 use Rattle.section_codec.specs.declared.section.LongHeader.{LongHeader}
 use Rattle.section_codec.specs.declared.table.Key.{Key}
 use Rattle.section_codec.specs.declared.table.NumberedBody.{NumberedBody}
 use Rattle.section_codec.specs.declared.table.SubTable.{SubTable}
 use Rattle.section_codec.specs.Contents.{Ascend, last_number}
-use Rattle.section_codec.specs.Tables.{tier_of, tier_rank}
+use Rattle.section_codec.specs.Tables.{has_short_form, tier_of, tier_rank}
 use Rattle.section_codec.specs.Section.{longest_body}
 
 -- none of these sub-tables has this key
@@ -26,7 +26,7 @@ header_of version t s = record { table = t.key.table; ext = t.key.ext; version =
 -- A sub-table whose sections can be sent: not on the PID of the null packets, in the long form, not beginning as fill does, with 0xFF.
 pub record IsFit (t : SubTable) : Type 0 where
   pub pid : t.key.pid < 8191
-  pub long : t.key.table ≢ 0x70
+  pub long : has_short_form t.key.table ≡ false
   pub no_fill : t.key.table ≢ 0xFF
   pub some : 0 < length t.sections
   pub ascending : Ascend t.sections

@@ -11,6 +11,10 @@ is_eit table = nat_le 0x4E table && nat_le table 0x6F
 abbrev pub has_long_form : ℕ → Bool
 has_long_form table = table == 0x00 || table == 0x02 || table == 0x40 || table == 0x42 || table == 0x46 || is_eit table
 
+-- the tables whose sections have the short form: the TDT without a CRC, and the TOT with one (EN 300 468, 5.2.5 and 5.2.6)
+abbrev pub has_short_form : ℕ → Bool
+has_short_form table = table == 0x70 || table == 0x73
+
 -- where each table of this multiplex is sent
 abbrev pub is_pat : ℕ → ℕ → Bool
 is_pat pid table = pid == 0x0000 && table == 0x00

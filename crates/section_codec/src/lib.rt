@@ -20,4 +20,4 @@ pub use keys::{eit_numbers, is_eit, key_of, segment_last};
 pub use reading::{read_section, written_sections_read_back};
 pub use section::{BadSection, LongHeader, Section};
 pub use table::{Key, NumberedBodies, NumberedBody, SubTable, SubTables, Tables, Tier3};
-pub use writing::{put_section, write_long, write_short};
+pub use writing::{put_section, write_long, write_short, write_short_crc};

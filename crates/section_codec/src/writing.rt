@@ -1,18 +1,18 @@
 // Sections as they are written.
-ghost use Rattle.std.specs.Prelude.{◌≡◌, ◌≢◌, ◌+◌, ◌<◌, ◌≤◌, length, false, IfOk};
+ghost use Rattle.std.specs.Prelude.{◌≡◌, ◌==◌, ◌+◌, ◌<◌, ◌≤◌, length, true, false, IfOk};
 ghost use Rattle.si_base.specs.Room.{Appended, HasRoom};
-ghost use Rattle.section_codec.specs.Tables.{has_long_form};
-ghost use Rattle.section_codec.specs.Section.{section_bytes, short_bytes, longest_body, long_flags, current_bit};
+ghost use Rattle.section_codec.specs.Tables.{has_long_form, has_short_form};
+ghost use Rattle.section_codec.specs.Section.{section_bytes, short_bytes, short_crc_bytes, longest_body, long_flags, current_bit};
 
 use crate::section::LongHeader;
 use si_base::{Bytes, Items, crc32, put};
 use std::alloc::{AllocError, Global};
 
 /// The bytes of a section in the long form, with its CRC (ISO/IEC 13818-1, 2.4.4; EN 300 468, 5.1.1).
-/// It needs a table other than the TDT's 0x70, a version below 32, a number at most the last one, and
+/// It needs a table other than the TDT's 0x70 and the TOT's 0x73, a version below 32, a number at most the last one, and
 /// a body of at most 4,084 bytes for the event tables 0x4E to 0x6F and of 1,012 for others.
 pub fn write_long(alloc: Global, header: &LongHeader, body: &[u8]) -> Result<Bytes, AllocError>
-    requires form { header.now.table ≢ 0x70 }
+    requires form { has_short_form header.now.table ≡ false }
     requires version { header.now.version < 32 }
     requires number { header.now.number ≤ header.now.last }
     requires within { length body.now ≤ longest_body header.now.table }
@@ -51,9 +51,10 @@ pub fn put_section(out: &mut Vec<u8>, header: &LongHeader, body: &[u8])
 }
 
 /// The bytes of a section in the short form, which has no CRC (EN 300 468, 5.2.5). It needs a table
-/// that is none of PAT, PMT, NIT, SDT and EIT, and a body of at most 4,093 bytes.
+/// that is none of PAT, PMT, NIT, SDT and EIT, nor the TOT, and a body of at most 4,093 bytes.
 pub fn write_short(alloc: Global, table: u8, body: &[u8]) -> Result<Bytes, AllocError>
     requires form { has_long_form table ≡ false }
+    requires no_crc { (table == 0x73) ≡ false }
     requires within { length body.now ≤ 4093 }
     ensures { IfOk result (λ bytes. bytes ≡ short_bytes table body.now) }
 {
@@ -62,6 +63,23 @@ pub fn write_short(alloc: Global, table: u8, body: &[u8]) -> Result<Bytes, Alloc
     out.push(table)?;
     out.extend_from_slice(&flags.to_be_bytes())?;
     out.extend_from_slice(body)?;
+    Ok(Items::of(out))
+}
+
+/// The bytes of a section in the short form with a CRC (EN 300 468, 5.2.6). It needs the TOT's table, 0x73, and a body of at most 4,089
+/// bytes.
+pub fn write_short_crc(alloc: Global, table: u8, body: &[u8]) -> Result<Bytes, AllocError>
+    requires form { (table == 0x73) ≡ true }
+    requires within { length body.now ≤ 4089 }
+    ensures { IfOk result (λ bytes. bytes ≡ short_crc_bytes table body.now) }
+{
+    let mut out = Vec::with_capacity(alloc, 7 + body.len())?;
+    let flags = 0x7000 + 4 + body.len() as u16;
+    out.push(table)?;
+    out.extend_from_slice(&flags.to_be_bytes())?;
+    out.extend_from_slice(body)?;
+    let crc = crc32(&out);
+    out.extend_from_slice(&crc.to_be_bytes())?;
     Ok(Items::of(out))
 }
 
