@@ -1,2 +1,4 @@
 pub mod Tdt
+pub mod LocalOffsets
+pub mod Tot
 pub mod Rows
