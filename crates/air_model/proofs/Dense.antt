@@ -10,7 +10,9 @@ use Rattle.ts_packets.specs.Counting.{of_pid}
 use Rattle.ts_packets.proofs.Carrying.{Carries-none, Carries-append}
 use Rattle.ts_packets.proofs.Dense.{HaveBytes, Carries-stretch}
 use Rattle.ts_packets.proofs.Stamps.{of_pid-append, one_pid}
+use Rattle.guide_model.specs.declared.offset.Offset.{Offset}
 use Rattle.time_tables.specs.Tdt.{tdt_section}
+use Rattle.time_tables.proofs.Loops.{length-tot_section}
 use Rattle.si_time.specs.Moments.{moment_bcd}
 use Rattle.section_codec.specs.declared.table.NumberedBody.{NumberedBody}
 use Rattle.section_codec.specs.declared.table.SubTable.{SubTable}
@@ -18,9 +20,9 @@ use Rattle.section_codec.specs.SubTables.{header_of}
 use Rattle.section_codec.proofs.ReadBack.{length-section_bytes}
 use Rattle.cycle_plan.specs.Cycle.{cycle_of}
 use Rattle.cycle_plan.specs.Sections.{planned}
-use Rattle.version_book.specs.Airings.{AiredTables, version_at}
+use Rattle.version_book.specs.Airings.{AiredTables, CycleForm, version_at}
 use Rattle.si_lists.proofs.Lists.{all_append}
-use Rattle.air_model.specs.Air.{Sent, sent_section, sections_of, table_sections, tdt, before_tdt, behind_tdt, sections_once, weights_once, cycle_sections, sent_on}
+use Rattle.air_model.specs.Air.{Sent, sent_section, sections_of, table_sections, tdt, tot, times, before_tdt, behind_tdt, sections_once, weights_once, cycle_sections, sent_on}
 use Rattle.air_model.proofs.Counted.{PidsFit}
 use Rattle.air_model.proofs.Planned.{all_at}
 use Rattle.air_model.specs.Making.{bytes_of, in_front, stretches, stretch_packets, each_dense, front_on, behind_on}
@@ -170,11 +172,19 @@ tables_some airings [] = tt
 tables_some airings (t ∷ ts) =
     all_append (λ (s : Sent). 0 < length s.bytes) (sections_of (version_at t.key airings) t) (table_sections airings ts) (sections_some (version_at t.key airings) t t.sections) (tables_some airings ts)
 
+tot_some : (moment : ℕ) (offsets : List Offset) → HaveSome (tot moment offsets)
+tot_some moment [] = tt
+tot_some moment (o ∷ offsets) = (omega (arith, length-tot_section moment (o ∷ offsets)), tt)
+
+times_some : (form : CycleForm) (moment : ℕ) → HaveSome (times form moment)
+times_some form moment = (omega (arith, eight moment), tot_some moment form.offsets)
+
 pub once_some : (past : List AiredTables) (a : AiredTables) → HaveSome (sections_once past a)
 once_some past a =
     let all = past ++ a ∷ [] in
-    all_append (λ (s : Sent). 0 < length s.bytes) (table_sections all (before_tdt a.tables)) (tdt a.moment ∷ table_sections all (behind_tdt a.tables))
-    (tables_some all (before_tdt a.tables)) (omega (arith, eight a.moment), tables_some all (behind_tdt a.tables))
+    all_append (λ (s : Sent). 0 < length s.bytes) (table_sections all (before_tdt a.tables)) (times a.form a.moment ++ table_sections all (behind_tdt a.tables))
+    (tables_some all (before_tdt a.tables))
+    (all_append (λ (s : Sent). 0 < length s.bytes) (times a.form a.moment) (table_sections all (behind_tdt a.tables)) (times_some a.form a.moment) (tables_some all (behind_tdt a.tables)))
 
 pub cycle_some : (past : List AiredTables) (a : AiredTables) → HaveSome (cycle_sections past a)
 cycle_some past a = all_at (λ (s : Sent). 0 < length s.bytes) (sections_once past a) (cycle_of (planned (weights_once past a) a.form.quota)) (once_some past a)

@@ -11,7 +11,7 @@ use Rattle.cycle_plan.specs.Sections.{planned}
 use Rattle.cycle_plan.proofs.Cursors.{planned_all}
 use Rattle.cycle_plan.proofs.Order.{cycles_are_whole}
 use Rattle.version_book.specs.Airings.{AiredTables, version_at}
-use Rattle.air_model.specs.Air.{sections_of, table_sections, tdt, before_tdt, behind_tdt, sections_once, weight, table_weights, weights_once, at_places}
+use Rattle.air_model.specs.Air.{sections_of, table_sections, times, before_tdt, behind_tdt, sections_once, weight, table_weights, weights_once, at_places}
 use Rattle.air_model.proofs.Elements.{first_of, around}
 
 -- ---- what stands at places
@@ -62,8 +62,12 @@ weights_tables airings (t ∷ ts) =
 pub weights_each : (past : List AiredTables) (a : AiredTables) → length (weights_once past a) ≡ length (sections_once past a)
 weights_each past a =
     let all = past ++ a ∷ [] in
-    let x = length-append (table_weights all (before_tdt a.tables)) (weight Fast (tdt a.moment) ∷ table_weights all (behind_tdt a.tables)) in
-    let y = length-append (table_sections all (before_tdt a.tables)) (tdt a.moment ∷ table_sections all (behind_tdt a.tables)) in
+    let ts = times a.form a.moment in
+    let x = length-append (table_weights all (before_tdt a.tables)) (map (weight Fast) ts ++ table_weights all (behind_tdt a.tables)) in
+    let y = length-append (table_sections all (before_tdt a.tables)) (ts ++ table_sections all (behind_tdt a.tables)) in
+    let v = length-append (map (weight Fast) ts) (table_weights all (behind_tdt a.tables)) in
+    let w = length-append ts (table_sections all (behind_tdt a.tables)) in
+    let each = length-map ts (weight Fast) in
     let i = weights_tables all (before_tdt a.tables) in
     let j = weights_tables all (behind_tdt a.tables) in
     omega arith

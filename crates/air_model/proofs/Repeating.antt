@@ -3,13 +3,13 @@ use Rattle.std.proofs.Common.{ℕ, ◌⊎◌, inl, inr, List, [], ◌∷◌, ◌
 use Rattle.std.specs.List.{AllByRecursion, Contains, prefix_len}
 use Rattle.std.proofs.lemmas.List.{take-append-drop}
 use Rattle.std.proofs.lemmas.List.Elements.{All-contains_itself, All-take, All-drop, recursion_from_All, Contains-append_left, Contains-append_right, Contains-append_cases}
-use Rattle.si_lists.proofs.Lists.{all_append}
+use Rattle.si_lists.proofs.Lists.{all_append, all_map}
 use Rattle.section_codec.specs.declared.table.NumberedBody.{NumberedBody}
 use Rattle.section_codec.specs.declared.table.SubTable.{SubTable}
 use Rattle.cycle_plan.specs.Cycle.{cycle_of}
 use Rattle.cycle_plan.specs.Sections.{planned}
 use Rattle.version_book.specs.Airings.{AiredTables, version_at}
-use Rattle.air_model.specs.Air.{Aired, sent_section, sections_of, table_sections, tdt, leads, before_tdt, behind_tdt, sections_once, weights_once, cycle_sections, Cycles}
+use Rattle.air_model.specs.Air.{Sent, Aired, sent_section, sections_of, table_sections, times, leads, before_tdt, behind_tdt, sections_once, weights_once, cycle_sections, Cycles}
 use Rattle.air_model.specs.Repeating.{IsSentOf, AreSentOf, RepeatingCycles, AirsRepeat}
 pub use Rattle.air_model.proofs.Elements.{elements, of_element, first_of, rest_of, around, mapped, joined}
 use Rattle.air_model.proofs.Planned.{all_at, at_contains, places_planned}
@@ -19,17 +19,27 @@ use Rattle.air_model.proofs.Planned.{all_at, at_contains, places_planned}
 once_is_sent : (past : List AiredTables) (a : AiredTables) → AreSentOf past a (sections_once past a)
 once_is_sent past a = record {
   each =
-      all_append (IsSentOf past a) (table_sections (past ++ a ∷ []) (before_tdt a.tables)) (tdt a.moment ∷ table_sections (past ++ a ∷ []) (behind_tdt a.tables))
+      all_append (IsSentOf past a) (table_sections (past ++ a ∷ []) (before_tdt a.tables)) behind
       (of_tables (before_tdt a.tables) (recursion_from_All (Contains a.tables) (before_tdt a.tables) (All-take (Contains a.tables) n a.tables (All-contains_itself a.tables))))
-      (inr refl, of_tables (behind_tdt a.tables) (recursion_from_All (Contains a.tables) (behind_tdt a.tables) (All-drop (Contains a.tables) n a.tables (All-contains_itself a.tables))));
+      (all_append (IsSentOf past a) ts (table_sections (past ++ a ∷ []) (behind_tdt a.tables)) (all_map (Contains ts) (IsSentOf past a) (λ s has. inr has) ts (elements ts))
+      (of_tables (behind_tdt a.tables) (recursion_from_All (Contains a.tables) (behind_tdt a.tables) (All-drop (Contains a.tables) n a.tables (All-contains_itself a.tables)))));
   all = λ t p has_t has_p. one t p has_p (Contains-append_cases (take n a.tables) (drop n a.tables) t (subst (λ l. Contains l t) (sym (take-append-drop n a.tables)) has_t));
-  time =
-      Contains-append_right (table_sections (past ++ a ∷ []) (before_tdt a.tables)) (tdt a.moment ∷ table_sections (past ++ a ∷ []) (behind_tdt a.tables)) (tdt a.moment)
-      (first_of (tdt a.moment) (table_sections (past ++ a ∷ []) (behind_tdt a.tables)));
+  time = all_map (Contains ts) (Contains (sections_once past a)) in_times ts (elements ts);
 }
   where
     n : ℕ
     n = prefix_len leads a.tables
+
+    ts : List Sent
+    ts = times a.form a.moment
+
+    behind : List Sent
+    behind = ts ++ table_sections (past ++ a ∷ []) (behind_tdt a.tables)
+
+    in_times : (s : Sent) → Contains ts s → Contains (sections_once past a) s
+    in_times s has =
+        Contains-append_right (table_sections (past ++ a ∷ []) (before_tdt a.tables)) behind s
+        (Contains-append_left ts (table_sections (past ++ a ∷ []) (behind_tdt a.tables)) s has)
 
     of_sections : (t : SubTable) → Contains a.tables t → (ps : List NumberedBody) → AllByRecursion (Contains t.sections) ps → AllByRecursion (IsSentOf past a) (map (sent_section (version_at t.key (past ++ a ∷ [])) t) ps)
     of_sections t has [] all = tt
@@ -47,11 +57,11 @@ once_is_sent past a = record {
 
     one : (t : SubTable) (p : NumberedBody) → Contains t.sections p → Contains (take n a.tables) t ⊎ Contains (drop n a.tables) t → Contains (sections_once past a) (sent_section (version_at t.key (past ++ a ∷ [])) t p)
     one t p has_p (inl has) =
-        Contains-append_left (table_sections (past ++ a ∷ []) (before_tdt a.tables)) (tdt a.moment ∷ table_sections (past ++ a ∷ []) (behind_tdt a.tables)) (sent_section (version_at t.key (past ++ a ∷ [])) t p)
+        Contains-append_left (table_sections (past ++ a ∷ []) (before_tdt a.tables)) behind (sent_section (version_at t.key (past ++ a ∷ [])) t p)
         (in_tables (before_tdt a.tables) t p has has_p)
     one t p has_p (inr has) =
-        Contains-append_right (table_sections (past ++ a ∷ []) (before_tdt a.tables)) (tdt a.moment ∷ table_sections (past ++ a ∷ []) (behind_tdt a.tables)) (sent_section (version_at t.key (past ++ a ∷ [])) t p)
-        (rest_of (tdt a.moment) (table_sections (past ++ a ∷ []) (behind_tdt a.tables)) (sent_section (version_at t.key (past ++ a ∷ [])) t p) (in_tables (behind_tdt a.tables) t p has has_p))
+        Contains-append_right (table_sections (past ++ a ∷ []) (before_tdt a.tables)) behind (sent_section (version_at t.key (past ++ a ∷ [])) t p)
+        (Contains-append_right ts (table_sections (past ++ a ∷ []) (behind_tdt a.tables)) (sent_section (version_at t.key (past ++ a ∷ [])) t p) (in_tables (behind_tdt a.tables) t p has has_p))
 
 pub cycle_is_sent : (past : List AiredTables) (a : AiredTables) → AreSentOf past a (cycle_sections past a)
 cycle_is_sent past a =
@@ -61,7 +71,7 @@ cycle_is_sent past a =
     record {
       each = all_at (IsSentOf past a) sections order once.each;
       all = λ t p has_t has_p. at_contains sections order (sent_section (version_at t.key (past ++ a ∷ [])) t p) (places_planned past a) (once.all t p has_t has_p);
-      time = at_contains sections order (tdt a.moment) (places_planned past a) once.time;
+      time = all_map (Contains sections) (Contains (cycle_sections past a)) (λ s has. at_contains sections order s (places_planned past a) has) (times a.form a.moment) once.time;
     }
 
 cycles_repeat : (past : List AiredTables) (xs : List Aired) → Cycles past xs → RepeatingCycles past xs

@@ -1,6 +1,7 @@
 -- Cycles of airings, and the air of an airing list.
-use Rattle.std.specs.Prelude.{◌≡◌, ℕ, List, [], ◌∷◌, ◌++◌, Bool, not, ◌&&◌, Option, Some, None, ◌==◌, if◌then◌else◌, length, drop, map, flat_map, filter_map, slice_get}
+use Rattle.std.specs.Prelude.{◌≡◌, ℕ, ◌≤◌, List, [], ◌∷◌, ◌++◌, Bool, not, ◌&&◌, Option, Some, None, ◌==◌, if◌then◌else◌, length, drop, map, flat_map, filter_map, slice_get}
 use Rattle.std.specs.List.{All, AllByRecursion, prefix_len, take_while}
+use Rattle.guide_model.specs.declared.offset.Offset.{Offset}
 use Rattle.section_codec.specs.SubTables.{IsFit, header_of}
 use Rattle.section_codec.specs.declared.table.NumberedBody.{NumberedBody}
 use Rattle.section_codec.specs.declared.table.SubTable.{SubTable}
@@ -8,8 +9,10 @@ use Rattle.section_codec.specs.declared.table.Tier3.{Tier3}
 use Rattle.section_codec.specs.declared.table.Tier3.TheVariants.{Fast}
 use Rattle.section_codec.specs.Section.{section_bytes}
 use Rattle.section_codec.specs.Tables.{is_eit}
+use Rattle.time_tables.specs.LocalOffsets.{FitsOffset}
 use Rattle.time_tables.specs.Tdt.{tdt_section}
-use Rattle.version_book.specs.Airings.{AiredTables, version_at}
+use Rattle.time_tables.specs.Tot.{tot_section}
+use Rattle.version_book.specs.Airings.{AiredTables, CycleForm, version_at}
 use Rattle.cycle_plan.specs.Cycle.{cycle_of}
 use Rattle.cycle_plan.specs.Sections.{is_fast, planned}
 use Rattle.ts_packets.specs.Packets.{Carries, packets_of}
@@ -37,26 +40,45 @@ table_sections airings tables = flat_map (λ (t : SubTable). sections_of (versio
 abbrev pub tdt : ℕ → Sent
 tdt moment = record { pid = 0x0014; bytes = tdt_section moment }
 
+-- the time offset table of a moment, where there are offsets: one section, on the same PID (EN 300 468, 5.1.3 and 5.2.6)
+abbrev pub tot : ℕ → List Offset → List Sent
+tot moment [] = []
+tot moment (o ∷ offsets) = record { pid = 0x0014; bytes = tot_section moment (o ∷ offsets) } ∷ []
+
+-- the sections that tell the time in a cycle of this form
+abbrev pub times : CycleForm → ℕ → List Sent
+times form moment = tdt moment ∷ tot moment form.offsets
+
 -- a sub-table is sent most often, and is no event information
 abbrev pub leads : SubTable → Bool
 leads t = is_fast t.tier && not (is_eit t.key.table)
 
--- of a cycle's sub-tables those that lead, which are sent before the TDT, and the others, behind it
+-- of a cycle's sub-tables those that lead, which are sent before the time, and the others, behind it
 abbrev pub before_tdt : List SubTable → List SubTable
 before_tdt tables = take_while leads tables
 
 abbrev pub behind_tdt : List SubTable → List SubTable
 behind_tdt tables = drop (prefix_len leads tables) tables
 
--- Each section of an airing behind others once: those of each sub-table, and the TDT of the airing's moment behind PAT, PMT, NIT and
--- SDT, before all event information.
+-- Each section of an airing behind others once: those of each sub-table, and those that tell the airing's moment behind PAT, PMT, NIT
+-- and SDT, before all event information.
 abbrev pub sections_once : List AiredTables → AiredTables → List Sent
 sections_once past a =
-    table_sections (past ++ a ∷ []) (before_tdt a.tables) ++ tdt a.moment ∷ table_sections (past ++ a ∷ []) (behind_tdt a.tables)
+    table_sections (past ++ a ∷ []) (before_tdt a.tables)
+    ++ (times a.form a.moment ++ table_sections (past ++ a ∷ []) (behind_tdt a.tables))
 
--- all sub-tables of these airings can be sent
+-- at most 16 offsets, which fit their fields
+pub record CanBeTold (offsets : List Offset) : Type 0 where
+  pub few : length offsets ≤ 16
+  pub each : AllByRecursion FitsOffset offsets
+
+-- an airing whose sub-tables and offsets can be sent
+pub record IsSendable (a : AiredTables) : Type 0 where
+  pub tables : All IsFit a.tables
+  pub offsets : CanBeTold a.form.offsets
+
 abbrev pub CanBeSent : List AiredTables → Type 0
-CanBeSent airings = AllByRecursion (λ (a : AiredTables). All IsFit a.tables) airings
+CanBeSent airings = AllByRecursion IsSendable airings
 
 -- ---- their order in a cycle
 
@@ -71,7 +93,8 @@ table_weights airings tables = flat_map (λ (t : SubTable). map (weight t.tier) 
 -- of each section of an airing behind others, in the order of `sections_once`
 abbrev pub weights_once : List AiredTables → AiredTables → List (Tier3 × ℕ)
 weights_once past a =
-    table_weights (past ++ a ∷ []) (before_tdt a.tables) ++ weight Fast (tdt a.moment) ∷ table_weights (past ++ a ∷ []) (behind_tdt a.tables)
+    table_weights (past ++ a ∷ []) (before_tdt a.tables)
+    ++ (map (weight Fast) (times a.form a.moment) ++ table_weights (past ++ a ∷ []) (behind_tdt a.tables))
 
 -- what stands at these places of a list
 abbrev pub at_places : {X : Type 0} → List X → List ℕ → List X

@@ -7,22 +7,22 @@ use Rattle.version_book.specs.Airings.{AiredTables, version_at}
 use Rattle.ts_packets.specs.Packets.{Carries}
 use Rattle.ts_packets.specs.Bytes.{HasFields}
 use Rattle.ts_packets.specs.Counting.{of_pid, loads_on, Count}
-use Rattle.air_model.specs.Air.{Sent, Aired, sent_section, tdt, sent_on, air, airings_of, IsAirOf}
+use Rattle.air_model.specs.Air.{Sent, Aired, sent_section, times, sent_on, air, airings_of, IsAirOf}
 
 -- a section of one of the airing's sub-tables, behind other airings
 abbrev pub IsOfTable : List AiredTables → AiredTables → Sent → Type 0
 IsOfTable past a s =
     (t : SubTable) × (p : NumberedBody) × Contains a.tables t × Contains t.sections p × (s ≡ sent_section (version_at t.key (past ++ a ∷ [])) t p)
 
--- such a section, or the TDT of the airing's moment
+-- such a section, or one that tells the airing's moment
 abbrev pub IsSentOf : List AiredTables → AiredTables → Sent → Type 0
-IsSentOf past a s = IsOfTable past a s ⊎ (s ≡ tdt a.moment)
+IsSentOf past a s = IsOfTable past a s ⊎ Contains (times a.form a.moment) s
 
--- These are sections of the airing, each of them once or more often, and the TDT of its moment too.
+-- These are sections of the airing, each of them once or more often, and those that tell its moment too.
 pub record AreSentOf (past : List AiredTables) (a : AiredTables) (ss : List Sent) : Type 0 where
   pub each : AllByRecursion (IsSentOf past a) ss
   pub all : (t : SubTable) (p : NumberedBody) → Contains a.tables t → Contains t.sections p → Contains ss (sent_section (version_at t.key (past ++ a ∷ [])) t p)
-  pub time : Contains ss (tdt a.moment)
+  pub time : AllByRecursion (Contains ss) (times a.form a.moment)
 
 -- The packets are a cycle of the airing that repeats sections as it likes: on each PID they carry those of such sections that have this
 -- PID, in their order, however densely these share packets.

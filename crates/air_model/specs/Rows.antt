@@ -20,7 +20,7 @@ abbrev sdt_of : List ℕ → SubTable
 sdt_of body = record { key = record { pid = 17; table = 66; ext = 1; stream = 0; network = 1 }; tier = Fast; sections = record { number = 0; body = body } ∷ [] }
 
 abbrev airing_of : List ℕ → ℕ → AiredTables
-airing_of body moment = record { tables = sdt_of body ∷ []; moment = moment; form = record { quota = 200 } }
+airing_of body moment = record { tables = sdt_of body ∷ []; moment = moment; form = record { quota = 200; offsets = [] } }
 
 abbrev sdt_section : List ℕ
 sdt_section = 0x42 ∷ 0xF0 ∷ 0x1E ∷ 0x00 ∷ 0x01 ∷ 0xC1 ∷ 0x00 ∷ 0x00 ∷ 0x00 ∷ 0x01 ∷ 0xFF ∷ 0x00 ∷ 0x65 ∷ 0xFF ∷ 0x80 ∷ 0x0D ∷ 0x48 ∷ 0x0B ∷ 0x01 ∷ 0x04 ∷ 0x41 ∷ 0x63 ∷ 0x6D ∷ 0x65 ∷ 0x04 ∷ 0x4E ∷ 0x65 ∷ 0x77 ∷ 0x73 ∷ 0xB5 ∷ 0x82 ∷ 0xAF ∷ 0xDD ∷ []
@@ -81,7 +81,7 @@ row_behind = refl
 row_first : before_tdt others ≡ []
 row_first = refl
 
-row_alone : cycle_sections [] (record { tables = []; moment = annex; form = record { quota = 200 } }) ≡
+row_alone : cycle_sections [] (record { tables = []; moment = annex; form = record { quota = 200; offsets = [] } }) ≡
     record { pid = 20; bytes = annex_section } ∷ []
 unfolding moments_compute
 row_alone = refl
@@ -96,7 +96,7 @@ abbrev with_far : AiredTables
 with_far = record {
   tables = of_bodies 0x50 Near (record { number = 0; body = [] } ∷ []) ∷ of_bodies 0x58 Far (record { number = 0; body = [] } ∷ record { number = 8; body = [] } ∷ []) ∷ [];
   moment = annex;
-  form = record { quota = 3 };
+  form = record { quota = 3; offsets = [] };
 }
 
 -- the TDT, Near, Far, Near; and again the TDT, and the other Far section

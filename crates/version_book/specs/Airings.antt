@@ -1,14 +1,16 @@
 -- AiredTables lists, and the version of a key at an airing.
 use Rattle.std.specs.Prelude.{ℕ, ◌+◌, ◌%◌, List, [], ◌∷◌, if◌then◌else◌, Option, Some, None, filter_map}
+use Rattle.guide_model.specs.declared.offset.Offset.{Offset}
 use Rattle.section_codec.specs.declared.table.Key.{Key}
 use Rattle.section_codec.specs.Contents.{Content, is_content}
 use Rattle.section_codec.specs.KeyOrder.{is_key}
 use Rattle.section_codec.specs.declared.table.SubTable.{SubTable}
 
 -- What a cycle depends on besides its sub-tables and its moment: the quota, which is how many packets may come between two repeats
--- of the most frequent sections.
+-- of the most frequent sections, and how far the clocks of regions are from UTC, which is sent with the moment.
 pub record CycleForm : Type 0 where
   pub quota : ℕ
+  pub offsets : List Offset
 
 -- one airing: the sub-tables of the publication that goes on air, the moment of its swap in seconds, and the form of its cycle
 pub record AiredTables : Type 0 where

@@ -21,7 +21,7 @@ abbrev of : Key → ℕ → SubTable
 of k b = record { key = k; tier = Fast; sections = one b }
 
 abbrev airs : List SubTable → AiredTables
-airs tables = record { tables = tables; moment = 0; form = record { quota = 200 } }
+airs tables = record { tables = tables; moment = 0; form = record { quota = 200; offsets = [] } }
 
 -- contents A, B, A have the versions 0, 1, 2
 first : version_at sdt (airs (of sdt 1 ∷ []) ∷ []) ≡ 0
@@ -61,7 +61,7 @@ returns_changed : version_at schedule (airs (of sdt 7 ∷ of schedule 1 ∷ []) 
 returns_changed = refl
 
 -- a key that was never aired before gets 0 beside one that changes
-beside : versions_of (airs (of sdt 1 ∷ []) ∷ []) (of sdt 2 ∷ of schedule 5 ∷ []) 0 (record { quota = 200 }) ≡ 1 ∷ 0 ∷ []
+beside : versions_of (airs (of sdt 1 ∷ []) ∷ []) (of sdt 2 ∷ of schedule 5 ∷ []) 0 (record { quota = 200; offsets = [] }) ≡ 1 ∷ 0 ∷ []
 beside = refl
 
 kept : kept_after (carried sdt (airs (of sdt 1 ∷ []) ∷ airs (of sdt 2 ∷ []) ∷ [])) ≡ Some (record { version = 1; content = one 2 })
