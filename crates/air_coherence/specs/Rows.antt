@@ -28,7 +28,7 @@ abbrev table_of : Content → SubTable
 table_of content = record { key = sdt; tier = Fast; sections = content }
 
 abbrev airing_of : Content → AiredTables
-airing_of content = record { tables = table_of content ∷ []; moment = 4257233100; form = record { quota = 200 } }
+airing_of content = record { tables = table_of content ∷ []; moment = 4257233100; form = record { quota = 200; offsets = [] } }
 
 -- a cycle whose sections each begin in a packet of their own, as an air may have one
 abbrev alone : List AiredTables → List Packet → AiredTables → List Packet

@@ -5,7 +5,10 @@ use Rattle.std.specs.List.{AllByRecursion, Contains, cons_option}
 use Rattle.std.proofs.lemmas.List.{map-append}
 use Rattle.std.proofs.lemmas.List.Elements.{filter-append, All-contains, recursion_from_All}
 use Rattle.si_lists.proofs.Lists.{all_map}
+use Rattle.guide_model.specs.declared.offset.Offset.{Offset}
 use Rattle.time_tables.proofs.Sections.{five_bytes}
+use Rattle.time_tables.specs.Tot.{AreSent}
+use Rattle.time_tables.proofs.Loops.{tot-is_a_section}
 use Rattle.section_codec.specs.declared.table.Key.{Key}
 use Rattle.section_codec.specs.declared.table.NumberedBody.{NumberedBody}
 use Rattle.section_codec.specs.declared.table.SubTable.{SubTable}
@@ -17,7 +20,7 @@ use Rattle.section_codec.proofs.ContentFacts.{own_parts, below_last}
 use Rattle.section_codec.specs.KeyOrder.{is_key}
 use Rattle.section_codec.proofs.KeyOrderFacts.{is_key-same, is_key-itself}
 use Rattle.si_time.specs.Moments.{moment_bcd}
-use Rattle.version_book.specs.Airings.{AiredTables, content_in, content_at, version_at}
+use Rattle.version_book.specs.Airings.{AiredTables, CycleForm, content_in, content_at, version_at}
 use Rattle.version_book.proofs.Airs.{AreOwn-all}
 use Rattle.sub_collect.specs.Runs.{Counted, counted, latest_section, has_number, latest_with}
 use Rattle.sub_collect.specs.Completions.{is_of, of_key}
@@ -25,7 +28,7 @@ use Rattle.sub_collect.specs.Laws.{section_with, sections_with, HoldAll, IsWith,
 use Rattle.heard_completions.specs.Counting.{is_counted, is_body_of_table, counted_by, counted_in, counted_among}
 use Rattle.section_codec.specs.SubTables.{IsFit, header_of}
 use Rattle.heard_completions.proofs.Shown.{among-append}
-use Rattle.air_model.specs.Air.{Sent, sent_section, tdt}
+use Rattle.air_model.specs.Air.{Sent, sent_section, tdt, tot, times, CanBeTold}
 use Rattle.air_model.specs.Repeating.{IsSentOf, AreSentOf}
 use Rattle.air_model.proofs.Repeating.{elements, of_element, around}
 use Rattle.air_hearing.specs.Counting.{raw_of, IsReadable, CanBeHeard}
@@ -105,9 +108,17 @@ table_counts t fit read version lt = go t.sections (can_count t fit read) ∙ al
     all true = some t.sections
     all false = none t.sections
 
--- a TDT counts for nothing
+-- the sections that tell the time count for nothing
 tdt_uncounted : (moment : ℕ) → counted_in (raw_of (tdt moment)) ≡ None
-tdt_uncounted moment = ap (counted_by 0x0014) (section_in-short_bytes 0x70 (moment_bcd moment) (record { fits = lit< tt; form = refl; within = omega (arith, five_bytes moment) }))
+tdt_uncounted moment = ap (counted_by 0x0014) (section_in-short_bytes 0x70 (moment_bcd moment) (record { fits = lit< tt; form = refl; no_crc = refl; within = omega (arith, five_bytes moment) }))
+
+times_uncounted : (form : CycleForm) (moment : ℕ) → CanBeTold form.offsets → AllByRecursion (λ (s : Sent). counted_in (raw_of s) ≡ None) (times form moment)
+times_uncounted form moment can = (tdt_uncounted moment, go form.offsets can)
+  where
+    go : (offsets : List Offset) → CanBeTold offsets → AllByRecursion (λ (s : Sent). counted_in (raw_of s) ≡ None) (tot moment offsets)
+    go [] can = tt
+    go (o ∷ offsets) can =
+        (ap (counted_by 0x0014) (tot-is_a_section moment (o ∷ offsets) (record { some = omega arith; few = can.few; each = can.each })), tt)
 
 -- ---- the sections of an airing that count for a key
 
@@ -160,7 +171,10 @@ module _ (past : List AiredTables) (a : AiredTables) (can : CanBeHeard a) (k : K
     where
       one : (s : Sent) → IsSentOf past a s → (o : Option Counted) → counted_in (raw_of s) ≡ o → AllByRecursion P (block k ss) → AllByRecursion P (of_key k (cons_option o (counted_among (map raw_of ss))))
       one s is None e rest = rest
-      one s (inr is) (Some c) e rest = absurd (let z : Prim.⊥ = (let none : None ≡ Some c = sym (tdt_uncounted a.moment) ∙ ap (λ (x : Sent). counted_in (raw_of x)) (sym is) ∙ e in cc) in z)
+      one s (inr has) (Some c) e rest =
+          let told : counted_in (raw_of s) ≡ None =
+          of_element (λ (x : Sent). counted_in (raw_of x) ≡ None) (times a.form a.moment) s (times_uncounted a.form a.moment can.offsets) has in
+          absurd (let z : Prim.⊥ = (let none : None ≡ Some c = sym told ∙ e in cc) in z)
       one s (inl (t, p, has_t, has_p, is)) (Some c) e rest = go (is_counted t.key.pid t.key.table) refl (sym (counts t p has_t has_p) ∙ ap (λ (x : Sent). counted_in (raw_of x)) (sym is) ∙ e)
         where
           same : c ≡ as_counted (version t) t p → is_counted t.key.pid t.key.table ≡ true → (b : Bool) → is_key c.key k ≡ b → AllByRecursion P (cond (is_key c.key k) (c ∷ block k ss) (block k ss))

@@ -7,10 +7,13 @@ use Rattle.si_lists.proofs.Lists.{all_map, all_append}
 use Rattle.section_codec.specs.declared.section.LongHeader.{LongHeader}
 use Rattle.section_codec.specs.declared.table.NumberedBody.{NumberedBody}
 use Rattle.section_codec.specs.Section.{long_flags, section_bytes, longest_body}
-use Rattle.section_codec.proofs.ReadBack.{length-section_bytes, within}
+use Rattle.section_codec.proofs.ReadBack.{length-section_bytes, length-short_crc_bytes, within}
 use Rattle.si_time.specs.Moments.{moment_bcd}
+use Rattle.guide_model.specs.declared.offset.Offset.{Offset}
 use Rattle.time_tables.specs.Tdt.{tdt_section}
-use Rattle.version_book.specs.Airings.{AiredTables, version_at}
+use Rattle.time_tables.specs.Tot.{tot_body, tot_section}
+use Rattle.time_tables.proofs.Loops.{length-tot_body}
+use Rattle.version_book.specs.Airings.{AiredTables, CycleForm, version_at}
 use Rattle.ts_packets.specs.Packets.{Carries}
 use Rattle.ts_packets.specs.Bytes.{bytes_of_packet}
 use Rattle.ts_packets.specs.Counting.{of_pid}
@@ -20,10 +23,10 @@ use Rattle.ts_demux.specs.Hearing.{IsSection}
 use Rattle.ts_demux.specs.Laws.{GoOn}
 use Rattle.ts_demux.specs.Sections.{sections_on}
 use Rattle.ts_demux.proofs.Written.{carried_is_heard}
-use Rattle.air_model.specs.Air.{Sent, Aired, IsAirOf, Cycles, air, airings_of, sent_on, cycle_sections, CanBeSent}
+use Rattle.air_model.specs.Air.{Sent, Aired, IsAirOf, Cycles, air, airings_of, sent_on, tot, times, cycle_sections, CanBeTold, IsSendable, CanBeSent}
 use Rattle.section_codec.specs.SubTables.{IsFit, header_of}
 use Rattle.air_model.specs.Repeating.{IsSentOf, RepeatingCycles, IsRepeatingAirOf}
-use Rattle.air_model.proofs.Repeating.{cycle_is_sent}
+use Rattle.air_model.proofs.Repeating.{cycle_is_sent, of_element}
 use Rattle.air_hearing.specs.Sending.{sections_sent}
 use Rattle.air_hearing.specs.Laws.{AirIsHeard}
 
@@ -58,15 +61,38 @@ IsSection-tdt moment = record {
   no_fill = λ b more e is. (let first : 0x70 ≡ b = cc in omega (arith, first, is));
 }
 
+-- and so are written offsets
+pub IsSection-tot : (moment : ℕ) (offsets : List Offset) → CanBeTold offsets → IsSection (tot_section moment offsets)
+IsSection-tot moment offsets can =
+    let body = length-tot_body moment offsets can.each in
+    let n = length (tot_body moment offsets) in
+    let len = length-short_crc_bytes 0x73 (tot_body moment offsets) in
+    let few = can.few in
+    let told : (((0x7000 + (4 + n)) / 256 % 256) % 16) * 256 + (0x7000 + (4 + n)) % 256 ≡ 4 + n = omega (arith, body, few) in
+    record {
+      header = omega (arith, len);
+      most = omega (arith, len, body, few);
+      size = ap (λ (k : ℕ). 3 + k) told ∙ omega (arith, len);
+      no_fill = λ b more e is. (let first : 0x73 ≡ b = cc in omega (arith, first, is));
+    }
+
+-- those that tell the time
+times_are : (form : CycleForm) (moment : ℕ) → CanBeTold form.offsets → AllByRecursion (λ (x : Sent). IsSection x.bytes) (times form moment)
+times_are form moment can = (IsSection-tdt moment, offsets_are form.offsets can)
+  where
+    offsets_are : (offsets : List Offset) → CanBeTold offsets → AllByRecursion (λ (x : Sent). IsSection x.bytes) (tot moment offsets)
+    offsets_are [] can = tt
+    offsets_are (o ∷ offsets) can = (IsSection-tot moment (o ∷ offsets) can, tt)
+
 -- ---- each section that is sent
 
-pub each_section : (past : List AiredTables) (a : AiredTables) (ss : List Sent) → All IsFit a.tables → AllByRecursion (IsSentOf past a) ss → AllByRecursion (λ (x : Sent). IsSection x.bytes) ss
+pub each_section : (past : List AiredTables) (a : AiredTables) (ss : List Sent) → IsSendable a → AllByRecursion (IsSentOf past a) ss → AllByRecursion (λ (x : Sent). IsSection x.bytes) ss
 each_section past a ss fit each = all_map (IsSentOf past a) (λ (x : Sent). IsSection x.bytes) one ss each
   where
     one : (x : Sent) → IsSentOf past a x → IsSection x.bytes
-    one x (inr e) = subst (λ (s : Sent). IsSection s.bytes) (sym e) (IsSection-tdt a.moment)
+    one x (inr has) = of_element (λ (s : Sent). IsSection s.bytes) (times a.form a.moment) x (times_are a.form a.moment fit.offsets) has
     one x (inl (t, p, has_t, has_p, e)) =
-        let f : IsFit t = All-contains IsFit a.tables t fit has_t in
+        let f : IsFit t = All-contains IsFit a.tables t fit.tables has_t in
         let le = All-contains (λ (s : NumberedBody). length s.body ≤ longest_body t.key.table) t.sections p f.bodies has_p in
         subst (λ (s : Sent). IsSection s.bytes) (sym e) (IsSection-section_bytes (header_of (version_at t.key (past ++ a ∷ [])) t p) p.body f.no_fill le)
 

@@ -26,7 +26,7 @@ use Rattle.heard_completions.specs.Counting.{is_counted, counted_among}
 use Rattle.section_codec.specs.SubTables.{IsFit}
 use Rattle.heard_completions.specs.Dones.{DoneAt, at_packet, counted_heard, done_key, dones_by, dones_of, dones_behind}
 use Rattle.heard_completions.proofs.Shown.{more_shown, among-append, counted-push}
-use Rattle.air_model.specs.Air.{Aired, air, airings_of, CanBeSent}
+use Rattle.air_model.specs.Air.{Aired, air, airings_of, IsSendable, CanBeSent}
 use Rattle.air_model.specs.Repeating.{RepeatingCycles}
 use Rattle.air_hearing.specs.Sending.{sections_sent}
 use Rattle.air_hearing.specs.Counting.{CanBeHeard}
@@ -170,7 +170,7 @@ uncounted k other past (x ∷ xs) h can =
 
 -- what can be heard can be sent
 pub sent_of : (airings : List AiredTables) → AllByRecursion CanBeHeard airings → CanBeSent airings
-sent_of airings can = all_map CanBeHeard (λ (a : AiredTables). All IsFit a.tables) (λ a h. h.fit) airings can
+sent_of airings can = all_map CanBeHeard IsSendable (λ a h. record { tables = h.fit; offsets = h.offsets }) airings can
 
 pub changes_heard : ChangesAreHeard
 changes_heard airings xs is can k lt = key_told k ps ∙ ap (λ (l : List Counted). map done_key (dones [] l)) heard ∙ go (is_counted k.pid k.table) refl

@@ -10,7 +10,7 @@ use Rattle.section_codec.specs.SubTables.{KeysDiffer, IsFit, header_of}
 use Rattle.ts_demux.specs.declared.section.RawSection.{RawSection}
 use Rattle.sub_collect.specs.Laws.{IsNumbered}
 use Rattle.heard_completions.specs.Counting.{is_body_of_table}
-use Rattle.air_model.specs.Air.{Sent}
+use Rattle.air_model.specs.Air.{Sent, CanBeTold}
 
 -- a section that is sent, as it is heard whole
 abbrev pub raw_of : Sent → RawSection
@@ -25,8 +25,9 @@ pub record IsReadable (t : SubTable) : Type 0 where
   pub bodies : AllByRecursion (λ (s : NumberedBody). is_body_of_table (header_of 0 t s) s.body ≡ true) t.sections
   pub numbered : IsNumbered t.key t.sections
 
--- The sub-tables of an airing can be sent, and be heard; no two have one key.
+-- The sub-tables and the offsets of an airing can be sent, and be heard; no two sub-tables have one key.
 pub record CanBeHeard (a : AiredTables) : Type 0 where
   pub differ : KeysDiffer a.tables
   pub fit : All IsFit a.tables
   pub readable : AllByRecursion IsReadable a.tables
+  pub offsets : CanBeTold a.form.offsets

@@ -19,7 +19,7 @@ abbrev sdt_with : ℕ → SubTable
 sdt_with service = record { key = sdt; tier = Fast; sections = record { number = 0; body = 0x00 ∷ 0x01 ∷ 0xFF ∷ 0x00 ∷ service ∷ 0xFF ∷ 0x80 ∷ 0x00 ∷ [] } ∷ [] }
 
 abbrev airing_of : ℕ → ℕ → AiredTables
-airing_of service moment = record { tables = sdt_with service ∷ []; moment = moment; form = record { quota = 200 } }
+airing_of service moment = record { tables = sdt_with service ∷ []; moment = moment; form = record { quota = 200; offsets = [] } }
 
 abbrev airings : List AiredTables
 airings = airing_of 101 5 ∷ airing_of 101 9 ∷ airing_of 102 12 ∷ airing_of 101 30 ∷ []

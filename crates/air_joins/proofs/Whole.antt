@@ -9,8 +9,9 @@ use Rattle.version_book.specs.Airings.{AiredTables}
 use Rattle.ts_packets.specs.Packets.{Carries}
 use Rattle.ts_packets.specs.Counting.{of_pid}
 use Rattle.ts_demux.specs.Laws.{within}
-use Rattle.air_model.specs.Air.{Sent, Aired, sent_on, air, airings_of}
+use Rattle.air_model.specs.Air.{Sent, Aired, sent_on, times, air, airings_of}
 use Rattle.air_model.specs.Repeating.{IsSentOf, AreSentOf, RepeatingCycles}
+use Rattle.air_model.proofs.Repeating.{of_element}
 use Rattle.air_joins.specs.Joining.{count_before, IsOfCycleIn}
 use Rattle.air_joins.specs.Laws.{HeardIsSent, CycleIsHeard}
 use Rattle.ts_demux.proofs.Parts.{within-append, within-all}
@@ -123,7 +124,7 @@ cycle_part pid past (y ∷ before) x after h low high under over =
 
 pub among : (past : List AiredTables) (a : AiredTables) (ss : List Sent) (s : Sent) → AreSentOf past a ss → IsSentOf past a s → Contains ss s
 among past a ss s are (inl (t, p, has_t, has_p, e)) = subst (Contains ss) (sym e) (are.all t p has_t has_p)
-among past a ss s are (inr e) = subst (Contains ss) (sym e) are.time
+among past a ss s are (inr has) = of_element (Contains ss) (times a.form a.moment) s are.time has
 
 pub cycle_is_heard : CycleIsHeard
 cycle_is_heard airings before after x is fit join end low high s sent lt =

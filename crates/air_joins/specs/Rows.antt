@@ -19,7 +19,7 @@ abbrev of : ℕ → SubTable
 of b = record { key = sdt; tier = Fast; sections = record { number = 0; body = b ∷ [] } ∷ [] }
 
 abbrev airs : ℕ → AiredTables
-airs b = record { tables = of b ∷ []; moment = 0; form = record { quota = 200 } }
+airs b = record { tables = of b ∷ []; moment = 0; form = record { quota = 200; offsets = [] } }
 
 -- n airings, each with another content than the one before
 abbrev turns : ℕ → List AiredTables
