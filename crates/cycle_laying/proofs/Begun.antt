@@ -17,12 +17,15 @@ use Rattle.version_book.specs.Book.{aired, versions_of}
 use Rattle.section_codec.specs.declared.table.Tier3.{Tier3}
 use Rattle.cycle_plan.specs.Cycle.{cycle_of}
 use Rattle.cycle_plan.specs.Sections.{planned}
-use Rattle.air_model.specs.Air.{Sent, sent_section, sections_of, tdt, leads, before_tdt, behind_tdt, sections_once, at_places, cycle_sections}
+use Rattle.air_model.specs.Air.{Sent, sent_section, sections_of, tdt, tot, times, leads, before_tdt, behind_tdt, sections_once, at_places, cycle_sections, CanBeTold}
 use Rattle.cycle_laying.specs.declared.placed.Placed.{Placed}
 use Rattle.section_codec.specs.SubTables.{IsFit, header_of}
 use Rattle.cycle_laying.specs.Laying.{IsPlaced, sent_at, places_from, AreLaid, sections_under, cycle_under, order_under}
 use Rattle.cycle_laying.proofs.Laid.{laid_sent}
 use Rattle.air_model.proofs.Dense.{eight}
+use Rattle.guide_model.specs.declared.offset.Offset.{Offset}
+use Rattle.time_tables.proofs.Loops.{length-tot_section}
+use Rattle.time_tables.proofs.Offsets.{length-offsets_body}
 use Rattle.cycle_laying.proofs.Weights.{weights_given, places_within}
 
 -- a section that can be sent
@@ -49,14 +52,25 @@ sendable (v ∷ vs) [] fit = tt
 sendable (v ∷ vs) (t ∷ ts) fit =
     all_append IsSendable (sections_of v t) (sections_under vs ts) (sendable_sections v t t.sections (let lt : t.key.pid < 8191 = fit.0.pid in omega (arith, lt)) (recursion_from_All _ t.sections fit.0.bodies)) (sendable vs ts fit.1)
 
-sendable_cycle : (vs : List ℕ) (ts : List SubTable) (moment : ℕ) → All IsFit ts → AllByRecursion IsSendable (cycle_under vs ts moment)
-sendable_cycle vs ts moment fit =
+sendable_times : (form : CycleForm) (moment : ℕ) → CanBeTold form.offsets → AllByRecursion IsSendable (times form moment)
+sendable_times form moment can =
+    (record { pid = omega arith; some = omega (arith, eight moment); most = omega (arith, eight moment) }, go form.offsets can)
+  where
+    go : (offsets : List Offset) → CanBeTold offsets → AllByRecursion IsSendable (tot moment offsets)
+    go [] can = tt
+    go (o ∷ offsets) can =
+        let size = length-tot_section moment (o ∷ offsets) in
+        let body = length-offsets_body (o ∷ offsets) can.each in
+        let few = can.few in
+        (record { pid = omega arith; some = omega (arith, size); most = omega (arith, size, body, few) }, tt)
+
+sendable_cycle : (vs : List ℕ) (ts : List SubTable) (moment : ℕ) (form : CycleForm) → All IsFit ts → CanBeTold form.offsets → AllByRecursion IsSendable (cycle_under vs ts (times form moment))
+sendable_cycle vs ts moment form fit can =
     let n = prefix_len leads ts in
-    all_append IsSendable (sections_under (take n vs) (before_tdt ts)) (tdt moment ∷ sections_under (drop n vs) (behind_tdt ts))
-    (sendable (take n vs) (before_tdt ts) (recursion_from_All IsFit (before_tdt ts) (All-take IsFit n ts fit))) (
-      record { pid = omega arith; some = omega (arith, eight moment); most = omega (arith, eight moment) },
-      sendable (drop n vs) (behind_tdt ts) (recursion_from_All IsFit (behind_tdt ts) (All-drop IsFit n ts fit)),
-    )
+    all_append IsSendable (sections_under (take n vs) (before_tdt ts)) (times form moment ++ sections_under (drop n vs) (behind_tdt ts))
+    (sendable (take n vs) (before_tdt ts) (recursion_from_All IsFit (before_tdt ts) (All-take IsFit n ts fit)))
+    (all_append IsSendable (times form moment) (sections_under (drop n vs) (behind_tdt ts)) (sendable_times form moment can)
+    (sendable (drop n vs) (behind_tdt ts) (recursion_from_All IsFit (behind_tdt ts) (All-drop IsFit n ts fit))))
 
 placed_fit : (size start : ℕ) (ss : List Sent) → start + length (flat_map (λ (s : Sent). s.bytes) ss) ≤ size → AllByRecursion IsSendable ss → AllByRecursion (IsPlaced size) (places_from start ss)
 placed_fit size start [] le fit = tt
@@ -66,15 +80,16 @@ placed_fit size start (s ∷ ss) le fit =
     (record { pid = fit.0.pid; some = fit.0.some; most = fit.0.most; within = omega (arith, both) }, placed_fit size (start + length s.bytes) ss (omega (arith, both)) fit.1)
 
 -- each laid section can be sent
-pub laid_placed : (vs : List ℕ) (ts : List SubTable) (moment : ℕ) (bytes : List ℕ) (placed : List Placed) → AreLaid (cycle_under vs ts moment) bytes placed → All IsFit ts → AllByRecursion (IsPlaced (length bytes)) placed
-laid_placed vs ts moment bytes placed h fit =
-    subst (AllByRecursion (IsPlaced (length bytes))) (sym h.placed_are) (placed_fit (length bytes) 0 (cycle_under vs ts moment) (omega (arith, ap length h.bytes_are)) (sendable_cycle vs ts moment fit))
+pub laid_placed : (vs : List ℕ) (ts : List SubTable) (moment : ℕ) (form : CycleForm) (bytes : List ℕ) (placed : List Placed) → AreLaid (cycle_under vs ts (times form moment)) bytes placed → All IsFit ts
+    → CanBeTold form.offsets → AllByRecursion (IsPlaced (length bytes)) placed
+laid_placed vs ts moment form bytes placed h fit can =
+    subst (AllByRecursion (IsPlaced (length bytes))) (sym h.placed_are) (placed_fit (length bytes) 0 (cycle_under vs ts (times form moment)) (omega (arith, ap length h.bytes_are)) (sendable_cycle vs ts moment form fit can))
 
 -- the order names no others
-pub laid_within : (vs : List ℕ) (ts : List SubTable) (moment : ℕ) (bytes : List ℕ) (placed : List Placed) → AreLaid (cycle_under vs ts moment) bytes placed → length vs ≡ length ts
-    → (quota : ℕ) → AllByRecursion (λ (at : ℕ). at < length placed) (order_under ts quota)
-laid_within vs ts moment bytes placed h each quota =
-    subst (λ (n : ℕ). AllByRecursion (λ (at : ℕ). at < n) (order_under ts quota)) (sym (ap length h.placed_are ∙ length-places 0 (cycle_under vs ts moment))) (places_within vs ts moment quota each)
+pub laid_within : (vs : List ℕ) (ts : List SubTable) (moment : ℕ) (form : CycleForm) (bytes : List ℕ) (placed : List Placed) → AreLaid (cycle_under vs ts (times form moment)) bytes placed → length vs ≡ length ts
+    → AllByRecursion (λ (at : ℕ). at < length placed) (order_under ts form)
+laid_within vs ts moment form bytes placed h each =
+    subst (λ (n : ℕ). AllByRecursion (λ (at : ℕ). at < n) (order_under ts form)) (sym (ap length h.placed_are ∙ length-places 0 (cycle_under vs ts (times form moment)))) (places_within vs ts moment form each)
   where
     length-places : (start : ℕ) (ss : List Sent) → length (places_from start ss) ≡ length ss
     length-places start [] = refl
@@ -85,9 +100,9 @@ versions_given f [] = refl
 versions_given f (t ∷ ts) = ap (λ (l : List Sent). sections_of (f t) t ++ l) (versions_given f ts)
 
 -- with the versions of the airing they are its sections
-sections_given : (past : List AiredTables) (moment : ℕ) (form : CycleForm) (ts : List SubTable) → cycle_under (versions_of past ts moment form) ts moment ≡ sections_once past (aired ts moment form)
+sections_given : (past : List AiredTables) (moment : ℕ) (form : CycleForm) (ts : List SubTable) → cycle_under (versions_of past ts moment form) ts (times form moment) ≡ sections_once past (aired ts moment form)
 sections_given past moment form ts =
-    ap₂ (λ (x y : List Sent). x ++ tdt moment ∷ y)
+    ap₂ (λ (x y : List Sent). x ++ (times form moment ++ y))
     (ap (λ (vs : List ℕ). sections_under vs (before_tdt ts)) (take-map version n ts) ∙ versions_given version (before_tdt ts))
     (ap (λ (vs : List ℕ). sections_under vs (behind_tdt ts)) (drop-map version n ts) ∙ versions_given version (behind_tdt ts))
   where
@@ -106,13 +121,12 @@ map-at_places f xs (i ∷ order) = go (slice_get xs i) (map-at_places f xs order
     go (Some x) e = ap (λ (l : List _). f x ∷ l) e
 
 -- in the order of the plan they are the cycle
-pub cycle_laid : (past : List AiredTables) (moment quota : ℕ) (vs : List ℕ) (ts : List SubTable) (bytes : List ℕ) (placed : List Placed) → AreLaid (cycle_under vs ts moment) bytes placed
-    → vs ≡ versions_of past ts moment (record { quota = quota })
-    → map (sent_at bytes) (at_places placed (order_under ts quota)) ≡ cycle_sections past (aired ts moment (record { quota = quota }))
-cycle_laid past moment quota vs ts bytes placed h is =
-    let form : CycleForm = record { quota = quota } in
-    let order = order_under ts quota in
+pub cycle_laid : (past : List AiredTables) (moment : ℕ) (form : CycleForm) (vs : List ℕ) (ts : List SubTable) (bytes : List ℕ) (placed : List Placed) → AreLaid (cycle_under vs ts (times form moment)) bytes placed
+    → vs ≡ versions_of past ts moment form
+    → map (sent_at bytes) (at_places placed (order_under ts form)) ≡ cycle_sections past (aired ts moment form)
+cycle_laid past moment form vs ts bytes placed h is =
+    let order = order_under ts form in
     let sections : map (sent_at bytes) placed ≡ sections_once past (aired ts moment form) =
-    laid_sent (cycle_under vs ts moment) bytes placed h ∙ ap (λ (l : List ℕ). cycle_under l ts moment) is ∙ sections_given past moment form ts in
+    laid_sent (cycle_under vs ts (times form moment)) bytes placed h ∙ ap (λ (l : List ℕ). cycle_under l ts (times form moment)) is ∙ sections_given past moment form ts in
     map-at_places (sent_at bytes) placed order ∙ ap (λ (l : List Sent). at_places l order) sections
-    ∙ ap (λ (ws : List (Tier3 × ℕ)). at_places (sections_once past (aired ts moment form)) (cycle_of (planned ws quota))) (weights_given past moment form ts)
+    ∙ ap (λ (ws : List (Tier3 × ℕ)). at_places (sections_once past (aired ts moment form)) (cycle_of (planned ws form.quota))) (weights_given past moment form ts)

@@ -1,3 +1,4 @@
 pub mod Laid
 pub mod Weights
 pub mod Begun
+pub mod Times

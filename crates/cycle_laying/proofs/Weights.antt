@@ -19,9 +19,11 @@ use Rattle.version_book.specs.Airings.{CycleForm, AiredTables, version_at}
 use Rattle.version_book.specs.Book.{aired}
 use Rattle.ts_packets.specs.Packets.{packets_of}
 use Rattle.air_model.proofs.Dense.{eight}
-use Rattle.air_model.specs.Air.{sent_section, tdt, leads, before_tdt, behind_tdt, weight, table_weights, weights_once}
+use Rattle.guide_model.specs.declared.offset.Offset.{Offset}
+use Rattle.time_tables.proofs.Loops.{length-tot_section}
+use Rattle.air_model.specs.Air.{Sent, sent_section, tdt, tot, times, leads, before_tdt, behind_tdt, weight, table_weights, weights_once}
 use Rattle.cycle_laying.specs.Laying.{sections_under, cycle_under}
-use Rattle.cycle_laying.specs.Planning.{weights_in, weights_of, weights_under}
+use Rattle.cycle_laying.specs.Planning.{weights_in, weights_of, tot_weight, time_weights, weights_under}
 
 -- ---- they are those of the airing
 
@@ -33,11 +35,20 @@ weights_tables : (airings : List AiredTables) (ts : List SubTable) → table_wei
 weights_tables airings [] = refl
 weights_tables airings (t ∷ ts) = ap₂ (λ (x y : List (Tier3 × ℕ)). x ++ y) (weights_section (version_at t.key airings) t t.sections) (weights_tables airings ts)
 
-pub weights_given : (past : List AiredTables) (moment : ℕ) (form : CycleForm) (ts : List SubTable) → weights_under ts ≡ weights_once past (aired ts moment form)
+-- those of the sections that tell the time
+tot_given : (moment : ℕ) (offsets : List Offset) → tot_weight offsets ≡ map (weight Fast) (tot moment offsets)
+tot_given moment [] = refl
+tot_given moment (o ∷ offsets) = ap (λ (n : ℕ). (Fast, packets_of n) ∷ []) (sym (length-tot_section moment (o ∷ offsets)))
+
+pub times_given : (moment : ℕ) (form : CycleForm) → time_weights form.offsets ≡ map (weight Fast) (times form moment)
+times_given moment form =
+    ap₂ (λ (n : ℕ) (l : List (Tier3 × ℕ)). (Fast, packets_of n) ∷ l) (sym (eight moment)) (tot_given moment form.offsets)
+
+pub weights_given : (past : List AiredTables) (moment : ℕ) (form : CycleForm) (ts : List SubTable) → weights_under ts form.offsets ≡ weights_once past (aired ts moment form)
 weights_given past moment form ts =
     let all = past ++ aired ts moment form ∷ [] in
-    ap₂ (λ (x y : List (Tier3 × ℕ)). x ++ (Fast, 1) ∷ y) (sym (weights_tables all (before_tdt ts))) (sym (weights_tables all (behind_tdt ts)))
-    ∙ ap (λ (n : ℕ). table_weights all (before_tdt ts) ++ (Fast, packets_of n) ∷ table_weights all (behind_tdt ts)) (sym (eight moment))
+    ap₂ (λ (x y : List (Tier3 × ℕ)). x ++ (time_weights form.offsets ++ y)) (sym (weights_tables all (before_tdt ts))) (sym (weights_tables all (behind_tdt ts)))
+    ∙ ap (λ (l : List (Tier3 × ℕ)). table_weights all (before_tdt ts) ++ (l ++ table_weights all (behind_tdt ts))) (times_given moment form)
 
 -- ---- there is one for each section that is laid
 
@@ -53,21 +64,27 @@ each_under (v ∷ vs) (t ∷ ts) e =
     let i = each_under vs ts (omega arith) in
     omega arith
 
-each_cycle : (vs : List ℕ) (ts : List SubTable) (moment : ℕ) → length vs ≡ length ts → length (cycle_under vs ts moment) ≡ length (weights_under ts)
-each_cycle vs ts moment e =
+each_cycle : (vs : List ℕ) (ts : List SubTable) (moment : ℕ) (form : CycleForm) → length vs ≡ length ts → length (cycle_under vs ts (times form moment)) ≡ length (weights_under ts form.offsets)
+each_cycle vs ts moment form e =
     let n = prefix_len leads ts in
+    let told = times form moment in
+    let weights = time_weights form.offsets in
+    let same = ap length (times_given moment form) ∙ length-map told (weight Fast) in
     let front = each_under (take n vs) (before_tdt ts) (length-take n vs ∙ ap (min n) e ∙ sym (length-take n ts)) in
     let behind = each_under (drop n vs) (behind_tdt ts) (length-drop n vs ∙ ap (λ (k : ℕ). k - n) e ∙ sym (length-drop n ts)) in
-    let x = length-append (sections_under (take n vs) (before_tdt ts)) (tdt moment ∷ sections_under (drop n vs) (behind_tdt ts)) in
-    let y = length-append (weights_of (before_tdt ts)) ((Fast, 1) ∷ weights_of (behind_tdt ts)) in
+    let x = length-append (sections_under (take n vs) (before_tdt ts)) (told ++ sections_under (drop n vs) (behind_tdt ts)) in
+    let y = length-append (weights_of (before_tdt ts)) (weights ++ weights_of (behind_tdt ts)) in
+    let v = length-append told (sections_under (drop n vs) (behind_tdt ts)) in
+    let w = length-append weights (weights_of (behind_tdt ts)) in
     omega arith
 
 -- the plan names no others
-pub places_within : (vs : List ℕ) (ts : List SubTable) (moment quota : ℕ) → length vs ≡ length ts → AllByRecursion (λ (at : ℕ). at < length (cycle_under vs ts moment)) (cycle_of (planned (weights_under ts) quota))
-places_within vs ts moment quota e =
-    let ws = weights_under ts in
-    let many = planned_all ws quota ∙ sym (each_cycle vs ts moment e) in
-    subst (λ (n : ℕ). AllByRecursion (λ (at : ℕ). at < n) (cycle_of (planned ws quota))) many (cycles_are_whole (planned ws quota)).known
+pub places_within : (vs : List ℕ) (ts : List SubTable) (moment : ℕ) (form : CycleForm) → length vs ≡ length ts
+    → AllByRecursion (λ (at : ℕ). at < length (cycle_under vs ts (times form moment))) (cycle_of (planned (weights_under ts form.offsets) form.quota))
+places_within vs ts moment form e =
+    let ws = weights_under ts form.offsets in
+    let many = planned_all ws form.quota ∙ sym (each_cycle vs ts moment form e) in
+    subst (λ (n : ℕ). AllByRecursion (λ (at : ℕ). at < n) (cycle_of (planned ws form.quota))) many (cycles_are_whole (planned ws form.quota)).known
 
 -- ---- they stand in the order of the tiers
 
@@ -128,7 +145,12 @@ rise_leading (t ∷ ts) ws h = go (leads t) refl (rise_leading ts ws h)
         subst (Rise 0) (sym (append_assoc (weights_in t) (weights_of (take n ts)) ws)) (rise_table 0 t t.sections (weights_of (take n ts) ++ ws) (omega arith) (subst (λ (r : ℕ). Rise r (weights_of (take n ts) ++ ws)) (sym rank) rest)) in
         subst (λ (k : ℕ). Rise 0 (weights_of (take k (t ∷ ts)) ++ ws)) (let f : suc n ≡ 1 + n = omega arith in f) longer
 
-pub in_tiers : (ts : List SubTable) → AreTiered ts → AreInTiers (weights_under ts)
-in_tiers ts h =
+rise_times : (offsets : List Offset) (ws : List (Tier3 × ℕ)) → Rise 0 ws → Rise 0 (time_weights offsets ++ ws)
+rise_times [] ws h = (omega arith, h)
+rise_times (o ∷ offsets) ws h = (omega arith, (omega arith, h))
+
+pub in_tiers : (ts : List SubTable) (offsets : List Offset) → AreTiered ts → AreInTiers (weights_under ts offsets)
+in_tiers ts offsets h =
     let n = prefix_len leads ts in
-    rise_in_tiers 0 (weights_under ts) (rise_leading ts ((Fast, 1) ∷ weights_of (behind_tdt ts)) (omega arith, rise_all (behind_tdt ts) (tiered_behind n ts h)))
+    rise_in_tiers 0 (weights_under ts offsets)
+    (rise_leading ts (time_weights offsets ++ weights_of (behind_tdt ts)) (rise_times offsets (weights_of (behind_tdt ts)) (rise_all (behind_tdt ts) (tiered_behind n ts h))))

@@ -1,10 +1,13 @@
 -- Sections of a cycle laid end to end, each once, and the order in which the cycle sends them.
-use Rattle.std.specs.Prelude.{◌≡◌, ℕ, ◌+◌, ◌<◌, ◌≤◌, List, [], ◌∷◌, ◌++◌, length, take, drop, flat_map, Vec, vec_len, vec_capacity}
+use Rattle.std.specs.Prelude.{◌≡◌, ℕ, ◌+◌, ◌<◌, ◌≤◌, List, [], ◌∷◌, ◌++◌, length, take, drop, flat_map, Vec, vec_len, vec_capacity, Option, Some, None}
 use Rattle.std.specs.List.{prefix_len}
+use Rattle.guide_model.specs.declared.offset.Offset.{Offset}
 use Rattle.section_codec.specs.declared.table.SubTable.{SubTable}
 use Rattle.section_codec.specs.Contents.{Content}
 use Rattle.cycle_plan.specs.Cycle.{cycle_of}
 use Rattle.cycle_plan.specs.Sections.{planned}
+use Rattle.version_book.specs.Airings.{CycleForm}
+use Rattle.time_tables.specs.LocalOffsets.{offsets_body}
 use Rattle.air_model.specs.Air.{Sent, sections_of, tdt, leads, before_tdt, behind_tdt}
 use Rattle.cycle_laying.specs.declared.placed.Placed.{Placed}
 use Rattle.cycle_laying.specs.Planning.{weights_under}
@@ -40,11 +43,20 @@ sections_under [] ts = []
 sections_under (v ∷ vs) [] = []
 sections_under (v ∷ vs) (t ∷ ts) = sections_of v t ++ sections_under vs ts
 
--- the sections of a cycle of sub-tables with these versions, and of the TDT of a moment
-abbrev pub cycle_under : List ℕ → List SubTable → ℕ → List Sent
-cycle_under vs ts moment =
+-- a written TOT, where there is one
+abbrev pub sent_tot : Option (List ℕ) → List Sent
+sent_tot None = []
+sent_tot (Some section) = record { pid = 0x0014; bytes = section } ∷ []
+
+-- the sections that tell a moment, with a written TOT
+abbrev pub told_with : ℕ → Option (List ℕ) → List Sent
+told_with moment section = tdt moment ∷ sent_tot section
+
+-- the sections of a cycle of sub-tables with these versions, and those that tell the time
+abbrev pub cycle_under : List ℕ → List SubTable → List Sent → List Sent
+cycle_under vs ts told =
     sections_under (take (prefix_len leads ts) vs) (before_tdt ts)
-    ++ tdt moment ∷ sections_under (drop (prefix_len leads ts) vs) (behind_tdt ts)
+    ++ (told ++ sections_under (drop (prefix_len leads ts) vs) (behind_tdt ts))
 
 -- how many bytes the sections of a sub-table have, and those of all
 abbrev pub room_of : Content → ℕ
@@ -59,13 +71,23 @@ abbrev pub places_for : List SubTable → ℕ
 places_for [] = 0
 places_for (t ∷ ts) = length t.sections + places_for ts
 
--- Empty buffers with memory for the sections of these sub-tables and for a TDT: 8 bytes, and one place.
-pub record HaveRoom {Z : Type 0} (tables : List SubTable) (bytes : Vec ℕ Z) (placed : Vec Placed Z) : Type 0 where
+-- how many bytes the TOT of these offsets has
+abbrev pub tot_size : List Offset → ℕ
+tot_size [] = 0
+tot_size (o ∷ offsets) = 16 + length (offsets_body (o ∷ offsets))
+
+abbrev pub size_of : Option (List ℕ) → ℕ
+size_of None = 0
+size_of (Some section) = length section
+
+-- Empty buffers with memory for the sections of these sub-tables, for a TDT of 8 bytes and for a TOT of these offsets, which have two
+-- places.
+pub record HaveRoom {Z : Type 0} (tables : List SubTable) (offsets : List Offset) (bytes : Vec ℕ Z) (placed : Vec Placed Z) : Type 0 where
   pub no_byte : bytes.items ≡ []
   pub no_place : placed.items ≡ []
-  pub room : vec_len bytes + (8 + room_for tables) ≤ vec_capacity bytes
-  pub places : vec_len placed + (1 + places_for tables) ≤ vec_capacity placed
+  pub room : vec_len bytes + (8 + tot_size offsets + room_for tables) ≤ vec_capacity bytes
+  pub places : vec_len placed + (2 + places_for tables) ≤ vec_capacity placed
 
--- the order in which a cycle of these sub-tables sends its sections, each named by its place among those that are laid
-abbrev pub order_under : List SubTable → ℕ → List ℕ
-order_under tables quota = cycle_of (planned (weights_under tables) quota)
+-- the order in which a cycle of these sub-tables, of this form, sends its sections, each named by its place among those that are laid
+abbrev pub order_under : List SubTable → CycleForm → List ℕ
+order_under tables form = cycle_of (planned (weights_under tables form.offsets) form.quota)

@@ -1,16 +1,19 @@
 // Sections laid end to end in one buffer.
-ghost use Rattle.std.specs.Prelude.{◌≡◌, ◌≢◌, ◌+◌, ◌*◌, ◌<◌, ◌≤◌, ◌++◌, [], ◌∷◌, List, ℕ, length, vec_len, vec_capacity, IfSome};
+ghost use Rattle.std.specs.Prelude.{◌≡◌, ◌≢◌, ◌+◌, ◌*◌, ◌<◌, ◌≤◌, ◌++◌, [], ◌∷◌, List, ℕ, length, vec_len, vec_capacity, IfOk, IfSome};
 ghost use Rattle.std.specs.List.{All, prefix_len};
 ghost use Rattle.section_codec.specs.Section.{section_bytes, longest_body};
 ghost use Rattle.section_codec.specs.Contents.{last_number};
-ghost use Rattle.air_model.specs.Air.{Sent, sent_section, sections_of, tdt, leads};
-ghost use Rattle.cycle_laying.specs.Laying.{AreLaid, Grew, sections_under, cycle_under, room_of, room_for, places_for};
+ghost use Rattle.air_model.specs.Air.{Sent, sent_section, sections_of, tdt, tot, leads, CanBeTold};
+ghost use Rattle.cycle_laying.specs.Laying.{AreLaid, Grew, sections_under, cycle_under, told_with, sent_tot, tot_size, size_of, room_of, room_for, places_for};
 ghost use Rattle.section_codec.specs.SubTables.{IsFit, header_of};
 
 use crate::placed::Placed;
+use guide_model::Offset;
 use section_codec::{LongHeader, NumberedBody, SubTable, Tier3, is_eit, put_section};
+use si_base::{Bytes, put};
 use si_time::Moment;
-use time_tables::write_tdt;
+use std::alloc::{AllocError, Global};
+use time_tables::{write_tdt, write_tot};
 
 /// How many bytes the sections of these sub-tables have and how many sections there are, where these numbers fit.
 pub(crate) fn room_for(tables: &[SubTable]) -> Option<(usize, usize)>
@@ -36,28 +39,46 @@ fn room_of(sections: &[NumberedBody]) -> Option<usize>
     Some(bytes)
 }
 
-/// Lays the sections of a cycle of these sub-tables, each with its version, and at its place among them the TDT of this moment
-/// (EN 300 468, 5.2.5), behind those that are laid. It takes no memory.
+/// The written TOT of this moment and these offsets; there is none where there are no offsets (EN 300 468, 5.2.6).
+pub(crate) fn tot_of(
+    alloc: Global,
+    moment: Moment,
+    offsets: &[Offset],
+) -> Result<Option<Bytes>, AllocError>
+    requires moment { moment.0 < 65536 * 86400 }
+    requires offsets { CanBeTold offsets.now }
+    ensures sent { IfOk result (λ section. sent_tot section ≡ tot moment.0 offsets.now) }
+    ensures size { IfOk result (λ section. size_of section ≡ tot_size offsets.now) }
+{
+    if offsets.is_empty() {
+        return Ok(None);
+    }
+    Ok(Some(write_tot(alloc, moment, offsets)?))
+}
+
+/// Lays the sections of a cycle of these sub-tables, each with its version, and at their place among them the TDT of this moment
+/// (EN 300 468, 5.2.5) and a written TOT, where there is one, behind those that are laid. It takes no memory.
 pub(crate) fn lay_cycle(
     bytes: &mut Vec<u8>,
     placed: &mut Vec<Placed>,
     tables: &[SubTable],
     versions: &[u8],
     moment: Moment,
+    section: &Option<Bytes>,
 )
     requires fit { All IsFit tables.now }
     requires versions { All (λ v. v < 32) versions.now }
     requires moment { moment.0 < 65536 * 86400 }
-    requires room { vec_len bytes.old + (8 + room_for tables.now) ≤ vec_capacity bytes.old }
-    requires places { vec_len placed.old + (1 + places_for tables.now) ≤ vec_capacity placed.old }
+    requires room { vec_len bytes.old + (8 + size_of section.now + room_for tables.now) ≤ vec_capacity bytes.old }
+    requires places { vec_len placed.old + (2 + places_for tables.now) ≤ vec_capacity placed.old }
     ensures { (ss : List Sent) → AreLaid ss bytes.old.items placed.old.items
-        → AreLaid (ss ++ cycle_under versions.now tables.now moment.0) bytes.new.items placed.new.items }
+        → AreLaid (ss ++ cycle_under versions.now tables.now (told_with moment.0 section.now)) bytes.new.items placed.new.items }
 {
     let count = lead_count(tables);
     let (before, behind) = tables.split_at(count);
     let (early, late) = versions.split_at(count.min(versions.len()));
     lay_tables(bytes, placed, before, early);
-    lay_tdt(bytes, placed, moment);
+    lay_times(bytes, placed, moment, section);
     lay_tables(bytes, placed, behind, late);
 }
 
@@ -81,23 +102,50 @@ fn leads(table: &SubTable) -> bool
     matches!(table.tier, Tier3::Fast) && !is_eit(table.key.table)
 }
 
-fn lay_tdt(bytes: &mut Vec<u8>, placed: &mut Vec<Placed>, moment: Moment)
+// Lays the sections that tell the time.
+fn lay_times(bytes: &mut Vec<u8>, placed: &mut Vec<Placed>, moment: Moment, section: &Option<Bytes>)
     requires moment { moment.0 < 65536 * 86400 }
-    requires room { vec_len bytes.old + 8 ≤ vec_capacity bytes.old }
+    requires room { vec_len bytes.old + (8 + size_of section.now) ≤ vec_capacity bytes.old }
+    requires places { vec_len placed.old + 2 ≤ vec_capacity placed.old }
+    ensures laid { (ss : List Sent) → AreLaid ss bytes.old.items placed.old.items
+        → AreLaid (ss ++ told_with moment.0 section.now) bytes.new.items placed.new.items }
+    ensures bytes { Grew bytes.old bytes.new (8 + size_of section.now) }
+    ensures placed { Grew placed.old placed.new 2 }
+{
+    lay_bytes(bytes, placed, &write_tdt(moment));
+    lay_tot(bytes, placed, section);
+}
+
+fn lay_tot(bytes: &mut Vec<u8>, placed: &mut Vec<Placed>, section: &Option<Bytes>)
+    requires room { vec_len bytes.old + size_of section.now ≤ vec_capacity bytes.old }
     requires place { vec_len placed.old < vec_capacity placed.old }
     ensures laid { (ss : List Sent) → AreLaid ss bytes.old.items placed.old.items
-        → AreLaid (ss ++ tdt moment.0 ∷ []) bytes.new.items placed.new.items }
-    ensures bytes { Grew bytes.old bytes.new 8 }
+        → AreLaid (ss ++ sent_tot section.now) bytes.new.items placed.new.items }
+    ensures bytes { Grew bytes.old bytes.new (size_of section.now) }
+    ensures placed { Grew placed.old placed.new 1 }
+{
+    if let Some(section) = section {
+        lay_bytes(bytes, placed, section.as_slice());
+    }
+}
+
+// Lays a section that tells the time.
+fn lay_bytes(bytes: &mut Vec<u8>, placed: &mut Vec<Placed>, section: &[u8])
+    requires room { vec_len bytes.old + length section.now ≤ vec_capacity bytes.old }
+    requires place { vec_len placed.old < vec_capacity placed.old }
+    ensures laid { (ss : List Sent) → AreLaid ss bytes.old.items placed.old.items
+        → AreLaid (ss ++ record { pid = 0x14; bytes = section.now } ∷ []) bytes.new.items placed.new.items }
+    ensures bytes { Grew bytes.old bytes.new (length section.now) }
     ensures placed { Grew placed.old placed.new 1 }
 {
     let start = bytes.len();
-    let section = write_tdt(moment);
-    bytes.extend_from_slice(&section).unwrap();
+    put(bytes, section);
+    let len = section.len();
     placed
         .push(Placed {
             pid: 0x14,
             start,
-            len: 8,
+            len,
         })
         .unwrap();
 }

@@ -4,11 +4,12 @@ ghost use Rattle.std.specs.List.{AllByRecursion};
 ghost use Rattle.section_codec.specs.SubTables.{AreFit};
 ghost use Rattle.version_book.specs.Airings.{AiredTables, CycleForm};
 ghost use Rattle.version_book.specs.Book.{BookStandsFor, aired};
-ghost use Rattle.air_model.specs.Air.{at_places, cycle_sections};
-ghost use Rattle.cycle_laying.specs.Laying.{IsPlaced, sent_at, HaveRoom, order_under, room_for, places_for};
+ghost use Rattle.air_model.specs.Air.{at_places, cycle_sections, CanBeTold};
+ghost use Rattle.cycle_laying.specs.Laying.{IsPlaced, sent_at, HaveRoom, order_under, tot_size, room_for, places_for};
 
-use crate::laying::{lay_cycle, room_for};
+use crate::laying::{lay_cycle, room_for, tot_of};
 use crate::placed::Placed;
+use guide_model::Offset;
 use section_codec::{SubTable, Tables};
 use si_time::Moment;
 use std::alloc::{AllocError, Global};
@@ -33,35 +34,40 @@ impl LaidSections {
         }
     }
 
-    /// Empties the buffers and takes the memory for the sections of these sub-tables and for a TDT.
-    pub fn take_room(&mut self, tables: &[SubTable]) -> Result<(), AllocError>
-        ensures { OnOk result (HaveRoom tables.now self.new.bytes self.new.placed) }
+    /// Empties the buffers and takes the memory for the sections of these sub-tables, for a TDT, and for a TOT of these offsets.
+    pub fn take_room(&mut self, tables: &[SubTable], offsets: &[Offset]) -> Result<(), AllocError>
+        requires { CanBeTold offsets.now }
+        ensures { OnOk result (HaveRoom tables.now offsets.now self.new.bytes self.new.placed) }
     {
-        take_room(&mut self.bytes, &mut self.placed, tables)
+        take_room(&mut self.bytes, &mut self.placed, tables, offsets)
     }
 
-    /// Lays the sections of the cycle of one airing more: those of these sub-tables, with the versions that the book gives them, and the
-    /// TDT of this moment. A plan of these sub-tables (`plan_cycle`) names each by its place. It needs the room for them, a moment whose
+    /// Lays the sections of the cycle of one airing more: those of these sub-tables, with the versions that the book gives them, the TDT
+    /// of this moment, and its TOT where there are offsets. A plan of these sub-tables (`plan_cycle`) names each by its place. It needs the room for them, a moment whose
     /// day has 16 bits, and sub-tables that can be sent in one cycle. Where memory is wanting, the book stays as it was.
     pub fn lay(
         &mut self,
+        alloc: Global,
         book: &mut VersionBook,
         tables: &Tables,
         moment: Moment,
+        offsets: &[Offset],
     ) -> Result<(), AllocError>
-        requires room { HaveRoom tables.now.list self.old.bytes self.old.placed }
+        requires room { HaveRoom tables.now.list offsets.now self.old.bytes self.old.placed }
+        requires offsets { CanBeTold offsets.now }
         requires fit { AreFit tables.now.list }
         requires moment { moment.0 < 65536 * 86400 }
         ensures versions { OnOk result ((past : List AiredTables) (form : CycleForm) → BookStandsFor past book.old
             → BookStandsFor (past ++ aired tables.now.list moment.0 form ∷ []) book.new) }
         ensures sections { OnOk result ((past : List AiredTables) (quota : ℕ) → BookStandsFor past book.old
-            → map (sent_at self.new.bytes.items) (at_places self.new.placed.items (order_under tables.now.list quota))
-            ≡ cycle_sections past (aired tables.now.list moment.0 (record { quota = quota }))) }
+            → map (sent_at self.new.bytes.items) (at_places self.new.placed.items (order_under tables.now.list (record { quota = quota; offsets = offsets.now })))
+            ≡ cycle_sections past (aired tables.now.list moment.0 (record { quota = quota; offsets = offsets.now }))) }
         ensures placed { OnOk result (AllByRecursion (IsPlaced (length self.new.bytes.items)) self.new.placed.items) }
         ensures within { OnOk result ((quota : ℕ)
-            → AllByRecursion (λ at. at < length self.new.placed.items) (order_under tables.now.list quota)) }
+            → AllByRecursion (λ at. at < length self.new.placed.items) (order_under tables.now.list (record { quota = quota; offsets = offsets.now }))) }
         ensures memory { OnErr result (book.new ≡ book.old) }
     {
+        let section = tot_of(alloc, moment, offsets)?;
         let versions = book.assign(tables)?;
         lay_cycle(
             &mut self.bytes,
@@ -69,28 +75,44 @@ impl LaidSections {
             tables.list.as_slice(),
             versions.as_slice(),
             moment,
+            &section,
         );
         Ok(())
     }
 }
 
-// Empties the buffers and takes the memory for the sections of these sub-tables, and for a TDT: 8 bytes, and one place.
+// How many bytes the TOT of these offsets has.
+fn tot_size(offsets: &[Offset]) -> usize
+    requires { CanBeTold offsets.now }
+    ensures size { result ≡ tot_size offsets.now }
+    ensures small { result ≤ 224 }
+{
+    if offsets.is_empty() {
+        return 0;
+    }
+    16 + 13 * offsets.len()
+}
+
+// Empties the buffers and takes the memory for the sections of these sub-tables, for a TDT of 8 bytes and for a TOT: two places.
 fn take_room(
     bytes: &mut Vec<u8>,
     placed: &mut Vec<Placed>,
     tables: &[SubTable],
+    offsets: &[Offset],
 ) -> Result<(), AllocError>
+    requires { CanBeTold offsets.now }
     ensures bytes { bytes.new.items ≡ [] }
     ensures placed { placed.new.items ≡ [] }
-    ensures room { OnOk result (vec_len bytes.new + (8 + room_for tables.now) ≤ vec_capacity bytes.new) }
-    ensures places { OnOk result (vec_len placed.new + (1 + places_for tables.now) ≤ vec_capacity placed.new) }
+    ensures room { OnOk result (vec_len bytes.new + (8 + tot_size offsets.now + room_for tables.now) ≤ vec_capacity bytes.new) }
+    ensures places { OnOk result (vec_len placed.new + (2 + places_for tables.now) ≤ vec_capacity placed.new) }
 {
     bytes.clear();
     placed.clear();
     let Some((size, places)) = room_for(tables) else {
         return Err(AllocError);
     };
-    let (Some(size), Some(places)) = (size.checked_add(8), places.checked_add(1)) else {
+    let times = 8 + tot_size(offsets);
+    let (Some(size), Some(places)) = (size.checked_add(times), places.checked_add(2)) else {
         return Err(AllocError);
     };
     bytes.reserve(size)?;

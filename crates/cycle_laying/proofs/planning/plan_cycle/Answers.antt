@@ -7,5 +7,5 @@ use Rattle.cycle_laying.proofs.planning.plan_cycle.Goals as goal
 
 pub plan-requires : goal.plan-requires
 plan-requires c = record {
-  tiers = subst AreInTiers (sym (c.as_slice.ensures.value ∙ c.in_ok-put_weights.ensures ∙ ap (λ (l : List (Tier3 × ℕ)). l ++ weights_under c.args.tables.now) c.new-weights.ensures.items)) (in_tiers c.args.tables.now c.requires.ordered);
+  tiers = subst AreInTiers (sym (c.as_slice.ensures.value ∙ c.in_ok-put_weights.ensures ∙ ap (λ (l : List (Tier3 × ℕ)). l ++ weights_under c.args.tables.now c.args.offsets.now) c.new-weights.ensures.items)) (in_tiers c.args.tables.now c.args.offsets.now c.requires.fit.ordered);
 }
