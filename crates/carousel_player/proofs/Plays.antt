@@ -16,7 +16,8 @@ use Rattle.version_book.specs.Airings.{CycleForm, AiredTables, version_at}
 use Rattle.version_book.specs.Book.{BookStandsFor, aired}
 use Rattle.ts_packets.specs.Bytes.{Packet, HasFields, bytes_of_packet}
 use Rattle.ts_packets.specs.Counting.{StandFor}
-use Rattle.air_model.specs.Air.{Sent, Aired, air, airings_of, air_bytes, IsAirOf, sent_section, sections_of, table_sections, tdt, leads, before_tdt, behind_tdt, sections_once, weights_once, cycle_sections}
+use Rattle.guide_model.specs.declared.offset.Offset.{Offset}
+use Rattle.air_model.specs.Air.{Sent, Aired, air, airings_of, air_bytes, IsAirOf, sent_section, sections_of, table_sections, tot, times, leads, before_tdt, behind_tdt, sections_once, weights_once, cycle_sections}
 use Rattle.air_model.proofs.Planned.{all_at}
 use Rattle.cycle_plan.specs.Cycle.{cycle_of}
 use Rattle.cycle_plan.specs.Sections.{planned}
@@ -38,14 +39,22 @@ pids_sent : (f : SubTable → ℕ) (ts : List SubTable) → AllByRecursion IsFit
 pids_sent f [] fit = tt
 pids_sent f (t ∷ ts) fit = pids_of (f t) t t.sections (flat_map (λ (u : SubTable). sections_of (f u) u) ts) (let lt : t.key.pid < 8191 = fit.0.pid in omega (arith, lt)) (pids_sent f ts fit.1)
 
+pids_times : (form : CycleForm) (moment : ℕ) → AllByRecursion (λ (s : Sent). s.pid < 8192) (times form moment)
+pids_times form moment = (omega arith, go form.offsets)
+  where
+    go : (offsets : List Offset) → AllByRecursion (λ (s : Sent). s.pid < 8192) (tot moment offsets)
+    go [] = tt
+    go (o ∷ offsets) = (omega arith, tt)
+
 pids_cycle : (past : List AiredTables) (a : AiredTables) → All IsFit a.tables → AllByRecursion (λ (s : Sent). s.pid < 8192) (cycle_sections past a)
 pids_cycle past a fit =
     let n = prefix_len leads a.tables in
     let version : SubTable → ℕ = λ t. version_at t.key (past ++ a ∷ []) in
     let once : AllByRecursion (λ (s : Sent). s.pid < 8192) (sections_once past a) =
-    all_append (λ (s : Sent). s.pid < 8192) (table_sections (past ++ a ∷ []) (before_tdt a.tables)) (tdt a.moment ∷ table_sections (past ++ a ∷ []) (behind_tdt a.tables))
+    all_append (λ (s : Sent). s.pid < 8192) (table_sections (past ++ a ∷ []) (before_tdt a.tables)) (times a.form a.moment ++ table_sections (past ++ a ∷ []) (behind_tdt a.tables))
     (pids_sent version (before_tdt a.tables) (recursion_from_All IsFit (before_tdt a.tables) (All-take IsFit n a.tables fit)))
-    (omega arith, pids_sent version (behind_tdt a.tables) (recursion_from_All IsFit (behind_tdt a.tables) (All-drop IsFit n a.tables fit))) in
+    (all_append (λ (s : Sent). s.pid < 8192) (times a.form a.moment) (table_sections (past ++ a ∷ []) (behind_tdt a.tables)) (pids_times a.form a.moment)
+    (pids_sent version (behind_tdt a.tables) (recursion_from_All IsFit (behind_tdt a.tables) (All-drop IsFit n a.tables fit)))) in
     all_at (λ (s : Sent). s.pid < 8192) (sections_once past a) (cycle_of (planned (weights_once past a) a.form.quota)) once
 
 pub begins : (xs : List Aired) (ts : List SubTable) (moment : ℕ) (form : CycleForm) (old new : Playing) → AtEnd xs old → All IsFit ts → new.counters ≡ old.counters

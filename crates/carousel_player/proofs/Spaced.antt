@@ -26,13 +26,17 @@ use Rattle.cycle_plan.proofs.Spaced.{cycles_are_spaced, one_cycle_is_spaced}
 use Rattle.version_book.specs.Airings.{CycleForm, AiredTables, version_at}
 use Rattle.ts_packets.specs.Packets.{packets_of}
 use Rattle.ts_packets.specs.Bytes.{Packet}
-use Rattle.air_model.specs.Air.{Sent, Aired, sent_section, sections_of, table_sections, tdt, leads, before_tdt, behind_tdt, sections_once, cycle_sections, weight, table_weights, weights_once, air, airings_of}
+use Rattle.air_model.specs.Air.{Sent, Aired, sent_section, sections_of, table_sections, tdt, tot, times, CanBeTold, leads, before_tdt, behind_tdt, sections_once, cycle_sections, weight, table_weights, weights_once, air, airings_of}
 use Rattle.air_model.specs.Making.{each_dense, cycle_dense, AreMade}
 use Rattle.air_model.proofs.Counted.{length-counted}
 use Rattle.air_model.proofs.Dense.{once_some, eight}
+use Rattle.guide_model.specs.declared.offset.Offset.{Offset}
+use Rattle.time_tables.specs.LocalOffsets.{offsets_body}
+use Rattle.time_tables.proofs.Offsets.{length-offsets_body}
+use Rattle.time_tables.proofs.Loops.{length-tot_section}
 use Rattle.air_model.proofs.Airs.{air-push}
 use Rattle.air_model.proofs.Planned.{weights_each}
-use Rattle.cycle_laying.specs.Planning.{weights_in, weights_of, weights_under}
+use Rattle.cycle_laying.specs.Planning.{weights_in, weights_of, time_weights, weights_under}
 use Rattle.carousel_player.specs.Spacing.{plan_of, pid_at, length_at, starts_of, starts_of_two, AreStarts, RunsBeginAlone, CanBeSpaced, MadeAirsAreSpaced, MadeCyclesAreSpaced, MadeNeighboursAreSpaced}
 use Rattle.section_codec.specs.Section.{longest_body}
 use Rattle.section_codec.specs.Tables.{is_eit}
@@ -66,9 +70,12 @@ sizes_once : (past : List AiredTables) (a : AiredTables) → map (λ (w : Tier3 
 unfolding size_of
 sizes_once past a =
     let all = past ++ a ∷ [] in
-    map-both (λ (w : Tier3 × ℕ). w.1) (table_weights all (before_tdt a.tables)) (weight Fast (tdt a.moment) ∷ table_weights all (behind_tdt a.tables))
-    ∙ ap₂ (λ (x y : List ℕ). x ++ size_of (tdt a.moment) ∷ y) (sizes_tables all (before_tdt a.tables)) (sizes_tables all (behind_tdt a.tables))
-    ∙ sym (map-both size_of (table_sections all (before_tdt a.tables)) (tdt a.moment ∷ table_sections all (behind_tdt a.tables)))
+    let ts = times a.form a.moment in
+    let w = map-both (λ (w : Tier3 × ℕ). w.1) (map (weight Fast) ts) (table_weights all (behind_tdt a.tables)) in
+    let s = map-both size_of ts (table_sections all (behind_tdt a.tables)) in
+    map-both (λ (w : Tier3 × ℕ). w.1) (table_weights all (before_tdt a.tables)) (map (weight Fast) ts ++ table_weights all (behind_tdt a.tables))
+    ∙ ap₂ (λ (x y : List ℕ). x ++ y) (sizes_tables all (before_tdt a.tables)) (w ∙ ap₂ (λ (x y : List ℕ). x ++ y) (sizes_weighed Fast ts) (sizes_tables all (behind_tdt a.tables)) ∙ sym s)
+    ∙ sym (map-both size_of (table_sections all (before_tdt a.tables)) (ts ++ table_sections all (behind_tdt a.tables)))
 
 -- the PIDs and lengths that the starts are counted with are those of the sections
 are_of : (past : List AiredTables) (a : AiredTables) → AreOf (sections_once past a) (pid_at past a) (length_at past a)
@@ -98,18 +105,26 @@ small_tables [] fit = tt
 small_tables (t ∷ ts) fit =
     all_append (λ (w : Tier3 × ℕ). (1 ≤ w.1) × (w.1 ≤ 23)) (weights_in t) (weights_of ts) (small_table t t.sections (recursion_from_All _ t.sections fit.0.bodies)) (small_tables ts fit.1)
 
-small_under : (ts : List SubTable) → All IsFit ts → AllByRecursion (λ (w : Tier3 × ℕ). (1 ≤ w.1) × (w.1 ≤ 23)) (weights_under ts)
-small_under ts fit =
-    let n = prefix_len leads ts in
-    all_append (λ (w : Tier3 × ℕ). (1 ≤ w.1) × (w.1 ≤ 23)) (weights_of (before_tdt ts)) ((Fast, 1) ∷ weights_of (behind_tdt ts))
-    (small_tables (before_tdt ts) (recursion_from_All IsFit (before_tdt ts) (All-take IsFit n ts fit)))
-    ((omega arith, omega arith), small_tables (behind_tdt ts) (recursion_from_All IsFit (behind_tdt ts) (All-drop IsFit n ts fit)))
+small_times : (offsets : List Offset) → CanBeTold offsets → AllByRecursion (λ (w : Tier3 × ℕ). (1 ≤ w.1) × (w.1 ≤ 23)) (time_weights offsets)
+small_times [] can = ((omega arith, omega arith), tt)
+small_times (o ∷ offsets) can =
+    let body = length-offsets_body (o ∷ offsets) can.each in
+    let few = can.few in
+    ((omega arith, omega arith), ((omega (arith, body, few), omega (arith, body, few)), tt))
 
-within_limits : (past : List AiredTables) (a : AiredTables) → AreFit a.tables → 1 ≤ a.form.quota → IsWithinLimits (plan_of past a)
-within_limits past a fit quota =
+small_under : (ts : List SubTable) (offsets : List Offset) → All IsFit ts → CanBeTold offsets → AllByRecursion (λ (w : Tier3 × ℕ). (1 ≤ w.1) × (w.1 ≤ 23)) (weights_under ts offsets)
+small_under ts offsets fit can =
+    let n = prefix_len leads ts in
+    all_append (λ (w : Tier3 × ℕ). (1 ≤ w.1) × (w.1 ≤ 23)) (weights_of (before_tdt ts)) (time_weights offsets ++ weights_of (behind_tdt ts))
+    (small_tables (before_tdt ts) (recursion_from_All IsFit (before_tdt ts) (All-take IsFit n ts fit)))
+    (all_append (λ (w : Tier3 × ℕ). (1 ≤ w.1) × (w.1 ≤ 23)) (time_weights offsets) (weights_of (behind_tdt ts)) (small_times offsets can)
+    (small_tables (behind_tdt ts) (recursion_from_All IsFit (behind_tdt ts) (All-drop IsFit n ts fit))))
+
+within_limits : (past : List AiredTables) (a : AiredTables) → AreFit a.tables → 1 ≤ a.form.quota → CanBeTold a.form.offsets → IsWithinLimits (plan_of past a)
+within_limits past a fit quota can =
     let ws = weights_once past a in
     let small : AllByRecursion (λ (w : Tier3 × ℕ). (1 ≤ w.1) × (w.1 ≤ 23)) ws =
-    subst (AllByRecursion (λ (w : Tier3 × ℕ). (1 ≤ w.1) × (w.1 ≤ 23))) (weights_given past a.moment a.form a.tables) (small_under a.tables fit.each) in
+    subst (AllByRecursion (λ (w : Tier3 × ℕ). (1 ≤ w.1) × (w.1 ≤ 23))) (weights_given past a.moment a.form a.tables) (small_under a.tables a.form.offsets fit.each can) in
     record {
       some_quota = quota;
       sized = λ i l. (
@@ -122,7 +137,7 @@ within_limits past a fit quota =
     }
 
 tiers_once : (past : List AiredTables) (a : AiredTables) → AreFit a.tables → AreInTiers (weights_once past a)
-tiers_once past a fit = subst AreInTiers (weights_given past a.moment a.form a.tables) (in_tiers a.tables fit.ordered)
+tiers_once past a fit = subst AreInTiers (weights_given past a.moment a.form a.tables) (in_tiers a.tables a.form.offsets fit.ordered)
 
 -- ---- each run begins with a packet of its own
 
@@ -159,14 +174,20 @@ apart_tables q airings (t ∷ ts) h =
     let v = version_at t.key airings in
     apart-append q (map (weight t.tier) (sections_of v t)) (table_weights airings ts) (sections_of v t) (table_sections airings ts) (apart_table q v t t.sections h.0) (apart_tables q airings ts h.1)
 
+apart_fast : (q : ℕ) (ss : List Sent) → Apart q (map (weight Fast) ss) ss
+apart_fast q [] = tt
+apart_fast q (s ∷ ss) = (inl refl, apart_fast q ss)
+
 apart_once : (q : ℕ) (past : List AiredTables) (a : AiredTables) → All (IsApart q) a.tables → Apart q (weights_once past a) (sections_once past a)
 apart_once q past a h =
     let all = past ++ a ∷ [] in
     let n = prefix_len leads a.tables in
-    apart-append q (table_weights all (before_tdt a.tables)) (weight Fast (tdt a.moment) ∷ table_weights all (behind_tdt a.tables))
-    (table_sections all (before_tdt a.tables)) (tdt a.moment ∷ table_sections all (behind_tdt a.tables))
+    let ts = times a.form a.moment in
+    apart-append q (table_weights all (before_tdt a.tables)) (map (weight Fast) ts ++ table_weights all (behind_tdt a.tables))
+    (table_sections all (before_tdt a.tables)) (ts ++ table_sections all (behind_tdt a.tables))
     (apart_tables q all (before_tdt a.tables) (recursion_from_All (IsApart q) (before_tdt a.tables) (All-take (IsApart q) n a.tables h)))
-    (inl refl, apart_tables q all (behind_tdt a.tables) (recursion_from_All (IsApart q) (behind_tdt a.tables) (All-drop (IsApart q) n a.tables h)))
+    (apart-append q (map (weight Fast) ts) (table_weights all (behind_tdt a.tables)) ts (table_sections all (behind_tdt a.tables)) (apart_fast q ts)
+    (apart_tables q all (behind_tdt a.tables) (recursion_from_All (IsApart q) (behind_tdt a.tables) (All-drop (IsApart q) n a.tables h))))
 
 counted_one : (b : Bool) (n : ℕ) → b ≡ true → cond b 1 0 + n ≡ suc n
 counted_one b n e = ap (λ (x : Bool). cond x 1 0 + n) e ∙ (let f : 1 + n ≡ suc n = omega arith in f)
@@ -225,7 +246,7 @@ first_pid past a first others are lead some = ap (λ (l : List Sent). slice_inde
     v = version_at first.key all
 
     more : List Sent
-    more = table_sections all (before_tdt others) ++ tdt a.moment ∷ table_sections all (behind_tdt a.tables)
+    more = table_sections all (before_tdt others) ++ (times a.form a.moment ++ table_sections all (behind_tdt a.tables))
 
     led : before_tdt (first ∷ others) ≡ first ∷ before_tdt others
     led =
@@ -234,9 +255,9 @@ first_pid past a first others are lead some = ap (λ (l : List Sent). slice_inde
 
     front : sections_once past a ≡ sections_of v first ++ more
     front =
-        ap (λ (ts : List SubTable). table_sections all (before_tdt ts) ++ tdt a.moment ∷ table_sections all (behind_tdt a.tables)) are
-        ∙ ap (λ (ts : List SubTable). table_sections all ts ++ tdt a.moment ∷ table_sections all (behind_tdt a.tables)) led
-        ∙ append_assoc (sections_of v first) (table_sections all (before_tdt others)) (tdt a.moment ∷ table_sections all (behind_tdt a.tables))
+        ap (λ (ts : List SubTable). table_sections all (before_tdt ts) ++ (times a.form a.moment ++ table_sections all (behind_tdt a.tables))) are
+        ∙ ap (λ (ts : List SubTable). table_sections all ts ++ (times a.form a.moment ++ table_sections all (behind_tdt a.tables))) led
+        ∙ append_assoc (sections_of v first) (table_sections all (before_tdt others)) (times a.form a.moment ++ table_sections all (behind_tdt a.tables))
 
     at : (ss : Content) → 0 < length ss → slice_index (map (λ (s : Sent). s.pid) (map (sent_section v first) ss ++ more)) 0 ≡ first.key.pid
     at [] lt = absurd (omega (arith, lt))
@@ -304,32 +325,58 @@ lengths_tables airings (t ∷ ts) =
     let v = version_at t.key airings in
     map-append (λ (s : Sent). length s.bytes) (sections_of v t) (table_sections airings ts) ∙ ap₂ (λ (x y : List ℕ). x ++ y) (lengths_section v t t.sections) (lengths_tables airings ts)
 
-pids_given : (past : List AiredTables) (a : AiredTables) → map (λ (s : Sent). s.pid) (sections_once past a) ≡ pids_of (before_tdt a.tables) ++ 20 ∷ pids_of (behind_tdt a.tables)
+-- those that tell the time
+abbrev time_pids : List Offset → List ℕ
+time_pids [] = 20 ∷ []
+time_pids (o ∷ offsets) = 20 ∷ 20 ∷ []
+
+abbrev time_lengths : List Offset → List ℕ
+time_lengths [] = 8 ∷ []
+time_lengths (o ∷ offsets) = 8 ∷ (16 + length (offsets_body (o ∷ offsets))) ∷ []
+
+pids_times : (form : CycleForm) (moment : ℕ) → map (λ (s : Sent). s.pid) (times form moment) ≡ time_pids form.offsets
+pids_times form moment = go form.offsets
+  where
+    go : (offsets : List Offset) → 20 ∷ map (λ (s : Sent). s.pid) (tot moment offsets) ≡ time_pids offsets
+    go [] = refl
+    go (o ∷ offsets) = refl
+
+lengths_times : (form : CycleForm) (moment : ℕ) → map (λ (s : Sent). length s.bytes) (times form moment) ≡ time_lengths form.offsets
+lengths_times form moment = go form.offsets
+  where
+    go : (offsets : List Offset) → length (tdt moment).bytes ∷ map (λ (s : Sent). length s.bytes) (tot moment offsets) ≡ time_lengths offsets
+    go [] = ap (λ (n : ℕ). n ∷ []) (eight moment)
+    go (o ∷ offsets) = ap₂ (λ (n m : ℕ). n ∷ m ∷ []) (eight moment) (length-tot_section moment (o ∷ offsets))
+
+pids_given : (past : List AiredTables) (a : AiredTables) → map (λ (s : Sent). s.pid) (sections_once past a) ≡ pids_of (before_tdt a.tables) ++ (time_pids a.form.offsets ++ pids_of (behind_tdt a.tables))
 pids_given past a =
     let all = past ++ a ∷ [] in
-    map-append (λ (s : Sent). s.pid) (table_sections all (before_tdt a.tables)) (tdt a.moment ∷ table_sections all (behind_tdt a.tables))
-    ∙ ap₂ (λ (x y : List ℕ). x ++ 20 ∷ y) (pids_tables all (before_tdt a.tables)) (pids_tables all (behind_tdt a.tables))
+    let ts = times a.form a.moment in
+    map-append (λ (s : Sent). s.pid) (table_sections all (before_tdt a.tables)) (ts ++ table_sections all (behind_tdt a.tables))
+    ∙ ap₂ (λ (x y : List ℕ). x ++ y) (pids_tables all (before_tdt a.tables))
+    (map-append (λ (s : Sent). s.pid) ts (table_sections all (behind_tdt a.tables)) ∙ ap₂ (λ (x y : List ℕ). x ++ y) (pids_times a.form a.moment) (pids_tables all (behind_tdt a.tables)))
 
-lengths_given : (past : List AiredTables) (a : AiredTables) → map (λ (s : Sent). length s.bytes) (sections_once past a) ≡ lengths_of (before_tdt a.tables) ++ 8 ∷ lengths_of (behind_tdt a.tables)
+lengths_given : (past : List AiredTables) (a : AiredTables) → map (λ (s : Sent). length s.bytes) (sections_once past a) ≡ lengths_of (before_tdt a.tables) ++ (time_lengths a.form.offsets ++ lengths_of (behind_tdt a.tables))
 lengths_given past a =
     let all = past ++ a ∷ [] in
-    map-append (λ (s : Sent). length s.bytes) (table_sections all (before_tdt a.tables)) (tdt a.moment ∷ table_sections all (behind_tdt a.tables))
-    ∙ ap (λ (n : ℕ). map (λ (s : Sent). length s.bytes) (table_sections all (before_tdt a.tables)) ++ n ∷ map (λ (s : Sent). length s.bytes) (table_sections all (behind_tdt a.tables))) (eight a.moment)
-    ∙ ap₂ (λ (x y : List ℕ). x ++ 8 ∷ y) (lengths_tables all (before_tdt a.tables)) (lengths_tables all (behind_tdt a.tables))
+    let ts = times a.form a.moment in
+    map-append (λ (s : Sent). length s.bytes) (table_sections all (before_tdt a.tables)) (ts ++ table_sections all (behind_tdt a.tables))
+    ∙ ap₂ (λ (x y : List ℕ). x ++ y) (lengths_tables all (before_tdt a.tables))
+    (map-append (λ (s : Sent). length s.bytes) ts (table_sections all (behind_tdt a.tables)) ∙ ap₂ (λ (x y : List ℕ). x ++ y) (lengths_times a.form a.moment) (lengths_tables all (behind_tdt a.tables)))
 
 same_plan : (past later : List AiredTables) (a b : AiredTables) → b.tables ≡ a.tables → b.form ≡ a.form → plan_of later b ≡ plan_of past a
 same_plan past later a b tables form =
     ap₂ planned
-    (sym (weights_given later b.moment b.form b.tables) ∙ ap weights_under tables ∙ weights_given past a.moment a.form a.tables)
+    (sym (weights_given later b.moment b.form b.tables) ∙ ap₂ (λ (ts : List SubTable) (f : CycleForm). weights_under ts f.offsets) tables form ∙ weights_given past a.moment a.form a.tables)
     (ap (λ (f : CycleForm). f.quota) form)
 
-same_pids : (past later : List AiredTables) (a b : AiredTables) → b.tables ≡ a.tables → pid_at later b ≡ pid_at past a
-same_pids past later a b tables =
-    ap slice_index (pids_given later b ∙ ap (λ (ts : List SubTable). pids_of (before_tdt ts) ++ 20 ∷ pids_of (behind_tdt ts)) tables ∙ sym (pids_given past a))
+same_pids : (past later : List AiredTables) (a b : AiredTables) → b.tables ≡ a.tables → b.form ≡ a.form → pid_at later b ≡ pid_at past a
+same_pids past later a b tables form =
+    ap slice_index (pids_given later b ∙ ap₂ (λ (ts : List SubTable) (f : CycleForm). pids_of (before_tdt ts) ++ (time_pids f.offsets ++ pids_of (behind_tdt ts))) tables form ∙ sym (pids_given past a))
 
-same_lengths : (past later : List AiredTables) (a b : AiredTables) → b.tables ≡ a.tables → length_at later b ≡ length_at past a
-same_lengths past later a b tables =
-    ap slice_index (lengths_given later b ∙ ap (λ (ts : List SubTable). lengths_of (before_tdt ts) ++ 8 ∷ lengths_of (behind_tdt ts)) tables ∙ sym (lengths_given past a))
+same_lengths : (past later : List AiredTables) (a b : AiredTables) → b.tables ≡ a.tables → b.form ≡ a.form → length_at later b ≡ length_at past a
+same_lengths past later a b tables form =
+    ap slice_index (lengths_given later b ∙ ap₂ (λ (ts : List SubTable) (f : CycleForm). lengths_of (before_tdt ts) ++ (time_lengths f.offsets ++ lengths_of (behind_tdt ts))) tables form ∙ sym (lengths_given past a))
 
 made_at : (front before : List Aired) (x : Aired) (after : List Aired) → AreMade front (before ++ x ∷ after) → x.packets ≡ cycle_dense (airings_of (front ++ before)) (air (front ++ before)) x.airing
 made_at front [] x after made = subst (λ (l : List Aired). x.packets ≡ cycle_dense (airings_of l) (air l) x.airing) (sym (append-nil front)) made.0
@@ -354,7 +401,7 @@ made_cycles_are_spaced before x after made can =
       tiers = tiers_once past x.airing can.fit;
       starts = subst (λ (l : List Packet). AreStarts l (sections_once past x.airing) (starts_of n past x.airing)) (sym parts) (cycle_along before x after).starts;
       spaced = subst (AreSpaced p) (append-nil (starts_of n past x.airing))
-          (one_cycle_is_spaced p (within_limits past x.airing can.fit can.quota) (pid_at past x.airing) (length_at past x.airing) (packed_so past x.airing can) n);
+          (one_cycle_is_spaced p (within_limits past x.airing can.fit can.quota can.offsets) (pid_at past x.airing) (length_at past x.airing) (packed_so past x.airing can) n);
     }
 
 pub made_neighbours_are_spaced : MadeNeighboursAreSpaced
@@ -376,8 +423,8 @@ made_neighbours_are_spaced before x y after made can tables form =
     ∙ ap (λ (l : List Start). starts_dense pid len (begun_at n) order ++ l) (append-nil (starts_dense pid len (begun_at m) order))
     ∙ ap (λ (q : Planned). starts_dense pid len (begun_at n) order ++ starts_dense pid len (begun_at m) (cycle_of q)) (sym (same_plan past later x.airing y.airing tables form))
     ∙ ap₂ (λ (f g : ℕ → ℕ). starts_dense pid len (begun_at n) order ++ starts_dense f g (begun_at m) (cycle_of (plan_of later y.airing)))
-    (sym (same_pids past later x.airing y.airing tables)) (sym (same_lengths past later x.airing y.airing tables)) in
-    subst (AreSpaced p) starts (cycles_are_spaced p (within_limits past x.airing can.fit can.quota) pid len (packed_so past x.airing can) n)
+    (sym (same_pids past later x.airing y.airing tables form)) (sym (same_lengths past later x.airing y.airing tables form)) in
+    subst (AreSpaced p) starts (cycles_are_spaced p (within_limits past x.airing can.fit can.quota can.offsets) pid len (packed_so past x.airing can) n)
 
 pub made_airs_are_spaced : MadeAirsAreSpaced
 made_airs_are_spaced form xs made all = record {

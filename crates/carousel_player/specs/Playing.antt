@@ -12,16 +12,12 @@ use Rattle.air_model.specs.Making.{counted, cycle_dense}
 use Rattle.si_causes.specs.Causes.{AppendsFront}
 
 -- what contracts see of a player: its version book, its counters, the packets of the cycle that are still to come, not yet counted,
--- and the quota of its cycles
+-- and the form of its cycles
 pub record Playing : Type 0 where
   pub book : GivenVersions
   pub counters : List (Option ℕ)
   pub left : List Packet
-  pub quota : ℕ
-
--- the form of its cycles
-abbrev pub form_of : Playing → CycleForm
-form_of player = record { quota = player.quota }
+  pub form : CycleForm
 
 -- its versions stand for the airings of xs, and its counters for these packets
 pub record HasSent (xs : List Aired) (sent : List Packet) (player : Playing) : Type 0 where

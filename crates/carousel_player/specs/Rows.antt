@@ -19,7 +19,7 @@ abbrev airing : AiredTables
 airing = record {
   tables = of_sections 0x50 Near (record { number = 0; body = [] } ∷ []) ∷ of_sections 0x58 Far (record { number = 0; body = [] } ∷ record { number = 8; body = [] } ∷ []) ∷ [];
   moment = 4257233100;
-  form = record { quota = 3 };
+  form = record { quota = 3; offsets = [] };
 }
 
 -- section 0 is the TDT

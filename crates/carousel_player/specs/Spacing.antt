@@ -10,7 +10,7 @@ use Rattle.cycle_plan.specs.Spacing.{AreSpaced}
 use Rattle.version_book.specs.Airings.{AiredTables, CycleForm}
 use Rattle.ts_packets.specs.Packets.{joined, piece_of}
 use Rattle.ts_packets.specs.Bytes.{Packet}
-use Rattle.air_model.specs.Air.{Sent, Aired, leads, sections_once, weights_once, air, airings_of}
+use Rattle.air_model.specs.Air.{Sent, Aired, CanBeTold, leads, sections_once, weights_once, air, airings_of}
 use Rattle.air_model.specs.Making.{AreMade}
 
 -- what is planned of an airing behind others
@@ -62,11 +62,12 @@ pub record RunsBeginAlone (tables : List SubTable) : Type 0 where
   pub leads : leads first ≡ true
   pub apart : AllByRecursion (λ (t : SubTable). (is_fast t.tier ≡ true) ⊎ (t.key.pid ≡ first.key.pid → Prim.⊥)) others
 
--- An airing whose sub-tables can be sent so, in a cycle with a quota.
+-- An airing whose sub-tables can be sent so, in a cycle with a quota, with offsets that can be sent.
 pub record CanBeSpaced (a : AiredTables) : Type 0 where
   pub fit : AreFit a.tables
   pub alone : RunsBeginAlone a.tables
   pub quota : 1 ≤ a.form.quota
+  pub offsets : CanBeTold a.form.offsets
 
 -- So is each cycle of an air that is made,
 abbrev pub MadeCyclesAreSpaced : Type 0

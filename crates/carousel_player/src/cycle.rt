@@ -2,7 +2,7 @@
 ghost use Rattle.std.specs.Prelude.{◌≡◌, ◌+◌, ◌*◌, ◌≤◌, ◌<◌, [], ◌∷◌, ◌++◌, ◌==◌, List, ℕ, length, map, take, drop, Some, slice_get, vec_len, vec_capacity, OnOk, OnErr};
 ghost use Rattle.version_book.specs.Airings.{AiredTables, CycleForm};
 ghost use Rattle.version_book.specs.Book.{BookStandsFor, aired};
-ghost use Rattle.air_model.specs.Air.{cycle_sections};
+ghost use Rattle.air_model.specs.Air.{cycle_sections, CanBeTold};
 ghost use Rattle.air_model.specs.Making.{each_dense};
 ghost use Rattle.carousel_player.specs.Sending.{PutsFirst};
 ghost use Rattle.section_codec.specs.SubTables.{AreFit};
@@ -10,6 +10,7 @@ ghost use Rattle.section_codec.specs.SubTables.{AreFit};
 use crate::packing::{Progress, fill_packet};
 use cycle_laying::{LaidSections, plan_cycle};
 use cycle_plan::CyclePlan;
+use guide_model::Offset;
 use section_codec::Tables;
 use si_time::Moment;
 use std::alloc::{AllocError, Global};
@@ -60,31 +61,33 @@ impl Cycle {
         self.progress.at.is_none()
     }
 
-    /// Begins the cycle of these sub-tables, with the versions that the book gives them, and the TDT of this moment, in the order
-    /// of this quota. All memory is taken first.
+    /// Begins the cycle of these sub-tables, with the versions that the book gives them, and the TDT of this moment, and its TOT where
+    /// there are offsets, in the order of this quota. All memory is taken first.
     pub(crate) fn begin(
         &mut self,
         book: &mut VersionBook,
         tables: &Tables,
         quota: u32,
+        offsets: &[Offset],
         moment: Moment,
     ) -> Result<(), AllocError>
         requires ended { self.old ≡ [] }
         requires fit { AreFit tables.now.list }
+        requires offsets { CanBeTold offsets.now }
         requires moment { moment.0 < 65536 * 86400 }
         ensures versions { OnOk result ((past : List AiredTables) (form : CycleForm) → BookStandsFor past book.old
             → BookStandsFor (past ++ aired tables.now.list moment.0 form ∷ []) book.new) }
         ensures begun { OnOk result ((past : List AiredTables) → BookStandsFor past book.old
-            → self.new ≡ each_dense (cycle_sections past (aired tables.now.list moment.0 (record { quota = quota })))) }
+            → self.new ≡ each_dense (cycle_sections past (aired tables.now.list moment.0 (record { quota = quota; offsets = offsets.now })))) }
         ensures ended { OnErr result (self.new ≡ self.old) }
         ensures kept { OnErr result (book.new ≡ book.old) }
     {
         self.progress.at = None;
         self.progress.from = 0;
         let list = tables.list.as_slice();
-        self.laid.take_room(list)?;
-        let mut plan = plan_cycle(self.alloc, list, quota)?;
-        self.laid.lay(book, tables, moment)?;
+        self.laid.take_room(list, offsets)?;
+        let mut plan = plan_cycle(self.alloc, list, quota, offsets)?;
+        self.laid.lay(self.alloc, book, tables, moment, offsets)?;
         self.progress.at = plan.next();
         self.progress.plan = plan;
         Ok(())

@@ -8,10 +8,12 @@ ghost use Rattle.section_codec.specs.declared.table.Key.{Key};
 ghost use Rattle.version_book.specs.Book.{AreKeyVersionsOf, aired, given_in, given_entries};
 ghost use Rattle.air_model.specs.Air.{Aired};
 ghost use Rattle.section_codec.specs.SubTables.{AreFit};
-ghost use Rattle.carousel_player.specs.Playing.{AtEnd, AreKeptOf, Within, Begins, GaveUp, form_of};
+ghost use Rattle.air_model.specs.Air.{CanBeTold};
+ghost use Rattle.carousel_player.specs.Playing.{AtEnd, AreKeptOf, Within, Begins, GaveUp};
 
 use crate::cycle::Cycle;
 use crate::sending::{BATCH, fill};
+use guide_model::Offsets;
 use section_codec::Tables;
 use si_causes::{Failed, Sink, write_all};
 use si_time::Moment;
@@ -29,24 +31,30 @@ pub struct Player {
     cycle: Cycle,
     buffer: [u8; BATCH],
     quota: u32,
+    offsets: Offsets,
 }
 
 impl Model for Player {
+    ghost use Rattle.air_model.specs.Air.{CanBeTold};
     ghost use Rattle.carousel_player.specs.Playing.{Playing};
 
     ghost Value = { Playing };
 
-    ghost view = { λ p. record { book = p.book; counters = p.counters; left = p.cycle; quota = p.quota } };
+    ghost view = { λ p. record { book = p.book; counters = p.counters; left = p.cycle; form = record { quota = p.quota; offsets = p.offsets } } };
+
+    ghost invariant = { λ p. CanBeTold p.offsets };
 }
 
 impl Player {
     /// A player that has handed out nothing and is at its end. The quota, 1 to 10,000, is the number of packets of a run between
-    /// two sendings of the sections of tier Fast (`cycle_plan`). It takes no memory.
-    pub fn open(alloc: Global, quota: u32) -> Player
+    /// two sendings of the sections of tier Fast (`cycle_plan`). The offsets, at most 16, are sent as the TOT of each cycle; where there
+    /// are none, no TOT is sent. It takes no memory.
+    pub fn open(alloc: Global, quota: u32, offsets: Offsets) -> Player
         requires some { 1 ≤ quota }
         requires most { quota ≤ 10000 }
+        requires offsets { CanBeTold offsets }
         ensures at_end { AtEnd [] result }
-        ensures quota { result.quota ≡ quota }
+        ensures form { result.form ≡ record { quota = quota; offsets = offsets } }
     {
         Player {
             book: VersionBook::open(alloc),
@@ -54,22 +62,25 @@ impl Player {
             cycle: Cycle::ended(alloc),
             buffer: [0; BATCH],
             quota,
+            offsets,
         }
     }
 
     /// A player at its end that goes on from these versions, each below 32, and counters, each
     /// below 16 and of a PID below 8,192: it stands for each air of which they are what is kept. A
     /// PID whose counter is 0 had 16, 32, .. packets, and one that is not named had none (ISO/IEC
-    /// 13818-1, 2.4.3.3 and 2.4.4.5). The quota is as for `open`. AllocError comes where memory is
+    /// 13818-1, 2.4.3.3 and 2.4.4.5). The quota and the offsets are as for `open`. AllocError comes where memory is
     /// wanting.
     pub fn resume(
         alloc: Global,
         quota: u32,
+        offsets: Offsets,
         kept: KeyVersions,
         counters: &[PidCounter],
     ) -> Result<Player, AllocError>
         requires some { 1 ≤ quota }
         requires most { quota ≤ 10000 }
+        requires offsets { CanBeTold offsets }
         requires small { All (λ k. k.version < 32) kept }
         requires counters { All IsPidCounter counters.now }
         ensures stands { IfOk result (λ player.
@@ -79,7 +90,7 @@ impl Player {
         ensures named { IfOk result (λ player. (pid : ℕ) → pid < 8192
             → slice_index_or player.counters pid None ≡ counter_in pid counters.now) }
         ensures ended { IfOk result (λ player. player.left ≡ []) }
-        ensures quota { IfOk result (λ player. player.quota ≡ quota) }
+        ensures form { IfOk result (λ player. player.form ≡ record { quota = quota; offsets = offsets }) }
     {
         Ok(Player {
             book: VersionBook::of(alloc, kept)?,
@@ -87,6 +98,7 @@ impl Player {
             cycle: Cycle::ended(alloc),
             buffer: [0; BATCH],
             quota,
+            offsets,
         })
     }
 
@@ -107,8 +119,9 @@ impl Player {
     }
 
     /// Begins the cycle of one airing more: of these sub-tables, of the publication with this
-    /// number, at the moment of the swap (EN 300 468, 5.1.1), in a cycle of the player's quota. The
-    /// moment is sent as the cycle's TDT (EN 300 468, 5.2.5); no packet tells the number. Each
+    /// number, at the moment of the swap (EN 300 468, 5.1.1), in a cycle of the player's form. The
+    /// moment is sent as the cycle's TDT (EN 300 468, 5.2.5), and where there are offsets with these as
+    /// its TOT (5.2.6); no packet tells the number. Each
     /// section is laid once, and is sent as often as its tier and the quota say (`cycle_plan`);
     /// sections of one PID that follow each other share packets (ISO/IEC 13818-1, 2.4.4). It needs
     /// a player at its end, a moment whose day has 16 bits, and sub-tables whose keys differ, in
@@ -120,12 +133,18 @@ impl Player {
         requires at_end { self.old.left ≡ [] }
         requires fit { AreFit tables.list }
         requires moment { moment.0 < 65536 * 86400 }
-        ensures begun { (xs : List Aired) → AtEnd xs self.old → OnOk result (Begins xs (aired tables.list moment.0 (form_of self.old)) self.new) }
-        ensures quota { self.new.quota ≡ self.old.quota }
+        ensures begun { (xs : List Aired) → AtEnd xs self.old → OnOk result (Begins xs (aired tables.list moment.0 self.old.form) self.new) }
+        ensures form { self.new.form ≡ self.old.form }
         ensures memory { OnErr result (self.new ≡ self.old) }
     {
         let quota = self.quota;
-        self.cycle.begin(&mut self.book, &tables, quota, moment)
+        self.cycle.begin(
+            &mut self.book,
+            &tables,
+            quota,
+            self.offsets.as_slice(),
+            moment,
+        )
     }
 
     /// Whether the cycle has ended: nothing of it is to come.
@@ -141,7 +160,7 @@ impl Player {
             → (result ≡ Some (record { 0 = bytes_of_packet p })) × Within xs x rest self.new }
         ensures none { IsNone result ↔ (self.old.left ≡ []) }
         ensures kept { IfNone result (self.new ≡ self.old) }
-        ensures quota { self.new.quota ≡ self.old.quota }
+        ensures form { self.new.form ≡ self.old.form }
     {
         if self.cycle.is_ended() {
             return None;
@@ -164,7 +183,7 @@ impl Player {
         ensures ended { OnOk result (self.new.left ≡ []) }
         ensures cause { HasCause (A.faults sink.old) (A.faults sink.new) result }
         ensures same { A.same sink.old sink.new }
-        ensures quota { self.new.quota ≡ self.old.quota }
+        ensures form { self.new.form ≡ self.old.form }
     {
         'batches: while !self.cycle.is_ended() {
             let count = fill(&mut self.cycle, &mut self.counters, &mut self.buffer);

@@ -12,10 +12,10 @@ pub invariant_of-self-2 : goal.invariant_of-self-2
 invariant_of-self-2 c =
     let bytes = c.lay.new.self.bytes.items in
     let placed = c.lay.new.self.placed.items in
-    let order = order_under c.args.tables.now.list c.args.quota in
+    let order = order_under c.args.tables.now.list (record { quota = c.args.quota; offsets = c.args.offsets.now }) in
     let goes_on : order_left c.next-self-inside.result c.next-self-inside.new.self ≡ order =
     order_goes_on c.next-self-inside.result c.in_ok-plan.plan c.next-self-inside.new.self c.next-self-inside.ensures.some c.next-self-inside.ensures.none
-    ∙ c.in_ok-plan.ensures ∙ ap (λ (l : List SubTable). order_under l c.args.quota) c.as_slice-list.ensures in
+    ∙ c.in_ok-plan.ensures ∙ ap (λ (l : List SubTable). order_under l (record { quota = c.args.quota; offsets = c.args.offsets.now })) c.as_slice-list.ensures in
     subst (λ (o : List ℕ). IsUnderWay (length bytes) placed o 0) (sym goes_on)
     (can_begin (length bytes) placed order (c.in_ok-lay.ensures.within c.args.quota) (all_at (IsPlaced (length bytes)) placed order c.in_ok-lay.ensures.placed))
 
@@ -23,8 +23,8 @@ pub returns-clause-begun : goal.returns-clause-begun
 returns-clause-begun c past stands =
     let bytes = c.lay.new.self.bytes.items in
     let placed = c.lay.new.self.placed.items in
-    let order = order_under c.args.tables.now.list c.args.quota in
+    let order = order_under c.args.tables.now.list (record { quota = c.args.quota; offsets = c.args.offsets.now }) in
     let goes_on : order_left c.next-self-inside.result c.next-self-inside.new.self ≡ order =
     order_goes_on c.next-self-inside.result c.in_ok-plan.plan c.next-self-inside.new.self c.next-self-inside.ensures.some c.next-self-inside.ensures.none
-    ∙ c.in_ok-plan.ensures ∙ ap (λ (l : List SubTable). order_under l c.args.quota) c.as_slice-list.ensures in
+    ∙ c.in_ok-plan.ensures ∙ ap (λ (l : List SubTable). order_under l (record { quota = c.args.quota; offsets = c.args.offsets.now })) c.as_slice-list.ensures in
     ap (λ (o : List ℕ). each_dense (map (sent_at bytes) (at_places placed o))) goes_on ∙ ap each_dense (c.in_ok-lay.ensures.sections past c.args.quota stands)

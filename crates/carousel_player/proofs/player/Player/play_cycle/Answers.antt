@@ -25,7 +25,7 @@ batches-preserved g c =
         Appends-trans (g.A.Sink.written c.args.sink.now) (g.A.Sink.written c.batches.sink) (g.A.Sink.written c.write_all.new.sink) i.sent.0 due i.sent.2 c.in_ok-write_all.ensures.done,
       );
       book = i.book;
-      quota = i.quota;
+      form = i.form;
       later = omega (arith, i.later, c.in_ok-write_all.ensures.cause.later);
       same = g.met.A.Sink.same_later _ _ _ i.same c.in_ok-write_all.ensures.same;
       idle = λ none. absurd (omega (arith, some, ap length ((i.idle none).0 ∙ none)));
@@ -36,7 +36,7 @@ returns-in_err-write_all-clause-failed g c xs x rest w =
     let i = c.batches.invariant in
     let now = c.batches.self-inside in
     let due = c.split_at.result.0.now in
-    let new : Playing = record { book = now.book; counters = c.fill-count.new.counters; left = c.fill-count.new.cycle; quota = now.quota } in
+    let new : Playing = record { book = now.book; counters = c.fill-count.new.counters; left = c.fill-count.new.cycle; form = record { quota = now.quota; offsets = now.offsets } } in
     let sends : Sends now.cycle c.fill-count.new.cycle now.counters c.fill-count.new.counters due =
     subst (Sends now.cycle c.fill-count.new.cycle now.counters c.fill-count.new.counters) (sym c.split_at.ensures.front) c.fill-count.ensures.sends in
     let all = Sends-trans c.args.self.now.left now.cycle c.fill-count.new.cycle c.args.self.now.counters now.counters c.fill-count.new.counters i.sent.0 due i.sent.1 sends in
@@ -48,7 +48,7 @@ pub returns-clause-done : goal.returns-clause-done
 returns-clause-done g c xs x rest w =
     let i = c.batches.invariant in
     let now = c.batches.self-inside in
-    let new : Playing = record { book = now.book; counters = now.counters; left = now.cycle; quota = now.quota } in
+    let new : Playing = record { book = now.book; counters = now.counters; left = now.cycle; form = record { quota = now.quota; offsets = now.offsets } } in
     let none : now.cycle ≡ [] = none_left now.cycle (grind (arith, nat_tests)) in
     let out = all_out xs x rest c.args.self.now new i.sent.0 w i.sent.1 i.book none in
     (out.0, subst (Appends (g.A.Sink.written c.args.sink.now) (g.A.Sink.written c.batches.sink)) out.1 i.sent.2)
