@@ -5,14 +5,15 @@ use Rattle.std.specs.List.{All, AllByRecursion, cons_option}
 use Rattle.std.proofs.lemmas.List.{append_cancel_left}
 use Rattle.std.proofs.lemmas.List.Elements.{recursion_from_All}
 use Rattle.section_codec.specs.SubTables.{IsFit}
-use Rattle.version_book.specs.Airings.{AiredTables}
+use Rattle.version_book.specs.Airings.{CycleForm, AiredTables}
 use Rattle.ts_packets.specs.Packets.{Piece, Carries}
 use Rattle.ts_packets.specs.Bytes.{Packet}
 use Rattle.ts_packets.specs.Counting.{of_pid}
 use Rattle.ts_packets.proofs.Stamps.{of_pid-append}
 use Rattle.air_model.specs.Repeating.{IsSentOf}
 use Rattle.air_model.proofs.Repeating.{of_element, cycle_is_sent}
-use Rattle.air_model.specs.Air.{Sent, cycle_sections, Aired, IsCycle, Cycles, air, airings_of}
+use Rattle.air_model.specs.Air.{Sent, cycle_sections, Aired, IsCycle, Cycles, air, airings_of, tot, times, IsSendable}
+use Rattle.guide_model.specs.declared.offset.Offset.{Offset}
 use Rattle.air_audit.specs.Fronts.{nothing, all_waiting, ToCome, IsApart}
 use Rattle.air_audit.specs.Audits.{on_pid}
 use Rattle.si_lists.proofs.Lists.{all_map, two_fronts}
@@ -21,18 +22,26 @@ use Rattle.air_audit.proofs.Runs.{Run, so_far-Run, Carries-so_far, Run-cut, run_
 
 -- ---- the sections of a cycle
 
--- the sub-tables of an airing can be sent
+-- the sub-tables and the offsets of an airing can be sent
 abbrev pub AiringFits : AiredTables → Type 0
-AiringFits a = All IsFit a.tables
+AiringFits a = IsSendable a
 
 abbrev pub Sendable : Sent → Type 0
 Sendable s = (s.pid < 8192) × IsApart s.bytes
 
+-- those that tell the time
+times_sendable : (form : CycleForm) (moment : ℕ) → AllByRecursion Sendable (times form moment)
+times_sendable form moment = ((omega arith, λ e. omega arith), go form.offsets)
+  where
+    go : (offsets : List Offset) → AllByRecursion Sendable (tot moment offsets)
+    go [] = tt
+    go (o ∷ offsets) = ((omega arith, λ e. omega arith), tt)
+
 one_sendable : (past : List AiredTables) (a : AiredTables) (s : Sent) → AiringFits a → IsSentOf past a s → Sendable s
 one_sendable past a s fit (inl of) =
-    let t_fit = of_element IsFit a.tables of.0 (recursion_from_All IsFit a.tables fit) of.2 in
+    let t_fit = of_element IsFit a.tables of.0 (recursion_from_All IsFit a.tables fit.tables) of.2 in
     subst Sendable (sym of.4) (let pid = t_fit.pid in omega arith, t_fit.no_fill)
-one_sendable past a s fit (inr is) = subst Sendable (sym is) (omega arith, λ e. omega arith)
+one_sendable past a s fit (inr has) = of_element Sendable (times a.form a.moment) s (times_sendable a.form a.moment) has
 
 pub cycle_sendable : (past : List AiredTables) (a : AiredTables) → AiringFits a → AllByRecursion Sendable (cycle_sections past a)
 cycle_sendable past a fit = all_map (IsSentOf past a) Sendable (λ s h. one_sendable past a s fit h) (cycle_sections past a) (cycle_is_sent past a).each

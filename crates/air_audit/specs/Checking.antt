@@ -11,17 +11,13 @@ use Rattle.air_audit.specs.Fronts.{ToCome, to_come_on, nothing}
 use Rattle.air_audit.specs.Telling.{is_none, is_pointer}
 use Rattle.air_audit.specs.Audits.{SoFar}
 
--- what contracts see of an auditor: its version book, its counters, what is still to come of the cycle on each PID, and the quota of
+-- what contracts see of an auditor: its version book, its counters, what is still to come of the cycle on each PID, and the form of
 -- the cycles
 pub record Checking : Type 0 where
   pub book : GivenVersions
   pub counters : List (Option ℕ)
   pub on_pids : List ToCome
-  pub quota : ℕ
-
--- the form of the cycles
-abbrev pub form_of : Checking → CycleForm
-form_of c = record { quota = c.quota }
+  pub form : CycleForm
 
 -- It stands for an airing list and the packets accepted, each by its bytes: they are consistent with the list so far.
 pub record StandsFor (airings : List AiredTables) (accepted : List (List ℕ)) (c : Checking) : Type 0 where

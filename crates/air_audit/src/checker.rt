@@ -4,11 +4,13 @@ ghost use Rattle.section_codec.specs.SubTables.{AreFit};
 ghost use Rattle.version_book.specs.Airings.{AiredTables};
 ghost use Rattle.version_book.specs.Book.{aired};
 ghost use Rattle.air_audit.specs.Audits.{AreAnAir, BeginAnAir};
-ghost use Rattle.air_audit.specs.Checking.{StandsFor, IsAtEnd, form_of, rule_at};
+ghost use Rattle.air_audit.specs.Checking.{StandsFor, IsAtEnd, rule_at};
+ghost use Rattle.air_model.specs.Air.{CanBeTold};
 
 use crate::header::{has_counter, has_shape, is_start, pid_of};
 use crate::progress::Progress;
 use air_model::Rule;
+use guide_model::Offsets;
 use section_codec::Tables;
 use si_time::Moment;
 use std::alloc::{AllocError, Global};
@@ -25,25 +27,30 @@ pub struct Checker {
     counters: Counters,
     progress: Progress,
     quota: u32,
+    offsets: Offsets,
 }
 
 impl Model for Checker {
+    ghost use Rattle.air_model.specs.Air.{CanBeTold};
     ghost use Rattle.air_audit.specs.Checking.{Checking};
 
     ghost Value = { Checking };
 
-    ghost view = { λ c. record { book = c.book; counters = c.counters; on_pids = c.progress; quota = c.quota } };
+    ghost view = { λ c. record { book = c.book; counters = c.counters; on_pids = c.progress; form = record { quota = c.quota; offsets = c.offsets } } };
+
+    ghost invariant = { λ c. CanBeTold c.offsets };
 }
 
 impl Checker {
     /// An auditor of the empty airing list, which is at an end. The quota, 1 to 10,000, is that of the cycles, as a player's
     /// (`cycle_plan`). It takes no memory.
-    pub fn open(alloc: Global, quota: u32) -> Checker
+    pub fn open(alloc: Global, quota: u32, offsets: Offsets) -> Checker
         requires some { 1 ≤ quota }
         requires most { quota ≤ 10000 }
+        requires offsets { CanBeTold offsets }
         ensures stands { StandsFor [] [] result }
         ensures at_end { IsAtEnd result }
-        ensures quota { result.quota ≡ quota }
+        ensures form { result.form ≡ record { quota = quota; offsets = offsets } }
     {
         Checker {
             alloc,
@@ -51,10 +58,11 @@ impl Checker {
             counters: Counters::open(),
             progress: Progress::ended(alloc),
             quota,
+            offsets,
         }
     }
 
-    /// Adds an airing: these sub-tables, at the moment of the swap, in a cycle of the auditor's quota. It needs an auditor at an
+    /// Adds an airing: these sub-tables, at the moment of the swap, in a cycle of the auditor's form. It needs an auditor at an
     /// end, and sub-tables and a moment with which a player swaps: keys that differ, in the order of their tiers, PIDs below 8,191,
     /// each with at least one section, ascending numbers and bodies that fit a section in the long form, and none with the table_id
     /// 0xFF, which is fill; and a moment whose day has 16 bits. All memory is taken first: where it is wanting, the auditor is
@@ -64,12 +72,19 @@ impl Checker {
         requires fit { AreFit tables.list }
         requires moment { moment.0 < 65536 * 86400 }
         ensures swapped { (airings : List AiredTables) (accepted : List (List ℕ)) → StandsFor airings accepted self.old
-            → OnOk result (StandsFor (airings ++ aired tables.list moment.0 (form_of self.old) ∷ []) accepted self.new) }
-        ensures quota { self.new.quota ≡ self.old.quota }
+            → OnOk result (StandsFor (airings ++ aired tables.list moment.0 self.old.form ∷ []) accepted self.new) }
+        ensures form { self.new.form ≡ self.old.form }
         ensures memory { OnErr result (self.new ≡ self.old) }
     {
         let quota = self.quota;
-        let next = Progress::begin(self.alloc, &mut self.book, &tables, quota, moment)?;
+        let next = Progress::begin(
+            self.alloc,
+            &mut self.book,
+            &tables,
+            quota,
+            self.offsets.as_slice(),
+            moment,
+        )?;
         self.progress = next;
         Ok(())
     }
@@ -94,7 +109,7 @@ impl Checker {
         ensures rule { (airings : List AiredTables) (accepted : List (List ℕ)) → StandsFor airings accepted self.old
             → IfSome result (λ rule. rule ≡ rule_at accepted self.old packet.now) }
         ensures kept { IfSome result (λ _. self.new ≡ self.old) }
-        ensures quota { self.new.quota ≡ self.old.quota }
+        ensures form { self.new.form ≡ self.old.form }
     {
         if !has_shape(packet) {
             return Some(Rule::Shape);

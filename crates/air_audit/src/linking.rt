@@ -5,10 +5,12 @@ ghost use Rattle.air_model.specs.Air.{at_places};
 ghost use Rattle.section_codec.specs.SubTables.{AreFit};
 ghost use Rattle.cycle_laying.specs.Laying.{order_under};
 ghost use Rattle.air_audit.specs.Progress.{is_busy, next_on, AreLinked, AreFresh, IsReady};
+ghost use Rattle.air_model.specs.Air.{CanBeTold};
 
 use crate::lanes::{Lane, is_busy};
 use cycle_laying::{Placed, plan_cycle};
 use cycle_plan::CyclePlan;
+use guide_model::Offset;
 use section_codec::SubTable;
 use std::alloc::{AllocError, Global};
 
@@ -22,12 +24,18 @@ pub(crate) struct Room {
 }
 
 /// Takes the memory for a cycle of these sub-tables in the order of this quota.
-pub(crate) fn take_room(alloc: Global, tables: &[SubTable], quota: u32) -> Result<Room, AllocError>
-    requires { AreFit tables.now }
-    ensures order { IfOk result (λ room. room.order.items ≡ order_under tables.now quota) }
+pub(crate) fn take_room(
+    alloc: Global,
+    tables: &[SubTable],
+    quota: u32,
+    offsets: &[Offset],
+) -> Result<Room, AllocError>
+    requires offsets { CanBeTold offsets.now }
+    requires fit { AreFit tables.now }
+    ensures order { IfOk result (λ room. room.order.items ≡ order_under tables.now (record { quota = quota; offsets = offsets.now })) }
     ensures ready { IfOk result (λ room. IsReady room) }
 {
-    let order = order_of(alloc, plan_cycle(alloc, tables, quota)?)?;
+    let order = order_of(alloc, plan_cycle(alloc, tables, quota, offsets)?)?;
     let placed = Vec::with_capacity(alloc, order.len())?;
     let links = vec![in alloc; 0; order.len()]?;
     let lanes = idle_lanes(alloc, order.len())?;

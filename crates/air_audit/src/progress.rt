@@ -11,11 +11,13 @@ ghost use Rattle.air_audit.specs.Telling.{told};
 ghost use Rattle.air_audit.specs.Checking.{is_nothing};
 ghost use Rattle.air_audit.specs.Audits.{on_pid};
 ghost use Rattle.air_audit.specs.Progress.{HasMoved, IsReady};
+ghost use Rattle.air_model.specs.Air.{CanBeTold};
 
 use crate::lanes::{Lane, is_busy, moved};
 use crate::linking::{Room, count_busy, link, put_in_order, take_room};
 use air_model::Rule;
 use cycle_laying::{LaidSections, Placed};
+use guide_model::Offset;
 use section_codec::Tables;
 use si_time::Moment;
 use std::alloc::{AllocError, Global};
@@ -66,21 +68,23 @@ impl Progress {
         book: &mut VersionBook,
         tables: &Tables,
         quota: u32,
+        offsets: &[Offset],
         moment: Moment,
     ) -> Result<Progress, AllocError>
         requires fit { AreFit tables.now.list }
+        requires offsets { CanBeTold offsets.now }
         requires moment { moment.0 < 65536 * 86400 }
         ensures versions { OnOk result ((past : List AiredTables) (form : CycleForm) → BookStandsFor past book.old
             → BookStandsFor (past ++ aired tables.now.list moment.0 form ∷ []) book.new) }
         ensures begun { IfOk result (λ progress. (past : List AiredTables) → BookStandsFor past book.old → (pid : ℕ)
-            → to_come_on progress pid ≡ all_waiting (on_pid pid (cycle_sections past (aired tables.now.list moment.0 (record { quota = quota }))))) }
+            → to_come_on progress pid ≡ all_waiting (on_pid pid (cycle_sections past (aired tables.now.list moment.0 (record { quota = quota; offsets = offsets.now }))))) }
         ensures memory { OnErr result (book.new ≡ book.old) }
     {
         let list = tables.list.as_slice();
         let mut laid = LaidSections::none(alloc);
-        laid.take_room(list)?;
-        let room = take_room(alloc, list, quota)?;
-        laid.lay(book, tables, moment)?;
+        laid.take_room(list, offsets)?;
+        let room = take_room(alloc, list, quota, offsets)?;
+        laid.lay(alloc, book, tables, moment, offsets)?;
         Ok(Progress::of(laid, room))
     }
 

@@ -9,12 +9,12 @@ use Rattle.air_audit.proofs.progress.Progress.begin.Goals as goal
 
 pub of-requires-clause-within : goal.of-requires-clause-within
 of-requires-clause-within c =
-    let order_is : c.in_ok-room.room.order.items ≡ order_under c.args.tables.now.list c.args.quota = c.in_ok-room.ensures.order ∙ ap (λ (l : List SubTable). order_under l c.args.quota) c.as_slice-list.ensures in
+    let order_is : c.in_ok-room.room.order.items ≡ order_under c.args.tables.now.list (record { quota = c.args.quota; offsets = c.args.offsets.now }) = c.in_ok-room.ensures.order ∙ ap (λ (l : List SubTable). order_under l (record { quota = c.args.quota; offsets = c.args.offsets.now })) c.as_slice-list.ensures in
     subst (AllByRecursion (λ (at : ℕ). at < length c.lay.new.self.placed.items)) (sym order_is) (c.in_ok-lay.ensures.within c.args.quota)
 
 pub returns-clause-begun : goal.returns-clause-begun
 returns-clause-begun c past stands pid =
-    let order_is : c.in_ok-room.room.order.items ≡ order_under c.args.tables.now.list c.args.quota = c.in_ok-room.ensures.order ∙ ap (λ (l : List SubTable). order_under l c.args.quota) c.as_slice-list.ensures in
+    let order_is : c.in_ok-room.room.order.items ≡ order_under c.args.tables.now.list (record { quota = c.args.quota; offsets = c.args.offsets.now }) = c.in_ok-room.ensures.order ∙ ap (λ (l : List SubTable). order_under l (record { quota = c.args.quota; offsets = c.args.offsets.now })) c.as_slice-list.ensures in
     let bytes = c.lay.new.self.bytes.items in
     let each = c.lay.new.self.placed.items in
     c.of.ensures pid
