@@ -128,6 +128,7 @@ having cs = record {
   nit = Some nit_key;
   sdt = λ ext. Some sdt_key;
   clock = Some 4257234000;
+  offsets = [];
 }
 
 -- ---- screens
@@ -136,6 +137,7 @@ having cs = record {
 abbrev shown_with : List ScreenEvent → Screen
 shown_with events = record {
   clock = record { 0 = 4257234000 };
+  offsets = [];
   network = 40;
   network_name = Text (codes "Demo");
   stream = 1;
@@ -178,7 +180,7 @@ shown_all_the_same = refl
 
 -- ---- needs
 
-nothing : heard_of (record { content = λ k. None; pat = None; nit = None; sdt = λ ext. None; clock = None })
+nothing : heard_of (record { content = λ k. None; pat = None; nit = None; sdt = λ ext. None; clock = None; offsets = [] })
     ≡ Wanting (Pat ∷ Nit ∷ Sdt ∷ Clock ∷ [])
 nothing = refl
 

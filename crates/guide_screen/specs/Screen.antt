@@ -92,6 +92,7 @@ cable_in stream original (e ∷ es) =
 abbrev pub screen : View → Key → Key → Key → ℕ → Screen
 screen V pat nit sdt clock = record {
   clock = record { 0 = clock };
+  offsets = V.offsets;
   network = nit.ext;
   network_name = network_name (sections (V.content nit));
   stream = pat.ext;

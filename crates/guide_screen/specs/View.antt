@@ -1,16 +1,19 @@
 -- What a receiver has of the sub-tables that it heard whole.
-use Rattle.std.specs.Prelude.{ℕ, [], Option, Some, None, unwrap_or}
+use Rattle.std.specs.Prelude.{ℕ, List, [], Option, Some, None, unwrap_or}
+use Rattle.guide_model.specs.declared.offset.Offset.{Offset}
 use Rattle.section_codec.specs.declared.table.Key.{Key}
 use Rattle.section_codec.specs.Contents.{Content}
 
 -- The content of each key that was completed; the key of the PAT and that of the NIT that was completed last, and for each
--- transport_stream_id that of its SDT; and the last moment that was heard, in seconds since Modified Julian Date 0.
+-- transport_stream_id that of its SDT; the last moment that was heard, in seconds since Modified Julian Date 0, and the offsets that were
+-- heard last.
 pub record View : Type 0 where
   pub content : Key → Option Content
   pub pat : Option Key
   pub nit : Option Key
   pub sdt : ℕ → Option Key
   pub clock : Option ℕ
+  pub offsets : List Offset
 
 -- the sections of a content, where there is one
 abbrev pub sections : Option Content → Content

@@ -9,6 +9,7 @@ use crate::need::Heard;
 use crate::needs::needs_of;
 use crate::screen::{Named, screen_of};
 use crate::services::{programs_of, services_of};
+use guide_model::Offset;
 use si_base::Items;
 use std::alloc::{AllocError, Global};
 use sub_collect::Collector;
@@ -17,12 +18,19 @@ use sub_collect::Collector;
 /// (ISO/IEC 13818-1, 2.4.4.3 and 2.4.4.8; EN 300 468, 5.2.1, 5.2.3 to 5.2.5).
 ///
 /// It needs a PAT, a NIT, the SDT of the PAT's stream, a moment, and the PMT of each program of the PAT; then, of each service of the
-/// SDT, the present and following events and the tables of the schedule, where its flags tell that they are sent. `Wanting` has one
+/// SDT, the present and following events and the tables of the schedule, where its flags tell that they are sent. The screen has the
+/// offsets of local time that are handed in. `Wanting` has one
 /// need at least (`screens_need_nothing`). The screen shows the services by ascending service_id, a repeated one by its first entry.
 ///
 /// Beside looking keys up, its time is linear in the services and in the bytes of the contents.
-pub fn heard_guide(alloc: Global, contents: &Collector, latest: Latest) -> Result<Heard, AllocError>
-    ensures { (V : View) → Holds contents.now latest V → IfOk result (λ heard. heard ≡ heard_of V) }
+pub fn heard_guide(
+    alloc: Global,
+    contents: &Collector,
+    latest: Latest,
+    offsets: &[Offset],
+) -> Result<Heard, AllocError>
+    ensures { (V : View) → Holds contents.now latest V → V.offsets ≡ offsets.now
+        → IfOk result (λ heard. heard ≡ heard_of V) }
 {
     let programs = programs_of(alloc, contents, latest.pat)?;
     let services = services_of(alloc, contents, latest.sdt)?;
@@ -30,7 +38,7 @@ pub fn heard_guide(alloc: Global, contents: &Collector, latest: Latest) -> Resul
     if let Some(of) = named(&latest)
         && needs.is_empty()
     {
-        let screen = screen_of(alloc, contents, of, &programs, services)?;
+        let screen = screen_of(alloc, contents, of, offsets, &programs, services)?;
         return Ok(Heard::Whole(screen));
     }
     Ok(Heard::Wanting(Items::of(needs)))

@@ -14,7 +14,8 @@ use crate::content_values::{event_at, last_table, network_name, pmt_told, put_ev
 use crate::contents::{eit_key, pmt_key, sections_of};
 use crate::needs::tables_to;
 use guide_model::{
-    Cable, Components, Screen, ScreenEvent, ScreenEvents, ScreenService, ScreenServices,
+    Cable, Components, Offset, Offsets, Screen, ScreenEvent, ScreenEvents, ScreenService,
+    ScreenServices,
 };
 use nit_sdt::{NitStream, SdtService};
 use pat_pmt::{PatEntry, Pmt};
@@ -185,16 +186,24 @@ pub(crate) struct Named {
     pub(crate) clock: Moment,
 }
 
+// A copy of offsets.
+fn copied(alloc: Global, offsets: &[Offset]) -> Result<Offsets, AllocError>
+    ensures { IfOk result (λ copy. copy ≡ offsets.now) }
+{
+    Ok(Items::of(Vec::from_slice(alloc, offsets)?))
+}
+
 // The screen of these programs and services.
 pub(crate) fn screen_of(
     alloc: Global,
     contents: &Collector,
     of: Named,
+    offsets: &[Offset],
     programs: &[PatEntry],
     services: Vec<SdtService>,
 ) -> Result<Screen, AllocError>
     ensures { (V : View) → KeepsContents contents.now V.content
-        → programs.now ≡ programs_of V → services.items ≡ services_of V
+        → programs.now ≡ programs_of V → services.items ≡ services_of V → V.offsets ≡ offsets.now
         → IfOk result (λ shown. shown ≡ screen V of.pat of.nit of.sdt of.clock.0) }
 {
     let network = sections_of(contents, of.nit);
@@ -203,6 +212,7 @@ pub(crate) fn screen_of(
     let services = screen_services(alloc, contents, programs, of.sdt, services)?;
     Ok(Screen {
         clock: of.clock,
+        offsets: copied(alloc, offsets)?,
         network: of.nit.ext,
         network_name,
         stream: of.pat.ext,
