@@ -1,7 +1,8 @@
 -- The text of a guide: the table of its lines.
-use Rattle.std.specs.Prelude.{ℕ, ◌++◌, List, [], ◌∷◌, codes, decimal, flat_map}
+use Rattle.std.specs.Prelude.{ℕ, ◌+◌, ◌-◌, ◌*◌, ◌++◌, List, [], ◌∷◌, take, Bool, if◌then◌else◌, nat_le, Option, Some, None, codes, decimal, flat_map}
 use Rattle.std.specs.List.{join_with_byte}
 use Rattle.guide_model.specs.declared.event.Rating.{Rating}
+use Rattle.guide_model.specs.declared.offset.Offset.{Offset}
 use Rattle.guide_model.specs.declared.stream.Cable.{Cable}
 use Rattle.guide_model.specs.declared.stream.Component.{Component}
 use Rattle.guide_model.specs.declared.screen.ScreenEvent.{ScreenEvent}
@@ -75,6 +76,30 @@ service_text s =
 abbrev pub clock_line : ℕ → List ℕ
 clock_line at = line (codes "clock" ∷ moment_field at ∷ [])
 
+-- ---- local time
+
+abbrev pub side_text : Bool → List ℕ
+side_text behind = if behind then codes "behind" else codes "ahead"
+
+-- the minutes that apply at a moment: `next` from the change on
+abbrev pub minutes_at : ℕ → Offset → ℕ
+minutes_at at o = if nat_le o.change.0 at then o.next else o.minutes
+
+-- the moment on the clocks of the region; none before Modified Julian Date 0
+abbrev pub local_moment : ℕ → Offset → Option ℕ
+local_moment at o =
+    if o.behind then (if nat_le (60 * minutes_at at o) at then Some (at - 60 * minutes_at at o) else None) else Some (at + 60 * minutes_at at o)
+
+-- YYYY-MM-DDThh:mm:ss, without the Z of UTC
+abbrev pub local_text : ℕ → List ℕ
+local_text at = take 19 (moment_field at)
+
+-- country, region, side, minutes, the moment of the change, the minutes from then on, and the local time
+abbrev pub local_line : ℕ → Offset → List ℕ
+local_line at o =
+    line (codes "local" ∷ code_text o.country ∷ decimal o.region ∷ side_text o.behind ∷ decimal o.minutes ∷ moment_field o.change.0
+    ∷ decimal o.next ∷ optional local_text (local_moment at o) ∷ [])
+
 -- network_id and name
 abbrev pub network_line : Screen → List ℕ
 network_line s = line (codes "network" ∷ decimal s.network ∷ shown_text s.network_name ∷ [])
@@ -91,7 +116,7 @@ cable_line c =
 
 abbrev pub screen_text : Screen → List ℕ
 screen_text s =
-    clock_line s.clock.0 ++ network_line s ++ stream_line s ++ optional cable_line s.cable
+    clock_line s.clock.0 ++ flat_map (local_line s.clock.0) s.offsets ++ network_line s ++ stream_line s ++ optional cable_line s.cable
     ++ flat_map service_text s.services
 
 -- ---- the guide

@@ -1,15 +1,16 @@
 -- Worked guides.
-use Rattle.std.specs.Prelude.{◌≡◌, [], ◌∷◌, Some, None, codes, refl}
+use Rattle.std.specs.Prelude.{◌≡◌, ℕ, ◌*◌, Bool, true, false, [], ◌∷◌, Some, None, codes, refl}
 use Rattle.std.specs.Fmt.{digits}
 use Rattle.hex.specs.Hex.{encode_with}
 use Rattle.si_time.specs.Moments.{moments_compute}
 use Rattle.si_text.specs.declared.shown.Shown.TheVariants.{Text, Hex}
 use Rattle.guide_model.specs.declared.screen.ScreenEvent.{ScreenEvent}
 use Rattle.guide_model.specs.declared.screen.ScreenService.{ScreenService}
+use Rattle.guide_model.specs.declared.offset.Offset.{Offset}
 use Rattle.guide_model.specs.declared.screen.Screen.{Screen}
 use Rattle.guide_screen.specs.declared.need.Need.TheVariants.{Pat, Nit, Sdt, Clock, Pmt, Present, Schedule}
 use Rattle.guide_screen.specs.declared.need.Heard.TheVariants.{Whole, Wanting}
-use Rattle.guide_text.specs.Guides.{event_line, component_line, service_line, cable_line, guide_text}
+use Rattle.guide_text.specs.Guides.{local_line, event_line, component_line, service_line, cable_line, guide_text}
 
 -- nothing was heard
 row_nothing : guide_text (Wanting (Pat ∷ Nit ∷ Sdt ∷ Clock ∷ [])) ≡ codes "wanting\tpat\nwanting\tnit\nwanting\tsdt\nwanting\tclock\nend\n"
@@ -37,6 +38,7 @@ row_service = record {
 abbrev row_screen : Screen
 row_screen = record {
   clock = record { 0 = 3506716800 };
+  offsets = [];
   network = 40;
   network_name = Text (codes "Demo");
   stream = 1;
@@ -117,3 +119,37 @@ row_alone = record {
 row_alone_line : service_line row_alone ≡ codes "service\t5\t0\t\thex:05a4\t\t\n"
 unfolding digits encode_with
 row_alone_line = refl
+
+-- ---- local time: an hour ahead of UTC, and on UTC from 1993-10-24T01:00:00Z on
+
+abbrev row_offset : Offset
+row_offset = record { country = codes "GBR"; region = 0; behind = false; minutes = 60; change = record { 0 = 4258141200 }; next = 0 }
+
+-- at 1993-10-13T12:45:00Z, a second before the change, and at the change
+row_local : local_line 4257233100 row_offset ≡ codes "local\tGBR\t0\tahead\t60\t1993-10-24T01:00:00Z\t0\t1993-10-13T13:45:00\n"
+unfolding digits moments_compute
+row_local = refl
+
+row_before_change : local_line 4258141199 row_offset ≡ codes "local\tGBR\t0\tahead\t60\t1993-10-24T01:00:00Z\t0\t1993-10-24T01:59:59\n"
+unfolding digits moments_compute
+row_before_change = refl
+
+row_at_change : local_line 4258141200 row_offset ≡ codes "local\tGBR\t0\tahead\t60\t1993-10-24T01:00:00Z\t0\t1993-10-24T01:00:00\n"
+unfolding digits moments_compute
+row_at_change = refl
+
+-- behind UTC by five hours and a half; in the first hours of the range no local time is told, nor in the last ones ahead of UTC
+abbrev row_behind : Bool → Offset
+row_behind behind = record { country = codes "USA"; region = 1; behind = behind; minutes = 330; change = record { 0 = 5662310399 }; next = 0 }
+
+row_behind_line : local_line 19800 (row_behind true) ≡ codes "local\tUSA\t1\tbehind\t330\t2038-04-22T23:59:59Z\t0\t1858-11-17T00:00:00\n"
+unfolding digits moments_compute
+row_behind_line = refl
+
+row_too_early : local_line 19799 (row_behind true) ≡ codes "local\tUSA\t1\tbehind\t330\t2038-04-22T23:59:59Z\t0\t\n"
+unfolding digits moments_compute
+row_too_early = refl
+
+row_too_late : local_line 5662310000 (row_behind false) ≡ codes "local\tUSA\t1\tahead\t330\t2038-04-22T23:59:59Z\t0\t\n"
+unfolding digits moments_compute
+row_too_late = refl

@@ -12,7 +12,7 @@ use si_time::{Moment, write_duration, write_moment};
 use std::alloc::{AllocError, Global};
 
 /// The seconds of 16 bits of days.
-const WINDOW: u64 = 65_536 * 86_400;
+pub(crate) const WINDOW: u64 = 65_536 * 86_400;
 
 /// The seconds of 100 hours.
 const HUNDRED_HOURS: u32 = 360_000;

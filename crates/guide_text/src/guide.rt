@@ -20,7 +20,7 @@ fn text_of(alloc: Global, heard: &Heard) -> Result<Vec<u8>, AllocError>
     Ok(text)
 }
 
-/// Appends the text of a guide: of a whole screen the lines `clock`, `network`, `stream`, `cable` where it is told, and of each service
+/// Appends the text of a guide: of a whole screen the lines `clock`, `local` of each region that is told, `network`, `stream`, `cable` where it is told, and of each service
 /// `service`, `component`, `now`, `next` and `event`; otherwise a line `wanting` for each need. Then the line `end`.
 ///
 /// The fields of a line stand behind tabs. A number is decimal, a text as it is, and bytes that are no text are `hex:` and two

@@ -10,6 +10,7 @@
 mod event;
 mod field;
 mod guide;
+mod local;
 mod need;
 mod screen;
 mod service;

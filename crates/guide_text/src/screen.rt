@@ -4,6 +4,7 @@ ghost use Rattle.guide_text.specs.Fields.{optional};
 ghost use Rattle.guide_text.specs.Guides.{clock_line, network_line, stream_line, cable_line, screen_text};
 
 use crate::field::{put_decimal, put_moment, put_shown};
+use crate::local::put_offsets;
 use crate::service::put_services;
 use guide_model::{Cable, Screen};
 use si_time::Moment;
@@ -70,6 +71,7 @@ pub(crate) fn put_screen(
     ensures { OnOk result (out.new.items ≡ out.old.items ++ screen_text screen.now) }
 {
     put_clock(out, screen.clock)?;
+    put_offsets(alloc, out, screen.clock, screen.offsets.as_slice())?;
     put_network(alloc, out, screen)?;
     put_stream(alloc, out, screen)?;
     put_some_cable(alloc, out, screen.cable)?;
