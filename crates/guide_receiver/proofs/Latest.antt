@@ -1,6 +1,15 @@
 -- What was heard last, with one more.
 use Rattle.std.proofs.Common.{◌≡◌, ℕ, ◌+◌, ◌<◌, Bool, true, false, List, [], ◌∷◌, ◌++◌, refl, sym, ap, ◌∙◌, subst, map, take, length, get_or, append-nil, append_assoc, Option, Some, None, option_map, if◌then◌else◌}
-use Rattle.std.specs.Prelude.{◌==◌, cond, filter, filter_map}
+use Rattle.std.specs.Prelude.{◌==◌, cond, filter, filter_map, unwrap_or, option_and_then, Result, Ok, Err, IsOk}
+use Rattle.section_codec.specs.declared.section.Section.{Section}
+use Rattle.section_codec.specs.declared.section.Section.TheVariants.{Long, Short}
+use Rattle.section_codec.specs.declared.section.BadSection.{BadSection}
+use Rattle.section_codec.specs.declared.section.BadSection.TheVariants.{Memory}
+use Rattle.section_codec.specs.Section.{section_in}
+use Rattle.time_tables.specs.declared.tot.Tot.{Tot}
+use Rattle.time_tables.specs.Tdt.{tdt_in}
+use Rattle.time_tables.specs.Tot.{tot_in}
+use Rattle.guide_model.specs.declared.offset.Offset.{Offset}
 use Rattle.std.specs.Ordering.{nat_cmp}
 use Rattle.std.specs.BTreeMap.{get, is_at}
 use Rattle.std.specs.Cmp.{unsigned_ties}
@@ -20,7 +29,7 @@ use Rattle.guide_screen.specs.View.{View, sdt_of, sdt_behind}
 use Rattle.heard_completions.specs.declared.done.DoneKey.{DoneKey}
 use Rattle.guide_receiver.specs.declared.latest_keys.LatestKeys.{LatestKeys}
 use Rattle.heard_completions.specs.Dones.{done_key}
-use Rattle.guide_receiver.specs.Latest.{LatestKept, sdt_in, last_of, keys_shown, is_pat_key, is_nit_key, is_sdt_key, moment_in, clock_of, AreLatest, IsClock}
+use Rattle.guide_receiver.specs.Latest.{LatestKept, sdt_in, last_of, keys_shown, is_pat_key, is_nit_key, is_sdt_key, short_by, moment_by, moment_in, clock_of, offsets_by, offsets_in, offsets_heard, AreLatest, IsClock}
 
 last-push : {X : Type 0} (xs : List X) (x : X) → last_of (xs ++ x ∷ []) ≡ Some x
 last-push [] x = refl
@@ -98,3 +107,92 @@ clock-step past sections i item before at now lt is clock told kept =
     subst (λ (t : List RawSection). IsClock t now)
     (append_assoc past (take i sections) (item ∷ []) ∙ ap (λ t. past ++ t) (sym (take_more sections i item lt ∙ ap (λ x. take i sections ++ x ∷ []) (sym is))))
     (subst (λ (o : Option Moment). IsClock ((past ++ take i sections) ++ item ∷ []) o) (sym kept) (clock-next (past ++ take i sections) item before at clock told))
+
+-- ---- the offsets
+
+or_none : {X : Type 0} (o : Option X) → o ≡ option_or o None
+or_none None = refl
+or_none (Some x) = refl
+
+or_three : {X : Type 0} (o p q : Option X) → option_or (option_or o p) q ≡ option_or o (option_or p q)
+or_three None p q = refl
+or_three (Some y) p q = refl
+
+last_of-append : {X : Type 0} (xs ys : List X) → last_of (xs ++ ys) ≡ option_or (last_of ys) (last_of xs)
+last_of-append [] ys = or_none (last_of ys)
+last_of-append {X = X} (x ∷ xs) ys =
+    ap (λ (o : Option X). option_or o (Some x)) (last_of-append xs ys) ∙ or_three (last_of ys) (last_of xs) (Some x)
+
+-- a section that is none tells nothing
+pub no_short : (table : ℕ) (r : Result Section BadSection) (bad : BadSection) → (IsOk r → bad ≡ Memory) → (bad ≡ Memory → Prim.⊥) → None ≡ short_by table r
+no_short table (Ok section) bad only other = absurd (other (only refl))
+no_short table (Err b) bad only other = refl
+
+-- what a section tells by its body in the short form
+pub moment_is : (r : Result Section BadSection) → moment_by r ≡ option_and_then tdt_in (short_by 0x70 r)
+moment_is (Err b) = refl
+moment_is (Ok (Long h body)) = refl
+moment_is (Ok (Short told body)) = go (told == 0x70)
+  where
+    go : (b : Bool) → (if b then tdt_in body else None) ≡ option_and_then tdt_in (if b then Some body else None)
+    go true = refl
+    go false = refl
+
+pub offsets_are : (r : Result Section BadSection) → offsets_by r ≡ option_and_then (λ body. option_map (λ (tot : Tot). tot.offsets) (tot_in body)) (short_by 0x73 r)
+offsets_are (Err b) = refl
+offsets_are (Ok (Long h body)) = refl
+offsets_are (Ok (Short told body)) = go (told == 0x73)
+  where
+    go : (b : Bool) → (if b then option_map (λ (tot : Tot). tot.offsets) (tot_in body) else None) ≡ option_and_then (λ body. option_map (λ (tot : Tot). tot.offsets) (tot_in body)) (if b then Some body else None)
+    go true = refl
+    go false = refl
+
+-- those of later sections go before those of earlier ones
+pub offsets_more : (past more : List RawSection) → offsets_heard (past ++ more) ≡ unwrap_or (last_of (filter_map offsets_in more)) (offsets_heard past)
+offsets_more past more =
+    ap (λ (l : List (List Offset)). unwrap_or (last_of l) []) (filter_map-append offsets_in past more)
+    ∙ ap (λ (o : Option (List Offset)). unwrap_or o []) (last_of-append (filter_map offsets_in past) (filter_map offsets_in more))
+    ∙ go (last_of (filter_map offsets_in more))
+  where
+    go : (o : Option (List Offset)) → unwrap_or (option_or o (last_of (filter_map offsets_in past))) [] ≡ unwrap_or o (offsets_heard past)
+    go None = refl
+    go (Some x) = refl
+
+-- a section of the time PID, by its body in the short form
+pub moment_told : (raw : RawSection) (body : Option (List ℕ)) → (raw.pid == 0x0014) ≡ true → body ≡ short_by 0x70 (section_in raw.bytes) → option_and_then tdt_in body ≡ moment_in raw
+moment_told raw body pid is =
+    ap (option_and_then tdt_in) is ∙ sym (moment_is (section_in raw.bytes)) ∙ sym (ap (λ (b : Bool). if b then moment_by (section_in raw.bytes) else None) pid)
+
+pub offsets_told : (raw : RawSection) (body : Option (List ℕ)) → (raw.pid == 0x0014) ≡ true → body ≡ short_by 0x73 (section_in raw.bytes)
+    → option_and_then (λ body. option_map (λ (tot : Tot). tot.offsets) (tot_in body)) body ≡ offsets_in raw
+offsets_told raw body pid is =
+    ap (option_and_then (λ body. option_map (λ (tot : Tot). tot.offsets) (tot_in body))) is ∙ sym (offsets_are (section_in raw.bytes))
+    ∙ sym (ap (λ (b : Bool). if b then offsets_by (section_in raw.bytes) else None) pid)
+
+-- one section more, and its offsets, where it tells some
+pub told-step : (sections : List RawSection) (i : ℕ) (item : RawSection) (before told now : Option (List Offset)) → i < length sections → item ≡ get_or sections i item
+    → before ≡ last_of (filter_map offsets_in (take i sections)) → told ≡ offsets_in item → now ≡ option_or told before
+    → now ≡ last_of (filter_map offsets_in (take (i + 1) sections))
+told-step sections i item before told now lt is kept tells step =
+    step ∙ ap (λ (o : Option (List Offset)). option_or o before) tells ∙ ap (λ (o : Option (List Offset)). option_or (offsets_in item) o) kept
+    ∙ sym (ap last_of (filter_map-append offsets_in (take i sections) (item ∷ [])) ∙ go (offsets_in item))
+    ∙ ap (λ (t : List RawSection). last_of (filter_map offsets_in t)) (sym (take_more sections i item lt ∙ ap (λ x. take i sections ++ x ∷ []) (sym is)))
+  where
+    go : (o : Option (List Offset)) → last_of (filter_map offsets_in (take i sections) ++ cons_option o []) ≡ option_or o (last_of (filter_map offsets_in (take i sections)))
+    go None = ap last_of (append-nil (filter_map offsets_in (take i sections)))
+    go (Some x) = last-push (filter_map offsets_in (take i sections)) x
+
+pub offsets_none : (raw : RawSection) (body : Option (List ℕ)) → (raw.pid == 0x0014) ≡ true → body ≡ short_by 0x73 (section_in raw.bytes) → body ≡ None → None ≡ offsets_in raw
+offsets_none raw body pid is none =
+    sym (ap (option_and_then (λ body. option_map (λ (tot : Tot). tot.offsets) (tot_in body))) none) ∙ offsets_told raw body pid is
+
+pub offsets_some : (raw : RawSection) (body : Option (List ℕ)) (bytes : List ℕ) (read : Option Tot) → (raw.pid == 0x0014) ≡ true → body ≡ short_by 0x73 (section_in raw.bytes) → body ≡ Some bytes
+    → read ≡ tot_in bytes → option_map (λ (tot : Tot). tot.offsets) read ≡ offsets_in raw
+offsets_some raw body bytes read pid is some tot =
+    ap (option_map (λ (tot : Tot). tot.offsets)) tot ∙ sym (ap (option_and_then (λ body. option_map (λ (tot : Tot). tot.offsets) (tot_in body))) some) ∙ offsets_told raw body pid is
+
+pub moment_none : (raw : RawSection) (body : Option (List ℕ)) → (raw.pid == 0x0014) ≡ true → body ≡ short_by 0x70 (section_in raw.bytes) → body ≡ None → None ≡ moment_in raw
+moment_none raw body pid is none = sym (ap (option_and_then tdt_in) none) ∙ moment_told raw body pid is
+
+pub moment_some : (raw : RawSection) (body : Option (List ℕ)) (bytes : List ℕ) → (raw.pid == 0x0014) ≡ true → body ≡ short_by 0x70 (section_in raw.bytes) → body ≡ Some bytes → tdt_in bytes ≡ moment_in raw
+moment_some raw body bytes pid is some = sym (ap (option_and_then tdt_in) some) ∙ moment_told raw body pid is

@@ -7,10 +7,11 @@ use Rattle.guide_screen.specs.Holding.{content_in}
 use Rattle.guide_screen.specs.Screen.{heard_of}
 use Rattle.guide_screen.specs.declared.need.Heard.{Heard}
 use Rattle.heard_completions.specs.Dones.{counted_heard}
-use Rattle.guide_receiver.specs.Latest.{last_of, keys_shown, keys_shown_over, is_pat_key, is_nit_key, is_sdt_key, clock_of}
+use Rattle.guide_receiver.specs.Latest.{last_of, keys_shown, keys_shown_over, is_pat_key, is_nit_key, is_sdt_key, clock_of, offsets_heard}
 
 -- What is heard: of each key the content that it completed last; of the PAT, of the NIT and of the SDT of each
--- transport_stream_id the key whose completion was shown last; and the moment that the last TDT tells.
+-- transport_stream_id the key whose completion was shown last; the moment that the last TDT tells, and the offsets that the last TOT
+-- tells.
 abbrev pub view_of : List (List ℕ) → View
 view_of packets = record {
   content = content_in (counted_heard packets);
@@ -18,6 +19,7 @@ view_of packets = record {
   nit = last_of (filter is_nit_key (keys_shown (counted_heard packets)));
   sdt = λ ext. last_of (filter (is_sdt_key ext) (keys_shown (counted_heard packets)));
   clock = clock_of (heard_all [] packets);
+  offsets = offsets_heard (heard_all [] packets);
 }
 
 -- The same of packets, and of their sections that count with the marks between them.
@@ -28,6 +30,7 @@ view_over packets taken = record {
   nit = last_of (filter is_nit_key (keys_shown_over taken));
   sdt = λ ext. last_of (filter (is_sdt_key ext) (keys_shown_over taken));
   clock = clock_of (heard_all [] packets);
+  offsets = offsets_heard (heard_all [] packets);
 }
 
 abbrev pub guide_over : List (List ℕ) → List Taken → Heard

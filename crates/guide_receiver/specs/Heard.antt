@@ -7,16 +7,19 @@ use Rattle.sub_collect.specs.Runs.{Counted}
 use Rattle.sub_collect.specs.Marks.{Taken, all_took}
 use Rattle.sub_collect.specs.Collectors.{KeysHeard, CollectorStandsOver, IsRepeated}
 use Rattle.si_time.specs.declared.moment.Moment.{Moment}
+use Rattle.guide_model.specs.declared.offset.Offset.{Offset}
 use Rattle.heard_completions.specs.Counting.{counted_in, counted_among}
-use Rattle.guide_receiver.specs.Latest.{LatestKept, keys_shown_over, AreLatest, IsClock}
+use Rattle.guide_receiver.specs.Latest.{LatestKept, keys_shown_over, AreLatest, IsClock, offsets_heard}
 use Rattle.heard_completions.specs.Dones.{counted_heard}
 
--- what a receiver keeps: its demultiplexer, its collector, the keys that were completed last, and the moment that it heard last
+-- what a receiver keeps: its demultiplexer, its collector, the keys that were completed last, and the moment and the offsets that it heard
+-- last
 pub record Hearing : Type 0 where
   pub demux : List (Option PidState)
   pub collector : KeysHeard
   pub latest : LatestKept
   pub clock : Option Moment
+  pub offsets : List Offset
 
 -- the sections that a packet ends after others, and that count
 abbrev pub took_by : List (List ℕ) → List ℕ → List Taken
@@ -29,6 +32,7 @@ pub record ReceiverStandsOver (packets : List (List ℕ)) (taken : List Taken) (
   pub completions : CollectorStandsOver taken receiver.collector
   pub latest : AreLatest (keys_shown_over taken) receiver.latest
   pub clock : IsClock (heard_all [] packets) receiver.clock
+  pub offsets : receiver.offsets ≡ offsets_heard (heard_all [] packets)
 
 -- It stands for these packets, without a mark.
 abbrev pub ReceiverStandsFor : List (List ℕ) → Hearing → Type 0

@@ -1,6 +1,6 @@
 -- What was heard last: of the tables that come once, the key that was completed last, and the moment of the last time and date table
--- (ISO/IEC 13818-1, 2.4.4.3; EN 300 468, 5.2.1, 5.2.3 and 5.2.5).
-use Rattle.std.specs.Prelude.{◌≡◌, ℕ, Bool, ◌&&◌, ◌==◌, if◌then◌else◌, List, [], ◌∷◌, map, filter, filter_map, Option, Some, None, option_map, Result, Ok, Err}
+-- and the offsets of the last time offset table (ISO/IEC 13818-1, 2.4.4.3; EN 300 468, 5.2.1, 5.2.3, 5.2.5 and 5.2.6).
+use Rattle.std.specs.Prelude.{◌≡◌, ℕ, Bool, ◌&&◌, ◌==◌, if◌then◌else◌, List, [], ◌∷◌, map, filter, filter_map, Option, Some, None, option_map, unwrap_or, Result, Ok, Err}
 use Rattle.std.specs.Option.{option_or}
 use Rattle.si_time.specs.declared.moment.Moment.{Moment}
 use Rattle.section_codec.specs.declared.table.Key.{Key}
@@ -8,7 +8,10 @@ use Rattle.section_codec.specs.declared.section.Section.{Section}
 use Rattle.section_codec.specs.declared.section.Section.TheVariants.{Long, Short}
 use Rattle.section_codec.specs.declared.section.BadSection.{BadSection}
 use Rattle.section_codec.specs.Section.{section_in}
+use Rattle.guide_model.specs.declared.offset.Offset.{Offset}
+use Rattle.time_tables.specs.declared.tot.Tot.{Tot}
 use Rattle.time_tables.specs.Tdt.{tdt_in}
+use Rattle.time_tables.specs.Tot.{tot_in}
 use Rattle.ts_demux.specs.declared.section.RawSection.{RawSection}
 use Rattle.sub_collect.specs.Runs.{Counted}
 use Rattle.sub_collect.specs.Completions.{dones}
@@ -41,6 +44,17 @@ is_nit_key k = k.table == 0x40
 abbrev pub is_sdt_key : ℕ → Key → Bool
 is_sdt_key ext k = k.table == 0x42 && k.ext == ext
 
+-- ---- sections in the short form
+
+-- the body of a section of this table in the short form
+abbrev pub short_of : ℕ → Section → Option (List ℕ)
+short_of table (Long h body) = None
+short_of table (Short told body) = if told == table then Some body else None
+
+abbrev pub short_by : ℕ → Result Section BadSection → Option (List ℕ)
+short_by table (Ok section) = short_of table section
+short_by table (Err bad) = None
+
 -- ---- the clock
 
 -- UTC_time of a TDT, which has table_id 0x70 in the short form
@@ -59,6 +73,25 @@ moment_in raw = if raw.pid == 0x0014 then moment_by (section_in raw.bytes) else 
 -- the last moment that these sections tell
 abbrev pub clock_of : List RawSection → Option ℕ
 clock_of sections = last_of (filter_map moment_in sections)
+
+-- ---- local time
+
+-- the offsets of a TOT, which has table_id 0x73 in the short form
+abbrev pub offsets_of : Section → Option (List Offset)
+offsets_of (Long h body) = None
+offsets_of (Short table body) = if table == 0x73 then option_map (λ (tot : Tot). tot.offsets) (tot_in body) else None
+
+abbrev pub offsets_by : Result Section BadSection → Option (List Offset)
+offsets_by (Ok section) = offsets_of section
+offsets_by (Err bad) = None
+
+-- TOTs come on the PID of the TDTs
+abbrev pub offsets_in : RawSection → Option (List Offset)
+offsets_in raw = if raw.pid == 0x0014 then offsets_by (section_in raw.bytes) else None
+
+-- the offsets that these sections tell last; none before a TOT was heard
+abbrev pub offsets_heard : List RawSection → List Offset
+offsets_heard sections = unwrap_or (last_of (filter_map offsets_in sections)) []
 
 -- ---- what is kept
 

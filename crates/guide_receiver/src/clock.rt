@@ -3,7 +3,7 @@ ghost use Rattle.std.specs.Prelude.{◌≡◌, List, ◌++◌, IfOk, option_map}
 ghost use Rattle.ts_demux.specs.declared.section.RawSection.{RawSection};
 ghost use Rattle.guide_receiver.specs.Latest.{IsClock, moment_in};
 
-use section_codec::{BadSection, Section, read_section};
+use crate::short::short_body;
 use si_time::Moment;
 use std::alloc::{AllocError, Global};
 use time_tables::read_tdt;
@@ -33,9 +33,8 @@ fn moment_in(alloc: Global, raw: &RawSection) -> Result<Option<Moment>, AllocErr
     if raw.pid != 0x0014 {
         return Ok(None);
     }
-    match read_section(alloc, raw.bytes.as_slice()) {
-        Ok(Section::Short(0x70, body)) => Ok(read_tdt(body.as_slice())),
-        Err(BadSection::Memory) => Err(AllocError),
-        _ => Ok(None),
+    match short_body(alloc, raw, 0x70)? {
+        Some(body) => Ok(read_tdt(body.as_slice())),
+        None => Ok(None),
     }
 }

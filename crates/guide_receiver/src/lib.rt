@@ -15,7 +15,9 @@ mod clock;
 mod known;
 mod known_section;
 mod latest_keys;
+mod offsets;
 mod receiver;
+mod short;
 
 pub use guide_screen::{Heard, Need, Needs};
 pub use heard_completions::{DoneKey, Dones, write_done};

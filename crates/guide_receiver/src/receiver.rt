@@ -17,8 +17,10 @@ ghost use Rattle.heard_completions.specs.Dones.{counted_heard, done_key, dones_b
 ghost use Rattle.guide_receiver.specs.Guides.{guide_of, guide_over};
 
 use crate::clock::clock_behind;
+use crate::offsets::{keep_last, offsets_behind};
 use crate::known::KnownSections;
 use crate::latest_keys::LatestKeys;
+use guide_model::Offsets;
 use guide_screen::{Heard, Latest, heard_guide};
 use heard_completions::{CountedSection, DoneKey, Dones};
 use si_base::Items;
@@ -41,7 +43,8 @@ pub enum HearStop {
 /// A receiver of a transport stream. It stands for the packets that it heard, and for their sections that
 /// count with the marks between them. It keeps of each PID the section that is open and the sections that
 /// counted last, of each sub-table its present run of sections and its latest completion, the keys of PAT,
-/// NIT and SDTs that were completed last, and the last moment that it heard. It keeps its allocator.
+/// NIT and SDTs that were completed last, and the last moment and the last offsets that it heard. It keeps
+/// its allocator.
 #[derive(Drop)]
 pub struct Receiver {
     alloc: Global,
@@ -50,6 +53,7 @@ pub struct Receiver {
     collector: Collector,
     latest: LatestKeys,
     clock: Option<Moment>,
+    offsets: Offsets,
 }
 
 impl Model for Receiver {
@@ -59,7 +63,7 @@ impl Model for Receiver {
 
     ghost Value = { Hearing };
 
-    ghost view = { λ r. record { demux = r.demux; collector = r.collector; latest = kept_keys r.latest; clock = r.clock } };
+    ghost view = { λ r. record { demux = r.demux; collector = r.collector; latest = kept_keys r.latest; clock = r.clock; offsets = r.offsets } };
 
     ghost invariant = { λ r. AreKnown r.collector r.known };
 }
@@ -76,6 +80,7 @@ impl Receiver {
             collector: Collector::open(alloc),
             latest: LatestKeys::open(alloc),
             clock: None,
+            offsets: Items::new(alloc),
         }
     }
 
@@ -114,7 +119,11 @@ impl Receiver {
         let Ok(clock) = clock_behind(self.alloc, self.clock, sections.as_slice()) else {
             return Err(HearStop::Memory);
         };
+        let Ok(offsets) = offsets_behind(self.alloc, sections.as_slice()) else {
+            return Err(HearStop::Memory);
+        };
         self.clock = clock;
+        keep_last(&mut self.offsets, offsets);
         let mut dones = Items::new(self.alloc);
         match count_all(
             self.alloc,
@@ -165,7 +174,12 @@ impl Receiver {
             sdt: self.latest.sdt(),
             clock: self.clock,
         };
-        heard_guide(self.alloc, &self.collector, latest)
+        heard_guide(
+            self.alloc,
+            &self.collector,
+            latest,
+            self.offsets.as_slice(),
+        )
     }
 }
 

@@ -14,6 +14,7 @@ returns c = λ packets taken stands.
       completions = c.forget.ensures.stands taken kept.completions;
       latest = subst (λ (ks : List Key). AreLatest ks (kept_keys c.self.inside.latest)) (sym (keys-forgot taken c.args.pid)) kept.latest;
       clock = kept.clock;
+      offsets = kept.offsets;
     }
 
 pub invariant_of-self : goal.invariant_of-self

@@ -1,4 +1,4 @@
-use Rattle.std.proofs.Common.{◌≡◌, ap, refl, subst, sym}
+use Rattle.std.proofs.Common.{◌≡◌, ap, refl, subst, sym, ◌∙◌}
 use Rattle.std.specs.Prelude.{IfOk}
 use Rattle.sub_collect.specs.Marks.{all_took}
 use Rattle.guide_screen.specs.View.{View}
@@ -20,7 +20,7 @@ returns-clause-over c = λ packets taken stands.
       nit = sym kept.latest.nit;
       sdt = sdt-kept V c.self.inside.latest c.sdt.result (sym kept.latest.pat) (λ ext. sym (kept.latest.sdts ext)) c.sdt.ensures.some c.sdt.ensures.none;
       clock = sym kept.clock;
-    })
+    }) (sym kept.offsets ∙ sym c.as_slice.ensures)
 
 pub returns-clause-heard : goal.returns-clause-heard
 returns-clause-heard c = λ past stands.

@@ -1,5 +1,5 @@
-use Rattle.std.proofs.Common.{◌≡◌, ℕ, ◌++◌, ◌∷◌, List, [], Err, map, length, true, refl, subst, sym, ap, ◌∙◌, append-nil, arith}
-use Rattle.std.specs.Prelude.{◌==◌}
+use Rattle.std.proofs.Common.{◌≡◌, ℕ, ◌++◌, ◌∷◌, List, [], Option, Err, map, length, true, refl, subst, sym, ap, ap₂, ◌∙◌, append-nil, arith}
+use Rattle.std.specs.Prelude.{◌==◌, unwrap_or}
 use Rattle.std.proofs.lemmas.Bool.{eqb-true}
 use Rattle.ts_demux.specs.declared.section.RawSection.{RawSection}
 use Rattle.ts_demux.specs.Sections.{ended_by, heard_all}
@@ -9,7 +9,9 @@ use Rattle.sub_collect.specs.declared.collector.TakeStop.{TakeStop}
 use Rattle.sub_collect.specs.Collectors.{CollectorStandsOver}
 use Rattle.sub_collect.proofs.MarksShown.{sections-free}
 use Rattle.heard_completions.specs.Counting.{counted_among}
-use Rattle.guide_receiver.specs.Latest.{keys_shown_over, kept_keys, AreLatest, IsClock}
+use Rattle.guide_receiver.specs.Latest.{keys_shown_over, kept_keys, AreLatest, IsClock, offsets_heard}
+use Rattle.guide_receiver.proofs.Latest.{offsets_more}
+use Rattle.guide_model.specs.declared.offset.Offset.{Offset}
 use Rattle.guide_receiver.specs.Heard.{Hearing, took_by, ReceiverStandsFor, ReceiverStandsOver}
 use Rattle.heard_completions.specs.Dones.{counted_heard, done_key}
 use Rattle.heard_completions.proofs.Shown.{heard-push}
@@ -41,6 +43,7 @@ returns-then-is_empty-clause-stands_over c =
       completions = subst (λ (t : List Taken). CollectorStandsOver t c.self.inside.collector) counted kept.completions;
       latest = subst (λ (t : List Taken). AreLatest (keys_shown_over t) (kept_keys c.self.inside.latest)) counted kept.latest;
       clock = subst (λ (t : List RawSection). IsClock t c.self.inside.clock) all kept.clock;
+      offsets = kept.offsets ∙ ap offsets_heard all;
     }
 
 -- where some did
@@ -48,9 +51,9 @@ pub returns-in-Ok-count_all-clause-dones_over : goal.returns-in-Ok-count_all-cla
 returns-in-Ok-count_all-clause-dones_over c =
     λ packets taken stands.
     let kept = subst (ReceiverStandsOver packets taken) (sym c.self.view_is) stands in
-    let heard : c.as_slice-2.result.now ≡ ended_by packets c.args.packet.now = c.as_slice-2.ensures ∙ c.in-Ok-hear.ensures.heard packets kept.sections in
+    let heard : c.as_slice-3.result.now ≡ ended_by packets c.args.packet.now = c.as_slice-3.ensures ∙ c.in-Ok-hear.ensures.heard packets kept.sections in
     c.in-Ok-count_all.ensures.dones taken kept.completions
-    ∙ ap (λ t. t ++ map done_key (dones_over taken (all_took (counted_among c.as_slice-2.result.now)))) c.new-dones.ensures
+    ∙ ap (λ t. t ++ map done_key (dones_over taken (all_took (counted_among c.as_slice-3.result.now)))) c.new-dones.ensures
     ∙ ap (λ (t : List RawSection). map done_key (dones_over taken (all_took (counted_among t)))) heard
 
 pub returns-in-Ok-count_all-clause-stands_over : goal.returns-in-Ok-count_all-clause-stands_over
@@ -59,7 +62,7 @@ returns-in-Ok-count_all-clause-stands_over c =
     let kept = subst (ReceiverStandsOver packets taken) (sym c.self.view_is) stands in
     let packet = c.args.packet.now in
     let ended : c.as_slice.result.now ≡ ended_by packets packet = c.as_slice.ensures ∙ c.in-Ok-hear.ensures.heard packets kept.sections in
-    let heard : c.as_slice-2.result.now ≡ ended_by packets packet = c.as_slice-2.ensures ∙ c.in-Ok-hear.ensures.heard packets kept.sections in
+    let heard : c.as_slice-3.result.now ≡ ended_by packets packet = c.as_slice-3.ensures ∙ c.in-Ok-hear.ensures.heard packets kept.sections in
     let counted = ap (λ (t : List RawSection). taken ++ all_took (counted_among t)) heard in
     let all = ap (λ (t : List RawSection). heard_all [] packets ++ t) ended ∙ sym (heard-push packets packet) in
     record {
@@ -69,13 +72,17 @@ returns-in-Ok-count_all-clause-stands_over c =
           (c.in-Ok-count_all.ensures.latest taken kept.completions kept.latest);
       clock = subst (λ (t : List RawSection). IsClock t c.in-Ok-clock_behind.clock) all
           (c.in-Ok-clock_behind.ensures (heard_all [] packets) kept.clock);
+      offsets =
+          c.keep_last.ensures ∙ ap₂ (λ (o : Option (List Offset)) (l : List Offset). unwrap_or o l) c.in-Ok-offsets_behind.ensures kept.offsets
+          ∙ sym (offsets_more (heard_all [] packets) c.as_slice-2.result.now)
+          ∙ ap (λ (t : List RawSection). offsets_heard (heard_all [] packets ++ t)) (c.as_slice-2.ensures ∙ c.in-Ok-hear.ensures.heard packets kept.sections) ∙ ap offsets_heard (sym (heard-push packets packet));
     }
 
 pub returns-in-Err-TooMany-clause-too_many_over : goal.returns-in-Err-TooMany-clause-too_many_over
 returns-in-Err-TooMany-clause-too_many_over c =
     λ packets taken stands many.
     let kept = subst (ReceiverStandsOver packets taken) (sym c.self.view_is) stands in
-    let heard : c.as_slice-2.result.now ≡ ended_by packets c.args.packet.now = c.as_slice-2.ensures ∙ c.in-Ok-hear.ensures.heard packets kept.sections in
+    let heard : c.as_slice-3.result.now ≡ ended_by packets c.args.packet.now = c.as_slice-3.ensures ∙ c.in-Ok-hear.ensures.heard packets kept.sections in
     subst HaveTooManyKeys (ap (λ (t : List RawSection). sections_taken taken ++ counted_among t) heard)
     (c.count_all.ensures.too_many taken kept.completions (c.in-Err-TooMany.is ∙ ap (λ (s : TakeStop). Err s) c.in-Err-TooMany.field-0-is))
 
