@@ -15,9 +15,9 @@ use Rattle.ts_demux.specs.declared.section.RawSection.{RawSection}
 use Rattle.ts_demux.specs.Sections.{heard_all, bytes_on}
 use Rattle.ts_demux.proofs.Adding.{order_kept}
 use Rattle.guide_receiver.specs.Latest.{last_of, moment_by, moment_in, clock_of}
-use Rattle.air_model.specs.Air.{Aired, tdt, air}
+use Rattle.air_model.specs.Air.{Aired, tdt, tot, air}
 use Rattle.air_model.specs.Repeating.{IsRepeatingAirOf}
-use Rattle.air_model.proofs.Repeating.{around}
+use Rattle.air_model.proofs.Repeating.{around, first_of}
 use Rattle.air_hearing.specs.Counting.{CanBeHeard}
 use Rattle.air_hearing.proofs.Told.{sent_of}
 use Rattle.air_joins.specs.Joining.{heard_between}
@@ -83,7 +83,7 @@ clock_heard airings before x after is can join end joined whole within =
     let packets : List (List ℕ) = map bytes_of_packet (slice_range (air xs) join end) in
     let s = tdt x.airing.moment in
     let has : Contains (heard_between join end 0x0014 (air xs)) s.bytes =
-    cycle_is_heard airings before after x is (sent_of airings can) join end joined whole s (inr refl) (omega arith) in
+    cycle_is_heard airings before after x is (sent_of airings can) join end joined whole s (inr (first_of s (tot x.airing.moment x.airing.form.offsets))) (omega arith) in
     let parts = around (heard_between join end 0x0014 (air xs)) s.bytes has in
     let found = on_own_pid 0x0014 s.bytes parts.0 parts.1 (heard_all [] packets) (order_kept packets 0x0014 ∙ parts.2) in
     let told = told_moment found.1 x.airing.moment within found.4 found.5 in

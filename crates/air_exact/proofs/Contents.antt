@@ -43,7 +43,7 @@ can_at (y ∷ before) x after can = can_at before x after can.1
 some_packet : (past : List AiredTables) (x : Aired) → IsRepeatingCycle past x → 0 < length x.packets
 some_packet past x h =
     let own : Carries (of_pid 0x0014 x.packets) (filter_map (sent_on 0x0014) h.sections) = h.carried 0x0014 in
-    let has = contains-sent h.sections (tdt x.airing.moment) h.are.time in
+    let has = contains-sent h.sections (tdt x.airing.moment) h.are.time.0 in
     go own.groups (length_groups (of_pid 0x0014 x.packets) (filter_map (sent_on 0x0014) h.sections) own)
     (subst (λ (l : List (List ℕ)). Contains l (tdt x.airing.moment).bytes) own.sections has)
   where

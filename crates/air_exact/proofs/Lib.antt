@@ -4,3 +4,4 @@ pub mod Shown
 pub mod Latest
 pub mod Clock
 pub mod Views
+pub mod Offsets

@@ -27,6 +27,7 @@ use Rattle.air_exact.proofs.Contents.{contents_heard}
 use Rattle.air_exact.proofs.Shown.{all_shown}
 use Rattle.air_exact.proofs.Latest.{only_is_latest}
 use Rattle.air_exact.proofs.Clock.{clock_heard}
+use Rattle.air_exact.proofs.Offsets.{offsets_are_heard}
 
 -- ---- keys of airings
 
@@ -80,7 +81,7 @@ module _ (airings : List AiredTables) (before : List Aired) (x : Aired) (after :
           (element_at (λ (a : AiredTables). AllByRecursion (λ (t : SubTable). test t.key ≡ true → t.key ≡ k) a.tables) aired.before aired.cycle aired.after all) d.sections aired.content
 
 pub on_air_heard : OnAirIsHeard
-on_air_heard airings before x after is can join end stays within pat nit sdt once =
+on_air_heard airings before x after is can join end stays within pat nit sdt once offsets =
     let clock = clock_heard airings before x after is can join end stays.joined stays.whole within in
     record {
       content = λ k c counted content. contents_heard airings before x after is can join end stays k counted c content;
@@ -88,4 +89,5 @@ on_air_heard airings before x after is can join end stays within pat nit sdt onc
       nit_is = latest_key airings before x after is can join end stays is_nit_key nit once.nits once.nit_is;
       sdt_is = latest_key airings before x after is can join end stays (is_sdt_key sdt.ext) sdt once.sdts once.sdt_is;
       clock = subst IsSome (sym clock.1) refl;
+      offsets = offsets_are_heard airings before x after is can join end stays.joined stays.whole within offsets;
     }

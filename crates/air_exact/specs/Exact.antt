@@ -37,11 +37,16 @@ pub record HaveOneEach (airings : List AiredTables) (a : AiredTables) (pat nit s
   pub nit_is : IsCarried is_nit_key nit a
   pub sdt_is : IsCarried (is_sdt_key sdt.ext) sdt a
 
+-- these airings tell the offsets of this one
+abbrev pub TellOffsetsOf : AiredTables → List AiredTables → Type 0
+TellOffsetsOf a airings = AllByRecursion (λ (b : AiredTables). b.form.offsets ≡ a.form.offsets) airings
+
 -- What was heard is what this airing sends: the contents of its sub-tables, whatever else was heard; of the tables that come once their keys;
--- and a moment.
+-- a moment, and its offsets.
 pub record HasOnAir (a : AiredTables) (pat nit sdt : Key) (V : View) : Type 0 where
   pub content : (k : Key) (c : Content) → is_counted k.pid k.table ≡ true → content_at k a ≡ Some c → V.content k ≡ Some c
   pub pat_is : V.pat ≡ Some pat
   pub nit_is : V.nit ≡ Some nit
   pub sdt_is : V.sdt sdt.ext ≡ Some sdt
   pub clock : IsSome V.clock
+  pub offsets : V.offsets ≡ a.form.offsets

@@ -12,7 +12,7 @@ use Rattle.guide_screen.specs.Holding.{content_in}
 use Rattle.air_model.specs.Air.{Aired, air}
 use Rattle.air_model.specs.Repeating.{IsRepeatingAirOf}
 use Rattle.air_hearing.specs.Counting.{CanBeHeard}
-use Rattle.air_exact.specs.Exact.{StaysOnAir, HaveOneEach, HasOnAir}
+use Rattle.air_exact.specs.Exact.{StaysOnAir, HaveOneEach, TellOffsetsOf, HasOnAir}
 
 -- Where all packets of a cycle are heard, and its sub-tables stay on air, the content that is heard last of each key that it carries is the
 -- one that it carries, whatever was heard before.
@@ -22,9 +22,11 @@ ContentsAreHeard =
     → (join end : ℕ) → StaysOnAir join end before x after → (k : Key) → is_counted k.pid k.table ≡ true → (c : Content) → content_at k x.airing ≡ Some c
     → content_in (counted_heard (map bytes_of_packet (slice_range (air (before ++ x ∷ after)) join end))) k ≡ Some c
 
--- So a receiver has what is on air, where of the tables that come once all airings have the same: the contents, the keys, and a moment.
+-- So a receiver has what is on air, where of the tables that come once all airings have the same, and tell the same offsets: the contents,
+-- the keys, a moment, and the offsets.
 abbrev pub OnAirIsHeard : Type 0
 OnAirIsHeard =
     (airings : List AiredTables) (before : List Aired) (x : Aired) (after : List Aired) → IsRepeatingAirOf airings (before ++ x ∷ after) → AllByRecursion CanBeHeard airings
     → (join end : ℕ) → StaysOnAir join end before x after → x.airing.moment < 65536 * 86400 → (pat nit sdt : Key) → HaveOneEach airings x.airing pat nit sdt
+    → TellOffsetsOf x.airing airings
     → HasOnAir x.airing pat nit sdt (view_of (map bytes_of_packet (slice_range (air (before ++ x ∷ after)) join end)))

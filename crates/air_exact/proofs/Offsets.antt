@@ -1,0 +1,200 @@
+-- Where a whole cycle is heard, and all airings tell the same offsets, these are the offsets that are heard last.
+use Rattle.std.proofs.Common.{◌≡◌, ◌⊎◌, ℕ, ◌+◌, ◌*◌, ◌<◌, ◌≤◌, List, [], ◌∷◌, ◌++◌, Bool, true, false, ◌==◌, inl, inr, Option, Some, None, Ok, length, map, refl, sym, ap, ◌∙◌, subst, arith}
+use Rattle.std.specs.Prelude.{if◌then◌else◌, filter_map, slice_range, unwrap_or}
+use Rattle.std.specs.Option.{option_map, option_or}
+use Rattle.std.specs.List.{AllByRecursion, Contains, cons_option}
+use Rattle.std.proofs.lemmas.List.{take_at, drop_at}
+use Rattle.std.proofs.lemmas.List.Elements.{All-contains}
+use Rattle.si_lists.proofs.Lists.{all_map}
+use Rattle.si_base.specs.Fields.{two}
+use Rattle.si_time.specs.Moments.{moment_bcd}
+use Rattle.si_time.specs.Readings.{moment_from_bcd}
+use Rattle.si_time.proofs.RoundTrips.{moment_from_bcd-moment_bcd, length-moment_bcd}
+use Rattle.guide_model.specs.declared.offset.Offset.{Offset}
+use Rattle.section_codec.specs.declared.table.SubTable.{SubTable}
+use Rattle.section_codec.specs.declared.table.NumberedBody.{NumberedBody}
+use Rattle.section_codec.specs.declared.section.Section.TheVariants.{Long, Short}
+use Rattle.section_codec.specs.Section.{section_in, FitsLong}
+use Rattle.section_codec.specs.SubTables.{IsFit, header_of}
+use Rattle.section_codec.proofs.ReadBack.{section_in-section_bytes}
+use Rattle.time_tables.specs.declared.tot.Tot.{Tot}
+use Rattle.time_tables.specs.LocalOffsets.{local_offsets}
+use Rattle.time_tables.specs.Tot.{tot_body, tot_section, tot_with, told_in, tot_in, AreSent}
+use Rattle.time_tables.proofs.Sections.{tdt-is_a_section_any}
+use Rattle.time_tables.proofs.Loops.{loop_told, tot-is_a_section}
+use Rattle.version_book.specs.Airings.{AiredTables, CycleForm, version_at}
+use Rattle.ts_packets.specs.Bytes.{bytes_of_packet}
+use Rattle.ts_demux.specs.declared.section.RawSection.{RawSection}
+use Rattle.ts_demux.specs.Sections.{heard_all, bytes_on}
+use Rattle.ts_demux.proofs.Adding.{order_kept}
+use Rattle.guide_receiver.specs.Latest.{last_of, offsets_by, offsets_in, offsets_heard}
+use Rattle.air_model.specs.Air.{Sent, Aired, tdt, tot, times, air, airings_of, CanBeTold}
+use Rattle.air_model.specs.Repeating.{IsRepeatingAirOf, IsSentOf}
+use Rattle.air_model.proofs.Repeating.{of_element}
+use Rattle.air_hearing.specs.Counting.{CanBeHeard}
+use Rattle.air_hearing.proofs.Blocks.{CanCount, can_count, version_at-lt}
+use Rattle.air_hearing.proofs.Told.{sent_of}
+use Rattle.air_joins.specs.Joining.{heard_between, IsOfCycleIn}
+use Rattle.air_joins.proofs.Whole.{heard_is_sent, cycle_is_heard}
+use Rattle.air_exact.specs.Exact.{TellOffsetsOf}
+use Rattle.air_exact.proofs.Contents.{can_at}
+
+-- the offsets that a section tells, by its bytes
+abbrev told : List ℕ → Option (List Offset)
+told bytes = offsets_by (section_in bytes)
+
+-- it tells none, or these
+abbrev IsTold : List Offset → List ℕ → Type 0
+IsTold offsets bytes = (told bytes ≡ None) ⊎ (told bytes ≡ Some offsets)
+
+-- ---- one section
+
+-- a written body, at whatever moment
+body_told : (at : Option ℕ) (offsets : List Offset) → (option_map (λ (t : Tot). t.offsets) (tot_with at (Some offsets)) ≡ None) ⊎ (option_map (λ (t : Tot). t.offsets) (tot_with at (Some offsets)) ≡ Some offsets)
+body_told None offsets = inl refl
+body_told (Some at) offsets = inr refl
+
+body_is : (at : ℕ) (offsets : List Offset) → AreSent offsets → tot_in (tot_body at offsets) ≡ tot_with (moment_from_bcd (moment_bcd at)) (Some offsets)
+body_is at offsets sent =
+    let loop = two (0xF000 + length (local_offsets offsets)) ++ local_offsets offsets in
+    (λ i. tot_with (moment_from_bcd (take_at (moment_bcd at) loop 5 (length-moment_bcd at) i)) (told_in (drop_at (moment_bcd at) loop 5 (length-moment_bcd at) i)))
+    ∙ ap (tot_with (moment_from_bcd (moment_bcd at))) (loop_told offsets sent)
+
+tot_told : (at : ℕ) (offsets : List Offset) → AreSent offsets → IsTold offsets (tot_section at offsets)
+tot_told at offsets sent =
+    let is : told (tot_section at offsets) ≡ option_map (λ (t : Tot). t.offsets) (tot_with (moment_from_bcd (moment_bcd at)) (Some offsets)) =
+    ap offsets_by (tot-is_a_section at offsets sent) ∙ ap (option_map (λ (t : Tot). t.offsets)) (body_is at offsets sent) in
+    subst (λ (o : Option (List Offset)). (o ≡ None) ⊎ (o ≡ Some offsets)) (sym is) (body_told (moment_from_bcd (moment_bcd at)) offsets)
+
+tot_is_told : (at : ℕ) (offsets : List Offset) → AreSent offsets → at < 65536 * 86400 → told (tot_section at offsets) ≡ Some offsets
+tot_is_told at offsets sent lt =
+    ap offsets_by (tot-is_a_section at offsets sent) ∙ ap (option_map (λ (t : Tot). t.offsets)) (body_is at offsets sent)
+    ∙ ap (λ (o : Option ℕ). option_map (λ (t : Tot). t.offsets) (tot_with o (Some offsets))) (moment_from_bcd-moment_bcd at lt)
+
+sent_offsets : (o : Offset) (offsets : List Offset) → CanBeTold (o ∷ offsets) → AreSent (o ∷ offsets)
+sent_offsets o offsets can = record { some = omega arith; few = can.few; each = can.each }
+
+times_told : (form : CycleForm) (moment : ℕ) → CanBeTold form.offsets → AllByRecursion (λ (s : Sent). IsTold form.offsets s.bytes) (times form moment)
+times_told form moment can = (inl (ap offsets_by (tdt-is_a_section_any moment)), go form.offsets can)
+  where
+    go : (offsets : List Offset) → CanBeTold offsets → AllByRecursion (λ (s : Sent). IsTold offsets s.bytes) (tot moment offsets)
+    go [] can = tt
+    go (o ∷ offsets) can = (tot_told moment (o ∷ offsets) (sent_offsets o offsets can), tt)
+
+-- of an airing
+sent_told : (past : List AiredTables) (a : AiredTables) → CanBeHeard a → (s : Sent) → IsSentOf past a s → IsTold a.form.offsets s.bytes
+sent_told past a can s (inr has) = of_element (λ (x : Sent). IsTold a.form.offsets x.bytes) (times a.form a.moment) s (times_told a.form a.moment can.offsets) has
+sent_told past a can s (inl (t, p, has_t, has_p, e)) =
+    let fit : IsFit t = All-contains IsFit a.tables t can.fit has_t in
+    let read = of_element _ a.tables t can.readable has_t in
+    let one : CanCount t p = of_element (CanCount t) t.sections p (can_count t fit read) has_p in
+    let fits : FitsLong (header_of (version_at t.key (past ++ a ∷ [])) t p) p.body = record {
+      table = read.table;
+      form = fit.long;
+      ext = read.ext;
+      version = version_at-lt t.key (past ++ a ∷ []);
+      number = one.number;
+      last = read.last;
+      within = one.within;
+    } in
+    inl (ap (λ (x : Sent). told x.bytes) e ∙ ap offsets_by (section_in-section_bytes (header_of (version_at t.key (past ++ a ∷ [])) t p) p.body fits))
+
+-- ---- the last that is told
+
+same_last : (offsets : List Offset) (l : List (List ℕ)) → AllByRecursion (IsTold offsets) l → (last_of (filter_map told l) ≡ None) ⊎ (last_of (filter_map told l) ≡ Some offsets)
+same_last offsets [] all = inl refl
+same_last offsets (b ∷ l) all = go (told b) all.0 (same_last offsets l all.1)
+  where
+    more : (x : List Offset) (o : Option (List Offset)) → x ≡ offsets → (o ≡ None) ⊎ (o ≡ Some offsets) → (option_or o (Some x) ≡ None) ⊎ (option_or o (Some x) ≡ Some offsets)
+    more x o e (inl none) = inr (ap (λ (p : Option (List Offset)). option_or p (Some x)) none ∙ ap (λ (y : List Offset). Some y) e)
+    more x o e (inr some) = inr (ap (λ (p : Option (List Offset)). option_or p (Some x)) some)
+
+    go : (o : Option (List Offset)) → (o ≡ None) ⊎ (o ≡ Some offsets) → (last_of (filter_map told l) ≡ None) ⊎ (last_of (filter_map told l) ≡ Some offsets)
+        → (last_of (cons_option o (filter_map told l)) ≡ None) ⊎ (last_of (cons_option o (filter_map told l)) ≡ Some offsets)
+    go None e rest = rest
+    go (Some x) (inl e) rest = absurd (let z : Prim.⊥ = cc in z)
+    go (Some x) (inr e) rest = more x (last_of (filter_map told l)) (let f : x ≡ offsets = cc in f) rest
+
+-- where none is the last, none is told
+none_last : (l : List (List ℕ)) → last_of (filter_map told l) ≡ None → AllByRecursion (λ (b : List ℕ). told b ≡ None) l
+none_last [] e = tt
+none_last (b ∷ l) e = go (none_last l) (told b) refl e
+  where
+    some : (o : Option (List Offset)) (x : List Offset) → option_or o (Some x) ≡ None → Prim.⊥
+    some None x f = cc
+    some (Some y) x f = cc
+
+    go : (last_of (filter_map told l) ≡ None → AllByRecursion (λ (b : List ℕ). told b ≡ None) l) → (o : Option (List Offset)) → told b ≡ o → last_of (cons_option o (filter_map told l)) ≡ None
+        → (told b ≡ None) × AllByRecursion (λ (b : List ℕ). told b ≡ None) l
+    go later None f g = (f, later g)
+    go later (Some x) f g = absurd (some (last_of (filter_map told l)) x g)
+
+-- those on the PID are all
+on_pid : (rs : List RawSection) → filter_map offsets_in rs ≡ filter_map told (filter_map (bytes_on 0x0014) rs)
+on_pid [] = refl
+on_pid (r ∷ rs) = go (r.pid == 0x0014) (on_pid rs)
+  where
+    go : (b : Bool) → filter_map offsets_in rs ≡ filter_map told (filter_map (bytes_on 0x0014) rs)
+        → cons_option (if b then told r.bytes else None) (filter_map offsets_in rs) ≡ filter_map told (cons_option (if b then Some r.bytes else None) (filter_map (bytes_on 0x0014) rs))
+    go true e = ap (cons_option (told r.bytes)) e
+    go false e = e
+
+pub offsets_are_heard : (airings : List AiredTables) (before : List Aired) (x : Aired) (after : List Aired) → IsRepeatingAirOf airings (before ++ x ∷ after) → AllByRecursion CanBeHeard airings
+    → (join end : ℕ) → join ≤ length (air before) → length (air before) + length x.packets ≤ end → x.airing.moment < 65536 * 86400 → TellOffsetsOf x.airing airings
+    → offsets_heard (heard_all [] (map bytes_of_packet (slice_range (air (before ++ x ∷ after)) join end))) ≡ x.airing.form.offsets
+offsets_are_heard airings before x after is can join end joined whole within same =
+    ap (λ (l : List (List Offset)). unwrap_or (last_of l) []) (on_pid (heard_all [] packets) ∙ ap (filter_map told) (order_kept packets 0x0014))
+    ∙ go offsets refl (same_last offsets heard each)
+  where
+    xs : List Aired
+    xs = before ++ x ∷ after
+
+    packets : List (List ℕ)
+    packets = map bytes_of_packet (slice_range (air xs) join end)
+
+    heard : List (List ℕ)
+    heard = heard_between join end 0x0014 (air xs)
+
+    offsets : List Offset
+    offsets = x.airing.form.offsets
+
+    cans : AllByRecursion CanBeHeard (airings_of xs)
+    cans = subst (AllByRecursion CanBeHeard) (sym is.airings_are) can
+
+    sames : TellOffsetsOf x.airing (airings_of xs)
+    sames = subst (TellOffsetsOf x.airing) (sym is.airings_are) same
+
+    one : (bytes : List ℕ) → IsOfCycleIn join end 0x0014 xs bytes → IsTold offsets bytes
+    one bytes of_cycle =
+        let ours : AllByRecursion CanBeHeard (airings_of (of_cycle.before ++ of_cycle.cycle ∷ of_cycle.after)) = subst (λ (l : List Aired). AllByRecursion CanBeHeard (airings_of l)) of_cycle.cut cans in
+        let told_here = sent_told (airings_of of_cycle.before) of_cycle.cycle.airing (can_at of_cycle.before of_cycle.cycle of_cycle.after ours) of_cycle.section of_cycle.sent in
+        let tells : of_cycle.cycle.airing.form.offsets ≡ offsets =
+        offsets_at of_cycle.before of_cycle.cycle of_cycle.after (subst (λ (l : List Aired). TellOffsetsOf x.airing (airings_of l)) of_cycle.cut sames) in
+        subst (IsTold offsets) of_cycle.has_bytes (subst (λ (o : List Offset). IsTold o of_cycle.section.bytes) tells told_here)
+      where
+        offsets_at : (front : List Aired) (y : Aired) (behind : List Aired) → TellOffsetsOf x.airing (airings_of (front ++ y ∷ behind)) → y.airing.form.offsets ≡ offsets
+        offsets_at [] y behind all = all.0
+        offsets_at (z ∷ front) y behind all = offsets_at front y behind all.1
+
+    each : AllByRecursion (IsTold offsets) heard
+    each = all_map (IsOfCycleIn join end 0x0014 xs) (IsTold offsets) one heard (heard_is_sent airings xs is (sent_of airings can) 0x0014 (omega arith) join end)
+
+    -- the TOT of the whole cycle is heard
+    tot_heard : (o : Offset) (os : List Offset) → offsets ≡ o ∷ os → Contains heard (tot_section x.airing.moment (o ∷ os))
+    tot_heard o os e =
+        let s : Sent = record { pid = 0x0014; bytes = tot_section x.airing.moment (o ∷ os) } in
+        let has : Contains (times x.airing.form x.airing.moment) s =
+        subst (λ (l : List Offset). Contains (tdt x.airing.moment ∷ tot x.airing.moment l) s) (sym e) (1, omega arith, refl) in
+        cycle_is_heard airings before after x is (sent_of airings can) join end joined whole s (inr has) (omega arith)
+
+    some_told : (os : List Offset) → offsets ≡ os → last_of (filter_map told heard) ≡ None → os ≡ []
+    some_told [] e none = refl
+    some_told (o ∷ os) e none =
+        let here = of_element (λ (b : List ℕ). told b ≡ None) heard (tot_section x.airing.moment (o ∷ os)) (none_last heard none) (tot_heard o os e) in
+        let fit : CanBeTold (o ∷ os) = subst CanBeTold e (can_at before x after cans).offsets in
+        let there = tot_is_told x.airing.moment (o ∷ os) (sent_offsets o os fit) within in
+        absurd (let f : None ≡ Some (o ∷ os) = sym here ∙ there in let z : Prim.⊥ = cc in z)
+
+    go : (os : List Offset) → offsets ≡ os → (last_of (filter_map told heard) ≡ None) ⊎ (last_of (filter_map told heard) ≡ Some offsets) → unwrap_or (last_of (filter_map told heard)) [] ≡ offsets
+    go os e (inr some) = ap (λ (l : Option (List Offset)). unwrap_or l []) some
+    go os e (inl none) = ap (λ (l : Option (List Offset)). unwrap_or l []) none ∙ sym (e ∙ some_told os e none)
