@@ -18,6 +18,7 @@ row_mux = record {
   cable = None;
   start = row_start;
   quota = 200;
+  offsets = [];
   services = record { service = 101; feed = 1; kind = 1; pmt_pid = 256; pcr_pid = 257; provider = codes "Acme"; name = codes "One"; components = [] } ∷ [];
 }
 
@@ -27,6 +28,7 @@ row_sound = record {
   cable = tt;
   start = lit< tt;
   quota = (lit≤ tt, lit≤ tt);
+  offsets = record { few = lit≤ tt; each = tt; once = tt };
   count = (lit≤ tt, lit≤ tt);
   services = (
     record {

@@ -1,7 +1,8 @@
 -- A sound multiplex: every value in its range, and nothing that has to be single stands twice. What the types of the fields
 -- bound already (16 bits of an id, 8 of a type) is not said again.
-use Rattle.std.specs.Prelude.{◌≡◌, ◌≢◌, ℕ, ◌*◌, ◌<◌, ◌≤◌, List, [], ◌∷◌, length, Option, Some, None, map}
+use Rattle.std.specs.Prelude.{◌≡◌, ◌≢◌, ℕ, ◌*◌, ◌<◌, ◌≤◌, Bool, false, ◌==◌, ◌&&◌, bytes_eq, if◌then◌else◌, List, [], ◌∷◌, length, Option, Some, None, map}
 use Rattle.std.specs.List.{AllByRecursion, flat_map}
+use Rattle.guide_model.specs.declared.offset.Offset.{Offset}
 use Rattle.guide_model.specs.declared.stream.Cable.{Cable}
 use Rattle.guide_model.specs.declared.stream.Component.{Component}
 use Rattle.si_text.specs.Coding.{coded_size}
@@ -61,11 +62,38 @@ pmt_pids ss = map (λ (s : MuxService). s.pmt_pid) ss
 abbrev pub all_component_pids : List MuxService → List ℕ
 all_component_pids ss = flat_map component_pids ss
 
+-- the most minutes that clocks are from UTC: 13 hours ahead of it, 12 behind (EN 300 468, 6.2.20)
+abbrev pub farthest : Bool → ℕ
+farthest behind = if behind then 720 else 780
+
+-- a region: three letters A to Z and a number of 6 bits, offsets that clocks have, and a change that a section can carry
+pub record IsSoundOffset (o : Offset) : Type 0 where
+  pub country : (length o.country ≡ 3) × AllByRecursion (Between 65 90) o.country
+  pub region : o.region ≤ 63
+  pub minutes : o.minutes ≤ farthest o.behind
+  pub change : o.change.0 < 65536 * 86400
+  pub next : o.next ≤ farthest o.behind
+
+-- two are of one region
+abbrev pub is_region : Offset → Offset → Bool
+is_region o p = bytes_eq o.country p.country && o.region == p.region
+
+abbrev pub AreOfRegions : List Offset → Type 0
+AreOfRegions [] = Unit {0}
+AreOfRegions (o ∷ os) = AllByRecursion (λ p. is_region o p ≡ false) os × AreOfRegions os
+
+-- at most 16 offsets, each of a region of its own
+pub record AreSoundOffsets (offsets : List Offset) : Type 0 where
+  pub few : length offsets ≤ 16
+  pub each : AllByRecursion IsSoundOffset offsets
+  pub once : AreOfRegions offsets
+
 pub record IsSound (mux : Mux) : Type 0 where
   pub network_name : Between 1 100 (coded_size mux.network_name)
   pub cable : HasSoundCable mux.cable
   pub start : mux.start.0 < 65536 * 86400
   pub quota : Between 1 10000 mux.quota
+  pub offsets : AreSoundOffsets mux.offsets
   pub count : Between 1 64 (length mux.services)
   pub services : AllByRecursion IsSoundService mux.services
   pub ascend : DoAscend mux.services

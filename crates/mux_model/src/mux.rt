@@ -1,7 +1,7 @@
 // A multiplex and its services.
 ghost use Rattle.std.specs.Prelude.{◌≡◌, IfOk};
 
-use guide_model::{Cable, Components};
+use guide_model::{Cable, Components, Offsets};
 use si_base::{Copies, Items};
 use si_text::Txt;
 use si_time::Moment;
@@ -25,8 +25,8 @@ pub struct MuxService {
 pub type MuxServices = Items<MuxService>;
 
 /// A multiplex: network_id and network name, transport_stream_id, original_network_id, its cable delivery where it is
-/// given, the moment at which its desk starts, the number of packets between two repeats of its frequent tables, and its
-/// services.
+/// given, the moment at which its desk starts, the number of packets between two repeats of its frequent tables, how far the
+/// clocks of regions are from UTC (EN 300 468, 5.2.6), and its services.
 #[derive(Drop)]
 pub struct Mux {
     pub network: u16,
@@ -36,6 +36,7 @@ pub struct Mux {
     pub cable: Option<Cable>,
     pub start: Moment,
     pub quota: u32,
+    pub offsets: Offsets,
     pub services: MuxServices,
 }
 
@@ -67,6 +68,7 @@ impl Mux {
             cable: self.cable,
             start: self.start,
             quota: self.quota,
+            offsets: self.offsets.copy()?,
             services: self.services.copy()?,
         })
     }
