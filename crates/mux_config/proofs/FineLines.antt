@@ -16,16 +16,16 @@ use Rattle.input_lines.proofs.CleanLines.{is_line_back, line_kept}
 use Rattle.guide_model.specs.declared.stream.Component.{Component}
 use Rattle.mux_model.specs.declared.mux.MuxService.{MuxService}
 use Rattle.mux_model.specs.declared.mux.Mux.{Mux}
-use Rattle.mux_model.specs.Sound.{AreDifferent, Between, HasSoundLanguage, IsSoundCable, IsSoundComponent, IsSoundService}
+use Rattle.mux_model.specs.Sound.{AreDifferent, Between, HasSoundLanguage, IsSoundCable, IsSoundComponent, IsSoundOffset, IsSoundService, farthest}
 use Rattle.mux_config.specs.declared.fault.MuxFault.{MuxFault}
 use Rattle.mux_config.specs.declared.rows.Numbers.{Numbers}
 use Rattle.mux_config.specs.declared.record.Record.{Record}
-use Rattle.mux_config.specs.declared.record.Record.TheVariants.{Network, Stream, Delivery, Service, Part, Quota, End}
+use Rattle.mux_config.specs.declared.record.Record.TheVariants.{Network, Stream, Delivery, Service, Part, Quota, Local, End}
 use Rattle.mux_config.specs.declared.record.RecordFound.{RecordFound}
 use Rattle.mux_config.specs.declared.record.RecordFound.TheVariants.{NoRecord, OutOfRange, Is}
 use Rattle.mux_config.specs.declared.record.Numbered.{Numbered}
 use Rattle.mux_config.specs.Descriptions.{Description, and_found, described_from, ended, fault_of, has_no_place, is_end, repeated_at, unless}
-use Rattle.mux_config.specs.Fields.{cable_with, found_fields, found_in, found_line, found_with, is_language, is_letter, is_service_in_range, language_of, network_in, stream_in, cable_in, numbers_in, service_of, service_in, bare_service, part_in, start_with, start_in, quota_in, within}
+use Rattle.mux_config.specs.Fields.{cable_with, found_fields, found_in, found_line, found_with, is_language, is_letter, is_service_in_range, language_of, network_in, stream_in, cable_in, numbers_in, service_of, service_in, bare_service, part_in, is_capital, country_of, side_of, offset_with, offset_in, start_with, start_in, quota_in, within}
 use Rattle.mux_config.specs.Laws.{DescribedTextsAreKept, WholeDescriptionsAreSound}
 use Rattle.mux_config.proofs.FineRecords.{AreFine, IsFine, IsFineFound}
 use Rattle.mux_config.proofs.Soundness.{IsFineMux, fine_end, fine_more, fine_none}
@@ -138,6 +138,46 @@ fine_moment (Some t) h = h t refl
 fine_start : (moment : List ℕ) → IsFineFound (start_in moment)
 fine_start moment = fine_moment (moment_in moment) (λ t e. (moment_in-is moment t e).0)
 
+-- a country is three letters A to Z
+abbrev IsCountry : List ℕ → Type 0
+IsCountry letters = (length letters ≡ 3) × AllByRecursion (Between 65 90) letters
+
+capitals : (b : Bool) (letters other : List ℕ) → (b ≡ true → IsCountry letters) → (if b then Some letters else None) ≡ Some other → IsCountry other
+capitals true letters other h e = (let same : letters ≡ other = cc e in subst IsCountry same (h refl))
+capitals false letters other h e = cc e
+
+sound_country : (field letters : List ℕ) → country_of field ≡ Some letters → IsCountry letters
+sound_country (a ∷ b ∷ c ∷ []) letters e = capitals (is_capital a && (is_capital b && is_capital c)) (a ∷ b ∷ c ∷ []) letters
+    (λ all.
+    let behind = second_true (is_capital a) _ all in
+    let one = bounds 65 90 a (first_true (is_capital a) _ all) in
+    let two = bounds 65 90 b (first_true (is_capital b) _ behind) in
+    let three = bounds 65 90 c (second_true (is_capital b) _ behind) in
+    (refl, (one, (two, (three, tt))))) e
+sound_country other letters e = cc e
+
+fine_local : (country : Option (List ℕ)) (region : ℕ) (side : Option Bool) (minutes : ℕ) (change : Option ℕ) (next : ℕ) → ((letters : List ℕ) → country ≡ Some letters → IsCountry letters)
+    → ((t : ℕ) → change ≡ Some t → t < 65536 * 86400) → IsFineFound (offset_with country region side minutes change next)
+fine_local None region side minutes change next letters at = tt
+fine_local (Some country) region None minutes change next letters at = tt
+fine_local (Some country) region (Some behind) minutes None next letters at = tt
+fine_local (Some country) region (Some behind) minutes (Some change) next letters at =
+    fine_within _ (Local (record { country = country; region = region; behind = behind; minutes = minutes; change = record { 0 = change }; next = next }))
+    (λ e.
+    let both = second_true (in_range 0 63 region) _ e in
+    record {
+      country = letters country refl;
+      region = (bounds 0 63 region (first_true (in_range 0 63 region) _ e)).1;
+      minutes = (bounds 0 (farthest behind) minutes (first_true (in_range 0 (farthest behind) minutes) _ both)).1;
+      change = at change refl;
+      next = (bounds 0 (farthest behind) next (second_true (in_range 0 (farthest behind) minutes) _ both)).1;
+    })
+
+fine_offset : (country region side minutes change next : List ℕ) → IsFineFound (offset_in country region side minutes change next)
+fine_offset country region side minutes change next =
+    fine_with (numeral_of region) _ (λ r. fine_with (numeral_of minutes) _ (λ m. fine_with (numeral_of next) _ (λ n.
+    fine_local (country_of country) r (side_of side) m (moment_in change) n (sound_country country) (λ t e. (moment_in-is change t e).0))))
+
 fine_quota : (quota : List ℕ) → IsFineFound (quota_in quota)
 fine_quota quota = fine_with (numeral_of quota) _ (λ n. fine_within (in_range 1 10000 n) (Quota n) (bounds 1 10000 n))
 
@@ -151,6 +191,7 @@ fine_in (word ∷ a ∷ b ∷ []) kept =
     (fine_if (is_word (codes "stream") word) (stream_in a b) NoRecord (fine_stream a b) tt)
 fine_in (word ∷ a ∷ b ∷ c ∷ d ∷ []) kept = fine_if (is_word (codes "component") word) (part_in a b c d) NoRecord (fine_part a b c d) tt
 fine_in (word ∷ a ∷ b ∷ c ∷ d ∷ e ∷ []) kept = fine_if (is_word (codes "cable") word) (cable_in a b c d e) NoRecord (fine_cable a b c d e) tt
+fine_in (word ∷ a ∷ b ∷ c ∷ d ∷ e ∷ f ∷ []) kept = fine_if (is_word (codes "offset") word) (offset_in a b c d e f) NoRecord (fine_offset a b c d e f) tt
 fine_in (word ∷ a ∷ b ∷ c ∷ d ∷ e ∷ f ∷ g ∷ []) kept =
     fine_if (is_word (codes "service") word) (service_in a b c d e f g) NoRecord (fine_service (numbers_in a b c d e) f g kept.1.1.1.1.1.1.0 kept.1.1.1.1.1.1.1.0) tt
 fine_in other kept = tt

@@ -7,12 +7,12 @@ use Rattle.si_text.specs.Decoding.{IsKept}
 use Rattle.si_time.specs.declared.moment.Moment.{Moment}
 use Rattle.mux_model.specs.declared.mux.MuxService.{MuxService}
 use Rattle.mux_config.specs.declared.record.Record.{Record}
-use Rattle.mux_config.specs.declared.record.Record.TheVariants.{Network, Stream, Delivery, Service, Part, Start, Quota, End}
+use Rattle.mux_config.specs.declared.record.Record.TheVariants.{Network, Stream, Delivery, Service, Part, Start, Quota, Local, End}
 use Rattle.mux_config.specs.declared.record.RecordFound.{RecordFound}
 use Rattle.mux_config.specs.declared.record.RecordFound.TheVariants.{Is}
-use Rattle.mux_model.specs.Sound.{AreDifferent, Between, DoAscend, IsSoundCable, IsSoundComponent, IsSoundService, pmt_pids}
+use Rattle.mux_model.specs.Sound.{AreDifferent, Between, DoAscend, IsSoundCable, IsSoundComponent, IsSoundOffset, IsSoundService, AreOfRegions, pmt_pids}
 use Rattle.mux_config.specs.declared.record.Numbered.{Numbered}
-use Rattle.mux_config.specs.Descriptions.{all_of, part_in, service_in, sorted}
+use Rattle.mux_config.specs.Descriptions.{all_of, local_in, part_in, service_in, sorted}
 
 -- a service, with texts that may be kept
 abbrev pub IsFineService : MuxService → Type 0
@@ -35,6 +35,7 @@ IsFine (Service s) = IsFineService s
 IsFine (Part id component) = IsSoundComponent component
 IsFine (Start moment) = IsFineStart moment
 IsFine (Quota n) = Between 1 10000 n
+IsFine (Local offset) = IsSoundOffset offset
 IsFine End = Unit {0}
 
 abbrev pub IsFineFound : RecordFound → Type 0
@@ -61,3 +62,5 @@ pub record AreFine (rs : List Numbered) : Type 0 where
   pub few : (id : ℕ) → length (parts_in id rs) ≤ 16
   pub once : (id : ℕ) → AreDifferent (map (λ (c : Component). c.pid) (parts_in id rs))
   pub apart : (id : ℕ) → AllByRecursion (IsApart (parts_in id rs)) (in_order rs)
+  pub few_offsets : length (all_of local_in rs) ≤ 16
+  pub regions : AreOfRegions (all_of local_in rs)

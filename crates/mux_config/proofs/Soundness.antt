@@ -7,17 +7,18 @@ use Rattle.std.proofs.lemmas.Bool.{cases_Bool, eqb-true, leb-true, false≢true}
 use Rattle.std.proofs.lemmas.Bool.Decides.{nat_tests}
 use Rattle.std.proofs.lemmas.List.{length-map}
 use Rattle.si_lists.proofs.Lists.{all_push, all_append, all_map, all_to_map, all_of_map}
+use Rattle.guide_model.specs.declared.offset.Offset.{Offset}
 use Rattle.guide_model.specs.declared.stream.Cable.{Cable}
 use Rattle.guide_model.specs.declared.stream.Component.{Component}
 use Rattle.si_text.specs.Decoding.{IsKept}
 use Rattle.mux_model.specs.declared.mux.MuxService.{MuxService}
 use Rattle.mux_model.specs.declared.mux.Mux.{Mux}
 use Rattle.mux_config.specs.declared.record.Record.{Record}
-use Rattle.mux_config.specs.declared.record.Record.TheVariants.{Network, Stream, Delivery, Service, Part, Start, Quota}
+use Rattle.mux_config.specs.declared.record.Record.TheVariants.{Network, Stream, Delivery, Service, Part, Start, Quota, Local}
 use Rattle.mux_config.specs.declared.record.Numbered.{Numbered}
-use Rattle.mux_config.specs.Descriptions.{Description, all_of, cable_of, delivery_in, first, first_line, has_id, has_pmt, has_pid, holds, ended, is_stream, stream_in, with_network, with_services, with_stream, has_no_place, insert, is_delivery, is_network, is_quota, is_start, mux_with, network_in, numbered, part_in, quota_in, repeated_at, said, service_in, services_of, sorted, start_in, with_parts}
+use Rattle.mux_config.specs.Descriptions.{Description, all_of, cable_of, delivery_in, first, first_line, has_id, has_pmt, has_pid, has_region, holds, local_in, ended, is_stream, stream_in, with_network, with_services, with_stream, has_no_place, insert, is_delivery, is_network, is_quota, is_start, mux_with, network_in, numbered, part_in, quota_in, repeated_at, said, service_in, services_of, sorted, start_in, with_parts}
 use Rattle.mux_config.proofs.FineRecords.{AreFine, IsApart, IsFine, IsFineNetwork, IsFineService, IsFineStart, IsFineStream, in_order, parts_in}
-use Rattle.mux_model.specs.Sound.{AreDifferent, Between, DoAscend, HasSoundCable, IsSoundCable, IsSoundComponent, IsSoundService, all_component_pids, component_pids, pmt_pids, IsSoundWithIds}
+use Rattle.mux_model.specs.Sound.{AreDifferent, Between, DoAscend, HasSoundCable, IsSoundCable, IsSoundComponent, IsSoundOffset, IsSoundService, AreOfRegions, is_region, all_component_pids, component_pids, pmt_pids, IsSoundWithIds}
 use Rattle.mux_config.proofs.RecordFacts.{all_more, or_none_left, or_none_right, all_kept}
 use Rattle.mux_config.proofs.Ordering.{sorted_more}
 
@@ -147,17 +148,23 @@ part_said : (id : ℕ) (r : Record) (c : Component) → IsFine r → part_in id 
 part_said id (Part home d) c h e = said_here IsSoundComponent (home == id) d c h e
 part_said id other c h e = cc e
 
+offset_said : (r : Record) (o : Offset) → IsFine r → local_in r ≡ Some o → IsSoundOffset o
+offset_said (Local p) o h e = (let same : p ≡ o = cc e in subst IsSoundOffset same h)
+offset_said other o h e = cc e
+
 -- ---- records that were taken
 
 pub fine_none : AreFine []
-fine_none = record { each = tt; count = omega arith; ascend = tt; pmts = tt; few = λ id. omega arith; once = λ id. tt; apart = λ id. tt }
+fine_none = record { each = tt; count = omega arith; ascend = tt; pmts = tt; few = λ id. omega arith; once = λ id. tt; apart = λ id. tt; few_offsets = omega arith; regions = tt }
 
 -- records that keep the services and the components
-pub fine_kept : (rs : List Numbered) (line : ℕ) (says : Record) → AreFine rs → IsFine says → service_in says ≡ None → ((id : ℕ) → part_in id says ≡ None) → AreFine (rs ++ numbered line says ∷ [])
-fine_kept rs line says f fine no_service no_part =
+pub fine_kept : (rs : List Numbered) (line : ℕ) (says : Record) → AreFine rs → IsFine says → service_in says ≡ None → ((id : ℕ) → part_in id says ≡ None) → local_in says ≡ None
+    → AreFine (rs ++ numbered line says ∷ [])
+fine_kept rs line says f fine no_service no_part no_offset =
     let r = numbered line says in
     let services : in_order (rs ++ r ∷ []) ≡ in_order rs = ap sorted (all_kept service_in rs r no_service) in
     let parts_same : (id : ℕ) → parts_in id (rs ++ r ∷ []) ≡ parts_in id rs = λ id. all_kept (part_in id) rs r (no_part id) in
+    let offsets : all_of local_in (rs ++ r ∷ []) ≡ all_of local_in rs = all_kept local_in rs r no_offset in
     record {
       each = all_push (λ (x : Numbered). IsFine x.says) rs r f.each fine;
       count = rw services f.count;
@@ -166,6 +173,8 @@ fine_kept rs line says f fine no_service no_part =
       few = λ id. rw (parts_same id) (f.few id);
       once = λ id. rw (parts_same id) (f.once id);
       apart = λ id. rw (services, parts_same id) (f.apart id);
+      few_offsets = rw offsets f.few_offsets;
+      regions = rw offsets f.regions;
     }
 
 length_insert : (s : MuxService) (ts : List MuxService) → length (insert s ts) ≡ length ts + 1
@@ -196,6 +205,8 @@ fine_service rs line s f fine place once =
       few = λ id. rw (parts_same id) (f.few id);
       once = λ id. rw (parts_same id) (f.once id);
       apart = λ id. rw (services, parts_same id) (all_insert (IsApart (parts_in id rs)) s (in_order rs) (no_pids rs s.pmt_pid id no_pid) (f.apart id));
+      few_offsets = rw (all_kept local_in rs r refl) f.few_offsets;
+      regions = rw (all_kept local_in rs r refl) f.regions;
     }
 
 or_false_left : (a b : Bool) → (a || b) ≡ false → a ≡ false
@@ -256,13 +267,45 @@ fine_part rs line home c f fine place once =
       once = λ id. parts_with (λ (cs : List Component). AreDifferent (map (λ (x : Component). x.pid) cs)) rs line home c id
           (λ same. different_snoc (parts_in id rs) c (none_own rs c.pid id (subst (λ (k : ℕ). first_line (holds k c.pid) rs ≡ None) same once)) (f.once id)) (f.once id);
       apart = λ id. rw services (parts_with (λ (cs : List Component). AllByRecursion (IsApart cs) (in_order rs)) rs line home c id (λ same. apart_more c (parts_in id rs) (in_order rs) no_pmt (f.apart id)) (f.apart id));
+      few_offsets = rw (all_kept local_in rs r refl) f.few_offsets;
+      regions = rw (all_kept local_in rs r refl) f.regions;
+    }
+
+-- an offset of another region than those there
+regions_push : (os : List Offset) (o : Offset) → AllByRecursion (λ (p : Offset). is_region p o ≡ false) os → AreOfRegions os → AreOfRegions (os ++ o ∷ [])
+regions_push [] o new h = (tt, tt)
+regions_push (p ∷ os) o new h = (all_push (λ (q : Offset). is_region p q ≡ false) os o h.0 new.0, regions_push os o new.1 h.1)
+
+region_said : (offset : Offset) (r : Record) (o : Offset) → has_region offset r ≡ false → local_in r ≡ Some o → is_region o offset ≡ false
+region_said offset (Local p) o h e = (let same : p ≡ o = cc e in subst (λ (q : Offset). is_region q offset ≡ false) same h)
+region_said offset other o h e = cc e
+
+pub fine_local : (rs : List Numbered) (line : ℕ) (o : Offset) → AreFine rs → IsSoundOffset o → has_no_place rs (Local o) ≡ false → repeated_at rs (Local o) ≡ None → AreFine (rs ++ numbered line (Local o) ∷ [])
+fine_local rs line o f fine place once =
+    let r = numbered line (Local o) in
+    let services : in_order (rs ++ r ∷ []) ≡ in_order rs = ap sorted (all_kept service_in rs r refl) in
+    let parts_same : (id : ℕ) → parts_in id (rs ++ r ∷ []) ≡ parts_in id rs = λ id. all_kept (part_in id) rs r refl in
+    let offsets : all_of local_in (rs ++ r ∷ []) ≡ all_of local_in rs ++ o ∷ [] = all_more local_in rs r in
+    let room : length (all_of local_in rs) < 16 = fewer (length (all_of local_in rs)) place in
+    record {
+      each = all_push (λ (x : Numbered). IsFine x.says) rs r f.each fine;
+      count = rw services f.count;
+      ascend = rw services f.ascend;
+      pmts = rw services f.pmts;
+      few = λ id. rw (parts_same id) (f.few id);
+      once = λ id. rw (parts_same id) (f.once id);
+      apart = λ id. rw (services, parts_same id) (f.apart id);
+      few_offsets = rw offsets (omega (arith, room, length-append (all_of local_in rs) (o ∷ [])));
+      regions = rw offsets (regions_push (all_of local_in rs) o
+          (said_all local_in (λ (p : Offset). is_region p o ≡ false) (λ r. has_region o r ≡ false) (region_said o) rs (none_pass (has_region o) rs once)) f.regions);
     }
 
 -- one record more
 pub fine_more : (rs : List Numbered) (line : ℕ) (says : Record) → AreFine rs → IsFine says → has_no_place rs says ≡ false → repeated_at rs says ≡ None → AreFine (rs ++ numbered line says ∷ [])
 fine_more rs line (Service s) f fine place once = fine_service rs line s f fine place once
 fine_more rs line (Part id c) f fine place once = fine_part rs line id c f fine place once
-fine_more rs line other f fine place once = fine_kept rs line other f fine refl (λ id. refl)
+fine_more rs line (Local o) f fine place once = fine_local rs line o f fine place once
+fine_more rs line other f fine place once = fine_kept rs line other f fine refl (λ id. refl) refl
 
 -- ---- the multiplex
 
@@ -362,6 +405,7 @@ fine_mux rs network stream f named ids some =
           cable = sound_cable (cable_of rs) (said_first delivery_in IsSoundCable in_delivery is_delivery rs f.each);
           start = or_other IsFineStart (said start_in (first is_start rs)) (record { 0 = 3506716800 }) (said_first start_in IsFineStart in_start is_start rs f.each) (lit< tt);
           quota = or_other (Between 1 10000) (said quota_in (first is_quota rs)) 200 (said_first quota_in (Between 1 10000) in_quota is_quota rs f.each) (lit≤ tt, lit≤ tt);
+          offsets = record { few = f.few_offsets; each = said_all local_in IsSoundOffset IsFine offset_said rs f.each; once = f.regions };
           count = (some, omega (arith, f.count, length-map (in_order rs) (with_parts rs)));
           services = sound_services rs ts f served;
           ascend = ascend_parts rs ts f.ascend;

@@ -52,6 +52,7 @@ mux_with services = record {
   cable = None;
   start = record { 0 = 3506716800 };
   quota = 200;
+  offsets = [];
   services = services;
 }
 

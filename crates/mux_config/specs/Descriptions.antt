@@ -2,6 +2,7 @@
 use Rattle.std.specs.Prelude.{ℕ, ◌==◌, nat_le, nat_lt, Bool, true, false, not, ◌&&◌, ◌||◌, List, [], ◌∷◌, ◌++◌, length, map, Option, Some, None, if◌then◌else◌, option_map, Ok, Err, Result}
 use Rattle.std.specs.Option.{is_some, option_or, unwrap_or}
 use Rattle.std.specs.List.{find, filter_map, list_any, fold}
+use Rattle.guide_model.specs.declared.offset.Offset.{Offset}
 use Rattle.guide_model.specs.declared.stream.Cable.{Cable}
 use Rattle.guide_model.specs.declared.stream.Component.{Component}
 use Rattle.si_time.specs.declared.moment.Moment.{Moment}
@@ -11,8 +12,9 @@ use Rattle.mux_config.specs.declared.fault.MuxFault.{MuxFault}
 use Rattle.mux_config.specs.declared.fault.MuxFault.TheVariants as fault
 use Rattle.mux_model.specs.declared.mux.MuxService.{MuxService}
 use Rattle.mux_model.specs.declared.mux.Mux.{Mux}
+use Rattle.mux_model.specs.Sound.{is_region}
 use Rattle.mux_config.specs.declared.record.Record.{Record}
-use Rattle.mux_config.specs.declared.record.Record.TheVariants.{Network, Stream, Delivery, Service, Part, Start, Quota, End}
+use Rattle.mux_config.specs.declared.record.Record.TheVariants.{Network, Stream, Delivery, Service, Part, Start, Quota, Local, End}
 use Rattle.mux_config.specs.declared.record.Numbered.{Numbered}
 use Rattle.mux_config.specs.declared.record.RecordFound.{RecordFound}
 use Rattle.mux_config.specs.declared.record.RecordFound.TheVariants.{NoRecord, OutOfRange, Is}
@@ -43,6 +45,10 @@ start_in r = None
 abbrev pub quota_in : Record → Option ℕ
 quota_in (Quota n) = Some n
 quota_in r = None
+
+abbrev pub local_in : Record → Option Offset
+local_in (Local offset) = Some offset
+local_in r = None
 
 -- the component, where the record is one of this service
 abbrev pub part_in : ℕ → Record → Option Component
@@ -99,15 +105,21 @@ abbrev pub has_part : ℕ → ℕ → Record → Bool
 has_part id pid (Part service c) = service == id && c.pid == pid
 has_part id pid r = false
 
+-- an offset of the region of this one
+abbrev pub has_region : Offset → Record → Bool
+has_region offset (Local o) = is_region o offset
+has_region offset r = false
+
 -- a service whose PMT has this PID, or a component of this service that has it
 abbrev pub holds : ℕ → ℕ → Record → Bool
 holds id pid r = has_pmt pid r || has_part id pid r
 
 -- Whether the record has no place behind these: it is a 65th service, or a component of no earlier service, or the
--- 17th of its service.
+-- 17th of its service, or a 17th offset.
 abbrev pub has_no_place : List Numbered → Record → Bool
 has_no_place before (Service s) = nat_le 64 (length (all_of service_in before))
 has_no_place before (Part id c) = not (list_any (λ (r : Numbered). has_id id r.says) before) || nat_le 16 (length (all_of (part_in id) before))
+has_no_place before (Local o) = nat_le 16 (length (all_of local_in before))
 has_no_place before r = false
 
 -- The first line that has what the record repeats. Of a service these are tried in turn: its id, its PMT PID as a PMT
@@ -120,6 +132,7 @@ repeated_at before (Service s) = option_or (first_line (has_id s.service) before
 repeated_at before (Part id c) = first_line (holds id c.pid) before
 repeated_at before (Start moment) = first_line is_start before
 repeated_at before (Quota n) = first_line is_quota before
+repeated_at before (Local o) = first_line (has_region o) before
 repeated_at before End = None
 
 -- the fault of line n behind these records
@@ -165,6 +178,7 @@ mux_with network stream records = record {
   cable = cable_of records;
   start = start_of records;
   quota = quota_of records;
+  offsets = all_of local_in records;
   services = services_of records;
 }
 

@@ -1,12 +1,13 @@
 -- What the fields of a line say.
-use Rattle.std.specs.Prelude.{ℕ, Bool, true, false, ◌&&◌, List, [], ◌∷◌, Option, Some, None, if◌then◌else◌, codes, option_map, option_and_then}
+use Rattle.std.specs.Prelude.{ℕ, nat_le, Bool, true, false, ◌&&◌, List, [], ◌∷◌, Option, Some, None, if◌then◌else◌, codes, option_map, option_and_then}
 use Rattle.guide_model.specs.declared.stream.Cable.{Cable}
 use Rattle.input_lines.specs.Fields.{record_of}
 use Rattle.input_lines.specs.Numbers.{is_word, numeral_of, in_range}
+use Rattle.mux_model.specs.Sound.{farthest}
 use Rattle.mux_model.specs.declared.mux.MuxService.{MuxService}
 use Rattle.mux_config.specs.declared.rows.Numbers.{Numbers}
 use Rattle.mux_config.specs.declared.record.Record.{Record}
-use Rattle.mux_config.specs.declared.record.Record.TheVariants.{Network, Stream, Delivery, Service, Part, Start, Quota, End}
+use Rattle.mux_config.specs.declared.record.Record.TheVariants.{Network, Stream, Delivery, Service, Part, Start, Quota, Local, End}
 use Rattle.mux_config.specs.declared.record.RecordFound.{RecordFound}
 use Rattle.mux_config.specs.declared.record.RecordFound.TheVariants.{NoRecord, OutOfRange, Is}
 use Rattle.si_text.specs.Coding.{coded_size}
@@ -92,6 +93,29 @@ part_in service kind pid language =
     within ((in_range 0 65535 s && (in_range 0 255 k && in_range 32 8190 p)) && is_language language)
     (Part s (record { stream_type = k; pid = p; language = language_of language })))))
 
+-- three letters A to Z
+abbrev pub is_capital : ℕ → Bool
+is_capital b = nat_le 65 b && nat_le b 90
+
+abbrev pub country_of : List ℕ → Option (List ℕ)
+country_of (a ∷ b ∷ c ∷ []) = if is_capital a && (is_capital b && is_capital c) then Some (a ∷ b ∷ c ∷ []) else None
+country_of field = None
+
+-- whether clocks are behind UTC, where the field tells it
+abbrev pub side_of : List ℕ → Option Bool
+side_of field = if is_word (codes "ahead") field then Some false else if is_word (codes "behind") field then Some true else None
+
+abbrev pub offset_with : Option (List ℕ) → ℕ → Option Bool → ℕ → Option ℕ → ℕ → RecordFound
+offset_with (Some country) region (Some behind) minutes (Some change) next =
+    within (in_range 0 63 region && (in_range 0 (farthest behind) minutes && in_range 0 (farthest behind) next))
+    (Local (record { country = country; region = region; behind = behind; minutes = minutes; change = record { 0 = change }; next = next }))
+offset_with country region side minutes change next = OutOfRange
+
+-- `offset,COUNTRY,REGION,SIDE,MINUTES,CHANGE,NEXT`: its numbers are tried for their spelling first
+abbrev pub offset_in : List ℕ → List ℕ → List ℕ → List ℕ → List ℕ → List ℕ → RecordFound
+offset_in country region side minutes change next =
+    spelled region (λ r. spelled minutes (λ m. spelled next (λ n. offset_with (country_of country) r (side_of side) m (moment_in change) n)))
+
 -- `start,MOMENT`
 abbrev pub start_with : Option ℕ → RecordFound
 start_with None = OutOfRange
@@ -111,6 +135,7 @@ found_in (word ∷ a ∷ []) = if is_word (codes "start") word then start_in a e
 found_in (word ∷ a ∷ b ∷ []) = if is_word (codes "network") word then network_in a b else (if is_word (codes "stream") word then stream_in a b else NoRecord)
 found_in (word ∷ a ∷ b ∷ c ∷ d ∷ []) = if is_word (codes "component") word then part_in a b c d else NoRecord
 found_in (word ∷ a ∷ b ∷ c ∷ d ∷ e ∷ []) = if is_word (codes "cable") word then cable_in a b c d e else NoRecord
+found_in (word ∷ a ∷ b ∷ c ∷ d ∷ e ∷ f ∷ []) = if is_word (codes "offset") word then offset_in a b c d e f else NoRecord
 found_in (word ∷ a ∷ b ∷ c ∷ d ∷ e ∷ f ∷ g ∷ []) = if is_word (codes "service") word then service_in a b c d e f g else NoRecord
 found_in fields = NoRecord
 

@@ -38,6 +38,7 @@ mux_with services = record {
   cable = Some (record { frequency = 3120000; modulation = 3; symbol_rate = 68750; fec_outer = 2; fec_inner = 15 });
   start = record { 0 = 3506716800 };
   quota = 200;
+  offsets = [];
   services = services;
 }
 
@@ -54,6 +55,7 @@ row_sound = record {
   cable = record { frequency = lit≤ tt; symbol_rate = lit≤ tt; fec_outer = lit≤ tt; fec_inner = lit≤ tt };
   start = lit< tt;
   quota = (lit≤ tt, lit≤ tt);
+  offsets = record { few = lit≤ tt; each = tt; once = tt };
   count = (lit≤ tt, lit≤ tt);
   services = (
     record {

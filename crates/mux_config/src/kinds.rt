@@ -1,21 +1,24 @@
-// Kinds of records, and what a record repeats of those before it. A description has at most 1,093 records, so each is held against all
+// Kinds of records, and what a record repeats of those before it. A description has at most 1,109 records, so each is held against all
 // before it.
 ghost use Rattle.std.specs.Prelude.{◌≡◌, ◌||◌, not, nat_le, length, option_copied};
 ghost use Rattle.std.specs.Option.{option_or, is_some};
 ghost use Rattle.std.specs.List.{count_by, find, list_any};
 ghost use Rattle.mux_config.specs.declared.record.Numbered.{Numbered};
-ghost use Rattle.mux_config.specs.Descriptions.{all_of, has_no_place, repeated_at, first_line, has_id, has_pmt, has_pid, has_part, part_in, service_in};
+ghost use Rattle.mux_config.specs.Descriptions.{all_of, has_no_place, repeated_at, first_line, has_id, has_pmt, has_pid, has_part, has_region, local_in, part_in, service_in};
 ghost use Rattle.mux_config.specs.Kinds.{is_of};
 
 use crate::record::{Numbered, Record};
-use crate::whole::part_of;
+use crate::whole::{offset_of, part_of};
+use guide_model::Offset;
 
-/// The most services of a multiplex, and the most components of a service.
+/// The most services of a multiplex, the most components of a service, and the most offsets.
 const MOST_SERVICES: usize = 64;
 
 const MOST_PARTS: usize = 16;
 
-// A kind of records: those that come once; services with an id, those whose PMT has a PID, and components that have it; and those that
+const MOST_OFFSETS: usize = 16;
+
+// A kind of records: those that come once; offsets of the region of one; services with an id, those whose PMT has a PID, and components that have it; and those that
 // hold a PID as a PMT or in a service.
 #[derive(Clone, Copy)]
 pub(crate) enum Kind {
@@ -24,6 +27,7 @@ pub(crate) enum Kind {
     Deliveries,
     Starts,
     Quotas,
+    Regions(Offset),
     Ids(u16),
     Pmts(u16),
     Pids(u16),
@@ -40,10 +44,20 @@ pub(crate) fn is_of_kind(kind: Kind, says: &Record) -> bool
         Kind::Deliveries => matches!(says, Record::Delivery(_)),
         Kind::Starts => matches!(says, Record::Start(_)),
         Kind::Quotas => matches!(says, Record::Quota(_)),
+        Kind::Regions(offset) => has_region(offset, says),
         Kind::Ids(id) => has_id(id, says),
         Kind::Pmts(pid) => has_pmt(pid, says),
         Kind::Pids(pid) => has_pid(pid, says),
         Kind::Holders(id, pid) => has_pmt(pid, says) || has_part(id, pid, says),
+    }
+}
+
+fn has_region(offset: Offset, says: &Record) -> bool
+    ensures { result ≡ has_region offset says.now }
+{
+    match says {
+        Record::Local(other) => { other.country == offset.country && other.region == offset.region }
+        _ => false,
     }
 }
 
@@ -124,6 +138,16 @@ fn count_parts(id: u16, records: &[Numbered]) -> usize
         .count()
 }
 
+// How many offsets there are.
+fn count_offsets(records: &[Numbered]) -> usize
+    ensures { result ≡ count_by (λ (r : Numbered). is_some (local_in r.says)) records.now }
+{
+    records
+        .iter()
+        .filter(|r| offset_of(&r.says).is_some())
+        .count()
+}
+
 fn has_service(id: u16, records: &[Numbered]) -> bool
     ensures { result ≡ list_any (λ (r : Numbered). has_id id r.says) records.now }
 {
@@ -148,6 +172,7 @@ pub(crate) fn has_no_place(records: &[Numbered], says: &Record) -> bool
     match says {
         Record::Service(_) => MOST_SERVICES <= count_services(records),
         Record::Part(id, _) => lacks_room(*id, records),
+        Record::Local(_) => MOST_OFFSETS <= count_offsets(records),
         _ => false,
     }
 }
@@ -177,6 +202,7 @@ pub(crate) fn repeated_at(records: &[Numbered], says: &Record) -> Option<u64>
         Record::Quota(_) => first_line(Kind::Quotas, records),
         Record::Service(service) => service_at(service.service, service.pmt_pid, records),
         Record::Part(id, component) => first_line(Kind::Holders(*id, component.pid), records),
+        Record::Local(offset) => first_line(Kind::Regions(*offset), records),
         Record::End => None,
     }
 }

@@ -1,12 +1,12 @@
 // The records of a description.
-use guide_model::{Cable, Component};
+use guide_model::{Cable, Component, Offset};
 use mux_model::MuxService;
 use si_text::Txt;
 use si_time::Moment;
 
 /// What a line of the description says: the network's id and name; the stream's id and its original network; the cable
 /// delivery; a service, still without components; a component of a service; the moment at which the desk starts; the
-/// quota; the end.
+/// quota; how far the clocks of a region are from UTC; the end.
 #[derive(Drop)]
 pub enum Record {
     Network(u16, Txt),
@@ -16,6 +16,7 @@ pub enum Record {
     Part(u16, Component),
     Start(Moment),
     Quota(u32),
+    Local(Offset),
     End,
 }
 

@@ -1,17 +1,17 @@
 // What the fields of a line say.
-ghost use Rattle.std.specs.Prelude.{◌≡◌, ◌<◌, ◌∷◌, [], true, false, IfOk, IfSome, IfNone, if◌then◌else◌, codes};
+ghost use Rattle.std.specs.Prelude.{◌≡◌, ◌<◌, ◌∷◌, [], true, false, IfOk, IfSome, IfNone, Some, option_map, if◌then◌else◌, codes};
 ghost use Rattle.si_text.specs.Coding.{coded_size};
 ghost use Rattle.input_lines.specs.Numbers.{in_range, is_word as is_service_word};
 ghost use Rattle.mux_config.specs.declared.record.RecordFound.TheVariants.{NoRecord};
-ghost use Rattle.mux_model.specs.Sound.{Between};
-ghost use Rattle.mux_config.specs.Fields.{network_in, stream_in, cable_in, delivery_with, numbers_in, service_with, service_of as numbers_service, bare_service, is_letter as is_small_letter, is_language as is_a_language, language_of, part_in, start_in, quota_in, found_in};
+ghost use Rattle.mux_model.specs.Sound.{Between, farthest};
+ghost use Rattle.mux_config.specs.Fields.{network_in, stream_in, cable_in, delivery_with, numbers_in, service_with, service_of as numbers_service, bare_service, is_letter as is_small_letter, is_language as is_a_language, language_of, part_in, is_capital, country_of, side_of, offset_with, offset_in, start_in, quota_in, found_in};
 
 use crate::record::{Record, RecordFound};
-use guide_model::{Cable, Component, Components};
+use guide_model::{Cable, Component, Components, Offset};
 use input_lines::{is_word, numeral};
 use mux_model::MuxService;
 use si_text::{Txt, coded_len};
-use si_time::read_moment;
+use si_time::{Moment, read_moment};
 use std::alloc::{AllocError, Global};
 
 // Whether a number is in a range.
@@ -280,6 +280,133 @@ fn part(service: &Txt, kind: &Txt, pid: &Txt, spoken: &Txt) -> RecordFound
     ))
 }
 
+// The country that a field is.
+fn country(field: &Txt) -> Option<[u8; 3]>
+    ensures { result ≡ country_of field.now }
+{
+    match field.as_str().as_bytes() {
+        [a, b, c] => {
+            if is_capital(*a) && (is_capital(*b) && is_capital(*c)) {
+                Some([*a, *b, *c])
+            } else {
+                None
+            }
+        }
+        _ => None,
+    }
+}
+
+fn is_capital(b: u8) -> bool
+    ensures { result ≡ is_capital b }
+{
+    b'A' <= b && b <= b'Z'
+}
+
+// Whether clocks are behind UTC.
+fn side(field: &Txt) -> Option<bool>
+    ensures { result ≡ side_of field.now }
+{
+    if is_word(field.as_str(), "ahead") {
+        return Some(false);
+    }
+    if is_word(field.as_str(), "behind") {
+        return Some(true);
+    }
+    None
+}
+
+// The most minutes that clocks are from UTC.
+fn farthest(behind: bool) -> u32
+    ensures value { result ≡ farthest behind }
+    ensures bound { result < 65536 }
+{
+    if behind { 720 } else { 780 }
+}
+
+// The offset of these fields.
+fn local(
+    country: [u8; 3],
+    region: u32,
+    behind: bool,
+    minutes: u32,
+    change: Moment,
+    next: u32,
+) -> RecordFound
+    ensures { result ≡ offset_with (Some country) region (Some behind) minutes (Some change.0) next }
+{
+    let Some(region) = byte(0, 63, region) else {
+        return RecordFound::OutOfRange;
+    };
+    let most = farthest(behind);
+    let Some(minutes) = short(0, most, minutes) else {
+        return RecordFound::OutOfRange;
+    };
+    let Some(next) = short(0, most, next) else {
+        return RecordFound::OutOfRange;
+    };
+    RecordFound::Is(Record::Local(Offset {
+        country,
+        region,
+        behind,
+        minutes,
+        change,
+        next,
+    }))
+}
+
+// The offset, where its country, its side and its moment are some.
+fn local_of(
+    country: Option<[u8; 3]>,
+    region: u32,
+    side: Option<bool>,
+    minutes: u32,
+    change: Option<Moment>,
+    next: u32,
+) -> RecordFound
+    ensures { result ≡ offset_with country region side minutes (option_map (λ at. at.0) change) next }
+{
+    let Some(country) = country else {
+        return RecordFound::OutOfRange;
+    };
+    let Some(behind) = side else {
+        return RecordFound::OutOfRange;
+    };
+    let Some(change) = change else {
+        return RecordFound::OutOfRange;
+    };
+    local(country, region, behind, minutes, change, next)
+}
+
+// `offset,COUNTRY,REGION,SIDE,MINUTES,CHANGE,NEXT`
+fn offset(
+    letters: &Txt,
+    region: &Txt,
+    ahead: &Txt,
+    minutes: &Txt,
+    change: &Txt,
+    next: &Txt,
+) -> RecordFound
+    ensures { result ≡ offset_in letters.now region.now ahead.now minutes.now change.now next.now }
+{
+    let Some(region) = numeral(region.as_str()) else {
+        return RecordFound::NoRecord;
+    };
+    let Some(minutes) = numeral(minutes.as_str()) else {
+        return RecordFound::NoRecord;
+    };
+    let Some(next) = numeral(next.as_str()) else {
+        return RecordFound::NoRecord;
+    };
+    local_of(
+        country(letters),
+        region,
+        side(ahead),
+        minutes,
+        read_moment(change.as_str().as_bytes()),
+        next,
+    )
+}
+
 // `start,MOMENT`
 fn start(moment: &Txt) -> RecordFound
     ensures { result ≡ start_in moment.now }
@@ -373,6 +500,13 @@ pub(crate) fn found_in(alloc: Global, fields: &[Txt]) -> Result<RecordFound, All
         [word, a, b, c, d, e] => {
             if is_word(word.as_str(), "cable") {
                 Ok(cable(a, b, c, d, e))
+            } else {
+                Ok(RecordFound::NoRecord)
+            }
+        }
+        [word, letters, region, ahead, minutes, change, next] => {
+            if is_word(word.as_str(), "offset") {
+                Ok(offset(letters, region, ahead, minutes, change, next))
             } else {
                 Ok(RecordFound::NoRecord)
             }

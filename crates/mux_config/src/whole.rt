@@ -2,7 +2,7 @@
 ghost use Rattle.std.specs.Prelude.{◌≡◌, ◌≤◌, ◌∷◌, ◌++◌, [], length, nat_lt, position, take, drop, IfOk, OnOk};
 ghost use Rattle.std.specs.Option.{unwrap_or};
 ghost use Rattle.mux_model.specs.declared.mux.MuxService.{MuxService};
-ghost use Rattle.mux_config.specs.Descriptions.{all_of, cable_of as the_cable, ended, first, insert as inserted, is_network, is_stream, network_in, part_in, quota_of as the_quota, said, service_in, services_of as the_services, start_of as the_start, stream_in, with_parts as with_its_parts};
+ghost use Rattle.mux_config.specs.Descriptions.{all_of, cable_of as the_cable, ended, first, insert as inserted, is_network, is_stream, local_in, network_in, part_in, quota_of as the_quota, said, service_in, services_of as the_services, start_of as the_start, stream_in, with_parts as with_its_parts};
 ghost use Rattle.mux_config.specs.Kinds.{put_service};
 ghost use Rattle.mux_config.specs.Reads.{Makes};
 ghost use Rattle.std.specs.List.{cons_option};
@@ -11,7 +11,7 @@ use crate::fault::{MuxFault, Word};
 use crate::kinds::{Kind, first_of};
 use crate::record::{Numbered, Record};
 use crate::stop::MuxStop;
-use guide_model::{Cable, Component, Components};
+use guide_model::{Cable, Component, Components, Offset, Offsets};
 use mux_model::{Mux, MuxService, MuxServices};
 use si_base::Items;
 use si_text::Txt;
@@ -114,6 +114,37 @@ fn take_part(parts: &mut Components, service: u16, says: &Record) -> Result<(), 
     Ok(())
 }
 
+// The offset of a record, where it is one.
+pub(crate) fn offset_of(says: &Record) -> Option<Offset>
+    ensures { result ≡ local_in says.now }
+{
+    match says {
+        Record::Local(offset) => Some(*offset),
+        _ => None,
+    }
+}
+
+// The offsets.
+fn offsets_of(alloc: Global, records: &[Numbered]) -> Result<Offsets, AllocError>
+    ensures { IfOk result (λ offsets. offsets ≡ all_of local_in records.now) }
+{
+    let mut offsets = Offsets::new(alloc);
+    'records: for i in 0..records.len() {
+        take_offset(&mut offsets, &records[i].says)?;
+    }
+    Ok(offsets)
+}
+
+// Takes the offset of a record, where it is one.
+fn take_offset(offsets: &mut Offsets, says: &Record) -> Result<(), AllocError>
+    ensures { OnOk result (offsets.new ≡ offsets.old ++ cons_option (local_in says.now) []) }
+{
+    if let Some(offset) = offset_of(says) {
+        offsets.push(offset)?;
+    }
+    Ok(())
+}
+
 // A service with its components among the records.
 fn with_parts(
     alloc: Global,
@@ -206,6 +237,7 @@ pub(crate) fn multiplex(alloc: Global, records: &[Numbered]) -> Result<Mux, MuxS
     if services.is_empty() {
         return Err(MuxStop::Fault(MuxFault::Missing(Word::Service)));
     }
+    let offsets = offsets_of(alloc, records)?;
     Ok(Mux {
         network,
         network_name,
@@ -214,6 +246,7 @@ pub(crate) fn multiplex(alloc: Global, records: &[Numbered]) -> Result<Mux, MuxS
         cable: cable_of(records),
         start: start_of(records),
         quota: quota_of(records),
+        offsets,
         services,
     })
 }

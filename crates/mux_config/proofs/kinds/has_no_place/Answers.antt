@@ -1,6 +1,6 @@
 use Rattle.std.proofs.Common.{◌∙◌, sym, ap}
 use Rattle.std.specs.Prelude.{nat_le}
-use Rattle.mux_config.specs.Descriptions.{has_no_place, service_in}
+use Rattle.mux_config.specs.Descriptions.{has_no_place, local_in, service_in}
 use Rattle.mux_config.proofs.RecordFacts.{counted}
 use Rattle.mux_config.proofs.kinds.has_no_place.Goals as goal
 
@@ -10,3 +10,7 @@ returns-in-Service c =
 
 pub returns-in-Part : goal.returns-in-Part
 returns-in-Part c = c.lacks_room.ensures ∙ ap (has_no_place c.args.records.now) (sym c.in-Part.is)
+
+pub returns-in-Local : goal.returns-in-Local
+returns-in-Local c =
+    ap (nat_le 16) (c.count_offsets.ensures ∙ counted local_in c.args.records.now) ∙ ap (has_no_place c.args.records.now) (sym c.in-Local.is)
