@@ -14,7 +14,7 @@ use Rattle.eit_tables.specs.Present.{present_sections}
 use Rattle.eit_tables.specs.Schedule.{schedule_table, near_tables, far_tables}
 
 abbrev mux_of : List MuxService → Mux
-mux_of services = record { network = 40; network_name = codes "Demo"; stream = 2; original = 1; cable = None; start = record { 0 = 0 }; quota = 200; services = services }
+mux_of services = record { network = 40; network_name = codes "Demo"; stream = 2; original = 1; cable = None; start = record { 0 = 0 }; quota = 200; offsets = []; services = services }
 
 abbrev eit : ℕ → ℕ → Tier3 → List NumberedBody → SubTable
 eit service table tier sections = record { key = record { pid = 18; table = table; ext = service; stream = 2; network = 1 }; tier = tier; sections = sections }

@@ -227,7 +227,7 @@ single_fit key body pid table fits =
     let most : longest_body key.table ≡ 1012 = ap (λ (b : Bool). if b then 4084 else 1012) other in
     record {
       pid = pid;
-      long = λ e. absurd (omega (arith, e, table));
+      long = grind (arith, nat_tests);
       no_fill = λ e. absurd (omega (arith, e, table));
       some = omega arith;
       ascending = tt;
@@ -252,7 +252,7 @@ sdt_table-fit mux guide within =
     let bodies = map (section_body mux.original) runs in
     record {
       pid = lit< tt;
-      long = λ e. absurd (omega arith);
+      long = refl;
       no_fill = λ e. absurd (omega arith);
       some = omega (arith, length-numbered 0 bodies, length-map runs (section_body mux.original), runs_some service_size 1009 services);
       ascending = ascend-numbered 0 bodies;
@@ -266,7 +266,7 @@ eit_fit t pid above below are =
     let most : longest_body t.key.table ≡ 4084 = ap (λ (b : Bool). if b then 4084 else 1012) long in
     record {
       pid = omega (arith, pid);
-      long = λ e. absurd (omega (arith, e, below));
+      long = grind (arith, nat_tests);
       no_fill = λ e. absurd (omega (arith, e, below));
       some = are.by_segments.some;
       ascending = are.by_segments.ascending;

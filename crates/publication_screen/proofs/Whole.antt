@@ -15,6 +15,7 @@ use Rattle.guide_model.specs.declared.screen.ScreenEvent.{ScreenEvent}
 use Rattle.guide_model.specs.declared.screen.ScreenService.{ScreenService}
 use Rattle.guide_model.specs.declared.screen.Screen.{Screen}
 use Rattle.mux_model.specs.declared.mux.MuxService.{MuxService}
+use Rattle.guide_model.specs.declared.offset.Offset.{Offset}
 use Rattle.mux_model.specs.declared.mux.Mux.{Mux}
 use Rattle.mux_model.specs.Sound.{IsSoundService, IsSoundWithIds}
 use Rattle.guide_limits.specs.Events.{midnight}
@@ -350,9 +351,10 @@ module _ (nit_back : NitReadsBack) (sdt_back : SdtReadsBack) (mux : Mux) (guide 
       ∙ services_are mux ids moment V.content (pat_of mux) mux.services guide.services services_have
       (pids_found mux.services mux.services sound.sound.services (pids_said mux.services sound.sound.ascend))
 
-  abbrev screen_with : Shown → Option Cable → List ScreenService → Screen
-  screen_with name cable services = record {
+  abbrev screen_with : List Offset → Shown → Option Cable → List ScreenService → Screen
+  screen_with offsets name cable services = record {
     clock = record { 0 = clock };
+    offsets = offsets;
     network = mux.network;
     network_name = name;
     stream = mux.stream;
@@ -365,9 +367,10 @@ module _ (nit_back : NitReadsBack) (sdt_back : SdtReadsBack) (mux : Mux) (guide 
   screen_is =
       let c = sections (V.content (nit_key mux)) in
       let services = map (screen_service V.content (programs_of V) (sdt_key mux)) (services_of V) in
-      ap (λ (x : Shown). screen_with x (cable_in mux.stream mux.original (streams_in c)) services) name_is
-      ∙ ap (λ (x : Option Cable). screen_with (Text mux.network_name) x services) cable_is
-      ∙ ap (λ (l : List ScreenService). screen_with (Text mux.network_name) mux.cable l) services_are_shown
+      ap (λ (os : List Offset). screen_with os (network_name c) (cable_in mux.stream mux.original (streams_in c)) services) has.offsets_are
+      ∙ ap (λ (x : Shown). screen_with mux.offsets x (cable_in mux.stream mux.original (streams_in c)) services) name_is
+      ∙ ap (λ (x : Option Cable). screen_with mux.offsets (Text mux.network_name) x services) cable_is
+      ∙ ap (λ (l : List ScreenService). screen_with mux.offsets (Text mux.network_name) mux.cable l) services_are_shown
 
   pub shown : heard_of V ≡ Whole (screen_of mux guide clock)
   shown =

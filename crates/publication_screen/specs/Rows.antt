@@ -12,7 +12,7 @@ abbrev news : MuxService
 news = record { service = 101; feed = 1; kind = 1; pmt_pid = 256; pcr_pid = 257; provider = codes "First"; name = codes "First"; components = [] }
 
 abbrev mux : Mux
-mux = record { network = 40; network_name = codes "Demo"; stream = 2; original = 1; cable = None; start = record { 0 = 0 }; quota = 200; services = news ∷ [] }
+mux = record { network = 40; network_name = codes "Demo"; stream = 2; original = 1; cable = None; start = record { 0 = 0 }; quota = 200; offsets = []; services = news ∷ [] }
 
 -- an event of half an hour, from a second of the day on; its day is the first, or a later one
 abbrev event : ℕ → ℕ → Event

@@ -48,6 +48,7 @@ services_shown moment (service ∷ services) (guide ∷ guides) = service_shown 
 abbrev pub screen_of : Mux → Guide → ℕ → Screen
 screen_of mux guide clock = record {
   clock = record { 0 = clock };
+  offsets = mux.offsets;
   network = mux.network;
   network_name = Text mux.network_name;
   stream = mux.stream;
