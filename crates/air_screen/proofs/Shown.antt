@@ -2,7 +2,7 @@
 use Rattle.std.proofs.Common.{◌≡◌, ℕ, ◌<◌, List, [], ◌∷◌, ◌++◌, true, false, Option, Some, None, length, map, refl, sym, ap, ◌∙◌, subst, append_assoc, eq-eqb}
 use Rattle.std.specs.Prelude.{◌*◌, slice_range, IsSome}
 use Rattle.std.specs.List.{AllByRecursion}
-use Rattle.si_lists.proofs.Lists.{all_two, all_behind}
+use Rattle.si_lists.proofs.Lists.{all_map, all_two, all_behind}
 use Rattle.guide_model.specs.declared.guide.Guide.{Guide}
 use Rattle.mux_model.specs.declared.mux.Mux.{Mux}
 use Rattle.mux_model.specs.Sound.{IsSoundWithIds}
@@ -23,15 +23,15 @@ use Rattle.air_model.specs.Air.{Aired, air, airings_of}
 use Rattle.air_model.specs.Repeating.{IsRepeatingAirOf}
 use Rattle.air_hearing.specs.Counting.{CanBeHeard}
 use Rattle.air_joins.specs.Joining.{HasPacketIn}
-use Rattle.air_exact.specs.Exact.{StaysOnAir, HaveOneEach, HasOnAir}
-use Rattle.air_exact.proofs.Views.{on_air_heard}
+use Rattle.air_exact.specs.Exact.{StaysOnAir, HaveOneEach, TellOffsetsOf, HasOnAir}
+use Rattle.air_exact.proofs.Views.{element_at, on_air_heard}
 use Rattle.publication.specs.Network.{nit_key, nit_table}
 use Rattle.publication.specs.Programs.{pat_key, pat_table, pmt_tables}
 use Rattle.publication.specs.Tables.{sdt_key, sdt_table, present_tables, all_near_tables, all_far_tables, tables_of}
 use Rattle.publication_screen.specs.Shown.{HasPublication}
 use Rattle.publication.proofs.CountedFacts.{published_counted}
 use Rattle.publication_screen.proofs.Whole.{publication_is_shown}
-use Rattle.air_screen.specs.Published.{CanBePublished, ArePublished, number_at, StaysPublished, AreShown}
+use Rattle.air_screen.specs.Published.{CanBePublished, ArePublished, HaveOffsetsOf, number_at, StaysPublished, AreShown}
 use Rattle.air_screen.specs.Laws.{PublishedIsShown}
 use Rattle.air_screen.proofs.Keys.{only_pat, only_nit, only_sdt}
 use Rattle.air_exact.proofs.Contents.{can_at}
@@ -65,7 +65,7 @@ some_clock (Some at) some = (at, refl)
 -- ---- what is shown
 
 module _ (nit_back : NitReadsBack) (sdt_back : SdtReadsBack) (mux : Mux) (guides : ℕ → Guide) (numbers : List ℕ) (airings : List AiredTables) (sound : IsSoundWithIds mux)
-    (can_publish : (n : ℕ) → CanBePublished mux (guides n)) (are : ArePublished mux guides numbers airings) (can : AllByRecursion CanBeHeard airings)
+    (can_publish : (n : ℕ) → CanBePublished mux (guides n)) (are : ArePublished mux guides numbers airings) (tell : HaveOffsetsOf mux airings) (can : AllByRecursion CanBeHeard airings)
     (before : List Aired) (x : Aired) (after : List Aired) (is : IsRepeatingAirOf airings (before ++ x ∷ after)) where
   abbrev guide : Guide
   guide = guides (number_at numbers (length before))
@@ -75,6 +75,12 @@ module _ (nit_back : NitReadsBack) (sdt_back : SdtReadsBack) (mux : Mux) (guides
 
   pub own : x.airing.tables ≡ tables_of mux guide
   own = tables_at mux guides numbers before x after published
+
+  own_offsets : x.airing.form.offsets ≡ mux.offsets
+  own_offsets = element_at (λ (a : AiredTables). a.form.offsets ≡ mux.offsets) before x after (subst (HaveOffsetsOf mux) (sym is.airings_are) tell)
+
+  tells : TellOffsetsOf x.airing airings
+  tells = all_map (λ (a : AiredTables). a.form.offsets ≡ mux.offsets) (λ (a : AiredTables). a.form.offsets ≡ x.airing.form.offsets) (λ a e. e ∙ sym own_offsets) airings tell
 
   stays_on_air : (join end : ℕ) → StaysPublished numbers join end before x after → StaysOnAir join end before x after
   stays_on_air join end stays = record { joined = stays.joined; whole = stays.whole; same = same }
@@ -120,13 +126,14 @@ module _ (nit_back : NitReadsBack) (sdt_back : SdtReadsBack) (mux : Mux) (guides
     nit = on.nit_is;
     sdt = on.sdt_is;
     clock_is = told;
+    offsets_are = on.offsets ∙ own_offsets;
   }
 
   pub shown_of : x.airing.moment < 65536 * 86400 → (join end : ℕ) → StaysPublished numbers join end before x after
       → AreShown mux guide (map bytes_of_packet (slice_range (air (before ++ x ∷ after)) join end))
   shown_of moment join end stays =
       let packets : List (List ℕ) = map bytes_of_packet (slice_range (air (before ++ x ∷ after)) join end) in
-      let on = on_air_heard airings before x after is can join end (stays_on_air join end stays) moment (pat_key mux) (nit_key mux) (sdt_key mux) once in
+      let on = on_air_heard airings before x after is can join end (stays_on_air join end stays) moment (pat_key mux) (nit_key mux) (sdt_key mux) once tells in
       let at = some_clock (clock_of (heard_all [] packets)) on.clock in
       let p = can_publish (number_at numbers (length before)) in
       record {
@@ -136,5 +143,5 @@ module _ (nit_back : NitReadsBack) (sdt_back : SdtReadsBack) (mux : Mux) (guides
       }
 
 pub published_is_shown : NitReadsBack → SdtReadsBack → PublishedIsShown
-published_is_shown nit_back sdt_back mux guides numbers airings sound can_publish are can before x after is moment join end stays =
-    shown_of nit_back sdt_back mux guides numbers airings sound can_publish are can before x after is moment join end stays
+published_is_shown nit_back sdt_back mux guides numbers airings sound can_publish are tell can before x after is moment join end stays =
+    shown_of nit_back sdt_back mux guides numbers airings sound can_publish are tell can before x after is moment join end stays

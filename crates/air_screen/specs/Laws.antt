@@ -9,12 +9,12 @@ use Rattle.ts_packets.specs.Bytes.{bytes_of_packet}
 use Rattle.air_model.specs.Air.{Aired, air}
 use Rattle.air_model.specs.Repeating.{IsRepeatingAirOf}
 use Rattle.air_hearing.specs.Counting.{CanBeHeard}
-use Rattle.air_screen.specs.Published.{CanBePublished, ArePublished, number_at, StaysPublished, AreShown}
+use Rattle.air_screen.specs.Published.{CanBePublished, ArePublished, HaveOffsetsOf, number_at, StaysPublished, AreShown}
 
--- Where a publication stays on air, the packets heard show its guide.
+-- Where a publication stays on air, the packets heard show its guide, with the offsets of the multiplex.
 abbrev pub PublishedIsShown : Type 0
 PublishedIsShown =
     (mux : Mux) (guides : ℕ → Guide) (numbers : List ℕ) (airings : List AiredTables) → IsSoundWithIds mux → ((n : ℕ) → CanBePublished mux (guides n))
-    → ArePublished mux guides numbers airings → AllByRecursion CanBeHeard airings → (before : List Aired) (x : Aired) (after : List Aired)
+    → ArePublished mux guides numbers airings → HaveOffsetsOf mux airings → AllByRecursion CanBeHeard airings → (before : List Aired) (x : Aired) (after : List Aired)
     → IsRepeatingAirOf airings (before ++ x ∷ after) → x.airing.moment < 65536 * 86400 → (join end : ℕ) → StaysPublished numbers join end before x after
     → AreShown mux (guides (number_at numbers (length before))) (map bytes_of_packet (slice_range (air (before ++ x ∷ after)) join end))

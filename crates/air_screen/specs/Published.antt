@@ -1,5 +1,6 @@
 -- An air of publications, and what is shown of a part of it.
 use Rattle.std.specs.Prelude.{◌≡◌, ℕ, ◌+◌, ◌≤◌, List, [], ◌∷◌, ◌++◌, length, map, take, slice_index, Some}
+use Rattle.std.specs.List.{AllByRecursion}
 use Rattle.guide_model.specs.declared.guide.Guide.{Guide}
 use Rattle.mux_model.specs.declared.mux.Mux.{Mux}
 use Rattle.guide_limits.specs.Limits.{IsGuideWithin}
@@ -26,6 +27,10 @@ pub record CanBePublished (mux : Mux) (guide : Guide) : Type 0 where
 abbrev pub ArePublished : Mux → (ℕ → Guide) → List ℕ → List AiredTables → Type 0
 ArePublished mux guides numbers airings =
     map (λ (a : AiredTables). a.tables) airings ≡ map (λ (n : ℕ). tables_of mux (guides n)) (take (length airings) numbers)
+
+-- these airings tell the offsets of the multiplex
+abbrev pub HaveOffsetsOf : Mux → List AiredTables → Type 0
+HaveOffsetsOf mux airings = AllByRecursion (λ (a : AiredTables). a.form.offsets ≡ mux.offsets) airings
 
 -- the number of the publication of the airing with this place
 abbrev pub number_at : List ℕ → ℕ → ℕ
