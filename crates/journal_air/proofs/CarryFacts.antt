@@ -1,12 +1,14 @@
 -- Each airing of a legal journal can be heard, and receivers count all tables that it carries.
-use Rattle.std.proofs.Common.{◌≡◌, ℕ, ◌==◌, ◌&&◌, ◌||◌, Bool, true, false, List, [], ◌∷◌, Option, Some, refl, ap, ◌∙◌, arith, le-leb}
+use Rattle.std.proofs.Common.{◌≡◌, ℕ, ◌<◌, ◌≤◌, ◌==◌, ◌&&◌, ◌||◌, Bool, true, false, List, [], ◌∷◌, Option, Some, refl, ap, ◌∙◌, arith, le-leb}
 use Rattle.std.specs.Prelude.{map, if◌then◌else◌}
 use Rattle.std.specs.List.{AllByRecursion}
 use Rattle.std.proofs.lemmas.Bool.{and_from}
 use Rattle.std.proofs.lemmas.Bool.Decides.{nat_tests}
 use Rattle.si_lists.proofs.Lists.{all_map, all_two}
 use Rattle.si_time.specs.declared.moment.Moment.{Moment}
+use Rattle.guide_model.specs.declared.offset.Offset.{Offset}
 use Rattle.mux_model.specs.declared.mux.Mux.{Mux}
+use Rattle.mux_model.specs.Sound.{IsSoundOffset, AreSoundOffsets, farthest}
 use Rattle.section_codec.specs.declared.table.NumberedBody.{NumberedBody}
 use Rattle.section_codec.specs.declared.table.SubTable.{SubTable}
 use Rattle.section_codec.specs.Contents.{last_number}
@@ -18,8 +20,10 @@ use Rattle.pat_pmt.specs.Bodies.{is_pat_body, is_pmt_body}
 use Rattle.nit_sdt.specs.Bodies.{is_nit_body, is_sdt_body}
 use Rattle.eit_codec.specs.Bodies.{is_eit_body}
 use Rattle.eit_tables.proofs.EntryFacts.{typed_small}
+use Rattle.time_tables.specs.LocalOffsets.{FitsOffset}
 use Rattle.version_book.specs.Airings.{AiredTables}
 use Rattle.heard_completions.specs.Counting.{is_body_of_table, is_event_body, is_last_within}
+use Rattle.air_model.specs.Air.{CanBeTold}
 use Rattle.air_hearing.specs.Counting.{IsReadable, CanBeHeard}
 use Rattle.publication.specs.Laws.{IsReadEit, TellsItself, TellsKey}
 use Rattle.publication.specs.Tables.{tables_of}
@@ -111,6 +115,23 @@ pub each_airing : (P : AiredTables → Type 0) (mux : Mux) (journal : List Entry
 each_airing P mux journal one [] = tt
 each_airing P mux journal one (swap ∷ swaps) = (one swap, each_airing P mux journal one swaps)
 
+-- sound offsets can be told
+far : (behind : Bool) (n : ℕ) → n ≤ farthest behind → n < 1440
+far true n le = omega (arith, le)
+far false n le = omega (arith, le)
+
+offset_fits : (o : Offset) → IsSoundOffset o → FitsOffset o
+offset_fits o h = record {
+  country = h.country.0;
+  region = omega (arith, h.region);
+  minutes = far o.behind o.minutes h.minutes;
+  change = h.change;
+  next = far o.behind o.next h.next;
+}
+
+pub offsets_told : (offsets : List Offset) → AreSoundOffsets offsets → CanBeTold offsets
+offsets_told offsets h = record { few = h.few; each = all_map IsSoundOffset FitsOffset offset_fits offsets h.each }
+
 pub airings_heard : AiringsCanBeHeard
 airings_heard mux journal sound typed legal = each_airing CanBeHeard mux journal one (swaps journal)
   where
@@ -121,7 +142,7 @@ airings_heard mux journal sound typed legal = each_airing CanBeHeard mux journal
         let events = published_typed mux journal n typed within in
         let fit = publication_fit mux guide sound.sound within (typed_small guide within events) in
         let tells = publication_tells mux guide sound (published_services mux journal n) within events in
-        record { differ = fit.differ; fit = fit.each; readable = all_two IsCountedTable TellsItself IsReadable readable (tables_of mux guide) (published_counted mux guide sound.sound) tells }
+        record { differ = fit.differ; fit = fit.each; readable = all_two IsCountedTable TellsItself IsReadable readable (tables_of mux guide) (published_counted mux guide sound.sound) tells; offsets = offsets_told mux.offsets sound.sound.offsets }
 
 -- receivers count all tables of an airing
 abbrev AreCounted : AiredTables → Type 0

@@ -9,7 +9,7 @@ use Rattle.desk_core.specs.Publications.{publication, swaps}
 
 -- the form of the cycles of a multiplex
 abbrev pub mux_form : Mux → CycleForm
-mux_form mux = record { quota = mux.quota }
+mux_form mux = record { quota = mux.quota; offsets = mux.offsets }
 
 -- what a swap of the journal puts on air: the sub-tables of the publication with its number, at its moment, in cycles of that form
 abbrev pub airing_at : Mux → List Entry → ℕ × Moment → AiredTables

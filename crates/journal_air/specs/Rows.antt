@@ -14,7 +14,7 @@ abbrev news : MuxService
 news = record { service = 101; feed = 1; kind = 1; pmt_pid = 256; pcr_pid = 257; provider = codes "First"; name = codes "First"; components = [] }
 
 abbrev mux : Mux
-mux = record { network = 40; network_name = codes "Demo"; stream = 2; original = 1; cable = None; start = record { 0 = 0 }; quota = 200; services = news ∷ [] }
+mux = record { network = 40; network_name = codes "Demo"; stream = 2; original = 1; cable = None; start = record { 0 = 0 }; quota = 200; offsets = []; services = news ∷ [] }
 
 -- ---- a swap before any publication, a publication, and two swaps
 
