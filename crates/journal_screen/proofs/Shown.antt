@@ -21,11 +21,11 @@ use Rattle.air_model.proofs.Repeating.{airs_repeat}
 use Rattle.air_hearing.specs.Counting.{CanBeHeard}
 use Rattle.air_coherence.proofs.Coherent.{front_part, part-map, front_packets}
 use Rattle.air_exact.proofs.Views.{element_at}
-use Rattle.air_screen.specs.Published.{ArePublished, CanBePublished, number_at, StaysPublished, AreShown}
+use Rattle.air_screen.specs.Published.{ArePublished, HaveOffsetsOf, CanBePublished, number_at, StaysPublished, AreShown}
 use Rattle.air_screen.proofs.Shown.{published_is_shown}
 use Rattle.journal_air.specs.Air.{airing_at, airings}
 use Rattle.journal_air.proofs.Published.{published_services, published_typed}
-use Rattle.journal_air.proofs.CarryFacts.{airings_heard}
+use Rattle.journal_air.proofs.CarryFacts.{each_airing, airings_heard}
 use Rattle.journal_screen.specs.Shown.{IsAsRead, numbers_on_air, IsExact}
 use Rattle.journal_screen.specs.Laws.{JournalsAreShown, SentIsShown}
 use Rattle.journal_screen.proofs.Names.{published_named}
@@ -71,13 +71,19 @@ module _ (mux : Mux) (journal : List Entry) (is : IsAsRead mux journal) (legal :
         all_front IsInRange (airings_of cycles) others
         (subst (AllByRecursion IsInRange) are (moments (swaps journal) (swaps_range mux journal is.sound.sound is.steps legal)))
 
+    abbrev TellsOffsets : AiredTables → Type 0
+    TellsOffsets a = a.form.offsets ≡ mux.offsets
+
+    tell : HaveOffsetsOf mux (airings_of cycles)
+    tell = all_front TellsOffsets (airings_of cycles) others (subst (AllByRecursion TellsOffsets) are (each_airing TellsOffsets mux journal (λ swap. refl) (swaps journal)))
+
     pub exact_of : (join end : ℕ) (before : List Aired) (x : Aired) (after : List Aired) → cycles ≡ before ++ x ∷ after
         → StaysPublished (numbers_on_air journal) join end before x after
         → AreShown mux (guides (number_at (numbers_on_air journal) (length before))) (map bytes_of_packet (slice_range (air cycles) join end))
     exact_of join end before x after cut stays =
         let moment = element_at IsInRange before x after (subst (λ (l : List Aired). AllByRecursion IsInRange (airings_of l)) cut in_range) in
         let here = published_is_shown nit_back sdt_back mux guides (numbers_on_air journal) (airings_of cycles) is.sound can_publish
-        (front_published (airings_of cycles) others (swaps journal) are) can before x after (subst (IsRepeatingAirOf (airings_of cycles)) cut air_is) moment join end stays in
+        (front_published (airings_of cycles) others (swaps journal) are) tell can before x after (subst (IsRepeatingAirOf (airings_of cycles)) cut air_is) moment join end stays in
         subst (λ (l : List Aired). AreShown mux (guides (number_at (numbers_on_air journal) (length before))) (map bytes_of_packet (slice_range (air l) join end))) (sym cut) here
 
     front_exact : (n : ℕ) → IsExact mux journal cycles (take n (map bytes_of_packet (air cycles)))
