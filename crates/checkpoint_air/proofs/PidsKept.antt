@@ -5,16 +5,17 @@ use Rattle.std.specs.List.{All, AllByRecursion, cons_option}
 use Rattle.std.proofs.lemmas.List.Elements.{All-contains, recursion_from_All}
 use Rattle.si_lists.proofs.Lists.{all_append, all_map}
 use Rattle.section_codec.specs.SubTables.{IsFit}
-use Rattle.version_book.specs.Airings.{AiredTables}
+use Rattle.guide_model.specs.declared.offset.Offset.{Offset}
+use Rattle.version_book.specs.Airings.{CycleForm, AiredTables}
 use Rattle.ts_packets.specs.declared.pid_counter.PidCounter.{PidCounter}
 use Rattle.ts_packets.specs.Packets.{Piece, Carries, all_of, HaveSectionBytes, pieces}
 use Rattle.ts_packets.specs.Bytes.{Packet, bytes_of_packet}
 use Rattle.ts_packets.specs.Counting.{loads_on, of_pid, count_on, next_after}
 use Rattle.ts_packets.specs.PidCounters.{IsPidCounter, counter_in}
 use Rattle.ts_packets.proofs.Stamps.{count_on-written}
-use Rattle.air_model.specs.Air.{Sent, Aired, sent_on, cycle_sections, air, IsAirOf, CanBeSent}
+use Rattle.air_model.specs.Air.{Sent, Aired, sent_on, cycle_sections, times, tot, air, IsAirOf, CanBeSent}
 use Rattle.air_model.specs.Repeating.{IsSentOf}
-use Rattle.air_model.proofs.Repeating.{cycle_is_sent}
+use Rattle.air_model.proofs.Repeating.{cycle_is_sent, of_element}
 use Rattle.air_hearing.specs.Sending.{sections_sent}
 use Rattle.air_hearing.proofs.Sections.{Carries-air}
 use Rattle.air_hearing.proofs.Told.{sent_of}
@@ -28,11 +29,18 @@ use Rattle.checkpoint_air.specs.Laws.{CountersAreWritten}
 abbrev IsBelowNull : Sent → Type 0
 IsBelowNull s = s.pid < 8191
 
+times_below : (form : CycleForm) (moment : ℕ) → AllByRecursion IsBelowNull (times form moment)
+times_below form moment = ((let low : 0x0014 < 8191 = omega arith in low), offsets_below form.offsets)
+  where
+    offsets_below : (offsets : List Offset) → AllByRecursion IsBelowNull (tot moment offsets)
+    offsets_below [] = tt
+    offsets_below (o ∷ offsets) = ((let low : 0x0014 < 8191 = omega arith in low), tt)
+
 of_airing : (past : List AiredTables) (a : AiredTables) (ss : List Sent) → All IsFit a.tables → AllByRecursion (IsSentOf past a) ss → AllByRecursion IsBelowNull ss
 of_airing past a ss fit each = all_map (IsSentOf past a) IsBelowNull one ss each
   where
     one : (s : Sent) → IsSentOf past a s → IsBelowNull s
-    one s (inr e) = subst IsBelowNull (sym e) (let low : 0x0014 < 8191 = omega arith in low)
+    one s (inr has) = of_element IsBelowNull (times a.form a.moment) s (times_below a.form a.moment) has
     one s (inl (t, p, has_t, has_p, e)) =
         let f : IsFit t = All-contains IsFit a.tables t fit has_t in
         subst IsBelowNull (sym e) f.pid
@@ -41,7 +49,7 @@ all_below : (past airings : List AiredTables) → CanBeSent airings → AllByRec
 all_below past [] fit = tt
 all_below past (a ∷ airings) fit =
     all_append IsBelowNull (cycle_sections past a) (sections_sent (past ++ a ∷ []) airings)
-    (of_airing past a (cycle_sections past a) fit.0 (cycle_is_sent past a).each) (all_below (past ++ a ∷ []) airings fit.1)
+    (of_airing past a (cycle_sections past a) fit.0.tables (cycle_is_sent past a).each) (all_below (past ++ a ∷ []) airings fit.1)
 
 none_sent : (ss : List Sent) → AllByRecursion IsBelowNull ss → filter_map (sent_on 8191) ss ≡ []
 none_sent [] all = refl

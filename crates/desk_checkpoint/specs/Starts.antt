@@ -51,11 +51,12 @@ pub record StartsFrom (cp : Checkpoint) (start : Start) : Type 0 where
   pub shift : start.shift ≡ shift_of cp.count
   pub player : (xs : List Aired) → AreKeptOf xs cp.keys cp.counters → AtEnd xs start.player
 
--- whatever was read: the desk is one of the multiplex, the player is at its end and has the quota of the multiplex
+-- whatever was read: the desk is one of the multiplex, the player is at its end and has the quota and the offsets of the multiplex
 pub record IsStart (mux : Mux) (start : Start) : Type 0 where
   pub mux_is : start.desk.mux ≡ mux
   pub ended : start.player.left ≡ []
-  pub quota : start.player.quota ≡ mux.quota
+  pub quota : start.player.form.quota ≡ mux.quota
+  pub offsets : start.player.form.offsets ≡ mux.offsets
   pub shift : start.shift < 10 ^ 18
 
 -- what reading a checkpoint gives, where the text is told

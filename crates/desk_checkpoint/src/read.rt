@@ -70,7 +70,7 @@ fn read<S: Source>(alloc: Global, mux: Mux, lines: &mut LineReader<S>) -> Result
 /// order: `checkpoint,COUNT` with one to 18 digits; steps of caller 0, each of which a fresh desk of the multiplex does, with one publish
 /// where the count is above 0 and none where it is 0; keys in their order, each with a version and at least one section, whose numbers
 /// ascend; counters with ascending PIDs; and the end. The desk has done these steps, the shift is the count less 1, or 0, and the player
-/// is that of [`Player::resume`] with the multiplex's quota.
+/// is that of [`Player::resume`] with the multiplex's quota and offsets.
 ///
 /// `Line` has the number of the first line that may not stand there, or, where the text ends before, that of the last line plus 1. `Read`
 /// comes as from [`LineReader::next`].
@@ -91,8 +91,9 @@ pub fn read_checkpoint<S: Source>(
     ensures same { S.same lines.old.source lines.new.source }
 {
     let quota = mux.quota;
+    let offsets = mux.offsets.copy()?;
     match read(alloc, mux, lines) {
-        Ok(reading) => Ok(reading.start(quota)?),
+        Ok(reading) => Ok(reading.start(quota, offsets)?),
         Err(stop) => Err(stop_of(stop)),
     }
 }

@@ -3,6 +3,7 @@ ghost use Rattle.std.specs.Prelude.{◌≡◌, ◌≤◌, ◌<◌, ◌^◌, ◌�
 ghost use Rattle.section_codec.specs.KeyOrder.{key_cmp};
 ghost use Rattle.version_book.specs.declared.key_version.KeyVersion.{KeyVersion as AKeyVersion};
 ghost use Rattle.mux_model.specs.Sound.{IsSound};
+ghost use Rattle.air_model.specs.Air.{CanBeTold};
 ghost use Rattle.journal_model.specs.Steps.{IsStepWithin};
 ghost use Rattle.checkpoint_laws.specs.Going.{is_taken};
 ghost use Rattle.desk_checkpoint.specs.Parts.{IsFitPart};
@@ -14,6 +15,7 @@ use crate::part::Part;
 use crate::start::Start;
 use carousel_player::Player;
 use desk_core::Desk;
+use guide_model::Offsets;
 use journal_model::{Outcome, Reply, Step};
 use mux_model::Mux;
 use section_codec::{Key, NumberedBodies, NumberedBody};
@@ -226,14 +228,21 @@ impl Reading {
         }
     }
 
-    /// What a head-end goes on from, with cycles of this quota.
-    pub(crate) fn start(self, quota: u32) -> Result<Start, AllocError>
+    /// What a head-end goes on from, with cycles of this quota and these offsets.
+    pub(crate) fn start(self, quota: u32, offsets: Offsets) -> Result<Start, AllocError>
         requires some { 1 ≤ quota }
         requires most { quota ≤ 10000 }
+        requires offsets { CanBeTold offsets }
         ensures from { IfOk result (StartsFrom self) }
-        ensures start { IfOk result (λ start. self.desk.mux.quota ≡ quota → IsStart self.desk.mux start) }
+        ensures start { IfOk result (λ start. self.desk.mux.quota ≡ quota → self.desk.mux.offsets ≡ offsets → IsStart self.desk.mux start) }
     {
-        let player = Player::resume(self.alloc, quota, self.keys, self.counters.as_slice())?;
+        let player = Player::resume(
+            self.alloc,
+            quota,
+            offsets,
+            self.keys,
+            self.counters.as_slice(),
+        )?;
         Ok(Start {
             desk: self.desk,
             shift: self.count.saturating_sub(1),
