@@ -62,11 +62,12 @@ impl Checker {
         }
     }
 
-    /// Adds an airing: these sub-tables, at the moment of the swap, in a cycle of the auditor's form. It needs an auditor at an
-    /// end, and sub-tables and a moment with which a player swaps: keys that differ, in the order of their tiers, PIDs below 8,191,
-    /// each with at least one section, ascending numbers and bodies that fit a section in the long form, and none with the table_id
-    /// 0xFF, which is fill; and a moment whose day has 16 bits. All memory is taken first: where it is wanting, the auditor is
-    /// unchanged.
+    /// Adds an airing: these sub-tables, at the moment of the swap, in a cycle of the auditor's
+    /// form. It needs an auditor at an end, and sub-tables and a moment with which a player swaps:
+    /// keys that differ, in the order of their tiers, PIDs below 8,191, each with at least one
+    /// section, ascending numbers and bodies that fit a section in the long form, and none with the
+    /// table_id 0xFF, which is fill; and a moment whose day has 16 bits. All memory is taken first:
+    /// where it is wanting, the auditor is unchanged.
     pub fn swap(&mut self, tables: Tables, moment: Moment) -> Result<(), AllocError>
         requires at_end { IsAtEnd self.old }
         requires fit { AreFit tables.list }

@@ -61,8 +61,9 @@ impl Cycle {
         self.progress.at.is_none()
     }
 
-    /// Begins the cycle of these sub-tables, with the versions that the book gives them, and the TDT of this moment, and its TOT where
-    /// there are offsets, in the order of this quota. All memory is taken first.
+    /// Begins the cycle of these sub-tables, with the versions that the book gives them, and the
+    /// TDT of this moment, and its TOT where there are offsets, in the order of this quota. All
+    /// memory is taken first.
     pub(crate) fn begin(
         &mut self,
         book: &mut VersionBook,

@@ -1,15 +1,16 @@
-//! The player: for each swap one whole cycle of packets (ISO/IEC 13818-1, 2.4.3 and 2.4.4;
-//! EN 300 468, 5.1).
+//! The player: for each swap one whole cycle of packets (ISO/IEC 13818-1, 2.4.3 and 2.4.4; EN 300
+//! 468, 5.1).
 //!
 //! `swap` begins the cycle of one airing more, `next_packet` gives its next packet, and
 //! `play_cycle` writes the rest of it to a sink. A cycle has the sections of the airing and, after
-//! the SDT, the TDT of the swap's moment, in the order of `cycle_plan`. Sections of one PID that
-//! follow each other share packets, and none is shared beyond the end of a cycle. At the end of a
-//! cycle all packets handed out are an air of all airings so far (`begun`, `came`, `done`,
-//! `failed`). Fast and Near sections repeat within their bounds, also into a next cycle of the same
-//! sub-tables, where no Near or Far section has the PID of the first (`made_airs_are_spaced`). At
-//! the end of a cycle `kept` gives the versions, contents and counters that the player keeps.
-//! `Player::resume` makes a player that goes on from them.
+//! the SDT, the TDT of the swap's moment and, where the player has offsets of local time, the TOT
+//! of that moment, in the order of `cycle_plan`. Sections of one PID that follow each other share
+//! packets, and none is shared beyond the end of a cycle. At the end of a cycle all packets handed
+//! out are an air of all airings so far (`begun`, `came`, `done`, `failed`). Fast and Near sections
+//! repeat within their bounds, also into a next cycle of the same sub-tables, where no Near or Far
+//! section has the PID of the first (`made_airs_are_spaced`). At the end of a cycle `kept` gives
+//! the versions, contents and counters that the player keeps. `Player::resume` makes a player that
+//! goes on from them.
 //!
 //! Proved, and not tried by the gate: a player is unchanged where memory runs out in `swap`.
 //!

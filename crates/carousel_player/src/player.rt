@@ -46,9 +46,10 @@ impl Model for Player {
 }
 
 impl Player {
-    /// A player that has handed out nothing and is at its end. The quota, 1 to 10,000, is the number of packets of a run between
-    /// two sendings of the sections of tier Fast (`cycle_plan`). The offsets, at most 16, are sent as the TOT of each cycle; where there
-    /// are none, no TOT is sent. It takes no memory.
+    /// A player that has handed out nothing and is at its end. The quota, 1 to 10,000, is the
+    /// number of packets of a run between two sendings of the sections of tier Fast (`cycle_plan`).
+    /// The offsets, at most 16, are sent as the TOT of each cycle; where there are none, no TOT is
+    /// sent. It takes no memory.
     pub fn open(alloc: Global, quota: u32, offsets: Offsets) -> Player
         requires some { 1 ≤ quota }
         requires most { quota ≤ 10000 }
@@ -69,8 +70,8 @@ impl Player {
     /// A player at its end that goes on from these versions, each below 32, and counters, each
     /// below 16 and of a PID below 8,192: it stands for each air of which they are what is kept. A
     /// PID whose counter is 0 had 16, 32, .. packets, and one that is not named had none (ISO/IEC
-    /// 13818-1, 2.4.3.3 and 2.4.4.5). The quota and the offsets are as for `open`. AllocError comes where memory is
-    /// wanting.
+    /// 13818-1, 2.4.3.3 and 2.4.4.5). The quota and the offsets are as for `open`. AllocError comes
+    /// where memory is wanting.
     pub fn resume(
         alloc: Global,
         quota: u32,
@@ -120,15 +121,14 @@ impl Player {
 
     /// Begins the cycle of one airing more: of these sub-tables, of the publication with this
     /// number, at the moment of the swap (EN 300 468, 5.1.1), in a cycle of the player's form. The
-    /// moment is sent as the cycle's TDT (EN 300 468, 5.2.5), and where there are offsets with these as
-    /// its TOT (5.2.6); no packet tells the number. Each
-    /// section is laid once, and is sent as often as its tier and the quota say (`cycle_plan`);
-    /// sections of one PID that follow each other share packets (ISO/IEC 13818-1, 2.4.4). It needs
-    /// a player at its end, a moment whose day has 16 bits, and sub-tables whose keys differ, in
-    /// the order of their tiers (TR 101 211, 4.4), with PIDs below 8,191, each with at least one
-    /// section, ascending numbers and bodies that fit a section in the long form, and none with the
-    /// table_id 0xFF, which is fill. All memory is taken first: where it is wanting, the player
-    /// stays as it was, at its end.
+    /// moment is sent as the cycle's TDT (EN 300 468, 5.2.5), and where there are offsets with
+    /// these as its TOT (5.2.6); no packet tells the number. Each section is laid once, and is sent
+    /// as often as its tier and the quota say (`cycle_plan`); sections of one PID that follow each
+    /// other share packets (ISO/IEC 13818-1, 2.4.4). It needs a player at its end, a moment whose
+    /// day has 16 bits, and sub-tables whose keys differ, in the order of their tiers (TR 101 211,
+    /// 4.4), with PIDs below 8,191, each with at least one section, ascending numbers and bodies
+    /// that fit a section in the long form, and none with the table_id 0xFF, which is fill. All
+    /// memory is taken first: where it is wanting, the player stays as it was, at its end.
     pub fn swap(&mut self, tables: Tables, number: u64, moment: Moment) -> Result<(), AllocError>
         requires at_end { self.old.left ≡ [] }
         requires fit { AreFit tables.list }

@@ -39,7 +39,8 @@ fn room_of(sections: &[NumberedBody]) -> Option<usize>
     Some(bytes)
 }
 
-/// The written TOT of this moment and these offsets; there is none where there are no offsets (EN 300 468, 5.2.6).
+/// The written TOT of this moment and these offsets; there is none where there are no offsets (EN
+/// 300 468, 5.2.6).
 pub(crate) fn tot_of(
     alloc: Global,
     moment: Moment,
@@ -56,8 +57,9 @@ pub(crate) fn tot_of(
     Ok(Some(write_tot(alloc, moment, offsets)?))
 }
 
-/// Lays the sections of a cycle of these sub-tables, each with its version, and at their place among them the TDT of this moment
-/// (EN 300 468, 5.2.5) and a written TOT, where there is one, behind those that are laid. It takes no memory.
+/// Lays the sections of a cycle of these sub-tables, each with its version, and at their place
+/// among them the TDT of this moment (EN 300 468, 5.2.5) and a written TOT, where there is one,
+/// after those that are laid. It takes no memory.
 pub(crate) fn lay_cycle(
     bytes: &mut Vec<u8>,
     placed: &mut Vec<Placed>,

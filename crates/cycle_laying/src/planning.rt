@@ -13,8 +13,9 @@ use section_codec::{SubTable, Tier3};
 use std::alloc::{AllocError, Global};
 use ts_packets::packets_of;
 
-/// Plans the order of one cycle of the sections of these sub-tables, of a TDT, and of a TOT where there are offsets; these two stand
-/// behind those that lead. A section is named by its place where each is laid once.
+/// Plans the order of one cycle of the sections of these sub-tables, of a TDT, and of a TOT where
+/// there are offsets; these two stand after those that lead. A section is named by its place where
+/// each is laid once.
 pub fn plan_cycle(
     alloc: Global,
     tables: &[SubTable],

@@ -34,7 +34,8 @@ impl LaidSections {
         }
     }
 
-    /// Empties the buffers and takes the memory for the sections of these sub-tables, for a TDT, and for a TOT of these offsets.
+    /// Empties the buffers and takes the memory for the sections of these sub-tables, for a TDT,
+    /// and for a TOT of these offsets.
     pub fn take_room(&mut self, tables: &[SubTable], offsets: &[Offset]) -> Result<(), AllocError>
         requires { CanBeTold offsets.now }
         ensures { OnOk result (HaveRoom tables.now offsets.now self.new.bytes self.new.placed) }
@@ -42,9 +43,11 @@ impl LaidSections {
         take_room(&mut self.bytes, &mut self.placed, tables, offsets)
     }
 
-    /// Lays the sections of the cycle of one airing more: those of these sub-tables, with the versions that the book gives them, the TDT
-    /// of this moment, and its TOT where there are offsets. A plan of these sub-tables (`plan_cycle`) names each by its place. It needs the room for them, a moment whose
-    /// day has 16 bits, and sub-tables that can be sent in one cycle. Where memory is wanting, the book stays as it was.
+    /// Lays the sections of the cycle of one airing more: those of these sub-tables, with the
+    /// versions that the book gives them, the TDT of this moment, and its TOT where there are
+    /// offsets. A plan of these sub-tables (`plan_cycle`) names each by its place. It needs the
+    /// room for them, a moment whose day has 16 bits, and sub-tables that can be sent in one cycle.
+    /// Where memory is wanting, the book stays as it was.
     pub fn lay(
         &mut self,
         alloc: Global,
@@ -93,7 +96,8 @@ fn tot_size(offsets: &[Offset]) -> usize
     16 + 13 * offsets.len()
 }
 
-// Empties the buffers and takes the memory for the sections of these sub-tables, for a TDT of 8 bytes and for a TOT: two places.
+// Empties the buffers and takes the memory for the sections of these sub-tables, for a TDT of 8
+// bytes and for a TOT: two places.
 fn take_room(
     bytes: &mut Vec<u8>,
     placed: &mut Vec<Placed>,

@@ -44,9 +44,10 @@ pub struct ScreenService {
 /// Services in ascending order of service_id.
 pub type ScreenServices = Items<ScreenService>;
 
-/// What a receiver shows of a multiplex: the last moment that it heard, how far the clocks of regions are from UTC, network_id and name of the network,
-/// transport_stream_id (`stream`) and original_network_id, how the stream is sent by cable where it is told, and the
-/// services (EN 300 468, 5.2.1, 5.2.3, 5.2.5 and 5.2.6).
+/// What a receiver shows of a multiplex: the last moment that it heard, how far the clocks of
+/// regions are from UTC, network_id and name of the network, transport_stream_id (`stream`) and
+/// original_network_id, how the stream is sent by cable where it is told, and the services (EN 300
+/// 468, 5.2.1, 5.2.3, 5.2.5 and 5.2.6).
 #[derive(Drop)]
 pub struct Screen {
     pub clock: Moment,

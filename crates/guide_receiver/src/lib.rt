@@ -1,14 +1,14 @@
-//! A receiver of packets: the tables that it completes, and the guide that they make
-//! (ISO/IEC 13818-1, 2.4; EN 300 468, 5.1 and 5.2).
+//! A receiver of packets: the tables that it completes, and the guide that they make (ISO/IEC
+//! 13818-1, 2.4; EN 300 468, 5.1 and 5.2).
 //!
 //! [`Receiver::hear`] takes one packet more and gives exactly the completions that this packet
 //! brings (`dones`), by the definition over all packets heard. A packet without the sync byte is
 //! refused and changes nothing (`sync`, `unchanged`). A section with a broken body is passed over.
-//! The time of day comes from the last TDT. `TooMany` comes only where the counted sections have
-//! more than 65,536 keys, and no completion comes where they have (`too_many`, `few`).
-//! [`Receiver::guide`] gives exactly the guide of these packets: the needs that are not met, or the
-//! whole screen (`guide_of`). After `Memory` and `TooMany` nothing more is promised of a receiver.
-//! Not promised: that a repeated section costs no CRC.
+//! The time of day comes from the last TDT, and local time from the last TOT. `TooMany` comes only
+//! where the counted sections have more than 65,536 keys, and no completion comes where they have
+//! (`too_many`, `few`). [`Receiver::guide`] gives exactly the guide of these packets: the needs
+//! that are not met, or the whole screen (`guide_of`). After `Memory` and `TooMany` nothing more is
+//! promised of a receiver. Not promised: that a repeated section costs no CRC.
 #![tactic(auto)]
 
 mod clock;

@@ -1,4 +1,4 @@
-// The offsets that time offset tables tell.
+// The offsets that time offset tables say.
 ghost use Rattle.std.specs.Prelude.{◌≡◌, IfOk, filter_map, unwrap_or};
 ghost use Rattle.guide_receiver.specs.Latest.{last_of, offsets_in};
 
@@ -8,7 +8,7 @@ use std::alloc::{AllocError, Global};
 use time_tables::read_tot;
 use ts_demux::RawSection;
 
-// The offsets that these sections tell last, where they tell some.
+// The offsets that these sections say last, where they say some.
 pub(crate) fn offsets_behind(
     alloc: Global,
     sections: &[RawSection],
@@ -33,7 +33,7 @@ pub(crate) fn keep_last(kept: &mut Offsets, told: Option<Offsets>)
     }
 }
 
-// The offsets that a section tells, where it is a TOT.
+// The offsets that a section says, where it is a TOT.
 fn offsets_in(alloc: Global, raw: &RawSection) -> Result<Option<Offsets>, AllocError>
     ensures { IfOk result (λ offsets. offsets ≡ offsets_in raw.now) }
 {

@@ -17,9 +17,9 @@ ghost use Rattle.heard_completions.specs.Dones.{counted_heard, done_key, dones_b
 ghost use Rattle.guide_receiver.specs.Guides.{guide_of, guide_over};
 
 use crate::clock::clock_behind;
-use crate::offsets::{keep_last, offsets_behind};
 use crate::known::KnownSections;
 use crate::latest_keys::LatestKeys;
+use crate::offsets::{keep_last, offsets_behind};
 use guide_model::Offsets;
 use guide_screen::{Heard, Latest, heard_guide};
 use heard_completions::{CountedSection, DoneKey, Dones};
@@ -40,11 +40,11 @@ pub enum HearStop {
     Memory,
 }
 
-/// A receiver of a transport stream. It stands for the packets that it heard, and for their sections that
-/// count with the marks between them. It keeps of each PID the section that is open and the sections that
-/// counted last, of each sub-table its present run of sections and its latest completion, the keys of PAT,
-/// NIT and SDTs that were completed last, and the last moment and the last offsets that it heard. It keeps
-/// its allocator.
+/// A receiver of a transport stream. It stands for the packets that it heard, and for their
+/// sections that count with the marks between them. It keeps of each PID the section that is open
+/// and the sections that counted last, of each sub-table its present run of sections and its latest
+/// completion, the keys of PAT, NIT and SDTs that were completed last, and the last moment and the
+/// last offsets that it heard. It keeps its allocator.
 #[derive(Drop)]
 pub struct Receiver {
     alloc: Global,
@@ -174,12 +174,7 @@ impl Receiver {
             sdt: self.latest.sdt(),
             clock: self.clock,
         };
-        heard_guide(
-            self.alloc,
-            &self.collector,
-            latest,
-            self.offsets.as_slice(),
-        )
+        heard_guide(self.alloc, &self.collector, latest, self.offsets.as_slice())
     }
 }
 

@@ -14,13 +14,15 @@ use si_base::Items;
 use std::alloc::{AllocError, Global};
 use sub_collect::Collector;
 
-/// What a receiver has to show of the sub-tables that it heard whole: the needs that are not met, in order, or else the whole screen
-/// (ISO/IEC 13818-1, 2.4.4.3 and 2.4.4.8; EN 300 468, 5.2.1, 5.2.3 to 5.2.5).
+/// What a receiver has to show of the sub-tables that it heard whole: the needs that are not met,
+/// in order, or else the whole screen (ISO/IEC 13818-1, 2.4.4.3 and 2.4.4.8; EN 300 468, 5.2.1,
+/// 5.2.3 to 5.2.5).
 ///
-/// It needs a PAT, a NIT, the SDT of the PAT's stream, a moment, and the PMT of each program of the PAT; then, of each service of the
-/// SDT, the present and following events and the tables of the schedule, where its flags tell that they are sent. The screen has the
-/// offsets of local time that are handed in. `Wanting` has one
-/// need at least (`screens_need_nothing`). The screen shows the services by ascending service_id, a repeated one by its first entry.
+/// It needs a PAT, a NIT, the SDT of the PAT's stream, a moment, and the PMT of each program of the
+/// PAT; then, of each service of the SDT, the present and following events and the tables of the
+/// schedule, where its flags say that they are sent. The screen has the offsets of local time that
+/// are handed in. `Wanting` has one need at least (`screens_need_nothing`). The screen shows the
+/// services by ascending service_id, a repeated one by its first entry.
 ///
 /// Beside looking keys up, its time is linear in the services and in the bytes of the contents.
 pub fn heard_guide(

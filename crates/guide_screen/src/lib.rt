@@ -2,9 +2,9 @@
 //! EN 300 468, 5.2).
 //!
 //! `heard_guide` gives exactly the needs that are not met, in order, or else the whole screen, with
-//! the moment of the last TDT. The screen is whole exactly where nothing is needed
-//! (`screens_need_nothing`). `specs/Needs.antt` says what is needed, `specs/Screen.antt` what is
-//! shown, and `specs/Reading.antt` what table bodies say; that agrees with the readers
+//! the moment of the last TDT and the offsets of the last TOT. It is whole exactly where nothing is
+//! needed (`screens_need_nothing`). `specs/Needs.antt` says what is needed, `specs/Screen.antt`
+//! what is shown, and `specs/Reading.antt` what table bodies say; that agrees with the readers
 //! (`bodies_say_what_is_read`). Worked screens stand in `specs/Rows.antt`. Not promised: that it
 //! fails only where memory runs out.
 #![tactic(auto)]

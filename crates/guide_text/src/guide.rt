@@ -20,13 +20,15 @@ fn text_of(alloc: Global, heard: &Heard) -> Result<Vec<u8>, AllocError>
     Ok(text)
 }
 
-/// Appends the text of a guide: of a whole screen the lines `clock`, `local` of each region that is told, `network`, `stream`, `cable` where it is told, and of each service
-/// `service`, `component`, `now`, `next` and `event`; otherwise a line `wanting` for each need. Then the line `end`.
+/// Appends the text of a guide: of a whole screen the lines `clock`, `local` for each offset,
+/// `network`, `stream`, `cable` where it is told, and of each service `service`, `component`,
+/// `now`, `next` and `event`; otherwise a line `wanting` for each need. Then the line `end`.
 ///
-/// The fields of a line stand behind tabs. A number is decimal, a text as it is, and bytes that are no text are `hex:` and two
-/// lower-case digits a byte; so are three-byte codes that are not of letters. What is missing is an empty field. So is a moment that
-/// 16 bits of days can't say, and a duration of 100 hours or more, which no section carries (EN 300 468, 5.2.4 and annex C).
-/// Want of memory leaves `out` with what it had.
+/// The fields of a line stand behind tabs. A number is decimal, a text as it is, and bytes that are
+/// no text are `hex:` and two lower-case digits a byte; so are three-byte codes that are not of
+/// letters. What is missing is an empty field. So is a moment that 16 bits of days can't say, and a
+/// duration of 100 hours or more, which no section carries (EN 300 468, 5.2.4 and annex C). Want of
+/// memory leaves `out` with what it had.
 pub fn print_heard(alloc: Global, heard: &Heard, out: &mut Vec<u8>) -> Result<(), AllocError>
     ensures text { OnOk result (out.new.items ≡ out.old.items ++ guide_text heard.now) }
     ensures kept { OnErr result (out.new.items ≡ out.old.items) }

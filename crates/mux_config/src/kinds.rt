@@ -1,5 +1,5 @@
-// Kinds of records, and what a record repeats of those before it. A description has at most 1,109 records, so each is held against all
-// before it.
+// Kinds of records, and what a record repeats of those before it. A description has at most 1,109
+// records, so each is held against all before it.
 ghost use Rattle.std.specs.Prelude.{◌≡◌, ◌||◌, not, nat_le, length, option_copied};
 ghost use Rattle.std.specs.Option.{option_or, is_some};
 ghost use Rattle.std.specs.List.{count_by, find, list_any};
@@ -18,8 +18,9 @@ const MOST_PARTS: usize = 16;
 
 const MOST_OFFSETS: usize = 16;
 
-// A kind of records: those that come once; offsets of the region of one; services with an id, those whose PMT has a PID, and components that have it; and those that
-// hold a PID as a PMT or in a service.
+// A kind of records: those that come once; offsets of the region of one; services with an id, those
+// whose PMT has a PID, and components that have it; and those that hold a PID as a PMT or in a
+// service.
 #[derive(Clone, Copy)]
 pub(crate) enum Kind {
     Networks,

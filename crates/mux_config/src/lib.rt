@@ -1,4 +1,5 @@
-//! The description of a multiplex: its network, stream and services (EN 300 468, 5.2.1 and 5.2.3).
+//! The description of a multiplex: its network, its stream, its services and the offsets of local
+//! time (EN 300 468, 5.2.1, 5.2.3 and 5.2.6).
 //!
 //! [`read_mux`] gives the multiplex that the lines describe, which is sound, or exactly their first
 //! fault; lines after `end` are left unread. That holds however the source cuts its text. A source

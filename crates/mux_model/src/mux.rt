@@ -24,9 +24,10 @@ pub struct MuxService {
 /// Services, in ascending order of their ids.
 pub type MuxServices = Items<MuxService>;
 
-/// A multiplex: network_id and network name, transport_stream_id, original_network_id, its cable delivery where it is
-/// given, the moment at which its desk starts, the number of packets between two repeats of its frequent tables, how far the
-/// clocks of regions are from UTC (EN 300 468, 5.2.6), and its services.
+/// A multiplex: network_id and network name, transport_stream_id, original_network_id, its cable
+/// delivery where it is given, the moment at which its desk starts, the number of packets between
+/// two repeats of its frequent tables, how far the clocks of regions are from UTC (EN 300 468,
+/// 5.2.6), and its services.
 #[derive(Drop)]
 pub struct Mux {
     pub network: u16,

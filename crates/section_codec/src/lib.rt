@@ -1,11 +1,13 @@
 //! Sections in bytes, and the keys that name sub-tables (ISO/IEC 13818-1, 2.4.4; EN 300 468, 5.1).
 //!
-//! `write_long`, `write_short` and `put_section` give the bytes of a section, with its CRC.
-//! `read_section` gives exactly the section that bytes are, or the first reason to refuse them.
-//! Written sections read back (`written_sections_read_back`). `key_of` gives the key of a section:
-//! its PID, table_id and extension, as `specs/Keys.antt` says. `specs/SubTables.antt` says which
-//! sub-tables can be sent. `eit_numbers`, `segment_last`, `is_eit` and `same_content` are exact;
-//! `same_content` compares contents by value (`contents_are_compared`).
+//! `write_long` and `put_section` give the bytes of a section in the long form, with its CRC.
+//! `write_short` gives those of the short form, and `write_short_crc` those of a TOT, which has the
+//! short form and a CRC. `read_section` gives exactly the section that bytes are, or the first
+//! reason to refuse them. Written sections read back (`written_sections_read_back`). `key_of` gives
+//! the key of a section: its PID, table_id and extension, as `specs/Keys.antt` says.
+//! `specs/SubTables.antt` says which sub-tables can be sent. `eit_numbers`, `segment_last`,
+//! `is_eit` and `same_content` are exact; `same_content` compares contents by value
+//! (`contents_are_compared`).
 #![tactic(auto)]
 
 mod content;

@@ -7,14 +7,16 @@ use crate::section::{BadSection, LongHeader, Section};
 use si_base::{Items, crc32};
 use std::alloc::Global;
 
-/// The section that these bytes are (ISO/IEC 13818-1, 2.4.4; EN 300 468, 5.1.1). Of the refusals the
-/// first that applies is answered:
-/// - `Length`: fewer than 3 bytes, or not exactly those that section_length tells, or more than 4,096, or
-///   fewer than 12 in the long form, or than 7 of the TOT;
-/// - `Crc(kept, found)`: in the long form, or of the TOT, the last four bytes are not the CRC of those before;
+/// The section that these bytes are (ISO/IEC 13818-1, 2.4.4; EN 300 468, 5.1.1). Of the refusals
+/// the first that applies is answered:
+/// - `Length`: fewer than 3 bytes, or not exactly those that section_length tells, or more than
+///   4,096, or fewer than 12 in the long form, or than 7 of the TOT;
+/// - `Crc(kept, found)`: in the long form, or of the TOT, the last four bytes are not the CRC of
+///   those before;
 /// - `Syntax`: a table in the other form than its own, or a number above the last.
 ///
-/// The body of a TOT, which has a CRC in the short form, is given without it. `Memory` comes only for a section, where its body finds none.
+/// The body of a TOT, which has a CRC in the short form, is given without it. `Memory` comes only
+/// for a section, where its body finds none.
 pub fn read_section(alloc: Global, bytes: &[u8]) -> Result<Section, BadSection>
     ensures section { IfOk result (λ section. section_in bytes.now ≡ Ok section) }
     ensures refused { IfErr (section_in bytes.now) (λ bad. result ≡ Err bad) }

@@ -8,9 +8,10 @@ use crate::section::LongHeader;
 use si_base::{Bytes, Items, crc32, put};
 use std::alloc::{AllocError, Global};
 
-/// The bytes of a section in the long form, with its CRC (ISO/IEC 13818-1, 2.4.4; EN 300 468, 5.1.1).
-/// It needs a table other than the TDT's 0x70 and the TOT's 0x73, a version below 32, a number at most the last one, and
-/// a body of at most 4,084 bytes for the event tables 0x4E to 0x6F and of 1,012 for others.
+/// The bytes of a section in the long form, with its CRC (ISO/IEC 13818-1, 2.4.4; EN 300 468,
+/// 5.1.1). It needs a table other than the TDT's 0x70 and the TOT's 0x73, a version below 32, a
+/// number at most the last one, and a body of at most 4,084 bytes for the event tables 0x4E to 0x6F
+/// and of 1,012 for others.
 pub fn write_long(alloc: Global, header: &LongHeader, body: &[u8]) -> Result<Bytes, AllocError>
     requires form { has_short_form header.now.table ≡ false }
     requires version { header.now.version < 32 }
@@ -66,8 +67,8 @@ pub fn write_short(alloc: Global, table: u8, body: &[u8]) -> Result<Bytes, Alloc
     Ok(Items::of(out))
 }
 
-/// The bytes of a section in the short form with a CRC (EN 300 468, 5.2.6). It needs the TOT's table, 0x73, and a body of at most 4,089
-/// bytes.
+/// The bytes of a section in the short form with a CRC (EN 300 468, 5.2.6). It needs the TOT's
+/// table, 0x73, and a body of at most 4,089 bytes.
 pub fn write_short_crc(alloc: Global, table: u8, body: &[u8]) -> Result<Bytes, AllocError>
     requires form { (table == 0x73) ≡ true }
     requires within { length body.now ≤ 4089 }

@@ -9,8 +9,8 @@ pub fn written_times_read_back()
     ensures body { TdtReadsBack }
 {}
 
-/// A written section of the time offset table is read as the section of table 0x73 with that body, and reading its body gives the moment
-/// and the offsets back.
+/// A written section of the time offset table is read as the section of table 0x73 with that body,
+/// and reading its body gives the moment and the offsets back.
 pub fn written_offsets_read_back()
     ensures section { TotIsASection }
     ensures body { TotReadsBack }

@@ -98,8 +98,9 @@ fn offset_in(
     })
 }
 
-/// The offsets of the body of a local_time_offset_descriptor, or `None` exactly where it ends within an entry, or one has an offset
-/// that is no time of day in decimal digits, or a change that is no moment (EN 300 468, 6.2.20).
+/// The offsets of the body of a local_time_offset_descriptor, or `None` exactly where it ends
+/// within an entry, or one has an offset that is no time of day in decimal digits, or a change that
+/// is no moment (EN 300 468, 6.2.20).
 pub(crate) fn offsets_in(alloc: Global, body: &[u8]) -> Result<Option<Offsets>, AllocError>
     ensures { IfOk result (λ read. read ≡ offsets_in body.now) }
 {

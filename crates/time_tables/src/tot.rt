@@ -10,7 +10,8 @@ use si_base::{Bytes, Copies, Items, put};
 use si_time::{Moment, from_bcd, to_bcd};
 use std::alloc::{AllocError, Global};
 
-/// What a time offset table says: UTC_time, and the offsets of its local_time_offset_descriptors (EN 300 468, 5.2.6 and 6.2.20).
+/// What a time offset table says: UTC_time, and the offsets of its local_time_offset_descriptors
+/// (EN 300 468, 5.2.6 and 6.2.20).
 #[derive(Drop)]
 pub struct Tot {
     pub at: Moment,
@@ -31,9 +32,9 @@ fn tot_body(alloc: Global, at: Moment, offsets: &[Offset]) -> Result<Vec<u8>, Al
     Ok(body)
 }
 
-/// The section of the time offset table: table_id 0x73 in the short form with a CRC, UTC_time, and one descriptor with these offsets
-/// (EN 300 468, 5.2.6). It needs a moment within the window of a Modified Julian Date of 16 bits, and 1 to 16 offsets that fit their
-/// fields.
+/// The section of the time offset table: table_id 0x73 in the short form with a CRC, UTC_time, and
+/// one descriptor with these offsets (EN 300 468, 5.2.6). It needs a moment within the window of a
+/// Modified Julian Date of 16 bits, and 1 to 16 offsets that fit their fields.
 pub fn write_tot(alloc: Global, at: Moment, offsets: &[Offset]) -> Result<Bytes, AllocError>
     requires at { at.0 < 65536 * 86400 }
     requires offsets { AreSent offsets.now }
@@ -80,7 +81,7 @@ fn told_within(alloc: Global, bytes: &[u8]) -> Result<Option<Offsets>, AllocErro
     Ok(Some(Items::of(told)))
 }
 
-// The offsets of a loop behind its length.
+// The offsets of a loop after its length.
 fn told_in(alloc: Global, bytes: &[u8]) -> Result<Option<Offsets>, AllocError>
     ensures { IfOk result (λ told. told ≡ told_in bytes.now) }
 {
@@ -94,9 +95,10 @@ fn told_in(alloc: Global, bytes: &[u8]) -> Result<Option<Offsets>, AllocError>
     told_within(alloc, rest)
 }
 
-/// What the body of a section of the time offset table says, or `None` exactly where UTC_time is no time, the length of the loop is not
-/// that of the rest, or a descriptor runs past the end. A local_time_offset_descriptor that is not whole entries, or has an offset that
-/// is no time of day in decimal digits, or a change that is no moment, is passed over (EN 300 468, 5.2.6 and 6.2.20).
+/// What the body of a section of the time offset table says, or `None` exactly where UTC_time is no
+/// time, the length of the loop is not that of the rest, or a descriptor runs past the end. A
+/// local_time_offset_descriptor that is not whole entries, or has an offset that is no time of day
+/// in decimal digits, or a change that is no moment, is passed over (EN 300 468, 5.2.6 and 6.2.20).
 pub fn read_tot(alloc: Global, body: &[u8]) -> Result<Option<Tot>, AllocError>
     ensures value { IfOk result (λ read. read ≡ tot_in body.now) }
     ensures window { IfOk result (λ read. IfSome read (λ tot. tot.at.0 < 65536 * 86400)) }
