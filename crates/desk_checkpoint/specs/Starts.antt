@@ -8,6 +8,7 @@ use Rattle.input_lines.specs.Ahead.{Stop, NoCommand, TooLong}
 use Rattle.air_model.specs.Air.{Aired}
 use Rattle.carousel_player.specs.Playing.{AtEnd, AreKeptOf}
 use Rattle.mux_model.specs.declared.mux.Mux.{Mux}
+use Rattle.journal_air.specs.Air.{mux_form}
 use Rattle.checkpoint_laws.specs.Steps.{shift_of}
 use Rattle.desk_checkpoint.specs.declared.start.CheckStop.{CheckStop}
 use Rattle.desk_checkpoint.specs.declared.start.CheckStop.TheVariants.{Line, Read, Memory}
@@ -51,12 +52,11 @@ pub record StartsFrom (cp : Checkpoint) (start : Start) : Type 0 where
   pub shift : start.shift ≡ shift_of cp.count
   pub player : (xs : List Aired) → AreKeptOf xs cp.keys cp.counters → AtEnd xs start.player
 
--- whatever was read: the desk is one of the multiplex, the player is at its end and has the quota and the offsets of the multiplex
+-- whatever was read: the desk is one of the multiplex, and the player is at its end and has the form of its cycles
 pub record IsStart (mux : Mux) (start : Start) : Type 0 where
   pub mux_is : start.desk.mux ≡ mux
   pub ended : start.player.left ≡ []
-  pub quota : start.player.form.quota ≡ mux.quota
-  pub offsets : start.player.form.offsets ≡ mux.offsets
+  pub form : start.player.form ≡ mux_form mux
   pub shift : start.shift < 10 ^ 18
 
 -- what reading a checkpoint gives, where the text is told

@@ -4,6 +4,7 @@ ghost use Rattle.section_codec.specs.KeyOrder.{key_cmp};
 ghost use Rattle.version_book.specs.declared.key_version.KeyVersion.{KeyVersion as AKeyVersion};
 ghost use Rattle.mux_model.specs.Sound.{IsSound};
 ghost use Rattle.air_model.specs.Air.{CanBeTold};
+ghost use Rattle.journal_air.specs.Air.{mux_form};
 ghost use Rattle.journal_model.specs.Steps.{IsStepWithin};
 ghost use Rattle.checkpoint_laws.specs.Going.{is_taken};
 ghost use Rattle.desk_checkpoint.specs.Parts.{IsFitPart};
@@ -234,7 +235,8 @@ impl Reading {
         requires most { quota ≤ 10000 }
         requires offsets { CanBeTold offsets }
         ensures from { IfOk result (StartsFrom self) }
-        ensures start { IfOk result (λ start. self.desk.mux.quota ≡ quota → self.desk.mux.offsets ≡ offsets → IsStart self.desk.mux start) }
+        ensures start { mux_form self.desk.mux ≡ record { quota = quota; offsets = offsets }
+            → IfOk result (IsStart self.desk.mux) }
     {
         let player = Player::resume(
             self.alloc,

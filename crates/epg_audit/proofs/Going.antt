@@ -13,12 +13,13 @@ use Rattle.journal_model.specs.declared.step.Entry.{Entry}
 use Rattle.desk_core.specs.Journal.{Legal, entry_after, moment_of, publishes}
 use Rattle.desk_core.specs.Desks.{DeskState}
 use Rattle.desk_core.proofs.DerivedFacts.{not_aired}
+use Rattle.version_book.specs.Airings.{CycleForm}
 use Rattle.journal_air.specs.Air.{airings, mux_form}
 use Rattle.version_book.specs.Airings.{AiredTables}
 use Rattle.ts_packets.specs.WholePackets.{whole_packets}
 use Rattle.air_model.specs.declared.rule.Rule.{Rule}
 use Rattle.air_audit.specs.Audits.{AreAnAir}
-use Rattle.air_audit.specs.Checking.{Checking, IsAtEnd, form_of}
+use Rattle.air_audit.specs.Checking.{Checking, IsAtEnd}
 use Rattle.air_audit.proofs.Checks.{end_is_air, stands_begins}
 use Rattle.headend_jobs.specs.OnAir.{airing_on, is_swap}
 use Rattle.headend_jobs.proofs.SwapFacts.{airings-other, airings-swap}
@@ -54,9 +55,9 @@ kept mux xs who (edit feed e) legal is = airings-other mux xs (entry_after mux x
 kept mux xs who (Tick at) legal is = airings-other mux xs (entry_after mux xs (who, Tick at)) legal (not_aired (moment_of mux xs) at)
 
 -- a swap puts one airing more on air, in a cycle of the checker's form
-pub swap_adds : (desk new : DeskState) (c : Checking) → Legal desk.mux desk.entries → StepAt true desk new → c.quota ≡ desk.mux.quota → desk_airings desk ++ airing_on new (form_of c) ∷ [] ≡ desk_airings new
-swap_adds desk new c legal s quota =
-    ap (λ (q : ℕ). desk_airings desk ++ airing_on new (record { quota = q }) ∷ []) quota
+pub swap_adds : (desk new : DeskState) (c : Checking) → Legal desk.mux desk.entries → StepAt true desk new → c.form ≡ mux_form desk.mux → desk_airings desk ++ airing_on new c.form ∷ [] ≡ desk_airings new
+swap_adds desk new c legal s form =
+    ap (λ (f : CycleForm). desk_airings desk ++ airing_on new f ∷ []) form
     ∙ ap (λ (d : DeskState). desk_airings desk ++ airing_on d (mux_form desk.mux) ∷ []) s.did
     ∙ sym (ap desk_airings s.did ∙ swapped desk.mux desk.entries s.who s.step legal s.is)
 

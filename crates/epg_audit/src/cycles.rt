@@ -6,7 +6,8 @@ ghost use Rattle.desk_core.specs.Publications.{aired_by, swaps};
 ghost use Rattle.packet_reader.specs.Reading.{PacketReading, bytes_left};
 ghost use Rattle.ts_packets.specs.WholePackets.{whole_packets};
 ghost use Rattle.version_book.specs.Airings.{AiredTables};
-ghost use Rattle.air_audit.specs.Checking.{IsAtEnd, StandsFor, form_of};
+ghost use Rattle.air_audit.specs.Checking.{IsAtEnd, StandsFor};
+ghost use Rattle.journal_air.specs.Air.{mux_form};
 ghost use Rattle.headend_jobs.specs.OnAir.{airing_on};
 ghost use Rattle.epg_report.specs.Texts.{CanBeSaid};
 ghost use Rattle.epg_audit.specs.Audits.{AuditDid, HasAuditCause};
@@ -35,8 +36,8 @@ pub(crate) struct AirCount {
 fn begin_cycle(alloc: Global, desk: &Desk, checker: &mut Checker) -> Result<(), AllocError>
     requires at_end { IsAtEnd checker.old }
     ensures begun { (airings : List AiredTables) (accepted : List (List ℕ)) → StandsFor airings accepted checker.old
-        → OnOk result (StandsFor (airings ++ airing_on desk.now (form_of checker.old) ∷ []) accepted checker.new) }
-    ensures quota { checker.new.quota ≡ checker.old.quota }
+        → OnOk result (StandsFor (airings ++ airing_on desk.now checker.old.form ∷ []) accepted checker.new) }
+    ensures form { checker.new.form ≡ checker.old.form }
 {
     let airing = desk.on_air()?;
     let tables = build(alloc, desk.mux(), &airing.guide)?;
@@ -53,10 +54,10 @@ fn check_on_air<F: Source>(
     requires going { packets.old.stop ≡ None }
     requires at_end { IsAtEnd checker.old }
     ensures checks { (start : PacketReading F) (past : List AiredTables) → Follows F.left start packets.old past checker.old
-        → Checks F.left start packets.new (past ++ airing_on desk.now (form_of checker.old) ∷ []) checker.new result }
+        → Checks F.left start packets.new (past ++ airing_on desk.now checker.old.form ∷ []) checker.new result }
     ensures at_end { OnOk result (IsAtEnd checker.new) }
     ensures going { OnOk result (packets.new.stop ≡ None) }
-    ensures quota { checker.new.quota ≡ checker.old.quota }
+    ensures form { checker.new.form ≡ checker.old.form }
     ensures known { IfErr result IsOfCheck }
     ensures cause { HasReadCause (F.faults packets.old.source) (F.faults packets.new.source) result }
     ensures later { F.faults packets.old.source ≤ F.faults packets.new.source }
@@ -81,7 +82,7 @@ pub(crate) fn audit_rest<S: Source, F: Source>(
     requires first { packets.old.number ≡ 0 }
     requires stands { StandsFor [] [] checker.old }
     requires at_end { IsAtEnd checker.old }
-    requires quota { checker.old.quota ≡ desk.old.mux.quota }
+    requires form { checker.old.form ≡ mux_form desk.old.mux }
     requires none { desk.old.entries ≡ [] }
     ensures did { AuditDid S.left F.left lines.old lines.new packets.old desk.old desk.new result }
     ensures number { (bytes : List ℕ) → bytes_left F.left packets.old ≡ Some bytes

@@ -37,7 +37,7 @@ pub(crate) fn check_cycle<F: Source>(
         → Checks F.left start packets.new airings checker.new result }
     ensures at_end { OnOk result (IsAtEnd checker.new) }
     ensures going { OnOk result (packets.new.stop ≡ None) }
-    ensures quota { checker.new.quota ≡ checker.old.quota }
+    ensures form { checker.new.form ≡ checker.old.form }
     ensures known { IfErr result IsOfCheck }
     ensures cause { HasReadCause (F.faults packets.old.source) (F.faults packets.new.source) result }
     ensures later { F.faults packets.old.source ≤ F.faults packets.new.source }

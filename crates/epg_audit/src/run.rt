@@ -1,9 +1,11 @@
 // An audit of a recording by the script of the input.
-ghost use Rattle.std.specs.Prelude.{◌≡◌, None, IfErr, OnOk};
+ghost use Rattle.std.specs.Prelude.{◌≡◌, [], None, IfErr, IfOk, OnOk};
 ghost use Rattle.std.specs.Io.KnownBytes.{IsAtEnd};
 ghost use Rattle.si_causes.specs.Reading.{fresh};
 ghost use Rattle.packet_reader.specs.Reading.{fresh as unread};
 ghost use Rattle.mux_model.specs.Sound.{IsSound};
+ghost use Rattle.air_audit.specs.Checking.{IsAtEnd as IsAtCycleEnd, StandsFor};
+ghost use Rattle.journal_air.specs.Air.{mux_form};
 ghost use Rattle.epg_report.specs.Texts.{CanBeSaid};
 ghost use Rattle.epg_report.specs.Told.{asked};
 ghost use Rattle.epg_audit.specs.Audits.{HasAuditCause, RecordingAudited};
@@ -22,9 +24,20 @@ use mux_config::read_mux;
 use mux_model::Mux;
 use packet_reader::PacketReader;
 use si_causes::{LineReader, Opener, Sink, Source};
-use std::alloc::Global;
+use std::alloc::{AllocError, Global};
 
-// Audits the recording by the script behind the description of this multiplex.
+// An auditor of the cycles of a multiplex, of its quota and with its offsets of local time.
+fn open_checker(alloc: Global, mux: &Mux) -> Result<Checker, AllocError>
+    requires { IsSound mux.now }
+    ensures stands { IfOk result (StandsFor [] []) }
+    ensures at_end { IfOk result IsAtCycleEnd }
+    ensures form { IfOk result (λ checker. checker.form ≡ mux_form mux.now) }
+{
+    let offsets = mux.offsets.copy()?;
+    Ok(Checker::open(alloc, mux.quota, offsets))
+}
+
+// Audits the recording by the script after the description of this multiplex.
 fn audit_recording<S: Source, F: Source>(
     alloc: Global,
     lines: &mut LineReader<S>,
@@ -42,11 +55,12 @@ fn audit_recording<S: Source, F: Source>(
         (F.faults packets.old.source) (F.faults packets.new.source) result }
     ensures same { S.same lines.old.source lines.new.source }
 {
-    let quota = mux.quota;
+    let Ok(mut checker) = open_checker(alloc, &mux) else {
+        return Err(Status::Memory);
+    };
     let Ok(mut desk) = Desk::open(alloc, mux) else {
         return Err(Status::Memory);
     };
-    let mut checker = Checker::open(alloc, quota);
     audit_rest(alloc, lines, &mut desk, packets, &mut checker)?;
     Ok(AirCount {
         packets: packets.number(),

@@ -31,7 +31,7 @@ use Rattle.desk_core.specs.Journal.{journal_after, journal_of}
 use Rattle.journal_model.specs.Steps.{Command}
 use Rattle.desk_core.specs.Desks.{DeskState, fresh}
 use Rattle.journal_text.specs.Entries.{journal_text}
-use Rattle.journal_air.specs.Air.{airings}
+use Rattle.journal_air.specs.Air.{airings, mux_form}
 use Rattle.headend_jobs.specs.OnAir.{HasSentAll, HasAired, HasAiredFront}
 use Rattle.epg_play.specs.declared.stop.PlayStop.{PlayStop}
 use Rattle.epg_play.specs.declared.stop.PlayStop.TheVariants.{NoMux as Undescribed, NoCommand as Refused, Disagrees as Differs, Read, Air as OnAir, Memory as NoMemory}
@@ -272,12 +272,12 @@ pub leaves_input : {S : Type 0} (left_of : S → Known) (source input : S) (stop
 leaves_input {S = S} left_of source input stop text air report desk status e played finished =
     subst (λ (s : S). Leaves text (left_of s) air report status) (sym e) (leaves stop text (left_of source) air report desk status played finished)
 
-start_sent : (mux : Mux) (desk : DeskState) (player : Playing) → desk ≡ fresh mux → AllSent [] player → player.quota ≡ mux.quota → HasSentAll [] desk player []
-start_sent mux desk player d end quota =
-    record { at_end = end; airings_are = sym (ap (λ (x : DeskState). airings x.mux x.entries) d); made = tt; quota = quota ∙ sym (ap (λ (x : DeskState). x.mux.quota) d) }
+start_sent : (mux : Mux) (desk : DeskState) (player : Playing) → desk ≡ fresh mux → AllSent [] player → player.form ≡ mux_form mux → HasSentAll [] desk player []
+start_sent mux desk player d end form =
+    record { at_end = end; airings_are = sym (ap (λ (x : DeskState). airings x.mux x.entries) d); made = tt; form = form ∙ sym (ap (λ (x : DeskState). mux_form x.mux) d) }
 
-pub start_aired : (mux : Mux) (desk : DeskState) (player : Playing) (w : Option (List ℕ)) → desk ≡ fresh mux → AllSent [] player → player.quota ≡ mux.quota → HasAired [] desk player w w
-start_aired mux desk player w d end quota = ([], start_sent mux desk player d end quota, Appends-nothing w)
+pub start_aired : (mux : Mux) (desk : DeskState) (player : Playing) (w : Option (List ℕ)) → desk ≡ fresh mux → AllSent [] player → player.form ≡ mux_form mux → HasAired [] desk player w w
+start_aired mux desk player w d end form = ([], start_sent mux desk player d end form, Appends-nothing w)
 
 -- where nothing fails, the script's stop decides
 pub completes : (text : List ℕ) (left : Known) (air report : ReportTaken) (status : Status) → Leaves text left air report status → (status ≡ ReadFault Input → ⊥) → (status ≡ WriteFault Air → ⊥) → (status ≡ WriteFault Report → ⊥)

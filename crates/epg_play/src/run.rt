@@ -9,9 +9,9 @@ ghost use Rattle.epg_report.specs.Told.{told};
 use crate::ending::{Played, finish};
 use crate::play::play_rest;
 use crate::stop::PlayStop;
-use carousel_player::Player;
 use desk_core::Desk;
 use epg_report::{Status, out_of_memory};
+use headend_jobs::open_player;
 use mux_config::{MuxStop, read_mux};
 use si_causes::{LineReader, Sink, Source};
 use std::alloc::Global;
@@ -49,14 +49,18 @@ fn play<S: Source, A: Sink>(alloc: Global, lines: &mut LineReader<S>, air: &mut 
             };
         }
     };
-    let quota = mux.quota;
+    let Ok(mut player) = open_player(alloc, &mux) else {
+        return Played {
+            desk: None,
+            stop: Some(PlayStop::Memory),
+        };
+    };
     let Ok(mut desk) = Desk::open(alloc, mux) else {
         return Played {
             desk: None,
             stop: Some(PlayStop::Memory),
         };
     };
-    let mut player = Player::open(alloc, quota);
     let stop = play_rest(alloc, lines, &mut desk, &mut player, air, 0).err();
     Played {
         desk: Some(desk),

@@ -15,7 +15,7 @@ use Rattle.journal_model.specs.declared.step.Outcome.{Outcome}
 use Rattle.journal_model.specs.declared.step.Entry.{Entry}
 use Rattle.desk_core.specs.Journal.{Legal, LegalAfter, journal_after, outcome_of, publishes}
 use Rattle.desk_core.proofs.JournalFacts.{journal_legal}
-use Rattle.journal_air.specs.Air.{airing_at, airings}
+use Rattle.journal_air.specs.Air.{airing_at, airings, mux_form}
 use Rattle.checkpoint_laws.specs.Steps.{checkpoint_steps, folded, shift_of}
 use Rattle.checkpoint_laws.specs.Going.{is_taken}
 use Rattle.checkpoint_laws.proofs.GoFacts.{journals_alike}
@@ -70,10 +70,10 @@ pub nothing_folded : (mux : Mux) (journal : List Entry) → IsSound mux → Lega
 nothing_folded mux journal sound legal = (let short = folded mux journal in ap (λ (l : List (ℕ × Moment)). map (airing_at mux short) l) (no_swaps short (steps_taken mux journal sound legal)))
 
 -- behind earlier cycles, a start that has put nothing on air has aired nothing
-pub begun_aired : (earlier : List Aired) (start : Start) (w : Option (List ℕ)) → airings start.desk.mux start.desk.entries ≡ [] → AtEnd earlier start.player → start.player.quota ≡ start.desk.mux.quota
+pub begun_aired : (earlier : List Aired) (start : Start) (w : Option (List ℕ)) → airings start.desk.mux start.desk.entries ≡ [] → AtEnd earlier start.player → start.player.form ≡ mux_form start.desk.mux
     → HasAired earlier start.desk start.player w w
-begun_aired earlier start w none end quota = (
+begun_aired earlier start w none end form = (
   [],
-  record { at_end = subst (λ (l : List Aired). AtEnd l start.player) (sym (append-nil earlier)) end; airings_are = sym none; made = tt; quota = quota },
+  record { at_end = subst (λ (l : List Aired). AtEnd l start.player) (sym (append-nil earlier)) end; airings_are = sym none; made = tt; form = form },
   Appends-nothing w,
 )

@@ -15,7 +15,7 @@ use Rattle.mux_config.proofs.FineLines.{described_texts_are_kept, whole_descript
 use Rattle.journal_model.specs.declared.step.Entry.{Entry}
 use Rattle.journal_model.specs.Steps.{Command}
 use Rattle.desk_core.specs.Desks.{DeskState}
-use Rattle.journal_air.specs.Air.{airings}
+use Rattle.journal_air.specs.Air.{airings, mux_form}
 use Rattle.checkpoint_laws.specs.Steps.{folded, shift_of}
 use Rattle.desk_core.specs.Journal.{publishes}
 use Rattle.desk_checkpoint.specs.declared.start.Start.{Start}
@@ -150,7 +150,7 @@ new_behind : (fold : Bool) (air report : ReportTaken) (played : Played) (mux : M
 new_behind fold air report played mux lines status is c finished =
     let run = new_run mux lines is in
     leaves_behind fold mux 0 [] [] [] (new_base mux run.folds.sound) run air report lines (IsNew mux) played c c.begins.desk c.begins.shift
-    (begun_aired [] c.start air.old (ap (λ (d : DeskState). airings d.mux d.entries) c.begins.desk) c.begins.player (c.begins.quota ∙ sym (ap (λ (d : DeskState). d.mux.quota) c.begins.desk))) status finished
+    (begun_aired [] c.start air.old (ap (λ (d : DeskState). airings d.mux d.entries) c.begins.desk) c.begins.player (c.begins.form ∙ sym (ap (λ (d : DeskState). mux_form d.mux) c.begins.desk))) status finished
 
 -- where neither the input nor a sink fails, the script decides
 fold_behind_decides : (mux : Mux) (lines : Ahead) (air report : ReportTaken) (status : Status) → LeavesBehind true mux [] [] air report lines status → IsOfPlay status
@@ -306,9 +306,9 @@ module _ (path : List ℕ) (files : Files) (fold : Bool) (air report : ReportTak
       let sound = run.folds.sound in
       let legal = run.folds.legal in
       let none : airings c.start.desk.mux c.start.desk.entries ≡ [] = ap (λ (d : DeskState). airings d.mux d.entries) from.desk ∙ nothing_folded mux journal sound legal in
-      let quota : c.start.player.quota ≡ c.start.desk.mux.quota = c.begins.is.quota ∙ ap (λ (m : Mux). m.quota) (sym c.begins.is.mux_is) in
+      let form : c.start.player.form ≡ mux_form c.start.desk.mux = c.begins.is.form ∙ ap mux_form (sym c.begins.is.mux_is) in
       leaves_behind fold mux (shift_of (publishes journal)) journal (folded mux journal) earlier (folded_base mux journal sound legal) run air report lines (BeganAt path files mux) played c from.desk from.shift
-      (begun_aired earlier c.start air.old none from.player quota) status finished
+      (begun_aired earlier c.start air.old none from.player form) status finished
 
   resumed_behind : (played : Played) (status : Status)
       → (BeginsAt path files mux (Err played.met) × IsNotBegun played.met × NotPlayed air.old air.new played) ⊎ CourseBehind (BeganAt path files mux) air.old air.new played lines

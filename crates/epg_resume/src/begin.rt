@@ -7,10 +7,10 @@ ghost use Rattle.desk_checkpoint.specs.Starts.{IsStart};
 ghost use Rattle.epg_resume.specs.Beginning.{BeginsAt, BeginsWith, HasFileCause, HasOpenCause, IsNew, IsNotBegun, IsRefused, check_status};
 ghost use Rattle.epg_resume.specs.Checkpointed.{checkpoint_limit, checkpoint_of};
 
-use carousel_player::Player;
 use desk_checkpoint::{CheckStop, Start, read_checkpoint};
 use desk_core::Desk;
 use epg_report::{Origin, Status};
+use headend_jobs::open_player;
 use mux_model::Mux;
 use si_causes::{LineReader, Opener, ReadStop, Source};
 use std::alloc::{AllocError, Global};
@@ -23,11 +23,11 @@ pub(crate) fn new_start(alloc: Global, mux: Mux) -> Result<Start, AllocError>
     requires { IsSound mux }
     ensures { IfOk result (IsNew mux) }
 {
-    let quota = mux.quota;
+    let player = open_player(alloc, &mux)?;
     Ok(Start {
         desk: Desk::open(alloc, mux)?,
         shift: 0,
-        player: Player::open(alloc, quota),
+        player,
     })
 }
 

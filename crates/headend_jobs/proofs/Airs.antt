@@ -10,7 +10,7 @@ use Rattle.version_book.specs.Airings.{CycleForm, AiredTables}
 use Rattle.air_model.specs.Air.{Aired, air, airings_of, air_bytes}
 use Rattle.air_model.specs.Making.{cycle_dense}
 use Rattle.air_model.proofs.Airs.{AreMade-push}
-use Rattle.carousel_player.specs.Playing.{Playing, form_of}
+use Rattle.carousel_player.specs.Playing.{Playing}
 use Rattle.publication.specs.Tables.{tables_of, HasServicesOf}
 use Rattle.journal_model.specs.declared.step.Step.{Step}
 use Rattle.journal_model.specs.declared.step.Step.TheVariants.{Swap}
@@ -74,33 +74,33 @@ one_more mux airing v w front xs x m is are e =
     (put_longer mux v.seen w.seen front (airings_of xs) (made_began Swap (Swapped airing.number airing.moment) v w m) are)
     (puts mux airing v w m is))
 
--- the airing of a player with the multiplex's quota
-own_form : (mux : Mux) (airing : Airing) (player : Playing) → player.quota ≡ mux.quota → airing_by mux (form_of player) airing ≡ airing_with_tables mux airing
-own_form mux airing player quota = ap (λ (q : ℕ). airing_by mux (let form : CycleForm = record { quota = q } in form) airing) quota
+-- the airing of a player with the multiplex's form
+own_form : (mux : Mux) (airing : Airing) (player : Playing) → player.form ≡ mux_form mux → airing_by mux player.form airing ≡ airing_with_tables mux airing
+own_form mux airing player form = ap (λ (f : CycleForm). airing_by mux f airing) form
 
 -- a whole cycle was sent
 pub sent_whole : (mux : Mux) (v w : View) (old new : Playing) (mid now : Known) (u : Unit {0}) → (s : SwapSent mux v w old new mid now (Ok u))
     → GoesOn (λ entries before. HasPlayedTo mux w.seen entries new before now) mux v (entry_of v.own.low Swap (Swapped s.airing.number s.airing.moment) ∷ []) old mid
-sent_whole mux v w old new mid now u s = λ front before (xs, end, are, made, quota, bytes).
+sent_whole mux v w old new mid now u s = λ front before (xs, end, are, made, form, bytes).
     let (x, e, packets, ended, took) = s.sent xs end in (
       xs ++ x ∷ [],
       ended,
-      one_more mux s.airing v w front xs x s.made s.airing_is are (e ∙ own_form mux s.airing old quota),
+      one_more mux s.airing v w front xs x s.made s.airing_is are (e ∙ own_form mux s.airing old form),
       AreMade-push [] xs x made (packets ∙ ap (cycle_dense (airings_of xs) (air xs)) (sym e)),
-      s.quota ∙ quota,
+      s.form ∙ form,
       subst (Appends before now) (sym (air_bytes-push xs x)) (Appends-trans before mid now (air_bytes xs) (cycle_bytes x) bytes took),
     )
 
 -- a cycle was sent in part
 pub sent_front : (mux : Mux) (v w : View) (old new : Playing) (mid now : Known) → (s : SwapSent mux v w old new mid now (Err Air))
     → GoesOn (λ entries before. HasPlayedFront mux w.seen entries before now) mux v (entry_of v.own.low Swap (Swapped s.airing.number s.airing.moment) ∷ []) old mid
-sent_front mux v w old new mid now s = λ front before (xs, end, are, made, quota, bytes).
+sent_front mux v w old new mid now s = λ front before (xs, end, are, made, form, bytes).
     let (x, e, packets, is_air, (n, proper, took)) = s.sent xs end in
     record {
       whole = xs;
       cut = x;
       is_air = is_air;
-      airings_are = one_more mux s.airing v w front xs x s.made s.airing_is are (e ∙ own_form mux s.airing old quota);
+      airings_are = one_more mux s.airing v w front xs x s.made s.airing_is are (e ∙ own_form mux s.airing old form);
       made = AreMade-push [] xs x made (packets ∙ ap (cycle_dense (airings_of xs) (air xs)) (sym e));
       taken = n;
       proper = proper;
@@ -110,7 +110,7 @@ sent_front mux v w old new mid now s = λ front before (xs, end, are, made, quot
 -- no cycle was sent
 pub sent_none : (mux : Mux) (v w : View) (old : Playing) (mid now : Known) (added : List Entry) → IsPrefix v.seen w.seen → now ≡ mid
     → GoesOn (λ entries before. HasPlayedSome mux w.seen entries before now) mux v added old mid
-sent_none mux v w old mid now added p same = λ front before (xs, end, are, made, quota, bytes). record {
+sent_none mux v w old mid now added p same = λ front before (xs, end, are, made, form, bytes). record {
   done = front;
   left = added;
   entries_are = refl;

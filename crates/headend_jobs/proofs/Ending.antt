@@ -71,7 +71,7 @@ stays_on v w (added, e) = ap (λ (z : View). z.on) e
 
 air_ok : (mux : Mux) (journal seen entries : List Entry) (new : Playing) (before now : Known) → airings mux journal ≡ airings_by mux journal entries → IsPrefix seen journal
     → HasPlayedTo mux seen entries new before now → AirOf mux journal before now
-air_ok mux journal seen entries new before now is p (xs, end, are, made, quota, bytes) =
+air_ok mux journal seen entries new before now is p (xs, end, are, made, form, bytes) =
     record { cycles = xs; is_air = subst (λ (l : List AiredTables). IsAirOf l xs) (are journal p ∙ sym is) end.is_air; made = made; bytes = bytes }
 
 air_cut : (mux : Mux) (journal seen entries : List Entry) (before now : Known) → airings mux journal ≡ airings_by mux journal entries → IsPrefix seen journal
@@ -106,11 +106,11 @@ air_as mux journal seen entries player before now (Err Memory) is p h = air_some
 -- ---- the end
 
 played_longer : (mux : Mux) (seen more entries : List Entry) (player : Playing) (before now : Known) → IsPrefix seen more → HasPlayedTo mux seen entries player before now → HasPlayedTo mux more entries player before now
-played_longer mux seen more entries player before now p (xs, end, are, made, quota, bytes) = (xs, end, put_longer mux seen more entries (airings_of xs) p are, made, quota, bytes)
+played_longer mux seen more entries player before now p (xs, end, are, made, form, bytes) = (xs, end, put_longer mux seen more entries (airings_of xs) p are, made, form, bytes)
 
 -- whole cycles are also some
 to_some : (mux : Mux) (seen more entries : List Entry) (player : Playing) (before now : Known) → IsPrefix seen more → HasPlayedTo mux seen entries player before now → HasPlayedSome mux more entries before now
-to_some mux seen more entries player before now p (xs, end, are, made, quota, bytes) =
+to_some mux seen more entries player before now p (xs, end, are, made, form, bytes) =
     record { done = entries; left = []; entries_are = sym (append-nil entries); whole = xs; is_air = end.is_air; airings_are = put_longer mux seen more entries (airings_of xs) p are; made = made; bytes = bytes }
 
 made_final : (who k n : ℕ) (added : List Entry) → map command_of added ≡ swaps_by who k → map command_of (entry_of who Publish (Published n) ∷ added) ≡ (who, Publish) ∷ swaps_by who k

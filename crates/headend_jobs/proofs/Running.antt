@@ -5,6 +5,7 @@ use Rattle.std.specs.List.{AllByRecursion}
 use native.Mathlib.Decide.{ℕ_discrete, dec_le}
 use mathlib.Core.Logic.{dite}
 use Rattle.mux_model.specs.declared.mux.Mux.{Mux}
+use Rattle.journal_air.specs.Air.{mux_form}
 use Rattle.si_causes.specs.Causes.{Rose}
 use Rattle.si_causes.proofs.CauseFacts.{Appends-nothing}
 use Rattle.headend_jobs.specs.OnAir.{HasAirCause}
@@ -31,9 +32,9 @@ swaps_did mux n v w old new mid now (Err Air) (k, less, (d, on)) = (suc k, d)
 swaps_did mux n v w old new mid now (Err Memory) (k, le, (d, on)) = (k, d)
 
 -- what a player that had sent nothing has sent
-module _ (mux : Mux) (v w : View) (old new : Playing) (mid now : Option (List ℕ)) (empty : v.own.made ≡ []) (ready : AtEnd [] old) (quota : old.quota ≡ mux.quota) where
+module _ (mux : Mux) (v w : View) (old new : Playing) (mid now : Option (List ℕ)) (empty : v.own.made ≡ []) (ready : AtEnd [] old) (form : old.form ≡ mux_form mux) where
   none_played : HasPlayedTo mux v.seen [] old mid mid
-  none_played = ([], ready, (λ journal p. refl), tt, quota, Appends-nothing mid)
+  none_played = ([], ready, (λ journal p. refl), tt, form, Appends-nothing mid)
 
   made_is : (k : ℕ) → (d : Did (swaps_by v.own.low k) v w) → w.own.made ≡ d.added
   made_is k d = ap (λ (z : View). z.own.made) d.gained ∙ ap (λ (l : List Entry). l ++ d.added) empty

@@ -14,7 +14,7 @@ use Rattle.ts_packets.specs.Bytes.{Packet, bytes_of_packet}
 use Rattle.air_model.specs.Air.{Aired, IsAirOf, airings_of, air, air_bytes}
 use Rattle.air_model.specs.Making.{cycle_dense}
 use Rattle.air_model.proofs.Airs.{AreMade-push}
-use Rattle.carousel_player.specs.Playing.{Playing, AtEnd, form_of}
+use Rattle.carousel_player.specs.Playing.{Playing, AtEnd}
 use Rattle.journal_model.specs.declared.step.Step.{Step}
 use Rattle.journal_model.specs.declared.step.Step.TheVariants.{Edit as edit, Tick, Publish, Swap}
 use Rattle.journal_model.specs.declared.step.Outcome.{Outcome}
@@ -120,7 +120,7 @@ other_airings desk who step legal h =
 
 other_sent : (earlier : List Aired) (desk : DeskState) (who : ℕ) (step : Step) (player : Playing) (xs : List Aired) → Legal desk.mux desk.entries → is_swap step ≡ false → HasSentAll earlier desk player xs → HasSentAll earlier (and_step desk who step) player xs
 other_sent earlier desk who step player xs legal h sent =
-    record { at_end = sent.at_end; airings_are = sent.airings_are ∙ other_airings desk who step legal h; made = sent.made; quota = sent.quota }
+    record { at_end = sent.at_end; airings_are = sent.airings_are ∙ other_airings desk who step legal h; made = sent.made; form = sent.form }
 
 pub other_aired : (earlier : List Aired) (desk : DeskState) (who : ℕ) (step : Step) (player : Playing) (before now : Option (List ℕ)) → Legal desk.mux desk.entries → is_swap step ≡ false → HasAired earlier desk player before now → HasAired earlier (and_step desk who step) player before now
 other_aired earlier desk who step player before now legal h (xs, sent, bytes) = (xs, other_sent earlier desk who step player xs legal h sent, bytes)
@@ -147,9 +147,9 @@ swap_airings desk who step xs x legal h are e =
     airings_of-push xs x ∙ ap (λ (l : List AiredTables). l ++ x.airing ∷ []) are ∙ ap (λ (a : AiredTables). airings desk.mux desk.entries ++ a ∷ []) e
     ∙ sym (airings-swap desk.mux desk.entries entry (publishes desk.entries, moment_of desk.mux desk.entries) legal (swap_airs desk.mux desk.entries step h))
 
--- the airing of a player with the multiplex's quota
-own_form : (desk after : DeskState) (player : Playing) → player.quota ≡ desk.mux.quota → airing_on after (form_of player) ≡ airing_on after (mux_form desk.mux)
-own_form desk after player quota = ap (λ (q : ℕ). airing_on after (let form : CycleForm = record { quota = q } in form)) quota
+-- the airing of a player with the multiplex's form
+own_form : (desk after : DeskState) (player : Playing) → player.form ≡ mux_form desk.mux → airing_on after player.form ≡ airing_on after (mux_form desk.mux)
+own_form desk after player form = ap (λ (f : CycleForm). airing_on after f) form
 
 -- cycles behind earlier ones, part by part
 pub airings_of-append : (xs ys : List Aired) → airings_of (xs ++ ys) ≡ airings_of xs ++ airings_of ys
@@ -157,18 +157,18 @@ airings_of-append [] ys = refl
 airings_of-append (x ∷ xs) ys = ap (λ l. x.airing ∷ l) (airings_of-append xs ys)
 
 -- one more cycle was sent
-swap_sent : (earlier : List Aired) (desk : DeskState) (who : ℕ) (step : Step) (old new : Playing) (xs : List Aired) (x : Aired) → Legal desk.mux desk.entries → is_swap step ≡ true → HasSentAll earlier desk old xs → new.quota ≡ old.quota
-    → x.airing ≡ airing_on (and_step desk who step) (form_of old) → x.packets ≡ cycle_dense (airings_of (earlier ++ xs)) (air (earlier ++ xs)) (airing_on (and_step desk who step) (form_of old)) → AtEnd ((earlier ++ xs) ++ x ∷ []) new
+swap_sent : (earlier : List Aired) (desk : DeskState) (who : ℕ) (step : Step) (old new : Playing) (xs : List Aired) (x : Aired) → Legal desk.mux desk.entries → is_swap step ≡ true → HasSentAll earlier desk old xs → new.form ≡ old.form
+    → x.airing ≡ airing_on (and_step desk who step) old.form → x.packets ≡ cycle_dense (airings_of (earlier ++ xs)) (air (earlier ++ xs)) (airing_on (and_step desk who step) old.form) → AtEnd ((earlier ++ xs) ++ x ∷ []) new
     → HasSentAll earlier (and_step desk who step) new (xs ++ x ∷ [])
 swap_sent earlier desk who step old new xs x legal h sent kept e made at_end = record {
   at_end = subst (λ (l : List Aired). AtEnd l new) (append_assoc earlier xs (x ∷ [])) at_end;
-  airings_are = swap_airings desk who step xs x legal h sent.airings_are (e ∙ own_form desk (and_step desk who step) old sent.quota);
+  airings_are = swap_airings desk who step xs x legal h sent.airings_are (e ∙ own_form desk (and_step desk who step) old sent.form);
   made = AreMade-push earlier xs x sent.made (made ∙ ap (cycle_dense (airings_of (earlier ++ xs)) (air (earlier ++ xs))) (sym e));
-  quota = kept ∙ sent.quota;
+  form = kept ∙ sent.form;
 }
 
-pub swap_aired : (earlier : List Aired) (desk : DeskState) (who : ℕ) (step : Step) (old new : Playing) (before mid now : Option (List ℕ)) (r : Result (Unit {0}) SendStop) → Legal desk.mux desk.entries → is_swap step ≡ true → new.quota ≡ old.quota
-    → HasAired earlier desk old before mid → ((xs : List Aired) → AtEnd xs old → SentCycle xs (airing_on (and_step desk who step) (form_of old)) new mid now r) → AiredTo earlier (and_step desk who step) new before now r
+pub swap_aired : (earlier : List Aired) (desk : DeskState) (who : ℕ) (step : Step) (old new : Playing) (before mid now : Option (List ℕ)) (r : Result (Unit {0}) SendStop) → Legal desk.mux desk.entries → is_swap step ≡ true → new.form ≡ old.form
+    → HasAired earlier desk old before mid → ((xs : List Aired) → AtEnd xs old → SentCycle xs (airing_on (and_step desk who step) old.form) new mid now r) → AiredTo earlier (and_step desk who step) new before now r
 swap_aired earlier desk who step old new before mid now (Ok u) legal h kept (xs, sent, bytes) sends =
     let (x, e, made, ended, took) = sends (earlier ++ xs) sent.at_end in (
       xs ++ x ∷ [],
@@ -181,7 +181,7 @@ swap_aired earlier desk who step old new before mid now (Err OnFault) legal h ke
     let all : (earlier ++ xs) ++ x ∷ [] ≡ earlier ++ (xs ++ x ∷ []) = append_assoc earlier xs (x ∷ []) in
     let are : airings_of (earlier ++ (xs ++ x ∷ [])) ≡ airings_of earlier ++ airings (and_step desk who step).mux (and_step desk who step).entries =
     airings_of-append earlier (xs ++ x ∷ [])
-    ∙ ap (λ (l : List AiredTables). airings_of earlier ++ l) (swap_airings desk who step xs x legal h sent.airings_are (e ∙ own_form desk (and_step desk who step) old sent.quota)) in
+    ∙ ap (λ (l : List AiredTables). airings_of earlier ++ l) (swap_airings desk who step xs x legal h sent.airings_are (e ∙ own_form desk (and_step desk who step) old sent.form)) in
     record {
       front = desk.entries;
       last = record { who = who; step = step; outcome = outcome_of desk.mux desk.entries step };
@@ -198,10 +198,10 @@ swap_aired earlier desk who step old new before mid now (Err OnFault) legal h ke
 
 -- ---- the same, of a desk that did the step
 
-pub after_swap_aired : (earlier : List Aired) (desk after : DeskState) (who : ℕ) (step : Step) (old new : Playing) (before mid now : Option (List ℕ)) (r : Result (Unit {0}) SendStop) → after ≡ and_step desk who step → Legal desk.mux desk.entries → is_swap step ≡ true → new.quota ≡ old.quota
-    → HasAired earlier desk old before mid → ((xs : List Aired) → AtEnd xs old → SentCycle xs (airing_on after (form_of old)) new mid now r) → AiredTo earlier after new before now r
+pub after_swap_aired : (earlier : List Aired) (desk after : DeskState) (who : ℕ) (step : Step) (old new : Playing) (before mid now : Option (List ℕ)) (r : Result (Unit {0}) SendStop) → after ≡ and_step desk who step → Legal desk.mux desk.entries → is_swap step ≡ true → new.form ≡ old.form
+    → HasAired earlier desk old before mid → ((xs : List Aired) → AtEnd xs old → SentCycle xs (airing_on after old.form) new mid now r) → AiredTo earlier after new before now r
 after_swap_aired earlier desk after who step old new before mid now r e legal h kept has =
-    subst (λ (d : DeskState). ((xs : List Aired) → AtEnd xs old → SentCycle xs (airing_on d (form_of old)) new mid now r) → AiredTo earlier d new before now r) (sym e) (swap_aired earlier desk who step old new before mid now r legal h kept has)
+    subst (λ (d : DeskState). ((xs : List Aired) → AtEnd xs old → SentCycle xs (airing_on d old.form) new mid now r) → AiredTo earlier d new before now r) (sym e) (swap_aired earlier desk who step old new before mid now r legal h kept has)
 
 pub after_other_aired : (earlier : List Aired) (desk after : DeskState) (who : ℕ) (step : Step) (player : Playing) (before now : Option (List ℕ)) → after ≡ and_step desk who step → Legal desk.mux desk.entries → is_swap step ≡ false → HasAired earlier desk player before now → HasAired earlier after player before now
 after_other_aired earlier desk after who step player before now e legal h has = subst (λ (d : DeskState). HasAired earlier d player before now) (sym e) (other_aired earlier desk who step player before now legal h has)

@@ -18,7 +18,7 @@ use Rattle.desk_core.specs.Journal.{outcome_of}
 use Rattle.desk_core.specs.Desks.{DeskState, and_entry, on_air_of}
 use Rattle.headend_jobs.specs.declared.send.SendStop.{SendStop}
 use Rattle.headend_jobs.specs.declared.send.SendStop.TheVariants.{Air, Memory}
-use Rattle.journal_air.specs.Air.{airings}
+use Rattle.journal_air.specs.Air.{airings, mux_form}
 
 -- the bytes of one cycle
 abbrev pub cycle_bytes : Aired → List ℕ
@@ -33,12 +33,12 @@ abbrev pub airing_on : DeskState → CycleForm → AiredTables
 airing_on desk form = airing_by desk.mux form (on_air_of desk)
 
 -- Behind earlier cycles the player has sent these and is at its end: those of the desk's journal, neighbours of one PID in packets that
--- they share. Its quota is that of the multiplex.
+-- they share. Its cycles have the multiplex's form.
 pub record HasSentAll (earlier : List Aired) (desk : DeskState) (player : Playing) (xs : List Aired) : Type 0 where
   pub at_end : AtEnd (earlier ++ xs) player
   pub airings_are : airings_of xs ≡ airings desk.mux desk.entries
   pub made : AreMade earlier xs
-  pub quota : player.quota ≡ desk.mux.quota
+  pub form : player.form ≡ mux_form desk.mux
 
 -- and the air took them, from `before` to `now`
 abbrev pub HasAired : List Aired → DeskState → Playing → Option (List ℕ) → Option (List ℕ) → Type 0

@@ -6,7 +6,7 @@ use Rattle.mux_model.specs.declared.mux.Mux.{Mux}
 use Rattle.version_book.specs.Airings.{AiredTables}
 use Rattle.air_model.specs.Air.{Aired, IsAirOf, airings_of, air_bytes}
 use Rattle.air_model.specs.Making.{AreMade}
-use Rattle.carousel_player.specs.Playing.{Playing, AtEnd, form_of}
+use Rattle.carousel_player.specs.Playing.{Playing, AtEnd}
 use Rattle.journal_model.specs.declared.step.Step.TheVariants.{Swap}
 use Rattle.journal_model.specs.declared.step.Outcome.TheVariants.{Swapped}
 use Rattle.desk_core.specs.declared.airing.Airing.{Airing}
@@ -28,10 +28,10 @@ abbrev pub ArePutOnAir : Mux → List Entry → List Entry → List AiredTables 
 ArePutOnAir mux seen entries airings = (journal : List Entry) → IsPrefix seen journal → airings ≡ airings_by mux journal entries
 
 -- The player has sent a whole cycle for each airing of these entries, neighbours of one PID in packets that they share, and no others,
--- and the air took them, from `before` to `now`. Its quota is that of the multiplex.
+-- and the air took them, from `before` to `now`. Its cycles have the multiplex's form.
 abbrev pub HasPlayedTo : Mux → List Entry → List Entry → Playing → Option (List ℕ) → Option (List ℕ) → Type 0
 HasPlayedTo mux seen entries player before now =
-    (xs : List Aired) × AtEnd xs player × ArePutOnAir mux seen entries (airings_of xs) × AreMade [] xs × (player.quota ≡ mux.quota) × Appends before now (air_bytes xs)
+    (xs : List Aired) × AtEnd xs player × ArePutOnAir mux seen entries (airings_of xs) × AreMade [] xs × (player.form ≡ mux_form mux) × Appends before now (air_bytes xs)
 
 -- The air took whole cycles for all airings of these entries but the last, and a proper front of the cycle of the last.
 pub record HasPlayedFront (mux : Mux) (seen entries : List Entry) (before now : Option (List ℕ)) : Type 0 where
@@ -62,8 +62,8 @@ pub record SwapSent (mux : Mux) (v w : View) (old new : Playing) (mid now : Opti
   pub airing : Airing
   pub made : Made Swap (Swapped airing.number airing.moment) v w
   pub airing_is : airing ≡ on_air_of (desk_with mux w.seen)
-  pub sent : (xs : List Aired) → AtEnd xs old → SentCycle xs (airing_by mux (form_of old) airing) new mid now result
-  pub quota : new.quota ≡ old.quota
+  pub sent : (xs : List Aired) → AtEnd xs old → SentCycle xs (airing_by mux old.form airing) new mid now result
+  pub form : new.form ≡ old.form
   pub wanting : result ≡ Err Memory → now ≡ mid
 
 -- or memory was wanting for the turn

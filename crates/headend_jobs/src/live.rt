@@ -5,6 +5,7 @@ ghost use Rattle.mux_model.specs.Sound.{IsSound};
 ghost use Rattle.mux_model.specs.declared.mux.Mux.{Mux as AMux};
 ghost use Rattle.air_model.specs.Air.{Aired};
 ghost use Rattle.carousel_player.specs.Playing.{AtEnd, Playing};
+ghost use Rattle.journal_air.specs.Air.{mux_form};
 ghost use Rattle.turn_lock.specs.Knowledge.{HasAny, TableId, first_pass, numbers};
 ghost use Rattle.std.specs.List.{All, AllByRecursion};
 ghost use Rattle.headend_jobs.specs.Whole.{SwapsNot};
@@ -20,7 +21,7 @@ ghost use Rattle.headend_jobs.specs.Live.{callers_back, FinalDid, LastDid, SentD
 
 use crate::jobs::{ControlJob, FeedJob, PlayerJob, run_side_by_side};
 use crate::player::play;
-use crate::send::SendStop;
+use crate::send::{SendStop, open_player};
 use crate::views::ViewJob;
 use carousel_player::Player;
 use desk_core::Desk;
@@ -385,7 +386,7 @@ fn run_jobs<W: Threads + Wait + Sync, F: Source + Send, S: Source + Send, A: Sin
     requires player { player ≡ new_player hall.turns player.mux player.cycles player.player }
     requires sound { IsSound player.mux }
     requires ready { AtEnd [] player.player }
-    requires quota { player.player.quota ≡ player.mux.quota }
+    requires form { player.player.form ≡ mux_form player.mux }
     requires few { player.cycles < 2 ^ 32 }
     requires opening { board.old.posts ≡ opening_of player.mux ∷ [] }
     requires views { All ViewReady views.old }
@@ -457,7 +458,7 @@ pub fn run_hall<
 {
     let back = Vec::with_capacity(alloc, feeds.len())?;
     let copy = mux.copy()?;
-    let player = Player::open(alloc, mux.quota as u32);
+    let player = open_player(alloc, &copy)?;
     let callers = feeds.len() as u32 + 2;
     let (hall, mut pass) = Hall::open(alloc, mux, callers)?;
     let jobs = cut_all(alloc, hall.turns(), &mut pass, feeds)?;

@@ -30,7 +30,7 @@ use Rattle.headend_jobs.specs.declared.send.SendStop.TheVariants.{Air, Memory}
 use Rattle.journal_air.specs.Air.{airing_at, airings, mux_form}
 use Rattle.journal_air.specs.Laws.{HasTypedEdits}
 use Rattle.headend_jobs.specs.Live.{AirDid}
-use Rattle.journal_air.proofs.CarryFacts.{each_airing}
+use Rattle.journal_air.proofs.CarryFacts.{each_airing, offsets_told}
 use Rattle.journal_air.proofs.Published.{published_typed}
 
 -- a sub-table is of tier Fast, or not on the PID of the PAT
@@ -67,7 +67,7 @@ airings_fit mux journal sound typed legal = each_airing (IsFitAs (mux_form mux))
     one (n, moment) =
         let guide = publication mux journal n in
         let within = publications_within mux journal n sound.services sound.ascend legal in
-        (record { fit = publication_fit mux guide sound within (typed_small guide within (published_typed mux journal n typed within)); alone = runs_begin_alone mux guide; quota = sound.quota.0 }, refl)
+        (record { fit = publication_fit mux guide sound within (typed_small guide within (published_typed mux journal n typed within)); alone = runs_begin_alone mux guide; quota = sound.quota.0; offsets = offsets_told mux.offsets sound.offsets }, refl)
 
 pub air_spaced : (mux : Mux) (journal : List Entry) (before now : Option (List ℕ)) (sent : Result (Unit {0}) SendStop) → AreFitAs (mux_form mux) (airings mux journal)
     → AirDid mux journal before now sent → SentSpaced (airings mux journal) before now

@@ -38,6 +38,7 @@ soak_mux = record {
   cable = None;
   start = record { 0 = moment_at 0 };
   quota = 200;
+  offsets = [];
   services = map soak_service (range_with_len 0 8);
 }
 

@@ -4,7 +4,7 @@ use Rattle.mux_model.specs.declared.mux.Mux.{Mux}
 use Rattle.journal_model.specs.declared.step.Entry.{Entry}
 use Rattle.desk_core.specs.Journal.{Legal}
 use Rattle.desk_core.specs.Desks.{DeskState}
-use Rattle.journal_air.specs.Air.{airings}
+use Rattle.journal_air.specs.Air.{airings, mux_form}
 use Rattle.version_book.specs.Airings.{AiredTables}
 use Rattle.epg_report.specs.declared.status.Status.{Status}
 use Rattle.epg_play.proofs.CourseFacts.{went_none}
@@ -22,7 +22,7 @@ items-init g c = record {
   read_later = omega arith;
   later = omega arith;
   at_end = c.requires.at_end;
-  quota = c.requires.quota;
+  form = c.requires.form;
   legal = subst (λ (l : List Entry). Legal c.args.desk.now.mux l) (sym c.requires.none) tt;
   window = tt;
   went = went_none 0 g.S.Source.left c.args.lines.now c.args.desk.now;
@@ -35,7 +35,7 @@ returns-in-Err-check_on_air-clause-did g c =
     let i = c.items.invariant in
     let e = rw c.in-Ok-Swap.field-0-is at c.in-Ok-Swap.ensures in
     cycle_did g.S.Source.left g.F.Source.left c.args.lines.now c.do_item.new.lines c.args.packets.now c.items.packets c.check_on_air.new.packets c.args.desk.now c.do_item.new.desk
-    _ c.check_on_air.new.checker c.do_item.new.made c.in-Err-check_on_air.status (swap_adds c.items.desk c.do_item.new.desk c.items.checker i.legal e.did i.quota)
+    _ c.check_on_air.new.checker c.do_item.new.made c.in-Err-check_on_air.status (swap_adds c.items.desk c.do_item.new.desk c.items.checker i.legal e.did i.form)
     (e.goes_on c.args.lines.now c.args.desk.now i.went) (c.in-Err-check_on_air.ensures.checks c.args.packets.now (desk_airings c.items.desk) i.follows)
 
 pub items-preserved-in_default : goal.items-preserved-in_default
@@ -49,12 +49,12 @@ items-preserved-in_default g c =
       read_later = omega (arith, i.read_later, e.later);
       later = omega (arith, i.later, c.in_default.ensures.later);
       at_end = c.in_default.ensures.at_end;
-      quota = c.in_default.ensures.quota ∙ i.quota ∙ sym (ap (λ (m : Mux). m.quota) (step_mux true c.items.desk c.do_item.new.desk e.did));
+      form = c.in_default.ensures.form ∙ i.form ∙ sym (ap mux_form (step_mux true c.items.desk c.do_item.new.desk e.did));
       legal = e.legal;
       window = e.window;
       went = e.goes_on c.args.lines.now c.args.desk.now i.went;
       follows = subst (λ (l : List AiredTables). Follows g.F.Source.left c.args.packets.now c.check_on_air.new.packets l c.check_on_air.new.checker)
-          (swap_adds c.items.desk c.do_item.new.desk c.items.checker i.legal e.did i.quota) (c.in_default.ensures.checks c.args.packets.now (desk_airings c.items.desk) i.follows);
+          (swap_adds c.items.desk c.do_item.new.desk c.items.checker i.legal e.did i.form) (c.in_default.ensures.checks c.args.packets.now (desk_airings c.items.desk) i.follows);
     }
 
 pub items-preserved : goal.items-preserved
@@ -68,7 +68,7 @@ items-preserved g c =
       read_later = omega (arith, i.read_later, e.later);
       later = i.later;
       at_end = i.at_end;
-      quota = i.quota ∙ sym (ap (λ (m : Mux). m.quota) (other_mux c.items.desk c.do_item.new.desk e.did));
+      form = i.form ∙ sym (ap mux_form (other_mux c.items.desk c.do_item.new.desk e.did));
       legal = e.legal;
       window = e.window;
       went = e.goes_on c.args.lines.now c.args.desk.now i.went;

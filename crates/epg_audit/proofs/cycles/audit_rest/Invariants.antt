@@ -4,6 +4,7 @@ use Rattle.si_causes.specs.Reading.{room}
 use Rattle.desk_core.specs.Journal.{Legal}
 use Rattle.journal_model.specs.Steps.{IsInWindow}
 use Rattle.air_audit.specs.Checking.{IsAtEnd}
+use Rattle.journal_air.specs.Air.{mux_form}
 use Rattle.epg_play.specs.Items.{Went}
 use Rattle.epg_audit.specs.Audits.{desk_airings}
 use Rattle.epg_audit.specs.Checks.{Follows}
@@ -18,7 +19,7 @@ invariant-items g l =
       read_later : g.S.Source.faults l.fn.lines.source ≤ g.S.Source.faults l.lines.source;
       later : g.F.Source.faults l.fn.packets.source ≤ g.F.Source.faults l.packets.source;
       at_end : IsAtEnd l.checker;
-      quota : l.checker.quota ≡ l.desk.mux.quota;
+      form : l.checker.form ≡ mux_form l.desk.mux;
       legal : Legal l.desk.mux l.desk.entries;
       window : IfSome l.made IsInWindow;
       went : Went 0 g.S.Source.left l.fn.lines l.lines l.fn.desk l.desk l.made;

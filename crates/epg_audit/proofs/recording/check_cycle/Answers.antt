@@ -6,7 +6,7 @@ use Rattle.epg_audit.proofs.Following.{follows_differ, follows_more, follows_sho
 use Rattle.epg_audit.proofs.recording.check_cycle.Goals as goal
 
 pub loop-packets-init : goal.loop-packets-init
-loop-packets-init g c = record { going = c.requires.going; quota = refl; later = omega arith; follows = λ start airings f. f }
+loop-packets-init g c = record { going = c.requires.going; form = refl; later = omega arith; follows = λ start airings f. f }
 
 pub returns-in-Some-clause-checks : goal.returns-in-Some-clause-checks
 returns-in-Some-clause-checks g c = λ start airings given.
@@ -16,8 +16,8 @@ returns-in-Some-clause-checks g c = λ start airings given.
     (λ e. (let end = c.at_end.ensures.end.1 e in cc end)) (λ b. (let none = (c.in-Some.ensures.exactly airings f.packets f.stands).1 b in cc none)) (c.in-Some.ensures.rule airings f.packets f.stands) c.packet.ensures
     ((rw c.in-Ok-Some.field-0-is at c.in-Ok-Some.ensures.counts) i.going) ((rw c.in-Ok-Some.field-0-is at c.in-Ok-Some.ensures.takes) i.going)
 
-pub returns-in-Some-clause-quota : goal.returns-in-Some-clause-quota
-returns-in-Some-clause-quota g c = c.in-Some.ensures.quota ∙ c.loop-packets.invariant.quota
+pub returns-in-Some-clause-form : goal.returns-in-Some-clause-form
+returns-in-Some-clause-form g c = c.in-Some.ensures.form ∙ c.loop-packets.invariant.form
 
 pub returns-in-Some-clause-later : goal.returns-in-Some-clause-later
 returns-in-Some-clause-later g c = omega (arith, c.loop-packets.invariant.later, c.in-Ok-Some.ensures.later)
@@ -33,7 +33,7 @@ loop-packets-preserved g c =
     let counts = (rw c.in-Ok-Some.field-0-is at c.in-Ok-Some.ensures.counts) i.going in
     record {
       going = counts.5;
-      quota = c.in_default.ensures.quota ∙ i.quota;
+      form = c.in_default.ensures.form ∙ i.form;
       later = omega (arith, i.later, c.in-Ok-Some.ensures.later);
       follows = λ start airings given.
           let f = i.follows start airings given in
@@ -49,8 +49,8 @@ returns-in-Ok-None-clause-checks g c = λ start airings given.
     (λ a. (let end = (c.at_end.ensures.air airings f.packets f.stands).1 a in cc end)) c.number.ensures
     ((rw c.in-Ok-None.field-0-is at c.in-Ok-None.ensures.counts) i.going) ((rw c.in-Ok-None.field-0-is at c.in-Ok-None.ensures.packets) i.going)
 
-pub returns-in-Ok-None-clause-quota : goal.returns-in-Ok-None-clause-quota
-returns-in-Ok-None-clause-quota g c = c.loop-packets.invariant.quota
+pub returns-in-Ok-None-clause-form : goal.returns-in-Ok-None-clause-form
+returns-in-Ok-None-clause-form g c = c.loop-packets.invariant.form
 
 pub returns-in-Ok-None-clause-later : goal.returns-in-Ok-None-clause-later
 returns-in-Ok-None-clause-later g c = omega (arith, c.loop-packets.invariant.later, c.in-Ok-None.ensures.later)
@@ -63,8 +63,8 @@ returns-in-Err-clause-checks g c = λ start airings given.
     (follows_stop g.F.Source.left start c.loop-packets.packets c.next.new.self airings c.loop-packets.checker c.loop-packets.checker c.in-Err.stop f (λ e. (let end = c.at_end.ensures.end.1 e in cc end))
     (c.in-Err.ensures.counts i.going) (c.in-Err.ensures.packets i.going) (c.in-Err.ensures.broken i.going))
 
-pub returns-in-Err-clause-quota : goal.returns-in-Err-clause-quota
-returns-in-Err-clause-quota g c = c.loop-packets.invariant.quota
+pub returns-in-Err-clause-form : goal.returns-in-Err-clause-form
+returns-in-Err-clause-form g c = c.loop-packets.invariant.form
 
 pub returns-in-Err-clause-cause : goal.returns-in-Err-clause-cause
 returns-in-Err-clause-cause g c =
@@ -81,8 +81,8 @@ returns-clause-checks g c = c.loop-packets.invariant.follows
 pub returns-clause-going : goal.returns-clause-going
 returns-clause-going g c = c.loop-packets.invariant.going
 
-pub returns-clause-quota : goal.returns-clause-quota
-returns-clause-quota g c = c.loop-packets.invariant.quota
+pub returns-clause-form : goal.returns-clause-form
+returns-clause-form g c = c.loop-packets.invariant.form
 
 pub returns-clause-later : goal.returns-clause-later
 returns-clause-later g c = c.loop-packets.invariant.later

@@ -9,7 +9,7 @@ abbrev pub invariant-loop-packets : goal.invariant-loop-packets
 invariant-loop-packets g l =
     record {
       going : l.packets.stop ≡ None;
-      quota : l.checker.quota ≡ l.fn.checker.quota;
+      form : l.checker.form ≡ l.fn.checker.form;
       later : g.F.Source.faults l.fn.packets.source ≤ g.F.Source.faults l.packets.source;
       follows : (start : PacketReading g.row.F.Denot) (airings : List AiredTables) → Follows g.F.Source.left start l.fn.packets airings l.fn.checker → Follows g.F.Source.left start l.packets airings l.checker;
     }

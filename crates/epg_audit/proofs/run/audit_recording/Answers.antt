@@ -11,12 +11,15 @@ use Rattle.epg_audit.proofs.run.audit_recording.Goals as goal
 pub returns-in_default-clause-audited : goal.returns-in_default-clause-audited
 returns-in_default-clause-audited g c = (fresh c.args.mux, tt)
 
+pub returns-in_default-open-clause-audited : goal.returns-in_default-open-clause-audited
+returns-in_default-open-clause-audited g c = (fresh c.args.mux, tt)
+
 pub returns-clause-audited : goal.returns-clause-audited
 returns-clause-audited g c =
     let desk = c.audit_rest.new.desk in
     let e = c.in_ok-audit_rest.ensures in (
       desk,
-      subst (λ (d : DeskState). AuditDid g.S.Source.left g.F.Source.left c.args.lines.now c.audit_rest.new.lines c.args.packets.now d desk (Ok tt)) c.in-Ok.ensures e.did,
+      subst (λ (d : DeskState). AuditDid g.S.Source.left g.F.Source.left c.args.lines.now c.audit_rest.new.lines c.args.packets.now d desk (Ok tt)) c.in-Ok-open.ensures e.did,
       λ bytes told. (
         c.number.ensures ∙ e.number bytes told,
         c.swap_count.ensures ∙ ap (λ (l : List Entry). length (swaps l)) c.entries.ensures.value ∙ sym (length-map (swaps desk.entries) (airing_at desk.mux desk.entries)),

@@ -42,7 +42,7 @@ returns-in-Err-send_on_air-clause-aired g c = λ earlier before has.
     subst (λ (s : PlayStop). AiredTo {T = Unit {0}} earlier c.do_item.new.desk c.send_on_air.new.player before (g.A.Sink.written c.send_on_air.new.air) (Err s)) (sym c.stop_of.ensures)
     (cut_aired c.args.shift earlier c.do_item.new.desk c.send_on_air.new.player before (g.A.Sink.written c.send_on_air.new.air) c.in-Err-send_on_air.stop
     (after_swap_aired earlier c.items.desk c.do_item.new.desk e.did.who e.did.step c.items.player c.send_on_air.new.player before (g.A.Sink.written c.items.air) (g.A.Sink.written c.send_on_air.new.air) (Err c.in-Err-send_on_air.stop)
-    e.did.did i.legal e.did.is c.in-Err-send_on_air.ensures.quota (i.aired earlier before has) c.in-Err-send_on_air.ensures.sent))
+    e.did.did i.legal e.did.is c.in-Err-send_on_air.ensures.form (i.aired earlier before has) c.in-Err-send_on_air.ensures.sent))
 
 pub items-preserved-in_default : goal.items-preserved-in_default
 items-preserved-in_default g c =
@@ -57,7 +57,7 @@ items-preserved-in_default g c =
       legal = e.legal;
       window = e.window;
       aired = λ earlier before has. after_swap_aired earlier c.items.desk c.do_item.new.desk e.did.who e.did.step c.items.player c.send_on_air.new.player before (g.A.Sink.written c.items.air) (g.A.Sink.written c.send_on_air.new.air) (Ok tt)
-          e.did.did i.legal e.did.is c.in_default.ensures.quota (i.aired earlier before has) c.in_default.ensures.sent;
+          e.did.did i.legal e.did.is c.in_default.ensures.form (i.aired earlier before has) c.in_default.ensures.sent;
       went = e.goes_on c.args.lines.now c.args.desk.now i.went;
     }
 

@@ -1,6 +1,7 @@
 use Rattle.std.proofs.Common.{◌≡◌, ◌∙◌, ◌+◌, ap, sym, subst, length, arith}
 use Rattle.std.specs.Prelude.{None, Ok}
 use Rattle.mux_model.specs.declared.mux.Mux.{Mux}
+use Rattle.mux_model.specs.Sound.{IsSound}
 use Rattle.turn_lock.specs.Knowledge.{Lock}
 use Rattle.headend_jobs.specs.declared.jobs.PlayerJob.{PlayerJob}
 use Rattle.headend_jobs.specs.declared.jobs.ControlJob.{ControlJob}
@@ -25,6 +26,9 @@ split-own-requires-clause-span g c =
     let span : c.cut_all.new.pass.own.span ≡ 2 = ap (λ (v : View). v.own.span) cut.0 in
     (omega arith, omega (arith, span))
 
+pub run_jobs-requires-clause-sound : goal.run_jobs-requires-clause-sound
+run_jobs-requires-clause-sound g c κs within = subst IsSound (sym c.in_ok-copy.ensures) c.requires.sound
+
 pub run_jobs-requires-clause-feeds : goal.run_jobs-requires-clause-feeds
 run_jobs-requires-clause-feeds g c κs within =
     let t = c.in_ok-hall.hall.turns in
@@ -43,20 +47,20 @@ pub run_jobs-requires-clause-player : goal.run_jobs-requires-clause-player
 run_jobs-requires-clause-player g c κs within =
     let t = c.in_ok-hall.hall.turns in
     let cut = cut_done c.turns.result.now.turns t c.args.mux c.args.feeds.items c.len-2.result c.in_ok-hall.pass c.cut_all.new.pass c.in_ok-jobs.jobs.items (ap (λ (l : Lock). l.turns) c.turns.ensures) (c.len-2.ensures ∙ c.args.feeds.ok.0) c.in_ok-hall.ensures.1 c.in_ok-jobs.ensures.cut in
-    ap (λ (v : View). let j : PlayerJob = record { pass = v; mux = c.in_ok-copy.copy; cycles = c.args.cycles; player = c.open-player.result; end = Ok tt } in j)
+    ap (λ (v : View). let j : PlayerJob = record { pass = v; mux = c.in_ok-copy.copy; cycles = c.args.cycles; player = c.in_ok-player.player; end = Ok tt } in j)
     (cut_new t c.args.mux c.in_ok-copy.copy c.cut_all.new.pass c.split-own.result cut.0 c.split-own.ensures.new c.in_ok-copy.ensures)
 
 pub returns-clause-did : goal.returns-clause-did
 returns-clause-did g c =
     let t = c.in_ok-hall.hall.turns in
     let cut = cut_done c.turns.result.now.turns t c.args.mux c.args.feeds.items c.len-2.result c.in_ok-hall.pass c.cut_all.new.pass c.in_ok-jobs.jobs.items (ap (λ (l : Lock). l.turns) c.turns.ensures) (c.len-2.ensures ∙ c.args.feeds.ok.0) c.in_ok-hall.ensures.1 c.in_ok-jobs.ensures.cut in
-    let ran = subst (λ (m : Mux). (d : LiveDid g.F.Source.left g.F.Source.faults g.F.Source.same g.S.Source.left g.S.Source.faults g.S.Source.same t m c.args.cycles c.args.feeds.items c.args.control c.open-player.result (g.A.Sink.written c.args.air.now) (g.A.Sink.written c.run_jobs.new.air) c.run_jobs.result.desk.entries c.run_jobs.result.sent) × (c.run_jobs.result.feeds.items ≡ lines_back d.feeds) × (c.run_jobs.result.lines ≡ d.control.lines) × (c.run_jobs.result.control ≡ d.control.stop) × (c.run_jobs.result.feed ≡ first_stop d.feeds))
+    let ran = subst (λ (m : Mux). (d : LiveDid g.F.Source.left g.F.Source.faults g.F.Source.same g.S.Source.left g.S.Source.faults g.S.Source.same t m c.args.cycles c.args.feeds.items c.args.control c.in_ok-player.player (g.A.Sink.written c.args.air.now) (g.A.Sink.written c.run_jobs.new.air) c.run_jobs.result.desk.entries c.run_jobs.result.sent) × (c.run_jobs.result.feeds.items ≡ lines_back d.feeds) × (c.run_jobs.result.lines ≡ d.control.lines) × (c.run_jobs.result.control ≡ d.control.stop) × (c.run_jobs.result.feed ≡ first_stop d.feeds))
     c.in_ok-copy.ensures
     (c.run_jobs.ensures.did c.args.feeds.items (cut.1 ∙ ap (λ (m : Mux). jobs_back t m 1 c.args.feeds.items) (sym c.in_ok-copy.ensures))) in (
       t,
-      c.open-player.result,
+      c.in_ok-player.player,
       ran.0,
-      callers_have g.F.Source.left g.F.Source.faults g.F.Source.same g.S.Source.left g.S.Source.faults g.S.Source.same t c.args.mux c.args.cycles c.args.feeds.items c.args.control c.open-player.result (g.A.Sink.written c.args.air.now) (g.A.Sink.written c.run_jobs.new.air) c.run_jobs.result.desk.entries c.run_jobs.result.sent ran.0,
+      callers_have g.F.Source.left g.F.Source.faults g.F.Source.same g.S.Source.left g.S.Source.faults g.S.Source.same t c.args.mux c.args.cycles c.args.feeds.items c.args.control c.in_ok-player.player (g.A.Sink.written c.args.air.now) (g.A.Sink.written c.run_jobs.new.air) c.run_jobs.result.desk.entries c.run_jobs.result.sent ran.0,
       ran.1,
       ran.2,
       ran.3,

@@ -16,7 +16,7 @@ returns-clause-played g c = inl (record {
   made = c.in-Ok.ensures.made;
   airing_is = c.in-Ok.ensures.airing c.args.mux.now (stands_still c.args.mux.now _ _ c.args.pass.now c.swap.new.pass c.requires.stands c.in-Ok.ensures.made);
   sent = c.send_cycle.ensures.sent;
-  quota = c.send_cycle.ensures.quota;
+  form = c.send_cycle.ensures.form;
   wanting = λ e. ap g.A.Sink.written (c.send_cycle.ensures.memory e).0;
 })
 

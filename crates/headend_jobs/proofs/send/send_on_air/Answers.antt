@@ -1,6 +1,5 @@
 use Rattle.std.proofs.Common.{subst}
 use Rattle.version_book.specs.Airings.{AiredTables}
-use Rattle.carousel_player.specs.Playing.{form_of}
 use Rattle.headend_jobs.specs.OnAir.{SentCycle}
 use Rattle.headend_jobs.proofs.AirFacts.{on_air_services, airing_is}
 use Rattle.headend_jobs.proofs.send.send_on_air.Goals as goal
@@ -11,4 +10,4 @@ send_cycle-requires-clause-services g c = on_air_services c.args.desk.now c.mux.
 pub returns-clause-sent : goal.returns-clause-sent
 returns-clause-sent g c = λ xs at_end.
     subst (λ (a : AiredTables). SentCycle xs a c.send_cycle.new.player (g.A.Sink.written c.args.air.now) (g.A.Sink.written c.send_cycle.new.air) c.send_cycle.result)
-    (airing_is c.args.desk.now c.in_ok-airing.airing c.mux.result.now (form_of c.args.player.now) c.in_ok-airing.ensures.airing c.mux.ensures.value) (c.send_cycle.ensures.sent xs at_end)
+    (airing_is c.args.desk.now c.in_ok-airing.airing c.mux.result.now c.args.player.now.form c.in_ok-airing.ensures.airing c.mux.ensures.value) (c.send_cycle.ensures.sent xs at_end)
