@@ -24,7 +24,7 @@ use Rattle.epg_play.specs.Leaves.{whole_journal}
 use Rattle.epg_audit.specs.declared.cycles.AirCount.{AirCount}
 use Rattle.epg_audit.specs.Ends.{air_line, count_text, met_by}
 use Rattle.epg_audit.specs.Audits.{HasAuditCause}
-use Rattle.epg_audit.specs.Finds.{FindsIn, HasMetCause, IsFound, IsMetBehind, IsMetByAudit}
+use Rattle.epg_audit.specs.Finds.{FindsIn, HasMetCause, IsAtFault, IsFound, IsMetBehind, IsMetByAudit}
 use Rattle.epg_audit.specs.Leaves.{AuditRun, DecidedBy, IsOfAudit, IsUnhindered, LeavesAudit}
 use Rattle.epg_audit.specs.Recorded.{IsFaulty, IsRecordedAir, airings_for, script_airings}
 
@@ -116,6 +116,9 @@ module _ (path : List ℕ) (files : Files) (text : List ℕ) (left : Option (Lis
   stops_not : (stop : Stop) (status : Status) → (script_in text).stop ≡ Ended → (script_in text).stop ≡ stop → (Ended ≡ stop → ⊥) → Decided status
   stops_not stop status ended is apart = absurd (apart (sym ended ∙ is))
 
+  at_fault : (status : Status) → AtPath path files (IsAtFault (script_in text) status) → AtPath path files (λ bytes. IsFaulty aired bytes status)
+  at_fault status at = record { bytes = at.bytes; file = at.file; is = at.is.faulty }
+
   decided : (status : Status) → LeavesAudit path files text left report status → (script_in text).stop ≡ Ended → (status ≡ ReadFault Input → ⊥) → (status ≡ ReadFault Recording → ⊥) → ((n : ℕ) → status ≡ OpenFault n → ⊥)
       → (status ≡ WriteFault Report → ⊥) → Decided status
   decided Done (count, accepted, took) ended no_input no_reading no_opening no_report =
@@ -128,14 +131,14 @@ module _ (path : List ℕ) (files : Files) (text : List ℕ) (left : Option (Lis
   decided (Disagrees n kept found) leaves ended no_input no_reading no_opening no_report = stops_not (Disagreed n kept found) (Disagrees n kept found) ended leaves.0.stopped (λ e. cc e)
   decided (PastLimit Input) leaves ended no_input no_reading no_opening no_report = stops_not TooLong (PastLimit Input) ended leaves.0.stopped (λ e. cc e)
   decided (PastLimit (Feed f)) leaves ended no_input no_reading no_opening no_report = absurd leaves.0
-  decided (PastLimit Recording) leaves ended no_input no_reading no_opening no_report = inr leaves.0
+  decided (PastLimit Recording) leaves ended no_input no_reading no_opening no_report = inr (at_fault (PastLimit Recording) leaves.0)
   decided (ReadFault Input) leaves ended no_input no_reading no_opening no_report = absurd (no_input refl)
   decided (ReadFault (Feed f)) leaves ended no_input no_reading no_opening no_report = absurd leaves.0
   decided (ReadFault Recording) leaves ended no_input no_reading no_opening no_report = absurd (no_reading refl)
   decided (OpenFault n) leaves ended no_input no_reading no_opening no_report = absurd (no_opening n refl)
-  decided (BadStream n) leaves ended no_input no_reading no_opening no_report = inr leaves.0
-  decided (NotAir n rule) leaves ended no_input no_reading no_opening no_report = inr leaves.0
-  decided (Short n) leaves ended no_input no_reading no_opening no_report = inr leaves.0
+  decided (BadStream n) leaves ended no_input no_reading no_opening no_report = inr (at_fault (BadStream n) leaves.0)
+  decided (NotAir n rule) leaves ended no_input no_reading no_opening no_report = inr (at_fault (NotAir n rule) leaves.0)
+  decided (Short n) leaves ended no_input no_reading no_opening no_report = inr (at_fault (Short n) leaves.0)
   decided Usage leaves ended no_input no_reading no_opening no_report = absurd leaves.0
   decided (BadFeed f n) leaves ended no_input no_reading no_opening no_report = absurd leaves.0
   decided (NoView service) leaves ended no_input no_reading no_opening no_report = absurd leaves.0

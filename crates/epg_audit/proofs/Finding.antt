@@ -1,7 +1,7 @@
 -- What an audit finds, from how it went.
-use Rattle.std.proofs.Common.{◌≡◌, ℕ, List, refl, sym, ap, ◌∙◌, subst, inl, inr, ◌⊎◌}
+use Rattle.std.proofs.Common.{◌≡◌, ℕ, List, ◌++◌, refl, sym, ap, ◌∙◌, append_assoc, subst, inl, inr, ◌⊎◌}
 use Rattle.std.specs.Prelude.{Option, Some, None, Ok, Err, Result, IfSome, IsSome}
-use Rattle.si_lists.proofs.Lists.{all_behind}
+use Rattle.si_lists.proofs.Lists.{all_append, all_behind}
 use Rattle.si_causes.specs.Opening.{Files, file_at}
 use Rattle.si_causes.specs.Reading.{Reading, fresh as unread}
 use Rattle.si_causes.specs.declared.stop.ReadStop.TheVariants.{Failed, TooLong as Overlong}
@@ -32,7 +32,7 @@ use Rattle.epg_audit.specs.Audits.{AuditDid, CycleStops, EndStops, IsCounted, Is
 use Rattle.journal_model.specs.declared.step.Entry.{Entry}
 use Rattle.air_audit.specs.Audits.{AreAnAir}
 use Rattle.epg_report.specs.Asked.{AtPath}
-use Rattle.epg_audit.specs.Finds.{FindsIn, IsAccepted, IsFound, StopsBehind}
+use Rattle.epg_audit.specs.Finds.{FindsIn, IsAccepted, IsAtFault, IsFound, StopsBehind}
 use Rattle.journal_screen.specs.Heard.{IsHeardAs}
 use Rattle.epg_audit.specs.Recorded.{BeginsWithAir, IsFaulty, IsRecordedAir, airings_for, script_airings}
 use Rattle.epg_audit.proofs.Airings.{desk_begins_script, desk_is_script, script_heard, script_sent}
@@ -80,17 +80,17 @@ script_found path files text bytes left mux desk NoMemory played file begins no_
 -- ---- a recording that is at fault
 
 recording_found : (path : List ℕ) (files : Files) (text bytes : List ℕ) (left : Option (List ℕ)) (mux : Mux) (status : Status) → (script_in text).mux ≡ Some mux → file_at path files ≡ Some bytes
-    → IsFaulty (script_airings (script_in text)) bytes status → IsFound path files text left status
+    → IsAtFault (script_in text) status bytes → IsFound path files text left status
 recording_found path files text bytes left mux (NotAir n rule) e file faulty = record { bytes = bytes; file = file; is = faulty }
 recording_found path files text bytes left mux (Short n) e file faulty = record { bytes = bytes; file = file; is = faulty }
 recording_found path files text bytes left mux (BadStream n) e file faulty = record { bytes = bytes; file = file; is = faulty }
 recording_found path files text bytes left mux (PastLimit Recording) e file faulty = record { bytes = bytes; file = file; is = faulty }
-recording_found path files text bytes left mux (PastLimit Input) e file faulty = absurd faulty
-recording_found path files text bytes left mux (PastLimit (Feed f)) e file faulty = absurd faulty
+recording_found path files text bytes left mux (PastLimit Input) e file faulty = absurd faulty.faulty
+recording_found path files text bytes left mux (PastLimit (Feed f)) e file faulty = absurd faulty.faulty
 recording_found path files text bytes left mux (ReadFault Recording) e file faulty = some_mux (script_in text).mux mux e
-recording_found path files text bytes left mux (ReadFault Input) e file faulty = absurd faulty
-recording_found path files text bytes left mux (ReadFault (Feed f)) e file faulty = absurd faulty
-recording_found path files text bytes left mux other e file faulty = absurd faulty
+recording_found path files text bytes left mux (ReadFault Input) e file faulty = absurd faulty.faulty
+recording_found path files text bytes left mux (ReadFault (Feed f)) e file faulty = absurd faulty.faulty
+recording_found path files text bytes left mux other e file faulty = absurd faulty.faulty
 
 -- ---- a recording that was audited
 
@@ -103,7 +103,11 @@ module _ {S F : Type 0} (left : S → Option (List ℕ)) (gives : F → Option (
       let more = desk_begins_script (script_in text) mux desk p in
       let sent = subst CanBeSent (script_is mux p.described ∙ more.1) (script_sent text mux p.described) in
       recording_found path files text bytes (left new.source) mux status p.described file
-      (subst (λ (l : List AiredTables). IsFaulty l bytes status) (sym more.1) (c.faulty bytes tells more.0 (all_behind _ (desk_airings desk) more.0 sent)))
+      (record {
+        faulty = subst (λ (l : List AiredTables). IsFaulty l bytes status) (sym more.1) (c.faulty bytes tells more.0 (all_behind _ (desk_airings desk) more.0 sent));
+        first = inr (λ others can. subst (λ (l : List AiredTables). IsFaulty l bytes status) (sym (append_assoc (desk_airings desk) more.0 others) ∙ ap (λ (l : List AiredTables). l ++ others) (sym more.1))
+            (c.faulty bytes tells (more.0 ++ others) (all_append _ more.0 others (all_behind _ (desk_airings desk) more.0 sent) can)));
+      })
     where
       script_is : (m : Mux) → (script_in text).mux ≡ Some m → airings m (journal_of m (script_in text).commands) ≡ script_airings (script_in text)
       script_is m e = ap (λ (o : Option Mux). airings_for o (whole_journal (record { mux = o; commands = (script_in text).commands; stop = (script_in text).stop }))) (sym e)
@@ -112,7 +116,10 @@ module _ {S F : Type 0} (left : S → Option (List ℕ)) (gives : F → Option (
   end_found desk status e =
       let p = rest_played left source mid new text mux desk (Ok tt) told ahead came e.ended in
       recording_found path files text bytes (left new.source) mux status p.described file
-      (subst (λ (l : List AiredTables). IsFaulty l bytes status) (desk_is_script (script_in text) Ended mux desk p) (e.faulty bytes tells))
+      (record {
+        faulty = subst (λ (l : List AiredTables). IsFaulty l bytes status) (desk_is_script (script_in text) Ended mux desk p) (e.faulty bytes tells);
+        first = inl p.stopped;
+      })
 
   stop_found : (desk : DeskState) (status : Status) → ScriptStops left gives mid new start (fresh mux) desk status → IsFound path files text (left new.source) status
   stop_found desk status s =

@@ -5,6 +5,8 @@ use Rattle.si_causes.specs.Opening.{Files, file_at}
 use Rattle.mux_model.specs.declared.mux.Mux.{Mux}
 use Rattle.journal_model.specs.declared.step.Entry.{Entry}
 use Rattle.ts_packets.specs.WholePackets.{whole_packets}
+use Rattle.version_book.specs.Airings.{AiredTables}
+use Rattle.air_model.specs.Air.{CanBeSent}
 use Rattle.journal_air.specs.Air.{airings}
 use Rattle.journal_screen.specs.Heard.{IsHeardAs}
 use Rattle.epg_report.specs.declared.status.Status.{Status}
@@ -42,6 +44,12 @@ pub record StopsUnread (path : List ℕ) (files : Files) (text : List ℕ) (left
   pub left_is : left ≡ Some behind
   pub stops : StopsBehind path files (script_taken taken) Unread
 
+-- The recording is at fault, before what the commands of a script put on air has ended, or behind it where the script is whole: so whatever
+-- airings follow, or none do.
+pub record IsAtFault (script : Script) (status : Status) (bytes : List ℕ) : Type 0 where
+  pub faulty : IsFaulty (script_airings script) bytes status
+  pub first : (script.stop ≡ Ended) ⊎ ((others : List AiredTables) → CanBeSent others → IsFaulty (script_airings script ++ others) bytes status)
+
 -- What is at fault, by the status: the script, or the recording, or a file that was not opened or read.
 abbrev pub IsFound : List ℕ → Files → List ℕ → Option (List ℕ) → Status → Type 0
 IsFound path files text left (BadMux fault) = StopsBehind path files (script_in text) (NoMux fault)
@@ -51,10 +59,10 @@ IsFound path files text left (PastLimit Input) = StopsBehind path files (script_
 IsFound path files text left (ReadFault Input) = StopsUnread path files text left
 IsFound path files text left (OpenFault n) = (n ≡ 0) × IsSome (script_in text).mux
 IsFound path files text left (ReadFault Recording) = IsSome (script_in text).mux
-IsFound path files text left (PastLimit Recording) = AtPath path files (λ bytes. IsFaulty (script_airings (script_in text)) bytes (PastLimit Recording))
-IsFound path files text left (BadStream n) = AtPath path files (λ bytes. IsFaulty (script_airings (script_in text)) bytes (BadStream n))
-IsFound path files text left (NotAir n rule) = AtPath path files (λ bytes. IsFaulty (script_airings (script_in text)) bytes (NotAir n rule))
-IsFound path files text left (Short n) = AtPath path files (λ bytes. IsFaulty (script_airings (script_in text)) bytes (Short n))
+IsFound path files text left (PastLimit Recording) = AtPath path files (IsAtFault (script_in text) (PastLimit Recording))
+IsFound path files text left (BadStream n) = AtPath path files (IsAtFault (script_in text) (BadStream n))
+IsFound path files text left (NotAir n rule) = AtPath path files (IsAtFault (script_in text) (NotAir n rule))
+IsFound path files text left (Short n) = AtPath path files (IsAtFault (script_in text) (Short n))
 IsFound path files text left Memory = Unit {0}
 IsFound path files text left status = ⊥
 

@@ -82,9 +82,11 @@ pub open_fault : (stop : OpenStop) (before now : ℕ) (f : ℕ) → HasOpenCause
 open_fault (opening.Feed f) before now g cause e = cause
 open_fault opening.Memory before now g cause e = cc
 
-pub open_asked : {T : Type 0} (r : Result T OpenStop) (paths : List (List ℕ)) (old new : Option (List (List ℕ))) (n : ℕ) (stop : OpenStop) → r ≡ Err stop → (k : ℕ) × HasTried old new (take k paths) × OpenedTo k n r → HasAsked paths old new (open_status stop)
-open_asked r paths old new n (opening.Feed f) is (k, tried, to) = (k, tried, subst (OpenedTo k n) is to)
-open_asked r paths old new n opening.Memory is (k, tried, to) = (k, tried, tt)
+pub open_asked : {T : Type 0} (r : Result T OpenStop) (paths : List (List ℕ)) (old new : Option (List (List ℕ))) (n : ℕ) (stop : OpenStop) → r ≡ Err stop → length paths ≡ n → (k : ℕ) × HasTried old new (take k paths) × OpenedTo k n r → HasAsked paths old new (open_status stop)
+open_asked r paths old new n (opening.Feed f) is count (k, tried, to) =
+    let at : (k ≡ f) × (1 ≤ f) × (f ≤ n) = subst (OpenedTo k n) is to in
+    (k, tried, (at.0, at.1, subst (λ (m : ℕ). f ≤ m) (sym count) at.2))
+open_asked r paths old new n opening.Memory is count (k, tried, to) = (k, tried, tt)
 
 pub open_of_live : (stop : OpenStop) → IsMet (open_status stop)
 open_of_live (opening.Feed f) = tt

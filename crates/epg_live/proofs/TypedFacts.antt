@@ -54,7 +54,9 @@ swaps_typed (suc n) = (tt, swaps_typed n)
 final_typed : (stopped : Bool) (final : List Entry) (sent : Result (Unit {0}) SendStop) → LastMade stopped 0 final sent → AreReadCommands (map command_of final)
 final_typed true final sent last = subst (λ (es : List Entry). AreReadCommands (map command_of es)) (sym last) tt
 final_typed false final (Ok u) last = subst AreReadCommands (sym last) (tt, (tt, (tt, tt)))
-final_typed false final (Err stop) (k, last) =
+final_typed false final (Err send.Air) (k, less, last) =
+    subst AreReadCommands (sym last) (first_of (λ (c : Command). IsReadStep c.1) (suc (suc k)) (final_commands 0) (tt, (tt, (tt, tt))))
+final_typed false final (Err send.Memory) (k, last) =
     subst AreReadCommands (sym last) (first_of (λ (c : Command). IsReadStep c.1) k (final_commands 0) (tt, (tt, (tt, tt))))
 
 -- ---- what each caller did

@@ -1,5 +1,5 @@
 -- What a run of `live` leaves.
-use Rattle.std.specs.Prelude.{◌≡◌, ◌⊎◌, ℕ, List, [], ◌++◌, length, take, flat_map, Option, Some, None}
+use Rattle.std.specs.Prelude.{◌≡◌, ◌⊎◌, ◌≤◌, ℕ, List, [], ◌++◌, length, take, flat_map, Option, Some, None}
 use Rattle.headend_live.specs.declared.watched.LivePlan.{LivePlan}
 use Rattle.si_causes.specs.Opening.{Files}
 use Rattle.journal_model.specs.declared.step.Entry.{Entry}
@@ -53,7 +53,7 @@ entries_of (Some desk) = desk.entries
 
 -- how many paths of so many were asked for
 abbrev pub AskedFor : ℕ → ℕ → Status → Type 0
-AskedFor n k (OpenFault f) = k ≡ f
+AskedFor n k (OpenFault f) = (k ≡ f) × (1 ≤ f) × (f ≤ n)
 AskedFor n k (BadMux fault) = k ≡ 0
 AskedFor n k (NoView service) = k ≡ 0
 AskedFor n k (TooLong Input) = (k ≡ 0) ⊎ (k ≡ n)

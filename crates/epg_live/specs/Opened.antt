@@ -33,7 +33,7 @@ Adds {S} left faults files path old new = (reader : Reading S) × IsOpened left 
 -- of n paths the first k were asked for: all; or up to that of the feed whose file was not opened; or as far as memory was there
 abbrev pub OpenedTo : {T : Type 0} → ℕ → ℕ → Result T OpenStop → Type 0
 OpenedTo k n (Ok feeds) = k ≡ n
-OpenedTo k n (Err (Feed f)) = k ≡ f
+OpenedTo k n (Err (Feed f)) = (k ≡ f) × (1 ≤ f) × (f ≤ n)
 OpenedTo k n (Err Memory) = Unit {0}
 
 -- a path that was not opened has its cause

@@ -202,7 +202,7 @@ module _ (mux : Mux) (control player : View) (feeds : List (Caller Entry)) (old 
       record {
         final = final_of f.number (suc k) f.between f.made d;
         journal_did = final_did f.number (suc k) f.between f.made d r;
-        last = (suc (suc k), final_commands_are f.number (suc k) f.between f.made d r ∙ front_final control.own.low (suc k) (omega (arith, less)));
+        last = (k, less, final_commands_are f.number (suc k) f.between f.made d r ∙ front_final control.own.low (suc k) (omega (arith, less)));
         aired = λ before h. air_cut mux journal w.seen (player.own.made ++ d.added) before now (final_airs f.number (suc k) f.between f.made d r) r.closes.began
             (on player.own.made before (played_on f.number (suc k) f.between f.made d r before h));
       }

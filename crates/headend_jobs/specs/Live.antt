@@ -1,5 +1,5 @@
 -- How a run ends.
-use Rattle.std.specs.Prelude.{◌≡◌, ◌⊎◌, ℕ, ◌+◌, ◌<◌, Bool, true, false, ◌||◌, is_some, List, [], ◌∷◌, ◌++◌, length, map, take, Option, Some, None, Ok, Err, Result}
+use Rattle.std.specs.Prelude.{◌≡◌, ◌⊎◌, ℕ, suc, ◌+◌, ◌<◌, Bool, true, false, ◌||◌, is_some, List, [], ◌∷◌, ◌++◌, length, map, take, Option, Some, None, Ok, Err, Result}
 use Rattle.mux_model.specs.declared.mux.Mux.{Mux}
 use Rattle.carousel_player.specs.Playing.{Playing}
 use Rattle.journal_model.specs.declared.step.Step.TheVariants.{Publish}
@@ -152,11 +152,13 @@ AirDid mux journal before now (Err Memory) = SomeAirOf mux journal before now
 
 -- ---- the end
 
--- what the control made last: where no job stopped and all was sent, a publish, a swap and a swap; where one stopped, nothing
+-- what the control made last: where no job stopped and all was sent, a publish, a swap and a swap; these up to the swap whose cycle
+-- failed, or as far as memory was there; where one stopped, nothing
 abbrev pub LastMade : Bool → ℕ → List Entry → Result (Unit {0}) SendStop → Type 0
 LastMade true who final sent = final ≡ []
 LastMade false who final (Ok u) = map command_of final ≡ final_commands who
-LastMade false who final (Err stop) = (k : ℕ) × (map command_of final ≡ take k (final_commands who))
+LastMade false who final (Err Air) = (k : ℕ) × (k < 2) × (map command_of final ≡ take (suc (suc k)) (final_commands who))
+LastMade false who final (Err Memory) = (k : ℕ) × (map command_of final ≡ take k (final_commands who))
 
 -- How a run ends, of which all jobs have ended: its journal, and its air.
 pub record EndDid (mux : Mux) (control player : View) (feeds : List (Caller Entry)) (old : Playing) (end : Result (Unit {0}) SendStop) (stopped : Bool) (mid now : Option (List ℕ)) (journal : List Entry) (sent : Result (Unit {0}) SendStop) : Type 0 where

@@ -20,7 +20,11 @@ returns-then-not-opened-clause-tried g c = (
   subst (λ (o : Option (List (List ℕ))). HasTried (g.O.Opener.tried c.args.opener.now) o (take (c.loop-path.path-index + 1) (texts c.args.paths.now))) (sym c.close_feeds.ensures.tried)
       (next_tried c.args.paths.now c.loop-path.path-index c.path-item.result c.as_str.result.now c.loop-path-test.true c.path-item.is c.as_str.ensures.value
       (g.O.Opener.tried c.args.opener.now) (g.O.Opener.tried c.loop-path.opener) (g.O.Opener.tried c.open_feed.new.opener) c.loop-path.invariant.tried c.open_feed.ensures.tried),
-  ap (λ (n : ℕ). n + 1) (sym c.loop-path.invariant.count),
+  (
+    ap (λ (n : ℕ). n + 1) (sym c.loop-path.invariant.count),
+    omega (arith, c.loop-path.invariant.count),
+    omega (arith, c.loop-path.invariant.count, c.loop-path-test.true),
+  ),
 )
 
 pub returns-then-not-opened-clause-failed : goal.returns-then-not-opened-clause-failed

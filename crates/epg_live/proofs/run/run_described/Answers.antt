@@ -11,7 +11,7 @@ use Rattle.epg_live.specs.Stops.{HasStatusCause, IsMet, IsOfRun, mux_status, ope
 use Rattle.epg_live.specs.Views.{plan_of, unserved}
 use Rattle.epg_live.proofs.DescribedFacts.{has_read, not_described, unread_going}
 use Rattle.epg_live.proofs.OpenFacts.{opened_length, tried_none}
-use Rattle.epg_live.proofs.MetFacts.{all_asked, as_met, not_served, if_ok, mux_asked, mux_caused, mux_not_done, mux_not_open, mux_of_live, none_asked, not_opened, ran_met, some_asked}
+use Rattle.epg_live.proofs.MetFacts.{all_asked, as_met, not_served, if_ok, mux_asked, mux_caused, mux_not_done, mux_not_open, mux_of_live, none_asked, not_opened, open_asked, ran_met, some_asked}
 use Rattle.epg_live.proofs.run.run_described.Goals as goal
 
 -- ---- the description was not read
@@ -69,6 +69,16 @@ returns-in-Err-open_feeds-clause-met g c = λ text tells files known.
     subst (λ (s : Status). HasMet paths (plan_of c.args.words.now) text files (g.S.Source.left c.close-in-Err-open_feeds.result) (g.O.Opener.read_faults c.args.opener.now) (g.O.Opener.read_faults c.open_feeds.new.opener) air air journal c.args.run.now.observed s) (sym c.open_status-run.ensures.value)
     (as_met paths (plan_of c.args.words.now) text files (g.S.Source.left c.close-in-Err-open_feeds.result) (g.O.Opener.read_faults c.args.opener.now) (g.O.Opener.read_faults c.open_feeds.new.opener) air air journal c.args.run.now.observed (open_status c.in-Err-open_feeds.stop)
     (not_opened (plan_of c.args.words.now) text (g.S.Source.left c.close-in-Err-open_feeds.result) air air journal c.args.run.now.observed c.in-Err-open_feeds.stop c.in-Ok.mux (ahead mid read.read.rest) read.read.reads (ap (unserved c.in-Ok.mux) (sym c.as_slice.ensures) ∙ sym c.unserved.ensures ∙ c.in-None.is) (ap entries_of c.requires.blank.desk) c.requires.blank.observed refl))
+
+pub returns-in-Err-open_feeds-clause-asked : goal.returns-in-Err-open_feeds-clause-asked
+returns-in-Err-open_feeds-clause-asked g c =
+    let items = c.args.words.now.feeds.items in
+    let paths = c.deref.result.now in
+    let old = g.O.Opener.tried c.args.opener.now in
+    let mid = g.O.Opener.tried c.open_feeds.new.opener in
+    subst (λ (s : Status). HasAsked (texts items) old mid s) (sym c.open_status-run.ensures.value)
+    (open_asked c.open_feeds.result (texts items) old mid (length paths) c.in-Err-open_feeds.stop c.in-Err-open_feeds.is (length-map items string_bytes ∙ ap length (sym c.deref.ensures.value))
+    (subst (λ l. (k : ℕ) × HasTried old mid (take k (texts l)) × OpenedTo k (length paths) c.open_feeds.result) c.deref.ensures.value c.open_feeds.ensures.tried))
 
 -- ---- jobs ran
 
