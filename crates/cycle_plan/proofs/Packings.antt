@@ -1,35 +1,38 @@
 -- Packed sections: how many packets they take, and which packings go on alike.
-use Rattle.std.proofs.Common.{◌≡◌, ℕ, zero, suc, ◌+◌, ◌/◌, ◌%◌, ◌<◌, ◌≤◌, ◌⊎◌, inl, inr, List, [], ◌∷◌, ◌++◌, Bool, true, false, refl, sym, ap, ap₂, ◌∙◌, subst, arith}
+use Rattle.std.proofs.Common.{◌≡◌, ℕ, zero, suc, ◌+◌, ◌-◌, ◌/◌, ◌%◌, ◌<◌, ◌≤◌, ◌⊎◌, inl, inr, List, [], ◌∷◌, ◌++◌, Bool, true, false, refl, sym, ap, ap₂, ◌∙◌, subst, arith}
 use Rattle.std.specs.List.{AllByRecursion}
 use Rattle.std.specs.Prelude.{if◌then◌else◌, nat_lt, ◌==◌, ◌&&◌}
 use Rattle.std.proofs.lemmas.Bool.{ltb-true, ltb-false, eq-eqb, ne_eqb}
 use Rattle.si_lists.proofs.Truths.{second_true}
 use Rattle.ts_packets.specs.Packets.{packets_of}
 use Rattle.cycle_plan.specs.Cutting.{packets_in}
-use Rattle.cycle_plan.specs.Packing.{Packing, has_room, begins, taken, used_at_end, packed_one, packed_all, packets_so_far, PackingIsDense}
+use Rattle.cycle_plan.specs.Packing.{Packing, has_room_needing, begins_needing, taken_needing, packed_needing, has_room, begins, taken, used_at_end, packed_one, packed_all, packets_so_far, PackingIsDense}
 
--- ---- the packet in which a section begins
+-- ---- the packet in which a section begins that needs so many bytes of room
 
-pub record Starts (packing : Packing) (pid : ℕ) : Type 0 where
-  pub at_total : begins packing pid ≤ packets_so_far packing
-  pub near_total : packets_so_far packing ≤ begins packing pid + 1
-  pub inside : taken packing pid ≤ 182
-  pub fresh : 0 < taken packing pid → begins packing pid + 1 ≡ packets_so_far packing
+pub record Starts (need : ℕ) (packing : Packing) (pid : ℕ) : Type 0 where
+  pub at_total : begins_needing need packing pid ≤ packets_so_far packing
+  pub near_total : packets_so_far packing ≤ begins_needing need packing pid + 1
+  pub inside : taken_needing need packing pid ≤ 183 - need
+  pub fresh : 0 < taken_needing need packing pid → begins_needing need packing pid + 1 ≡ packets_so_far packing
 
-starts_by : (b c : Bool) (closed used : ℕ) → (c ≡ true → used ≤ 182) →
+starts_by : (b c : Bool) (closed used most : ℕ) → (c ≡ true → used ≤ most) →
     ((if b then closed else if c then closed else closed + 1) ≤ (if b then closed else closed + 1))
     × ((if b then closed else closed + 1) ≤ (if b then closed else if c then closed else closed + 1) + 1)
-    × ((if b then 0 else if c then used else 0) ≤ 182)
+    × ((if b then 0 else if c then used else 0) ≤ most)
     × (0 < (if b then 0 else if c then used else 0) → (if b then closed else if c then closed else closed + 1) + 1 ≡ (if b then closed else closed + 1))
-starts_by true c closed used h = (omega arith, omega arith, omega arith, λ z. omega arith)
-starts_by false true closed used h = let l = h refl in (omega arith, omega arith, l, λ z. refl)
-starts_by false false closed used h = (omega arith, omega arith, omega arith, λ z. omega arith)
+starts_by true c closed used most h = (omega arith, omega arith, omega arith, λ z. omega arith)
+starts_by false true closed used most h = let l = h refl in (omega arith, omega arith, l, λ z. refl)
+starts_by false false closed used most h = (omega arith, omega arith, omega arith, λ z. omega arith)
 
-pub starts : (packing : Packing) (pid : ℕ) → Starts packing pid
-starts packing pid =
-    let r = starts_by (packing.used == 0) (has_room packing pid) packing.closed packing.used
-    (λ h. let l = ltb-true packing.used 183 (second_true (packing.pid == pid) (nat_lt packing.used 183) h) in omega arith) in
+pub starts_needing : (need : ℕ) (packing : Packing) (pid : ℕ) → Starts need packing pid
+starts_needing need packing pid =
+    let r = starts_by (packing.used == 0) (has_room_needing need packing pid) packing.closed packing.used (183 - need)
+    (λ h. let l = ltb-true packing.used (184 - need) (second_true (packing.pid == pid) (nat_lt packing.used (184 - need)) h) in omega arith) in
     record { at_total = r.0; near_total = r.1; inside = r.2; fresh = r.3 }
+
+pub starts : (packing : Packing) (pid : ℕ) → Starts 1 packing pid
+starts packing pid = starts_needing 1 packing pid
 
 -- ---- no more packets than alone
 
@@ -44,15 +47,20 @@ used_some bytes h = go (nat_lt bytes 184)
 pub so_far-begun : (packing : Packing) → 0 < packing.used → packets_so_far packing ≡ packing.closed + 1
 so_far-begun packing h = ap (λ (b : Bool). if b then packing.closed else packing.closed + 1) (ne_eqb packing.used 0 (λ e. omega arith))
 
-one-more : (packing : Packing) (pid len : ℕ) → 0 < len → packets_so_far (packed_one packing pid len) ≤ packets_so_far packing + packets_of len
-one-more packing pid len h =
-    let s = starts packing pid in
-    let u = so_far-begun (packed_one packing pid len) (used_some (taken packing pid + len) (omega arith)) in
-    go (taken packing pid) (begins packing pid) (packets_so_far packing) len s.at_total s.inside s.fresh u
+pub one-more-needing : (need : ℕ) (packing : Packing) (pid len : ℕ) → 0 < len → packets_so_far (packed_needing need packing pid len) ≤ packets_so_far packing + packets_of len
+one-more-needing need packing pid len h =
+    let s = starts_needing need packing pid in
+    let i = s.inside in
+    let u = so_far-begun (packed_needing need packing pid len) (used_some (taken_needing need packing pid + len) (omega arith)) in
+    go (taken_needing need packing pid) (begins_needing need packing pid) (packets_so_far packing) s.at_total (omega arith) s.fresh u
   where
-    go : (t b n len : ℕ) → b ≤ n → t ≤ 182 → (0 < t → b + 1 ≡ n) → packets_so_far (packed_one packing pid len) ≡ b + (t + len) / 184 + 1 → packets_so_far (packed_one packing pid len) ≤ n + (len + 1 + 183) / 184
-    go zero b n len l m f u = omega arith
-    go (suc t) b n len l m f u = let e = f (omega arith) in omega arith
+    go : (t b n : ℕ) → b ≤ n → t ≤ 183 → (0 < t → b + 1 ≡ n) → packets_so_far (packed_needing need packing pid len) ≡ b + (t + len) / 184 + 1
+        → packets_so_far (packed_needing need packing pid len) ≤ n + (len + 1 + 183) / 184
+    go zero b n l m f u = omega arith
+    go (suc t) b n l m f u = let e = f (omega arith) in omega arith
+
+one-more : (packing : Packing) (pid len : ℕ) → 0 < len → packets_so_far (packed_one packing pid len) ≤ packets_so_far packing + packets_of len
+one-more packing pid len h = one-more-needing 1 packing pid len h
 
 pub all-more : (pid len : ℕ → ℕ) (packing : Packing) (xs : List ℕ) → AllByRecursion (λ (i : ℕ). 0 < len i) xs → packets_so_far (packed_all pid len packing xs) ≤ packets_so_far packing + packets_in (λ i. packets_of (len i)) xs
 all-more pid len packing [] h = omega arith

@@ -1,7 +1,7 @@
 -- Sections packed one behind the other, in numbers (ISO/IEC 13818-1, 2.4.4): in which packet each begins where neighbours of one PID
 -- share packets. A packet in which a section begins has its pointer_field and 183 bytes of sections, any other one 184. A section is
 -- named by a number, and has a PID and so many bytes.
-use Rattle.std.specs.Prelude.{◌≡◌, ℕ, ◌+◌, ◌/◌, ◌%◌, ◌<◌, ◌≤◌, List, [], ◌∷◌, ◌++◌, Bool, if◌then◌else◌, nat_lt, ◌==◌, ◌&&◌}
+use Rattle.std.specs.Prelude.{◌≡◌, ℕ, ◌+◌, ◌-◌, ◌/◌, ◌%◌, ◌<◌, ◌≤◌, List, [], ◌∷◌, ◌++◌, Bool, if◌then◌else◌, min, nat_lt, ◌==◌, ◌&&◌}
 use Rattle.std.specs.List.{AllByRecursion}
 use Rattle.ts_packets.specs.Packets.{packets_of}
 use Rattle.cycle_plan.specs.Cutting.{packets_in}
@@ -22,29 +22,53 @@ pub record Packing : Type 0 where
 abbrev pub begun_at : ℕ → Packing
 begun_at n = record { closed = n; pid = 0; used = 0 }
 
--- a section of this PID has its first byte in the packet begun, if the pointer_field, which may be new there, leaves room for it
-abbrev pub has_room : Packing → ℕ → Bool
-has_room packing pid = (packing.pid == pid) && nat_lt packing.used 183
+-- A section needs room for `least` of its bytes in the packet in which it begins, or for all of it.
+abbrev pub need_of : ℕ → ℕ → ℕ
+need_of least len = min least len
+
+-- A section of this PID begins in the packet begun, if the bytes that it needs fit there behind the pointer_field, which may be new,
+-- and the bytes of sections that the packet has: 183 bytes in all.
+abbrev pub has_room_needing : ℕ → Packing → ℕ → Bool
+has_room_needing need packing pid = (packing.pid == pid) && nat_lt packing.used (184 - need)
 
 -- the packet in which a section of this PID begins,
-abbrev pub begins : Packing → ℕ → ℕ
-begins packing pid = if packing.used == 0 then packing.closed else if has_room packing pid then packing.closed else packing.closed + 1
+abbrev pub begins_needing : ℕ → Packing → ℕ → ℕ
+begins_needing need packing pid =
+    if packing.used == 0 then packing.closed else if has_room_needing need packing pid then packing.closed else packing.closed + 1
 
 -- and the bytes of sections before it there
-abbrev pub taken : Packing → ℕ → ℕ
-taken packing pid = if packing.used == 0 then 0 else if has_room packing pid then packing.used else 0
+abbrev pub taken_needing : ℕ → Packing → ℕ → ℕ
+taken_needing need packing pid = if packing.used == 0 then 0 else if has_room_needing need packing pid then packing.used else 0
 
 -- so many bytes of sections from the first of a packet in which one begins: their bytes in the last packet that they have
 abbrev pub used_at_end : ℕ → ℕ
 used_at_end bytes = if nat_lt bytes 184 then bytes else bytes % 184 + 1
 
 -- with a section of this PID and so many bytes more
-abbrev pub packed_one : Packing → ℕ → ℕ → Packing
-packed_one packing pid len = record {
-  closed = begins packing pid + (taken packing pid + len) / 184;
+abbrev pub packed_needing : ℕ → Packing → ℕ → ℕ → Packing
+packed_needing need packing pid len = record {
+  closed = begins_needing need packing pid + (taken_needing need packing pid + len) / 184;
   pid = pid;
-  used = used_at_end (taken packing pid + len);
+  used = used_at_end (taken_needing need packing pid + len);
 }
+
+-- ---- sections that need a byte: the packets of an air are shared so
+
+-- a section of this PID has its first byte in the packet begun, if the pointer_field, which may be new there, leaves room for it
+abbrev pub has_room : Packing → ℕ → Bool
+has_room packing pid = has_room_needing 1 packing pid
+
+-- the packet in which a section of this PID begins,
+abbrev pub begins : Packing → ℕ → ℕ
+begins packing pid = begins_needing 1 packing pid
+
+-- and the bytes of sections before it there
+abbrev pub taken : Packing → ℕ → ℕ
+taken packing pid = taken_needing 1 packing pid
+
+-- with a section of this PID and so many bytes more
+abbrev pub packed_one : Packing → ℕ → ℕ → Packing
+packed_one packing pid len = packed_needing 1 packing pid len
 
 abbrev pub packed_all : (ℕ → ℕ) → (ℕ → ℕ) → Packing → List ℕ → Packing
 packed_all pid len packing [] = packing
