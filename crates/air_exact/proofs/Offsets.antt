@@ -4,7 +4,7 @@ use Rattle.std.specs.Prelude.{if◌then◌else◌, filter_map, slice_range, unwr
 use Rattle.std.specs.Option.{option_map, option_or}
 use Rattle.std.specs.List.{AllByRecursion, Contains, cons_option}
 use Rattle.std.proofs.lemmas.List.{take_at, drop_at}
-use Rattle.std.proofs.lemmas.List.Elements.{All-contains}
+use Rattle.std.proofs.lemmas.List.Elements.{All-contains, Contains-append_right}
 use Rattle.si_lists.proofs.Lists.{all_map}
 use Rattle.si_base.specs.Fields.{two}
 use Rattle.si_time.specs.Moments.{moment_bcd}
@@ -25,12 +25,12 @@ use Rattle.time_tables.proofs.Loops.{loop_told, tot-is_a_section}
 use Rattle.version_book.specs.Airings.{AiredTables, CycleForm, version_at}
 use Rattle.ts_packets.specs.Bytes.{bytes_of_packet}
 use Rattle.ts_demux.specs.declared.section.RawSection.{RawSection}
-use Rattle.ts_demux.specs.Sections.{heard_all, bytes_on}
+use Rattle.ts_demux.specs.Sections.{heard_all, bytes_on, sections_on}
 use Rattle.ts_demux.proofs.Adding.{order_kept}
 use Rattle.guide_receiver.specs.Latest.{last_of, offsets_by, offsets_in, offsets_heard}
 use Rattle.air_model.specs.Air.{Sent, Aired, tdt, tot, times, air, airings_of, CanBeTold}
 use Rattle.air_model.specs.Repeating.{IsRepeatingAirOf, IsSentOf}
-use Rattle.air_model.proofs.Repeating.{of_element}
+use Rattle.air_model.proofs.Repeating.{of_element, first_of}
 use Rattle.air_hearing.specs.Counting.{CanBeHeard}
 use Rattle.air_hearing.proofs.Blocks.{CanCount, can_count, version_at-lt}
 use Rattle.air_hearing.proofs.Told.{sent_of}
@@ -40,11 +40,11 @@ use Rattle.air_exact.specs.Exact.{TellOffsetsOf}
 use Rattle.air_exact.proofs.Contents.{can_at}
 
 -- the offsets that a section tells, by its bytes
-abbrev told : List ℕ → Option (List Offset)
+abbrev pub told : List ℕ → Option (List Offset)
 told bytes = offsets_by (section_in bytes)
 
 -- it tells none, or these
-abbrev IsTold : List Offset → List ℕ → Type 0
+abbrev pub IsTold : List Offset → List ℕ → Type 0
 IsTold offsets bytes = (told bytes ≡ None) ⊎ (told bytes ≡ Some offsets)
 
 -- ---- one section
@@ -82,7 +82,7 @@ times_told form moment can = (inl (ap offsets_by (tdt-is_a_section_any moment)),
     go (o ∷ offsets) can = (tot_told moment (o ∷ offsets) (sent_offsets o offsets can), tt)
 
 -- of an airing
-sent_told : (past : List AiredTables) (a : AiredTables) → CanBeHeard a → (s : Sent) → IsSentOf past a s → IsTold a.form.offsets s.bytes
+pub sent_told : (past : List AiredTables) (a : AiredTables) → CanBeHeard a → (s : Sent) → IsSentOf past a s → IsTold a.form.offsets s.bytes
 sent_told past a can s (inr has) = of_element (λ (x : Sent). IsTold a.form.offsets x.bytes) (times a.form a.moment) s (times_told a.form a.moment can.offsets) has
 sent_told past a can s (inl (t, p, has_t, has_p, e)) =
     let fit : IsFit t = All-contains IsFit a.tables t can.fit has_t in
@@ -139,62 +139,69 @@ on_pid (r ∷ rs) = go (r.pid == 0x0014) (on_pid rs)
     go true e = ap (cons_option (told r.bytes)) e
     go false e = e
 
+-- ---- what is told last
+
+-- Where what is heard on the PID of the time tells these offsets alone, and among it is their TOT, where there are any, they are told last.
+pub told_last : (offsets : List Offset) (packets : List (List ℕ)) (at : ℕ) → at < 65536 * 86400 → CanBeTold offsets → AllByRecursion (IsTold offsets) (sections_on 0x0014 packets)
+    → AllByRecursion (λ (s : Sent). Contains (sections_on 0x0014 packets) s.bytes) (tot at offsets) → offsets_heard (heard_all [] packets) ≡ offsets
+told_last offsets packets at lt can each there =
+    ap (λ (l : List (List Offset)). unwrap_or (last_of l) []) (on_pid (heard_all [] packets) ∙ ap (filter_map told) (order_kept packets 0x0014))
+    ∙ go offsets (same_last offsets heard each) (some_told offsets can there)
+  where
+    heard : List (List ℕ)
+    heard = sections_on 0x0014 packets
+
+    -- where there are offsets, some are told
+    some_told : (os : List Offset) → CanBeTold os → AllByRecursion (λ (s : Sent). Contains heard s.bytes) (tot at os) → last_of (filter_map told heard) ≡ None → os ≡ []
+    some_told [] fit has none = refl
+    some_told (o ∷ os) fit has none =
+        let here = of_element (λ (b : List ℕ). told b ≡ None) heard (tot_section at (o ∷ os)) (none_last heard none) has.0 in
+        let there = tot_is_told at (o ∷ os) (sent_offsets o os fit) lt in
+        absurd (let f : None ≡ Some (o ∷ os) = sym here ∙ there in let z : Prim.⊥ = cc in z)
+
+    go : (os : List Offset) → (last_of (filter_map told heard) ≡ None) ⊎ (last_of (filter_map told heard) ≡ Some os) → (last_of (filter_map told heard) ≡ None → os ≡ [])
+        → unwrap_or (last_of (filter_map told heard)) [] ≡ os
+    go os (inr some) is = ap (λ (l : Option (List Offset)). unwrap_or l []) some
+    go os (inl none) is = ap (λ (l : Option (List Offset)). unwrap_or l []) none ∙ sym (is none)
+
+offsets_at : (a : AiredTables) (before : List Aired) (y : Aired) (after : List Aired) → TellOffsetsOf a (airings_of (before ++ y ∷ after)) → y.airing.form.offsets ≡ a.form.offsets
+offsets_at a [] y after all = all.0
+offsets_at a (z ∷ before) y after all = offsets_at a before y after all.1
+
+-- what a cycle of such an air sends tells the offsets of this airing, or none
+pub cycle_told : (a : AiredTables) (airings : List AiredTables) (xs : List Aired) → IsRepeatingAirOf airings xs → AllByRecursion CanBeHeard airings → TellOffsetsOf a airings
+    → (before : List Aired) (y : Aired) (after : List Aired) → xs ≡ before ++ y ∷ after → (s : Sent) → IsSentOf (airings_of before) y.airing s → IsTold a.form.offsets s.bytes
+cycle_told a airings xs is can same before y after cut s sent =
+    let here : airings ≡ airings_of (before ++ y ∷ after) = sym is.airings_are ∙ ap airings_of cut in
+    subst (λ (o : List Offset). IsTold o s.bytes) (offsets_at a before y after (subst (TellOffsetsOf a) here same))
+    (sent_told (airings_of before) y.airing (can_at before y after (subst (AllByRecursion CanBeHeard) here can)) s sent)
+
 pub offsets_are_heard : (airings : List AiredTables) (before : List Aired) (x : Aired) (after : List Aired) → IsRepeatingAirOf airings (before ++ x ∷ after) → AllByRecursion CanBeHeard airings
     → (join end : ℕ) → join ≤ length (air before) → length (air before) + length x.packets ≤ end → x.airing.moment < 65536 * 86400 → TellOffsetsOf x.airing airings
     → offsets_heard (heard_all [] (map bytes_of_packet (slice_range (air (before ++ x ∷ after)) join end))) ≡ x.airing.form.offsets
 offsets_are_heard airings before x after is can join end joined whole within same =
-    ap (λ (l : List (List Offset)). unwrap_or (last_of l) []) (on_pid (heard_all [] packets) ∙ ap (filter_map told) (order_kept packets 0x0014))
-    ∙ go offsets refl (same_last offsets heard each)
+    told_last x.airing.form.offsets (map bytes_of_packet (slice_range (air xs) join end)) x.airing.moment within
+    (can_at before x after (subst (AllByRecursion CanBeHeard) (sym is.airings_are) can)).offsets
+    (all_map (IsOfCycleIn join end 0x0014 xs) (IsTold x.airing.form.offsets) one (heard_between join end 0x0014 (air xs))
+    (heard_is_sent airings xs is (sent_of airings can) 0x0014 (omega arith) join end))
+    (each_heard x.airing.form.offsets (λ s has. has))
   where
     xs : List Aired
     xs = before ++ x ∷ after
 
-    packets : List (List ℕ)
-    packets = map bytes_of_packet (slice_range (air xs) join end)
-
-    heard : List (List ℕ)
-    heard = heard_between join end 0x0014 (air xs)
-
-    offsets : List Offset
-    offsets = x.airing.form.offsets
-
-    cans : AllByRecursion CanBeHeard (airings_of xs)
-    cans = subst (AllByRecursion CanBeHeard) (sym is.airings_are) can
-
-    sames : TellOffsetsOf x.airing (airings_of xs)
-    sames = subst (TellOffsetsOf x.airing) (sym is.airings_are) same
-
-    one : (bytes : List ℕ) → IsOfCycleIn join end 0x0014 xs bytes → IsTold offsets bytes
+    one : (bytes : List ℕ) → IsOfCycleIn join end 0x0014 xs bytes → IsTold x.airing.form.offsets bytes
     one bytes of_cycle =
-        let ours : AllByRecursion CanBeHeard (airings_of (of_cycle.before ++ of_cycle.cycle ∷ of_cycle.after)) = subst (λ (l : List Aired). AllByRecursion CanBeHeard (airings_of l)) of_cycle.cut cans in
-        let told_here = sent_told (airings_of of_cycle.before) of_cycle.cycle.airing (can_at of_cycle.before of_cycle.cycle of_cycle.after ours) of_cycle.section of_cycle.sent in
-        let tells : of_cycle.cycle.airing.form.offsets ≡ offsets =
-        offsets_at of_cycle.before of_cycle.cycle of_cycle.after (subst (λ (l : List Aired). TellOffsetsOf x.airing (airings_of l)) of_cycle.cut sames) in
-        subst (IsTold offsets) of_cycle.has_bytes (subst (λ (o : List Offset). IsTold o of_cycle.section.bytes) tells told_here)
-      where
-        offsets_at : (front : List Aired) (y : Aired) (behind : List Aired) → TellOffsetsOf x.airing (airings_of (front ++ y ∷ behind)) → y.airing.form.offsets ≡ offsets
-        offsets_at [] y behind all = all.0
-        offsets_at (z ∷ front) y behind all = offsets_at front y behind all.1
-
-    each : AllByRecursion (IsTold offsets) heard
-    each = all_map (IsOfCycleIn join end 0x0014 xs) (IsTold offsets) one heard (heard_is_sent airings xs is (sent_of airings can) 0x0014 (omega arith) join end)
+        subst (IsTold x.airing.form.offsets) of_cycle.has_bytes
+        (cycle_told x.airing airings xs is can same of_cycle.before of_cycle.cycle of_cycle.after of_cycle.cut of_cycle.section of_cycle.sent)
 
     -- the TOT of the whole cycle is heard
-    tot_heard : (o : Offset) (os : List Offset) → offsets ≡ o ∷ os → Contains heard (tot_section x.airing.moment (o ∷ os))
-    tot_heard o os e =
+    each_heard : (os : List Offset) → ((s : Sent) → Contains (tot x.airing.moment os) s → Contains (tot x.airing.moment x.airing.form.offsets) s)
+        → AllByRecursion (λ (s : Sent). Contains (heard_between join end 0x0014 (air xs)) s.bytes) (tot x.airing.moment os)
+    each_heard [] among = tt
+    each_heard (o ∷ os) among =
         let s : Sent = record { pid = 0x0014; bytes = tot_section x.airing.moment (o ∷ os) } in
-        let has : Contains (times x.airing.form x.airing.moment) s =
-        subst (λ (l : List Offset). Contains (tdt x.airing.moment ∷ tot x.airing.moment l) s) (sym e) (1, omega arith, refl) in
-        cycle_is_heard airings before after x is (sent_of airings can) join end joined whole s (inr has) (omega arith)
-
-    some_told : (os : List Offset) → offsets ≡ os → last_of (filter_map told heard) ≡ None → os ≡ []
-    some_told [] e none = refl
-    some_told (o ∷ os) e none =
-        let here = of_element (λ (b : List ℕ). told b ≡ None) heard (tot_section x.airing.moment (o ∷ os)) (none_last heard none) (tot_heard o os e) in
-        let fit : CanBeTold (o ∷ os) = subst CanBeTold e (can_at before x after cans).offsets in
-        let there = tot_is_told x.airing.moment (o ∷ os) (sent_offsets o os fit) within in
-        absurd (let f : None ≡ Some (o ∷ os) = sym here ∙ there in let z : Prim.⊥ = cc in z)
-
-    go : (os : List Offset) → offsets ≡ os → (last_of (filter_map told heard) ≡ None) ⊎ (last_of (filter_map told heard) ≡ Some offsets) → unwrap_or (last_of (filter_map told heard)) [] ≡ offsets
-    go os e (inr some) = ap (λ (l : Option (List Offset)). unwrap_or l []) some
-    go os e (inl none) = ap (λ (l : Option (List Offset)). unwrap_or l []) none ∙ sym (e ∙ some_told os e none)
+        let own : Contains (tot x.airing.moment x.airing.form.offsets) s = among s (first_of s []) in (
+          cycle_is_heard airings before after x is (sent_of airings can) join end joined whole s
+              (inr (Contains-append_right (tdt x.airing.moment ∷ []) (tot x.airing.moment x.airing.form.offsets) s own)) (omega arith),
+          tt,
+        )

@@ -4,6 +4,7 @@ pub mod ByParts
 pub mod Heard
 pub mod Coherent
 pub mod Exact
+pub mod Times
 pub mod Views
 pub mod Dones
 pub mod Alike

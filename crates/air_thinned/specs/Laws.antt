@@ -12,7 +12,7 @@ use Rattle.strict_receiver.specs.Laws.{IsHeardAlike}
 use Rattle.air_model.specs.Air.{Aired, air}
 use Rattle.air_model.specs.Repeating.{IsRepeatingAirOf}
 use Rattle.air_hearing.specs.Counting.{CanBeHeard}
-use Rattle.air_exact.specs.Exact.{HaveOneEach, HasOnAir}
+use Rattle.air_exact.specs.Exact.{HaveOneEach, TellOffsetsOf, HasOnAir}
 use Rattle.air_thinned.specs.Thinned.{Fate, bytes_that_came, IsThinnedAir, IsAiredAmong, IsDoneAmong, CameWhole}
 
 -- Whatever is completed of any key of a thinned air is the content of one airing, of whose cycle a packet came.
@@ -44,10 +44,11 @@ ThinnedContentsAreHeard =
     → (k : Key) → is_counted k.pid k.table ≡ true → (c : Content) → content_at k x.airing ≡ Some c
     → content_over (taken_of (bytes_that_came fates)) k ≡ Some c
 
--- So a receiver has what is on air, where of the tables that come once all airings have the same: the contents, the keys, and a moment.
+-- So a receiver has what is on air, where of the tables that come once all airings have the same, and tell the same offsets: the contents,
+-- the keys, a moment, and the offsets.
 abbrev pub ThinnedOnAirIsHeard : Type 0
 ThinnedOnAirIsHeard =
     (airings : List AiredTables) (before : List Aired) (x : Aired) (after : List Aired) → IsRepeatingAirOf airings (before ++ x ∷ after) → AllByRecursion CanBeHeard airings
     → (fates : List Fate) → IsThinnedAir (before ++ x ∷ after) fates → CameWhole fates before x after
     → x.airing.moment < 65536 * 86400 → (pat nit sdt : Key) → HaveOneEach airings x.airing pat nit sdt
-    → HasOnAir x.airing pat nit sdt (strict_view (bytes_that_came fates))
+    → TellOffsetsOf x.airing airings → HasOnAir x.airing pat nit sdt (strict_view (bytes_that_came fates))

@@ -10,7 +10,8 @@ pub fn thinned_airs_are_coherent()
 {}
 
 /// All packets of one cycle came, and later only packets of cycles with the same sub-tables. Then a strict
-/// receiver has what is on air, whatever was lost before.
+/// receiver has what is on air, whatever was lost before. Where all airings tell the same offsets of local
+/// time, it has these too.
 pub fn whole_cycles_are_heard()
     ensures contents { ThinnedContentsAreHeard }
     ensures view { ThinnedOnAirIsHeard }

@@ -1,6 +1,7 @@
 -- What is heard of an air of a journal from which packets were lost.
-use Rattle.std.proofs.Common.{◌≡◌, ℕ, ◌*◌, ◌<◌, List, [], ◌∷◌, ◌++◌, length, sym, ap, ◌∙◌, subst, append_assoc, append-nil}
+use Rattle.std.proofs.Common.{◌≡◌, ℕ, ◌*◌, ◌<◌, List, [], ◌∷◌, ◌++◌, length, refl, sym, ap, ◌∙◌, subst, append_assoc, append-nil}
 use Rattle.std.specs.List.{AllByRecursion}
+use Rattle.si_lists.proofs.Lists.{all_map}
 use Rattle.guide_model.specs.declared.guide.Guide.{Guide}
 use Rattle.mux_model.specs.declared.mux.Mux.{Mux}
 use Rattle.journal_model.specs.declared.step.Entry.{Entry}
@@ -14,18 +15,20 @@ use Rattle.air_model.specs.Air.{Aired, IsAirOf, air, airings_of}
 use Rattle.air_model.specs.Repeating.{IsRepeatingAirOf}
 use Rattle.air_model.proofs.Repeating.{airs_repeat}
 use Rattle.air_hearing.specs.Counting.{CanBeHeard}
+use Rattle.air_exact.specs.Exact.{TellOffsetsOf}
 use Rattle.air_exact.proofs.Views.{element_at}
 use Rattle.publication.specs.Network.{nit_key}
 use Rattle.publication.specs.Programs.{pat_key}
 use Rattle.publication.specs.Tables.{sdt_key, tables_of}
 use Rattle.publication_screen.proofs.Whole.{publication_is_shown}
-use Rattle.air_screen.specs.Published.{ArePublished, number_at}
+use Rattle.air_screen.specs.Published.{ArePublished, HaveOffsetsOf, number_at}
 use Rattle.air_screen.proofs.Shown.{tables_at, some_clock, once, has_publication}
 use Rattle.air_thinned.specs.Thinned.{Fate, bytes_that_came, SomeCame, IsThinnedAir, CameWhole}
 use Rattle.air_thinned.proofs.Coherent.{thinned_coherent}
 use Rattle.air_thinned.proofs.Dones.{thinned_dones}
 use Rattle.air_thinned.proofs.Views.{thinned_on_air}
 use Rattle.journal_air.specs.Air.{airings}
+use Rattle.journal_air.proofs.CarryFacts.{each_airing}
 use Rattle.journal_screen.specs.Shown.{IsAsRead, numbers_on_air}
 use Rattle.journal_screen.proofs.ReadBack.{nit_back, sdt_back}
 use Rattle.journal_screen.proofs.Shown.{guides, can_publish, front_published, can, in_range, IsInRange}
@@ -48,6 +51,18 @@ module _ (mux : Mux) (journal : List Entry) (is : IsAsRead mux journal) (legal :
   published_all : ArePublished mux (guides mux journal is legal) numbers (airings_of cycles)
   published_all = front_published mux journal is legal (airings_of cycles) [] (swaps journal) are
 
+  abbrev TellsOffsets : AiredTables → Type 0
+  TellsOffsets a = a.form.offsets ≡ mux.offsets
+
+  -- all airings tell the offsets of the multiplex
+  tell : HaveOffsetsOf mux (airings_of cycles)
+  tell = subst (AllByRecursion TellsOffsets) (sym air_is.airings_are) (each_airing TellsOffsets mux journal (λ swap. refl) (swaps journal))
+
+  tells_of : (before : List Aired) (x : Aired) (after : List Aired) → cycles ≡ before ++ x ∷ after → TellOffsetsOf x.airing (airings_of cycles)
+  tells_of before x after cut =
+      let own : x.airing.form.offsets ≡ mux.offsets = element_at TellsOffsets before x after (subst (λ (l : List Aired). HaveOffsetsOf mux (airings_of l)) cut tell) in
+      all_map TellsOffsets (λ (a : AiredTables). a.form.offsets ≡ x.airing.form.offsets) (λ a e. e ∙ sym own) (airings_of cycles) tell
+
   exact_here : (before : List Aired) (x : Aired) (after : List Aired) (cut : cycles ≡ before ++ x ∷ after) → CamePublished numbers fates before x after
       → AreStrictlyShown mux (publication mux journal (number_at numbers (length before))) (bytes_that_came fates)
   exact_here before x after cut came =
@@ -58,7 +73,8 @@ module _ (mux : Mux) (journal : List Entry) (is : IsAsRead mux journal) (legal :
       let own_thin : IsThinnedAir (before ++ x ∷ after) fates = subst (λ (l : List Aired). IsThinnedAir l fates) cut thin in
       let whole : CameWhole fates before x after = record { whole = came.whole; same = same } in
       let on = thinned_on_air (airings_of cycles) before x after here all fates own_thin whole moment (pat_key mux) (nit_key mux) (sdt_key mux)
-      (once nit_back sdt_back mux guide_numbers numbers (airings_of cycles) is.sound (can_publish mux journal is legal) published_all all before x after here) in
+      (once nit_back sdt_back mux guide_numbers numbers (airings_of cycles) is.sound (can_publish mux journal is legal) published_all tell all before x after here)
+      (tells_of before x after cut) in
       let packets : List (List ℕ) = bytes_that_came fates in
       let at = some_clock (clock_of (heard_all [] packets)) on.clock in
       let p = can_publish mux journal is legal (number_at numbers (length before)) in
@@ -66,7 +82,7 @@ module _ (mux : Mux) (journal : List Entry) (is : IsAsRead mux journal) (legal :
         clock = at.0;
         told = at.1;
         shown = publication_is_shown nit_back sdt_back mux (guide_numbers (number_at numbers (length before))) at.0 (strict_view packets) is.sound p.services p.within p.typed p.names
-            (has_publication nit_back sdt_back mux guide_numbers numbers (airings_of cycles) is.sound (can_publish mux journal is legal) published_all all before x after here at.0 (strict_view packets) on at.1);
+            (has_publication nit_back sdt_back mux guide_numbers numbers (airings_of cycles) is.sound (can_publish mux journal is legal) published_all tell all before x after here at.0 (strict_view packets) on at.1);
       }
     where
       same : (one two : List Aired) (y : Aired) → after ≡ one ++ y ∷ two → SomeCame fates (before ++ x ∷ one) y → y.airing.tables ≡ x.airing.tables
