@@ -176,7 +176,7 @@ tot_some : (moment : ℕ) (offsets : List Offset) → HaveSome (tot moment offse
 tot_some moment [] = tt
 tot_some moment (o ∷ offsets) = (omega (arith, length-tot_section moment (o ∷ offsets)), tt)
 
-times_some : (form : CycleForm) (moment : ℕ) → HaveSome (times form moment)
+pub times_some : (form : CycleForm) (moment : ℕ) → HaveSome (times form moment)
 times_some form moment = (omega (arith, eight moment), tot_some moment form.offsets)
 
 pub once_some : (past : List AiredTables) (a : AiredTables) → HaveSome (sections_once past a)

@@ -4,3 +4,5 @@ pub mod Counted
 pub mod Dense
 pub mod Airs
 pub mod Repeating
+pub mod Nulls
+pub mod Bursts

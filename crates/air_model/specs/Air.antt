@@ -1,5 +1,5 @@
 -- Cycles of airings, and the air of an airing list.
-use Rattle.std.specs.Prelude.{◌≡◌, ℕ, ◌≤◌, List, [], ◌∷◌, ◌++◌, Bool, not, ◌&&◌, Option, Some, None, ◌==◌, if◌then◌else◌, length, drop, map, flat_map, filter_map, slice_get}
+use Rattle.std.specs.Prelude.{◌≡◌, ℕ, ◌<◌, ◌≤◌, false, replicate, List, [], ◌∷◌, ◌++◌, Bool, not, ◌&&◌, Option, Some, None, ◌==◌, if◌then◌else◌, length, drop, map, flat_map, filter_map, slice_get}
 use Rattle.std.specs.List.{All, AllByRecursion, prefix_len, take_while}
 use Rattle.guide_model.specs.declared.offset.Offset.{Offset}
 use Rattle.section_codec.specs.SubTables.{IsFit, header_of}
@@ -15,7 +15,7 @@ use Rattle.time_tables.specs.Tot.{tot_section}
 use Rattle.version_book.specs.Airings.{AiredTables, CycleForm, version_at}
 use Rattle.cycle_plan.specs.Cycle.{cycle_of}
 use Rattle.cycle_plan.specs.Sections.{is_fast, planned}
-use Rattle.ts_packets.specs.Packets.{Carries, packets_of}
+use Rattle.ts_packets.specs.Packets.{Piece, Carries, packets_of}
 use Rattle.ts_packets.specs.Bytes.{Packet, HasFields, bytes_of_packet}
 use Rattle.ts_packets.specs.Counting.{of_pid, loads_on, Count}
 
@@ -116,9 +116,20 @@ abbrev pub sent_on : ℕ → Sent → Option (List ℕ)
 sent_on pid s = if s.pid == pid then Some s.bytes else None
 
 -- The packets are a cycle of the airing behind these: on each PID they carry the cycle's sections with that PID, in
--- their order, and there are no others. How densely sections share packets is left open.
+-- their order, and there are no others. How densely sections share packets is left open, and null packets may stand anywhere.
 abbrev pub IsCycle : List AiredTables → Aired → Type 0
-IsCycle past x = (pid : ℕ) → Carries (of_pid pid x.packets) (filter_map (sent_on pid) (cycle_sections past x.airing))
+IsCycle past x = (pid : ℕ) → pid < 8191 → Carries (of_pid pid x.packets) (filter_map (sent_on pid) (cycle_sections past x.airing))
+
+-- a packet of the PID of null packets is one: fill alone (ISO/IEC 13818-1, 2.4.3.3)
+abbrev pub null_piece : Piece
+null_piece = record { start = false; payload = replicate 184 255 }
+
+abbrev pub IsNullOrOther : Packet → Type 0
+IsNullOrOther p = p.pid ≡ 8191 → p.piece ≡ null_piece
+
+-- none of these is a null packet
+abbrev pub HasNoNull : List Packet → Type 0
+HasNoNull packets = AllByRecursion (λ (p : Packet). p.pid < 8191) packets
 
 -- one cycle for each airing
 abbrev pub Cycles : List AiredTables → List Aired → Type 0
@@ -138,6 +149,7 @@ pub record IsAirOf (airings : List AiredTables) (xs : List Aired) : Type 0 where
   pub cycles : Cycles [] xs
   pub counted : (pid : ℕ) → Count 0 (loads_on pid (air xs))
   pub fields : AllByRecursion HasFields (air xs)
+  pub nulls : AllByRecursion IsNullOrOther (air xs)
 
 -- the bytes of an air
 abbrev pub air_bytes : List Aired → List ℕ

@@ -1,4 +1,6 @@
 pub mod Air
 pub mod Repeating
 pub mod Making
+pub mod Nulls
+pub mod Bursts
 pub mod Rows
