@@ -171,9 +171,9 @@ module _ (past : List AiredTables) (a : AiredTables) (can : CanBeHeard a) (k : K
     where
       one : (s : Sent) → IsSentOf past a s → (o : Option Counted) → counted_in (raw_of s) ≡ o → AllByRecursion P (block k ss) → AllByRecursion P (of_key k (cons_option o (counted_among (map raw_of ss))))
       one s is None e rest = rest
-      one s (inr has) (Some c) e rest =
+      one s (inr (at, later, has)) (Some c) e rest =
           let told : counted_in (raw_of s) ≡ None =
-          of_element (λ (x : Sent). counted_in (raw_of x) ≡ None) (times a.form a.moment) s (times_uncounted a.form a.moment can.offsets) has in
+          of_element (λ (x : Sent). counted_in (raw_of x) ≡ None) (times a.form at) s (times_uncounted a.form at can.offsets) has in
           absurd (let z : Prim.⊥ = (let none : None ≡ Some c = sym told ∙ e in cc) in z)
       one s (inl (t, p, has_t, has_p, is)) (Some c) e rest = go (is_counted t.key.pid t.key.table) refl (sym (counts t p has_t has_p) ∙ ap (λ (x : Sent). counted_in (raw_of x)) (sym is) ∙ e)
         where

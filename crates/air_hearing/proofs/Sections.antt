@@ -90,7 +90,7 @@ pub each_section : (past : List AiredTables) (a : AiredTables) (ss : List Sent) 
 each_section past a ss fit each = all_map (IsSentOf past a) (λ (x : Sent). IsSection x.bytes) one ss each
   where
     one : (x : Sent) → IsSentOf past a x → IsSection x.bytes
-    one x (inr has) = of_element (λ (s : Sent). IsSection s.bytes) (times a.form a.moment) x (times_are a.form a.moment fit.offsets) has
+    one x (inr (at, later, has)) = of_element (λ (s : Sent). IsSection s.bytes) (times a.form at) x (times_are a.form at fit.offsets) has
     one x (inl (t, p, has_t, has_p, e)) =
         let f : IsFit t = All-contains IsFit a.tables t fit.tables has_t in
         let le = All-contains (λ (s : NumberedBody). length s.body ≤ longest_body t.key.table) t.sections p f.bodies has_p in
@@ -115,24 +115,24 @@ sections-each pid past airings fit = each_on pid (sections_sent past airings) (e
 
 -- ---- the cycles, joined
 
-pub Carries-cycles : (pid : ℕ) (past : List AiredTables) (xs : List Aired) → Cycles past xs → Carries (of_pid pid (air xs)) (filter_map (sent_on pid) (sections_sent past (airings_of xs)))
-Carries-cycles pid past [] h = Carries-none
-Carries-cycles pid past (x ∷ xs) h =
+pub Carries-cycles : (pid : ℕ) → pid < 8191 → (past : List AiredTables) (xs : List Aired) → Cycles past xs → Carries (of_pid pid (air xs)) (filter_map (sent_on pid) (sections_sent past (airings_of xs)))
+Carries-cycles pid lt past [] h = Carries-none
+Carries-cycles pid lt past (x ∷ xs) h =
     let cycle = filter_map (sent_on pid) (cycle_sections past x.airing) in
     let later = filter_map (sent_on pid) (sections_sent (past ++ x.airing ∷ []) (airings_of xs)) in
     subst₂ Carries (sym (of_pid-append pid x.packets (air xs))) (sym (filter_map-append (sent_on pid) (cycle_sections past x.airing) (sections_sent (past ++ x.airing ∷ []) (airings_of xs))))
-    (Carries-append (of_pid pid x.packets) (of_pid pid (air xs)) cycle later (h.0 pid) (Carries-cycles pid (past ++ x.airing ∷ []) xs h.1))
+    (Carries-append (of_pid pid x.packets) (of_pid pid (air xs)) cycle later (h.0 pid lt) (Carries-cycles pid lt (past ++ x.airing ∷ []) xs h.1))
 
-pub Carries-air : (airings : List AiredTables) (xs : List Aired) → IsAirOf airings xs → (pid : ℕ) → Carries (of_pid pid (air xs)) (filter_map (sent_on pid) (sections_sent [] airings))
-Carries-air airings xs is pid =
-    subst (λ (l : List AiredTables). Carries (of_pid pid (air xs)) (filter_map (sent_on pid) (sections_sent [] l))) is.airings_are (Carries-cycles pid [] xs is.cycles)
+pub Carries-air : (airings : List AiredTables) (xs : List Aired) → IsAirOf airings xs → (pid : ℕ) → pid < 8191 → Carries (of_pid pid (air xs)) (filter_map (sent_on pid) (sections_sent [] airings))
+Carries-air airings xs is pid lt =
+    subst (λ (l : List AiredTables). Carries (of_pid pid (air xs)) (filter_map (sent_on pid) (sections_sent [] l))) is.airings_are (Carries-cycles pid lt [] xs is.cycles)
 
 pub GoOn-air : (airings : List AiredTables) (xs : List Aired) → IsAirOf airings xs → (pid : ℕ) → GoOn pid (air xs)
 GoOn-air airings xs is pid = record { fields = is.fields; counted = (0, is.counted pid) }
 
 pub air-heard : AirIsHeard
 air-heard airings xs is fit pid lt =
-    carried_is_heard pid lt (air xs) (filter_map (sent_on pid) (sections_sent [] airings)) (Carries-air airings xs is pid) (sections-each pid [] airings fit) (GoOn-air airings xs is pid)
+    carried_is_heard pid lt (air xs) (filter_map (sent_on pid) (sections_sent [] airings)) (Carries-air airings xs is pid lt) (sections-each pid [] airings fit) (GoOn-air airings xs is pid)
 
 -- ---- cycles that repeat sections
 
@@ -141,12 +141,12 @@ abbrev pub all_sent : (past : List AiredTables) (xs : List Aired) → RepeatingC
 all_sent past [] h = []
 all_sent past (x ∷ xs) h = h.0.sections ++ all_sent (past ++ x.airing ∷ []) xs h.1
 
-all_carried : (pid : ℕ) (past : List AiredTables) (xs : List Aired) (h : RepeatingCycles past xs) → Carries (of_pid pid (air xs)) (filter_map (sent_on pid) (all_sent past xs h))
-all_carried pid past [] h = Carries-none
-all_carried pid past (x ∷ xs) h =
+all_carried : (pid : ℕ) → pid < 8191 → (past : List AiredTables) (xs : List Aired) (h : RepeatingCycles past xs) → Carries (of_pid pid (air xs)) (filter_map (sent_on pid) (all_sent past xs h))
+all_carried pid lt past [] h = Carries-none
+all_carried pid lt past (x ∷ xs) h =
     let later = all_sent (past ++ x.airing ∷ []) xs h.1 in
     subst₂ Carries (sym (of_pid-append pid x.packets (air xs))) (sym (filter_map-append (sent_on pid) h.0.sections later))
-    (Carries-append (of_pid pid x.packets) (of_pid pid (air xs)) (filter_map (sent_on pid) h.0.sections) (filter_map (sent_on pid) later) (h.0.carried pid) (all_carried pid (past ++ x.airing ∷ []) xs h.1))
+    (Carries-append (of_pid pid x.packets) (of_pid pid (air xs)) (filter_map (sent_on pid) h.0.sections) (filter_map (sent_on pid) later) (h.0.carried pid lt) (all_carried pid lt (past ++ x.airing ∷ []) xs h.1))
 
 all_each : (past : List AiredTables) (xs : List Aired) (h : RepeatingCycles past xs) → CanBeSent (airings_of xs) → AllByRecursion (λ (x : Sent). IsSection x.bytes) (all_sent past xs h)
 all_each past [] h fit = tt
@@ -158,6 +158,6 @@ all_each past (x ∷ xs) h fit =
 pub all_heard : (airings : List AiredTables) (xs : List Aired) (is : IsRepeatingAirOf airings xs) → CanBeSent airings → (pid : ℕ) → pid < 8191
     → sections_on pid (map bytes_of_packet (air xs)) ≡ filter_map (sent_on pid) (all_sent [] xs is.cycles)
 all_heard airings xs is fit pid lt =
-    carried_is_heard pid lt (air xs) (filter_map (sent_on pid) (all_sent [] xs is.cycles)) (all_carried pid [] xs is.cycles)
+    carried_is_heard pid lt (air xs) (filter_map (sent_on pid) (all_sent [] xs is.cycles)) (all_carried pid lt [] xs is.cycles)
     (each_on pid (all_sent [] xs is.cycles) (all_each [] xs is.cycles (subst CanBeSent (sym is.airings_are) fit)))
     (record { fields = is.fields; counted = (0, is.counted pid) })
