@@ -136,15 +136,15 @@ behind_first pid past x xs join end n size bytes r =
       order = shift-order join end n r.order;
     }
 
-pub each_of_cycle : (pid : ℕ) (past : List AiredTables) (xs : List Aired) (h : RepeatingCycles past xs) (join end : ℕ)
-    → AllByRecursion (IsOfCycle pid join end past xs) (within join end (groups_by pid past xs h))
-each_of_cycle pid past [] h join end =
+pub each_of_cycle : (pid : ℕ) (lt : pid < 8191) (past : List AiredTables) (xs : List Aired) (h : RepeatingCycles past xs) (join end : ℕ)
+    → AllByRecursion (IsOfCycle pid join end past xs) (within join end (groups_by pid lt past xs h))
+each_of_cycle pid lt past [] h join end =
     subst (AllByRecursion (IsOfCycle pid join end past [])) (sym (within-none join end [] (inr (omega arith)))) tt
-each_of_cycle pid past (x ∷ xs) h join end =
-    let own : Carries (of_pid pid x.packets) (filter_map (sent_on pid) h.0.sections) = h.0.carried pid in
+each_of_cycle pid lt past (x ∷ xs) h join end =
+    let own : Carries (of_pid pid x.packets) (filter_map (sent_on pid) h.0.sections) = h.0.carried pid lt in
     let gs : List (List (List ℕ)) = own.groups in
-    let hs : List (List (List ℕ)) = groups_by pid (past ++ x.airing ∷ []) xs h.1 in
-    let rest = each_of_cycle pid (past ++ x.airing ∷ []) xs h.1 (join - length gs) (end - length gs) in
+    let hs : List (List (List ℕ)) = groups_by pid lt (past ++ x.airing ∷ []) xs h.1 in
+    let rest = each_of_cycle pid lt (past ++ x.airing ∷ []) xs h.1 (join - length gs) (end - length gs) in
     all-parts (IsOfCycle pid join end past (x ∷ xs)) join end gs hs own.ended
     (own_part pid past x xs h.0.sections h.0.are.each own join end)
     (all_map (IsOfCycle pid (join - length gs) (end - length gs) (past ++ x.airing ∷ []) xs) (IsOfCycle pid join end past (x ∷ xs))

@@ -30,57 +30,57 @@ use Rattle.ts_demux.proofs.Parts.{within-none}
 -- ---- the cycles, joined
 
 -- the groups of the cycles, one after the other: a group for each packet of a PID, the sections that begin in it
-abbrev pub groups_by : (pid : ℕ) (past : List AiredTables) (xs : List Aired) → RepeatingCycles past xs → List (List (List ℕ))
-groups_by pid past [] h = []
-groups_by pid past (x ∷ xs) h = (h.0.carried pid).groups ++ groups_by pid (past ++ x.airing ∷ []) xs h.1
+abbrev pub groups_by : (pid : ℕ) → pid < 8191 → (past : List AiredTables) (xs : List Aired) → RepeatingCycles past xs → List (List (List ℕ))
+groups_by pid lt past [] h = []
+groups_by pid lt past (x ∷ xs) h = (h.0.carried pid lt).groups ++ groups_by pid lt (past ++ x.airing ∷ []) xs h.1
 
-pub pieces_by : (pid : ℕ) (past : List AiredTables) (xs : List Aired) (h : RepeatingCycles past xs)
-    → of_pid pid (air xs) ≡ pieces [] (groups_by pid past xs h)
-pieces_by pid past [] h = refl
-pieces_by pid past (x ∷ xs) h =
-    let own : Carries (of_pid pid x.packets) (filter_map (sent_on pid) h.0.sections) = h.0.carried pid in
-    let rest : List (List (List ℕ)) = groups_by pid (past ++ x.airing ∷ []) xs h.1 in
+pub pieces_by : (pid : ℕ) (lt : pid < 8191) (past : List AiredTables) (xs : List Aired) (h : RepeatingCycles past xs)
+    → of_pid pid (air xs) ≡ pieces [] (groups_by pid lt past xs h)
+pieces_by pid lt past [] h = refl
+pieces_by pid lt past (x ∷ xs) h =
+    let own : Carries (of_pid pid x.packets) (filter_map (sent_on pid) h.0.sections) = h.0.carried pid lt in
+    let rest : List (List (List ℕ)) = groups_by pid lt (past ++ x.airing ∷ []) xs h.1 in
     let later : of_pid pid (air xs) ≡ pieces (left [] own.groups) rest =
-    pieces_by pid (past ++ x.airing ∷ []) xs h.1 ∙ ap (λ (r : List ℕ). pieces r rest) (sym own.ended) in
+    pieces_by pid lt (past ++ x.airing ∷ []) xs h.1 ∙ ap (λ (r : List ℕ). pieces r rest) (sym own.ended) in
     of_pid-append pid x.packets (air xs) ∙ ap₂ (λ (ps qs : List Piece). ps ++ qs) own.are later ∙ sym (pieces-append [] own.groups rest)
 
-pub room_by : (pid : ℕ) (past : List AiredTables) (xs : List Aired) (h : RepeatingCycles past xs) → HaveSectionBytes [] (groups_by pid past xs h)
-room_by pid past [] h = tt
-room_by pid past (x ∷ xs) h =
-    let own : Carries (of_pid pid x.packets) (filter_map (sent_on pid) h.0.sections) = h.0.carried pid in
-    let rest : List (List (List ℕ)) = groups_by pid (past ++ x.airing ∷ []) xs h.1 in
+pub room_by : (pid : ℕ) (lt : pid < 8191) (past : List AiredTables) (xs : List Aired) (h : RepeatingCycles past xs) → HaveSectionBytes [] (groups_by pid lt past xs h)
+room_by pid lt past [] h = tt
+room_by pid lt past (x ∷ xs) h =
+    let own : Carries (of_pid pid x.packets) (filter_map (sent_on pid) h.0.sections) = h.0.carried pid lt in
+    let rest : List (List (List ℕ)) = groups_by pid lt (past ++ x.airing ∷ []) xs h.1 in
     HaveRoom-append [] own.groups rest own.have_room
-    (subst (λ (r : List ℕ). HaveSectionBytes r rest) (sym own.ended) (room_by pid (past ++ x.airing ∷ []) xs h.1))
+    (subst (λ (r : List ℕ). HaveSectionBytes r rest) (sym own.ended) (room_by pid lt (past ++ x.airing ∷ []) xs h.1))
 
-pub sections_by : (pid : ℕ) (past : List AiredTables) (xs : List Aired) (h : RepeatingCycles past xs)
-    → filter_map (sent_on pid) (sent_by past xs h) ≡ all_of (groups_by pid past xs h)
-sections_by pid past [] h = refl
-sections_by pid past (x ∷ xs) h =
-    let own : Carries (of_pid pid x.packets) (filter_map (sent_on pid) h.0.sections) = h.0.carried pid in
-    let rest : List (List (List ℕ)) = groups_by pid (past ++ x.airing ∷ []) xs h.1 in
+pub sections_by : (pid : ℕ) (lt : pid < 8191) (past : List AiredTables) (xs : List Aired) (h : RepeatingCycles past xs)
+    → filter_map (sent_on pid) (sent_by past xs h) ≡ all_of (groups_by pid lt past xs h)
+sections_by pid lt past [] h = refl
+sections_by pid lt past (x ∷ xs) h =
+    let own : Carries (of_pid pid x.packets) (filter_map (sent_on pid) h.0.sections) = h.0.carried pid lt in
+    let rest : List (List (List ℕ)) = groups_by pid lt (past ++ x.airing ∷ []) xs h.1 in
     filter_map-append (sent_on pid) h.0.sections (sent_by (past ++ x.airing ∷ []) xs h.1)
-    ∙ ap₂ (λ (ss ts : List (List ℕ)). ss ++ ts) own.sections (sections_by pid (past ++ x.airing ∷ []) xs h.1)
+    ∙ ap₂ (λ (ss ts : List (List ℕ)). ss ++ ts) own.sections (sections_by pid lt (past ++ x.airing ∷ []) xs h.1)
     ∙ sym (flat_map-append (λ (g : List (List ℕ)). g) own.groups rest)
 
-ended_by : (pid : ℕ) (past : List AiredTables) (xs : List Aired) (h : RepeatingCycles past xs) → left [] (groups_by pid past xs h) ≡ []
-ended_by pid past [] h = refl
-ended_by pid past (x ∷ xs) h =
-    let own : Carries (of_pid pid x.packets) (filter_map (sent_on pid) h.0.sections) = h.0.carried pid in
-    let rest : List (List (List ℕ)) = groups_by pid (past ++ x.airing ∷ []) xs h.1 in
-    left-append [] own.groups rest ∙ ap (λ (r : List ℕ). left r rest) own.ended ∙ ended_by pid (past ++ x.airing ∷ []) xs h.1
+ended_by : (pid : ℕ) (lt : pid < 8191) (past : List AiredTables) (xs : List Aired) (h : RepeatingCycles past xs) → left [] (groups_by pid lt past xs h) ≡ []
+ended_by pid lt past [] h = refl
+ended_by pid lt past (x ∷ xs) h =
+    let own : Carries (of_pid pid x.packets) (filter_map (sent_on pid) h.0.sections) = h.0.carried pid lt in
+    let rest : List (List (List ℕ)) = groups_by pid lt (past ++ x.airing ∷ []) xs h.1 in
+    left-append [] own.groups rest ∙ ap (λ (r : List ℕ). left r rest) own.ended ∙ ended_by pid lt (past ++ x.airing ∷ []) xs h.1
 
-abbrev carried_by : (pid : ℕ) (past : List AiredTables) (xs : List Aired) (h : RepeatingCycles past xs)
+abbrev carried_by : (pid : ℕ) → pid < 8191 → (past : List AiredTables) (xs : List Aired) (h : RepeatingCycles past xs)
     → Carries (of_pid pid (air xs)) (filter_map (sent_on pid) (sent_by past xs h))
-carried_by pid past xs h = record {
-  groups = groups_by pid past xs h;
-  are = pieces_by pid past xs h;
-  have_room = room_by pid past xs h;
-  sections = sections_by pid past xs h;
-  ended = ended_by pid past xs h;
+carried_by pid lt past xs h = record {
+  groups = groups_by pid lt past xs h;
+  are = pieces_by pid lt past xs h;
+  have_room = room_by pid lt past xs h;
+  sections = sections_by pid lt past xs h;
+  ended = ended_by pid lt past xs h;
 }
 
 pub repeating_carries : RepeatingAirCarries
-repeating_carries airings xs is pid = carried_by pid [] xs is.cycles
+repeating_carries airings xs is pid lt = carried_by pid lt [] xs is.cycles
 
 pub sent_each : (past : List AiredTables) (xs : List Aired) (h : RepeatingCycles past xs) → CanBeSent (airings_of xs)
     → AllByRecursion (λ (x : Sent). IsSection x.bytes) (sent_by past xs h)
@@ -138,8 +138,8 @@ repeating_is_heard airings xs is fit pid lt carries =
     (record { fields = is.fields; counted = (0, is.counted pid) })
 
 -- by the groups of the cycles
-pub joined_by : (airings : List AiredTables) (xs : List Aired) (is : IsRepeatingAirOf airings xs) → CanBeSent airings → (pid : ℕ) → pid < 8191
+pub joined_by : (airings : List AiredTables) (xs : List Aired) (is : IsRepeatingAirOf airings xs) → CanBeSent airings → (pid : ℕ) (lt : pid < 8191)
     → (join end : ℕ)
     → heard_between join end pid (air xs)
-    ≡ within (count_before pid (air xs) join) (count_before pid (air xs) end) (groups_by pid [] xs is.cycles)
-joined_by airings xs is fit pid lt join end = repeating_is_heard airings xs is fit pid lt (carried_by pid [] xs is.cycles) join end
+    ≡ within (count_before pid (air xs) join) (count_before pid (air xs) end) (groups_by pid lt [] xs is.cycles)
+joined_by airings xs is fit pid lt join end = repeating_is_heard airings xs is fit pid lt (carried_by pid lt [] xs is.cycles) join end

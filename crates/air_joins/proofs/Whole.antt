@@ -5,15 +5,16 @@ use Rattle.std.specs.Prelude.{filter_map}
 use Rattle.std.specs.List.{AllByRecursion, Contains}
 use Rattle.std.proofs.lemmas.List.Elements.{Contains-append_left, Contains-append_right}
 use Rattle.si_lists.proofs.Lists.{all_map}
+use Rattle.guide_model.specs.declared.offset.Offset.{Offset}
+use Rattle.time_tables.specs.Tot.{tot_section}
 use Rattle.version_book.specs.Airings.{AiredTables}
 use Rattle.ts_packets.specs.Packets.{Carries}
 use Rattle.ts_packets.specs.Counting.{of_pid}
 use Rattle.ts_demux.specs.Laws.{within}
-use Rattle.air_model.specs.Air.{Sent, Aired, sent_on, times, air, airings_of}
-use Rattle.air_model.specs.Repeating.{IsSentOf, AreSentOf, RepeatingCycles}
-use Rattle.air_model.proofs.Repeating.{of_element}
-use Rattle.air_joins.specs.Joining.{count_before, IsOfCycleIn}
-use Rattle.air_joins.specs.Laws.{HeardIsSent, CycleIsHeard}
+use Rattle.air_model.specs.Air.{Sent, Aired, tdt, tot, sent_on, air, airings_of, CanBeSent}
+use Rattle.air_model.specs.Repeating.{IsTimeFrom, AreSentOf, RepeatingCycles, IsRepeatingAirOf}
+use Rattle.air_joins.specs.Joining.{count_before, heard_between, IsOfCycleIn}
+use Rattle.air_joins.specs.Laws.{HeardIsSent, CycleIsHeard, CycleTellsTime, CycleTellsLocalTime}
 use Rattle.ts_demux.proofs.Parts.{within-append, within-all}
 use Rattle.air_joins.proofs.Joined.{groups_by, joined_by}
 use Rattle.air_joins.proofs.Cycles.{IsOfCycle, each_of_cycle, length_groups, count_both, contains-sent}
@@ -22,8 +23,8 @@ use Rattle.air_joins.proofs.Places.{before_up, count_at, count_behind, has_packe
 pub heard_is_sent : HeardIsSent
 heard_is_sent airings xs is fit pid lt join end =
     subst (AllByRecursion (IsOfCycleIn join end pid xs)) (sym (joined_by airings xs is fit pid lt join end))
-    (all_map (IsOfCycle pid low high [] xs) (IsOfCycleIn join end pid xs) one (within low high (groups_by pid [] xs is.cycles))
-    (each_of_cycle pid [] xs is.cycles low high))
+    (all_map (IsOfCycle pid low high [] xs) (IsOfCycleIn join end pid xs) one (within low high (groups_by pid lt [] xs is.cycles))
+    (each_of_cycle pid lt [] xs is.cycles low high))
   where
     low : ℕ
     low = count_before pid (air xs) join
@@ -83,16 +84,16 @@ first_high : (high n l z : ℕ) → n ≡ l → z ≡ 0 → z + l ≤ high → n
 first_high high n l z e f le = omega (arith, e, f, le)
 
 -- all of it is heard, behind and before others
-pub cycle_part : (pid : ℕ) (past : List AiredTables) (before : List Aired) (x : Aired) (after : List Aired)
+pub cycle_part : (pid : ℕ) (lt : pid < 8191) (past : List AiredTables) (before : List Aired) (x : Aired) (after : List Aired)
     (h : RepeatingCycles past (before ++ x ∷ after)) (low high : ℕ)
     → low ≤ length (of_pid pid (air before)) → length (of_pid pid (air before)) + length (of_pid pid x.packets) ≤ high
     → (front back : List (List ℕ))
-    × (within low high (groups_by pid past (before ++ x ∷ after) h)
+    × (within low high (groups_by pid lt past (before ++ x ∷ after) h)
     ≡ front ++ (filter_map (sent_on pid) (sections_at past before x after h) ++ back))
-cycle_part pid past [] x after h low high under over =
-    let own : Carries (of_pid pid x.packets) (filter_map (sent_on pid) h.0.sections) = h.0.carried pid in
+cycle_part pid lt past [] x after h low high under over =
+    let own : Carries (of_pid pid x.packets) (filter_map (sent_on pid) h.0.sections) = h.0.carried pid lt in
     let gs : List (List (List ℕ)) = own.groups in
-    let hs : List (List (List ℕ)) = groups_by pid (past ++ x.airing ∷ []) after h.1 in
+    let hs : List (List (List ℕ)) = groups_by pid lt (past ++ x.airing ∷ []) after h.1 in
     let size : length gs ≡ length (of_pid pid x.packets) =
     length_groups (of_pid pid x.packets) (filter_map (sent_on pid) h.0.sections) own in
     let back : List (List ℕ) = within (low - length gs) (high - length gs) hs in (
@@ -103,17 +104,17 @@ cycle_part pid past [] x after h low high under over =
           (within-all low high gs (no_more low 0 under refl)
           (first_high high (length gs) (length (of_pid pid x.packets)) 0 size refl over) own.ended ∙ sym own.sections),
     )
-cycle_part pid past (y ∷ before) x after h low high under over =
-    let own : Carries (of_pid pid y.packets) (filter_map (sent_on pid) h.0.sections) = h.0.carried pid in
+cycle_part pid lt past (y ∷ before) x after h low high under over =
+    let own : Carries (of_pid pid y.packets) (filter_map (sent_on pid) h.0.sections) = h.0.carried pid lt in
     let gs : List (List (List ℕ)) = own.groups in
-    let hs : List (List (List ℕ)) = groups_by pid (past ++ y.airing ∷ []) (before ++ x ∷ after) h.1 in
+    let hs : List (List (List ℕ)) = groups_by pid lt (past ++ y.airing ∷ []) (before ++ x ∷ after) h.1 in
     let size : length gs ≡ length (of_pid pid y.packets) =
     length_groups (of_pid pid y.packets) (filter_map (sent_on pid) h.0.sections) own in
     let a : ℕ = length (of_pid pid (air before)) in
     let b : ℕ = length (of_pid pid (y.packets ++ air before)) in
     let both : b ≡ length gs + a = count_both pid y.packets (air before) ∙ ap (λ (n : ℕ). n + a) (sym size) in
     let first : List (List ℕ) = within low high gs in
-    let r = cycle_part pid (past ++ y.airing ∷ []) before x after h.1 (low - length gs) (high - length gs)
+    let r = cycle_part pid lt (past ++ y.airing ∷ []) before x after h.1 (low - length gs) (high - length gs)
     (behind_low low (length gs) a b both under) (behind_high high (length gs) a b (length (of_pid pid x.packets)) both over) in
     let sections : List (List ℕ) = filter_map (sent_on pid) (sections_at (past ++ y.airing ∷ []) before x after h.1) in (
       first ++ r.0,
@@ -122,12 +123,11 @@ cycle_part pid past (y ∷ before) x after h low high under over =
           ∙ sym (append_assoc first r.0 (sections ++ r.1)),
     )
 
-pub among : (past : List AiredTables) (a : AiredTables) (ss : List Sent) (s : Sent) → AreSentOf past a ss → IsSentOf past a s → Contains ss s
-among past a ss s are (inl (t, p, has_t, has_p, e)) = subst (Contains ss) (sym e) (are.all t p has_t has_p)
-among past a ss s are (inr has) = of_element (Contains ss) (times a.form a.moment) s are.time has
-
-pub cycle_is_heard : CycleIsHeard
-cycle_is_heard airings before after x is fit join end low high s sent lt =
+-- what it sends is heard
+cycle_holds : (airings : List AiredTables) (before after : List Aired) (x : Aired) (is : IsRepeatingAirOf airings (before ++ x ∷ after)) → CanBeSent airings
+    → (join end : ℕ) → join ≤ length (air before) → length (air before) + length x.packets ≤ end → (s : Sent) → s.pid < 8191
+    → Contains (sections_at [] before x after is.cycles) s → Contains (heard_between join end s.pid (air (before ++ x ∷ after))) s.bytes
+cycle_holds airings before after x is fit join end low high s lt there =
     let xs : List Aired = before ++ x ∷ after in
     let under =
     subst (λ (n : ℕ). count_before s.pid (air xs) join ≤ n) (count_at s.pid before after x)
@@ -135,9 +135,38 @@ cycle_is_heard airings before after x is fit join end low high s sent lt =
     let over =
     subst (λ (n : ℕ). n ≤ count_before s.pid (air xs) end) (count_behind s.pid before after x)
     (before_up s.pid (air xs) (length (air before) + length x.packets) end high) in
-    let r = cycle_part s.pid [] before x after is.cycles (count_before s.pid (air xs) join) (count_before s.pid (air xs) end) under over in
+    let r = cycle_part s.pid lt [] before x after is.cycles (count_before s.pid (air xs) join) (count_before s.pid (air xs) end) under over in
     let ss : List Sent = sections_at [] before x after is.cycles in
-    let there : Contains ss s = among (airings_of before) x.airing ss s (are_at [] before x after is.cycles) sent in
     subst (λ (l : List (List ℕ)). Contains l s.bytes) (sym (joined_by airings xs is fit s.pid lt join end ∙ r.2))
     (Contains-append_right r.0 (filter_map (sent_on s.pid) ss ++ r.1) s.bytes
     (Contains-append_left (filter_map (sent_on s.pid) ss) r.1 s.bytes (contains-sent ss s there)))
+
+pub cycle_is_heard : CycleIsHeard
+cycle_is_heard airings before after x is fit join end low high s (t, p, has_t, has_p, e) lt =
+    cycle_holds airings before after x is fit join end low high s lt
+    (subst (Contains (sections_at [] before x after is.cycles)) (sym e) ((are_at [] before x after is.cycles).all t p has_t has_p))
+
+pub cycle_tells_time : CycleTellsTime
+cycle_tells_time airings before after x is fit join end low high =
+    let time = (are_at [] before x after is.cycles).time in
+    (time.0, time.1, cycle_holds airings before after x is fit join end low high (tdt time.0) (omega arith) time.2)
+
+-- the TOT of these offsets, where there are any
+pub tot_among : (at : ℕ) (offsets : List Offset) (ss : List Sent) (heard : List (List ℕ)) → ((s : Sent) → s.pid ≡ 0x0014 → Contains ss s → Contains heard s.bytes)
+    → AllByRecursion (Contains ss) (tot at offsets) → AllByRecursion (λ (s : Sent). Contains heard s.bytes) (tot at offsets)
+tot_among at [] ss heard each all = tt
+tot_among at (o ∷ offsets) ss heard each all = (each (record { pid = 0x0014; bytes = tot_section at (o ∷ offsets) }) refl all.0, tt)
+
+pub cycle_tells_local_time : CycleTellsLocalTime
+cycle_tells_local_time airings before after x is fit join end low high = (time.0, time.1, tot_among time.0 x.airing.form.offsets sent (heard_between join end 0x0014 (air (before ++ x ∷ after))) one time.2)
+  where
+    sent : List Sent
+    sent = sections_at [] before x after is.cycles
+
+    time : (at : ℕ) × IsTimeFrom x.airing at × AllByRecursion (Contains sent) (tot at x.airing.form.offsets)
+    time = (are_at [] before x after is.cycles).local_time
+
+    one : (s : Sent) → s.pid ≡ 0x0014 → Contains sent s → Contains (heard_between join end 0x0014 (air (before ++ x ∷ after))) s.bytes
+    one s pid has =
+        subst (λ (n : ℕ). Contains (heard_between join end n (air (before ++ x ∷ after))) s.bytes) pid
+        (cycle_holds airings before after x is fit join end low high s (let lt : s.pid < 8191 = omega (arith, pid) in lt) has)

@@ -1,6 +1,6 @@
 // Laws of joining an air, and of versions along it.
 ghost use Rattle.air_joins.specs.Laws.{AnotherVersionBetween, ChangesBetween, AirCarries, JoinedIsHeard, RepeatingAirCarries};
-ghost use Rattle.air_joins.specs.Laws.{RepeatingJoinedIsHeard, HeardIsSent, CycleIsHeard};
+ghost use Rattle.air_joins.specs.Laws.{RepeatingJoinedIsHeard, HeardIsSent, CycleIsHeard, CycleTellsTime, CycleTellsLocalTime};
 
 /// On each PID the packets of an air carry the sections of its cycles, cycle by cycle. A receiver that joins at any packet and loses
 /// none before another hears on each PID below 8,191, that of the null packets, just those of these sections whose first byte stands
@@ -17,12 +17,15 @@ pub fn joined_repeating_air_is_heard()
     ensures part { RepeatingJoinedIsHeard }
 {}
 
-/// Each section that such a receiver hears is one of an airing whose cycle has a packet among those heard: a section of one of its
-/// sub-tables, with the version that this has there, or its TDT. And where all packets of an airing's cycle are heard, each of its
-/// sections is.
+/// Each section that such a receiver hears is one of an airing whose cycle has a packet among those
+/// heard: a section of one of its sub-tables, with the version that this has there, or a TDT or TOT.
+/// And where all packets of an airing's cycle are heard, each section of its sub-tables is, a TDT of
+/// its moment or of a later one, and such a TOT where it has offsets.
 pub fn cycles_are_heard()
     ensures sound { HeardIsSent }
     ensures whole { CycleIsHeard }
+    ensures time { CycleTellsTime }
+    ensures local_time { CycleTellsLocalTime }
 {}
 
 /// Where two airings carry a key with different contents under one version_number, an airing between them carries the key with another
