@@ -63,7 +63,7 @@ module _ (airings : List AiredTables) (xs : List Aired) (is : IsRepeatingAirOf a
       → is_member is_key (carried_keys airings) k ≡ true
   carried_part false e some = absurd (some (none_counts k e (heard_all [] (map bytes_of_packet (slice_range (air xs) join end)))))
   carried_part true e some =
-      carried_told (part_heard airings xs is can k join end) (part_each airings xs is can k join end)
+      carried_told (part_heard airings xs is can k e join end) (part_each airings xs is can k e join end)
       (λ none. some (part_sections airings xs is can k e join end ∙ none))
 
 pub heard_keys_carried : HeardKeysAreCarried

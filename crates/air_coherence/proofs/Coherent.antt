@@ -116,21 +116,21 @@ module _ (airings : List AiredTables) (xs : List Aired) (is : IsRepeatingAirOf a
       subst (λ (ss : List Counted). AllByRecursion P (completions [] ss)) (sym (none_counts k other (heard_all [] packets))) tt
 
   -- what is heard of a part, each section with its cycle
-  abbrev pub part_heard : Key → ℕ → ℕ → List Told
-  part_heard k join end = told_by k [] [] xs is.cycles (count_before k.pid (air xs) join) (count_before k.pid (air xs) end)
+  abbrev pub part_heard : (k : Key) → is_counted k.pid k.table ≡ true → ℕ → ℕ → List Told
+  part_heard k counted join end = told_by k (counted_below k.pid k.table counted) [] [] xs is.cycles (count_before k.pid (air xs) join) (count_before k.pid (air xs) end)
 
-  pub part_sections : (k : Key) → is_counted k.pid k.table ≡ true → (join end : ℕ)
-      → of_key k (counted_heard (map bytes_of_packet (slice_range (air xs) join end))) ≡ map section_of (part_heard k join end)
+  pub part_sections : (k : Key) (counted : is_counted k.pid k.table ≡ true) (join end : ℕ)
+      → of_key k (counted_heard (map bytes_of_packet (slice_range (air xs) join end))) ≡ map section_of (part_heard k counted join end)
   part_sections k counted join end =
       heard_of_key k (map bytes_of_packet (slice_range (air xs) join end))
       ∙ ap (key_heard k) (joined_by airings xs is (sent_of airings can) k.pid (counted_below k.pid k.table counted) join end)
-      ∙ sym (sections_told k [] [] xs is.cycles (count_before k.pid (air xs) join) (count_before k.pid (air xs) end))
+      ∙ sym (sections_told k (counted_below k.pid k.table counted) [] [] xs is.cycles (count_before k.pid (air xs) join) (count_before k.pid (air xs) end))
 
-  pub part_each : (k : Key) (join end : ℕ) → AllByRecursion (IsToldOf k (count_before k.pid (air xs) join) (count_before k.pid (air xs) end) xs) (part_heard k join end)
-  part_each k join end =
+  pub part_each : (k : Key) (counted : is_counted k.pid k.table ≡ true) (join end : ℕ) → AllByRecursion (IsToldOf k (count_before k.pid (air xs) join) (count_before k.pid (air xs) end) xs) (part_heard k counted join end)
+  part_each k counted join end =
       let low : ℕ = count_before k.pid (air xs) join in
       let high : ℕ = count_before k.pid (air xs) end in
-      each_told k low high xs [] [] xs is.cycles cans refl refl low high (whole low) (whole high)
+      each_told k (counted_below k.pid k.table counted) low high xs [] [] xs is.cycles cans refl refl low high (whole low) (whole high)
     where
       whole : (n : ℕ) → n ≡ n - 0
       whole n = omega arith
@@ -142,8 +142,8 @@ module _ (airings : List AiredTables) (xs : List Aired) (is : IsRepeatingAirOf a
       let low : ℕ = count_before k.pid (air xs) join in
       let high : ℕ = count_before k.pid (air xs) end in
       subst (λ (ss : List Counted). AllByRecursion (IsAiredIn join end xs) (completions [] ss)) (sym (part_sections k e join end))
-      (each_completion k low high xs (IsAiredIn join end xs) (aired_in k join end) [] (part_heard k join end)
-      (part_each k join end) (steady_told k e [] [] xs is.cycles cans low high))
+      (each_completion k low high xs (IsAiredIn join end xs) (aired_in k join end) [] (part_heard k e join end)
+      (part_each k e join end) (steady_told k (counted_below k.pid k.table e) e [] [] xs is.cycles cans low high))
 
 -- ---- a front of an air
 

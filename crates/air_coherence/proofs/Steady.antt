@@ -1,5 +1,5 @@
 -- Sections of a key in the order in which they are heard: next to each other, those of one version are of one content.
-use Rattle.std.proofs.Common.{◌≡◌, ◌≢◌, ℕ, ◌+◌, ◌-◌, ◌%◌, ◌≤◌, ◌⊎◌, inl, inr, List, [], ◌∷◌, ◌++◌, Bool, true, false, ◌==◌, Option, Some, None, length, map, refl, sym, ap, ◌∙◌, subst, arith, append-nil, eqb-true}
+use Rattle.std.proofs.Common.{◌≡◌, ◌≢◌, ℕ, ◌+◌, ◌-◌, ◌%◌, ◌<◌, ◌≤◌, ◌⊎◌, inl, inr, List, [], ◌∷◌, ◌++◌, Bool, true, false, ◌==◌, Option, Some, None, length, map, refl, sym, ap, ◌∙◌, subst, arith, append-nil, eqb-true}
 use Rattle.std.specs.Prelude.{if◌then◌else◌, filter_map, option_to_list}
 use Rattle.std.specs.List.{AllByRecursion}
 use Rattle.si_lists.proofs.Lists.{all_map, all_two}
@@ -98,13 +98,13 @@ behind_cycle k (Some kept) c before x (s ∷ ss) rest is are h none = (
 
 -- ---- a cycle that is heard whole
 
-module _ (k : Key) (counted : is_counted k.pid k.table ≡ true) where
+module _ (k : Key) (lt : k.pid < 8191) (counted : is_counted k.pid k.table ≡ true) where
   -- it has a section of each key that it carries
   pub some_heard : (past : List AiredTables) (x : Aired) (xs : List Aired) (h : RepeatingCycles past (x ∷ xs)) → CanBeHeard x.airing → (c : Content) → content_at k x.airing ≡ Some c
-      → (low high : ℕ) → low ≡ 0 → length (h.0.carried k.pid).groups ≤ high → part_told k past x h.0 low high ≡ [] → Prim.⊥
+      → (low high : ℕ) → low ≡ 0 → length (h.0.carried k.pid lt).groups ≤ high → part_told k lt past x h.0 low high ≡ [] → Prim.⊥
   some_heard past x xs h can c is low high first whole none =
-      let own : Carries (of_pid k.pid x.packets) (filter_map (sent_on k.pid) h.0.sections) = h.0.carried k.pid in
-      let all : part_told k past x h.0 low high ≡ block k h.0.sections =
+      let own : Carries (of_pid k.pid x.packets) (filter_map (sent_on k.pid) h.0.sections) = h.0.carried k.pid lt in
+      let all : part_told k lt past x h.0 low high ≡ block k h.0.sections =
       ap (key_heard k) (within-all low high own.groups first whole own.ended ∙ sym own.sections) ∙ sent_of_key k h.0.sections in
       none_held c (numbered_of past x.airing can k c is).some
       (subst (HoldAll c) (sym all ∙ none) (block-complete past x.airing can k c is counted h.0.sections h.0.are))
@@ -139,62 +139,62 @@ module _ (k : Key) (counted : is_counted k.pid k.table ≡ true) where
 
   -- a part that begins with the first of these cycles
   from_first : (past : List AiredTables) (before xs : List Aired) (h : RepeatingCycles past xs) → AllByRecursion CanBeHeard (airings_of xs) → (low high : ℕ) → low ≡ 0
-      → Behind k (kept_after (carried k past)) (told_by k past before xs h low high)
+      → Behind k (kept_after (carried k past)) (told_by k lt past before xs h low high)
   from_first past before [] h can low high first = behind_none k (kept_after (carried k past))
   from_first past before (x ∷ xs) h can low high first =
       go (content_at k x.airing) refl (le_either high n)
       (from_first (past ++ x.airing ∷ []) (before ++ x ∷ []) xs h.1 can.1 (low - n) (high - n) (let none : low - n ≡ 0 = omega (arith, first) in none))
     where
       n : ℕ
-      n = length (h.0.carried k.pid).groups
+      n = length (h.0.carried k.pid lt).groups
 
       ss : List Counted
-      ss = part_told k past x h.0 low high
+      ss = part_told k lt past x h.0 low high
 
       rest : List Told
-      rest = told_by k (past ++ x.airing ∷ []) (before ++ x ∷ []) xs h.1 (low - n) (high - n)
+      rest = told_by k lt (past ++ x.airing ∷ []) (before ++ x ∷ []) xs h.1 (low - n) (high - n)
 
       few : (high n low : ℕ) → high ≤ n → high - n ≤ low - n
       few high n low le = omega (arith, le)
 
       empty : (c : Content) → content_at k x.airing ≡ Some c → (high ≤ n) ⊎ (n ≤ high) → ss ≡ [] → rest ≡ []
-      empty c is (inl le) none = none_told k (past ++ x.airing ∷ []) (before ++ x ∷ []) xs h.1 (low - n) (high - n) (few high n low le)
+      empty c is (inl le) none = none_told k lt (past ++ x.airing ∷ []) (before ++ x ∷ []) xs h.1 (low - n) (high - n) (few high n low le)
       empty c is (inr le) none = absurd (some_heard past x xs h can.0 c is low high first le none)
 
       go : (o : Option Content) → content_at k x.airing ≡ o → (high ≤ n) ⊎ (n ≤ high) → Behind k (kept_after (carried k (past ++ x.airing ∷ []))) rest
           → Behind k (kept_after (carried k past)) (told_each before x ss ++ rest)
       go None is place next =
-          subst (λ (l : List Counted). Behind k (kept_after (carried k past)) (told_each before x l ++ rest)) (sym (part_none k past x h.0 can.0 is low high))
+          subst (λ (l : List Counted). Behind k (kept_after (carried k past)) (told_each before x l ++ rest)) (sym (part_none k lt past x h.0 can.0 is low high))
           (subst (λ (o : Option GivenVersion). Behind k o rest) (kept-none past x.airing is) next)
       go (Some c) is place next =
-          behind_cycle k (kept_after (carried k past)) c before x ss rest is (versions_of past x c is ss (part_sound k past x h.0 can.0 c is low high))
+          behind_cycle k (kept_after (carried k past)) c before x ss rest is (versions_of past x c is ss (part_sound k lt past x h.0 can.0 c is low high))
           (next_of past x c is rest next) (empty c is place)
 
   -- any part
   pub steady_told : (past : List AiredTables) (before xs : List Aired) (h : RepeatingCycles past xs) → AllByRecursion CanBeHeard (airings_of xs) → (low high : ℕ)
-      → IsSteady k (told_by k past before xs h low high)
+      → IsSteady k (told_by k lt past before xs h low high)
   steady_told past before [] h can low high = tt
   steady_told past before (x ∷ xs) h can low high =
       go (content_at k x.airing) refl (le_either n low)
       (steady_told (past ++ x.airing ∷ []) (before ++ x ∷ []) xs h.1 can.1 (low - n) (high - n))
     where
       n : ℕ
-      n = length (h.0.carried k.pid).groups
+      n = length (h.0.carried k.pid lt).groups
 
       ss : List Counted
-      ss = part_told k past x h.0 low high
+      ss = part_told k lt past x h.0 low high
 
       rest : List Told
-      rest = told_by k (past ++ x.airing ∷ []) (before ++ x ∷ []) xs h.1 (low - n) (high - n)
+      rest = told_by k lt (past ++ x.airing ∷ []) (before ++ x ∷ []) xs h.1 (low - n) (high - n)
 
       go : (o : Option Content) → content_at k x.airing ≡ o → (n ≤ low) ⊎ (low ≤ n) → IsSteady k rest → IsSteady k (told_each before x ss ++ rest)
       go None is place next =
-          subst (λ (l : List Counted). IsSteady k (told_each before x l ++ rest)) (sym (part_none k past x h.0 can.0 is low high)) next
+          subst (λ (l : List Counted). IsSteady k (told_each before x l ++ rest)) (sym (part_none k lt past x h.0 can.0 is low high)) next
       go (Some c) is (inl le) next =
           subst (λ (l : List (List ℕ)). IsSteady k (told_each before x (key_heard k l) ++ rest))
-          (sym (within-none low high (h.0.carried k.pid).groups (inr le))) next
+          (sym (within-none low high (h.0.carried k.pid lt).groups (inr le))) next
       go (Some c) is (inr le) next =
-          steady_cycle k (next_version (kept_after (carried k past)) c) before x ss rest (versions_of past x c is ss (part_sound k past x h.0 can.0 c is low high))
+          steady_cycle k (next_version (kept_after (carried k past)) c) before x ss rest (versions_of past x c is ss (part_sound k lt past x h.0 can.0 c is low high))
           (next_of past x c is rest
           (from_first (past ++ x.airing ∷ []) (before ++ x ∷ []) xs h.1 can.1 (low - n) (high - n) (let none : low - n ≡ 0 = omega (arith, le) in none)))
 
