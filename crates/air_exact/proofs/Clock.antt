@@ -15,13 +15,13 @@ use Rattle.ts_demux.specs.declared.section.RawSection.{RawSection}
 use Rattle.ts_demux.specs.Sections.{heard_all, bytes_on}
 use Rattle.ts_demux.proofs.Adding.{order_kept}
 use Rattle.guide_receiver.specs.Latest.{last_of, moment_by, moment_in, clock_of}
-use Rattle.air_model.specs.Air.{Aired, tdt, tot, air}
+use Rattle.air_model.specs.Air.{Aired, tdt, air}
 use Rattle.air_model.specs.Repeating.{IsRepeatingAirOf}
 use Rattle.air_model.proofs.Repeating.{around, first_of}
 use Rattle.air_hearing.specs.Counting.{CanBeHeard}
 use Rattle.air_hearing.proofs.Told.{sent_of}
 use Rattle.air_joins.specs.Joining.{heard_between}
-use Rattle.air_joins.proofs.Whole.{cycle_is_heard}
+use Rattle.air_joins.proofs.Whole.{cycle_tells_time}
 
 -- of lists with an element there is a last one
 pub some_last : {X : Type 0} (xs : List X) → (xs ≡ [] → Prim.⊥) → (x : X) × (last_of xs ≡ Some x)
@@ -81,11 +81,10 @@ pub clock_heard : (airings : List AiredTables) (before : List Aired) (x : Aired)
 clock_heard airings before x after is can join end joined whole within =
     let xs : List Aired = before ++ x ∷ after in
     let packets : List (List ℕ) = map bytes_of_packet (slice_range (air xs) join end) in
-    let s = tdt x.airing.moment in
-    let has : Contains (heard_between join end 0x0014 (air xs)) s.bytes =
-    cycle_is_heard airings before after x is (sent_of airings can) join end joined whole s (inr (first_of s (tot x.airing.moment x.airing.form.offsets))) (omega arith) in
-    let parts = around (heard_between join end 0x0014 (air xs)) s.bytes has in
+    let time = cycle_tells_time airings before after x is (sent_of airings can) join end joined whole in
+    let s = tdt time.0 in
+    let parts = around (heard_between join end 0x0014 (air xs)) s.bytes time.2 in
     let found = on_own_pid 0x0014 s.bytes parts.0 parts.1 (heard_all [] packets) (order_kept packets 0x0014 ∙ parts.2) in
-    let told = told_moment found.1 x.airing.moment within found.4 found.5 in
+    let told = told_moment found.1 time.0 (time.1.written within) found.4 found.5 in
     some_last (filter_map moment_in (heard_all [] packets))
-    (λ none. some_moment found.0 found.2 found.1 x.airing.moment told (ap (filter_map moment_in) (sym found.3) ∙ none))
+    (λ none. some_moment found.0 found.2 found.1 time.0 told (ap (filter_map moment_in) (sym found.3) ∙ none))

@@ -27,6 +27,7 @@ use Rattle.air_coherence.proofs.Told.{section_of}
 use Rattle.air_coherence.proofs.Steady.{steady_told}
 use Rattle.air_coherence.proofs.Coherent.{part_heard, part_sections, part_each}
 use Rattle.air_exact.specs.Laws.{ContentsAreHeard}
+use Rattle.air_coherence.proofs.Counts.{counted_below}
 use Rattle.air_exact.proofs.Ends.{CarryWhileHeard, ends_whole, ends_completed}
 
 -- ---- a cycle among others
@@ -42,12 +43,12 @@ can_at (y ∷ before) x after can = can_at before x after can.1
 -- it has a packet: that of its time
 some_packet : (past : List AiredTables) (x : Aired) → IsRepeatingCycle past x → 0 < length x.packets
 some_packet past x h =
-    let own : Carries (of_pid 0x0014 x.packets) (filter_map (sent_on 0x0014) h.sections) = h.carried 0x0014 in
-    let has = contains-sent h.sections (tdt x.airing.moment) h.are.time.0 in
+    let own : Carries (of_pid 0x0014 x.packets) (filter_map (sent_on 0x0014) h.sections) = h.carried 0x0014 (omega arith) in
+    let has = contains-sent h.sections (tdt h.are.time.0) h.are.time.2 in
     go own.groups (length_groups (of_pid 0x0014 x.packets) (filter_map (sent_on 0x0014) h.sections) own)
-    (subst (λ (l : List (List ℕ)). Contains l (tdt x.airing.moment).bytes) own.sections has)
+    (subst (λ (l : List (List ℕ)). Contains l (tdt h.are.time.0).bytes) own.sections has)
   where
-    go : (gs : List (List (List ℕ))) → length gs ≡ length (of_pid 0x0014 x.packets) → Contains (all_of gs) (tdt x.airing.moment).bytes → 0 < length x.packets
+    go : (gs : List (List (List ℕ))) → length gs ≡ length (of_pid 0x0014 x.packets) → Contains (all_of gs) (tdt h.are.time.0).bytes → 0 < length x.packets
     go [] size has = absurd (let none : has.0 < 0 = has.1 in let z : Prim.⊥ = omega (arith, none) in z)
     go (g ∷ gs) size has = (let fewer = chosen-fewer (piece_on 0x0014) x.packets in omega (arith, size, fewer))
 
@@ -73,13 +74,13 @@ contents_heard airings before x after is can join end stays k counted c content 
     subst (λ (n : ℕ). low ≤ n) (count_at k.pid before after x) (before_up k.pid (air xs) join (length (air before)) stays.joined) in
     let over : length (of_pid k.pid (air before)) + length (of_pid k.pid x.packets) ≤ high =
     subst (λ (n : ℕ). n ≤ high) (count_behind k.pid before after x) (before_up k.pid (air xs) (length (air before) + length x.packets) end stays.whole) in
-    let ends = ends_whole k counted c [] [] before x after is.cycles all content low high under over carry in
-    let done = ends_completed k low high xs c (version_at k (airings_of before ++ x.airing ∷ [])) (part_heard airings xs is can k join end)
-    (numbered_of [] x.airing (can_at before x after all) k c content) (part_each airings xs is can k join end) (steady_told k counted [] [] xs is.cycles all low high) ends in
+    let ends = ends_whole k (counted_below k.pid k.table counted) counted c [] [] before x after is.cycles all content low high under over carry in
+    let done = ends_completed k low high xs c (version_at k (airings_of before ++ x.airing ∷ [])) (part_heard airings xs is can k counted join end)
+    (numbered_of [] x.airing (can_at before x after all) k c content) (part_each airings xs is can k counted join end) (steady_told k (counted_below k.pid k.table counted) counted [] [] xs is.cycles all low high) ends in
     ap (λ (ss : List Counted). option_map (λ (d : Completed). d.sections) (latest_done (completions [] ss))) (part_sections airings xs is can k counted join end)
-    ∙ last_content (map section_of (part_heard airings xs is can k join end)) c done
+    ∙ last_content (map section_of (part_heard airings xs is can k counted join end)) c done
   where
-    carry : CarryWhileHeard k counted c (count_before k.pid (air (before ++ x ∷ after)) end - (length (of_pid k.pid (air before)) + length (of_pid k.pid x.packets))) after
+    carry : CarryWhileHeard k (counted_below k.pid k.table counted) counted c (count_before k.pid (air (before ++ x ∷ after)) end - (length (of_pid k.pid (air before)) + length (of_pid k.pid x.packets))) after
     carry one two y e has lt =
         let xs : List Aired = before ++ x ∷ after in
         let front : List Aired = before ++ x ∷ one in

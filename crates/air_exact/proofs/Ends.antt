@@ -161,16 +161,16 @@ ends_completed k low high all c v ts numbered each steady ends = go ends.last en
 
 -- ---- a cycle that is heard whole, and those behind it
 
-module _ (k : Key) (counted : is_counted k.pid k.table ≡ true) (c : Content) where
+module _ (k : Key) (lt : k.pid < 8191) (counted : is_counted k.pid k.table ≡ true) (c : Content) where
   -- the sections of a cycle that is reached carry it
   abbrev pub CarryWhileHeard : ℕ → List Aired → Type 0
   CarryWhileHeard high xs =
       (one two : List Aired) (y : Aired) → xs ≡ one ++ y ∷ two → 0 < length (of_pid k.pid y.packets) → length (of_pid k.pid (air one)) < high → content_at k y.airing ≡ Some c
 
   carry_on : (high : ℕ) (x : Aired) (xs : List Aired) (n : ℕ) → n ≡ length (of_pid k.pid x.packets) → CarryWhileHeard high (x ∷ xs) → CarryWhileHeard (high - n) xs
-  carry_on high x xs n size carry one two y e some lt =
+  carry_on high x xs n size carry one two y e some before_high =
       let both = count_both k.pid x.packets (air one) in
-      carry (x ∷ one) two y (ap (λ (l : List Aired). x ∷ l) e) some (let near : length (of_pid k.pid (air (x ∷ one))) < high = omega (arith, both, size, lt) in near)
+      carry (x ∷ one) two y (ap (λ (l : List Aired). x ∷ l) e) some (let near : length (of_pid k.pid (air (x ∷ one))) < high = omega (arith, both, size, before_high) in near)
 
   late_each : (v : ℕ) (before : List Aired) (x : Aired) (ss : List Counted) → content_at k x.airing ≡ Some c → AllByRecursion (λ (s : Counted). s.version ≡ v) ss
       → AllByRecursion (IsLate k c v) (told_each before x ss)
@@ -181,28 +181,28 @@ module _ (k : Key) (counted : is_counted k.pid k.table ≡ true) (c : Content) w
   same_version : (past : List AiredTables) (a : AiredTables) (v : ℕ) → kept_after (carried k past) ≡ Some (record { version = v; content = c }) → content_at k a ≡ Some c
       → version_at k (past ++ a ∷ []) ≡ v
   same_version past a v kept is =
-      version-some k counted past a c is ∙ ap (λ (o : Option GivenVersion). next_version o c) kept
+      version-some k lt counted past a c is ∙ ap (λ (o : Option GivenVersion). next_version o c) kept
       ∙ ap (λ (b : Bool). if b then v else (v + 1) % 32) (is_content-itself c)
 
   still_kept : (past : List AiredTables) (a : AiredTables) (v : ℕ) → kept_after (carried k past) ≡ Some (record { version = v; content = c }) → content_at k a ≡ Some c
       → kept_after (carried k (past ++ a ∷ [])) ≡ Some (record { version = v; content = c })
   still_kept past a v kept is =
-      kept-some k counted past a c is
+      kept-some k lt counted past a c is
       ∙ ap (λ (n : ℕ). let g : GivenVersion = record { version = n; content = c } in Some g)
       (ap (λ (o : Option GivenVersion). next_version o c) kept ∙ ap (λ (b : Bool). if b then v else (v + 1) % 32) (is_content-itself c))
 
   -- what is heard of later cycles
   late_told : (v : ℕ) (past : List AiredTables) (before xs : List Aired) (h : RepeatingCycles past xs) → AllByRecursion CanBeHeard (airings_of xs) → (low high : ℕ) → low ≡ 0
-      → kept_after (carried k past) ≡ Some (record { version = v; content = c }) → CarryWhileHeard high xs → AllByRecursion (IsLate k c v) (told_by k past before xs h low high)
+      → kept_after (carried k past) ≡ Some (record { version = v; content = c }) → CarryWhileHeard high xs → AllByRecursion (IsLate k c v) (told_by k lt past before xs h low high)
   late_told v past before [] h can low high first kept carry = tt
   late_told v past before (x ∷ xs) h can low high first kept carry = go (lt_or 0 high) (lt_or 0 n)
       (λ is. late_told v (past ++ x.airing ∷ []) (before ++ x ∷ []) xs h.1 can.1 (low - n) (high - n) (let none : low - n ≡ 0 = omega (arith, first) in none)
       (still_kept past x.airing v kept is) (carry_on high x xs n size carry))
       (λ none. late_told v (past ++ x.airing ∷ []) (before ++ x ∷ []) xs h.1 can.1 (low - n) (high - n) (let z : low - n ≡ 0 = omega (arith, first) in z)
-      (kept-none k counted past x.airing none ∙ kept) (carry_on high x xs n size carry))
+      (kept-none k lt counted past x.airing none ∙ kept) (carry_on high x xs n size carry))
     where
       own : Carries (of_pid k.pid x.packets) (filter_map (sent_on k.pid) h.0.sections)
-      own = h.0.carried k.pid
+      own = h.0.carried k.pid lt
 
       n : ℕ
       n = length own.groups
@@ -211,30 +211,30 @@ module _ (k : Key) (counted : is_counted k.pid k.table ≡ true) (c : Content) w
       size = length_groups (of_pid k.pid x.packets) (filter_map (sent_on k.pid) h.0.sections) own
 
       rest : List Told
-      rest = told_by k (past ++ x.airing ∷ []) (before ++ x ∷ []) xs h.1 (low - n) (high - n)
+      rest = told_by k lt (past ++ x.airing ∷ []) (before ++ x ∷ []) xs h.1 (low - n) (high - n)
 
       -- of a cycle without packets of the PID nothing is heard
-      silent : n ≤ 0 → part_told k past x h.0 low high ≡ []
+      silent : n ≤ 0 → part_told k lt past x h.0 low high ≡ []
       silent few = ap (key_heard k) (within-none low high own.groups (inr (let le : n ≤ low = omega (arith, few) in le)))
 
       none_carried : n ≤ 0 → (o : Option Content) → content_at k x.airing ≡ o → content_at k x.airing ≡ None
       none_carried few None e = e
-      none_carried few (Some d) e = absurd (some_heard k counted past x xs h can.0 d e low high first (let le : n ≤ high = omega (arith, few) in le) (silent few))
+      none_carried few (Some d) e = absurd (some_heard k lt counted past x xs h can.0 d e low high first (let le : n ≤ high = omega (arith, few) in le) (silent few))
 
       go : (0 < high) ⊎ (high ≤ 0) → (0 < n) ⊎ (n ≤ 0) → (content_at k x.airing ≡ Some c → AllByRecursion (IsLate k c v) rest)
           → (content_at k x.airing ≡ None → AllByRecursion (IsLate k c v) rest)
-          → AllByRecursion (IsLate k c v) (told_each before x (part_told k past x h.0 low high) ++ rest)
+          → AllByRecursion (IsLate k c v) (told_each before x (part_told k lt past x h.0 low high) ++ rest)
       go (inr none) has more less =
-          subst (AllByRecursion (IsLate k c v)) (sym (none_told k past before (x ∷ xs) h low high (let le : high ≤ low = omega (arith, none) in le))) tt
+          subst (AllByRecursion (IsLate k c v)) (sym (none_told k lt past before (x ∷ xs) h low high (let le : high ≤ low = omega (arith, none) in le))) tt
       go (inl some) (inr few) more less =
           subst (λ (l : List Counted). AllByRecursion (IsLate k c v) (told_each before x l ++ rest)) (sym (silent few)) (less (none_carried few (content_at k x.airing) refl))
       go (inl some) (inl has) more less =
           let is : content_at k x.airing ≡ Some c = carry [] xs x refl (let any : 0 < length (of_pid k.pid x.packets) = omega (arith, has, size) in any) some in
           let version = same_version past x.airing v kept is in
-          all_append (IsLate k c v) (told_each before x (part_told k past x h.0 low high)) rest
-          (late_each v before x (part_told k past x h.0 low high) is
+          all_append (IsLate k c v) (told_each before x (part_told k lt past x h.0 low high)) rest
+          (late_each v before x (part_told k lt past x h.0 low high) is
           (all_map (IsWith k (version_at k (past ++ x.airing ∷ [])) c) (λ (s : Counted). s.version ≡ v) (λ s w. w.1 ∙ version)
-          (part_told k past x h.0 low high) (part_sound k past x h.0 can.0 c is low high)))
+          (part_told k lt past x h.0 low high) (part_sound k lt past x h.0 can.0 c is low high)))
           (more is)
 
   -- what is heard of a cycle that is heard whole, behind others and before others
@@ -242,25 +242,25 @@ module _ (k : Key) (counted : is_counted k.pid k.table ≡ true) (c : Content) w
       → AllByRecursion CanBeHeard (airings_of (before ++ x ∷ after)) → content_at k x.airing ≡ Some c → (low high : ℕ) → low ≤ length (of_pid k.pid (air before))
       → length (of_pid k.pid (air before)) + length (of_pid k.pid x.packets) ≤ high
       → CarryWhileHeard (high - (length (of_pid k.pid (air before)) + length (of_pid k.pid x.packets))) after
-      → EndsWhole k c (version_at k ((past ++ airings_of before) ++ x.airing ∷ [])) (told_by k past done (before ++ x ∷ after) h low high)
+      → EndsWhole k c (version_at k ((past ++ airings_of before) ++ x.airing ∷ [])) (told_by k lt past done (before ++ x ∷ after) h low high)
   ends_whole past done [] x after h can is low high under over carry =
-      let own : Carries (of_pid k.pid x.packets) (filter_map (sent_on k.pid) h.0.sections) = h.0.carried k.pid in
+      let own : Carries (of_pid k.pid x.packets) (filter_map (sent_on k.pid) h.0.sections) = h.0.carried k.pid lt in
       let n : ℕ = length own.groups in
       let size : n ≡ length (of_pid k.pid x.packets) = length_groups (of_pid k.pid x.packets) (filter_map (sent_on k.pid) h.0.sections) own in
       let v : ℕ = version_at k (past ++ x.airing ∷ []) in
       let first : low ≡ 0 = omega (arith, under) in
       let enough : n ≤ high = omega (arith, size, over) in
-      let rest : List Told = told_by k (past ++ x.airing ∷ []) (done ++ x ∷ []) after h.1 (low - n) (high - n) in
-      let here : List Counted = part_told k past x h.0 low high in
+      let rest : List Told = told_by k lt (past ++ x.airing ∷ []) (done ++ x ∷ []) after h.1 (low - n) (high - n) in
+      let here : List Counted = part_told k lt past x h.0 low high in
       let all : here ≡ block k h.0.sections =
       ap (key_heard k) (within-all low high own.groups first enough own.ended ∙ sym own.sections) ∙ sent_of_key k h.0.sections in
       let kept : kept_after (carried k (past ++ x.airing ∷ [])) ≡ Some (record { version = v; content = c }) =
-      kept-some k counted past x.airing c is ∙ ap (λ (m : ℕ). let g : GivenVersion = record { version = m; content = c } in Some g) (sym (version-some k counted past x.airing c is)) in
+      kept-some k lt counted past x.airing c is ∙ ap (λ (m : ℕ). let g : GivenVersion = record { version = m; content = c } in Some g) (sym (version-some k lt counted past x.airing c is)) in
       let left : high - n ≡ high - (length (of_pid k.pid (air [])) + length (of_pid k.pid x.packets)) = omega (arith, size) in
       let later = late_told v (past ++ x.airing ∷ []) (done ++ x ∷ []) after h.1 can.1 (low - n) (high - n) (let none : low - n ≡ 0 = omega (arith, first) in none) kept
       (subst (λ (m : ℕ). CarryWhileHeard m after) (sym left) carry) in
       let own_late = late_each v done x here is
-      (all_map (IsWith k v c) (λ (s : Counted). s.version ≡ v) (λ s w. w.1) here (part_sound k past x h.0 can.0 c is low high)) in
+      (all_map (IsWith k v c) (λ (s : Counted). s.version ≡ v) (λ s w. w.1) here (part_sound k lt past x h.0 can.0 c is low high)) in
       let sections : map section_of (told_each done x here ++ rest) ≡ here ++ map section_of rest =
       map-append section_of (told_each done x here) rest ∙ ap (λ (l : List Counted). l ++ map section_of rest) (sections_each done x here) in
       let holds : HoldAll c (here ++ map section_of rest) =
@@ -274,7 +274,7 @@ module _ (k : Key) (counted : is_counted k.pid k.table ≡ true) (c : Content) w
         same = all_append (IsLate k c v) (told_each done x here) rest own_late later;
       })
   ends_whole past done (y ∷ before) x after h can is low high under over carry =
-      let own : Carries (of_pid k.pid y.packets) (filter_map (sent_on k.pid) h.0.sections) = h.0.carried k.pid in
+      let own : Carries (of_pid k.pid y.packets) (filter_map (sent_on k.pid) h.0.sections) = h.0.carried k.pid lt in
       let n : ℕ = length own.groups in
       let size : n ≡ length (of_pid k.pid y.packets) = length_groups (of_pid k.pid y.packets) (filter_map (sent_on k.pid) h.0.sections) own in
       let both : length (of_pid k.pid (air (y ∷ before))) ≡ length (of_pid k.pid y.packets) + length (of_pid k.pid (air before)) = count_both k.pid y.packets (air before) in
@@ -284,7 +284,7 @@ module _ (k : Key) (counted : is_counted k.pid k.table ≡ true) (c : Content) w
       let r = ends_whole (past ++ y.airing ∷ []) (done ++ y ∷ []) before x after h.1 can.1 is (low - n) (high - n)
       (let le : low - n ≤ a = omega (arith, size, both, under) in le) (let le : a + b ≤ high - n = omega (arith, size, both, over) in le)
       (subst (λ (m : ℕ). CarryWhileHeard m after) (sym left) carry) in
-      subst (λ (l : List AiredTables). EndsWhole k c (version_at k (l ++ x.airing ∷ [])) (told_by k past done (y ∷ (before ++ x ∷ after)) h low high))
+      subst (λ (l : List AiredTables). EndsWhole k c (version_at k (l ++ x.airing ∷ [])) (told_by k lt past done (y ∷ (before ++ x ∷ after)) h low high))
       (append_assoc past (y.airing ∷ []) (airings_of before))
-      (with_front k c (version_at k (((past ++ y.airing ∷ []) ++ airings_of before) ++ x.airing ∷ [])) (told_each done y (part_told k past y h.0 low high))
-      (told_by k (past ++ y.airing ∷ []) (done ++ y ∷ []) (before ++ x ∷ after) h.1 (low - n) (high - n)) r)
+      (with_front k c (version_at k (((past ++ y.airing ∷ []) ++ airings_of before) ++ x.airing ∷ [])) (told_each done y (part_told k lt past y h.0 low high))
+      (told_by k lt (past ++ y.airing ∷ []) (done ++ y ∷ []) (before ++ x ∷ after) h.1 (low - n) (high - n)) r)

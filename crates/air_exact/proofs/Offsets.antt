@@ -4,7 +4,7 @@ use Rattle.std.specs.Prelude.{if◌then◌else◌, filter_map, slice_range, unwr
 use Rattle.std.specs.Option.{option_map, option_or}
 use Rattle.std.specs.List.{AllByRecursion, Contains, cons_option}
 use Rattle.std.proofs.lemmas.List.{take_at, drop_at}
-use Rattle.std.proofs.lemmas.List.Elements.{All-contains, Contains-append_right}
+use Rattle.std.proofs.lemmas.List.Elements.{All-contains}
 use Rattle.si_lists.proofs.Lists.{all_map}
 use Rattle.si_base.specs.Fields.{two}
 use Rattle.si_time.specs.Moments.{moment_bcd}
@@ -30,12 +30,12 @@ use Rattle.ts_demux.proofs.Adding.{order_kept}
 use Rattle.guide_receiver.specs.Latest.{last_of, offsets_by, offsets_in, offsets_heard}
 use Rattle.air_model.specs.Air.{Sent, Aired, tdt, tot, times, air, airings_of, CanBeTold}
 use Rattle.air_model.specs.Repeating.{IsRepeatingAirOf, IsSentOf}
-use Rattle.air_model.proofs.Repeating.{of_element, first_of}
+use Rattle.air_model.proofs.Repeating.{of_element}
 use Rattle.air_hearing.specs.Counting.{CanBeHeard}
 use Rattle.air_hearing.proofs.Blocks.{CanCount, can_count, version_at-lt}
 use Rattle.air_hearing.proofs.Told.{sent_of}
 use Rattle.air_joins.specs.Joining.{heard_between, IsOfCycleIn}
-use Rattle.air_joins.proofs.Whole.{heard_is_sent, cycle_is_heard}
+use Rattle.air_joins.proofs.Whole.{heard_is_sent, cycle_tells_local_time}
 use Rattle.air_exact.specs.Exact.{TellOffsetsOf}
 use Rattle.air_exact.proofs.Contents.{can_at}
 
@@ -83,7 +83,7 @@ times_told form moment can = (inl (ap offsets_by (tdt-is_a_section_any moment)),
 
 -- of an airing
 pub sent_told : (past : List AiredTables) (a : AiredTables) → CanBeHeard a → (s : Sent) → IsSentOf past a s → IsTold a.form.offsets s.bytes
-sent_told past a can s (inr has) = of_element (λ (x : Sent). IsTold a.form.offsets x.bytes) (times a.form a.moment) s (times_told a.form a.moment can.offsets) has
+sent_told past a can s (inr (at, later, has)) = of_element (λ (x : Sent). IsTold a.form.offsets x.bytes) (times a.form at) s (times_told a.form at can.offsets) has
 sent_told past a can s (inl (t, p, has_t, has_p, e)) =
     let fit : IsFit t = All-contains IsFit a.tables t can.fit has_t in
     let read = of_element _ a.tables t can.readable has_t in
@@ -180,11 +180,12 @@ pub offsets_are_heard : (airings : List AiredTables) (before : List Aired) (x : 
     → (join end : ℕ) → join ≤ length (air before) → length (air before) + length x.packets ≤ end → x.airing.moment < 65536 * 86400 → TellOffsetsOf x.airing airings
     → offsets_heard (heard_all [] (map bytes_of_packet (slice_range (air (before ++ x ∷ after)) join end))) ≡ x.airing.form.offsets
 offsets_are_heard airings before x after is can join end joined whole within same =
-    told_last x.airing.form.offsets (map bytes_of_packet (slice_range (air xs) join end)) x.airing.moment within
+    let time = cycle_tells_local_time airings before after x is (sent_of airings can) join end joined whole in
+    told_last x.airing.form.offsets (map bytes_of_packet (slice_range (air xs) join end)) time.0 (time.1.written within)
     (can_at before x after (subst (AllByRecursion CanBeHeard) (sym is.airings_are) can)).offsets
     (all_map (IsOfCycleIn join end 0x0014 xs) (IsTold x.airing.form.offsets) one (heard_between join end 0x0014 (air xs))
     (heard_is_sent airings xs is (sent_of airings can) 0x0014 (omega arith) join end))
-    (each_heard x.airing.form.offsets (λ s has. has))
+    time.2
   where
     xs : List Aired
     xs = before ++ x ∷ after
@@ -193,15 +194,3 @@ offsets_are_heard airings before x after is can join end joined whole within sam
     one bytes of_cycle =
         subst (IsTold x.airing.form.offsets) of_cycle.has_bytes
         (cycle_told x.airing airings xs is can same of_cycle.before of_cycle.cycle of_cycle.after of_cycle.cut of_cycle.section of_cycle.sent)
-
-    -- the TOT of the whole cycle is heard
-    each_heard : (os : List Offset) → ((s : Sent) → Contains (tot x.airing.moment os) s → Contains (tot x.airing.moment x.airing.form.offsets) s)
-        → AllByRecursion (λ (s : Sent). Contains (heard_between join end 0x0014 (air xs)) s.bytes) (tot x.airing.moment os)
-    each_heard [] among = tt
-    each_heard (o ∷ os) among =
-        let s : Sent = record { pid = 0x0014; bytes = tot_section x.airing.moment (o ∷ os) } in
-        let own : Contains (tot x.airing.moment x.airing.form.offsets) s = among s (first_of s []) in (
-          cycle_is_heard airings before after x is (sent_of airings can) join end joined whole s
-              (inr (Contains-append_right (tdt x.airing.moment ∷ []) (tot x.airing.moment x.airing.form.offsets) s own)) (omega arith),
-          tt,
-        )
