@@ -17,45 +17,44 @@ use Rattle.version_book.specs.Book.{BookStandsFor, aired}
 use Rattle.ts_packets.specs.Bytes.{Packet, HasFields, bytes_of_packet}
 use Rattle.ts_packets.specs.Counting.{StandFor}
 use Rattle.guide_model.specs.declared.offset.Offset.{Offset}
-use Rattle.air_model.specs.Air.{Sent, Aired, air, airings_of, air_bytes, IsAirOf, sent_section, sections_of, table_sections, tot, times, leads, before_tdt, behind_tdt, sections_once, weights_once, cycle_sections}
+use Rattle.air_model.specs.Air.{Sent, Aired, HasNoNull, air, airings_of, air_bytes, IsAirOf, sent_section, sections_of, table_sections, tot, times, leads, before_tdt, behind_tdt, sections_once, weights_once, cycle_sections}
 use Rattle.air_model.proofs.Planned.{all_at}
 use Rattle.cycle_plan.specs.Cycle.{cycle_of}
 use Rattle.cycle_plan.specs.Sections.{planned}
 use Rattle.air_model.specs.Making.{each_dense, counted}
-use Rattle.air_model.proofs.Counted.{PidsFit, counted-append, length-counted}
-use Rattle.air_model.proofs.Dense.{pids_fit}
-use Rattle.air_model.proofs.Airs.{air-push, air_bytes-push, airings_of-push, air_more-dense}
+use Rattle.air_model.proofs.Counted.{counted-append, length-counted}
+use Rattle.air_model.proofs.Airs.{air-push, air_bytes-push, airings_of-push, no_null-dense, air_more-dense}
 use Rattle.section_codec.specs.SubTables.{IsFit}
 use Rattle.carousel_player.specs.Sending.{Sends}
 use Rattle.carousel_player.specs.Playing.{Playing, AtEnd, Within, Begins, GaveUp}
 
 -- ---- a cycle begins
 
-pids_of : (v : ℕ) (t : SubTable) (ss : Content) (more : List Sent) → t.key.pid < 8192 → AllByRecursion (λ (s : Sent). s.pid < 8192) more → AllByRecursion (λ (s : Sent). s.pid < 8192) (map (sent_section v t) ss ++ more)
+pids_of : (v : ℕ) (t : SubTable) (ss : Content) (more : List Sent) → t.key.pid < 8191 → AllByRecursion (λ (s : Sent). s.pid < 8191) more → AllByRecursion (λ (s : Sent). s.pid < 8191) (map (sent_section v t) ss ++ more)
 pids_of v t [] more lt h = h
 pids_of v t (s ∷ ss) more lt h = (lt, pids_of v t ss more lt h)
 
-pids_sent : (f : SubTable → ℕ) (ts : List SubTable) → AllByRecursion IsFit ts → AllByRecursion (λ (s : Sent). s.pid < 8192) (flat_map (λ (t : SubTable). sections_of (f t) t) ts)
+pids_sent : (f : SubTable → ℕ) (ts : List SubTable) → AllByRecursion IsFit ts → AllByRecursion (λ (s : Sent). s.pid < 8191) (flat_map (λ (t : SubTable). sections_of (f t) t) ts)
 pids_sent f [] fit = tt
 pids_sent f (t ∷ ts) fit = pids_of (f t) t t.sections (flat_map (λ (u : SubTable). sections_of (f u) u) ts) (let lt : t.key.pid < 8191 = fit.0.pid in omega (arith, lt)) (pids_sent f ts fit.1)
 
-pids_times : (form : CycleForm) (moment : ℕ) → AllByRecursion (λ (s : Sent). s.pid < 8192) (times form moment)
+pids_times : (form : CycleForm) (moment : ℕ) → AllByRecursion (λ (s : Sent). s.pid < 8191) (times form moment)
 pids_times form moment = (omega arith, go form.offsets)
   where
-    go : (offsets : List Offset) → AllByRecursion (λ (s : Sent). s.pid < 8192) (tot moment offsets)
+    go : (offsets : List Offset) → AllByRecursion (λ (s : Sent). s.pid < 8191) (tot moment offsets)
     go [] = tt
     go (o ∷ offsets) = (omega arith, tt)
 
-pids_cycle : (past : List AiredTables) (a : AiredTables) → All IsFit a.tables → AllByRecursion (λ (s : Sent). s.pid < 8192) (cycle_sections past a)
+pids_cycle : (past : List AiredTables) (a : AiredTables) → All IsFit a.tables → AllByRecursion (λ (s : Sent). s.pid < 8191) (cycle_sections past a)
 pids_cycle past a fit =
     let n = prefix_len leads a.tables in
     let version : SubTable → ℕ = λ t. version_at t.key (past ++ a ∷ []) in
-    let once : AllByRecursion (λ (s : Sent). s.pid < 8192) (sections_once past a) =
-    all_append (λ (s : Sent). s.pid < 8192) (table_sections (past ++ a ∷ []) (before_tdt a.tables)) (times a.form a.moment ++ table_sections (past ++ a ∷ []) (behind_tdt a.tables))
+    let once : AllByRecursion (λ (s : Sent). s.pid < 8191) (sections_once past a) =
+    all_append (λ (s : Sent). s.pid < 8191) (table_sections (past ++ a ∷ []) (before_tdt a.tables)) (times a.form a.moment ++ table_sections (past ++ a ∷ []) (behind_tdt a.tables))
     (pids_sent version (before_tdt a.tables) (recursion_from_All IsFit (before_tdt a.tables) (All-take IsFit n a.tables fit)))
-    (all_append (λ (s : Sent). s.pid < 8192) (times a.form a.moment) (table_sections (past ++ a ∷ []) (behind_tdt a.tables)) (pids_times a.form a.moment)
+    (all_append (λ (s : Sent). s.pid < 8191) (times a.form a.moment) (table_sections (past ++ a ∷ []) (behind_tdt a.tables)) (pids_times a.form a.moment)
     (pids_sent version (behind_tdt a.tables) (recursion_from_All IsFit (behind_tdt a.tables) (All-drop IsFit n a.tables fit)))) in
-    all_at (λ (s : Sent). s.pid < 8192) (sections_once past a) (cycle_of (planned (weights_once past a) a.form.quota)) once
+    all_at (λ (s : Sent). s.pid < 8191) (sections_once past a) (cycle_of (planned (weights_once past a) a.form.quota)) once
 
 pub begins : (xs : List Aired) (ts : List SubTable) (moment : ℕ) (form : CycleForm) (old new : Playing) → AtEnd xs old → All IsFit ts → new.counters ≡ old.counters
     → BookStandsFor (airings_of xs ++ aired ts moment form ∷ []) new.book → new.left ≡ each_dense (cycle_sections (airings_of xs) (aired ts moment form)) → Begins xs (aired ts moment form) new
@@ -63,13 +62,14 @@ begins xs ts moment form old new end fit same stands left =
     let a = aired ts moment form in
     let units = each_dense (cycle_sections (airings_of xs) a) in
     let x : Aired = record { airing = a; packets = counted (air xs) units } in
-    let pids : PidsFit units = pids_fit (cycle_sections (airings_of xs) a) (pids_cycle (airings_of xs) a fit) in
+    let pids = pids_cycle (airings_of xs) a fit in
     let longer = airings_of-push xs x in (
       x,
       refl,
       refl,
       record {
         is_air = subst (λ (l : List AiredTables). IsAirOf l (xs ++ x ∷ [])) (sym longer) (air_more-dense (airings_of xs) xs a end.is_air pids);
+        no_null = subst HasNoNull (sym (air-push xs x)) (all_append (λ (p : Packet). p.pid < 8191) (air xs) x.packets end.no_null (no_null-dense (airings_of xs) (air xs) a pids));
         handed = [];
         parts = refl;
         sent = record {
@@ -107,6 +107,7 @@ hands_out xs x rest old new bytes w s same =
       bytes_are = s.bytes_are past fields w.sent.counters;
       within = record {
         is_air = w.is_air;
+        no_null = w.no_null;
         handed = w.handed ++ front;
         parts = w.parts ∙ ap (λ (l : List Packet). w.handed ++ l) cut ∙ sym (append_assoc w.handed front left);
         sent = record {
@@ -140,6 +141,7 @@ next_came xs x p rest old new bytes w s fewer same =
 pub Within-end : (xs : List Aired) (x : Aired) (p : Playing) → Within xs x [] p → AtEnd (xs ++ x ∷ []) p
 Within-end xs x p w = record {
   is_air = w.is_air;
+  no_null = w.no_null;
   sent = record {
     versions = w.sent.versions;
     counters = subst (λ (l : List Packet). StandFor (map bytes_of_packet l) p.counters)

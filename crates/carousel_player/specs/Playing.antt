@@ -7,7 +7,7 @@ use Rattle.ts_packets.specs.Bytes.{Packet, bytes_of_packet}
 use Rattle.ts_packets.specs.Counting.{StandFor}
 use Rattle.ts_packets.specs.PidCounters.{AreCountersOf}
 use Rattle.ts_packets.specs.declared.pid_counter.PidCounter.{PidCounter}
-use Rattle.air_model.specs.Air.{Aired, air, airings_of, IsAirOf}
+use Rattle.air_model.specs.Air.{Aired, HasNoNull, air, airings_of, IsAirOf}
 use Rattle.air_model.specs.Making.{counted, cycle_dense}
 use Rattle.si_causes.specs.Causes.{AppendsFront}
 
@@ -24,22 +24,25 @@ pub record HasSent (xs : List Aired) (sent : List Packet) (player : Playing) : T
   pub versions : BookStandsFor (airings_of xs) player.book
   pub counters : StandFor (map bytes_of_packet sent) player.counters
 
--- It has handed out just this air, one whole cycle for each airing, and nothing is left.
+-- It has handed out just this air, one whole cycle for each airing and no null packet, and nothing is left.
 pub record AtEnd (xs : List Aired) (player : Playing) : Type 0 where
   pub is_air : IsAirOf (airings_of xs) xs
+  pub no_null : HasNoNull (air xs)
   pub sent : HasSent xs (air xs) player
   pub none : player.left ≡ []
 
 -- These are what a player that has handed out the air of xs keeps: of each key the version and the content that it was
--- last given, and of each PID that had a packet its counter.
+-- last given, and of each PID that had a packet its counter. No packet was a null packet.
 pub record AreKeptOf (xs : List Aired) (keys : List KeyVersion) (pids : List PidCounter) : Type 0 where
   pub is_air : IsAirOf (airings_of xs) xs
+  pub no_null : HasNoNull (air xs)
   pub versions : BookStandsFor (airings_of xs) (given_entries keys)
   pub counters : AreCountersOf (map bytes_of_packet (air xs)) pids
 
--- It has handed out the air of xs, and of the cycle of x, which goes on with that air, all but these packets.
+-- It has handed out the air of xs, and of the cycle of x, which goes on with that air, all but these packets. None is a null packet.
 pub record Within (xs : List Aired) (x : Aired) (rest : List Packet) (player : Playing) : Type 0 where
   pub is_air : IsAirOf (airings_of (xs ++ x ∷ [])) (xs ++ x ∷ [])
+  pub no_null : HasNoNull (air (xs ++ x ∷ []))
   pub handed : List Packet
   pub parts : x.packets ≡ handed ++ rest
   pub sent : HasSent (xs ++ x ∷ []) (air xs ++ handed) player

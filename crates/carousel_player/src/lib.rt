@@ -5,9 +5,9 @@
 //! `play_cycle` writes the rest of it to a sink. A cycle has the sections of the airing and, after
 //! the SDT, the TDT of the swap's moment and, where the player has offsets of local time, the TOT
 //! of that moment, in the order of `cycle_plan`. Sections of one PID that follow each other share
-//! packets, and none is shared beyond the end of a cycle. At the end of a cycle all packets handed
-//! out are an air of all airings so far (`begun`, `came`, `done`, `failed`). Fast and Near sections
-//! repeat within their bounds, also into a next cycle of the same sub-tables, where no Near or Far
+//! packets, and none is shared beyond the end of a cycle. It sends no null packet. At the end of a
+//! cycle all packets handed out are an air of all airings so far (`begun`, `came`, `done`,
+//! `failed`). Fast and Near sections repeat within their bounds, also into a next cycle of the same sub-tables, where no Near or Far
 //! section has the PID of the first (`made_airs_are_spaced`). At the end of a cycle `kept` gives
 //! the versions, contents and counters that the player keeps. `Player::resume` makes a player that
 //! goes on from them.

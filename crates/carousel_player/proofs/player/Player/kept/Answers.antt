@@ -10,6 +10,7 @@ returns-clause-are c xs end =
     let here = subst (AtEnd xs) (sym c.self.view_is) end in
     record {
       is_air = end.is_air;
+      no_null = end.no_null;
       versions = subst (λ (book : GivenVersions). BookStandsFor (airings_of xs) book) (sym c.in_ok-versions.ensures.entries) here.sent.versions;
       counters = c.in_ok-counters.ensures.counters (map bytes_of_packet (air xs)) here.sent.counters;
     }
