@@ -2,11 +2,12 @@
 use Rattle.std.specs.Prelude.{◌≡◌, ◌++◌, ℕ, List, Ok, map}
 use Rattle.std.specs.List.{All}
 use Rattle.version_book.specs.declared.key_version.KeyVersion.{KeyVersion}
+use Rattle.version_book.specs.Airings.{AiredTables}
 use Rattle.version_book.specs.Book.{BookStandsFor, AreOrdered, given_entries}
 use Rattle.ts_packets.specs.declared.pid_counter.PidCounter.{PidCounter}
 use Rattle.ts_packets.specs.Bytes.{bytes_of_packet}
 use Rattle.ts_packets.specs.PidCounters.{IsPidCounter, AreCountersOf}
-use Rattle.air_model.specs.Air.{Aired, air, airings_of, IsAirOf}
+use Rattle.air_model.specs.Air.{Aired, HasNoNull, air, airings_of, IsAirOf}
 use Rattle.mux_model.specs.declared.mux.Mux.{Mux}
 use Rattle.mux_model.specs.Sound.{IsSoundWithIds}
 use Rattle.journal_model.specs.declared.step.Entry.{Entry}
@@ -33,12 +34,11 @@ KeysAreWritten =
     → AreOrdered (given_entries keys) → HasByteBodies (given_entries keys)
     → AreKeysWritten (given_entries keys)
 
--- So is what is kept of the PIDs of an air of these airings: none is that of null packets.
+-- So is what is kept of the PIDs of an air without null packets.
 abbrev pub CountersAreWritten : Type 0
 CountersAreWritten =
-    (mux : Mux) (journal : List Entry) (xs : List Aired) (pids : List PidCounter)
-    → IsSoundWithIds mux → HasTypedEdits journal → Legal mux journal
-    → IsAirOf (airings mux journal) xs → AreCountersOf (map bytes_of_packet (air xs)) pids
+    (airings : List AiredTables) (xs : List Aired) (pids : List PidCounter)
+    → IsAirOf airings xs → HasNoNull (air xs) → AreCountersOf (map bytes_of_packet (air xs)) pids
     → DoPidsAscend pids → All IsPidCounter pids
     → AreCountersWritten pids
 
