@@ -82,23 +82,23 @@ module _ (airings : List AiredTables) (xs : List Aired) (is : IsRepeatingAirOf a
   pub covers_on : Covers (lane pid fates) parts_on
   covers_on = covers (lane pid fates) 0 counts (few_in pid fates thin.few)
 
-  each_section : AllByRecursion IsSection (all_of (groups_by pid [] xs is.cycles))
+  each_section : AllByRecursion IsSection (all_of (groups_by pid small [] xs is.cycles))
   each_section =
-      subst (AllByRecursion IsSection) (sections_by pid [] xs is.cycles)
+      subst (AllByRecursion IsSection) (sections_by pid small [] xs is.cycles)
       (each_on pid (sent_by [] xs is.cycles) (sent_each [] xs is.cycles (subst CanBeSent (sym is.airings_are) can)))
 
   pub run_heard : (before here after : Lane) (part : List Arrival) → lane pid fates ≡ before ++ (here ++ after) → part ≡ arrived here
-      → heard_of part ≡ within (length before) (length before + length here) (groups_by pid [] xs is.cycles)
+      → heard_of part ≡ within (length before) (length before + length here) (groups_by pid small [] xs is.cycles)
   run_heard before here after part cut_is part_is =
       let A : List Piece = map piece_of (loads before) in
       let B : List Piece = map piece_of (loads here) in
       let C : List Piece = map piece_of (loads after) in
       let split : loads (lane pid fates) ≡ loads before ++ (loads here ++ loads after) =
       ap loads cut_is ∙ map-append (λ (s : Slot). s.load) before (here ++ after) ∙ ap (λ (l : List Load). loads before ++ l) (map-append (λ (s : Slot). s.load) here after) in
-      let cut : A ++ (B ++ C) ≡ pieces [] (groups_by pid [] xs is.cycles) =
+      let cut : A ++ (B ++ C) ≡ pieces [] (groups_by pid small [] xs is.cycles) =
       sym (ap (map piece_of) split ∙ map-append piece_of (loads before) (loads here ++ loads after) ∙ ap (λ (l : List Piece). A ++ l) (map-append piece_of (loads here) (loads after)))
-      ∙ ap (map piece_of) loads_all ∙ pieces_of_loads pid (air xs) ∙ pieces_by pid [] xs is.cycles in
+      ∙ ap (map piece_of) loads_all ∙ pieces_of_loads pid (air xs) ∙ pieces_by pid small [] xs is.cycles in
       let counted = Count-part 0 (loads before) (loads here) (loads after) (subst (Count 0) split counts) in
       ap heard_of (part_is ∙ arrived-loads here) ∙ heard_of-counting counted.0 (loads here) counted.1
-      ∙ window_heard (groups_by pid [] xs is.cycles) A B C (room_by pid [] xs is.cycles) each_section cut
-      ∙ ap₂ (λ (n m : ℕ). within n (n + m) (groups_by pid [] xs is.cycles)) (length-loads before) (length-loads here)
+      ∙ window_heard (groups_by pid small [] xs is.cycles) A B C (room_by pid small [] xs is.cycles) each_section cut
+      ∙ ap₂ (λ (n m : ℕ). within n (n + m) (groups_by pid small [] xs is.cycles)) (length-loads before) (length-loads here)

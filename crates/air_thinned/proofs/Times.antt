@@ -6,8 +6,6 @@ use Rattle.std.proofs.lemmas.List.Concat.{flat_map-append}
 use Rattle.std.proofs.lemmas.List.Elements.{Contains-append_left, Contains-append_right}
 use Rattle.si_lists.proofs.Lists.{all_map, all_flat}
 use Rattle.si_lists.proofs.Parts.{lt_or}
-use Rattle.guide_model.specs.declared.offset.Offset.{Offset}
-use Rattle.time_tables.specs.Tot.{tot_section}
 use Rattle.version_book.specs.Airings.{AiredTables}
 use Rattle.ts_packets.specs.Packets.{Carries, all_of}
 use Rattle.ts_packets.specs.Bytes.{bytes_of_packet}
@@ -19,14 +17,14 @@ use Rattle.ts_demux.specs.Sections.{sections_on, heard_all}
 use Rattle.ts_demux.proofs.Adding.{order_kept}
 use Rattle.ts_demux.proofs.Splitting.{by_all_parts}
 use Rattle.guide_receiver.specs.Latest.{moment_in, clock_of, offsets_heard}
-use Rattle.air_model.specs.Air.{Sent, Aired, tdt, tot, sent_on, air, airings_of}
+use Rattle.air_model.specs.Air.{Sent, Aired, tdt, sent_on, air, airings_of}
 use Rattle.air_model.specs.Repeating.{IsRepeatingAirOf}
 use Rattle.air_model.proofs.Repeating.{around}
 use Rattle.air_hearing.specs.Counting.{CanBeHeard}
 use Rattle.air_hearing.proofs.Told.{sent_of}
 use Rattle.air_joins.proofs.Cycles.{IsOfCycle, each_of_cycle, length_groups, contains-sent}
 use Rattle.air_joins.proofs.Joined.{groups_by}
-use Rattle.air_joins.proofs.Whole.{sections_at, are_at, cycle_part}
+use Rattle.air_joins.proofs.Whole.{sections_at, are_at, cycle_part, tot_among}
 use Rattle.air_exact.specs.Exact.{TellOffsetsOf}
 use Rattle.air_exact.proofs.Contents.{can_at, cycle_at}
 use Rattle.air_exact.proofs.Clock.{some_last, on_own_pid, told_moment, some_moment}
@@ -60,8 +58,8 @@ module _ (airings : List AiredTables) (before : List Aired) (x : Aired) (after :
       let high : ℕ = low + length run.here in
       subst (AllByRecursion (IsTold x.airing.form.offsets))
       (sym (run_heard airings xs is (sent_of airings can) 0x0014 (omega arith) fates thin run.before run.here run.after part run.cut run.is))
-      (all_map (IsOfCycle 0x0014 low high [] xs) (IsTold x.airing.form.offsets) (one low high) (within low high (groups_by 0x0014 [] xs is.cycles))
-      (each_of_cycle 0x0014 [] xs is.cycles low high))
+      (all_map (IsOfCycle 0x0014 low high [] xs) (IsTold x.airing.form.offsets) (one low high) (within low high (groups_by 0x0014 (omega arith) [] xs is.cycles))
+      (each_of_cycle 0x0014 (omega arith) [] xs is.cycles low high))
     where
       one : (low high : ℕ) (bytes : List ℕ) → IsOfCycle 0x0014 low high [] xs bytes → IsTold x.airing.form.offsets bytes
       one low high bytes r = subst (IsTold x.airing.form.offsets) r.has_bytes (cycle_told x.airing airings xs is can same r.before r.cycle r.after r.cut r.section r.sent)
@@ -79,17 +77,18 @@ module _ (airings : List AiredTables) (before : List Aired) (x : Aired) (after :
     has_packets : start_on 0x0014 before < end_on 0x0014 before x
     has_packets = go (lt_or 0 (length (of_pid 0x0014 x.packets)))
       where
-        nothing : (gs : List (List (List ℕ))) → length gs ≤ 0 → Contains (all_of gs) (tdt x.airing.moment).bytes → Prim.⊥
-        nothing [] le has = (let none : has.0 < 0 = has.1 in let z : Prim.⊥ = omega (arith, none) in z)
-        nothing (g ∷ gs) le has = (let z : Prim.⊥ = omega (arith, le) in z)
+        nothing : (gs : List (List (List ℕ))) (bytes : List ℕ) → length gs ≤ 0 → Contains (all_of gs) bytes → Prim.⊥
+        nothing [] bytes le has = (let none : has.0 < 0 = has.1 in let z : Prim.⊥ = omega (arith, none) in z)
+        nothing (g ∷ gs) bytes le has = (let z : Prim.⊥ = omega (arith, le) in z)
 
         none : length (of_pid 0x0014 x.packets) ≤ 0 → Prim.⊥
         none le =
             let at = cycle_at [] before x after is.cycles in
-            let own : Carries (of_pid 0x0014 x.packets) (filter_map (sent_on 0x0014) at.1.sections) = at.1.carried 0x0014 in
+            let own : Carries (of_pid 0x0014 x.packets) (filter_map (sent_on 0x0014) at.1.sections) = at.1.carried 0x0014 (omega arith) in
             let size : length own.groups ≡ length (of_pid 0x0014 x.packets) = length_groups (of_pid 0x0014 x.packets) (filter_map (sent_on 0x0014) at.1.sections) own in
-            nothing own.groups (let z : length own.groups ≤ 0 = omega (arith, size, le) in z)
-            (subst (λ (l : List (List ℕ)). Contains l (tdt x.airing.moment).bytes) own.sections (contains-sent at.1.sections (tdt x.airing.moment) at.1.are.time.0))
+            let time : Sent = tdt at.1.are.time.0 in
+            nothing own.groups time.bytes (let z : length own.groups ≤ 0 = omega (arith, size, le) in z)
+            (subst (λ (l : List (List ℕ)). Contains l time.bytes) own.sections (contains-sent at.1.sections time at.1.are.time.2))
 
         go : (0 < length (of_pid 0x0014 x.packets)) ⊎ (length (of_pid 0x0014 x.packets) ≤ 0) → start_on 0x0014 before < end_on 0x0014 before x
         go (inl some) = omega (arith, some)
@@ -102,7 +101,7 @@ module _ (airings : List AiredTables) (before : List Aired) (x : Aired) (after :
         (covers_on airings xs is (sent_of airings can) 0x0014 small fates thin) (let z : 0 ≤ start_on 0x0014 before = omega arith in z) has_packets
         (all_came 0x0014 fates before x after thin.all whole.whole) in
         let heard = run_heard airings xs is (sent_of airings can) 0x0014 small fates thin found.before found.here found.after found.part found.cut found.is in
-        let r = cycle_part 0x0014 [] before x after is.cycles (length found.before) (length found.before + length found.here) found.from found.up_to in
+        let r = cycle_part 0x0014 small [] before x after is.cycles (length found.before) (length found.before + length found.here) found.from found.up_to in
         let ss : List Sent = sections_at [] before x after is.cycles in
         let sent : Contains (filter_map (sent_on 0x0014) ss) s.bytes = subst (λ (n : ℕ). Contains (filter_map (sent_on n) ss) s.bytes) pid (contains-sent ss s has) in
         let here : Contains (heard_of found.part) s.bytes =
@@ -116,19 +115,16 @@ module _ (airings : List AiredTables) (before : List Aired) (x : Aired) (after :
 
     pub clock_heard : x.airing.moment < 65536 * 86400 → (at : ℕ) × (clock_of (heard_all [] packets) ≡ Some at)
     clock_heard within =
-        let s : Sent = tdt x.airing.moment in
-        let about = around (sections_on 0x0014 packets) s.bytes (own_heard s refl (are_at [] before x after is.cycles).time.0) in
+        let time = (are_at [] before x after is.cycles).time in
+        let s : Sent = tdt time.0 in
+        let about = around (sections_on 0x0014 packets) s.bytes (own_heard s refl time.2) in
         let found = on_own_pid 0x0014 s.bytes about.0 about.1 (heard_all [] packets) (order_kept packets 0x0014 ∙ about.2) in
-        let told = told_moment found.1 x.airing.moment within found.4 found.5 in
+        let told = told_moment found.1 time.0 (time.1.written within) found.4 found.5 in
         some_last (filter_map moment_in (heard_all [] packets))
-        (λ none. some_moment found.0 found.2 found.1 x.airing.moment told (ap (filter_map moment_in) (sym found.3) ∙ none))
+        (λ none. some_moment found.0 found.2 found.1 time.0 told (ap (filter_map moment_in) (sym found.3) ∙ none))
 
     pub offsets_heard_last : x.airing.moment < 65536 * 86400 → TellOffsetsOf x.airing airings → offsets_heard (heard_all [] packets) ≡ x.airing.form.offsets
     offsets_heard_last within same =
-        told_last x.airing.form.offsets packets x.airing.moment within (can_at before x after (subst (AllByRecursion CanBeHeard) (sym is.airings_are) can)).offsets (each_told same)
-        (each_heard x.airing.form.offsets (are_at [] before x after is.cycles).time.1)
-      where
-        each_heard : (os : List Offset) → AllByRecursion (Contains (sections_at [] before x after is.cycles)) (tot x.airing.moment os)
-            → AllByRecursion (λ (s : Sent). Contains (sections_on 0x0014 packets) s.bytes) (tot x.airing.moment os)
-        each_heard [] all = tt
-        each_heard (o ∷ os) all = (own_heard (record { pid = 0x0014; bytes = tot_section x.airing.moment (o ∷ os) }) refl all.0, tt)
+        let time = (are_at [] before x after is.cycles).local_time in
+        told_last x.airing.form.offsets packets time.0 (time.1.written within) (can_at before x after (subst (AllByRecursion CanBeHeard) (sym is.airings_are) can)).offsets (each_told same)
+        (tot_among time.0 x.airing.form.offsets (sections_at [] before x after is.cycles) (sections_on 0x0014 packets) own_heard time.2)
