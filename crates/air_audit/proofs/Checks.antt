@@ -36,7 +36,7 @@ all_five false false true false p q r s = cc
 all_five false false true true p q r s = refl
 
 -- the header of a packet that is written
-shape_of_written : (p : Packet) → HasFields p → has_shape (bytes_of_packet p) ≡ true
+pub shape_of_written : (p : Packet) → HasFields p → has_shape (bytes_of_packet p) ≡ true
 shape_of_written p h =
     let bytes = bytes_of_packet p in
     let f = fixed-written p h in
@@ -265,11 +265,11 @@ next_stands airings accepted c new a s end told_last book counters begins = reco
   counters = subst (StandFor accepted) (sym counters) s.counters;
   packets = s.packets;
   accepted_are = s.accepted_are;
-  so_far = next_airing airings s.packets (to_come_on c.on_pids) (to_come_on new.on_pids) a s.so_far end begins;
+  so_far = next_airing airings s.packets (to_come_on c.on_pids) (to_come_on new.on_pids) a s.can_be_sent s.so_far end begins;
 }
 
 pub end_is_air : (airings : List AiredTables) (accepted : List (List ℕ)) (c : Checking) → StandsFor airings accepted c → IsAtEnd c ↔ AreAnAir airings accepted
 end_is_air airings accepted c s = (
-  λ end. subst (AreAnAir airings) (sym s.accepted_are) (so_far-air airings s.packets (to_come_on c.on_pids) s.so_far end),
+  λ end. subst (AreAnAir airings) (sym s.accepted_are) (so_far-air airings s.packets (to_come_on c.on_pids) s.can_be_sent s.so_far end),
   λ is. air-nothing airings s.packets (to_come_on c.on_pids) s.can_be_sent s.so_far (subst (AreAnAir airings) s.accepted_are is),
 )

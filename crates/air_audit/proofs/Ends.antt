@@ -1,5 +1,5 @@
 -- Behind a whole air nothing goes on.
-use Rattle.std.proofs.Common.{◌≡◌, ℕ, List, [], ◌∷◌, ◌++◌, refl, sym, ap, ap₂, ◌∙◌, subst, map, append-nil, append_assoc}
+use Rattle.std.proofs.Common.{◌≡◌, ℕ, ◌<◌, List, [], ◌∷◌, ◌++◌, refl, sym, ap, ap₂, ◌∙◌, subst, map, append-nil, append_assoc}
 use Rattle.std.specs.Prelude.{None}
 use Rattle.std.specs.List.{AllByRecursion}
 use Rattle.std.proofs.lemmas.List.{map-append}
@@ -8,7 +8,7 @@ use Rattle.version_book.specs.Airings.{AiredTables}
 use Rattle.ts_packets.specs.Bytes.{HasFields, bytes_of_packet, Packet}
 use Rattle.ts_packets.specs.Counting.{Load, loads_on, Count}
 use Rattle.ts_packets.proofs.Stamps.{loads_on-append}
-use Rattle.air_model.specs.Air.{Aired, CanBeSent, Cycles, IsAirOf, air, airings_of}
+use Rattle.air_model.specs.Air.{Aired, CanBeSent, IsNullOrOther, HasNoNull, Cycles, IsAirOf, air, airings_of}
 use Rattle.air_audit.specs.Fronts.{ToCome, nothing}
 use Rattle.air_audit.specs.Audits.{AreAnAir, BeginAnAir, SoFar}
 use Rattle.air_audit.specs.Laws.{LongerAirs, WholeAirsEnd}
@@ -17,14 +17,15 @@ use Rattle.air_audit.proofs.Lists.{Count-front}
 use Rattle.air_audit.proofs.Runs.{none_so_far, nothing_goes}
 
 -- where an air is whole, nothing of it is to come
-whole_so_far : (airings : List AiredTables) (xs : List Aired) → IsAirOf airings xs → SoFar airings (air xs) (λ (pid : ℕ). nothing)
-whole_so_far airings xs is = record {
+whole_so_far : (airings : List AiredTables) (xs : List Aired) → IsAirOf airings xs → HasNoNull (air xs) → SoFar airings (air xs) (λ (pid : ℕ). nothing)
+whole_so_far airings xs is no_null = record {
   xs = xs;
   last = None;
   handed = [];
   airings_are = sym is.airings_are;
   packets_are = sym (append-nil (air xs));
   cycles = is.cycles;
+  no_null = no_null;
   carried = λ pid. none_so_far [];
   counted = is.counted;
   fields = is.fields;
@@ -33,7 +34,7 @@ whole_so_far airings xs is = record {
 pub whole_airs_end : WholeAirsEnd
 whole_airs_end airings packets bytes fit is begins =
     let cut = subst (λ (l : List (List ℕ)). BeginAnAir airings (l ++ bytes ∷ [])) (sym is.packets_are) begins in
-    let goes = begins-goes airings (air is.xs) (λ (pid : ℕ). nothing) bytes fit (whole_so_far airings is.xs is.is_air) cut in
+    let goes = begins-goes airings (air is.xs) (λ (pid : ℕ). nothing) bytes fit (whole_so_far airings is.xs is.is_air is.no_null) cut in
     nothing_goes goes.packet.piece goes.behind goes.goes
 
 -- cycles of the first of these airings, and those behind them
@@ -66,6 +67,7 @@ first_cycles airings more zs is p =
       cycles = p.cycles;
       counted = λ pid. Count-front 0 (loads_on pid (air p.xs)) (loads_on pid (air p.ys)) (subst (Count 0) (ap (loads_on pid) cut ∙ loads_on-append pid (air p.xs) (air p.ys)) (is.counted pid));
       fields = all_front HasFields (air p.xs) (air p.ys) (subst (AllByRecursion HasFields) cut is.fields);
+      nulls = all_front IsNullOrOther (air p.xs) (air p.ys) (subst (AllByRecursion IsNullOrOther) cut is.nulls);
     }
 
 pub longer_airs : LongerAirs
@@ -74,8 +76,11 @@ longer_airs airings more packets fit is begins = of (map bytes_of_packet (air p.
     p : Parted [] airings is.xs
     p = parted [] airings more is.xs is.is_air.airings_are is.is_air.cycles
 
+    no_null : HasNoNull (air p.xs)
+    no_null = all_front (λ (q : Packet). q.pid < 8191) (air p.xs) (air p.ys) (subst HasNoNull (ap air p.are ∙ air-parts p.xs p.ys) is.no_null)
+
     front : AreAnAir airings (map bytes_of_packet (air p.xs))
-    front = record { xs = p.xs; is_air = first_cycles airings more is.xs is.is_air p; packets_are = refl }
+    front = record { xs = p.xs; is_air = first_cycles airings more is.xs is.is_air p; no_null = no_null; packets_are = refl }
 
     of : (behind : List (List ℕ)) → packets ≡ map bytes_of_packet (air p.xs) ++ behind → AreAnAir airings packets
     of [] e = subst (AreAnAir airings) (sym (e ∙ append-nil (map bytes_of_packet (air p.xs)))) front

@@ -5,7 +5,7 @@ use Rattle.std.proofs.lemmas.List.{append_cancel_left}
 use Rattle.version_book.specs.Airings.{AiredTables}
 use Rattle.ts_packets.specs.Bytes.{Packet}
 use Rattle.ts_packets.specs.Counting.{of_pid}
-use Rattle.air_model.specs.Air.{cycle_sections, Aired, Cycles, air, airings_of}
+use Rattle.air_model.specs.Air.{cycle_sections, Aired, HasNoNull, Cycles, air, airings_of}
 use Rattle.air_audit.specs.Fronts.{ToCome, nothing, all_waiting, CarrySoFar}
 use Rattle.air_audit.specs.Audits.{on_pid, last_cycle, and_last}
 use Rattle.air_audit.specs.Laws.{OneToCome}
@@ -27,10 +27,10 @@ same_ends (x ∷ cs) (y ∷ bs) a b e =
     (ap₂ (λ (z : AiredTables) (l : List AiredTables). z ∷ l) first more.0, more.1)
 
 -- fronts of one packet list that are cycles of the same airings are one
-same_front : (xs ys : List Aired) (r s : List Packet) → AllByRecursion AiringFits (airings_of xs) → Cycles [] xs → Cycles [] ys → airings_of ys ≡ airings_of xs → air xs ++ r ≡ air ys ++ s → AllByRecursion AiringFits (airings_of ys) → air xs ≡ air ys
-same_front xs ys r s told c d e f told_ys = elim (two_fronts (air ys) s (air xs) r (sym f)) [
-  | inl h ↦ sym (h.1 ∙ ap (λ (l : List Packet). air xs ++ l) (none (airings_of xs) h.0 (same_cycles [] xs ys [] h.0 told c d (e ∙ sym (append-nil (airings_of xs))) h.1)) ∙ append-nil (air xs))
-  | inr h ↦ h.1 ∙ ap (λ (l : List Packet). air ys ++ l) (none (airings_of ys) h.0 (same_cycles [] ys xs [] h.0 told_ys d c (sym e ∙ sym (append-nil (airings_of ys))) h.1)) ∙ append-nil (air ys)
+same_front : (xs ys : List Aired) (r s : List Packet) → AllByRecursion AiringFits (airings_of xs) → Cycles [] xs → Cycles [] ys → HasNoNull (air xs) → HasNoNull (air ys) → airings_of ys ≡ airings_of xs → air xs ++ r ≡ air ys ++ s → AllByRecursion AiringFits (airings_of ys) → air xs ≡ air ys
+same_front xs ys r s told c d nx ny e f told_ys = elim (two_fronts (air ys) s (air xs) r (sym f)) [
+  | inl h ↦ sym (h.1 ∙ ap (λ (l : List Packet). air xs ++ l) (none (airings_of xs) h.0 (same_cycles [] xs ys [] h.0 told c d nx ny (e ∙ sym (append-nil (airings_of xs))) h.1)) ∙ append-nil (air xs))
+  | inr h ↦ h.1 ∙ ap (λ (l : List Packet). air ys ++ l) (none (airings_of ys) h.0 (same_cycles [] ys xs [] h.0 told_ys d c ny nx (sym e ∙ sym (append-nil (airings_of ys))) h.1)) ∙ append-nil (air ys)
 ]
   where
     none : (past : List AiredTables) (q : List Packet) → Follow past [] q → q ≡ []
@@ -51,17 +51,17 @@ one_to_come airings packets f g told h k pid = go h.last k.last h.airings_are k.
         → ((q : ℕ) → CarrySoFar (of_pid q h.handed) (on_pid q (last_cycle (airings_of h.xs) last)) (f q)) → ((q : ℕ) → CarrySoFar (of_pid q k.handed) (on_pid q (last_cycle (airings_of k.xs) other)) (g q)) → f pid ≡ g pid
     go None other e e_other c d =
         let none = none_last h.handed f c in
-        none pid ∙ sym (air-nothing airings packets g told k (so_far-air airings packets f h none) pid)
+        none pid ∙ sym (air-nothing airings packets g told k (so_far-air airings packets f told h none) pid)
     go (Some a) None e e_other c d =
         let none = none_last k.handed g d in
-        air-nothing airings packets f told h (so_far-air airings packets g k none) pid ∙ sym (none pid)
+        air-nothing airings packets f told h (so_far-air airings packets g told k none) pid ∙ sym (none pid)
     go (Some a) (Some b) e e_other c d =
         let past = airings_of h.xs in
         let ends = same_ends past (airings_of k.xs) a b (sym e ∙ e_other) in
         let told_all = subst (AllByRecursion AiringFits) e told in
         let told_other = all_front AiringFits (airings_of k.xs) (b ∷ []) (subst (AllByRecursion AiringFits) e_other told) in
         let both : air h.xs ++ h.handed ≡ air k.xs ++ k.handed = sym h.packets_are ∙ k.packets_are in
-        let fronts = same_front h.xs k.xs h.handed k.handed (all_front AiringFits past (a ∷ []) told_all) h.cycles k.cycles (sym ends.0) both told_other in
+        let fronts = same_front h.xs k.xs h.handed k.handed (all_front AiringFits past (a ∷ []) told_all) h.cycles k.cycles h.no_null k.no_null (sym ends.0) both told_other in
         let handed : h.handed ≡ k.handed = append_cancel_left (air h.xs) h.handed k.handed (both ∙ ap (λ (l : List Packet). l ++ k.handed) (sym fronts)) in
         let ss = on_pid pid (cycle_sections past a) in
         let there : CarrySoFar (of_pid pid h.handed) ss (g pid) =

@@ -4,7 +4,7 @@ use Rattle.std.specs.List.{AllByRecursion}
 use Rattle.version_book.specs.Airings.{AiredTables}
 use Rattle.ts_packets.specs.Bytes.{Packet, HasFields, bytes_of_packet}
 use Rattle.ts_packets.specs.Counting.{of_pid, loads_on, Count}
-use Rattle.air_model.specs.Air.{cycle_sections, Aired, air, airings_of, IsAirOf, CanBeSent}
+use Rattle.air_model.specs.Air.{cycle_sections, Aired, HasNoNull, air, airings_of, IsAirOf, CanBeSent}
 use Rattle.air_audit.specs.Fronts.{ToCome, CarrySoFar}
 use Rattle.air_audit.specs.Audits.{AreAnAir, BeginAnAir, on_pid, SoFar}
 use Rattle.air_audit.specs.Checking.{Checking, StandsFor, IsAtEnd}
@@ -16,10 +16,11 @@ pub record IsConsistent (xs : List Aired) (a : AiredTables) (handed : List Packe
   pub fields : AllByRecursion HasFields (air xs ++ handed)
   pub carried : (pid : ℕ) → (t : ToCome) × CarrySoFar (of_pid pid handed) (on_pid pid (cycle_sections (airings_of xs) a)) t
 
--- Packets behind a whole air are consistent with one airing more exactly where all are a prefix of an air of the longer list.
+-- Packets behind a whole air without null packets are consistent with one airing more exactly where all are a prefix of such an air of
+-- the longer list.
 abbrev pub ConsistentIsPrefix : Type 0
 ConsistentIsPrefix =
-    (xs : List Aired) (a : AiredTables) (handed : List Packet) → IsAirOf (airings_of xs) xs → CanBeSent (airings_of xs ++ a ∷ []) → AllByRecursion HasFields handed
+    (xs : List Aired) (a : AiredTables) (handed : List Packet) → IsAirOf (airings_of xs) xs → HasNoNull (air xs) → CanBeSent (airings_of xs ++ a ∷ []) → AllByRecursion HasFields handed
     → IsConsistent xs a handed ↔ BeginAnAir (airings_of xs ++ a ∷ []) (map bytes_of_packet (air xs ++ handed))
 
 -- A prefix of an air is one of a longer list too: each air can be gone on with.

@@ -5,6 +5,7 @@ use Rattle.air_model.specs.declared.rule.Rule.TheVariants.{Shape, Pid, Counter, 
 use Rattle.air_audit.specs.Fronts.{nothing, all_waiting}
 use Rattle.air_audit.specs.Telling.{told}
 use Rattle.air_audit.specs.Checking.{rule_broken}
+use Rattle.air_audit.specs.Passing.{past_nulls}
 
 -- a section, as far as a packet is concerned, and another one
 abbrev section : List ℕ
@@ -42,3 +43,17 @@ row_pid = refl
 
 row_shape : rule_broken nothing 1 (0x47 ∷ 0xC0 ∷ drop 2 packet) ≡ Shape
 row_shape = refl
+
+-- a null packet, which is refused where it is not passed over (ISO/IEC 13818-1, 2.4.3.3)
+abbrev null : List ℕ
+null = 0x47 ∷ 0x1F ∷ 0xFF ∷ 0x10 ∷ replicate 184 0xFF
+
+row_refused : rule_broken nothing 0 null ≡ Pid
+row_refused = refl
+
+row_passed : past_nulls (null ∷ packet ∷ null ∷ []) ≡ packet ∷ []
+row_passed = refl
+
+-- with an error of transport it is none
+row_error : past_nulls ((0x47 ∷ 0x9F ∷ drop 2 null) ∷ []) ≡ (0x47 ∷ 0x9F ∷ drop 2 null) ∷ []
+row_error = refl

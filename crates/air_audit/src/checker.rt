@@ -5,9 +5,10 @@ ghost use Rattle.version_book.specs.Airings.{AiredTables};
 ghost use Rattle.version_book.specs.Book.{aired};
 ghost use Rattle.air_audit.specs.Audits.{AreAnAir, BeginAnAir};
 ghost use Rattle.air_audit.specs.Checking.{StandsFor, IsAtEnd, rule_at};
+ghost use Rattle.air_audit.specs.Passing.{past_nulls};
 ghost use Rattle.air_model.specs.Air.{CanBeTold};
 
-use crate::header::{has_counter, has_shape, is_start, pid_of};
+use crate::header::{has_counter, has_shape, is_null, is_start, pid_of};
 use crate::progress::Progress;
 use air_model::Rule;
 use guide_model::Offsets;
@@ -18,8 +19,9 @@ use std::marker::Model;
 use ts_packets::Counters;
 use version_book::VersionBook;
 
-/// An auditor of packets. It stands for an airing list and the packets that it accepted, which are a prefix of an air of
-/// that list: the cycles of all airings but the last, and the last one as far as it has come. It keeps its allocator.
+/// An auditor of packets. It stands for an airing list and the packets that it accepted, which are
+/// a prefix of an air of that list without null packets: the cycles of all airings but the last,
+/// and the last one as far as it has come. It keeps its allocator.
 #[derive(Drop)]
 pub struct Checker {
     alloc: Global,
@@ -42,8 +44,8 @@ impl Model for Checker {
 }
 
 impl Checker {
-    /// An auditor of the empty airing list, which is at an end. The quota, 1 to 10,000, is that of the cycles, as a player's
-    /// (`cycle_plan`). It takes no memory.
+    /// An auditor of the empty airing list, which is at an end. The quota, 1 to 10,000, is that of
+    /// the cycles, as a player's (`cycle_plan`). It takes no memory.
     pub fn open(alloc: Global, quota: u32, offsets: Offsets) -> Checker
         requires some { 1 ≤ quota }
         requires most { quota ≤ 10000 }
@@ -99,9 +101,9 @@ impl Checker {
         self.progress.is_ended()
     }
 
-    /// Checks a packet. None comes exactly where the packets accepted with it are a prefix of an air of the airing list; it
-    /// is then accepted. Otherwise nothing changes, and the answer is the first rule that the packet breaks. It takes no
-    /// memory.
+    /// Checks a packet. None comes exactly where the packets accepted with it are a prefix of an
+    /// air of the airing list without null packets; it is then accepted. Otherwise nothing changes,
+    /// and the answer is the first rule that the packet breaks. It takes no memory.
     pub fn check(&mut self, packet: &[u8; 188]) -> Option<Rule>
         ensures accepted { (airings : List AiredTables) (accepted : List (List ℕ)) → StandsFor airings accepted self.old
             → IfNone result (StandsFor airings (accepted ++ packet.now ∷ []) self.new) }
@@ -128,5 +130,24 @@ impl Checker {
         }
         self.counters.count(packet);
         None
+    }
+
+    /// Checks a packet of a recording in which null packets may stand anywhere, and passes over it
+    /// where it is one (`is_null`): then nothing changes. None comes exactly where the packets that
+    /// are no null packets are a prefix of such an air. Otherwise it is as `check`.
+    pub fn check_past_nulls(&mut self, packet: &[u8; 188]) -> Option<Rule>
+        ensures accepted { (airings : List AiredTables) (recorded : List (List ℕ)) → StandsFor airings (past_nulls recorded) self.old
+            → IfNone result (StandsFor airings (past_nulls (recorded ++ packet.now ∷ [])) self.new) }
+        ensures exactly { (airings : List AiredTables) (recorded : List (List ℕ)) → StandsFor airings (past_nulls recorded) self.old
+            → IsNone result ↔ BeginAnAir airings (past_nulls (recorded ++ packet.now ∷ [])) }
+        ensures rule { (airings : List AiredTables) (recorded : List (List ℕ)) → StandsFor airings (past_nulls recorded) self.old
+            → IfSome result (λ rule. rule ≡ rule_at (past_nulls recorded) self.old packet.now) }
+        ensures kept { IfSome result (λ _. self.new ≡ self.old) }
+        ensures form { self.new.form ≡ self.old.form }
+    {
+        if is_null(packet) {
+            return None;
+        }
+        self.check(packet)
     }
 }

@@ -1,8 +1,10 @@
 // The laws of an auditor.
 ghost use Rattle.air_audit.specs.Laws.{ConsistentIsPrefix, LongerAirs, LongerBegins, LongerListsAgree, OneToCome, WholeAirsEnd};
+ghost use Rattle.air_audit.specs.Passing.{AirsArePassedOver, FrontsArePassedOver};
 
-/// Packets behind a whole air go on consistently, which is what `check` looks at, exactly where they are a prefix of an air
-/// of the longer airing list: what is consistent so far can always be completed.
+/// Packets behind a whole air without null packets go on consistently, which is what `check` looks
+/// at, exactly where they are a prefix of such an air of the longer airing list: what is consistent
+/// so far can always be completed.
 pub fn consistent_is_prefix()
     ensures { ConsistentIsPrefix }
 {}
@@ -25,4 +27,11 @@ pub fn one_is_to_come()
 pub fn whole_airs_end()
     ensures end { WholeAirsEnd }
     ensures longer { LongerAirs }
+{}
+
+/// Null packets may stand anywhere in an air. It is an air without null packets once these are
+/// passed over, and so begins each front of it.
+pub fn null_packets_are_passed_over()
+    ensures whole { AirsArePassedOver }
+    ensures front { FrontsArePassedOver }
 {}
