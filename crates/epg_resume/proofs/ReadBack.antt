@@ -72,6 +72,7 @@ from_checkpoint mux journal cycles bytes start cp own is same starts of =
       shift = s.shift ∙ ap shift_of of.count;
       player = s.player cycles (record {
         is_air = kept.is_air;
+        no_null = kept.no_null;
         versions = subst (BookStandsFor (airings_of cycles)) (sym of.keys_are) kept.versions;
         counters = subst (AreCountersOf (map bytes_of_packet (air cycles))) (sym of.counters_are) kept.counters;
       });

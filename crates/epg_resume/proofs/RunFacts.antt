@@ -142,7 +142,7 @@ new_run mux lines (from, is) =
     record {
       read = record { sound = sound; network = kept.0; services = kept.1; edits = tt; steps = tt };
       folds = record { sound = sound.sound; named = kept.1; legal = tt; within = tt; typed = tt; few = omega arith };
-      is_air = record { airings_are = refl; cycles = tt; counted = λ pid. tt; fields = tt };
+      is_air = record { airings_are = refl; cycles = tt; counted = λ pid. tt; fields = tt; nulls = tt };
     }
 
 new_behind : (fold : Bool) (air report : ReportTaken) (played : Played) (mux : Mux) (lines : Ahead) (status : Status) → AreDescribed mux lines → CourseBehind (IsNew mux) air.old air.new played lines
