@@ -37,6 +37,8 @@ fn answer_of_section(row: &mut Row, call: &str) {
     match call {
         "write_long" => sections::long(row),
         "write_short" => sections::short(row),
+        "write_short_crc" => sections::short_crc(row),
+        "bits" => sections::bits(row),
         "read_section" => sections::read(row),
         "key_of" => sections::key(row),
         "eit_numbers" => sections::numbers(row),

@@ -1,19 +1,19 @@
 // Sections both ways, and their keys.
-ghost use Rattle.std.specs.Prelude.{◌≡◌};
+ghost use Rattle.std.specs.Prelude.{◌≡◌, ◌<◌};
 ghost use Rattle.section_codec.specs.Section.{longest_body};
-ghost use Rattle.section_codec.specs.Tables.{has_long_form};
+ghost use Rattle.section_codec.specs.Tables.{has_long_form, has_short_form};
 
 use row_lines::Row;
 use section_codec::{
     BadSection, Key, LongHeader, Section, eit_numbers, key_of, read_section, write_long,
-    write_short,
+    write_short, write_short_crc,
 };
 
 /// `write_long HEADER | BODY`: the bytes of the section.
 pub fn long(row: &mut Row) {
     let header = header(row);
     let body = row.bytes();
-    if header.table == 0x70
+    if has_short_form(header.table)
         || header.version >= 32
         || header.number > header.last
         || body.len() > longest_body(header.table)
@@ -31,10 +31,22 @@ pub fn short(row: &mut Row) {
     let table = row.byte();
     row.pass("|");
     let body = row.bytes();
-    if has_long_form(table) || body.len() > 4093 {
+    if has_long_form(table) || table == 0x73 || body.len() > 4093 {
         return row.refuse();
     }
     match write_short(row.alloc(), table, &body) {
+        Ok(section) => row.put_bytes(section.as_slice()),
+        Err(_) => row.lack_memory(),
+    }
+}
+
+/// `write_short_crc BODY`: the bytes of the section of table 73.
+pub fn short_crc(row: &mut Row) {
+    let body = row.bytes();
+    if body.len() > 4089 {
+        return row.refuse();
+    }
+    match write_short_crc(row.alloc(), 0x73, &body) {
         Ok(section) => row.put_bytes(section.as_slice()),
         Err(_) => row.lack_memory(),
     }
@@ -105,6 +117,64 @@ fn longest_body(table: u8) -> usize
     } else {
         1012
     }
+}
+
+/// `bits BYTES`: each bit of a section changed in turn: how many of these are read, and how many are refused for each reason.
+pub fn bits(row: &mut Row) {
+    let bytes = row.bytes();
+    let mut counts = [0; 4];
+    for place in 0..bytes.len() {
+        count_bits(row, &mut counts, &bytes, place);
+    }
+    row.put_number(" read ", counts[0]);
+    row.put_number(" length ", counts[1]);
+    row.put_number(" crc ", counts[2]);
+    row.put_number(" syntax ", counts[3]);
+}
+
+fn count_bits(row: &mut Row, counts: &mut [u64; 4], bytes: &[u8], place: usize) {
+    for bit in [1, 2, 4, 8, 16, 32, 64, 128] {
+        match Vec::from_slice(row.alloc(), bytes) {
+            Ok(mut other) => {
+                turn(&mut other, place, bit);
+                count(row, counts, &other);
+            }
+            Err(_) => row.lack_memory(),
+        }
+    }
+}
+
+fn turn(bytes: &mut Vec<u8>, place: usize, bit: u8) {
+    if let Some(byte) = bytes.get_mut(place) {
+        *byte ^= bit;
+    }
+}
+
+fn count(row: &mut Row, counts: &mut [u64; 4], bytes: &[u8]) {
+    let index = answer_index(row, bytes);
+    counts[index] = counts[index].saturating_add(1);
+}
+
+fn answer_index(row: &mut Row, bytes: &[u8]) -> usize
+    ensures { result < 4 }
+{
+    match read_section(row.alloc(), bytes) {
+        Ok(_) => 0,
+        Err(BadSection::Length) => 1,
+        Err(BadSection::Crc(_, _)) => 2,
+        Err(BadSection::Syntax) => 3,
+        Err(BadSection::Memory) => {
+            row.lack_memory();
+            0
+        }
+    }
+}
+
+// Whether the sections of a table have the short form.
+fn has_short_form(table: u8) -> bool
+    ensures { result ≡ has_short_form table }
+{
+    table == 0x70 || table == 0x73
 }
 
 // Whether the sections of a table have the long form.
