@@ -7,6 +7,7 @@
 mod descriptors;
 mod looks;
 mod networks;
+mod offsets;
 mod programs;
 mod services;
 mod times;
@@ -40,6 +41,9 @@ fn answer(row: &mut Row) {
         "part_sdt" => services::part_services(row),
         "write_tdt" => times::write_time(row),
         "read_tdt" => times::read_time(row),
+        "write_tot" => offsets::write_offsets(row),
+        "read_tot" => offsets::read_offsets(row),
+        "tot_bits" => offsets::change_bits(row),
         "fronts" => looks::fronts(row),
         call => looks::look(row, call),
     }

@@ -1,0 +1,205 @@
+// The time offset table, both ways.
+ghost use Rattle.std.specs.Prelude.{◌<◌, IsTrue};
+ghost use Rattle.time_tables.specs.LocalOffsets.{FitsOffset};
+ghost use Rattle.time_tables.specs.Tot.{AreSent};
+
+use guide_model::{Offset, Offsets};
+use row_lines::{MOST, Row, code, moment_text, put_code, put_letters};
+use si_base::{Items, crc32};
+use si_time::{Moment, read_moment};
+use std::alloc::{AllocError, Global};
+use time_tables::{Tot, read_tot, write_tot};
+
+// A moment.
+fn moment(row: &mut Row) -> Moment {
+    let word = row.word();
+    match read_moment(word.as_bytes()) {
+        Some(at) => at,
+        None => {
+            row.refuse();
+            Moment(0)
+        }
+    }
+}
+
+fn side(row: &mut Row) -> bool {
+    let word = row.word();
+    if word != "ahead" && word != "behind" {
+        row.refuse();
+    }
+    word == "behind"
+}
+
+fn minutes(row: &mut Row) -> u16 {
+    (row.number() % 65_536) as u16
+}
+
+fn region(row: &mut Row) -> u8 {
+    let word = row.word();
+    row.small_in(word)
+}
+
+// An offset: country, region, `ahead` or `behind`, minutes, the change and the minutes from then on.
+fn offset(row: &mut Row) -> Offset {
+    let offset = Offset {
+        country: code(row),
+        region: region(row),
+        behind: side(row),
+        minutes: minutes(row),
+        change: moment(row),
+        next: minutes(row),
+    };
+    end_part(row);
+    offset
+}
+
+// Passes over what ends a part.
+fn end_part(row: &mut Row) {
+    let word = row.word();
+    if !row.is_end(word) {
+        row.refuse();
+    }
+}
+
+fn offsets(row: &mut Row) -> Offsets {
+    let mut offsets = Vec::new(row.alloc());
+    end_part(row);
+    for _ in 0..MOST {
+        if !row.goes_on() {
+            break;
+        }
+        let offset = offset(row);
+        if offsets.push(offset).is_err() {
+            row.lack_memory();
+            break;
+        }
+    }
+    Items::of(offsets)
+}
+
+// Whether each part fits its field.
+fn fits(offset: Offset) -> bool
+    ensures { IsTrue result → FitsOffset offset }
+{
+    offset.region < 64
+        && offset.minutes < 1440
+        && offset.change.0 < 65_536 * 86_400
+        && offset.next < 1440
+}
+
+// Whether a table can say them.
+fn are_sent(offsets: &[Offset]) -> bool
+    ensures { IsTrue result → AreSent offsets.now }
+{
+    if offsets.is_empty() || offsets.len() > 16 {
+        return false;
+    }
+    for i in 0..offsets.len() {
+        if !fits(offsets[i]) {
+            return false;
+        }
+    }
+    true
+}
+
+/// `write_tot MOMENT / OFFSET / ..`: the whole section.
+pub fn write_offsets(row: &mut Row) {
+    let word = row.word();
+    let Some(at) = read_moment(word.as_bytes()) else {
+        return row.refuse();
+    };
+    let offsets = offsets(row);
+    if !are_sent(offsets.as_slice()) {
+        return row.refuse();
+    }
+    match write_tot(row.alloc(), at, offsets.as_slice()) {
+        Ok(section) => row.put_bytes(section.as_slice()),
+        Err(_) => row.lack_memory(),
+    }
+}
+
+/// `read_tot BYTES`: the moment and the offsets of a body.
+pub fn read_offsets(row: &mut Row) {
+    let body = row.bytes();
+    match read_tot(row.alloc(), &body) {
+        Ok(read) => put_read(row, read.as_ref()),
+        Err(_) => row.lack_memory(),
+    }
+}
+
+fn put_read(row: &mut Row, read: Option<&Tot>) {
+    let Some(tot) = read else {
+        return row.put(" none");
+    };
+    put_letters(row, &moment_text(tot.at));
+    for offset in tot.offsets.as_slice() {
+        put_offset(row, offset);
+    }
+    row.put(";");
+}
+
+fn put_offset(row: &mut Row, offset: &Offset) {
+    row.put(" /");
+    put_code(row, &offset.country);
+    row.put_number(" ", u64::from(offset.region));
+    row.put(if offset.behind { " behind" } else { " ahead" });
+    row.put_number(" ", u64::from(offset.minutes));
+    put_letters(row, &moment_text(offset.change));
+    row.put_number(" ", u64::from(offset.next));
+}
+
+/// `tot_bits BYTES`: each bit of a body changed in turn: how many of these are no body, how many have no offset, how many have some, and the
+/// CRC_32 of what `read_tot` gives of them, one after the other.
+pub fn change_bits(row: &mut Row) {
+    let bytes = row.bytes();
+    let mut told = String::new(row.alloc());
+    let mut counts = [0; 3];
+    for place in 0..bytes.len() {
+        if change_byte(row.alloc(), &bytes, place, &mut counts, &mut told).is_err() {
+            row.lack_memory();
+        }
+    }
+    row.put_number(" none ", counts[0]);
+    row.put_number(" without ", counts[1]);
+    row.put_number(" with ", counts[2]);
+    row.put(" |");
+    row.put_bytes(&crc32(told.as_bytes()).to_be_bytes());
+}
+
+// The bits of a byte, from the lowest on.
+fn change_byte(
+    alloc: Global,
+    bytes: &[u8],
+    place: usize,
+    counts: &mut [u64; 3],
+    told: &mut String,
+) -> Result<(), AllocError> {
+    for bit in [1, 2, 4, 8, 16, 32, 64, 128] {
+        let mut body = Vec::from_slice(alloc, bytes)?;
+        if let Some(byte) = body.get_mut(place) {
+            *byte ^= bit;
+        }
+        let read = read_tot(alloc, &body)?;
+        count(counts, read.as_ref());
+        let mut row = Row::open(alloc, "");
+        put_read(&mut row, read.as_ref());
+        told.push_str(row.finish("")?.as_str())?;
+    }
+    Ok(())
+}
+
+fn count(counts: &mut [u64; 3], read: Option<&Tot>) {
+    let index = index_of(read);
+    counts[index] = counts[index].saturating_add(1);
+}
+
+// 0 where there is no body, 1 without an offset, 2 with one.
+fn index_of(read: Option<&Tot>) -> usize
+    ensures { result < 3 }
+{
+    match read {
+        None => 0,
+        Some(tot) if tot.offsets.as_slice().is_empty() => 1,
+        Some(_) => 2,
+    }
+}
