@@ -1,6 +1,6 @@
 // What descriptions of a multiplex give.
 use crate::words::put_read_stop;
-use guide_model::{Cable, Component};
+use guide_model::{Cable, Component, Offset};
 use mux_config::{MuxFault, MuxStop, Word, read_mux};
 use mux_model::{Mux, MuxService};
 use row_lines::{Lines, moment_text, text_of};
@@ -112,9 +112,36 @@ fn put_start(out: &mut String, mux: &Mux) -> Result<(), AllocError> {
     write!(out, "; start {start}; quota {quota}")
 }
 
+fn put_offset(out: &mut String, offset: &Offset) -> Result<(), AllocError> {
+    let change = moment_text(offset.change);
+    let (country, change) = (text_of(&offset.country), text_of(&change));
+    let (region, minutes, next) = (offset.region, offset.minutes, offset.next);
+    let side = if offset.behind { "behind" } else { "ahead" };
+    write!(
+        out,
+        "; {country} {region} {minutes} minutes {side}, from {change} on {next}"
+    )
+}
+
+// The offsets; of more than nine their number and the last.
+fn put_offsets(out: &mut String, offsets: &[Offset]) -> Result<(), AllocError> {
+    let count = offsets.len();
+    if let [.., last] = offsets
+        && 9 < count
+    {
+        write!(out, "; {count} offsets")?;
+        return put_offset(out, last);
+    }
+    for offset in offsets {
+        put_offset(out, offset)?;
+    }
+    Ok(())
+}
+
 fn put_mux(out: &mut String, mux: &Mux) -> Result<(), AllocError> {
     put_stream(out, mux)?;
     put_start(out, mux)?;
+    put_offsets(out, mux.offsets.as_slice())?;
     put_services(out, mux.services.as_slice())
 }
 
