@@ -6,6 +6,7 @@
 #![tactic(auto)]
 
 mod counters;
+mod offsets;
 mod plans;
 mod playing;
 mod versions;
@@ -23,7 +24,10 @@ fn answer(row: &mut Row) {
         "spacing" => plans::spacing(row),
         "play" => playing::play(row),
         "play_on" => playing::play_on(row),
+        "play_local" => playing::play_local(row),
+        "play_local_on" => playing::play_local_on(row),
         "keep" => playing::keep(row),
+        "keep_local" => playing::keep_local(row),
         "play_into" => playing::play_into(row),
         "counters" => counters::keep(row),
         _ => row.refuse(),

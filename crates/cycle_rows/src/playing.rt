@@ -3,6 +3,7 @@ ghost use Rattle.std.specs.Prelude.{◌≡◌, ◌≤◌, [], length, IfOk};
 ghost use Rattle.section_codec.specs.SubTables.{AreFit};
 
 use crate::counters::put_counters;
+use crate::offsets::offsets;
 use carousel_player::Player;
 use row_lines::{MOST, Row};
 use section_codec::{Key, NumberedBody, SubTable, Tables, Tier3};
@@ -21,8 +22,23 @@ const MOMENT: Moment = Moment(4_257_233_100);
 /// `play BODY / BODY ..`: the packets of the cycles of an SDT of one section, with one body after the other, each aired at 12:45:00 on
 /// 13 October 1993.
 pub fn play(row: &mut Row) {
-    let mut player = Player::open(row.alloc(), QUOTA);
-    play_all(row, &mut player, None);
+    play_with(row, 0, None);
+}
+
+/// `play_local REGIONS | BODY / BODY ..`: the same of a player with the offsets of so many regions.
+pub fn play_local(row: &mut Row) {
+    let regions = regions(row);
+    row.pass("|");
+    play_with(row, regions, None);
+}
+
+fn regions(row: &mut Row) -> u8 {
+    let word = row.word();
+    let regions = row.small_in(word);
+    if regions > 16 {
+        row.refuse();
+    }
+    regions
 }
 
 /// `play_on COUNT | BODY / BODY ..`: the same, where behind so many airings a player goes on that was made of what the
@@ -30,14 +46,33 @@ pub fn play(row: &mut Row) {
 pub fn play_on(row: &mut Row) {
     let count = row.number();
     row.pass("|");
-    let mut player = Player::open(row.alloc(), QUOTA);
-    play_all(row, &mut player, Some(count));
+    play_with(row, 0, Some(count));
 }
 
-fn play_all(row: &mut Row, player: &mut Player, cut: Option<u64>) {
+/// `play_local_on REGIONS COUNT | BODY / BODY ..`: the same of a player with the offsets of so many regions.
+pub fn play_local_on(row: &mut Row) {
+    let regions = regions(row);
+    let count = row.number();
+    row.pass("|");
+    play_with(row, regions, Some(count));
+}
+
+fn opened(alloc: Global, regions: u8) -> Result<Player, AllocError> {
+    let offsets = offsets(alloc, regions)?;
+    Ok(Player::open(alloc, QUOTA, offsets))
+}
+
+fn play_with(row: &mut Row, regions: u8, cut: Option<u64>) {
+    match opened(row.alloc(), regions) {
+        Ok(mut player) => play_all(row, &mut player, regions, cut),
+        Err(_) => row.lack_memory(),
+    }
+}
+
+fn play_all(row: &mut Row, player: &mut Player, regions: u8, cut: Option<u64>) {
     for airing in 0..MOST {
         if cut == Some(u64::from(airing)) {
-            go_on(row, player);
+            go_on(row, player, regions);
         }
         let body = row.bytes();
         swap(row, player, &body);
@@ -48,37 +83,55 @@ fn play_all(row: &mut Row, player: &mut Player, cut: Option<u64>) {
     }
 }
 
-fn go_on(row: &mut Row, player: &mut Player) {
+fn go_on(row: &mut Row, player: &mut Player, regions: u8) {
     if !player.at_end() {
         return row.refuse();
     }
-    match resumed(row.alloc(), player) {
+    match resumed(row.alloc(), player, regions) {
         Ok(other) => *player = other,
         Err(_) => row.lack_memory(),
     }
 }
 
-fn resumed(alloc: Global, player: &Player) -> Result<Player, AllocError>
+fn resumed(alloc: Global, player: &Player, regions: u8) -> Result<Player, AllocError>
     requires { player.now.left ≡ [] }
 {
+    let offsets = offsets(alloc, regions)?;
     let (versions, counters) = player.kept()?;
-    Player::resume(alloc, QUOTA, versions, counters.as_slice())
+    Player::resume(alloc, QUOTA, offsets, versions, counters.as_slice())
 }
 
 /// `keep BODY / BODY ..`: what the player keeps behind these cycles: of each key its PID, its table_id, its
 /// table_id_extension, the other two numbers, the version and the bodies of its sections; and of each PID that had a packet
 /// its counter.
 pub fn keep(row: &mut Row) {
-    let mut player = Player::open(row.alloc(), QUOTA);
+    keep_with(row, 0);
+}
+
+/// `keep_local REGIONS | BODY / BODY ..`: the same of a player with the offsets of so many regions.
+pub fn keep_local(row: &mut Row) {
+    let regions = regions(row);
+    row.pass("|");
+    keep_with(row, regions);
+}
+
+fn keep_with(row: &mut Row, regions: u8) {
+    match opened(row.alloc(), regions) {
+        Ok(mut player) => keep_all(row, &mut player),
+        Err(_) => row.lack_memory(),
+    }
+}
+
+fn keep_all(row: &mut Row, player: &mut Player) {
     for _ in 0..MOST {
         let body = row.bytes();
-        swap(row, &mut player, &body);
-        pass_packets(&mut player);
+        swap(row, player, &body);
+        pass_packets(player);
         if !row.goes_on() {
             break;
         }
     }
-    put_kept(row, &player);
+    put_kept(row, player);
 }
 
 fn pass_packets(player: &mut Player) {
@@ -146,10 +199,18 @@ fn put_packets(row: &mut Row, player: &mut Player) {
 pub fn play_into(row: &mut Row) {
     let size = (row.number() as usize).max(1);
     let fault = row.number();
-    let mut player = Player::open(row.alloc(), QUOTA);
-    take_first(row, &mut player);
+    match opened(row.alloc(), 0) {
+        Ok(mut player) => play_first(row, &mut player, size, fault),
+        Err(_) => row.lack_memory(),
+    }
+}
+
+fn play_first(row: &mut Row, player: &mut Player, size: usize, fault: u64)
+    requires { 1 ≤ size }
+{
+    take_first(row, player);
     match sink(row.alloc(), size, fault) {
-        Ok(mut sink) => put_played(row, &mut player, &mut sink),
+        Ok(mut sink) => put_played(row, player, &mut sink),
         Err(_) => row.lack_memory(),
     }
 }
