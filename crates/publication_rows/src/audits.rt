@@ -1,7 +1,7 @@
 // Packets that an auditor checks.
 ghost use Rattle.std.specs.Prelude.{◌≤◌, ◌<◌, ◌*◌};
 
-use crate::guides::{moment, tables_at};
+use crate::guides::{moment, offsets_at, tables_at};
 use air_audit::{Checker, Rule};
 use carousel_player::Player;
 use row_lines::{MOST, Row};
@@ -65,15 +65,27 @@ fn put_end(row: &mut Row, checker: &Checker) {
 /// `audit_packets QUOTA MOMENT LINES | PACKET / PACKET ..`: what an auditor that was swapped once says of these packets, which are given
 /// by their fronts, and whether it is then at an end.
 pub fn given(row: &mut Row) {
-    let mut checker = Checker::open(row.alloc(), quota(row));
+    let quota = quota(row);
     let Some(moment) = moment(row) else {
         return;
     };
     let text = row.word();
     row.pass("|");
+    let Some(mut checker) = opened(row, quota, text) else {
+        return;
+    };
     swap(row, &mut checker, moment, text);
     check_given(row, &mut checker);
     put_end(row, &checker);
+}
+
+// An auditor of cycles with the offsets of the description in these lines.
+fn opened(row: &mut Row, quota: u32, text: &str) -> Option<Checker>
+    requires some { 1 ≤ quota }
+    requires most { quota ≤ 10000 }
+{
+    let offsets = offsets_at(row, text)?;
+    Some(Checker::open(row.alloc(), quota, offsets))
 }
 
 fn check_given(row: &mut Row, checker: &mut Checker) {
@@ -109,7 +121,9 @@ pub fn made(row: &mut Row) {
     };
     let text = row.word();
     let packets = play(row, quota, swaps, moment, text);
-    let mut checker = Checker::open(row.alloc(), quota);
+    let Some(mut checker) = opened(row, quota, text) else {
+        return;
+    };
     swap(row, &mut checker, moment, text);
     for part in parts.split(',') {
         if part == "+" {
@@ -127,7 +141,10 @@ fn play(row: &mut Row, quota: u32, swaps: u64, moment: Moment, text: &str) -> Ve
     requires moment { moment.0 < 65536 * 86400 }
 {
     let mut packets = Vec::new(row.alloc());
-    let mut player = Player::open(row.alloc(), quota);
+    let Some(offsets) = offsets_at(row, text) else {
+        return packets;
+    };
+    let mut player = Player::open(row.alloc(), quota, offsets);
     for _ in 0..swaps {
         play_cycle(row, &mut player, moment, text, &mut packets);
     }

@@ -1,11 +1,13 @@
 // The sub-tables of what stands behind the edits of a row.
 ghost use Rattle.std.specs.Prelude.{◌<◌, ◌*◌, IfOk, IfSome};
+ghost use Rattle.air_model.specs.Air.{CanBeTold};
 ghost use Rattle.section_codec.specs.SubTables.{AreFit};
 ghost use Rattle.journal_model.specs.Edits.{IsShaped};
 ghost use Rattle.mux_model.specs.Sound.{IsSound};
 ghost use Rattle.publication_rows.specs.Books.{KeepsBook};
 
 use feed_book::Book;
+use guide_model::Offsets;
 use journal_model::{Edit, Reply};
 use mux_config::read_mux;
 use mux_model::Mux;
@@ -87,6 +89,47 @@ pub fn tables_at(row: &mut Row, moment: Moment, text: &str) -> Option<Tables>
 {
     match tables_of(row.alloc(), moment, text) {
         Ok(Some(tables)) => Some(tables),
+        Ok(None) => {
+            row.refuse();
+            None
+        }
+        Err(_) => {
+            row.lack_memory();
+            None
+        }
+    }
+}
+
+// The offsets of local time of a multiplex.
+fn offsets_of_mux(mux: &Mux) -> Result<Offsets, AllocError>
+    requires { IsSound mux.now }
+    ensures { IfOk result CanBeTold }
+{
+    mux.offsets.copy()
+}
+
+fn offsets_of(alloc: Global, text: &str) -> Result<Option<Offsets>, AllocError>
+    ensures { IfOk result (λ offsets. IfSome offsets CanBeTold) }
+{
+    let Some(text) = written_out(alloc, text)? else {
+        return Ok(None);
+    };
+    let mut lines = reader(alloc, text.as_str(), WHOLE)?;
+    match read_mux(alloc, &mut lines) {
+        Ok(mux) => {
+            let offsets = offsets_of_mux(&mux)?;
+            Ok(Some(offsets))
+        }
+        Err(_) => Ok(None),
+    }
+}
+
+/// The offsets of the description in these lines.
+pub fn offsets_at(row: &mut Row, text: &str) -> Option<Offsets>
+    ensures { IfSome result CanBeTold }
+{
+    match offsets_of(row.alloc(), text) {
+        Ok(Some(offsets)) => Some(offsets),
         Ok(None) => {
             row.refuse();
             None
