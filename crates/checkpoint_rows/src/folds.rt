@@ -1,5 +1,5 @@
 // What the steps of a script leave.
-ghost use Rattle.std.specs.Prelude.{◌≡◌, ◌<◌, ◌≤◌, ◌^◌, []};
+ghost use Rattle.std.specs.Prelude.{◌≡◌, ◌<◌, ◌≤◌, ◌^◌, [], IfOk};
 ghost use Rattle.journal_model.specs.Steps.{IsStepWithin};
 ghost use Rattle.mux_model.specs.Sound.{IsSound};
 
@@ -39,6 +39,15 @@ fn steps(alloc: Global, lines: &mut Lines, desk: &mut Desk) -> Result<(), AllocE
     Ok(())
 }
 
+// The player of a multiplex, which sent nothing.
+fn player_of(alloc: Global, mux: &Mux) -> Result<Player, AllocError>
+    requires { IsSound mux.now }
+    ensures { IfOk result (λ player. player.left ≡ []) }
+{
+    let offsets = mux.offsets.copy()?;
+    Ok(Player::open(alloc, mux.quota, offsets))
+}
+
 /// Appends the checkpoint of a desk that did the steps of a script, with this shift, and of a player that sent nothing.
 pub fn tell(
     alloc: Global,
@@ -49,10 +58,9 @@ pub fn tell(
 ) -> Result<(), AllocError>
     requires { IsSound mux }
 {
-    let quota = mux.quota;
+    let player = player_of(alloc, &mux)?;
     let mut desk = Desk::open(alloc, mux)?;
     steps(alloc, lines, &mut desk)?;
-    let player = Player::open(alloc, quota);
     let mut text = Vec::new(alloc);
     write_checkpoint(alloc, &desk, u64::from(shift), &player, &mut text)?;
     put_text(out, &text)
