@@ -20,12 +20,13 @@ struct Header {
     is_broken: bool,
 }
 
-// What of a section stands before its body.
+// What of a section stands before its body. A section in the short form with a CRC says whether that is broken.
 #[derive(Clone, Copy)]
 struct Front {
     pid: u16,
     table: u8,
     header: Option<Header>,
+    short_crc: Option<bool>,
 }
 
 /// The section of a line `FRONT : BODY`, or none where it is none.
@@ -47,7 +48,7 @@ pub fn section_of(alloc: Global, line: &str) -> Result<Option<Section>, AllocErr
 fn section_with(alloc: Global, front: Front, body: &[u8]) -> Result<Option<Section>, AllocError> {
     let bytes = match front.header {
         Some(header) => long_form(alloc, front.table, header, body)?,
-        None => short_form(alloc, front.table, body)?,
+        None => short_form(alloc, front.table, body, front.short_crc)?,
     };
     Ok(Some(Section {
         pid: front.pid,
@@ -103,14 +104,27 @@ impl<'a> Words<'a> {
         }
     }
 
-    // `pat STREAM ..`, `nit NETWORK ..`, `sdt STREAM ..`, `tdt`, or others
+    // `pat STREAM ..`, `nit NETWORK ..`, `sdt STREAM ..`, `tdt`, `tot`, or others
     fn front(&mut self) -> Front {
         match self.word() {
             "pat" => self.long_front(0, 0x00),
             "nit" => self.long_front(16, 0x40),
             "sdt" => self.long_front(17, 0x42),
             "tdt" => short_front(20, 0x70),
+            "tot" => self.tot_front(),
             word => self.other_front(word),
+        }
+    }
+
+    // `tot`, and `badcrc` behind it
+    fn tot_front(&mut self) -> Front {
+        let sign = self.word();
+        self.are_right = self.are_right && matches!(sign, "" | "badcrc");
+        Front {
+            pid: 20,
+            table: 0x73,
+            header: None,
+            short_crc: Some(sign == "badcrc"),
         }
     }
 
@@ -151,6 +165,7 @@ impl<'a> Words<'a> {
             pid,
             table,
             header: Some(header),
+            short_crc: None,
         }
     }
 }
@@ -160,6 +175,7 @@ fn short_front(pid: u16, table: u8) -> Front {
         pid,
         table,
         header: None,
+        short_crc: None,
     }
 }
 
@@ -190,10 +206,20 @@ fn long_form(alloc: Global, table: u8, header: Header, body: &[u8]) -> Result<Ve
     Ok(bytes)
 }
 
-fn short_form(alloc: Global, table: u8, body: &[u8]) -> Result<Vec<u8>, AllocError> {
+fn short_form(
+    alloc: Global,
+    table: u8,
+    body: &[u8],
+    crc: Option<bool>,
+) -> Result<Vec<u8>, AllocError> {
     let mut bytes = Vec::new(alloc);
-    bytes.extend_from_slice(&start(table, false, body.len()))?;
+    let crc_len = if crc.is_some() { 4 } else { 0 };
+    bytes.extend_from_slice(&start(table, false, body.len().saturating_add(crc_len)))?;
     bytes.extend_from_slice(body)?;
+    if let Some(is_broken) = crc {
+        let crc = crc_of(&bytes) ^ u32::from(is_broken);
+        bytes.extend_from_slice(&crc.to_be_bytes())?;
+    }
     Ok(bytes)
 }
 
