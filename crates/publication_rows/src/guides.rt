@@ -105,7 +105,8 @@ fn offsets_of_mux(mux: &Mux) -> Result<Offsets, AllocError>
     requires { IsSound mux.now }
     ensures { IfOk result CanBeTold }
 {
-    mux.offsets.copy()
+    let offsets = mux.offsets.copy()?;
+    Ok(offsets)
 }
 
 fn offsets_of(alloc: Global, text: &str) -> Result<Option<Offsets>, AllocError>
