@@ -2,29 +2,13 @@
 from __future__ import annotations
 
 import contextlib
-import importlib.machinery
-import importlib.util
 import io
-import sys
 import tempfile
 import unittest
 from pathlib import Path
-from typing import Any, Tuple
+from typing import Tuple
 
-TOOLS = Path(__file__).resolve().parent.parent
-
-
-def load(name: str) -> Any:
-    """A tool as a module."""
-    loader = importlib.machinery.SourceFileLoader(name.replace("-", "_"), str(TOOLS / name))
-    spec = importlib.util.spec_from_loader(loader.name, loader)
-    assert spec is not None
-    module = importlib.util.module_from_spec(spec)
-    writes, sys.dont_write_bytecode = sys.dont_write_bytecode, True
-    loader.exec_module(module)
-    sys.dont_write_bytecode = writes
-    return module
-
+from loading import load
 
 tool = load("crate-list")
 
