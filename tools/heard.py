@@ -89,6 +89,27 @@ class Cable(NamedTuple):
     inner: int
 
 
+class LocalTime(NamedTuple):
+    """How far the clocks of a region are from UTC (EN 300 468, 6.2.20): by `minutes`, and by `next_minutes` from the change on.
+
+    `time` is the moment of the clock on them, as it was printed: without a zone, and empty where the program shows none.
+    """
+
+    country: str
+    region: int
+    is_behind: bool
+    minutes: int
+    change: Optional[datetime]
+    next_minutes: int
+    time: str
+
+    def offset_at(self, clock: Optional[datetime]) -> int:
+        """The minutes that are added to UTC at a moment; those before the change where there is no moment."""
+        has_changed = clock is not None and self.change is not None and self.change <= clock
+        minutes = self.next_minutes if has_changed else self.minutes
+        return -minutes if self.is_behind else minutes
+
+
 class Completion(NamedTuple):
     """A version of a sub-table that was heard whole, and the packet in which its last section ended."""
 
@@ -111,6 +132,7 @@ class Heard:
     """All that a run of `listen` printed."""
 
     clock: Optional[datetime] = None
+    local_times: List[LocalTime] = field(default_factory=list)
     network: Optional[Named] = None
     stream: Optional[Stream] = None
     cable: Optional[Cable] = None
@@ -171,15 +193,24 @@ def read_event(fields: List[str]) -> Event:
                  int(rating) if rating else None, read_genres(genres))
 
 
+def read_local_time(fields: List[str]) -> LocalTime:
+    country, region, side, minutes, change, next_minutes, time = fields
+    if side not in ("ahead", "behind"):
+        raise ValueError(f"{side!r} is no side")
+    if time:
+        read_moment(f"{time}Z")
+    return LocalTime(country, int(region), side == "behind", int(minutes), read_moment(change) if change else None, int(next_minutes), time)
+
+
 class Reader:
     """Takes the lines of a report one by one."""
 
     def __init__(self) -> None:
         self.heard = Heard()
         self._words: Dict[str, Callable[[List[str]], None]] = {
-            "done": self._done, "lost": self._lost, "clock": self._clock, "network": self._network, "stream": self._stream,
-            "cable": self._cable, "service": self._service, "component": self._component, "now": self._now, "next": self._next,
-            "event": self._event, "wanting": self._wanting, "end": self._end,
+            "done": self._done, "lost": self._lost, "clock": self._clock, "local": self._local, "network": self._network,
+            "stream": self._stream, "cable": self._cable, "service": self._service, "component": self._component, "now": self._now,
+            "next": self._next, "event": self._event, "wanting": self._wanting, "end": self._end,
         }
 
     def take(self, line: str) -> None:
@@ -203,6 +234,9 @@ class Reader:
     def _clock(self, fields: List[str]) -> None:
         (moment,) = fields
         self.heard.clock = read_moment(moment)
+
+    def _local(self, fields: List[str]) -> None:
+        self.heard.local_times.append(read_local_time(fields))
 
     def _network(self, fields: List[str]) -> None:
         number, name = fields
@@ -287,11 +321,16 @@ def service_json(service: Service) -> Dict[str, object]:
     }
 
 
+def local_time_json(local: LocalTime) -> Dict[str, object]:
+    return {**local._asdict(), "change": write_moment(local.change) if local.change else None}
+
+
 def heard_json(heard: Heard) -> Dict[str, object]:
-    """What was heard, as values that `json` writes. Moments are in UTC, as `listen` prints them."""
+    """What was heard, as values that `json` writes. Moments are in UTC, as `listen` prints them, but for the local times."""
     return {
         "whole": heard.is_whole, "fault": heard.fault, "wanting": [list(what) for what in heard.wanting],
         "clock": write_moment(heard.clock) if heard.clock else None,
+        "local_times": [local_time_json(local) for local in heard.local_times],
         "network": heard.network._asdict() if heard.network else None,
         "stream": heard.stream._asdict() if heard.stream else None,
         "cable": heard.cable._asdict() if heard.cable else None,

@@ -4,6 +4,7 @@ from __future__ import annotations
 import zlib
 from typing import Callable, List, NamedTuple, Optional, Tuple
 
+TOT = 0x73
 REVERSED = bytes(int(f"{byte:08b}"[::-1], 2) for byte in range(256))
 
 
@@ -34,10 +35,13 @@ def pair(section: bytes, at: int) -> int:
 
 
 def section_of(pid: int, data: bytes, start: int, end: int) -> Optional[Section]:
-    """The section that these bytes are, None where it is damaged. Without the long form it has no more than its table_id."""
+    """The section that these bytes are, None where it is damaged. Without the long form it has no more than its table_id.
+
+    A TOT has the short form with a CRC (EN 300 468, 5.2.6); other sections of the short form have none.
+    """
     table_id = data[0]
     if not data[1] & 0x80:
-        return Section(pid, table_id, 0, (), 0, 0, start, end)
+        return Section(pid, table_id, 0, (), 0, 0, start, end) if table_id != TOT or len(data) >= 7 and crc_holds(data) else None
     if len(data) < 12 or not crc_holds(data):
         return None
     extension = pair(data, 3)

@@ -16,7 +16,7 @@ from typing import Dict, Iterable, List, Optional, Sequence, Tuple
 
 from dvb_text import heard_text
 from genres import genre_name, group_name
-from heard import Completion, Event, Heard, Service
+from heard import Completion, Event, Heard, LocalTime, Service
 from page.timeline import Placed, Row, Window, days_of, hours_of, row_of
 from page.zones import offset_of
 
@@ -157,6 +157,15 @@ def state_markup(heard: Heard) -> str:
     return f'<span class="state bad">{f"{len(heard.wanting)} wanting" if heard.wanting else "cut off before its end"}</span>'
 
 
+def minutes_text(minutes: int) -> str:
+    """Minutes that are added to UTC, as `UTC+01:00`."""
+    return f"UTC{'-' if minutes < 0 else '+'}{abs(minutes) // 60:02}:{abs(minutes) % 60:02}"
+
+
+def region_of(local: LocalTime) -> str:
+    return f"{local.country} {local.region}" if local.region else local.country
+
+
 def facts(heard: Heard, rows: Sequence[Row], window: Window) -> List[str]:
     """What stands below the title, in a line."""
     found = []
@@ -168,10 +177,15 @@ def facts(heard: Heard, rows: Sequence[Row], window: Window) -> List[str]:
     if outside:
         found.append(f"{plural(outside, 'event')} outside of these days")
     if heard.clock:
-        local = window.local(heard.clock)
-        found.append(f"clock {day_of(local)} {local:%Y %H:%M:%S} {offset_of(local)}")
+        clock = window.local(heard.clock)
+        found.append(f"clock {day_of(clock)} {clock:%Y %H:%M:%S} {offset_of(clock)}")
     else:
         found.append("no clock")
+    if len(heard.local_times) == 1:
+        local = heard.local_times[0]
+        found.append(f"local time of {region_of(local)} {minutes_text(local.offset_at(heard.clock))}")
+    elif heard.local_times:
+        found.append(f"local times of {len(heard.local_times)} regions")
     return found
 
 
@@ -224,6 +238,19 @@ def parts_of(service: Service) -> str:
     return ", ".join(f"{part.pid} ({part.stream_type}{', ' + part.language if part.language else ''})" for part in service.components)
 
 
+def local_times_markup(heard: Heard) -> str:
+    """A line for each region whose local time was heard; nothing where none was."""
+    if not heard.local_times:
+        return ""
+    head = ["country and region", "local time", "is", "change (UTC)", "from then on"]
+    return list_markup("Local times", head, [local_time_row(local, heard) for local in heard.local_times])
+
+
+def local_time_row(local: LocalTime, heard: Heard) -> List[str]:
+    then = [f"{local.change:%Y-%m-%d %H:%M:%S}", minutes_text(local.offset_at(local.change))] if local.change else ["", ""]
+    return [region_of(local), local.time.replace("T", " "), minutes_text(local.offset_at(heard.clock)), *then]
+
+
 def tables_markup(heard: Heard) -> str:
     """A line for each sub-table: where it was first whole, how many of its versions were, and the last of these."""
     tables: Dict[Tuple[int, ...], List[Completion]] = {}
@@ -267,7 +294,8 @@ def page_markup(heard: Heard, window: Window, title: Optional[str] = None) -> st
     style = (HERE / "guide.css").read_text(encoding="utf-8")
     script = (HERE / "guide.js").read_text(encoding="utf-8")
     texts = embedded_json([event_texts(placed, window) for row in rows for placed in row.placed])
-    lists = [wanting_markup(heard), losses_markup(heard), services_markup(heard), tables_markup(heard), colours_markup(rows)]
+    lists = [wanting_markup(heard), losses_markup(heard), services_markup(heard), local_times_markup(heard), tables_markup(heard),
+             colours_markup(rows)]
     return "\n".join([
         '<!DOCTYPE html>', '<html lang="en">', '<head>', '<meta charset="utf-8">',
         f'<meta http-equiv="Content-Security-Policy" content="{escape(policy(script))}">',

@@ -28,6 +28,13 @@ def short_section(table: int, body: bytes) -> bytes:
     return bytes([table, 0x70 | len(body) >> 8, len(body) & 255]) + body
 
 
+def tot(moment: bytes, offsets: bytes) -> bytes:
+    """A TOT of a moment of five bytes, with one local_time_offset_descriptor."""
+    loop = bytes([0x58, len(offsets)]) + offsets
+    front = short_section(0x73, moment + bytes([0xF0, len(loop)]) + loop + bytes(4))[:-4]
+    return front + crc(front)
+
+
 def pat(programs: Dict[int, int], stream: int = 1) -> bytes:
     body = b"".join(bytes([number >> 8, number & 255, 0xE0 | pid >> 8, pid & 255]) for number, pid in programs.items())
     return section(0, stream, body)

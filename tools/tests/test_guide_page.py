@@ -107,6 +107,17 @@ class Shown(unittest.TestCase):
         self.assertIn("now", page.events[0][4])
         self.assertIn("next", page.events[1][4])
 
+    def test_local_times(self) -> None:
+        britain = "local\tGBR\t0\tahead\t0\t2027-03-28T01:00:00Z\t60\t2026-11-30T20:20:00"
+        azores = "local\tPRT\t2\tbehind\t60\t2027-03-28T01:00:00Z\t0\t2026-11-30T19:20:00"
+        one, two = (Page(page_of([HEAD[0], *lines, *HEAD[1:], "end"])) for lines in ([britain], [britain, azores]))
+        self.assertIn("clock Mon 30 Nov 2026 20:20:00 UTC · local time of GBR UTC+00:00", one.texts["p"][0])
+        self.assertIn("local times of 2 regions", two.texts["p"][0])
+        self.assertIn("Local times: 2", two.texts["summary"])
+        at = two.texts["td"].index("PRT 2")
+        self.assertEqual(two.texts["td"][at:at + 5], ["PRT 2", "2026-11-30 19:20:00", "UTC-01:00", "2027-03-28 01:00:00", "UTC+00:00"])
+        self.assertNotIn("ocal time", page_of([*HEAD, "end"]))
+
     def test_all_text_is_escaped(self) -> None:
         head = [line.replace("Demo", BAD).replace("Acme", BAD).replace("News", BAD) for line in HEAD]
         wanting, fault = f"wanting\t{BAD}", f"fault: {BAD}"

@@ -7,9 +7,10 @@ from examples import stored_lines
 from heard import Genre, HeardError, heard_json, lines_of, read_heard
 
 EVENT = "14\t2026-11-30T20:00:00Z\t01:30:00\teng\tThe Lighthouse\tDrama\tTwo keepers\tGBR\t12\t1.0.0 7.0.15"
-LINES = ["done\t5\t18\t78\t101\t7\t65281\t3", "lost\t9\t18", "clock\t2026-11-30T20:20:00Z", "network\t65281\tHarbour Cable", "stream\t7\t65281",
-         "cable\t3460000\t3\t69000\t2\t15", "service\t101\t1\tHarbour Media\tHarbour One\t256\t257", "component\t3\t258\teng",
-         "now\t" + EVENT, "next\t15\t2026-11-30T22:00:00Z\t02:00:00\teng\tNight Ship\t\t\t\t\t", "event\t" + EVENT, "end"]
+LINES = ["done\t5\t18\t78\t101\t7\t65281\t3", "lost\t9\t18", "clock\t2026-11-30T20:20:00Z",
+         "local\tPRT\t1\tahead\t0\t2027-03-28T01:00:00Z\t60\t2026-11-30T20:20:00", "network\t65281\tHarbour Cable", "stream\t7\t65281",
+         "cable\t3460000\t3\t69000\t2\t15", "service\t101\t1\tHarbour Media\tHarbour One\t256\t257", "component\t3\t258\teng", "now\t" + EVENT,
+         "next\t15\t2026-11-30T22:00:00Z\t02:00:00\teng\tNight Ship\t\t\t\t\t", "event\t" + EVENT, "end"]
 
 
 class Lines(unittest.TestCase):
@@ -18,6 +19,8 @@ class Lines(unittest.TestCase):
         self.assertEqual(heard.clock, datetime(2026, 11, 30, 20, 20, tzinfo=timezone.utc))
         self.assertEqual((heard.network, heard.stream, heard.cable), ((65281, "Harbour Cable"), (7, 65281), (3460000, 3, 69000, 2, 15)))
         self.assertEqual((heard.completions, heard.losses), ([(5, 18, 78, 101, 7, 65281, 3)], [(9, 18)]))
+        change = datetime(2027, 3, 28, 1, tzinfo=timezone.utc)
+        self.assertEqual(heard.local_times, [("PRT", 1, False, 0, change, 60, "2026-11-30T20:20:00")])
         (service,) = heard.services
         self.assertEqual((service.id, service.type, service.pmt_pid, service.pcr_pid), (101, 1, 256, 257))
         self.assertEqual((service.provider, service.name, service.components), ("Harbour Media", "Harbour One", [(3, 258, "eng")]))
@@ -27,6 +30,13 @@ class Lines(unittest.TestCase):
         assert service.following
         self.assertEqual((service.following.rating, service.following.genres, service.following.short), (None, (), ""))
         self.assertTrue(heard.is_whole)
+
+    def test_local_times(self) -> None:
+        lines = ["local\tPRT\t2\tbehind\t60\t2027-03-28T01:00:00Z\t0\t2026-11-30T19:20:00", "local\thex:414200\t63\tahead\t780\t\t780\t"]
+        azores, other = read_heard(lines).local_times
+        moments = [datetime(2027, 3, 28, 0, 59, 59, tzinfo=timezone.utc), datetime(2027, 3, 28, 1, tzinfo=timezone.utc), None]
+        self.assertEqual([azores.offset_at(moment) for moment in moments], [-60, 0, -60])
+        self.assertEqual((other, [other.offset_at(moment) for moment in moments]), (("hex:414200", 63, False, 780, None, 780, ""), [780] * 3))
 
     def test_the_examples(self) -> None:
         heard = read_heard(stored_lines("play < week.txt"))
@@ -47,6 +57,7 @@ class Lines(unittest.TestCase):
 
     def test_lines_that_listen_does_not_print(self) -> None:
         for line in ("done\t1", "lost\t1\tx", "clock\t2026-11-31T00:00:00Z", "clock\t٢٠٢٦-11-30T00:00:00Z", "network\t1", "wanting", "end\t1",
+                     "local\tGBR\t0\tahead\t60", "local\tGBR\t0\twest\t0\t2027-03-28T01:00:00Z\t0\t", "local\tGBR\t0\tahead\t0\t\t0\t20:20",
                      "event\t" + EVENT, "component\t1\t2\teng", "service\t1\t1\tA\tB\t1"):
             with self.assertRaises(HeardError) as caught:
                 read_heard(["", line])
@@ -58,6 +69,8 @@ class Lines(unittest.TestCase):
     def test_json_has_what_was_printed(self) -> None:
         made = json.loads(json.dumps(heard_json(read_heard(LINES))))
         self.assertEqual((made["whole"], made["clock"], made["network"]["name"]), (True, "2026-11-30T20:20:00Z", "Harbour Cable"))
+        self.assertEqual(made["local_times"], [{"country": "PRT", "region": 1, "is_behind": False, "minutes": 0, "change": "2027-03-28T01:00:00Z",
+                                                "next_minutes": 60, "time": "2026-11-30T20:20:00"}])
         (event,) = made["services"][0]["events"]
         self.assertEqual((event, event["end"], event["duration"]), (made["services"][0]["present"], "2026-11-30T21:30:00Z", "01:30:00"))
         self.assertEqual(event["genres"][1], {"level_1": 7, "level_2": 0, "user": 15})

@@ -15,12 +15,15 @@ from intervals.measures import Row, measured, shown
 from intervals.packets import NoPackets, Packets
 from intervals.recording import Recording
 from loading import load
-from streams import Stream, eit, pat, section, short_section
+from streams import Stream, eit, pat, section, short_section, tot
 
 tool = load("intervals/intervals")
 
 RATE = 1_504_000
 BYTE = 8 / RATE
+# 1993-10-13T12:45:00Z, and Great Britain an hour ahead until 1993-10-24T01:00:00Z.
+MOMENT = bytes.fromhex("c079124500")
+BRITAIN = bytes.fromhex("474252 02 0100 c084010000 0000")
 
 
 def rows_of(data: bytes, rate: float = RATE) -> Dict[str, Row]:
@@ -120,6 +123,43 @@ class Waits(unittest.TestCase):
     def test_expected_tables_that_are_not_heard(self) -> None:
         rows = rows_of(stream_at([0, 90], 0, pat({})).data)
         self.assertEqual([table for table, row in rows.items() if row.state == "absent"], ["PMT", "NIT", "SDT", "EIT p/f", "TDT"])
+
+
+class LocalTime(unittest.TestCase):
+    def test_a_tot_is_written_as_the_standard_says(self) -> None:
+        written = "73 701a c079124500 f00f 580d 474252 02 0100 c084010000 0000 ced97170"
+        self.assertEqual(tot(MOMENT, BRITAIN), bytes.fromhex(written))
+
+    def test_a_tot_is_to_come_each_30_seconds(self) -> None:
+        for places, state in (([0, 30_000, 60_000], "good"), ([0, 30_001], "late"), ([0], "once")):
+            rows = rows_of(stream_at(places, 0x14, tot(MOMENT, BRITAIN)).data)
+            self.assertEqual((rows["TOT"].state, rows["TDT"].state), (state, "absent"))
+
+    def test_a_tdt_and_a_tot_that_share_a_packet_are_timed_each_by_itself(self) -> None:
+        stream = Stream()
+        for place in (0, 1000, 20_000):
+            stream.until(place)
+            stream.put(0x14, short_section(0x70, MOMENT), tot(MOMENT, BRITAIN))
+        rows = rows_of(stream.data)
+        for table in ("TDT", "TOT"):
+            row = rows[table]
+            assert row.most and row.gap
+            self.assertEqual((row.state, row.waits, round(row.most.seconds, 6)), ("good", 2, 19.0))
+        self.assertEqual(rows["TOT"].bytes, 3 * 29)
+
+    def test_a_tot_of_two_packets(self) -> None:
+        self.assertEqual(len(tot(MOMENT, 16 * BRITAIN)), 224)
+        row = rows_of(stream_at([0, 1000], 0x14, tot(MOMENT, 16 * BRITAIN)).data)["TOT"]
+        self.assertEqual((row.sections, row.waits, row.state), (2, 1, "good"))
+
+    def test_a_damaged_tot_is_no_tot(self) -> None:
+        whole = tot(MOMENT, BRITAIN)
+        for data in (whole[:9] + b"\x01" + whole[10:], short_section(0x73, bytes(3)), short_section(0x73, MOMENT)):
+            recording = Recording(stream_at([0], 0x14, data).data)
+            self.assertEqual((recording.sections, recording.damaged), ([], 1))
+
+    def test_a_recording_without_local_time_lacks_nothing(self) -> None:
+        self.assertNotIn("TOT", rows_of(stream_at([0, 90], 0, pat({})).data))
 
 
 class Gaps(unittest.TestCase):

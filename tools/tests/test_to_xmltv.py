@@ -47,6 +47,11 @@ class Documents(unittest.TestCase):
         self.assertEqual(tv.get("date"), "20261130202000 +0000")
         self.assertEqual([(c.get("id"), [n.text for n in c]) for c in tv], [("101.7.65281.dvb", ["Das Erste", "101"]), ("102.7.65281.dvb", ["102"])])
 
+    def test_local_times_change_nothing(self) -> None:
+        local = "local\tGBR\t0\tahead\t60\t2027-03-28T01:00:00Z\t0\t2026-11-30T21:20:00"
+        head = [*HEAD[:2], local, *HEAD[2:]]
+        self.assertEqual(self.written(guide(SERVICE, event(), head=head)), self.written(guide(SERVICE, event())))
+
     def test_an_event_is_a_programme(self) -> None:
         (found,) = self.programmes(event(country="DEU", rating="9", genres="1.1.0 15.3.7", short="hex:526164696f204772c86ffb65", extended="D"))
         self.assertEqual(found.attrib, {"start": "20261130200000 +0000", "stop": "20261130213000 +0000", "channel": "101.7.65281.dvb"})
