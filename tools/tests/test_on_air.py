@@ -13,7 +13,7 @@ from pathlib import Path
 from typing import Dict, List, Tuple
 
 from loading import load
-from on_air_run import OnAirRun, needs_program, program, wait_until, without_nulls
+from on_air_run import DESCRIPTION, OnAirRun, needs_program, program, wait_until, without_nulls
 from air_streams import breaks, ts
 
 load("air/ts_merge")
@@ -118,6 +118,17 @@ class OnAir(Case):
         self.assertEqual(breaks(stream), [])
         self.assertEqual({version: len(contents) for version, contents in versions(stream, SDT).items()}, {0: 1, 1: 1, 2: 1, 3: 1})
         self.assertIn("\tNews 3\t", self.guide())
+
+    def test_offset_lines_change_at_a_stop_and_a_start(self) -> None:
+        mainland, azores = "offset,PRT,1,ahead,60,2027-10-31T01:00:00Z,0\n", "offset,PRT,2,behind,0,2027-10-31T01:00:00Z,60\n"
+        for lines in ("offset,PRT,1,ahead,0,2027-03-28T01:00:00Z,60\n", mainland + azores):
+            run = self.begin(description=DESCRIPTION.replace("end\n", f"{lines}end\n"))
+            self.assertTrue(run.put_on_air("1.txt", name(101, "Harbour")), run.log())
+            time.sleep(0.5)
+            self.assertEqual(run.end(), 0, run.log())
+        self.assertEqual(breaks(self.air.read_bytes()), [])
+        local = [line.split("\t")[:-1] for line in self.guide().splitlines() if line.startswith("local\t")]
+        self.assertEqual(local, [line.replace("offset", "local").strip().split(",") for line in (mainland, azores)])
 
     def test_a_kill_gives_no_version_to_two_contents(self) -> None:
         run = self.begin()

@@ -52,7 +52,7 @@ class Package(unittest.TestCase):
         self.assertIn(b"service\t101\t1\tAcme\tNews\t256\t257\nend\n", heard.stderr)
 
     def test_the_tools_run(self) -> None:
-        for name in ("lepnugan-on-air", "lepnugan-ts-merge", "lepnugan-ts-sync"):
+        for name in ("lepnugan-on-air", "lepnugan-ts-merge", "lepnugan-ts-sync", "lepnugan-offset"):
             done = run(self.installed(name), "--help")
             self.assertEqual((done.returncode, done.stdout[:6]), (0, b"usage:"), done.stderr)
         commands = [path for path in (self.tree / "usr" / "bin").iterdir() if path.is_symlink()]
