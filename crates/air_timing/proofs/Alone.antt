@@ -1,0 +1,77 @@
+-- What the numbers of a section alone say of a step.
+use Rattle.std.proofs.Common.{◌≡◌, ℕ, ◌+◌, ◌<◌, List, Bool, true, false, refl, sym, ap, ap₂, ◌∙◌, subst, length}
+use Rattle.std.specs.Prelude.{if◌then◌else◌, ◌==◌, slice_index_or, slice_set}
+use Rattle.std.proofs.Math.Path.{fun_ext}
+use Rattle.std.proofs.lemmas.Bool.{eqb-true, eqb-false}
+use Rattle.std.proofs.lemmas.List.{get_or-set_same, get_or-set_other}
+use Rattle.cycle_plan.specs.Packing.{Packing, used_at_end}
+use Rattle.air_timing.specs.Pacing.{Timed, first_of, last_of, taken_at, nulls_before}
+use Rattle.air_timing.specs.PaceView.{Seen, seen_of, place_of, numbers, alone, AreOf, Puts}
+use Rattle.air_timing.specs.declared.pace.Paced.{Paced}
+use Rattle.air_timing.specs.declared.pace.Spacing.{Spacing}
+use Rattle.air_timing.specs.declared.pace.Pace.TheInside.{Inside}
+
+same_numbers : (t : Timed) (x : ℕ) (s : Paced) (spacing : Spacing) → AreOf t x s spacing → alone s spacing ≡ numbers (t.pid x) (t.len x) (t.table x) t.gap t.least
+same_numbers t x s spacing a = sym (
+    ap (λ (n : ℕ). numbers n (t.len x) (t.table x) t.gap t.least) a.pid
+    ∙ ap (λ (n : ℕ). numbers s.pid n (t.table x) t.gap t.least) a.len
+    ∙ ap (λ (n : ℕ). numbers s.pid s.len n t.gap t.least) a.table
+    ∙ ap (λ (n : ℕ). numbers s.pid s.len s.table n t.least) a.gap
+    ∙ ap (λ (n : ℕ). numbers s.pid s.len s.table spacing.gap n) a.least
+    )
+
+pub puts_alone : (t : Timed) (x : ℕ) (s : Paced) (spacing : Spacing) (old new : Seen) (n : ℕ) → AreOf t x s spacing → Puts (alone s spacing) 0 old new n → Puts t x old new n
+puts_alone t x s spacing old new n a h =
+    let r = subst (λ (u : Timed). Puts u 0 old new n) (same_numbers t x s spacing a) h in
+    record { place = r.place; nulls = r.nulls }
+
+pub last_alone : (t : Timed) (x : ℕ) (s : Paced) (spacing : Spacing) (old : Seen) → AreOf t x s spacing → last_of (alone s spacing) (place_of old) 0 ≡ last_of t (place_of old) x
+last_alone t x s spacing old a = ap (λ (u : Timed). last_of u (place_of old) 0) (same_numbers t x s spacing a)
+
+pub first_alone : (t : Timed) (x : ℕ) (s : Paced) (spacing : Spacing) (old : Seen) → AreOf t x s spacing → first_of (alone s spacing) (place_of old) 0 ≡ first_of t (place_of old) x
+first_alone t x s spacing old a = ap (λ (u : Timed). first_of u (place_of old) 0) (same_numbers t x s spacing a)
+
+-- ---- the sub-table of a section is put off
+
+free_with : (free : List ℕ) (i n k : ℕ) → i < length free → slice_index_or (slice_set free i n) k 0 ≡ (if k == i then n else slice_index_or free k 0)
+free_with free i n k l = go (k == i) refl
+  where
+    go : (b : Bool) → (k == i) ≡ b → slice_index_or (slice_set free i n) k 0 ≡ (if b then n else slice_index_or free k 0)
+    go true e = ap (λ (j : ℕ). slice_index_or (slice_set free i n) j 0) (eqb-true k i e) ∙ get_or-set_same free i n 0 l
+    go false e = get_or-set_other free i k n 0 (eqb-false k i e)
+
+-- what a pace is where a section has been put in
+abbrev with_section : Inside → Paced → ℕ → ℕ → ℕ → Seen
+with_section p s last used free = record {
+  packing = record { closed = last; pid = s.pid; used = used };
+  free = slice_set p.free.items s.table free;
+  spacing = p.spacing;
+}
+
+-- the last packet of a section, the bytes of its first and of its last packet, the packet in which its sub-table is free again, and the null
+-- packets before it
+pub record Numbers (s : Paced) (old : Seen) (last before used free nulls : ℕ) : Type 0 where
+  pub table : s.table < length old.free
+  pub last_is : last ≡ last_of (alone s old.spacing) (place_of old) 0
+  pub before_is : before ≡ taken_at (alone s old.spacing) (place_of old) 0
+  pub used_is : used ≡ used_at_end (before + s.len)
+  pub free_is : free ≡ last + 1 + old.spacing.gap
+  pub nulls_are : nulls ≡ nulls_before (alone s old.spacing) (place_of old) 0
+
+put_inside : (s : Paced) (p : Inside) (last before used free nulls : ℕ) → Numbers s (seen_of p) last before used free nulls
+    → Puts (alone s p.spacing) 0 (seen_of p) (with_section p s last used free) nulls
+put_inside s p last before used free nulls h =
+    let u : used ≡ used_at_end (taken_at (alone s p.spacing) (place_of (seen_of p)) 0 + s.len) = h.used_is ∙ ap (λ (n : ℕ). used_at_end (n + s.len)) h.before_is in
+    let f : free ≡ last_of (alone s p.spacing) (place_of (seen_of p)) 0 + 1 + p.spacing.gap = h.free_is ∙ ap (λ (n : ℕ). n + 1 + p.spacing.gap) h.last_is in
+    record {
+      place = ap₂ (λ (q : Packing) (free : ℕ → ℕ). record { packing = q; free = free })
+          (ap₂ (λ (n m : ℕ). record { closed = n; pid = s.pid; used = m }) h.last_is u)
+          (fun_ext (λ k. free_with p.free.items s.table free k h.table ∙ ap (λ (n : ℕ). if k == s.table then n else slice_index_or p.free.items k 0) f));
+      nulls = h.nulls_are;
+    }
+
+pub put_is : (s : Paced) (p : Inside) (old : Seen) → seen_of p ≡ old → (last before used free nulls : ℕ) → Numbers s old last before used free nulls
+    → (t : Timed) (x : ℕ) → AreOf t x s old.spacing → Puts t x old (with_section p s last used free) nulls
+put_is s p old e last before used free nulls h t x a =
+    puts_alone t x s old.spacing old (with_section p s last used free) nulls a
+    (subst (λ (q : Seen). Numbers s q last before used free nulls → Puts (alone s q.spacing) 0 q (with_section p s last used free) nulls) e (put_inside s p last before used free nulls) h)

@@ -1,0 +1,38 @@
+use Rattle.std.proofs.Common.{◌≡◌, true, sym, ap, ◌∙◌, subst}
+use Rattle.std.specs.Prelude.{slice_index}
+use Rattle.air_timing.specs.PlanView.{Course, course_of, lead_of, end_of, left_of, leads_on}
+use Rattle.air_timing.specs.Plan.{timed_of, section_at}
+use Rattle.air_timing.proofs.Courses.{IsSent, sends_lead, are_of}
+use Rattle.air_timing.proofs.plan.FramePlan.send_lead.Goals as goal
+
+pub invariant_of-self : goal.invariant_of-self
+invariant_of-self c =
+    let p = course_of c.self.inside in
+    let x = c.lead_section-index.result in
+    let on = subst (λ (q : Course). leads_on q ≡ true) (sym c.self.view_is) c.requires in
+    let at = subst (λ (q : Course). x ≡ slice_index (lead_of q) q.led) (sym c.self.view_is) c.lead_section-index.ensures.value in
+    let section = subst (λ (q : Course). c.section-section.result ≡ section_at q.plan.sections x) (sym c.self.view_is) c.section-section.ensures.section in
+    let sent : IsSent p c.put-nulls.new.self x c.put-nulls.result = record {
+      puts = c.put-nulls.ensures.puts (timed_of p.plan) x (are_of p.plan x c.section-section.result section);
+      tables = c.put-nulls.ensures.tables;
+      spacing = c.put-nulls.ensures.spacing;
+      most = c.put-nulls.ensures.most;
+    } in
+    let s = sends_lead p c.put-nulls.new.self x c.put-nulls.result c.frame_end-self-inside.result c.self.invariant on at (c.frame_end-self-inside.ensures ∙ sym (ap end_of c.self.view_is)) sent in
+    s.is
+
+pub returns : goal.returns
+returns c =
+    let p = course_of c.self.inside in
+    let x = c.lead_section-index.result in
+    let on = subst (λ (q : Course). leads_on q ≡ true) (sym c.self.view_is) c.requires in
+    let at = subst (λ (q : Course). x ≡ slice_index (lead_of q) q.led) (sym c.self.view_is) c.lead_section-index.ensures.value in
+    let section = subst (λ (q : Course). c.section-section.result ≡ section_at q.plan.sections x) (sym c.self.view_is) c.section-section.ensures.section in
+    let sent : IsSent p c.put-nulls.new.self x c.put-nulls.result = record {
+      puts = c.put-nulls.ensures.puts (timed_of p.plan) x (are_of p.plan x c.section-section.result section);
+      tables = c.put-nulls.ensures.tables;
+      spacing = c.put-nulls.ensures.spacing;
+      most = c.put-nulls.ensures.most;
+    } in
+    let s = sends_lead p c.put-nulls.new.self x c.put-nulls.result c.frame_end-self-inside.result c.self.invariant on at (c.frame_end-self-inside.ensures ∙ sym (ap end_of c.self.view_is)) sent in
+    sym (ap left_of c.self.view_is) ∙ s.left

@@ -1,0 +1,9 @@
+pub mod Pacing
+pub mod Spreading
+pub mod Frames
+pub mod Rate
+pub mod PaceView
+pub mod Turns
+pub mod Plan
+pub mod PlanView
+pub mod Rows

@@ -1,0 +1,56 @@
+-- What contracts see of a pace.
+use Rattle.std.specs.Prelude.{◌≡◌, ℕ, ◌+◌, ◌<◌, ◌≤◌, List, slice_index_or}
+use Rattle.cycle_plan.specs.Packing.{Packing}
+use Rattle.air_timing.specs.Pacing.{Timed, Place, paced_one, nulls_before}
+use Rattle.air_timing.specs.declared.pace.Paced.{Paced}
+use Rattle.air_timing.specs.declared.pace.Spacing.{Spacing}
+use Rattle.air_timing.specs.declared.pace.Pace.TheInside.{Inside}
+
+-- the packing, and of each sub-table the first packet in which its next section may begin
+pub record Seen : Type 0 where
+  pub packing : Packing
+  pub free : List ℕ
+  pub spacing : Spacing
+
+abbrev pub seen_of : Inside → Seen
+seen_of p = record {
+  packing = record { closed = p.closed; pid = p.pid; used = p.used };
+  free = p.free.items;
+  spacing = p.spacing;
+}
+
+-- a packet has 184 bytes at most, and no sub-table is blocked for more than the gap
+pub record IsPace (p : Inside) : Type 0 where
+  pub used : p.used ≤ 184
+  pub gap : p.spacing.gap < 4294967296
+  pub near : (table : ℕ) → slice_index_or p.free.items table 0 ≤ p.closed + 1 + p.spacing.gap
+
+-- the place in the air
+abbrev pub place_of : Seen → Place
+place_of s = record { packing = s.packing; free = λ table. slice_index_or s.free table 0 }
+
+-- each section has these numbers
+abbrev pub numbers : ℕ → ℕ → ℕ → ℕ → ℕ → Timed
+numbers pid len table gap least = record {
+  pid = λ x. pid;
+  len = λ x. len;
+  table = λ x. table;
+  gap = gap;
+  least = least;
+}
+
+abbrev pub alone : Paced → Spacing → Timed
+alone s spacing = numbers s.pid s.len s.table spacing.gap spacing.least
+
+-- These are the numbers of this section.
+pub record AreOf (t : Timed) (x : ℕ) (s : Paced) (spacing : Spacing) : Type 0 where
+  pub pid : t.pid x ≡ s.pid
+  pub len : t.len x ≡ s.len
+  pub table : t.table x ≡ s.table
+  pub gap : t.gap ≡ spacing.gap
+  pub least : t.least ≡ spacing.least
+
+-- A section was put in after n null packets.
+pub record Puts (t : Timed) (x : ℕ) (old new : Seen) (n : ℕ) : Type 0 where
+  pub place : place_of new ≡ paced_one t (place_of old) x
+  pub nulls : n ≡ nulls_before t (place_of old) x
