@@ -1,6 +1,7 @@
 // Sub-tables in answers.
 ghost use Rattle.std.specs.Prelude.{◌≡◌};
 ghost use Rattle.section_codec.specs.Section.{longest_body};
+ghost use Rattle.section_codec.specs.Tables.{has_short_form};
 
 use crate::guides::built;
 use row_lines::Row;
@@ -11,6 +12,13 @@ fn longest_body(table: u8) -> usize
     ensures { result ≡ longest_body table }
 {
     if is_eit(table) { 4084 } else { 1012 }
+}
+
+// Whether the sections of a table have the short form.
+fn has_short_form(table: u8) -> bool
+    ensures { result ≡ has_short_form table }
+{
+    table == 0x70 || table == 0x73
 }
 
 // The number of the last section.
@@ -31,7 +39,7 @@ fn put_section(row: &mut Row, key: &Key, section: &NumberedBody, last: u8) {
         number: section.number,
         last,
     };
-    if header.table == 0x70
+    if has_short_form(header.table)
         || header.number > header.last
         || section.body.len() > longest_body(header.table)
     {
