@@ -175,9 +175,6 @@ module _ (f : Planned) (some : 0 < length f.leads) where
 end_past : (led a b : ℕ) → 0 < led → (if led == 0 then a else b) ≡ b
 end_past led a b h = ap (λ (t : Bool). if t then a else b) (ne_eqb led 0 (λ e. omega arith))
 
-off_most : (led n : ℕ) → nat_lt led n ≡ false → n ≤ led
-off_most led n h = ltb-false led n h
-
 -- what is known of the lead at hand where all of it is sent
 pub record IsLed (c : Course) : Type 0 where
   pub most : length (lead_of c) ≤ c.led
@@ -185,7 +182,7 @@ pub record IsLed (c : Course) : Type 0 where
 
 pub is_led : (c : Course) → IsCourse c → leads_on c ≡ false → IsLed c
 is_led c is off =
-    let most = off_most c.led (length (lead_of c)) off in
+    let most = ltb-false c.led (length (lead_of c)) off in
     let some = is.plan.some c.lead is.lead in
     record { most = most; end_is = end_past c.led (end_with c.plan (place_of c.seen) (lead_of c)) c.end (omega arith) }
 
