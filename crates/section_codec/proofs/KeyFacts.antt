@@ -2,7 +2,7 @@
 use Rattle.std.proofs.Common.{◌≡◌, ℕ, List, length, Bool, true, false, ◌&&◌, ◌||◌, sym, ap}
 use Rattle.std.specs.Prelude.{if◌then◌else◌, nat_le, Some, None}
 use Rattle.si_base.specs.Fields.{two_at}
-use Rattle.section_codec.specs.Tables.{is_pat, is_pmt, is_nit, is_sdt, is_events}
+use Rattle.section_codec.specs.Tables.{is_pat, is_pmt, is_nit, is_sdt, is_sdt_other, is_events, is_events_other}
 use Rattle.section_codec.specs.Keys.{key_with, key_in}
 use Rattle.section_codec.specs.declared.section.LongHeader.{LongHeader}
 use Rattle.section_codec.specs.declared.table.Key.{Key}
@@ -20,7 +20,7 @@ with_is pid h stream network k e =
 
 pub IsKeyOf-key_in : (pid : ℕ) (h : LongHeader) (body : List ℕ) (k : Key) → key_in pid h body ≡ Some k → IsKeyOf pid h k
 IsKeyOf-key_in pid h body k =
-    go (is_pat pid h.table || is_pmt pid h.table || is_nit pid h.table) (is_sdt pid h.table && nat_le 2 (length body)) (is_events pid h.table && nat_le 4 (length body))
+    go (is_pat pid h.table || is_pmt pid h.table || is_nit pid h.table) ((is_sdt pid h.table || is_sdt_other pid h.table) && nat_le 2 (length body)) ((is_events pid h.table || is_events_other pid h.table) && nat_le 4 (length body))
   where
     go : (plain with_network with_stream : Bool)
         → (if plain then Some (key_with pid h 0 0) else if with_network then Some (key_with pid h 0 (two_at 0 body)) else if with_stream then Some (key_with pid h (two_at 0 body) (two_at 2 body)) else None) ≡ Some k

@@ -1,7 +1,7 @@
 -- The keys of sub-tables, by the table of PIDs and table_ids (EN 300 468, 5.1.1 and 5.1.3).
 use Rattle.std.specs.Prelude.{ℕ, ◌&&◌, ◌||◌, if◌then◌else◌, nat_le, List, length, slice_index, Option, Some, None}
 use Rattle.si_base.specs.Fields.{two_at}
-use Rattle.section_codec.specs.Tables.{is_pat, is_pmt, is_nit, is_sdt, is_events}
+use Rattle.section_codec.specs.Tables.{is_pat, is_pmt, is_nit, is_sdt, is_sdt_other, is_events, is_events_other}
 use Rattle.section_codec.specs.declared.section.LongHeader.{LongHeader}
 use Rattle.section_codec.specs.declared.table.Key.{Key}
 
@@ -12,8 +12,8 @@ key_with pid h stream network = record { pid = pid; table = h.table; ext = h.ext
 abbrev pub key_in : ℕ → LongHeader → List ℕ → Option Key
 key_in pid h body =
     if is_pat pid h.table || is_pmt pid h.table || is_nit pid h.table then Some (key_with pid h 0 0)
-    else if is_sdt pid h.table && nat_le 2 (length body) then Some (key_with pid h 0 (two_at 0 body))
-    else if is_events pid h.table && nat_le 4 (length body) then Some (key_with pid h (two_at 0 body) (two_at 2 body))
+    else if (is_sdt pid h.table || is_sdt_other pid h.table) && nat_le 2 (length body) then Some (key_with pid h 0 (two_at 0 body))
+    else if (is_events pid h.table || is_events_other pid h.table) && nat_le 4 (length body) then Some (key_with pid h (two_at 0 body) (two_at 2 body))
     else None
 
 -- segment_last_section_number and last_table_id of an EIT's body

@@ -15,7 +15,7 @@ has_long_form table = table == 0x00 || table == 0x02 || table == 0x40 || table =
 abbrev pub has_short_form : ℕ → Bool
 has_short_form table = table == 0x70 || table == 0x73
 
--- where each table of this multiplex is sent
+-- where each table of this multiplex, and of others, is sent
 abbrev pub is_pat : ℕ → ℕ → Bool
 is_pat pid table = pid == 0x0000 && table == 0x00
 
@@ -28,15 +28,24 @@ is_nit pid table = pid == 0x0010 && table == 0x40
 abbrev pub is_sdt : ℕ → ℕ → Bool
 is_sdt pid table = pid == 0x0011 && table == 0x42
 
+-- the SDT of another stream
+abbrev pub is_sdt_other : ℕ → ℕ → Bool
+is_sdt_other pid table = pid == 0x0011 && table == 0x46
+
 -- present and following, or schedule
 abbrev pub is_events : ℕ → ℕ → Bool
 is_events pid table = pid == 0x0012 && (table == 0x4E || nat_le 0x50 table && nat_le table 0x5F)
 
--- how often a cycle repeats a table: the schedules of the first eight days less often, later ones least
+-- those of other streams
+abbrev pub is_events_other : ℕ → ℕ → Bool
+is_events_other pid table = pid == 0x0012 && (table == 0x4F || nat_le 0x60 table && nat_le table 0x6F)
+
+-- how often a cycle repeats a table: the schedules of the first eight days, and of other streams the SDT and present and following, less
+-- often, later schedules and those of other streams least
 abbrev pub tier_of : ℕ → Tier3
 tier_of table =
-    if table == 0x50 || table == 0x51 then Near
-    else if nat_le 0x52 table && nat_le table 0x5F then Far
+    if table == 0x50 || table == 0x51 || table == 0x46 || table == 0x4F then Near
+    else if nat_le 0x52 table && nat_le table 0x6F then Far
     else Fast
 
 -- the place of a tier in a cycle: first Fast, then Near, then Far

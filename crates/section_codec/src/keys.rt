@@ -9,15 +9,18 @@ use crate::section::LongHeader;
 use crate::table::Key;
 
 /// The key of a section that was heard on this PID, or None where PID and table_id belong to none of
-/// PAT, PMT, NIT, SDT and EIT of this multiplex, or the body is too short for the key's fields
+/// PAT, PMT, NIT, SDT and EIT of this multiplex or of others, or the body is too short for the key's fields
 /// (EN 300 468, 5.1.1 and 5.1.3).
 pub fn key_of(pid: u16, header: &LongHeader, body: &[u8]) -> Option<Key>
     ensures { result ≡ key_in pid header.now body.now }
 {
     let (stream, network) = match (pid, header.table) {
         (0x0000, 0x00) | (0x0020..=0x1FFE, 0x02) | (0x0010, 0x40) => (0, 0),
-        (0x0011, 0x42) if body.len() >= 2 => (0, two_at(body, 0)),
-        (0x0012, 0x4E | 0x50..=0x5F) if body.len() >= 4 => (two_at(body, 0), two_at(body, 2)),
+        (0x0011, 0x42 | 0x46) if body.len() >= 2 => (0, two_at(body, 0)),
+        (0x0012, 0x4E | 0x4F | 0x50..=0x6F) if body.len() >= 4 => (
+            two_at(body, 0),
+            two_at(body, 2),
+        ),
         _ => return None,
     };
     Some(Key {
