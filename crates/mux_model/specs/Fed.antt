@@ -1,0 +1,31 @@
+-- What feeds edit of a service, of whatever stream: the feed that owns it, and its names.
+use Rattle.std.specs.Prelude.{ℕ, ◌<◌, ◌≤◌, List, [], ◌∷◌, map}
+use Rattle.std.specs.List.{AllByRecursion}
+use Rattle.si_text.specs.Coding.{coded_size}
+use Rattle.mux_model.specs.declared.mux.MuxService.{MuxService}
+use Rattle.mux_model.specs.declared.mux.Mux.{Mux}
+use Rattle.mux_model.specs.Sound.{Between}
+
+pub record FedService : Type 0 where
+  pub service : ℕ
+  pub feed : ℕ
+  pub provider : List ℕ
+  pub name : List ℕ
+
+abbrev pub fed_of : MuxService → FedService
+fed_of s = record { service = s.service; feed = s.feed; provider = s.provider; name = s.name }
+
+-- the services that feeds edit, by ascending id
+abbrev pub fed_services : Mux → List FedService
+fed_services mux = map fed_of mux.services
+
+pub record IsSoundFed (s : FedService) : Type 0 where
+  pub service : Between 1 65535 s.service
+  pub feed : Between 1 16 s.feed
+  pub provider : coded_size s.provider ≤ 100
+  pub name : Between 1 100 (coded_size s.name)
+
+-- each id is below those behind it
+abbrev pub DoFedAscend : List FedService → Type 0
+DoFedAscend [] = Unit {0}
+DoFedAscend (s ∷ ss) = AllByRecursion (λ (t : FedService). s.service < t.service) ss × DoFedAscend ss
