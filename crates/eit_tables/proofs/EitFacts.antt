@@ -9,7 +9,6 @@ use Rattle.si_lists.proofs.Lists.{all_map, all_two, range_more, all_of_map, all_
 use Rattle.si_base.specs.Fields.{two, two_at}
 use Rattle.guide_model.specs.declared.event.Event.{Event}
 use Rattle.desc_event.specs.EventDescriptors.{entry_size}
-use Rattle.mux_model.specs.declared.mux.Mux.{Mux}
 use Rattle.guide_limits.specs.Events.{block_of}
 use Rattle.longest_runs.proofs.RunFacts.{runs_fit}
 use Rattle.section_codec.specs.declared.table.NumberedBody.{NumberedBody}
@@ -28,7 +27,7 @@ use Rattle.eit_segments.proofs.Few.{filter_all, sum_map, events_can_be_placed}
 use Rattle.eit_segments.proofs.Order.{runs_few, used_less}
 use Rattle.eit_segments.proofs.Numbers.{Rise, IsInSegment, table_rises, table_below, table_in_segments, tables_are_whole}
 use Rattle.eit_segments.proofs.EventsOf.{segments_have_runs}
-use Rattle.eit_tables.specs.Eit.{eit_head}
+use Rattle.eit_tables.specs.Eit.{Bearer, eit_head}
 use Rattle.eit_tables.specs.Present.{event_at, present_event, following_event}
 use Rattle.eit_tables.specs.Schedule.{last_table_of, schedule_section}
 use Rattle.eit_tables.specs.Laws.{AreSmallEntries, AreEit, Names, PresentIsFit, ScheduleIsFit, EventsAreRead, EventsNameTheMux}
@@ -53,10 +52,10 @@ body_size h status es = omega (arith, length-append (head_bytes h) (flat_map (wr
 body_fits : (h : EitHead) (status : ℕ) (es : List Event) → sum_by entry_size es ≤ 4078 → (6 ≤ length (eit_body h status es)) × (length (eit_body h status es) ≤ 4084)
 body_fits h status es fits = (let size = body_size h status es in (omega (arith, size), omega (arith, size, fits)))
 
-body_names : (mux : Mux) (segment_last last_table status : ℕ) (es : List Event) → mux.stream < 65536 → mux.original < 65536 → Names mux (eit_body (eit_head mux segment_last last_table) status es)
-body_names mux segment_last last_table status es stream original =
+body_names : (bearer : Bearer) (segment_last last_table status : ℕ) (es : List Event) → bearer.stream < 65536 → bearer.original < 65536 → Names bearer (eit_body (eit_head bearer segment_last last_table) status es)
+body_names bearer segment_last last_table status es stream original =
     let rest = segment_last ∷ last_table ∷ flat_map (written_bytes status) es in
-    (at_front mux.stream mux.original rest stream, behind_front mux.stream mux.original rest original)
+    (at_front bearer.stream bearer.original rest stream, behind_front bearer.stream bearer.original rest original)
 
 -- a body tells the last number of its segment
 tells : (h : EitHead) (rest : List ℕ) (number : ℕ) → segment_of h.segment_last ≡ segment_of number → segment_last_in number (head_bytes h ++ rest) ≡ Some h.segment_last
@@ -78,8 +77,8 @@ small_at None es small = omega arith
 small_at (Some i) es small = small_one i es small
 
 pub present_fit : PresentIsFit
-present_fit mux moment service small =
-    let h = eit_head mux 1 0x4E in
+present_fit bearer moment service small =
+    let h = eit_head bearer 1 bearer.present in
     let on = flat_map (written_bytes 4) (present_event moment service.events) in
     let next = flat_map (written_bytes 1) (following_event moment service.events) in
     let zeroth : segment_last_in 0 (head_bytes h ++ on) ≡ Some 1 = tells h on 0 refl in
@@ -110,9 +109,9 @@ length-from : (table last segment_last number from : ℕ) (runs : List (List Eve
 length-from table last segment_last number from [] = refl
 length-from table last segment_last number from (run ∷ runs) = omega (arith, length-from table last segment_last (1 + number) (from + length run) runs)
 
-module _ (mux : Mux) (events : List Event) (end : ℕ) where
+module _ (bearer : Bearer) (events : List Event) (end : ℕ) where
   abbrev made : Piece → NumberedBody
-  made = schedule_section mux events end
+  made = schedule_section bearer events end
 
   made_numbers : (ps : List Piece) → numbers (map made ps) ≡ map (λ (p : Piece). p.number) ps
   made_numbers [] = refl
@@ -148,7 +147,7 @@ module _ (mux : Mux) (events : List Event) (end : ℕ) where
     where
       go : (b : Bool) → segment_last_at (map made ps) n ≡ told_last ps n → told_by (if b then Some (made p) else find (λ (s : NumberedBody). segment_of s.number == n) (map made ps))
           ≡ option_map (λ (q : Piece). q.segment_last) (if b then Some p else find (λ (q : Piece). segment_of q.number == n) ps)
-      go true rest = tells (eit_head mux p.segment_last end) (flat_map (written_bytes 0) (section_events p events)) p.number (all.0).0
+      go true rest = tells (eit_head bearer p.segment_last end) (flat_map (written_bytes 0) (section_events p events)) p.number (all.0).0
       go false rest = rest
 
   -- the entries of each section fit
@@ -170,11 +169,11 @@ module _ (mux : Mux) (events : List Event) (end : ℕ) where
       (subst (λ (l : List (List EventAt)). AllByRecursion (λ (r : List EventAt). sum_by (λ (e : EventAt). e.size) r ≤ 4078) l) (sym (segments_have_runs table last segment block ats placed)) runs))
 
 -- the sections of a table, by its first block
-table_fit : (mux : Mux) (events : List Event) (end table first : ℕ) → CanBePlaced (map at_of events)
-    → AreEit (map (schedule_section mux events end) (table_sections table first (map at_of events)))
-table_fit mux events end table first placed =
+table_fit : (bearer : Bearer) (events : List Event) (end table first : ℕ) → CanBePlaced (map at_of events)
+    → AreEit (map (schedule_section bearer events end) (table_sections table first (map at_of events)))
+table_fit bearer events end table first placed =
     let ats = map at_of events in
-    let made = schedule_section mux events end in
+    let made = schedule_section bearer events end in
     let ps = table_sections table first ats in
     let used = last_used first 32 ats in
     let less : used < 32 = used_less first 32 ats (omega arith) in
@@ -187,35 +186,35 @@ table_fit mux events end table first placed =
     let whole = tables_are_whole table first ats placed.fit in
     let last : last_number (map made ps) ≡ last_in_table first ats =
     ap (λ (l : List Piece). last_number (map made l)) parts
-    ∙ last_of mux events end before table (last_in_table first ats) (8 * used + (length runs - 1)) (8 * used) (block_place (first + used) ats) runs few.0 in
+    ∙ last_of bearer events end before table (last_in_table first ats) (8 * used + (length runs - 1)) (8 * used) (block_place (first + used) ats) runs few.0 in
     let size = length-from table (last_in_table first ats) (8 * used + (length runs - 1)) (8 * used) (block_place (first + used) ats) runs in
     record {
       below = omega (arith, last, less, few.0, few.1);
       bodies = all_to_map (λ (s : NumberedBody). (6 ≤ length s.body) × (length s.body ≤ 4084)) made ps
           (all_map (λ (p : Piece). sum_by entry_size (section_events p events) ≤ 4078) (λ (p : Piece). (6 ≤ length (made p).body) × (length (made p).body ≤ 4084))
-          (λ p h. body_fits (eit_head mux p.segment_last end) 0 (section_events p events) h) ps
-          (each_flat (λ (p : Piece). sum_by entry_size (section_events p events) ≤ 4078) of (λ segment. segment_fits mux events end placed table (last_in_table first ats) segment (first + segment)) (range_with_len 0 (used + 1))));
+          (λ p h. body_fits (eit_head bearer p.segment_last end) 0 (section_events p events) h) ps
+          (each_flat (λ (p : Piece). sum_by entry_size (section_events p events) ≤ 4078) of (λ segment. segment_fits bearer events end placed table (last_in_table first ats) segment (first + segment)) (range_with_len 0 (used + 1))));
       by_segments = record {
         some = omega (arith, length-map ps made, ap length parts, length-append before (of used), size, few.0);
-        ascending = made_ascend mux events end 0 ps (table_rises table first ats placed.fit);
+        ascending = made_ascend bearer events end 0 ps (table_rises table first ats placed.fit);
         needed = ap (table_needs (segment_last_at (map made ps))) last
-            ∙ needs_same (segment_last_at (map made ps)) (told_last ps) (made_told mux events end ps inside) 0 (1 + segment_of (last_in_table first ats))
-            ∙ whole.numbers ∙ ap Some (sym (made_numbers mux events end ps));
+            ∙ needs_same (segment_last_at (map made ps)) (told_last ps) (made_told bearer events end ps inside) 0 (1 + segment_of (last_in_table first ats))
+            ∙ whole.numbers ∙ ap Some (sym (made_numbers bearer events end ps));
         agree = all_to_map (λ (s : NumberedBody). segment_last_in s.number s.body ≡ segment_last_at (map made ps) (segment_of s.number)) made ps
             (all_two IsInSegment (λ (p : Piece). told_last ps (segment_of p.number) ≡ Some p.segment_last) (λ (p : Piece). segment_last_in p.number (made p).body ≡ segment_last_at (map made ps) (segment_of p.number))
-            (λ p i t. tells (eit_head mux p.segment_last end) (flat_map (written_bytes 0) (section_events p events)) p.number i.0
-            ∙ sym t ∙ sym (made_told mux events end ps inside (segment_of p.number)))
+            (λ p i t. tells (eit_head bearer p.segment_last end) (flat_map (written_bytes 0) (section_events p events)) p.number i.0
+            ∙ sym t ∙ sym (made_told bearer events end ps inside (segment_of p.number)))
             ps inside whole.segment_last);
       };
       told = all_to_map (λ (s : NumberedBody). (n : ℕ) × (segment_last_in s.number s.body ≡ Some n) × (n ≤ last_number (map made ps))) made ps
           (all_two IsInSegment (λ (p : Piece). p.segment_last ≤ last_in_table first ats) (λ (p : Piece). (n : ℕ) × (segment_last_in p.number (made p).body ≡ Some n) × (n ≤ last_number (map made ps)))
-          (λ p i b. (p.segment_last, tells (eit_head mux p.segment_last end) (flat_map (written_bytes 0) (section_events p events)) p.number i.0, omega (arith, b, last)))
+          (λ p i b. (p.segment_last, tells (eit_head bearer p.segment_last end) (flat_map (written_bytes 0) (section_events p events)) p.number i.0, omega (arith, b, last)))
           ps inside (table_below table first ats placed.fit));
     }
 
 pub schedule_fit : ScheduleIsFit
-schedule_fit mux day service table within small =
-    table_fit mux service.events (last_table_of day service.events) table (block_of day + 32 * (table - 0x50)) (events_can_be_placed service.events within.events small)
+schedule_fit bearer day service table within small =
+    table_fit bearer service.events (bearer.sent (last_table_of day service.events)) table (block_of day + 32 * (table - 0x50)) (events_can_be_placed service.events within.events small)
 
 -- ---- names
 
@@ -224,23 +223,23 @@ each_piece P each [] = tt
 each_piece P each (x ∷ xs) = (each x, each_piece P each xs)
 
 pub events_name : EventsNameTheMux
-events_name mux moment service table stream original =
-    let made = schedule_section mux service.events (last_table_of moment service.events) in
+events_name bearer moment service table stream original =
+    let made = schedule_section bearer service.events (bearer.sent (last_table_of moment service.events)) in
     let ps = sections_in_table moment table (map at_of service.events) in (
       (
-        body_names mux 1 0x4E 4 (present_event moment service.events) stream original,
-        (body_names mux 1 0x4E 1 (following_event moment service.events) stream original, tt),
+        body_names bearer 1 bearer.present 4 (present_event moment service.events) stream original,
+        (body_names bearer 1 bearer.present 1 (following_event moment service.events) stream original, tt),
       ),
-      all_to_map (λ (s : NumberedBody). Names mux s.body) made ps
-          (each_piece (λ (p : Piece). Names mux (made p).body) (λ p. body_names mux p.segment_last (last_table_of moment service.events) 0 (section_events p service.events) stream original) ps),
+      all_to_map (λ (s : NumberedBody). Names bearer s.body) made ps
+          (each_piece (λ (p : Piece). Names bearer (made p).body) (λ p. body_names bearer p.segment_last (bearer.sent (last_table_of moment service.events)) 0 (section_events p service.events) stream original) ps),
     )
 
 -- ---- bodies are read
 
-part_coded : (events part : List Event) → ((P : Event → Type 0) → All P events → All P part) → All IsCodable events → All IsTyped events → (mux : Mux) (segment_last last_table status : ℕ)
-    → mux.stream < 65536 → mux.original < 65536 → status < 8 → (eit : Eit) × IsEit (eit_body (eit_head mux segment_last last_table) status part) eit
-part_coded events part of codable typed mux segment_last last_table status stream original small =
-    let h = eit_head mux segment_last last_table in (
+part_coded : (events part : List Event) → ((P : Event → Type 0) → All P events → All P part) → All IsCodable events → All IsTyped events → (bearer : Bearer) (segment_last last_table status : ℕ)
+    → bearer.stream < 65536 → bearer.original < 65536 → status < 8 → (eit : Eit) × IsEit (eit_body (eit_head bearer segment_last last_table) status part) eit
+part_coded events part of codable typed bearer segment_last last_table status stream original small =
+    let h = eit_head bearer segment_last last_table in (
       record { head = h; events = map shown_event part },
       eit-reads_back h status part (record { stream = stream; original = original }) small (of IsCodable codable) (of IsTyped typed),
     )
@@ -250,17 +249,17 @@ at_place None es P all = All-from_recursion P [] tt
 at_place (Some i) es P all = All-take P 1 (drop i es) (All-drop P i es all)
 
 pub events_read : EventsAreRead
-events_read mux moment service table stream original within typed =
+events_read bearer moment service table stream original within typed =
     let es = service.events in
     let codable = all_codable es within.events.each in
     let types = All-from_recursion IsTyped es typed in
-    let made = schedule_section mux es (last_table_of moment es) in
+    let made = schedule_section bearer es (bearer.sent (last_table_of moment es)) in
     let ps = sections_in_table moment table (map at_of es) in (
       (
-        part_coded es (present_event moment es) (at_place (present_at moment (map at_of es)) es) codable types mux 1 0x4E 4 stream original (omega arith),
-        (part_coded es (following_event moment es) (at_place (following_at moment (map at_of es)) es) codable types mux 1 0x4E 1 stream original (omega arith), tt),
+        part_coded es (present_event moment es) (at_place (present_at moment (map at_of es)) es) codable types bearer 1 bearer.present 4 stream original (omega arith),
+        (part_coded es (following_event moment es) (at_place (following_at moment (map at_of es)) es) codable types bearer 1 bearer.present 1 stream original (omega arith), tt),
       ),
       all_to_map (λ (s : NumberedBody). (eit : Eit) × IsEit s.body eit) made ps
           (each_piece (λ (p : Piece). (eit : Eit) × IsEit (made p).body eit)
-          (λ p. part_coded es (section_events p es) (λ P all. All-take P (p.to - p.from) (drop p.from es) (All-drop P p.from es all)) codable types mux p.segment_last (last_table_of moment es) 0 stream original (omega arith)) ps),
+          (λ p. part_coded es (section_events p es) (λ P all. All-take P (p.to - p.from) (drop p.from es) (All-drop P p.from es all)) codable types bearer p.segment_last (bearer.sent (last_table_of moment es)) 0 stream original (omega arith)) ps),
     )

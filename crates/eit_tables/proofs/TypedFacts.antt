@@ -8,7 +8,7 @@ use Rattle.guide_model.specs.declared.event.Event.{Event}
 use Rattle.guide_model.specs.declared.event.Rating.{Rating}
 use Rattle.guide_model.specs.declared.guide.ServiceGuide.{ServiceGuide}
 use Rattle.desc_event.specs.ParentalRating.{HasThreeLetters}
-use Rattle.mux_model.specs.declared.mux.MuxService.{MuxService}
+use Rattle.mux_model.specs.Fed.{FedService, fed_services}
 use Rattle.journal_model.specs.declared.edit.Item.{Item}
 use Rattle.journal_model.specs.declared.edit.Edit.{Edit}
 use Rattle.journal_model.specs.declared.edit.Edit.TheVariants.{Put, Withdraw, Clear, Name, Day}
@@ -60,7 +60,7 @@ all_typed : (es : List Event) → AllByRecursion IsGiven es → AllByRecursion I
 all_typed [] given within = tt
 all_typed (e ∷ es) given within = (typed e given.0 within.0, all_typed es given.1 within.1)
 
-services_typed : (past : List Edit) → AllByRecursion (OfEachItem IsGiven) past → (services : List MuxService)
+services_typed : (past : List Edit) → AllByRecursion (OfEachItem IsGiven) past → (services : List FedService)
     → AllByRecursion IsServiceWithin (map (λ (kept : KeptService). kept.guide) (map (kept_after past) services))
     → AllByRecursion (λ (s : ServiceGuide). AllByRecursion IsTyped s.events) (map (λ (kept : KeptService). kept.guide) (map (kept_after past) services))
 services_typed past given [] within = tt
@@ -68,4 +68,4 @@ services_typed past given (s ∷ services) within =
     (all_typed (standing s.service past) (standing_all IsGiven s.service past given) within.0.events.each, services_typed past given services within.1)
 
 pub typed_left : ReadEditsLeaveTypedEvents
-typed_left mux past moment read within = services_typed past (all_map IsTypedEdit (OfEachItem IsGiven) edit_gives past read) mux.services within.services
+typed_left mux past moment read within = services_typed past (all_map IsTypedEdit (OfEachItem IsGiven) edit_gives past read) (fed_services mux) within.services

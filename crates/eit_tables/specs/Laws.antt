@@ -7,6 +7,7 @@ use Rattle.guide_model.specs.declared.guide.Guide.{Guide}
 use Rattle.guide_model.specs.declared.guide.ServiceGuide.{ServiceGuide}
 use Rattle.desc_event.specs.EventDescriptors.{entry_size}
 use Rattle.si_time.specs.declared.moment.Moment.{Moment}
+use Rattle.mux_model.specs.Fed.{fed_services}
 use Rattle.mux_model.specs.declared.mux.Mux.{Mux}
 use Rattle.journal_model.specs.declared.edit.Edit.{Edit}
 use Rattle.journal_model.specs.Edits.{IsTypedEdit}
@@ -17,8 +18,9 @@ use Rattle.section_codec.specs.Contents.{last_number}
 use Rattle.section_codec.specs.Segments.{segment_last_in, GoBySegments}
 use Rattle.eit_codec.specs.declared.eit.Eit.{Eit}
 use Rattle.eit_codec.specs.Eit.{IsTyped, IsEit}
-use Rattle.eit_tables.specs.Present.{present_table}
-use Rattle.eit_tables.specs.Schedule.{schedule_table}
+use Rattle.eit_tables.specs.Eit.{Bearer}
+use Rattle.eit_tables.specs.Present.{present_of}
+use Rattle.eit_tables.specs.Schedule.{schedule_of}
 
 -- each of these events has an entry of at most 1,338 bytes
 abbrev pub AreSmallEntries : List Event → Type 0
@@ -39,7 +41,7 @@ TypedEntriesAreSmall = (guide : Guide) → IsGuideWithin guide → HasTypedEvent
 abbrev pub ReadEditsLeaveTypedEvents : Type 0
 ReadEditsLeaveTypedEvents =
     (mux : Mux) (past : List Edit) (moment : Moment) → AllByRecursion IsTypedEdit past
-    → IsGuideWithin (guide_of (book_after mux.services past) moment) → HasTypedEvents (guide_of (book_after mux.services past) moment)
+    → IsGuideWithin (guide_of (book_after (fed_services mux) past) moment) → HasTypedEvents (guide_of (book_after (fed_services mux) past) moment)
 
 -- Sections of event information that can be sent, and that describe themselves: what they tell a receiver to need is just their numbers.
 pub record AreEit (sections : List NumberedBody) : Type 0 where
@@ -51,27 +53,27 @@ pub record AreEit (sections : List NumberedBody) : Type 0 where
 
 -- The sections of present and following are such, at whatever moment, and so are those of each table of a schedule, from whatever day on.
 abbrev pub PresentIsFit : Type 0
-PresentIsFit = (mux : Mux) (moment : ℕ) (service : ServiceGuide) → AreSmallEntries service.events → AreEit (present_table mux moment service).sections
+PresentIsFit = (b : Bearer) (moment : ℕ) (service : ServiceGuide) → AreSmallEntries service.events → AreEit (present_of b moment service).sections
 
 abbrev pub ScheduleIsFit : Type 0
 ScheduleIsFit =
-    (mux : Mux) (day : ℕ) (service : ServiceGuide) (table : ℕ) → IsServiceWithin service → AreSmallEntries service.events
-    → AreEit (schedule_table mux day service table).sections
+    (b : Bearer) (day : ℕ) (service : ServiceGuide) (table : ℕ) → IsServiceWithin service → AreSmallEntries service.events
+    → AreEit (schedule_of b day service table).sections
 
 -- Each of their bodies is read as event information.
 abbrev pub EventsAreRead : Type 0
 EventsAreRead =
-    (mux : Mux) (moment : ℕ) (service : ServiceGuide) (table : ℕ) → mux.stream < 65536 → mux.original < 65536 → IsServiceWithin service → AllByRecursion IsTyped service.events
-    → AllByRecursion (λ (s : NumberedBody). (eit : Eit) × IsEit s.body eit) (present_table mux moment service).sections
-    × AllByRecursion (λ (s : NumberedBody). (eit : Eit) × IsEit s.body eit) (schedule_table mux moment service table).sections
+    (b : Bearer) (moment : ℕ) (service : ServiceGuide) (table : ℕ) → b.stream < 65536 → b.original < 65536 → IsServiceWithin service → AllByRecursion IsTyped service.events
+    → AllByRecursion (λ (s : NumberedBody). (eit : Eit) × IsEit s.body eit) (present_of b moment service).sections
+    × AllByRecursion (λ (s : NumberedBody). (eit : Eit) × IsEit s.body eit) (schedule_of b moment service table).sections
 
--- a body that names the multiplex: it begins with transport_stream_id and original_network_id
-abbrev pub Names : Mux → List ℕ → Type 0
-Names mux body = (two_at 0 body ≡ mux.stream) × (two_at 2 body ≡ mux.original)
+-- a body that names the stream: it begins with transport_stream_id and original_network_id
+abbrev pub Names : Bearer → List ℕ → Type 0
+Names b body = (two_at 0 body ≡ b.stream) × (two_at 2 body ≡ b.original)
 
--- All of them name the multiplex.
+-- All of them name the stream.
 abbrev pub EventsNameTheMux : Type 0
 EventsNameTheMux =
-    (mux : Mux) (moment : ℕ) (service : ServiceGuide) (table : ℕ) → mux.stream < 65536 → mux.original < 65536
-    → AllByRecursion (λ (s : NumberedBody). Names mux s.body) (present_table mux moment service).sections
-    × AllByRecursion (λ (s : NumberedBody). Names mux s.body) (schedule_table mux moment service table).sections
+    (b : Bearer) (moment : ℕ) (service : ServiceGuide) (table : ℕ) → b.stream < 65536 → b.original < 65536
+    → AllByRecursion (λ (s : NumberedBody). Names b s.body) (present_of b moment service).sections
+    × AllByRecursion (λ (s : NumberedBody). Names b s.body) (schedule_of b moment service table).sections

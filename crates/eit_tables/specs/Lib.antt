@@ -1,4 +1,5 @@
 pub mod Eit
+pub mod Streams
 pub mod Present
 pub mod Schedule
 pub mod Laws

@@ -10,8 +10,9 @@ use Rattle.section_codec.specs.declared.table.NumberedBody.{NumberedBody}
 use Rattle.section_codec.specs.declared.table.SubTable.{SubTable}
 use Rattle.section_codec.specs.declared.table.Tier3.{Tier3}
 use Rattle.section_codec.specs.declared.table.Tier3.TheVariants.{Near, Far}
-use Rattle.eit_tables.specs.Present.{present_sections}
-use Rattle.eit_tables.specs.Schedule.{schedule_table, near_tables, far_tables}
+use Rattle.eit_tables.specs.Eit.{own, another}
+use Rattle.eit_tables.specs.Present.{present_sections, present_of}
+use Rattle.eit_tables.specs.Schedule.{schedule_table, near_tables, far_tables, remote_tables}
 
 abbrev mux_of : List MuxService → Mux
 mux_of services = record { network = 40; network_name = codes "Demo"; stream = 2; original = 1; cable = None; start = record { 0 = 0 }; quota = 200; offsets = []; services = services }
@@ -43,7 +44,7 @@ with_events events = record { service = 101; provider = codes "Acme"; name = cod
 
 -- ---- nothing published: present and following without an event, and one empty section of table 0x50
 
-nothing_present : present_sections (mux_of []) 4257187200 [] ≡ record { number = 0; body = head 1 0x4E } ∷ record { number = 1; body = head 1 0x4E } ∷ []
+nothing_present : present_sections (own (mux_of [])) 4257187200 [] ≡ record { number = 0; body = head 1 0x4E } ∷ record { number = 1; body = head 1 0x4E } ∷ []
 nothing_present = refl
 
 nothing_scheduled : near_tables (mux_of []) 4257187200 (with_events []) ≡ eit 101 0x50 Near (record { number = 0; body = head 0 0x50 } ∷ []) ∷ []
@@ -72,7 +73,7 @@ unfolding moment_bcd duration_bcd pieces first_pieces
 at_one = refl
 
 -- over midnight, at a quarter past: present with running_status 4, and none follows; the day's table is empty
-over_midnight : present_sections (mux_of []) 4257274500 (news 9 84600 3600 ∷ [])
+over_midnight : present_sections (own (mux_of [])) 4257274500 (news 9 84600 3600 ∷ [])
     ≡ bodies (0 ∷ 1 ∷ []) ((head 1 0x4E ++ entry 9 (0x23 ∷ 0x30 ∷ 0x00 ∷ []) (0x01 ∷ 0x00 ∷ 0x00 ∷ []) 4) ∷ head 1 0x4E ∷ [])
 unfolding moment_bcd duration_bcd pieces first_pieces
 over_midnight = refl
@@ -82,7 +83,7 @@ unfolding moment_bcd duration_bcd pieces first_pieces
 day_behind = refl
 
 -- before it begins: none is present, and it follows with running_status 1
-follows : present_sections (mux_of []) 4257271799 (news 9 84600 3600 ∷ [])
+follows : present_sections (own (mux_of [])) 4257271799 (news 9 84600 3600 ∷ [])
     ≡ bodies (0 ∷ 1 ∷ []) (head 1 0x4E ∷ (head 1 0x4E ++ entry 9 (0x23 ∷ 0x30 ∷ 0x00 ∷ []) (0x01 ∷ 0x00 ∷ 0x00 ∷ []) 1) ∷ [])
 unfolding moment_bcd duration_bcd pieces first_pieces
 follows = refl
@@ -105,3 +106,21 @@ later_tiers = refl
 later_numbers : map (λ (t : SubTable). map (λ (s : NumberedBody). s.number) t.sections) later_tables ≡ (0 ∷ 8 ∷ 16 ∷ 24 ∷ 32 ∷ 40 ∷ 48 ∷ 56 ∷ []) ∷ []
 unfolding moment_bcd duration_bcd pieces first_pieces
 later_numbers = refl
+
+-- ---- a service of another stream, 3 of network 4: the same sections under the table_ids of other streams
+
+abbrev other_head : ℕ → ℕ → List ℕ
+other_head segment_last last_table = 0x00 ∷ 0x03 ∷ 0x00 ∷ 0x04 ∷ segment_last ∷ last_table ∷ []
+
+abbrev other_eit : ℕ → Tier3 → List NumberedBody → SubTable
+other_eit table tier sections = record { key = record { pid = 18; table = table; ext = 101; stream = 3; network = 4 }; tier = tier; sections = sections }
+
+other_present : present_of (another 3 4) 4257187200 (with_events []) ≡ other_eit 0x4F Near (bodies (0 ∷ 1 ∷ []) (other_head 1 0x4F ∷ other_head 1 0x4F ∷ []))
+other_present = refl
+
+other_scheduled : remote_tables (another 3 4) 4257187200 (with_events []) ≡ other_eit 0x60 Far (bodies (0 ∷ []) (other_head 0 0x60 ∷ [])) ∷ []
+other_scheduled = refl
+
+-- one event eight days later: tables 0x60 to 0x62, all Far, which all name the last table 0x62
+other_later : map (λ (t : SubTable). t.key.table) (remote_tables (another 3 4) 4256496000 (with_events (news 9 84600 3600 ∷ []))) ≡ 0x60 ∷ 0x61 ∷ 0x62 ∷ []
+other_later = refl

@@ -4,7 +4,8 @@ ghost use Rattle.std.specs.List.{All};
 ghost use Rattle.desc_event.specs.EventDescriptors.{IsWithinLimits};
 ghost use Rattle.eit_segments.specs.declared.event.EventAt.{EventAt as EventShape};
 ghost use Rattle.eit_segments.specs.Laws.{at_of};
-ghost use Rattle.eit_tables.specs.Eit.{eit_key, eit_head};
+ghost use Rattle.eit_tables.specs.Eit.{own, bearer_key, eit_head};
+ghost use Rattle.eit_tables.specs.Streams.{bearer_of};
 
 use desc_event::event_len;
 use eit_codec::EitHead;
@@ -17,26 +18,62 @@ use std::alloc::{AllocError, Global};
 /// The PID of the event information tables (EN 300 468, 5.1.3).
 const EIT_PID: u16 = 0x0012;
 
+/// The stream that has a service: this multiplex or another one, its transport_stream_id and its original_network_id.
+#[derive(Clone, Copy)]
+pub struct Stream {
+    pub is_own: bool,
+    pub stream: u16,
+    pub original: u16,
+}
+
+impl Stream {
+    /// The stream of this multiplex.
+    pub fn of_mux(mux: &Mux) -> Stream
+        ensures { bearer_of result ≡ own mux.now }
+    {
+        Stream {
+            is_own: true,
+            stream: mux.stream,
+            original: mux.original,
+        }
+    }
+
+    /// The table_id of present and following (EN 300 468, 5.2.4).
+    pub(crate) fn present(self) -> u8
+        ensures { result ≡ (bearer_of self).present }
+    {
+        if self.is_own { 0x4E } else { 0x4F }
+    }
+
+    /// The table_id under which a table of a schedule is sent (EN 300 468, 5.2.4).
+    pub(crate) fn sent(self, table: u8) -> u8
+        requires { (80 ≤ table) × (table ≤ 95) }
+        ensures { result ≡ (bearer_of self).sent table }
+    {
+        if self.is_own { table } else { table + 0x10 }
+    }
+}
+
 /// What names a table of event information of a service.
-pub(crate) fn eit_key(mux: &Mux, table: u8, service: u16) -> Key
-    ensures { result ≡ eit_key mux.now table service }
+pub(crate) fn eit_key(of: Stream, table: u8, service: u16) -> Key
+    ensures { result ≡ bearer_key (bearer_of of) table service }
 {
     Key {
         pid: EIT_PID,
         table,
         ext: service,
-        stream: mux.stream,
-        network: mux.original,
+        stream: of.stream,
+        network: of.original,
     }
 }
 
 /// What the body of a section begins with.
-pub(crate) fn eit_head(mux: &Mux, segment_last: u8, last_table: u8) -> EitHead
-    ensures { result ≡ eit_head mux.now segment_last last_table }
+pub(crate) fn eit_head(of: Stream, segment_last: u8, last_table: u8) -> EitHead
+    ensures { result ≡ eit_head (bearer_of of) segment_last last_table }
 {
     EitHead {
-        stream: mux.stream,
-        original: mux.original,
+        stream: of.stream,
+        original: of.original,
         segment_last,
         last_table,
     }

@@ -17,5 +17,6 @@ mod present;
 mod schedule;
 mod tables;
 
+pub use events::Stream;
 pub use laws::{entries_are_small, events_are_fit, read_edits_leave_typed_events};
-pub use tables::put_service;
+pub use tables::{put_remote, put_service};

@@ -5,20 +5,17 @@ ghost use Rattle.eit_codec.specs.Eit.{IsCodable, eit_body};
 ghost use Rattle.eit_segments.specs.Placement.{AreInOrder};
 ghost use Rattle.eit_segments.specs.Laws.{at_of};
 ghost use Rattle.eit_tables.specs.Eit.{eit_head};
-ghost use Rattle.eit_tables.specs.Present.{event_at, present_sections, present_table};
+ghost use Rattle.eit_tables.specs.Present.{event_at, present_sections, present_of};
+ghost use Rattle.eit_tables.specs.Streams.{bearer_of};
 
-use crate::events::{eit_head, eit_key};
+use crate::events::{Stream, eit_head, eit_key};
 use eit_codec::write_eit;
 use eit_segments::{EventAt, present_following};
 use guide_model::{Event, ServiceGuide};
-use mux_model::Mux;
 use section_codec::{NumberedBodies, NumberedBody, SubTable, Tier3};
 use si_base::Bytes;
 use si_time::Moment;
 use std::alloc::{AllocError, Global};
-
-/// The table_id of present and following of this multiplex (EN 300 468, 5.2.4).
-const PRESENT_FOLLOWING: u8 = 0x4E;
 
 /// The values of running_status that are used (EN 300 468, 5.2.4).
 const NOT_RUNNING: u8 = 1;
@@ -36,18 +33,18 @@ fn event_at(events: &[Event], place: Option<usize>) -> &[Event]
 }
 
 // The body of a section with this event or none.
-fn body_of(alloc: Global, mux: &Mux, status: u8, event: &[Event]) -> Result<Bytes, AllocError>
+fn body_of(alloc: Global, of: Stream, status: u8, event: &[Event]) -> Result<Bytes, AllocError>
     requires status { status < 8 }
     requires events { All IsCodable event.now }
-    ensures { IfOk result (λ body. body ≡ eit_body (eit_head mux.now 1 0x4E) status event.now) }
+    ensures { IfOk result (λ body. body ≡ eit_body (eit_head (bearer_of of) 1 (bearer_of of).present) status event.now) }
 {
-    write_eit(alloc, &eit_head(mux, 1, PRESENT_FOLLOWING), status, event)
+    write_eit(alloc, &eit_head(of, 1, of.present()), status, event)
 }
 
 // The sections: 0 with the present event, 1 with the following one.
 fn present_sections(
     alloc: Global,
-    mux: &Mux,
+    of: Stream,
     moment: Moment,
     events: &[Event],
     at: &[EventAt],
@@ -55,13 +52,13 @@ fn present_sections(
     requires codable { All IsCodable events.now }
     requires places { at.now ≡ map at_of events.now }
     requires order { AreInOrder at.now }
-    ensures { IfOk result (λ sections. sections ≡ present_sections mux.now moment.0 events.now) }
+    ensures { IfOk result (λ sections. sections ≡ present_sections (bearer_of of) moment.0 events.now) }
 {
     let (present, following) = present_following(at, moment);
     let mut sections = NumberedBodies::new(alloc);
-    let body = body_of(alloc, mux, RUNNING, event_at(events, present))?;
+    let body = body_of(alloc, of, RUNNING, event_at(events, present))?;
     sections.push(NumberedBody { number: 0, body })?;
-    let body = body_of(alloc, mux, NOT_RUNNING, event_at(events, following))?;
+    let body = body_of(alloc, of, NOT_RUNNING, event_at(events, following))?;
     sections.push(NumberedBody { number: 1, body })?;
     Ok(sections)
 }
@@ -69,7 +66,7 @@ fn present_sections(
 /// Present and following of a service at a moment (EN 300 468, 5.2.4).
 pub(crate) fn present_table(
     alloc: Global,
-    mux: &Mux,
+    of: Stream,
     moment: Moment,
     service: &ServiceGuide,
     at: &[EventAt],
@@ -77,11 +74,11 @@ pub(crate) fn present_table(
     requires codable { All IsCodable service.now.events }
     requires places { at.now ≡ map at_of service.now.events }
     requires order { AreInOrder at.now }
-    ensures { IfOk result (λ table. table ≡ present_table mux.now moment.0 service.now) }
+    ensures { IfOk result (λ table. table ≡ present_of (bearer_of of) moment.0 service.now) }
 {
     Ok(SubTable {
-        key: eit_key(mux, PRESENT_FOLLOWING, service.service),
-        tier: Tier3::Fast,
-        sections: present_sections(alloc, mux, moment, service.events.as_slice(), at)?,
+        key: eit_key(of, of.present(), service.service),
+        tier: if of.is_own { Tier3::Fast } else { Tier3::Near },
+        sections: present_sections(alloc, of, moment, service.events.as_slice(), at)?,
     })
 }

@@ -5,13 +5,13 @@ ghost use Rattle.section_codec.specs.Tables.{tier_of};
 ghost use Rattle.eit_codec.specs.Eit.{IsCodable};
 ghost use Rattle.eit_segments.specs.Schedule.{CanBePlaced, sections_in_table};
 ghost use Rattle.eit_segments.specs.Laws.{at_of};
-ghost use Rattle.eit_tables.specs.Schedule.{last_table_of, schedule_section, schedule_table, schedule_tables};
+ghost use Rattle.eit_tables.specs.Schedule.{last_table_of, schedule_section, schedule_of, schedules_of};
+ghost use Rattle.eit_tables.specs.Streams.{bearer_of};
 
-use crate::events::{eit_head, eit_key};
+use crate::events::{Stream, eit_head, eit_key};
 use eit_codec::write_eit;
 use eit_segments::{EventAt, Piece, sections_in_table};
 use guide_model::{Event, ServiceGuide};
-use mux_model::Mux;
 use section_codec::{NumberedBodies, NumberedBody, SubTable, SubTables, Tier3};
 use si_time::Moment;
 use std::alloc::{AllocError, Global};
@@ -25,15 +25,15 @@ pub(crate) const LAST_NEAR: u8 = 0x51;
 // A section.
 fn schedule_section(
     alloc: Global,
-    mux: &Mux,
+    of: Stream,
     events: &[Event],
     last_table: u8,
     piece: &Piece,
 ) -> Result<NumberedBody, AllocError>
     requires { All IsCodable events.now }
-    ensures { IfOk result (λ section. section ≡ schedule_section mux.now events.now last_table piece.now) }
+    ensures { IfOk result (λ section. section ≡ schedule_section (bearer_of of) events.now last_table piece.now) }
 {
-    let head = eit_head(mux, piece.segment_last, last_table);
+    let head = eit_head(of, piece.segment_last, last_table);
     Ok(NumberedBody {
         number: piece.number,
         body: write_eit(alloc, &head, UNDEFINED, piece.events_of(events))?,
@@ -43,24 +43,24 @@ fn schedule_section(
 // These sections.
 fn schedule_sections(
     alloc: Global,
-    mux: &Mux,
+    of: Stream,
     events: &[Event],
     last_table: u8,
     pieces: &[Piece],
 ) -> Result<NumberedBodies, AllocError>
     requires { All IsCodable events.now }
-    ensures { IfOk result (λ sections. sections ≡ map (schedule_section mux.now events.now last_table) pieces.now) }
+    ensures { IfOk result (λ sections. sections ≡ map (schedule_section (bearer_of of) events.now last_table) pieces.now) }
 {
     let mut sections = NumberedBodies::new(alloc);
     for piece in pieces {
-        sections.push(schedule_section(alloc, mux, events, last_table, piece)?)?;
+        sections.push(schedule_section(alloc, of, events, last_table, piece)?)?;
     }
     Ok(sections)
 }
 
 // How often a cycle repeats a table of a schedule.
 fn tier_of(table: u8) -> Tier3
-    requires { (80 ≤ table) × (table ≤ 95) }
+    requires { (80 ≤ table) × (table ≤ 111) }
     ensures { result ≡ tier_of table }
 {
     if table <= LAST_NEAR {
@@ -73,7 +73,7 @@ fn tier_of(table: u8) -> Tier3
 // A table of the schedule.
 fn schedule_table(
     alloc: Global,
-    mux: &Mux,
+    of: Stream,
     day: Moment,
     service: &ServiceGuide,
     at: &[EventAt],
@@ -85,22 +85,23 @@ fn schedule_table(
     requires placed { CanBePlaced at.now }
     requires midnight { day.0 % 86400 ≡ 0 }
     requires last { last_table ≡ last_table_of day.0 service.now.events }
+    requires most { (80 ≤ last_table) × (last_table ≤ 95) }
     requires table { (80 ≤ table) × (table ≤ 95) }
-    ensures { IfOk result (λ made. made ≡ schedule_table mux.now day.0 service.now table) }
+    ensures { IfOk result (λ made. made ≡ schedule_of (bearer_of of) day.0 service.now table) }
 {
     let pieces = sections_in_table(alloc, at, day, table)?;
     let events = service.events.as_slice();
     Ok(SubTable {
-        key: eit_key(mux, table, service.service),
-        tier: tier_of(table),
-        sections: schedule_sections(alloc, mux, events, last_table, pieces.as_slice())?,
+        key: eit_key(of, of.sent(table), service.service),
+        tier: tier_of(of.sent(table)),
+        sections: schedule_sections(alloc, of, events, of.sent(last_table), pieces.as_slice())?,
     })
 }
 
 /// Appends the tables of the schedule of a service from one table_id up to and without another.
 pub(crate) fn put_schedule(
     alloc: Global,
-    mux: &Mux,
+    of: Stream,
     day: Moment,
     service: &ServiceGuide,
     at: &[EventAt],
@@ -114,11 +115,12 @@ pub(crate) fn put_schedule(
     requires placed { CanBePlaced at.now }
     requires midnight { day.0 % 86400 ≡ 0 }
     requires last { last_table ≡ last_table_of day.0 service.now.events }
+    requires most { (80 ≤ last_table) × (last_table ≤ 95) }
     requires tables { (80 ≤ from) × (to ≤ 96) }
-    ensures { OnOk result (list.new ≡ list.old ++ schedule_tables mux.now day.0 service.now from to) }
+    ensures { OnOk result (list.new ≡ list.old ++ schedules_of (bearer_of of) day.0 service.now from to) }
 {
     for table in from..to {
-        let made = schedule_table(alloc, mux, day, service, at, last_table, table)?;
+        let made = schedule_table(alloc, of, day, service, at, last_table, table)?;
         list.push(made)?;
     }
     Ok(())

@@ -2,11 +2,12 @@
 ghost use Rattle.std.specs.Prelude.{◌≡◌, ◌∷◌, ◌++◌, [], OnOk};
 ghost use Rattle.guide_limits.specs.Events.{midnight};
 ghost use Rattle.guide_limits.specs.Limits.{IsServiceWithin};
-ghost use Rattle.eit_tables.specs.Present.{present_table};
-ghost use Rattle.eit_tables.specs.Schedule.{near_tables, far_tables};
+ghost use Rattle.eit_tables.specs.Present.{present_of, present_table};
+ghost use Rattle.eit_tables.specs.Schedule.{near_tables, far_tables, remote_tables};
+ghost use Rattle.eit_tables.specs.Streams.{bearer_of};
 ghost use Rattle.eit_tables.specs.Laws.{AreSmallEntries};
 
-use crate::events::events_at;
+use crate::events::{Stream, events_at};
 use crate::present::present_table;
 use crate::schedule::{LAST_NEAR, put_schedule};
 use eit_segments::last_table;
@@ -45,10 +46,11 @@ pub fn put_service(
     let day = midnight(moment);
     let last = last_table(&at, day);
     let later = LAST_NEAR + 1;
-    list.push(present_table(alloc, mux, moment, service, &at)?)?;
+    let of = Stream::of_mux(mux);
+    list.push(present_table(alloc, of, moment, service, &at)?)?;
     put_schedule(
         alloc,
-        mux,
+        of,
         day,
         service,
         &at,
@@ -57,5 +59,27 @@ pub fn put_service(
         1 + last.min(LAST_NEAR),
         near,
     )?;
-    put_schedule(alloc, mux, day, service, &at, last, later, 1 + last, far)
+    put_schedule(alloc, of, day, service, &at, last, later, 1 + last, far)
+}
+
+/// Appends the tables of event information of a service of another stream (EN 300 468, 5.2.4): present and following at a moment to
+/// `near`, and the schedule of the 64 days from the midnight before that moment on to `far`. It is as `put_service` beside.
+pub fn put_remote(
+    alloc: Global,
+    of: Stream,
+    moment: Moment,
+    service: &ServiceGuide,
+    near: &mut SubTables,
+    far: &mut SubTables,
+) -> Result<(), AllocError>
+    requires { IsServiceWithin service.now }
+    ensures present { OnOk result (near.new ≡ near.old ++ present_of (bearer_of of) moment.0 service.now ∷ []) }
+    ensures far { OnOk result (far.new ≡ far.old ++ remote_tables (bearer_of of) (midnight moment.0) service.now) }
+    ensures small { OnOk result (AreSmallEntries service.now.events) }
+{
+    let at = events_at(alloc, service.events.as_slice())?;
+    let day = midnight(moment);
+    let last = last_table(&at, day);
+    near.push(present_table(alloc, of, moment, service, &at)?)?;
+    put_schedule(alloc, of, day, service, &at, last, SCHEDULE, 1 + last, far)
 }

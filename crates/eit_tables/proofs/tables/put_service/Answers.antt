@@ -3,7 +3,10 @@ use Rattle.si_lists.proofs.Outcomes.{on_ok, ok_more}
 use Rattle.section_codec.specs.declared.table.SubTable.{SubTable}
 use Rattle.eit_segments.specs.Schedule.{last_table}
 use Rattle.eit_segments.specs.Laws.{at_of}
-use Rattle.eit_tables.specs.Schedule.{last_table_of, schedule_tables}
+use Rattle.eit_tables.specs.Schedule.{last_table_of, schedules_of, schedule_tables}
+use Rattle.eit_tables.specs.Present.{present_of}
+use Rattle.eit_tables.specs.Eit.{Bearer}
+use Rattle.eit_tables.specs.Streams.{bearer_of}
 use Rattle.eit_tables.proofs.EventFacts.{places_in, placed_in, small_entries}
 use Rattle.eit_tables.proofs.tables.put_service.Goals as goal
 
@@ -35,7 +38,8 @@ put_schedule-requires-2-clause-last c =
 
 pub returns-clause-present : goal.returns-clause-present
 returns-clause-present c =
-    on_ok c.put_schedule-2.result _ (c.in_ok-push.ensures.ok ∙ ap (λ (t : SubTable). c.args.list.now ++ t ∷ []) c.in_ok-present_table.ensures)
+    on_ok c.put_schedule-2.result _ (c.in_ok-push.ensures.ok ∙ ap (λ (t : SubTable). c.args.list.now ++ t ∷ [])
+    (c.in_ok-present_table.ensures ∙ ap (λ (b : Bearer). present_of b c.args.moment.0 c.args.service.now) c.of_mux-of.ensures))
 
 pub returns-clause-near : goal.returns-clause-near
 returns-clause-near c =
@@ -47,6 +51,7 @@ returns-clause-near c =
     ∙ ap (last_table day) (places_in service.events c.as_slice.result.now c.in_ok-at.at.items c.deref.result.now c.deref.ensures.value c.in_ok-at.ensures.events c.as_slice.ensures) in
     on_ok c.put_schedule-2.result _
     (c.in_ok-put_schedule.ensures
+    ∙ ap (λ (b : Bearer). c.args.near.now ++ schedules_of b day service 0x50 (1 + c.min.result)) c.of_mux-of.ensures
     ∙ ap (λ (to : ℕ). c.args.near.now ++ schedule_tables mux day service 0x50 to) (let e : 1 + c.min.result ≡ 1 + min 0x51 (last_table_of day service.events) = omega (arith, c.min.ensures, last) in e)
     ∙ ap (λ (d : ℕ). c.args.near.now ++ schedule_tables mux d service 0x50 (1 + min 0x51 (last_table_of d service.events))) c.midnight-day.ensures)
 
@@ -58,8 +63,9 @@ returns-clause-far c =
     let last : c.last_table-last.result ≡ last_table_of day service.events =
     c.last_table-last.ensures.table
     ∙ ap (last_table day) (places_in service.events c.as_slice.result.now c.in_ok-at.at.items c.deref.result.now c.deref.ensures.value c.in_ok-at.ensures.events c.as_slice.ensures) in
-    let made : c.put_schedule-2.new.list ≡ c.args.far.now ++ schedule_tables mux day service 0x52 (1 + c.last_table-last.result) → c.put_schedule-2.new.list ≡ _ =
+    let made : c.put_schedule-2.new.list ≡ c.args.far.now ++ schedules_of (bearer_of c.of_mux-of.result) day service 0x52 (1 + c.last_table-last.result) → c.put_schedule-2.new.list ≡ _ =
     λ m. m
+    ∙ ap (λ (b : Bearer). c.args.far.now ++ schedules_of b day service 0x52 (1 + c.last_table-last.result)) c.of_mux-of.ensures
     ∙ ap (λ (n : ℕ). c.args.far.now ++ schedule_tables mux day service 0x52 (1 + n)) last
     ∙ ap (λ (d : ℕ). c.args.far.now ++ schedule_tables mux d service 0x52 (1 + last_table_of d service.events)) c.midnight-day.ensures in
     ok_more c.put_schedule-2.result _ _ made c.put_schedule-2.ensures
