@@ -26,7 +26,7 @@ use Rattle.section_codec.specs.SubTables.{Lacks, KeysDiffer, IsFit, AreTiered}
 use Rattle.eit_segments.specs.Schedule.{last_used}
 use Rattle.eit_segments.proofs.Order.{used_less}
 use Rattle.eit_segments.specs.Laws.{at_of}
-use Rattle.eit_tables.specs.Eit.{eit_key}
+use Rattle.eit_tables.specs.Eit.{own, eit_key}
 use Rattle.eit_tables.specs.Present.{present_table}
 use Rattle.eit_tables.specs.Schedule.{last_table_of, schedule_table, near_tables, far_tables}
 use Rattle.eit_tables.specs.Laws.{AreSmallEntries, AreEit}
@@ -209,14 +209,14 @@ tiered_same n (t ∷ u ∷ ts) same = (let a : tier_rank t.tier ≡ n = same.0 i
 
 near_tier : (table : ℕ) → 0x50 ≤ table → table < 0x52 → tier_rank (tier_of table) ≡ 1
 near_tier table above below =
-    let one : (table == 0x50 || table == 0x51) ≡ true = grind (arith, nat_tests) in
-    ap (λ (b : Bool). tier_rank (if b then Near else if nat_le 0x52 table && nat_le table 0x5F then Far else Fast)) one
+    let one : (table == 0x50 || table == 0x51 || table == 0x46 || table == 0x4F) ≡ true = grind (arith, nat_tests) in
+    ap (λ (b : Bool). tier_rank (if b then Near else if nat_le 0x52 table && nat_le table 0x6F then Far else Fast)) one
 
-far_tier : (table : ℕ) → 0x52 ≤ table → table < 0x60 → tier_rank (tier_of table) ≡ 2
+far_tier : (table : ℕ) → 0x52 ≤ table → table < 0x70 → tier_rank (tier_of table) ≡ 2
 far_tier table above below =
-    let none : (table == 0x50 || table == 0x51) ≡ false = grind (arith, nat_tests) in
-    let far : (nat_le 0x52 table && nat_le table 0x5F) ≡ true = grind (arith, nat_tests) in
-    ap (λ (b : Bool). tier_rank (if b then Near else if nat_le 0x52 table && nat_le table 0x5F then Far else Fast)) none
+    let none : (table == 0x50 || table == 0x51 || table == 0x46 || table == 0x4F) ≡ false = grind (arith, nat_tests) in
+    let far : (nat_le 0x52 table && nat_le table 0x6F) ≡ true = grind (arith, nat_tests) in
+    ap (λ (b : Bool). tier_rank (if b then Near else if nat_le 0x52 table && nat_le table 0x6F then Far else Fast)) none
     ∙ ap (λ (b : Bool). tier_rank (if b then Far else Fast)) far
 
 -- ---- each sub-table
@@ -323,7 +323,7 @@ publication_fit mux guide sound within small =
     differ_tables 0x50 ps (ns ++ fs) differ_ps schedules (of_present (λ (t : SubTable). t.key.table < 0x50) (λ s. omega arith)) behind in
     let rank_ps : AllByRecursion (λ (t : SubTable). tier_rank t.tier ≡ 0) ps = of_present (λ (t : SubTable). tier_rank t.tier ≡ 0) (λ s. refl) in
     let rank_ns : AllByRecursion (λ (t : SubTable). tier_rank t.tier ≡ 1) ns = of_near (λ (t : SubTable). tier_rank t.tier ≡ 1) (λ s table above below. near_tier table above below) in
-    let rank_fs : AllByRecursion (λ (t : SubTable). tier_rank t.tier ≡ 2) fs = of_far (λ (t : SubTable). tier_rank t.tier ≡ 2) (λ s table above below. far_tier table above below) in
+    let rank_fs : AllByRecursion (λ (t : SubTable). tier_rank t.tier ≡ 2) fs = of_far (λ (t : SubTable). tier_rank t.tier ≡ 2) (λ s table above below. far_tier table above (omega (arith, below))) in
     let least : (n m : ℕ) → m ≤ n → (ts : List SubTable) → AllByRecursion (λ (t : SubTable). tier_rank t.tier ≡ n) ts → AllByRecursion (λ (t : SubTable). m ≤ tier_rank t.tier) ts =
     λ n m le ts same. all_map (λ (t : SubTable). tier_rank t.tier ≡ n) (λ (t : SubTable). m ≤ tier_rank t.tier) (λ t e. omega (arith, e, le)) ts same in
     let most : (n : ℕ) (ts : List SubTable) → AllByRecursion (λ (t : SubTable). tier_rank t.tier ≡ n) ts → AllByRecursion (λ (t : SubTable). tier_rank t.tier ≤ n) ts =
@@ -347,8 +347,8 @@ publication_fit mux guide sound within small =
           (pmts_fit mux.services sound.services)
           (single_fit (nit_key mux) (nit_body (nit_of mux)) (lit< tt) (omega arith) (nit_short mux sound))
           (sdt_table-fit mux guide within)
-          (λ s q. eit_fit (present_table mux moment s) refl (omega arith) (omega arith) (present_fit mux moment s q.1))
-          (λ s table q above below. eit_fit (schedule_table mux day s table) refl (omega (arith, above)) below (schedule_fit mux day s table q.0 q.1)));
+          (λ s q. eit_fit (present_table mux moment s) refl (omega arith) (omega arith) (present_fit (own mux) moment s q.1))
+          (λ s table q above below. eit_fit (schedule_table mux day s table) refl (omega (arith, above)) below (schedule_fit (own mux) day s table q.0 q.1)));
       tiers = All-from_recursion (λ (t : SubTable). t.tier ≡ tier_of t.key.table) (tables_of mux guide)
           (each_sub_table (λ (t : SubTable). t.tier ≡ tier_of t.key.table) (λ (s : ServiceGuide). Unit {0}) mux guide any
           refl (any_pmt (λ (t : SubTable). t.tier ≡ tier_of t.key.table) mux (λ s. refl)) refl refl

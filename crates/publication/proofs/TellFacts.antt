@@ -18,7 +18,7 @@ use Rattle.section_codec.specs.declared.table.Key.{Key}
 use Rattle.section_codec.specs.declared.table.NumberedBody.{NumberedBody}
 use Rattle.section_codec.specs.declared.table.SubTable.{SubTable}
 use Rattle.section_codec.specs.declared.table.Tier3.{Tier3}
-use Rattle.section_codec.specs.Tables.{is_eit, is_pat, is_pmt, is_nit, is_sdt, is_events}
+use Rattle.section_codec.specs.Tables.{is_eit, is_pat, is_pmt, is_nit, is_sdt, is_sdt_other, is_events, is_events_other}
 use Rattle.section_codec.specs.Contents.{last_number}
 use Rattle.section_codec.specs.Keys.{key_in}
 use Rattle.section_codec.specs.Segments.{segment_last_in}
@@ -28,7 +28,7 @@ use Rattle.sub_collect.proofs.Segmented.{by_segments}
 use Rattle.eit_codec.specs.declared.eit.Eit.{Eit}
 use Rattle.eit_codec.specs.Eit.{IsTyped, IsEit}
 use Rattle.eit_codec.proofs.ReadBodies.{read_bodies}
-use Rattle.eit_tables.specs.Eit.{eit_key}
+use Rattle.eit_tables.specs.Eit.{own, eit_key}
 use Rattle.eit_tables.specs.Present.{present_table}
 use Rattle.eit_tables.specs.Schedule.{schedule_table}
 use Rattle.eit_tables.specs.Laws.{AreSmallEntries, AreEit, Names}
@@ -59,8 +59,8 @@ key_of_fields pid table ext stream network = record { pid = pid; table = table; 
 -- that of tables with ids in their bodies
 abbrev key_behind : ℕ → ℕ → ℕ → List ℕ → Option Key
 key_behind pid table ext body =
-    if is_sdt pid table && nat_le 2 (length body) then Some (key_of_fields pid table ext 0 (two_at 0 body))
-    else if is_events pid table && nat_le 4 (length body) then Some (key_of_fields pid table ext (two_at 0 body) (two_at 2 body))
+    if (is_sdt pid table || is_sdt_other pid table) && nat_le 2 (length body) then Some (key_of_fields pid table ext 0 (two_at 0 body))
+    else if (is_events pid table || is_events_other pid table) && nat_le 4 (length body) then Some (key_of_fields pid table ext (two_at 0 body) (two_at 2 body))
     else None
 
 -- the key by the fields of a header that it goes by
@@ -153,20 +153,20 @@ sdt_tells mux guide stream are =
 abbrev eit_table : Mux → ℕ → ℕ → Tier3 → List NumberedBody → SubTable
 eit_table mux table service tier sections = record { key = eit_key mux table service; tier = tier; sections = sections }
 
-eit_keyed : (mux : Mux) (table service : ℕ) → is_events 0x0012 table ≡ true → (s : NumberedBody) → 6 ≤ length s.body → Names mux s.body → TellsKey (eit_key mux table service) s
+eit_keyed : (mux : Mux) (table service : ℕ) → is_events 0x0012 table ≡ true → (s : NumberedBody) → 6 ≤ length s.body → Names (own mux) s.body → TellsKey (eit_key mux table service) s
 eit_keyed mux table service events s least names header is_table is_ext =
     let key = key_of_fields 0x0012 table service in
     key_by_fields 0x0012 header table service s.body is_table is_ext
-    ∙ ap (λ (b : Bool). if b && nat_le 4 (length s.body) then Some (key (two_at 0 s.body) (two_at 2 s.body)) else None) events
+    ∙ ap (λ (b : Bool). if (b || is_events_other 0x0012 table) && nat_le 4 (length s.body) then Some (key (two_at 0 s.body) (two_at 2 s.body)) else None) events
     ∙ ap (λ (b : Bool). if b then Some (key (two_at 0 s.body) (two_at 2 s.body)) else None) (le-leb 4 (length s.body) (omega (arith, least)))
     ∙ ap (λ (n : ℕ). Some (key n (two_at 2 s.body))) names.0 ∙ ap (λ (n : ℕ). Some (key mux.stream n)) names.1
 
 eit_tells : (mux : Mux) (table service : ℕ) (tier : Tier3) (sections : List NumberedBody) → is_events 0x0012 table ≡ true → is_eit table ≡ true → table < 256 → service < 65536
-    → AreEit sections → AllByRecursion (λ (s : NumberedBody). Names mux s.body) sections → AllByRecursion (λ (s : NumberedBody). (eit : Eit) × IsEit s.body eit) sections
+    → AreEit sections → AllByRecursion (λ (s : NumberedBody). Names (own mux) s.body) sections → AllByRecursion (λ (s : NumberedBody). (eit : Eit) × IsEit s.body eit) sections
     → TellsItself (eit_table mux table service tier sections)
 eit_tells mux table service tier sections events eit few id are names read =
     let sized = λ (s : NumberedBody). (6 ≤ length s.body) × (length s.body ≤ 4084) in
-    let named = λ (s : NumberedBody). Names mux s.body in
+    let named = λ (s : NumberedBody). Names (own mux) s.body in
     let told = λ (s : NumberedBody). (n : ℕ) × (segment_last_in s.number s.body ≡ Some n) × (n ≤ last_number sections) in
     let is_read = λ (s : NumberedBody). (e : Eit) × IsEit s.body e in
     record {
@@ -218,15 +218,15 @@ publication_tells mux guide sound services within typed =
     (nit_tells mux sound.sound sound.network)
     (sdt_tells mux guide sound.stream (sdt_fit mux guide sound.sound sound.original within))
     (λ s q.
-    let are = present_fit mux moment s q.small in
-    let names = events_name mux moment s 0x50 sound.stream sound.original in
-    let read = events_read mux moment s 0x50 sound.stream sound.original q.within q.typed in
+    let are = present_fit (own mux) moment s q.small in
+    let names = events_name (own mux) moment s 0x50 sound.stream sound.original in
+    let read = events_read (own mux) moment s 0x50 sound.stream sound.original q.within q.typed in
     let t = present_table mux moment s in
     eit_tells mux 0x4E s.service t.tier t.sections refl refl (omega arith) q.id are names.0 read.0)
     (λ s table q above below.
-    let are = schedule_fit mux day s table q.within q.small in
-    let names = events_name mux day s table sound.stream sound.original in
-    let read = events_read mux day s table sound.stream sound.original q.within q.typed in
+    let are = schedule_fit (own mux) day s table q.within q.small in
+    let names = events_name (own mux) day s table sound.stream sound.original in
+    let read = events_read (own mux) day s table sound.stream sound.original q.within q.typed in
     let t = schedule_table mux day s table in
     let events : is_events 0x0012 table ≡ true = grind (arith, nat_tests) in
     let eit : is_eit table ≡ true = grind (arith, nat_tests) in

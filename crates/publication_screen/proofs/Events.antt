@@ -13,7 +13,7 @@ use Rattle.eit_codec.specs.Eit.{IsCodable, IsTyped, eit_body, shown_event}
 use Rattle.eit_codec.proofs.ReadBack.{eit-reads_back}
 use Rattle.eit_segments.specs.declared.piece.Piece.{Piece}
 use Rattle.eit_segments.specs.Schedule.{section_events}
-use Rattle.eit_tables.specs.Eit.{eit_head}
+use Rattle.eit_tables.specs.Eit.{own, eit_head}
 use Rattle.eit_tables.specs.Present.{event_at as events_at_place, present_event, following_event, present_sections}
 use Rattle.eit_tables.specs.Schedule.{schedule_section}
 use Rattle.guide_screen.specs.Reading.{eit_in, events_in}
@@ -27,9 +27,9 @@ pub record HasIds (mux : Mux) : Type 0 where
   pub original : mux.original < 65536
 
 body_said : (mux : Mux) → HasIds mux → (segment_last last_table status : ℕ) → status < 8 → (part : List Event) → All IsCodable part → All IsTyped part
-    → eit_in (eit_body (eit_head mux segment_last last_table) status part) ≡ Some (record { head = eit_head mux segment_last last_table; events = map shown_event part })
+    → eit_in (eit_body (eit_head (own mux) segment_last last_table) status part) ≡ Some (record { head = eit_head (own mux) segment_last last_table; events = map shown_event part })
 body_said mux ids segment_last last_table status small part codable typed =
-    let h : EitHead = eit_head mux segment_last last_table in
+    let h : EitHead = eit_head (own mux) segment_last last_table in
     let eit : Eit = record { head = h; events = map shown_event part } in
     bodies_say.eit (eit_body h status part) eit (eit-reads_back h status part (record { stream = ids.stream; original = ids.original }) small codable typed)
 
@@ -47,12 +47,12 @@ module _ (mux : Mux) (ids : HasIds mux) (es : List Event) (codable : All IsCodab
   abbrev event_of : Option Eit → Option ScreenEvent
   event_of o = option_and_then (λ (eit : Eit). first_of eit.events) o
 
-  pub now_said : (moment : ℕ) → event_at 0 (present_sections mux moment es) ≡ first_shown (present_event moment es)
+  pub now_said : (moment : ℕ) → event_at 0 (present_sections (own mux) moment es) ≡ first_shown (present_event moment es)
   now_said moment =
       ap event_of (body_said mux ids 1 0x4E 4 (omega arith) (present_event moment es) (at_place IsCodable _ es codable) (at_place IsTyped _ es typed))
       ∙ first_said (present_event moment es)
 
-  pub next_said : (moment : ℕ) → event_at 1 (present_sections mux moment es) ≡ first_shown (following_event moment es)
+  pub next_said : (moment : ℕ) → event_at 1 (present_sections (own mux) moment es) ≡ first_shown (following_event moment es)
   next_said moment =
       ap event_of (body_said mux ids 1 0x4E 1 (omega arith) (following_event moment es) (at_place IsCodable _ es codable) (at_place IsTyped _ es typed))
       ∙ first_said (following_event moment es)
@@ -62,7 +62,7 @@ module _ (mux : Mux) (ids : HasIds mux) (es : List Event) (codable : All IsCodab
   part_of : (P : Event → Type 0) (p : Piece) → All P es → All P (section_events p es)
   part_of P p all = All-take P (p.to - p.from) (drop p.from es) (All-drop P p.from es all)
 
-  pub pieces_said : (last : ℕ) (ps : List Piece) → events_in (map (schedule_section mux es last) ps) ≡ map shown_event (flat_map (λ (p : Piece). section_events p es) ps)
+  pub pieces_said : (last : ℕ) (ps : List Piece) → events_in (map (schedule_section (own mux) es last) ps) ≡ map shown_event (flat_map (λ (p : Piece). section_events p es) ps)
   pieces_said last [] = refl
   pieces_said last (p ∷ ps) =
       let said = body_said mux ids p.segment_last last 0 (omega arith) (section_events p es) (part_of IsCodable p codable) (part_of IsTyped p typed) in

@@ -25,7 +25,7 @@ use Rattle.eit_segments.specs.declared.piece.Piece.{Piece}
 use Rattle.eit_segments.specs.Schedule.{CanBePlaced, FitSegments, block_runs, last_used, sections_from, segment_sections, table_sections, sections_in_table, section_events}
 use Rattle.eit_segments.specs.Laws.{at_of}
 use Rattle.eit_segments.proofs.Order.{runs_few, used_less}
-use Rattle.eit_tables.specs.Eit.{eit_key, eit_head}
+use Rattle.eit_tables.specs.Eit.{own, eit_key, eit_head}
 use Rattle.eit_tables.specs.Schedule.{last_table_of, schedule_section, schedule_table, near_tables, far_tables}
 use Rattle.guide_screen.specs.View.{sections, table_at}
 use Rattle.guide_screen.specs.Reading.{events_in}
@@ -95,14 +95,14 @@ module _ (mux : Mux) (ids : HasIds mux) (day : ℕ) (g : ServiceGuide) where
   pub last_said : FitSegments ats → last_table (schedule_table mux day g 0x50).sections ≡ end
   last_said fit =
       let b = begins 0x50 (block_of day + 32 * (0x50 - 0x50)) ats fit in
-      ap (λ (ps : List Piece). last_table (map (schedule_section mux g.events end) ps)) b.are ∙ go b.piece b.rest b.zeroth
+      ap (λ (ps : List Piece). last_table (map (schedule_section (own mux) g.events end) ps)) b.are ∙ go b.piece b.rest b.zeroth
     where
-      go : (p : Piece) (rest : List Piece) → p.number ≡ 0 → last_table (map (schedule_section mux g.events end) (p ∷ rest)) ≡ end
+      go : (p : Piece) (rest : List Piece) → p.number ≡ 0 → last_table (map (schedule_section (own mux) g.events end) (p ∷ rest)) ≡ end
       go p rest e =
-          let body : List ℕ = (schedule_section mux g.events end p).body in
-          let others : List NumberedBody = map (schedule_section mux g.events end) rest in
+          let body : List ℕ = (schedule_section (own mux) g.events end p).body in
+          let others : List NumberedBody = map (schedule_section (own mux) g.events end) rest in
           ap (λ (n : ℕ). let s : NumberedBody = record { number = n; body = body } in last_table (s ∷ others)) e
-          ∙ ap last_beside (numbers_told (eit_head mux p.segment_last end) (flat_map (written_bytes 0) (section_events p g.events)))
+          ∙ ap last_beside (numbers_told (eit_head (own mux) p.segment_last end) (flat_map (written_bytes 0) (section_events p g.events)))
           ∙ smaller end last_high
         where
           smaller : (n : ℕ) → n ≤ 0x5F → min 0x5F n ≡ n

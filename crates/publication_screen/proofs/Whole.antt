@@ -33,7 +33,7 @@ use Rattle.eit_codec.specs.Eit.{IsCodable, IsTyped, shown_event}
 use Rattle.eit_segments.specs.Schedule.{CanBePlaced}
 use Rattle.eit_segments.specs.Laws.{at_of}
 use Rattle.eit_segments.proofs.Few.{events_can_be_placed}
-use Rattle.eit_tables.specs.Eit.{eit_key}
+use Rattle.eit_tables.specs.Eit.{own, eit_key}
 use Rattle.eit_tables.specs.Laws.{HasTypedEvents, AreSmallEntries}
 use Rattle.eit_tables.specs.Present.{present_table, present_sections, present_event, following_event}
 use Rattle.eit_tables.specs.Schedule.{last_table_of, near_tables, far_tables}
@@ -144,7 +144,7 @@ module _ (mux : Mux) (ids : HasIds mux) (moment : ℕ) (content : Key → Option
     pmt_is : pmt_of content s.service (Some s.pmt_pid) ≡ Some (programs.pmt_of s)
     pmt_is = ap (λ (o : Option Content). value_in pmt_in 0 (sections o)) has.pmt ∙ pmt_said s has.sound
 
-    present_is : content (eit_key mux 0x4E s.service) ≡ Some (present_sections mux moment g.events)
+    present_is : content (eit_key mux 0x4E s.service) ≡ Some (present_sections (own mux) moment g.events)
     present_is = ap (λ (n : ℕ). content (eit_key mux 0x4E n)) (sym has.same) ∙ has.present
 
     now_is : event_at 0 (table_at content sdt s.service 0x4E) ≡ first_shown (present_event moment g.events)
