@@ -7,6 +7,7 @@ use Rattle.si_lists.proofs.Lists.{all_push}
 use Rattle.si_time.specs.declared.moment.Moment.{Moment}
 use Rattle.guide_model.specs.declared.guide.Guide.{Guide}
 use Rattle.page_share.specs.Pages.{PagesView}
+use Rattle.mux_model.specs.Fed.{fed_services}
 use Rattle.mux_model.specs.declared.mux.Mux.{Mux}
 use Rattle.mux_model.specs.Sound.{IsSound}
 use Rattle.guide_limits.specs.KeptService.{KeptService}
@@ -46,8 +47,8 @@ steps_push entries x h within = all_push (λ (entry : Entry). IsStepWithin entry
 
 -- an entry that is no publish and no swap leaves all but the book
 pub held_edited : (mux : Mux) (entries : List Entry) (held : Derived) (who feed : ℕ) (e : Edit) (reply : Reply) (book : List KeptService)
-    → IsDerived mux entries held → IsDayWithin e → reply ≡ reply_to mux.services (accepted entries) feed e
-    → IsBookAfter mux.services (cond (is_done reply) (accepted entries ++ e ∷ []) (accepted entries)) book
+    → IsDerived mux entries held → IsDayWithin e → reply ≡ reply_to (fed_services mux) (accepted entries) feed e
+    → IsBookAfter (fed_services mux) (cond (is_done reply) (accepted entries ++ e ∷ []) (accepted entries)) book
     → IsDerived mux (entries ++ edited who feed e reply ∷ []) (record held { book = book })
 held_edited mux entries held who feed e reply book h day replied stands =
     let x = edited who feed e reply in
@@ -58,7 +59,7 @@ held_edited mux entries held who feed e reply book h day replied stands =
       sound = h.sound;
       legal = legal_more mux [] entries x h.legal (ap Edited replied);
       steps = steps_push entries x h.steps day;
-      book = subst (λ past. IsBookAfter mux.services past book) (sym now) stands;
+      book = subst (λ past. IsBookAfter (fed_services mux) past book) (sym now) stands;
       moment = h.moment ∙ sym (moment-other mux entries x refl);
       published = h.published ∙ sym count;
       latest = h.latest ∙ sym (publication-kept mux entries x (publishes entries) (omega arith)) ∙ ap (publication mux (entries ++ x ∷ [])) (sym count);
@@ -86,7 +87,7 @@ held_published mux entries held latest who h is within =
       sound = h.sound;
       legal = legal_more mux [] entries x h.legal (ap (λ n. Published (1 + n)) h.published);
       steps = steps_push entries x h.steps tt;
-      book = subst (λ past. IsBookAfter mux.services past held.book) (sym now) h.book;
+      book = subst (λ past. IsBookAfter (fed_services mux) past held.book) (sym now) h.book;
       moment = h.moment ∙ sym (moment-other mux entries x refl);
       published = ap (λ n. 1 + n) h.published ∙ sym count;
       latest = frozen ∙ sym (publication-new mux entries x (1 + publishes entries) refl refl) ∙ ap (publication mux (entries ++ x ∷ [])) (sym count);
@@ -114,7 +115,7 @@ held_swapped mux entries held who h =
       sound = h.sound;
       legal = legal_more mux [] entries x h.legal (ap (λ n. Swapped n (moment_of mux entries)) h.published);
       steps = steps_push entries x h.steps tt;
-      book = subst (λ past. IsBookAfter mux.services past held.book) (sym now) h.book;
+      book = subst (λ past. IsBookAfter (fed_services mux) past held.book) (sym now) h.book;
       moment = h.moment ∙ sym (moment-other mux entries x refl);
       published = h.published ∙ sym count;
       latest = h.latest ∙ sym kept ∙ ap (publication mux (entries ++ x ∷ [])) (sym count);
@@ -159,7 +160,7 @@ held_ticked mux entries held who at h within =
       sound = h.sound;
       legal = legal_more mux [] entries x h.legal refl;
       steps = steps_push entries x h.steps within;
-      book = subst (λ past. IsBookAfter mux.services past held.book) (sym now) h.book;
+      book = subst (λ past. IsBookAfter (fed_services mux) past held.book) (sym now) h.book;
       moment = ap (λ (m : Moment). later_of m at) h.moment ∙ sym (now_ticked mux entries who at);
       published = h.published ∙ sym count;
       latest = h.latest ∙ sym (publication-kept mux entries x (publishes entries) (omega arith)) ∙ ap (publication mux (entries ++ x ∷ [])) (sym count);
@@ -198,7 +199,7 @@ as_ticked mux entries old new who at outcome h within answered is =
     subst (λ (o : Outcome). IsDerived mux (entries ++ ticked_entry who at o ∷ []) new) (sym same)
     (subst (λ (x : Derived). IsDerived mux (entries ++ ticked_entry who at (ticked (moment_of mux entries) at) ∷ []) x) (sym is) (held_ticked mux entries old who at h within))
 
-pub open_held_is : (mux : Mux) (held : Derived) → IsSound mux → IsBookAfter mux.services [] held.book → held.moment ≡ mux.start → held.published ≡ 0 → held.latest.guide ≡ guide_of held.book mux.start → IsGuideWithin held.latest.guide
+pub open_held_is : (mux : Mux) (held : Derived) → IsSound mux → IsBookAfter (fed_services mux) [] held.book → held.moment ≡ mux.start → held.published ≡ 0 → held.latest.guide ≡ guide_of held.book mux.start → IsGuideWithin held.latest.guide
     → held.on_air ≡ record { number = 0; moment = mux.start; guide = held.latest.guide } → IsDerived mux [] held
 open_held_is mux held sound book moment published latest within on_air =
     let frozen : held.latest.guide ≡ guide_after mux [] = latest ∙ ap (λ (kept : List KeptService). guide_of kept mux.start) book in
