@@ -1,17 +1,20 @@
--- The tables that are sent and heard, by table_id and PID, and how often a cycle repeats each (EN 300 468, 5.1.3 and 5.1.4; TR 101 211, 4.4).
-use Rattle.std.specs.Prelude.{ℕ, Bool, ◌==◌, ◌&&◌, ◌||◌, if◌then◌else◌, nat_le}
+-- The table of tables: each table_id with its form, its PID, what names its sub-tables, and how often a cycle repeats it (ISO/IEC 13818-1,
+-- 2.4.4; EN 300 468, 5.1.1, 5.1.3 and 5.1.4; TR 101 211, 4.4). "Other" tables are of the other streams of the network.
+use Rattle.std.specs.Prelude.{ℕ, Bool, ◌==◌, ◌&&◌, ◌||◌, if◌then◌else◌, nat_le, Option, Some, None, is_some}
 use Rattle.section_codec.specs.declared.table.Tier3.{Tier3}
 use Rattle.section_codec.specs.declared.table.Tier3.TheVariants.{Fast, Near, Far}
+use Rattle.section_codec.specs.declared.table.Naming.{Naming}
+use Rattle.section_codec.specs.declared.table.Naming.TheVariants.{Extension, Network, Stream}
 
 -- the event information tables, of this multiplex and of others
 abbrev pub is_eit : ℕ → Bool
 is_eit table = nat_le 0x4E table && nat_le table 0x6F
 
--- the tables whose sections have the long form: PAT, PMT, NIT, SDT of this multiplex and of others, EIT
+-- the tables whose sections have the long form, with a version and a CRC: PAT, PMT, NIT, SDT of this multiplex and of others, EIT
 abbrev pub has_long_form : ℕ → Bool
 has_long_form table = table == 0x00 || table == 0x02 || table == 0x40 || table == 0x42 || table == 0x46 || is_eit table
 
--- the tables whose sections have the short form: the TDT without a CRC, and the TOT with one (EN 300 468, 5.2.5 and 5.2.6)
+-- the tables whose sections have the short form, without a version: the TDT without a CRC, and the TOT with one (EN 300 468, 5.2.5 and 5.2.6)
 abbrev pub has_short_form : ℕ → Bool
 has_short_form table = table == 0x70 || table == 0x73
 
@@ -28,7 +31,6 @@ is_nit pid table = pid == 0x0010 && table == 0x40
 abbrev pub is_sdt : ℕ → ℕ → Bool
 is_sdt pid table = pid == 0x0011 && table == 0x42
 
--- the SDT of another stream
 abbrev pub is_sdt_other : ℕ → ℕ → Bool
 is_sdt_other pid table = pid == 0x0011 && table == 0x46
 
@@ -36,12 +38,23 @@ is_sdt_other pid table = pid == 0x0011 && table == 0x46
 abbrev pub is_events : ℕ → ℕ → Bool
 is_events pid table = pid == 0x0012 && (table == 0x4E || nat_le 0x50 table && nat_le table 0x5F)
 
--- those of other streams
 abbrev pub is_events_other : ℕ → ℕ → Bool
 is_events_other pid table = pid == 0x0012 && (table == 0x4F || nat_le 0x60 table && nat_le table 0x6F)
 
--- how often a cycle repeats a table: the schedules of the first eight days, and of other streams the SDT and present and following, less
--- often, later schedules and those of other streams least
+-- what names the sub-tables of a table on its PID, where the receiver hears them: those of this multiplex
+abbrev pub naming_of : ℕ → ℕ → Option Naming
+naming_of pid table =
+    if is_pat pid table || is_pmt pid table || is_nit pid table then Some Extension
+    else if is_sdt pid table then Some Network
+    else if is_events pid table then Some Stream
+    else None
+
+-- whether sections of this table on this PID count
+abbrev pub is_counted : ℕ → ℕ → Bool
+is_counted pid table = is_some (naming_of pid table)
+
+-- How often a cycle repeats a table: the schedules of the first eight days, and of other streams the SDT and present and following, less
+-- often than the first ones; later schedules, and those of other streams, least often.
 abbrev pub tier_of : ℕ → Tier3
 tier_of table =
     if table == 0x50 || table == 0x51 || table == 0x46 || table == 0x4F then Near

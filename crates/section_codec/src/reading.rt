@@ -1,9 +1,9 @@
 // Sections as they are read.
 ghost use Rattle.std.specs.Prelude.{◌≡◌, ◌+◌, ◌*◌, ◌<◌, ◌≤◌, ◌==◌, true, false, length, IfOk, IfErr, IfSome, IfNone, IsOk};
-ghost use Rattle.section_codec.specs.Tables.{has_long_form, has_short_form};
 ghost use Rattle.section_codec.specs.Section.{section_in, is_long, is_tot, least, kept_crc, found_crc, long_header, long_body, has_its_length, has_long_syntax, LongReadsBack, ShortReadsBack, TotReadsBack};
 
 use crate::section::{BadSection, LongHeader, Section};
+use crate::tables::{has_long_form, has_short_form};
 use si_base::{Items, crc32};
 use std::alloc::Global;
 
@@ -197,20 +197,6 @@ fn long_body(bytes: &[u8]) -> &[u8]
     let (_, behind) = bytes.split_at(8);
     let (body, _) = behind.split_at(bytes.len() - 12);
     body
-}
-
-// Whether the sections of this table have the long form.
-fn has_long_form(table: u8) -> bool
-    ensures { result ≡ has_long_form table }
-{
-    matches!(table, 0x00 | 0x02 | 0x40 | 0x42 | 0x46 | 0x4E..=0x6F)
-}
-
-// Whether the sections of this table have the short form.
-fn has_short_form(table: u8) -> bool
-    ensures { result ≡ has_short_form table }
-{
-    table == 0x70 || table == 0x73
 }
 
 /// Reading a written section gives it back.

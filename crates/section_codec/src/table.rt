@@ -30,6 +30,17 @@ pub enum Tier3 {
     Far,
 }
 
+/// What names a sub-table beside its PID, table_id and table_id_extension.
+#[derive(Clone, Copy)]
+pub enum Naming {
+    /// Nothing else: of PAT, PMT and NIT.
+    Extension,
+    /// original_network_id, with which each body begins: of an SDT.
+    Network,
+    /// transport_stream_id and original_network_id, with which each body begins: of an EIT.
+    Stream,
+}
+
 /// A sub-table with its content.
 #[derive(Drop)]
 pub struct SubTable {
