@@ -17,7 +17,7 @@ use Rattle.sub_collect.specs.Runs.{Counted}
 use Rattle.sub_collect.specs.KeyCounts.{section_keys}
 use Rattle.sub_collect.specs.Completions.{of_key}
 use Rattle.sub_collect.proofs.KeyCounts.{key_among}
-use Rattle.heard_completions.specs.Counting.{is_counted}
+use Rattle.section_codec.specs.Tables.{is_counted}
 use Rattle.heard_completions.specs.Dones.{counted_heard}
 use Rattle.air_model.specs.Air.{Aired, air, airings_of, air_bytes}
 use Rattle.air_model.specs.Repeating.{IsRepeatingAirOf}

@@ -14,7 +14,7 @@ use Rattle.sub_collect.specs.Runs.{Counted, completed}
 use Rattle.sub_collect.specs.Completions.{of_key, done_at, completion_at, completion, completions}
 use Rattle.sub_collect.specs.declared.completed.Completed.{Completed}
 use Rattle.sub_collect.proofs.OneContent.{completes-no-other}
-use Rattle.heard_completions.specs.Counting.{is_counted}
+use Rattle.section_codec.specs.Tables.{is_counted}
 use Rattle.heard_completions.specs.Dones.{counted_heard}
 use Rattle.air_model.specs.Air.{Aired, air, airings_of, air_bytes}
 use Rattle.air_model.specs.Repeating.{IsRepeatingAirOf}

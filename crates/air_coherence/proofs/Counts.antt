@@ -3,8 +3,8 @@ use Rattle.std.proofs.Common.{◌≡◌, ℕ, ◌<◌, List, [], ◌∷◌, ◌+
 use Rattle.std.specs.Prelude.{if◌then◌else◌, cond, filter_map, option_map, Result, Ok, Err}
 use Rattle.std.specs.List.{AllByRecursion, cons_option}
 use Rattle.std.proofs.lemmas.List.Elements.{filter-append, filter_map-append}
-use Rattle.std.proofs.lemmas.Bool.Decides.{nat_tests}
 use Rattle.si_lists.proofs.Lists.{all_append, all_front, all_behind}
+use Rattle.section_codec.proofs.NamingFacts.{counted_range}
 use Rattle.section_codec.specs.declared.section.Section.{Section}
 use Rattle.section_codec.specs.declared.section.Section.TheVariants.{Long, Short}
 use Rattle.section_codec.specs.declared.section.BadSection.{BadSection}
@@ -22,7 +22,8 @@ use Rattle.ts_demux.proofs.Adding.{order_kept}
 use Rattle.ts_demux.proofs.Parts.{all-within}
 use Rattle.sub_collect.specs.Runs.{Counted, counted}
 use Rattle.sub_collect.specs.Completions.{is_of, of_key}
-use Rattle.heard_completions.specs.Counting.{is_counted, is_body_of_table, counted_by, counted_in, counted_among}
+use Rattle.section_codec.specs.Tables.{is_counted}
+use Rattle.heard_completions.specs.Counting.{is_body_of_table, counted_by, counted_in, counted_among}
 use Rattle.heard_completions.specs.Dones.{counted_heard}
 use Rattle.air_model.specs.Air.{Sent, sent_on}
 use Rattle.air_hearing.specs.Counting.{raw_of}
@@ -75,7 +76,7 @@ part_of_key k P join end groups all =
 
 -- PIDs that count are below that of the null packets
 pub counted_below : (pid table : ℕ) → is_counted pid table ≡ true → pid < 8191
-counted_below pid table e = grind (arith, nat_tests)
+counted_below pid table e = omega (arith, (counted_range pid table e).0)
 
 -- a section that counts is of a table that does
 counts_table : (pid : ℕ) (r : Result Section BadSection) (c : Counted) → counted_by pid r ≡ Some c → is_counted c.key.pid c.key.table ≡ true

@@ -19,7 +19,7 @@ use Rattle.ts_demux.proofs.Parts.{within-none, within-all}
 use Rattle.sub_collect.specs.Runs.{Counted, all_of_version, is_one_version, run_of, latest_section}
 use Rattle.sub_collect.specs.Laws.{HoldAll, IsSectionOf, IsWith}
 use Rattle.sub_collect.proofs.Whole.{none_held}
-use Rattle.heard_completions.specs.Counting.{is_counted}
+use Rattle.section_codec.specs.Tables.{is_counted}
 use Rattle.air_model.specs.Air.{Aired, sent_on, airings_of}
 use Rattle.air_model.specs.Repeating.{RepeatingCycles}
 use Rattle.air_hearing.specs.Counting.{CanBeHeard}

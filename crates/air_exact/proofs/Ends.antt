@@ -21,7 +21,7 @@ use Rattle.sub_collect.specs.Laws.{HoldAll, IsSectionOf, IsWith, IsNumbered}
 use Rattle.sub_collect.proofs.Runs.{version-joins, run_of-new, latest-push, no-latest}
 use Rattle.sub_collect.proofs.Whole.{none_held, run_behind}
 use Rattle.sub_collect.proofs.OneContent.{completes}
-use Rattle.heard_completions.specs.Counting.{is_counted}
+use Rattle.section_codec.specs.Tables.{is_counted}
 use Rattle.air_model.specs.Air.{Aired, sent_on, air, airings_of}
 use Rattle.air_model.specs.Repeating.{RepeatingCycles}
 use Rattle.air_hearing.specs.Counting.{CanBeHeard}

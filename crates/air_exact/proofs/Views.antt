@@ -13,7 +13,7 @@ use Rattle.ts_packets.specs.Bytes.{bytes_of_packet}
 use Rattle.sub_collect.specs.Completions.{latest_of, dones}
 use Rattle.sub_collect.specs.declared.completed.Completed.{Completed}
 use Rattle.sub_collect.proofs.Done.{latest-is_shown}
-use Rattle.heard_completions.specs.Counting.{is_counted}
+use Rattle.section_codec.specs.Tables.{is_counted}
 use Rattle.heard_completions.specs.Dones.{counted_heard}
 use Rattle.guide_receiver.specs.Latest.{last_of, keys_shown, is_pat_key, is_nit_key, is_sdt_key}
 use Rattle.air_model.specs.Air.{Aired, air, airings_of}

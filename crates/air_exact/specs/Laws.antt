@@ -5,7 +5,7 @@ use Rattle.section_codec.specs.declared.table.Key.{Key}
 use Rattle.section_codec.specs.Contents.{Content}
 use Rattle.version_book.specs.Airings.{AiredTables, content_at}
 use Rattle.ts_packets.specs.Bytes.{bytes_of_packet}
-use Rattle.heard_completions.specs.Counting.{is_counted}
+use Rattle.section_codec.specs.Tables.{is_counted}
 use Rattle.heard_completions.specs.Dones.{counted_heard}
 use Rattle.guide_receiver.specs.Guides.{view_of}
 use Rattle.guide_screen.specs.Holding.{content_in}

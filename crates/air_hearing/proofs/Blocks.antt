@@ -25,7 +25,8 @@ use Rattle.version_book.proofs.Airs.{AreOwn-all}
 use Rattle.sub_collect.specs.Runs.{Counted, counted, latest_section, has_number, latest_with}
 use Rattle.sub_collect.specs.Completions.{is_of, of_key}
 use Rattle.sub_collect.specs.Laws.{section_with, sections_with, HoldAll, IsWith, IsNumbered}
-use Rattle.heard_completions.specs.Counting.{is_counted, is_body_of_table, counted_by, counted_in, counted_among}
+use Rattle.section_codec.specs.Tables.{is_counted}
+use Rattle.heard_completions.specs.Counting.{is_body_of_table, counted_by, counted_in, counted_among}
 use Rattle.section_codec.specs.SubTables.{IsFit, header_of}
 use Rattle.heard_completions.proofs.Shown.{among-append}
 use Rattle.air_model.specs.Air.{Sent, sent_section, tdt, tot, times, CanBeTold}

@@ -16,7 +16,8 @@ use Rattle.ts_demux.specs.Sections.{sections_on, on_pid, heard_all, bytes_on}
 use Rattle.ts_demux.proofs.Adding.{order_kept}
 use Rattle.sub_collect.specs.Runs.{Counted, counted}
 use Rattle.sub_collect.specs.Completions.{of_key}
-use Rattle.heard_completions.specs.Counting.{is_counted, is_body_of_table, counted_by, counted_in, counted_among}
+use Rattle.section_codec.specs.Tables.{is_counted}
+use Rattle.heard_completions.specs.Counting.{is_body_of_table, counted_by, counted_in, counted_among}
 use Rattle.heard_completions.specs.Dones.{counted_heard}
 use Rattle.air_model.specs.Air.{Sent, sent_on}
 use Rattle.air_hearing.specs.Counting.{raw_of}

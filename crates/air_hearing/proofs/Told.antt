@@ -22,7 +22,8 @@ use Rattle.sub_collect.specs.declared.completed.Completed.{Completed}
 use Rattle.sub_collect.proofs.Done.{dones-go_on, keys-apart}
 use Rattle.sub_collect.proofs.Shown.{quiet, shown-once}
 use Rattle.heard_completions.specs.declared.done.DoneKey.{DoneKey}
-use Rattle.heard_completions.specs.Counting.{is_counted, counted_among}
+use Rattle.section_codec.specs.Tables.{is_counted}
+use Rattle.heard_completions.specs.Counting.{counted_among}
 use Rattle.section_codec.specs.SubTables.{IsFit}
 use Rattle.heard_completions.specs.Dones.{DoneAt, at_packet, counted_heard, done_key, dones_by, dones_of, dones_behind}
 use Rattle.heard_completions.proofs.Shown.{more_shown, among-append, counted-push}

@@ -8,7 +8,8 @@ use Rattle.ts_packets.specs.Bytes.{bytes_of_packet}
 use Rattle.ts_demux.specs.Sections.{sections_on}
 use Rattle.sub_collect.specs.Completions.{of_key}
 use Rattle.sub_collect.specs.Laws.{sections_with}
-use Rattle.heard_completions.specs.Counting.{is_counted, counted_among}
+use Rattle.section_codec.specs.Tables.{is_counted}
+use Rattle.heard_completions.specs.Counting.{counted_among}
 use Rattle.heard_completions.specs.Dones.{DoneAt, counted_heard, dones_of}
 use Rattle.air_model.specs.Air.{Aired, IsAirOf, air, sent_on, sections_of, CanBeSent}
 use Rattle.section_codec.specs.SubTables.{IsFit}

@@ -16,7 +16,7 @@ use Rattle.ts_demux.specs.Sections.{heard_all}
 use Rattle.nit_sdt.specs.Nit.{NitReadsBack}
 use Rattle.nit_sdt.specs.Sdt.{SdtReadsBack}
 use Rattle.guide_screen.specs.View.{View}
-use Rattle.heard_completions.specs.Counting.{is_counted}
+use Rattle.section_codec.specs.Tables.{is_counted}
 use Rattle.guide_receiver.specs.Latest.{is_pat_key, is_nit_key, is_sdt_key, clock_of}
 use Rattle.guide_receiver.specs.Guides.{view_of}
 use Rattle.air_model.specs.Air.{Aired, air, airings_of}

@@ -5,7 +5,7 @@ use Rattle.section_codec.specs.declared.table.Key.{Key}
 use Rattle.section_codec.specs.Contents.{Content}
 use Rattle.version_book.specs.Airings.{AiredTables, content_at}
 use Rattle.ts_packets.specs.Bytes.{Packet, bytes_of_packet}
-use Rattle.heard_completions.specs.Counting.{is_counted}
+use Rattle.section_codec.specs.Tables.{is_counted}
 use Rattle.sub_collect.specs.Marks.{completions_over, content_over}
 use Rattle.strict_receiver.specs.Strict.{taken_of, strict_dones_by, strict_view}
 use Rattle.strict_receiver.specs.Laws.{IsHeardAlike}

@@ -12,7 +12,9 @@ use Rattle.section_codec.specs.declared.table.Key.{Key}
 use Rattle.section_codec.specs.declared.table.NumberedBody.{NumberedBody}
 use Rattle.section_codec.specs.declared.table.SubTable.{SubTable}
 use Rattle.section_codec.specs.Contents.{Content, Ascend, last_number}
+use Rattle.section_codec.specs.Keys.{is_listed}
 use Rattle.section_codec.specs.KeyOrder.{is_key}
+use Rattle.section_codec.proofs.NamingFacts.{pmt_listed, events_listed}
 use Rattle.section_codec.specs.Section.{longest_body}
 use Rattle.section_codec.specs.SubTables.{IsFit}
 use Rattle.section_codec.specs.Tables.{is_eit}
@@ -31,7 +33,6 @@ use Rattle.desk_core.specs.Publications.{publication, swaps}
 use Rattle.journal_air.specs.Air.{airings}
 use Rattle.journal_air.specs.Laws.{HasTypedEdits}
 use Rattle.journal_air.proofs.CarryFacts.{each_airing, airings_heard}
-use Rattle.desk_checkpoint.specs.Fields.{is_listed}
 use Rattle.desk_checkpoint.specs.Laws.{IsSectionWritten, IsKeyWritten}
 use Rattle.desk_checkpoint.specs.Text.{HasByteBodies, HasByteContent}
 use Rattle.checkpoint_air.specs.Laws.{KeysAreWritten}
@@ -43,13 +44,6 @@ record IsListedTable (t : SubTable) : Type 0 where
   listed : is_listed t.key ≡ true
   stream : t.key.stream ≤ 65535
   network : t.key.network ≤ 65535
-
-pmt_listed : (pid ext : ℕ) → 32 ≤ pid → pid ≤ 8190 → is_listed (record { pid = pid; table = 0x02; ext = ext; stream = 0; network = 0 }) ≡ true
-pmt_listed pid ext above below = grind (arith, nat_tests)
-
-events_listed : (table ext stream network : ℕ) → 0x50 ≤ table → table < 0x60
-    → is_listed (record { pid = 0x0012; table = table; ext = ext; stream = stream; network = network }) ≡ true
-events_listed table ext stream network above below = grind (arith, nat_tests)
 
 listed_tables : (mux : Mux) (guide : Guide) → IsSoundWithIds mux → AllByRecursion IsListedTable (tables_of mux guide)
 listed_tables mux guide sound =

@@ -11,6 +11,8 @@ use Rattle.si_causes.specs.Lines.{shown}
 use Rattle.si_lists.proofs.Filters.{list_all-more}
 use Rattle.section_codec.specs.declared.table.Key.{Key}
 use Rattle.section_codec.specs.declared.table.NumberedBody.{NumberedBody}
+use Rattle.section_codec.specs.Keys.{is_listed}
+use Rattle.section_codec.proofs.NamingFacts.{listed_range}
 use Rattle.ts_packets.specs.declared.pid_counter.PidCounter.{PidCounter}
 use Rattle.input_lines.specs.Fields.{record_of, fields_compute}
 use Rattle.input_lines.specs.Lines.{record_lines}
@@ -27,7 +29,7 @@ use Rattle.command_text.proofs.CommandFields.{small_kept}
 use Rattle.command_text.proofs.CommandBack.{command_back, command_is_row, items_first, numbered, row_fields, row_first, step_rows}
 use Rattle.desk_checkpoint.specs.declared.part.Part.{Part}
 use Rattle.desk_checkpoint.specs.declared.part.Part.TheVariants.{Step as step, Version, Section, Counter, End}
-use Rattle.desk_checkpoint.specs.Fields.{begins_step, is_zero, body_in, count_fields, count_in, count_of, counter_fields, decoded, is_listed, is_lower_digit, key_in, part_of, section_fields, version_fields}
+use Rattle.desk_checkpoint.specs.Fields.{begins_step, is_zero, body_in, count_fields, count_in, count_of, counter_fields, decoded, is_lower_digit, key_in, part_of, section_fields, version_fields}
 use Rattle.desk_checkpoint.specs.Reads.{NumberedPart, count_line, first_part, part_on, step_part}
 use Rattle.desk_checkpoint.specs.Text.{step_text}
 use Rattle.desk_checkpoint.specs.Laws.{IsSectionWritten, IsCounterWritten}
@@ -129,14 +131,10 @@ count_first n count rest tail lt =
 
 -- ---- keys
 
--- the numbers of a key that stands in the table
-listed_pid : (key : Key) → is_listed key ≡ true → (key.pid ≤ 8190) × (key.table ≤ 255)
-listed_pid key h = (grind (arith, nat_tests), grind (arith, nat_tests))
-
 key_back : (key : Key) → is_listed key ≡ true → key.ext ≤ 65535 → key.stream ≤ 65535 → key.network ≤ 65535
     → key_in (decimal key.pid) (decimal key.table) (decimal key.ext) (decimal key.stream) (decimal key.network) ≡ Some key
 key_back key h ext stream network =
-    let numbers = listed_pid key h in
+    let numbers = listed_range key h in
     rw (
       number_back key.pid 8190 numbers.0 (omega arith),
       number_back key.table 255 numbers.1 (omega arith),
@@ -155,7 +153,7 @@ version_back key version h ext stream network lt =
 version_is_row : (key : Key) (version : ℕ) → is_listed key ≡ true → key.ext ≤ 65535 → key.stream ≤ 65535 → key.network ≤ 65535 → version < 32
     → IsRow (version_fields key version)
 version_is_row key version h ext stream network lt =
-    let numbers = listed_pid key h in
+    let numbers = listed_range key h in
     record {
       front = (refl, refl);
       kept = (written_kept (codes "version") refl, (small_kept key.pid 8190 numbers.0 (omega arith), (small_kept key.table 255 numbers.1 (omega arith), (small_kept key.ext 65535 ext (omega arith), (small_kept key.stream 65535 stream (omega arith), (small_kept key.network 65535 network (omega arith), (small_kept version 31 (omega arith) (omega arith), tt)))))));

@@ -5,7 +5,7 @@ use Rattle.hex.specs.Hex.{decode_of, encode_lower}
 use Rattle.hex.specs.declared.error.FromHexError.{FromHexError}
 use Rattle.section_codec.specs.declared.table.Key.{Key}
 use Rattle.section_codec.specs.declared.table.NumberedBody.{NumberedBody}
-use Rattle.section_codec.specs.Tables.{is_pat, is_pmt, is_nit, is_sdt, is_events}
+use Rattle.section_codec.specs.Keys.{is_listed}
 use Rattle.ts_packets.specs.declared.pid_counter.PidCounter.{PidCounter}
 use Rattle.input_lines.specs.Numbers.{is_digit, is_word, number_in, numeral_of, value_from}
 use Rattle.desk_checkpoint.specs.declared.part.Part.{Part}
@@ -44,13 +44,7 @@ abbrev pub count_of : List (List ℕ) → Option ℕ
 count_of (word ∷ count ∷ []) = if is_word (codes "checkpoint") word then count_in count else None
 count_of fields = None
 
--- a key that stands in the table of PIDs and table_ids (EN 300 468, 5.1.1 and 5.1.3)
-abbrev pub is_listed : Key → Bool
-is_listed key =
-    (is_pat key.pid key.table || is_pmt key.pid key.table || is_nit key.pid key.table) && key.stream == 0 && key.network == 0
-    || is_sdt key.pid key.table && key.stream == 0
-    || is_events key.pid key.table
-
+-- a key that sub-tables can have
 abbrev pub listed : Key → Option Key
 listed key = if is_listed key then Some key else None
 

@@ -18,7 +18,7 @@ use Rattle.desk_core.specs.Desks.{DeskState}
 use Rattle.input_lines.specs.Ahead.{Tail}
 use Rattle.command_text.specs.Back.{IsReadableCommand, ahead_of}
 use Rattle.checkpoint_laws.specs.Steps.{checkpoint_steps, folded}
-use Rattle.desk_checkpoint.specs.Fields.{is_listed}
+use Rattle.section_codec.specs.Keys.{is_listed}
 use Rattle.desk_checkpoint.specs.Checkpoints.{Checkpoint}
 use Rattle.desk_checkpoint.specs.Reads.{checkpoint_in}
 use Rattle.desk_checkpoint.specs.Text.{checkpoint_text}

@@ -2,14 +2,14 @@
 ghost use Rattle.std.specs.Prelude.{◌≡◌, ◌<◌, ◌^◌, true, IfOk, IfSome, option_map};
 ghost use Rattle.std.specs.List.{list_all};
 ghost use Rattle.input_lines.specs.Numbers.{is_digit, value_from};
-ghost use Rattle.desk_checkpoint.specs.Fields.{begins_step, body_in, count_in, count_of, counter_of, end_of, is_count, is_listed, is_lower_digit, key_in, part_of, section_of, version_of};
+ghost use Rattle.desk_checkpoint.specs.Fields.{begins_step, body_in, count_in, count_of, counter_of, end_of, is_count, is_lower_digit, key_in, part_of, section_of, version_of};
 ghost use Rattle.desk_checkpoint.specs.Checkpoints.{is_end};
 ghost use Rattle.desk_checkpoint.specs.Parts.{IsFitPart};
 
 use hex::FromHexError;
 use input_lines::{is_word, number, numeral};
 use journal_model::Step;
-use section_codec::{Key, NumberedBody};
+use section_codec::{Key, NumberedBody, is_listed};
 use si_base::Items;
 use si_text::Txt;
 use std::alloc::{AllocError, Global};
@@ -75,20 +75,6 @@ pub(crate) fn count_of(fields: &[Txt]) -> Option<u64>
     read_count(count.as_str())
 }
 
-// Whether a key stands in the table of PIDs and table_ids.
-fn is_listed(key: Key) -> bool
-    ensures { result ≡ is_listed key }
-{
-    match (key.pid, key.table) {
-        (0x0000, 0x00) | (0x0020..=0x1FFE, 0x02) | (0x0010, 0x40) => {
-            key.stream == 0 && key.network == 0
-        }
-        (0x0011, 0x42) => key.stream == 0,
-        (0x0012, 0x4E | 0x50..=0x5F) => true,
-        _ => false,
-    }
-}
-
 // PID,TABLE,EXT,STREAM,NETWORK
 fn read_key(pid: &Txt, table: &Txt, ext: &Txt, stream: &Txt, network: &Txt) -> Option<Key>
     ensures { result ≡ key_in pid.now table.now ext.now stream.now network.now }
@@ -105,7 +91,7 @@ fn read_key(pid: &Txt, table: &Txt, ext: &Txt, stream: &Txt, network: &Txt) -> O
         stream: stream as u16,
         network: network as u16,
     };
-    if is_listed(key) { Some(key) } else { None }
+    if is_listed(&key) { Some(key) } else { None }
 }
 
 // PID,TABLE,EXT,STREAM,NETWORK,VERSION

@@ -18,7 +18,7 @@ use Rattle.air_model.specs.Air.{air, air_bytes}
 use Rattle.air_model.proofs.Airs.{air-whole}
 use Rattle.air_model.proofs.Repeating.{airs_repeat}
 use Rattle.heard_completions.specs.declared.done.DoneKey.{DoneKey}
-use Rattle.heard_completions.specs.Counting.{is_counted}
+use Rattle.section_codec.specs.Tables.{is_counted}
 use Rattle.heard_completions.specs.Dones.{DoneAt, dones_of}
 use Rattle.section_codec.specs.declared.table.Key.{Key}
 use Rattle.section_codec.specs.declared.table.SubTable.{SubTable}

@@ -1,4 +1,3 @@
 pub mod Shown
 pub mod Reading
 pub mod Dones
-pub mod Tables

@@ -5,7 +5,7 @@ use Rattle.section_codec.specs.declared.section.LongHeader.{LongHeader}
 use Rattle.section_codec.specs.declared.section.Section.{Section}
 use Rattle.section_codec.specs.declared.section.Section.TheVariants.{Long, Short}
 use Rattle.section_codec.specs.declared.section.BadSection.{BadSection}
-use Rattle.section_codec.specs.Tables.{is_eit, is_pat, is_pmt, is_nit, is_sdt, is_events}
+use Rattle.section_codec.specs.Tables.{is_eit, is_counted}
 use Rattle.section_codec.specs.Section.{section_in}
 use Rattle.section_codec.specs.Keys.{key_in}
 use Rattle.section_codec.specs.Segments.{segment_last_in}
@@ -14,10 +14,6 @@ use Rattle.nit_sdt.specs.Bodies.{is_nit_body, is_sdt_body}
 use Rattle.eit_codec.specs.Bodies.{is_eit_body}
 use Rattle.ts_demux.specs.declared.section.RawSection.{RawSection}
 use Rattle.sub_collect.specs.Runs.{Counted, counted}
-
--- whether sections of this table on this PID count
-abbrev pub is_counted : ℕ → ℕ → Bool
-is_counted pid table = is_pat pid table || is_pmt pid table || is_nit pid table || is_sdt pid table || is_events pid table
 
 -- a segment's last number is known, and is not above that of the table
 abbrev pub is_last_within : Option ℕ → ℕ → Bool

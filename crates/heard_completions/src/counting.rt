@@ -1,16 +1,15 @@
 // The sections that count.
 ghost use Rattle.std.specs.Prelude.{◌≡◌, ◌&&◌, IfOk, IfSome, option_map};
-ghost use Rattle.section_codec.specs.Tables.{is_pat, is_pmt, is_nit, is_sdt, is_events};
 ghost use Rattle.section_codec.specs.Section.{long_body};
 ghost use Rattle.section_codec.specs.Segments.{segment_last_in};
 ghost use Rattle.sub_collect.specs.Runs.{counted};
-ghost use Rattle.heard_completions.specs.Counting.{is_counted, is_last_within, is_event_body, is_body_of_table, counted_in};
+ghost use Rattle.heard_completions.specs.Counting.{is_last_within, is_event_body, is_body_of_table, counted_in};
 
 use eit_codec::is_eit_body;
 use nit_sdt::{is_nit_body, is_sdt_body};
 use pat_pmt::{is_pat_body, is_pmt_body};
 use section_codec::{
-    BadSection, Key, LongHeader, Section, is_eit, key_of, read_section, segment_last,
+    BadSection, Key, LongHeader, Section, is_counted, is_eit, key_of, read_section, segment_last,
 };
 use si_base::Bytes;
 use std::alloc::{AllocError, Global};
@@ -48,48 +47,6 @@ pub fn counted_section(
         Some(key) => Ok(Some(CountedSection { key, header, body })),
         None => Ok(None),
     }
-}
-
-// Whether sections of this table on this PID count: the PAT, a PMT, the NIT of the actual network, the SDT of the actual stream, and
-// event information of this multiplex.
-fn is_counted(pid: u16, table: u8) -> bool
-    ensures { result ≡ is_counted pid table }
-{
-    is_pat(pid, table)
-        || is_pmt(pid, table)
-        || is_nit(pid, table)
-        || is_sdt(pid, table)
-        || is_events(pid, table)
-}
-
-fn is_pat(pid: u16, table: u8) -> bool
-    ensures { result ≡ is_pat pid table }
-{
-    pid == 0x0000 && table == 0x00
-}
-
-fn is_pmt(pid: u16, table: u8) -> bool
-    ensures { result ≡ is_pmt pid table }
-{
-    0x0020 <= pid && pid <= 0x1FFE && table == 0x02
-}
-
-fn is_nit(pid: u16, table: u8) -> bool
-    ensures { result ≡ is_nit pid table }
-{
-    pid == 0x0010 && table == 0x40
-}
-
-fn is_sdt(pid: u16, table: u8) -> bool
-    ensures { result ≡ is_sdt pid table }
-{
-    pid == 0x0011 && table == 0x42
-}
-
-fn is_events(pid: u16, table: u8) -> bool
-    ensures { result ≡ is_events pid table }
-{
-    pid == 0x0012 && (table == 0x4E || 0x50 <= table && table <= 0x5F)
 }
 
 // Whether the body is one of its table. It is looked at and not read, which takes no memory.

@@ -1,6 +1,6 @@
 -- Each airing of a legal journal can be heard, and receivers count all tables that it carries.
-use Rattle.std.proofs.Common.{◌≡◌, ℕ, ◌<◌, ◌≤◌, ◌==◌, ◌&&◌, ◌||◌, Bool, true, false, List, [], ◌∷◌, Option, Some, refl, ap, ◌∙◌, arith, le-leb}
-use Rattle.std.specs.Prelude.{map, if◌then◌else◌}
+use Rattle.std.proofs.Common.{◌≡◌, ℕ, ◌<◌, ◌≤◌, ◌==◌, ◌&&◌, ◌||◌, Bool, true, false, List, [], ◌∷◌, Option, Some, None, refl, ap, ◌∙◌, arith, le-leb}
+use Rattle.std.specs.Prelude.{map, is_some, if◌then◌else◌}
 use Rattle.std.specs.List.{AllByRecursion}
 use Rattle.std.proofs.lemmas.Bool.{and_from}
 use Rattle.std.proofs.lemmas.Bool.Decides.{nat_tests}
@@ -16,6 +16,7 @@ use Rattle.section_codec.specs.Segments.{segment_last_in}
 use Rattle.section_codec.specs.Keys.{key_in}
 use Rattle.section_codec.specs.SubTables.{header_of}
 use Rattle.section_codec.specs.Tables.{is_eit, is_pat, is_pmt, is_nit, is_sdt, is_events}
+use Rattle.section_codec.specs.declared.table.Naming.TheVariants.{Extension, Network, Stream}
 use Rattle.pat_pmt.specs.Bodies.{is_pat_body, is_pmt_body}
 use Rattle.nit_sdt.specs.Bodies.{is_nit_body, is_sdt_body}
 use Rattle.eit_codec.specs.Bodies.{is_eit_body}
@@ -83,7 +84,7 @@ bodies_of t counted tells =
 
     by : (pat pmt nit sdt events : Bool) → is_pat t.key.pid t.key.table ≡ pat → is_pmt t.key.pid t.key.table ≡ pmt
         → is_nit t.key.pid t.key.table ≡ nit → is_sdt t.key.pid t.key.table ≡ sdt → is_events t.key.pid t.key.table ≡ events
-        → (pat || pmt || nit || sdt || events) ≡ true → AllByRecursion (IsBody t) t.sections
+        → is_some (if pat || pmt || nit then Some Extension else if sdt then Some Network else if events then Some Stream else None) ≡ true → AllByRecursion (IsBody t) t.sections
     by true pmt nit sdt events a b c d e h =
         each (λ s. is_pat_body s.body ≡ true) (λ s is. ap (asked t s) (pat_table_id t.key.pid t.key.table a) ∙ is) (tells.pat a)
     by false true nit sdt events a b c d e h =

@@ -10,7 +10,7 @@ use Rattle.mux_model.specs.Sound.{IsSound, IsSoundWithIds}
 use Rattle.journal_model.specs.Edits.{IsTypedEdit}
 use Rattle.journal_model.specs.declared.step.Entry.{Entry}
 use Rattle.desk_core.specs.Journal.{accepted, Legal}
-use Rattle.heard_completions.specs.Counting.{is_counted}
+use Rattle.section_codec.specs.Tables.{is_counted}
 use Rattle.air_hearing.specs.Counting.{CanBeHeard}
 use Rattle.air_hearing.specs.Sending.{carried_keys}
 use Rattle.journal_air.specs.Air.{airings}

@@ -6,8 +6,8 @@ use Rattle.guide_model.specs.declared.guide.Guide.{Guide}
 use Rattle.mux_model.specs.declared.mux.Mux.{Mux}
 use Rattle.mux_model.specs.Sound.{IsSound, IsSoundService}
 use Rattle.section_codec.specs.declared.table.SubTable.{SubTable}
-use Rattle.heard_completions.specs.Counting.{is_counted}
-use Rattle.heard_completions.proofs.Tables.{schedules_counted, pmts_counted}
+use Rattle.section_codec.specs.Tables.{is_counted}
+use Rattle.section_codec.proofs.NamingFacts.{schedules_counted, pmts_counted}
 use Rattle.publication.specs.Tables.{tables_of}
 use Rattle.publication.proofs.FitFacts.{each_pmt, each_sub_table}
 

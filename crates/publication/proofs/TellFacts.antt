@@ -1,6 +1,6 @@
 -- Receivers take the sub-tables of a publication as they are meant.
 use Rattle.std.proofs.Common.{◌≡◌, ℕ, ◌<◌, ◌≤◌, Bool, true, false, ◌||◌, List, [], ◌∷◌, length, map, Option, Some, None, refl, sym, ap, ap₂, ◌∙◌, arith, le-leb}
-use Rattle.std.specs.Prelude.{◌&&◌, nat_le, if◌then◌else◌}
+use Rattle.std.specs.Prelude.{◌&&◌, nat_le, if◌then◌else◌, option_and_then}
 use Rattle.std.specs.List.{AllByRecursion}
 use Rattle.std.proofs.lemmas.Bool.{false≢true}
 use Rattle.std.proofs.lemmas.Bool.Decides.{nat_tests}
@@ -18,9 +18,12 @@ use Rattle.section_codec.specs.declared.table.Key.{Key}
 use Rattle.section_codec.specs.declared.table.NumberedBody.{NumberedBody}
 use Rattle.section_codec.specs.declared.table.SubTable.{SubTable}
 use Rattle.section_codec.specs.declared.table.Tier3.{Tier3}
-use Rattle.section_codec.specs.Tables.{is_eit, is_pat, is_pmt, is_nit, is_sdt, is_sdt_other, is_events, is_events_other}
+use Rattle.section_codec.specs.Tables.{is_eit, is_pat, is_pmt, is_nit, is_sdt, is_events, naming_of}
 use Rattle.section_codec.specs.Contents.{last_number}
-use Rattle.section_codec.specs.Keys.{key_in}
+use Rattle.section_codec.specs.Keys.{named_by, key_in}
+use Rattle.section_codec.specs.declared.table.Naming.{Naming}
+use Rattle.section_codec.specs.declared.table.Naming.TheVariants.{Stream}
+use Rattle.section_codec.proofs.NamingFacts.{pmts_named}
 use Rattle.section_codec.specs.Segments.{segment_last_in}
 use Rattle.section_codec.proofs.ContentFacts.{last_number-from}
 use Rattle.sub_collect.proofs.Whole.{from_zero}
@@ -56,18 +59,13 @@ use Rattle.publication.proofs.FitFacts.{each_pmt, each_sub_table}
 abbrev key_of_fields : ℕ → ℕ → ℕ → ℕ → ℕ → Key
 key_of_fields pid table ext stream network = record { pid = pid; table = table; ext = ext; stream = stream; network = network }
 
--- that of tables with ids in their bodies
-abbrev key_behind : ℕ → ℕ → ℕ → List ℕ → Option Key
-key_behind pid table ext body =
-    if (is_sdt pid table || is_sdt_other pid table) && nat_le 2 (length body) then Some (key_of_fields pid table ext 0 (two_at 0 body))
-    else if (is_events pid table || is_events_other pid table) && nat_le 4 (length body) then Some (key_of_fields pid table ext (two_at 0 body) (two_at 2 body))
-    else None
+-- the key by what names the sub-tables of the table
+abbrev key_named : ℕ → ℕ → ℕ → List ℕ → Option Naming → Option Key
+key_named pid table ext body = option_and_then (λ naming. named_by naming (key_of_fields pid table ext) body)
 
 -- the key by the fields of a header that it goes by
 abbrev key_by : ℕ → ℕ → ℕ → List ℕ → Option Key
-key_by pid table ext body =
-    if is_pat pid table || is_pmt pid table || is_nit pid table then Some (key_of_fields pid table ext 0 0)
-    else key_behind pid table ext body
+key_by pid table ext body = key_named pid table ext body (naming_of pid table)
 
 key_by_fields : (pid : ℕ) (header : LongHeader) (table ext : ℕ) (body : List ℕ) → header.table ≡ table → header.ext ≡ ext → key_in pid header body ≡ key_by pid table ext body
 key_by_fields pid header table ext body is_table is_ext = ap₂ (λ (t e : ℕ). key_by pid t e body) is_table is_ext
@@ -110,11 +108,10 @@ pmt_tells s sound =
     let no_pat : is_pat pid 0x02 ≡ false = grind (arith, nat_tests) in
     let no_nit : is_nit pid 0x02 ≡ false = grind (arith, nat_tests) in
     let no_sdt : is_sdt pid 0x02 ≡ false = grind (arith, nat_tests) in
-    let short : (is_pat pid 0x02 || is_pmt pid 0x02 || is_nit pid 0x02) ≡ true = grind (arith, nat_tests) in
     single_tells (pmt_key s) body (omega arith) (omega (arith, sound.service.1)) refl
     (λ header table ext.
     key_by_fields pid header 0x02 s.service body table ext
-    ∙ ap (λ (b : Bool). if b then Some (key_of_fields pid 0x02 s.service 0 0) else key_behind pid 0x02 s.service body) short)
+    ∙ ap (key_named pid 0x02 s.service body) (pmts_named pid above below))
     (never no_pat) (λ e. written_pmts (pmt_of s) (pmt_fits s sound)) (never no_nit) no_sdt
 
 nit_tells : (mux : Mux) → IsSound mux → mux.network < 65536 → TellsItself (nit_table mux)
@@ -157,7 +154,7 @@ eit_keyed : (mux : Mux) (table service : ℕ) → is_events 0x0012 table ≡ tru
 eit_keyed mux table service events s least names header is_table is_ext =
     let key = key_of_fields 0x0012 table service in
     key_by_fields 0x0012 header table service s.body is_table is_ext
-    ∙ ap (λ (b : Bool). if (b || is_events_other 0x0012 table) && nat_le 4 (length s.body) then Some (key (two_at 0 s.body) (two_at 2 s.body)) else None) events
+    ∙ ap (λ (b : Bool). key_named 0x0012 table service s.body (if b then Some Stream else None)) events
     ∙ ap (λ (b : Bool). if b then Some (key (two_at 0 s.body) (two_at 2 s.body)) else None) (le-leb 4 (length s.body) (omega (arith, least)))
     ∙ ap (λ (n : ℕ). Some (key n (two_at 2 s.body))) names.0 ∙ ap (λ (n : ℕ). Some (key mux.stream n)) names.1
 
