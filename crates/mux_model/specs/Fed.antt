@@ -1,7 +1,8 @@
--- What feeds edit of a service, of whatever stream: the feed that owns it, and its names.
-use Rattle.std.specs.Prelude.{ℕ, ◌<◌, ◌≤◌, List, [], ◌∷◌, map}
+-- What feeds edit of a service, of whatever stream: the feed that owns it, and its first names.
+use Rattle.std.specs.Prelude.{ℕ, ◌<◌, ◌≤◌, ◌==◌, List, [], ◌∷◌, find, map, option_map, unwrap_or}
 use Rattle.std.specs.List.{AllByRecursion}
 use Rattle.si_text.specs.Coding.{coded_size}
+use Rattle.si_text.specs.Decoding.{IsKept}
 use Rattle.mux_model.specs.declared.mux.MuxService.{MuxService}
 use Rattle.mux_model.specs.declared.mux.Mux.{Mux}
 use Rattle.mux_model.specs.Sound.{Between}
@@ -19,13 +20,25 @@ fed_of s = record { service = s.service; feed = s.feed; provider = s.provider; n
 abbrev pub fed_services : Mux → List FedService
 fed_services mux = map fed_of mux.services
 
+-- their ids
+abbrev pub fed_ids : Mux → List ℕ
+fed_ids mux = map (λ (s : FedService). s.service) (fed_services mux)
+
+-- the feed that owns the service with this id, and 0 where none has it
+abbrev pub feed_of : List FedService → ℕ → ℕ
+feed_of services id = unwrap_or (option_map (λ (s : FedService). s.feed) (find (λ (s : FedService). s.service == id) services)) 0
+
 pub record IsSoundFed (s : FedService) : Type 0 where
   pub service : Between 1 65535 s.service
   pub feed : Between 1 16 s.feed
   pub provider : coded_size s.provider ≤ 100
   pub name : Between 1 100 (coded_size s.name)
 
--- each id is below those behind it
+-- its names may be kept
+abbrev pub IsNamed : FedService → Type 0
+IsNamed s = IsKept s.provider × IsKept s.name
+
+-- each id is below the later ones
 abbrev pub DoFedAscend : List FedService → Type 0
 DoFedAscend [] = Unit {0}
 DoFedAscend (s ∷ ss) = AllByRecursion (λ (t : FedService). s.service < t.service) ss × DoFedAscend ss

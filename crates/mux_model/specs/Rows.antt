@@ -1,8 +1,9 @@
 -- A worked multiplex: one service without components, which starts at 1970-01-01T00:00:00Z.
-use Rattle.std.specs.Prelude.{[], ◌∷◌, None, codes}
+use Rattle.std.specs.Prelude.{[], ◌∷◌, codes}
 use Rattle.std.proofs.Common.{lit≤, lit<}
 use Rattle.si_time.specs.declared.moment.Moment.{Moment}
 use Rattle.mux_model.specs.declared.mux.Mux.{Mux}
+use Rattle.mux_model.specs.Muxes.{mux_of}
 use Rattle.mux_model.specs.Sound.{IsSound}
 
 -- 1970-01-01T00:00:00Z
@@ -10,17 +11,8 @@ abbrev pub row_start : Moment
 row_start = record { 0 = 3506716800 }
 
 abbrev pub row_mux : Mux
-row_mux = record {
-  network = 40;
-  network_name = codes "Demo";
-  stream = 1;
-  original = 1;
-  cable = None;
-  start = row_start;
-  quota = 200;
-  offsets = [];
-  services = record { service = 101; feed = 1; kind = 1; pmt_pid = 256; pcr_pid = 257; provider = codes "Acme"; name = codes "One"; components = [] } ∷ [];
-}
+row_mux = mux_of 40 (codes "Demo") 1 1 row_start 200
+    (record { service = 101; feed = 1; kind = 1; pmt_pid = 256; pcr_pid = 257; provider = codes "Acme"; name = codes "One"; components = [] } ∷ [])
 
 pub row_sound : IsSound row_mux
 row_sound = record {

@@ -50,7 +50,7 @@ pub record IsSoundService (s : MuxService) : Type 0 where
   pub components : AllByRecursion IsSoundComponent s.components
   pub components_once : AreDifferent (component_pids s)
 
--- each id is below those behind it
+-- each id is below the later ones
 abbrev pub DoAscend : List MuxService → Type 0
 DoAscend [] = Unit {0}
 DoAscend (s ∷ ss) = AllByRecursion (λ (t : MuxService). s.service < t.service) ss × DoAscend ss
