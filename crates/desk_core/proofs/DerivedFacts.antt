@@ -172,7 +172,7 @@ held_ticked mux entries held who at h within =
       on_air_number = subst (λ (a : ℕ × Moment). a.0 ≤ publishes (entries ++ x ∷ [])) (sym aired) (omega (arith, h.on_air_number, count));
     }
 
--- the same, by what the calls tell
+-- the same, by what the calls give
 pub as_published : (mux : Mux) (entries : List Entry) (old new : Derived) (who n : ℕ) → IsDerived mux entries old
     → n ≡ 1 + old.published → new.latest.guide ≡ guide_of old.book old.moment → new ≡ record old { published = 1 + old.published; latest = new.latest } → IsGuideWithin new.latest.guide
     → IsDerived mux (entries ++ published_entry who n ∷ []) new

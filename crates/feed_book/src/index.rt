@@ -56,7 +56,7 @@ fn first_in_block(slots: &[IndexedEvent], block: u64) -> usize
     slots.partition_point(|s| s.start / 10_800 < block)
 }
 
-// The first slot in the way: those before end too early, and those behind start too late.
+// The first slot in the way: the earlier ones end too early, and the later ones start too late.
 fn first_in_the_way(slots: &[IndexedEvent], slot: &IndexedEvent) -> Option<IndexedEvent>
     requires slot { slot.now.start < 2 ^ 63 }
     requires others { All (λ (other : Shape). other.start < 2 ^ 63) slots.now }
