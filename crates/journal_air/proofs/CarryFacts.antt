@@ -139,7 +139,7 @@ airings_heard mux journal sound typed legal = each_airing CanBeHeard mux journal
     one : (swap : ℕ × Moment) → CanBeHeard (airing_at mux journal swap)
     one (n, moment) =
         let guide = publication mux journal n in
-        let within = publications_within mux journal n sound.sound.services sound.sound.ascend legal in
+        let within = publications_within mux journal n sound.sound legal in
         let events = published_typed mux journal n typed within in
         let fit = publication_fit mux guide sound.sound within (typed_small guide within events) in
         let tells = publication_tells mux guide sound (published_services mux journal n) within events in
