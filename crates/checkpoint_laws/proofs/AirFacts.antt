@@ -1,4 +1,4 @@
--- What is put on air behind journals that go on alike.
+-- What is put on air after journals that go on alike.
 use Rattle.std.proofs.Common.{◌≡◌, ℕ, ◌+◌, ◌≤◌, true, false, List, [], ◌∷◌, ◌++◌, map, refl, sym, ap, ◌∙◌, subst, arith, append_assoc}
 use Rattle.std.specs.Prelude.{Option, Some, None, IfSome}
 use Rattle.std.specs.List.{AllByRecursion, cons_option}
@@ -131,7 +131,7 @@ aired_alike mux shift h c commands sound legal_h legal_c alike =
     ∙ ap (λ (l : List AiredTables). l ++ map (airing_at mux whole) (swaps rest)) before
     ∙ ap (λ (l : List AiredTables). airings mux h ++ l) behind
 
--- behind a checkpoint all swaps are of what was asked then
+-- after a checkpoint all swaps are of what was asked then
 pub air_goes_on : (mux : Mux) (journal : List Entry) (commands : List Command) → IsSound mux → Legal mux journal
     → let more = journal_after mux (folded mux journal) commands in
     airings mux (journal ++ all_raised (shift_of (publishes journal)) more) ≡ airings mux journal ++ airings mux (folded mux journal ++ more)

@@ -1,13 +1,13 @@
 -- The edits of all services are accepted, and leave the book that they were made from.
-use Rattle.std.proofs.Common.{◌≡◌, ℕ, ◌<◌, Bool, true, ◌&&◌, List, [], ◌∷◌, ◌++◌, map, eqb, refl, sym, ap, ◌∙◌, subst, arith, append-nil, append_assoc}
-use Rattle.std.specs.List.{AllByRecursion, flat_map, zip}
+use Rattle.std.proofs.Common.{◌≡◌, ℕ, ◌==◌, ◌<◌, Bool, true, false, ◌&&◌, List, [], ◌∷◌, ◌++◌, map, eqb, refl, sym, ap, ◌∙◌, subst, arith, append-nil, append_assoc}
+use Rattle.std.specs.List.{AllByRecursion, flat_map}
 use Rattle.std.proofs.lemmas.Bool.{eq-eqb, or_left, or_right}
+use Rattle.std.proofs.lemmas.Bool.Decides.{nat_tests}
 use Rattle.std.proofs.lemmas.List.{map-append}
 use Rattle.std.proofs.lemmas.List.Concat.{flat_map-cons}
-use Rattle.si_lists.proofs.Lists.{all_append, all_map}
+use Rattle.si_lists.proofs.Lists.{all_append, all_map, all_two}
 use Rattle.guide_model.specs.declared.guide.ServiceGuide.{ServiceGuide}
-use Rattle.mux_model.specs.declared.mux.MuxService.{MuxService}
-use Rattle.mux_model.specs.Sound.{DoAscend}
+use Rattle.mux_model.specs.Fed.{FedService, DoFedAscend, feed_of}
 use Rattle.journal_model.specs.declared.edit.Edit.{Edit}
 use Rattle.guide_limits.specs.KeptService.{KeptService}
 use Rattle.guide_limits.specs.Standing.{standing}
@@ -55,7 +55,7 @@ first_service edits kept book =
     ∙ map-append (λ (a : FeedEdit). a.1) (edits_for edits kept) (book_edits edits book)
     ∙ ap (λ (es : List Edit). es ++ edits_in (book_edits edits book)) (without_feed kept.feed (edits kept.guide))
 
--- edits that are accepted behind others
+-- edits that are accepted after others
 accepted_on : (past xs ys : List Edit) → AreAccepted past xs → AreAccepted (past ++ xs) ys → AreAccepted past (xs ++ ys)
 accepted_on past [] ys p q = subst (λ (l : List Edit). AreAccepted l ys) (append-nil past) q
 accepted_on past (x ∷ xs) ys p q =
@@ -66,7 +66,7 @@ accepted_on past (x ∷ xs) ys p q =
 abbrev IsElsewhere : ℕ → Edit → Type 0
 IsElsewhere service e = service_of e ≡ service → ⊥
 
-kept_through : (past edits : List Edit) (s : MuxService) → AllByRecursion (IsElsewhere s.service) edits
+kept_through : (past edits : List Edit) (s : FedService) → AllByRecursion (IsElsewhere s.service) edits
     → kept_after (past ++ edits) s ≡ kept_after past s
 kept_through past [] s h = ap (λ (p : List Edit). kept_after p s) (append-nil past)
 kept_through past (e ∷ edits) s h =
@@ -79,7 +79,7 @@ own_elsewhere edits own other differ h = all_map (λ (e : Edit). service_of e �
 
 book_elsewhere : (edits : ServiceGuide → List Edit)
     → ((guide : ServiceGuide) → AllByRecursion (λ (e : Edit). service_of e ≡ guide.service) (edits guide))
-    → (services : List MuxService) (old : List Edit) (n : ℕ) → AllByRecursion (λ (s : MuxService). n < s.service) services
+    → (services : List FedService) (old : List Edit) (n : ℕ) → AllByRecursion (λ (s : FedService). n < s.service) services
     → AllByRecursion (IsElsewhere n) (edits_in (book_edits edits (book_after services old)))
 book_elsewhere edits own [] old n h = tt
 book_elsewhere edits own (s ∷ services) old n h =
@@ -106,12 +106,12 @@ ready_through edits IsReady way past [] service h ready = subst (λ (p : List Ed
 ready_through edits IsReady way past (e ∷ more) service h ready =
     subst (λ (p : List Edit). IsReady p service) (append_assoc past (e ∷ []) more) (ready_through edits IsReady way (past ++ e ∷ []) more service h.1 (way.stays past e service h.0 ready))
 
-abbrev AreReady : (List Edit → ℕ → Type 0) → List Edit → List MuxService → Type 0
-AreReady IsReady past services = AllByRecursion (λ (s : MuxService). IsReady past s.service) services
+abbrev AreReady : (List Edit → ℕ → Type 0) → List Edit → List FedService → Type 0
+AreReady IsReady past services = AllByRecursion (λ (s : FedService). IsReady past s.service) services
 
 all_ready : (edits : ServiceGuide → List Edit) (IsReady : List Edit → ℕ → Type 0) → Rebuilds edits IsReady
-    → (past more : List Edit) (n : ℕ) (services : List MuxService)
-    → AllByRecursion (λ (e : Edit). service_of e ≡ n) more → AllByRecursion (λ (s : MuxService). n < s.service) services
+    → (past more : List Edit) (n : ℕ) (services : List FedService)
+    → AllByRecursion (λ (e : Edit). service_of e ≡ n) more → AllByRecursion (λ (s : FedService). n < s.service) services
     → AreReady IsReady past services → AreReady IsReady (past ++ more) services
 all_ready edits IsReady way past more n [] own above ready = tt
 all_ready edits IsReady way past more n (s ∷ services) own above ready = (
@@ -120,8 +120,8 @@ all_ready edits IsReady way past more n (s ∷ services) own above ready = (
 )
 
 pub rebuilt_all : (edits : ServiceGuide → List Edit) (IsReady : List Edit → ℕ → Type 0) → Rebuilds edits IsReady
-    → (services : List MuxService) (old past : List Edit)
-    → DoAscend services → AllByRecursion (λ (s : MuxService). IsServiceWithin (kept_after old s).guide) services
+    → (services : List FedService) (old past : List Edit)
+    → DoFedAscend services → AllByRecursion (λ (s : FedService). IsServiceWithin (kept_after old s).guide) services
     → AreReady IsReady past services
     → AreAccepted past (edits_in (book_edits edits (book_after services old))) × (book_after services (past ++ edits_in (book_edits edits (book_after services old))) ≡ book_after services old)
 rebuilt_all edits IsReady way [] old past ascend within ready = (tt, refl)
@@ -161,22 +161,22 @@ by_refilling = record {
   stays = λ past e service other any. tt;
 }
 
-pub all_empty : (services : List MuxService) → AreReady IsEmpty [] services
+pub all_empty : (services : List FedService) → AreReady IsEmpty [] services
 all_empty [] = tt
 all_empty (s ∷ services) = (refl, all_empty services)
 
-pub all_any : (past : List Edit) (services : List MuxService) → AreReady IsAny past services
+pub all_any : (past : List Edit) (services : List FedService) → AreReady IsAny past services
 all_any past [] = tt
 all_any past (s ∷ services) = (tt, all_any past services)
 
 -- ---- who owns them
 
-abbrev pub IsOwned : List MuxService → FeedEdit → Type 0
+abbrev pub IsOwned : List FedService → FeedEdit → Type 0
 IsOwned services a = owns services a.0 (service_of a.1) ≡ true
 
-owned_each : (all services : List MuxService)
-    → ((s : MuxService) → owns services s.feed s.service ≡ true → owns all s.feed s.service ≡ true)
-    → AllByRecursion (λ (s : MuxService). owns all s.feed s.service ≡ true) services
+owned_each : (all services : List FedService)
+    → ((s : FedService) → owns services s.feed s.service ≡ true → owns all s.feed s.service ≡ true)
+    → AllByRecursion (λ (s : FedService). owns all s.feed s.service ≡ true) services
 owned_each all [] up = tt
 owned_each all (s ∷ services) up = (
   up s (or_left (eqb s.service s.service && eqb s.feed s.feed) (owns services s.feed s.service) (own (eqb s.service s.service) (eqb s.feed s.feed) (eq-eqb s.service s.service refl) (eq-eqb s.feed s.feed refl))),
@@ -188,7 +188,7 @@ owned_each all (s ∷ services) up = (
 
 owned_all : (edits : ServiceGuide → List Edit)
     → ((guide : ServiceGuide) → AllByRecursion (λ (e : Edit). service_of e ≡ guide.service) (edits guide))
-    → (all services : List MuxService) (old : List Edit) → AllByRecursion (λ (s : MuxService). owns all s.feed s.service ≡ true) services
+    → (all services : List FedService) (old : List Edit) → AllByRecursion (λ (s : FedService). owns all s.feed s.service ≡ true) services
     → AllByRecursion (IsOwned all) (book_edits edits (book_after services old))
 owned_all edits own all [] old h = tt
 owned_all edits own all (s ∷ services) old h =
@@ -202,7 +202,7 @@ owned_all edits own all (s ∷ services) old h =
 
 pub book_owned : (edits : ServiceGuide → List Edit)
     → ((guide : ServiceGuide) → AllByRecursion (λ (e : Edit). service_of e ≡ guide.service) (edits guide))
-    → (services : List MuxService) (old : List Edit) → AllByRecursion (IsOwned services) (book_edits edits (book_after services old))
+    → (services : List FedService) (old : List Edit) → AllByRecursion (IsOwned services) (book_edits edits (book_after services old))
 book_owned edits own services old = owned_all edits own services services old (owned_each services services (λ s h. h))
 
 -- ---- the steps
@@ -211,16 +211,33 @@ asked_each : (feed : ℕ) (edits : List Edit) → map asked (map (λ (e : Edit).
 asked_each feed [] = refl
 asked_each feed (e ∷ edits) = ap (λ (cs : List Command). (0, edit feed e) ∷ cs) (asked_each feed edits)
 
--- the steps of the services of a book's guide are its edits
-pub steps_are : (edits : ServiceGuide → List Edit) (services : List MuxService) (past : List Edit)
-    → flat_map (service_steps edits) (zip services (map (λ (kept : KeptService). kept.guide) (book_after services past)))
-    ≡ map asked (book_edits edits (book_after services past))
-steps_are edits [] past = refl
-steps_are edits (s ∷ services) past =
+-- the feed of each service is found by its id
+feeds_found : (services : List FedService) → DoFedAscend services → AllByRecursion (λ (s : FedService). feed_of services s.service ≡ s.feed) services
+feeds_found [] ascend = tt
+feeds_found (s ∷ services) ascend = (
+  rw (eq-eqb s.service s.service refl) refl,
+  all_two (λ (t : FedService). s.service < t.service) (λ (t : FedService). feed_of services t.service ≡ t.feed) (λ (t : FedService). feed_of (s ∷ services) t.service ≡ t.feed)
+      (λ t above found. rw (other s.service t.service above) found) services ascend.0 (feeds_found services ascend.1),
+)
+  where
+    other : (m n : ℕ) → m < n → (m == n) ≡ false
+    other m n l = grind (arith, nat_tests)
+
+each_steps : (edits : ServiceGuide → List Edit) (all services : List FedService) (past : List Edit) → AllByRecursion (λ (s : FedService). feed_of all s.service ≡ s.feed) services
+    → flat_map (service_steps edits all) (map (λ (kept : KeptService). kept.guide) (book_after services past)) ≡ map asked (book_edits edits (book_after services past))
+each_steps edits all [] past found = refl
+each_steps edits all (s ∷ services) past found =
     let kept = kept_after past s in
-    let rest = zip services (map (λ (kept : KeptService). kept.guide) (book_after services past)) in
-    flat_map-cons (service_steps edits) (s, kept.guide) rest
-    ∙ ap (λ (cs : List Command). cs ++ flat_map (service_steps edits) rest) (sym (asked_each s.feed (edits kept.guide)))
-    ∙ ap (λ (cs : List Command). map asked (edits_for edits kept) ++ cs) (steps_are edits services past)
+    let rest = map (λ (kept : KeptService). kept.guide) (book_after services past) in
+    flat_map-cons (service_steps edits all) kept.guide rest
+    ∙ ap (λ (feed : ℕ). map (λ (e : Edit). (0, edit feed e)) (edits kept.guide) ++ flat_map (service_steps edits all) rest) found.0
+    ∙ ap (λ (cs : List Command). cs ++ flat_map (service_steps edits all) rest) (sym (asked_each s.feed (edits kept.guide)))
+    ∙ ap (λ (cs : List Command). map asked (edits_for edits kept) ++ cs) (each_steps edits all services past found.1)
     ∙ sym (map-append asked (edits_for edits kept) (book_edits edits (book_after services past)))
     ∙ ap (map asked) (sym (flat_map-cons (edits_for edits) kept (book_after services past)))
+
+-- the steps of the services of a book's guide are its edits
+pub steps_are : (edits : ServiceGuide → List Edit) (services : List FedService) (past : List Edit) → DoFedAscend services
+    → flat_map (service_steps edits services) (map (λ (kept : KeptService). kept.guide) (book_after services past))
+    ≡ map asked (book_edits edits (book_after services past))
+steps_are edits services past ascend = each_steps edits services services past (feeds_found services ascend)

@@ -9,7 +9,7 @@ use Rattle.si_lists.proofs.Lists.{all_front, all_at}
 use Rattle.guide_model.specs.declared.event.Event.{Event}
 use Rattle.guide_model.specs.declared.guide.ServiceGuide.{ServiceGuide}
 use Rattle.desc_event.specs.EventDescriptors.{entry_size}
-use Rattle.mux_model.specs.declared.mux.MuxService.{MuxService}
+use Rattle.mux_model.specs.Fed.{FedService}
 use Rattle.journal_model.specs.declared.edit.Edit.{Edit}
 use Rattle.journal_model.specs.declared.edit.Edit.TheVariants.{Put, Clear, Name}
 use Rattle.journal_model.specs.declared.reply.DayFault.TheVariants as fault
@@ -47,7 +47,7 @@ within_front xs ys within = record {
     front_below : (a b c : ℕ) → a ≡ b + c → a ≤ 20000 → b ≤ 20000
     front_below a b c e l = omega arith
 
--- ---- an event behind all others
+-- ---- an event after all others
 
 abbrev Precedes : Event → Event → Type 0
 Precedes event earlier = (0 < earlier.seconds) × IsBefore earlier event
@@ -142,9 +142,9 @@ names_stay past service at first (event ∷ events) =
 -- these edits are accepted, and leave this of a service
 pub record IsRebuilt (past edits : List Edit) (kept : KeptService) : Type 0 where
   pub accepted : AreAccepted past edits
-  pub stands : (s : MuxService) → s.service ≡ kept.guide.service → s.feed ≡ kept.feed → kept_after (past ++ edits) s ≡ kept
+  pub stands : (s : FedService) → s.service ≡ kept.guide.service → s.feed ≡ kept.feed → kept_after (past ++ edits) s ≡ kept
 
-kept_is : (s : MuxService) (past : List Edit) (kept : KeptService) → s.service ≡ kept.guide.service → s.feed ≡ kept.feed
+kept_is : (s : FedService) (past : List Edit) (kept : KeptService) → s.service ≡ kept.guide.service → s.feed ≡ kept.feed
     → names_of kept.guide.service (s.provider, s.name) past ≡ (kept.guide.provider, kept.guide.name)
     → standing kept.guide.service past ≡ kept.guide.events
     → kept_after past s ≡ kept

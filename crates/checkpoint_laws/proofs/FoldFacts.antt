@@ -8,7 +8,8 @@ use Rattle.si_lists.proofs.Lists.{all_append, all_of_map}
 use Rattle.si_time.specs.declared.moment.Moment.{Moment}
 use Rattle.guide_model.specs.declared.guide.ServiceGuide.{ServiceGuide}
 use Rattle.guide_model.specs.declared.guide.Guide.{Guide}
-use Rattle.mux_model.specs.declared.mux.MuxService.{MuxService}
+use Rattle.mux_model.specs.Fed.{FedService, fed_services}
+use Rattle.mux_model.proofs.FedFacts.{fed_ascend}
 use Rattle.mux_model.specs.declared.mux.Mux.{Mux}
 use Rattle.mux_model.specs.Sound.{IsSound}
 use Rattle.journal_model.specs.declared.edit.Edit.{Edit}
@@ -89,13 +90,13 @@ has_ticked mux entries past now at count latest low has = record {
 
 has_published : (mux : Mux) (entries : List Entry) (past : List Edit) (now : Moment) (count : ℕ) (latest : Guide)
     → Has mux entries past now count latest
-    → Has mux (entries ++ published_entry 0 (1 + count) ∷ []) past now (1 + count) (guide_of (book_after mux.services past) now)
+    → Has mux (entries ++ published_entry 0 (1 + count) ∷ []) past now (1 + count) (guide_of (book_after (fed_services mux) past) now)
 has_published mux entries past now count latest has = record {
   edits = accepted-push entries (published_entry 0 (1 + count)) ∙ append-nil (accepted entries) ∙ has.edits;
   moment = moment-other mux entries (published_entry 0 (1 + count)) refl ∙ has.moment;
   count_is = publishes-push entries (published_entry 0 (1 + count)) ∙ omega (arith, has.count_is);
   latest_is = publication-new mux entries (published_entry 0 (1 + count)) (1 + count) refl (ap (λ n. 1 + n) (sym has.count_is))
-      ∙ ap (λ (es : List Edit). guide_of (book_after mux.services es) (moment_of mux entries)) has.edits ∙ ap (guide_of (book_after mux.services past)) has.moment;
+      ∙ ap (λ (es : List Edit). guide_of (book_after (fed_services mux) es) (moment_of mux entries)) has.edits ∙ ap (guide_of (book_after (fed_services mux) past)) has.moment;
 }
 
 -- ---- what is asked
@@ -108,12 +109,12 @@ edits_taken [] = tt
 edits_taken (a ∷ asks) = (refl, edits_taken asks)
 
 asked_done : (mux : Mux) (entries : List Entry) (past : List Edit) (asks : List FeedEdit) → accepted entries ≡ past
-    → AreAccepted past (edits_in asks) → AllByRecursion (IsOwned mux.services) asks
+    → AreAccepted past (edits_in asks) → AllByRecursion (IsOwned (fed_services mux)) asks
     → journal_after mux entries (map asked asks) ≡ map done_entry asks
 asked_done mux entries past [] is fine own = refl
 asked_done mux entries past (a ∷ asks) is fine own =
     let replied : reply_over (standing (service_of a.1) (accepted entries)) a.1 ≡ reply.Done = ap (λ (es : List Edit). reply_over (standing (service_of a.1) es) a.1) is ∙ fine.0 in
-    let first : entry_after mux entries (asked a) ≡ done_entry a = ap (λ (r : Reply). let entry : Entry = record { who = 0; step = edit a.0 a.1; outcome = Edited r } in entry) (cond-true (owns mux.services a.0 (service_of a.1)) _ _ own.0 ∙ replied) in
+    let first : entry_after mux entries (asked a) ≡ done_entry a = ap (λ (r : Reply). let entry : Entry = record { who = 0; step = edit a.0 a.1; outcome = Edited r } in entry) (cond-true (owns (fed_services mux) a.0 (service_of a.1)) _ _ own.0 ∙ replied) in
     ap (λ (x : Entry). x ∷ journal_after mux (entries ++ x ∷ []) (map asked asks)) first
     ∙ ap (λ (l : List Entry). done_entry a ∷ l)
     (asked_done mux (entries ++ done_entry a ∷ []) (past ++ a.1 ∷ []) asks (accepted-push entries (done_entry a) ∙ ap (λ (es : List Edit). es ++ a.1 ∷ []) is) fine.1 own.1)
@@ -130,14 +131,14 @@ tick_taken mux entries now at is low = elim (cases_Bool (nat_lt at.0 (moment_of 
 
 -- ---- the steps of a guide
 
--- these commands are taken behind these entries, and what the desk has then
+-- these commands are taken after these entries, and what the desk has then
 pub record Takes (mux : Mux) (entries : List Entry) (commands : List Command) (book : List KeptService) (now : Moment) (count : ℕ) (latest : Guide) : Type 0 where
   pub taken : AllByRecursion IsTaken (journal_after mux entries commands)
   pub past : List Edit
   pub has : Has mux (entries ++ journal_after mux entries commands) past now count latest
-  pub book_is : book_after mux.services past ≡ book
+  pub book_is : book_after (fed_services mux) past ≡ book
 
--- more commands behind others
+-- more commands after others
 takes_more : (mux : Mux) (entries : List Entry) (one two : List Command) (past : List Edit) (book_one book_two : List KeptService) (now_one now_two : Moment) (count_one count_two : ℕ) (latest_one latest_two : Guide)
     → (first : Takes mux entries one book_one now_one count_one latest_one)
     → Takes mux (entries ++ journal_after mux entries one) two book_two now_two count_two latest_two
@@ -153,9 +154,9 @@ takes_more mux entries one two past book_one book_two now_one now_two count_one 
       book_is = second.book_is;
     }
 
-each_kept : (services : List MuxService) (old : List Edit)
+each_kept : (services : List FedService) (old : List Edit)
     → AllByRecursion IsServiceWithin (map (λ (kept : KeptService). kept.guide) (book_after services old))
-    → AllByRecursion (λ (s : MuxService). IsServiceWithin (kept_after old s).guide) services
+    → AllByRecursion (λ (s : FedService). IsServiceWithin (kept_after old s).guide) services
 each_kept services old within =
     all_of_map (λ (kept : KeptService). IsServiceWithin kept.guide) (kept_after old) services
     (all_of_map IsServiceWithin (λ (kept : KeptService). kept.guide) (book_after services old) within)
@@ -163,15 +164,15 @@ each_kept services old within =
 -- the edits that rebuild a book, and a tick
 takes_book : (edits : ServiceGuide → List Edit) (IsReady : List Edit → ℕ → Type 0) → Rebuilds edits IsReady
     → (mux : Mux) (entries : List Entry) (past old : List Edit) (now at : Moment) (count : ℕ) (latest : Guide)
-    → IsSound mux → AllByRecursion IsServiceWithin (map (λ (kept : KeptService). kept.guide) (book_after mux.services old))
-    → AllByRecursion (λ (s : MuxService). IsReady past s.service) mux.services → Has mux entries past now count latest → now.0 ≤ at.0
-    → Takes mux entries (guide_steps edits mux (guide_of (book_after mux.services old) at)) (book_after mux.services old) at count latest
+    → IsSound mux → AllByRecursion IsServiceWithin (map (λ (kept : KeptService). kept.guide) (book_after (fed_services mux) old))
+    → AllByRecursion (λ (s : FedService). IsReady past s.service) (fed_services mux) → Has mux entries past now count latest → now.0 ≤ at.0
+    → Takes mux entries (guide_steps edits mux (guide_of (book_after (fed_services mux) old) at)) (book_after (fed_services mux) old) at count latest
 takes_book edits IsReady way mux entries past old now at count latest sound within ready has low =
-    let book = book_after mux.services old in
+    let book = book_after (fed_services mux) old in
     let asks = book_edits edits book in
     let commands = map asked asks ++ (0, Tick at) ∷ [] in
-    let built = rebuilt_all edits IsReady way mux.services old past sound.ascend (each_kept mux.services old within) ready in
-    let done : journal_after mux entries (map asked asks) ≡ map done_entry asks = asked_done mux entries past asks has.edits built.0 (book_owned edits way.own mux.services old) in
+    let built = rebuilt_all edits IsReady way (fed_services mux) old past (fed_ascend mux sound) (each_kept (fed_services mux) old within) ready in
+    let done : journal_after mux entries (map asked asks) ≡ map done_entry asks = asked_done mux entries past asks has.edits built.0 (book_owned edits way.own (fed_services mux) old) in
     let filled = has_all_edited mux entries past now count latest asks has in
     let tick : entry_after mux (entries ++ map done_entry asks) (0, Tick at) ≡ ticked_entry 0 at Ticked = tick_taken mux (entries ++ map done_entry asks) now at filled.moment low in
     let all : journal_after mux entries commands ≡ map done_entry asks ++ ticked_entry 0 at Ticked ∷ [] =
@@ -185,10 +186,10 @@ takes_book edits IsReady way mux entries past old now at count latest sound with
           (has_ticked mux (entries ++ map done_entry asks) (past ++ edits_in asks) now at count latest low filled);
       book_is = built.1;
     } in
-    subst (λ (cs : List Command). Takes mux entries (cs ++ (0, Tick at) ∷ []) book at count latest) (sym (steps_are edits mux.services old)) takes
+    subst (λ (cs : List Command). Takes mux entries (cs ++ (0, Tick at) ∷ []) book at count latest) (sym (steps_are edits (fed_services mux) old (fed_ascend mux sound))) takes
 
 takes_publish : (mux : Mux) (entries : List Entry) (past : List Edit) (book : List KeptService) (now : Moment) (count : ℕ) (latest : Guide)
-    → Has mux entries past now count latest → book_after mux.services past ≡ book
+    → Has mux entries past now count latest → book_after (fed_services mux) past ≡ book
     → Takes mux entries ((0, Publish) ∷ []) book now (1 + count) (guide_of book now)
 takes_publish mux entries past book now count latest has is = record {
   taken = (refl, tt);
@@ -242,34 +243,34 @@ has_nothing mux = record { edits = refl; moment = refl; count_is = refl; latest_
 takes_publication : (mux : Mux) (journal : List Entry) → IsSound mux → Legal mux journal → (publishes journal == 0) ≡ false
     → let latest = publication mux journal (publishes journal) in
     let front = before_publish (publishes journal) journal in
-    Takes mux [] (guide_steps filling mux latest ++ (0, Publish) ∷ []) (book_after mux.services (accepted front)) (moment_of mux front) 1 latest
+    Takes mux [] (guide_steps filling mux latest ++ (0, Publish) ∷ []) (book_after (fed_services mux) (accepted front)) (moment_of mux front) 1 latest
 takes_publication mux journal sound legal some =
     let front = before_publish (publishes journal) journal in
     let old = accepted front in
     let latest = guide_after mux front in
     let is : publication mux journal (publishes journal) ≡ latest = rw some refl in
     let first = takes_book filling IsEmpty by_filling mux [] [] old mux.start (moment_of mux front) 0 (guide_after mux []) sound
-    (draft_within mux front sound (front_legal mux (publishes journal) [] journal legal)).services (all_empty mux.services) (has_nothing mux) (latest_up mux.start (ticks front)) in
-    let both : Takes mux [] (guide_steps filling mux latest ++ (0, Publish) ∷ []) (book_after mux.services old) (moment_of mux front) 1 latest =
-    takes_more mux [] (guide_steps filling mux latest) ((0, Publish) ∷ []) [] (book_after mux.services old) (book_after mux.services old) (moment_of mux front) (moment_of mux front) 0 1 (guide_after mux []) latest first
-    (takes_publish mux ([] ++ journal_after mux [] (guide_steps filling mux latest)) first.past (book_after mux.services old) (moment_of mux front) 0 (guide_after mux []) first.has first.book_is) in
-    subst (λ (g : Guide). Takes mux [] (guide_steps filling mux g ++ (0, Publish) ∷ []) (book_after mux.services old) (moment_of mux front) 1 g) (sym is) both
+    (draft_within mux front sound (front_legal mux (publishes journal) [] journal legal)).services (all_empty (fed_services mux)) (has_nothing mux) (latest_up mux.start (ticks front)) in
+    let both : Takes mux [] (guide_steps filling mux latest ++ (0, Publish) ∷ []) (book_after (fed_services mux) old) (moment_of mux front) 1 latest =
+    takes_more mux [] (guide_steps filling mux latest) ((0, Publish) ∷ []) [] (book_after (fed_services mux) old) (book_after (fed_services mux) old) (moment_of mux front) (moment_of mux front) 0 1 (guide_after mux []) latest first
+    (takes_publish mux ([] ++ journal_after mux [] (guide_steps filling mux latest)) first.past (book_after (fed_services mux) old) (moment_of mux front) 0 (guide_after mux []) first.has first.book_is) in
+    subst (λ (g : Guide). Takes mux [] (guide_steps filling mux g ++ (0, Publish) ∷ []) (book_after (fed_services mux) old) (moment_of mux front) 1 g) (sym is) both
 
--- the book is made again behind what was taken so far
+-- the book is made again after what was taken so far
 takes_draft : (mux : Mux) (entries journal : List Entry) (past : List Edit) (now : Moment) (count : ℕ) (latest : Guide) → IsSound mux
     → Legal mux journal
     → Has mux entries past now count latest → now.0 ≤ (moment_of mux journal).0
-    → Takes mux entries (guide_steps refilling mux (guide_after mux journal)) (book_after mux.services (accepted journal)) (moment_of mux journal) count latest
+    → Takes mux entries (guide_steps refilling mux (guide_after mux journal)) (book_after (fed_services mux) (accepted journal)) (moment_of mux journal) count latest
 takes_draft mux entries journal past now count latest sound legal has low =
     takes_book refilling IsAny by_refilling mux entries past (accepted journal) now (moment_of mux journal) count latest sound
-    (draft_within mux journal sound legal).services (all_any past mux.services) has low
+    (draft_within mux journal sound legal).services (all_any past (fed_services mux)) has low
 
--- how many publications there are behind the checkpoint
+-- how many publications there are after the checkpoint
 abbrev left_of : ℕ → ℕ
 left_of count = cond (count == 0) 0 1
 
 pub takes_checkpoint : (mux : Mux) (journal : List Entry) → IsSound mux → Legal mux journal
-    → Takes mux [] (checkpoint_steps mux journal) (book_after mux.services (accepted journal)) (moment_of mux journal) (left_of (publishes journal)) (publication mux journal (publishes journal))
+    → Takes mux [] (checkpoint_steps mux journal) (book_after (fed_services mux) (accepted journal)) (moment_of mux journal) (left_of (publishes journal)) (publication mux journal (publishes journal))
 takes_checkpoint mux journal sound legal =
     let count = publishes journal in
     let latest = publication mux journal count in
@@ -278,19 +279,19 @@ takes_checkpoint mux journal sound legal =
           let is : latest ≡ guide_after mux [] = rw none refl in
           let drafted = takes_draft mux [] journal [] mux.start 0 (guide_after mux []) sound legal (has_nothing mux) (latest_up mux.start (ticks journal)) in
           let steps : checkpoint_steps mux journal ≡ guide_steps refilling mux (guide_after mux journal) = rw none refl in
-          subst (λ (l : List Command). Takes mux [] l (book_after mux.services (accepted journal)) (moment_of mux journal) (left_of count) latest) (sym steps)
-          (subst (λ (g : Guide). Takes mux [] (guide_steps refilling mux (guide_after mux journal)) (book_after mux.services (accepted journal)) (moment_of mux journal) (left_of count) g) (sym is)
-          (subst (λ n. Takes mux [] (guide_steps refilling mux (guide_after mux journal)) (book_after mux.services (accepted journal)) (moment_of mux journal) n (guide_after mux [])) (sym (cond-true (count == 0) 0 1 none)) drafted))
+          subst (λ (l : List Command). Takes mux [] l (book_after (fed_services mux) (accepted journal)) (moment_of mux journal) (left_of count) latest) (sym steps)
+          (subst (λ (g : Guide). Takes mux [] (guide_steps refilling mux (guide_after mux journal)) (book_after (fed_services mux) (accepted journal)) (moment_of mux journal) (left_of count) g) (sym is)
+          (subst (λ n. Takes mux [] (guide_steps refilling mux (guide_after mux journal)) (book_after (fed_services mux) (accepted journal)) (moment_of mux journal) n (guide_after mux [])) (sym (cond-true (count == 0) 0 1 none)) drafted))
       | inr some ↦
           let front = before_publish count journal in
           let published = takes_publication mux journal sound legal some in
           let one = guide_steps filling mux latest ++ (0, Publish) ∷ [] in
           let two = guide_steps refilling mux (guide_after mux journal) in
           let drafted = takes_draft mux (journal_after mux [] one) journal published.past (moment_of mux front) 1 latest sound legal published.has (before_up count journal mux.start) in
-          let both = takes_more mux [] one two [] (book_after mux.services (accepted front)) (book_after mux.services (accepted journal)) (moment_of mux front) (moment_of mux journal) 1 1 latest latest published drafted in
+          let both = takes_more mux [] one two [] (book_after (fed_services mux) (accepted front)) (book_after (fed_services mux) (accepted journal)) (moment_of mux front) (moment_of mux journal) 1 1 latest latest published drafted in
           let steps : checkpoint_steps mux journal ≡ one ++ two = ap (λ (l : List Command). l ++ two) (cond-false (count == 0) [] one some) in
-          subst (λ (l : List Command). Takes mux [] l (book_after mux.services (accepted journal)) (moment_of mux journal) (left_of count) latest) (sym steps)
-          (subst (λ n. Takes mux [] (one ++ two) (book_after mux.services (accepted journal)) (moment_of mux journal) n latest) (sym (cond-false (count == 0) 0 1 some)) both)
+          subst (λ (l : List Command). Takes mux [] l (book_after (fed_services mux) (accepted journal)) (moment_of mux journal) (left_of count) latest) (sym steps)
+          (subst (λ n. Takes mux [] (one ++ two) (book_after (fed_services mux) (accepted journal)) (moment_of mux journal) n latest) (sym (cond-false (count == 0) 0 1 some)) both)
     ]
 
 pub steps_taken : (mux : Mux) (journal : List Entry) → IsSound mux → Legal mux journal
@@ -302,7 +303,7 @@ pub goes_on : (mux : Mux) (journal : List Entry) → IsSound mux → Legal mux j
 goes_on mux journal sound legal =
     let takes = takes_checkpoint mux journal sound legal in
     record {
-      book = sym (ap (book_after mux.services) takes.has.edits ∙ takes.book_is);
+      book = sym (ap (book_after (fed_services mux)) takes.has.edits ∙ takes.book_is);
       moment = sym takes.has.moment;
       count = shifted (publishes journal) ∙ ap (λ n. shift_of (publishes journal) + n) (sym takes.has.count_is);
       latest = sym (ap (publication mux (folded mux journal)) takes.has.count_is ∙ takes.has.latest_is);

@@ -8,7 +8,7 @@ use Rattle.std.proofs.lemmas.Simd.{map-map}
 use Rattle.si_lists.proofs.Lists.{all_of_map}
 use Rattle.si_time.specs.declared.moment.Moment.{Moment}
 use Rattle.mux_model.specs.declared.mux.Mux.{Mux}
-use Rattle.mux_model.specs.declared.mux.MuxService.{MuxService}
+use Rattle.mux_model.specs.Fed.{FedService, fed_services}
 use Rattle.mux_model.specs.Sound.{IsSound}
 use Rattle.guide_model.specs.declared.guide.Guide.{Guide}
 use Rattle.guide_model.specs.declared.guide.ServiceGuide.{ServiceGuide}
@@ -40,7 +40,7 @@ use Rattle.checkpoint_laws.specs.Going.{raised, raised_entry, all_raised, GoOnAl
 
 -- ---- an edit, over the book alone
 
-pub reply_by_book : (services : List MuxService) (p q : List Edit) (feed : ℕ) (e : Edit) → book_after services p ≡ book_after services q
+pub reply_by_book : (services : List FedService) (p q : List Edit) (feed : ℕ) (e : Edit) → book_after services p ≡ book_after services q
     → reply_to services p feed e ≡ reply_to services q feed e
 reply_by_book services p q feed e same =
     sym (reply_in-stands feed e p services) ∙ ap (λ (book : List KeptService). reply_in book feed e) same ∙ reply_in-stands feed e q services
@@ -52,18 +52,18 @@ kept_within book kept p all found =
 
 -- the book after an edit, from the book before it
 book_by : (mux : Mux) (entries : List Entry) (who feed : ℕ) (e : Edit) → IsSound mux → Legal mux entries
-    → let reply = reply_to mux.services (accepted entries) feed e in
-    let book = book_after mux.services (accepted entries) in
-    book_after mux.services (accepted (entries ++ edited who feed e reply ∷ [])) ≡ cond (is_done reply) (book_with feed e book) book
+    → let reply = reply_to (fed_services mux) (accepted entries) feed e in
+    let book = book_after (fed_services mux) (accepted entries) in
+    book_after (fed_services mux) (accepted (entries ++ edited who feed e reply ∷ [])) ≡ cond (is_done reply) (book_with feed e book) book
 book_by mux entries who feed e sound legal =
     let past = accepted entries in
-    let reply = reply_to mux.services past feed e in
-    let book = book_after mux.services past in
+    let reply = reply_to (fed_services mux) past feed e in
+    let book = book_after (fed_services mux) past in
     let within = draft_within mux entries sound legal in
-    ap (book_after mux.services) (now_accepted entries who feed e reply)
-    ∙ sym (stands-after feed e past mux.services book (cond (is_done reply) (book_with feed e book) book) reply
+    ap (book_after (fed_services mux)) (now_accepted entries who feed e reply)
+    ∙ sym (stands-after feed e past (fed_services mux) book (cond (is_done reply) (book_with feed e book) book) reply
     (subst AreAscending (map-map (λ (g : ServiceGuide). g.service) (λ (kept : KeptService). kept.guide) book) within.ascend)
-    refl (sym (reply_in-stands feed e past mux.services)) refl
+    refl (sym (reply_in-stands feed e past (fed_services mux))) refl
     (λ kept found. kept_within book kept (is_owned feed (service_of e)) within.services found))
 
 -- ---- one command
@@ -76,7 +76,7 @@ raised_ticked shift now at = elim (cases_Bool (nat_lt at.0 now.0)) [
 
 outcomes_alike : (mux : Mux) (shift : ℕ) (h c : List Entry) (step : Step) → GoOnAlike mux shift h c
     → outcome_of mux h step ≡ raised shift (outcome_of mux c step)
-outcomes_alike mux shift h c (edit feed e) alike = ap Edited (reply_by_book mux.services (accepted h) (accepted c) feed e alike.book)
+outcomes_alike mux shift h c (edit feed e) alike = ap Edited (reply_by_book (fed_services mux) (accepted h) (accepted c) feed e alike.book)
 outcomes_alike mux shift h c (Tick at) alike = ap (λ (m : Moment). ticked m at) alike.moment ∙ sym (raised_ticked shift (moment_of mux c) at)
 outcomes_alike mux shift h c Publish alike = ap Published (more shift (publishes c) alike.count)
   where
@@ -87,7 +87,7 @@ outcomes_alike mux shift h c Swap alike = ap (λ n. Swapped n (moment_of mux h))
 -- an entry that is no publish and no tick, or was late, leaves all but the book
 same_rest : (mux : Mux) (shift : ℕ) (h c : List Entry) (x y : Entry) → GoOnAlike mux shift h c → is_publish x.step ≡ false
     → is_publish y.step ≡ false
-    → book_after mux.services (accepted (h ++ x ∷ [])) ≡ book_after mux.services (accepted (c ++ y ∷ []))
+    → book_after (fed_services mux) (accepted (h ++ x ∷ [])) ≡ book_after (fed_services mux) (accepted (c ++ y ∷ []))
     → moment_of mux (h ++ x ∷ []) ≡ moment_of mux (c ++ y ∷ [])
     → GoOnAlike mux shift (h ++ x ∷ []) (c ++ y ∷ [])
 same_rest mux shift h c x y alike px py book moment =
@@ -104,12 +104,12 @@ same_rest mux shift h c x y alike px py book moment =
 
 -- an entry that is no edit leaves the book
 same_book : (mux : Mux) (h c : List Entry) (x y : Entry) → accepted (x ∷ []) ≡ [] → accepted (y ∷ []) ≡ []
-    → book_after mux.services (accepted h) ≡ book_after mux.services (accepted c)
-    → book_after mux.services (accepted (h ++ x ∷ [])) ≡ book_after mux.services (accepted (c ++ y ∷ []))
+    → book_after (fed_services mux) (accepted h) ≡ book_after (fed_services mux) (accepted c)
+    → book_after (fed_services mux) (accepted (h ++ x ∷ [])) ≡ book_after (fed_services mux) (accepted (c ++ y ∷ []))
 same_book mux h c x y px py same =
-    ap (book_after mux.services) (accepted-push h x ∙ ap (λ (es : List Edit). accepted h ++ es) px ∙ append-nil (accepted h))
+    ap (book_after (fed_services mux)) (accepted-push h x ∙ ap (λ (es : List Edit). accepted h ++ es) px ∙ append-nil (accepted h))
     ∙ same
-    ∙ sym (ap (book_after mux.services) (accepted-push c y ∙ ap (λ (es : List Edit). accepted c ++ es) py ∙ append-nil (accepted c)))
+    ∙ sym (ap (book_after (fed_services mux)) (accepted-push c y ∙ ap (λ (es : List Edit). accepted c ++ es) py ∙ append-nil (accepted c)))
 
 step_alike : (mux : Mux) (shift : ℕ) (h c : List Entry) (who : ℕ) (step : Step) → IsSound mux → Legal mux h → Legal mux c
     → GoOnAlike mux shift h c
@@ -117,11 +117,11 @@ step_alike : (mux : Mux) (shift : ℕ) (h c : List Entry) (who : ℕ) (step : St
 step_alike mux shift h c who (edit feed e) sound legal_h legal_c alike =
     let x = entry_after mux h (who, edit feed e) in
     let y = entry_after mux c (who, edit feed e) in
-    let replies = reply_by_book mux.services (accepted h) (accepted c) feed e alike.book in
+    let replies = reply_by_book (fed_services mux) (accepted h) (accepted c) feed e alike.book in
     same_rest mux shift h c x y alike refl refl
     (book_by mux h who feed e sound legal_h
-    ∙ ap (λ (r : Reply). cond (is_done r) (book_with feed e (book_after mux.services (accepted h))) (book_after mux.services (accepted h))) replies
-    ∙ ap (λ (b : List KeptService). cond (is_done (reply_to mux.services (accepted c) feed e)) (book_with feed e b) b) alike.book
+    ∙ ap (λ (r : Reply). cond (is_done r) (book_with feed e (book_after (fed_services mux) (accepted h))) (book_after (fed_services mux) (accepted h))) replies
+    ∙ ap (λ (b : List KeptService). cond (is_done (reply_to (fed_services mux) (accepted c) feed e)) (book_with feed e b) b) alike.book
     ∙ sym (book_by mux c who feed e sound legal_c))
     (moment-other mux h x refl ∙ alike.moment ∙ sym (moment-other mux c y refl))
 step_alike mux shift h c who (Tick at) sound legal_h legal_c alike =
@@ -144,7 +144,7 @@ step_alike mux shift h c who Publish sound legal_h legal_c alike =
       moment = moment-other mux h x refl ∙ alike.moment ∙ sym (moment-other mux c y refl);
       count = omega (arith, count_h, count_c, alike.count);
       latest = ap (publication mux (h ++ x ∷ [])) count_h ∙ publication-new mux h x (1 + publishes h) refl refl
-          ∙ ap (λ (b : List KeptService). guide_of b (moment_of mux h)) alike.book ∙ ap (guide_of (book_after mux.services (accepted c))) alike.moment
+          ∙ ap (λ (b : List KeptService). guide_of b (moment_of mux h)) alike.book ∙ ap (guide_of (book_after (fed_services mux) (accepted c))) alike.moment
           ∙ sym (ap (publication mux (c ++ y ∷ [])) count_c ∙ publication-new mux c y (1 + publishes c) refl refl);
     }
 
@@ -162,7 +162,7 @@ journals_alike mux shift h c (k ∷ ks) sound legal_h legal_c alike =
     (legal_more mux [] h x legal_h refl) (legal_more mux [] c y legal_c refl) (step_alike mux shift h c k.0 k.1 sound legal_h legal_c alike))
     ∙ ap (λ (entry : Entry). entry ∷ all_raised shift (journal_after mux (c ++ y ∷ []) ks)) first
 
--- legal entries behind legal entries
+-- legal entries after legal entries
 pub legal_on : (mux : Mux) (before xs ys : List Entry) → LegalAfter mux before xs → LegalAfter mux (before ++ xs) ys
     → LegalAfter mux before (xs ++ ys)
 legal_on mux before [] ys p q = subst (λ (l : List Entry). LegalAfter mux l ys) (append-nil before) q
@@ -230,4 +230,4 @@ folds_again mux shift h c alike =
     ap (λ n. steps_of mux n (publication mux h (publishes h)) (guide_after mux h)) alike.count
     ∙ ap (λ (g : Guide). steps_of mux (shift + publishes c) g (guide_after mux h)) alike.latest
     ∙ ap (steps_of mux (shift + publishes c) (publication mux c (publishes c)))
-    (ap (λ (b : List KeptService). guide_of b (moment_of mux h)) alike.book ∙ ap (guide_of (book_after mux.services (accepted c))) alike.moment)
+    (ap (λ (b : List KeptService). guide_of b (moment_of mux h)) alike.book ∙ ap (guide_of (book_after (fed_services mux) (accepted c))) alike.moment)

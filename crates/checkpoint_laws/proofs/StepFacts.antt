@@ -1,7 +1,7 @@
 -- The steps of a checkpoint can be asked, and lines can give them.
 use Rattle.std.proofs.Common.{◌≡◌, ◌≢◌, ℕ, ◌-◌, ◌*◌, ◌<◌, true, List, [], ◌∷◌, ◌++◌, length, sym, ap, subst, arith, inl, inr}
 use Rattle.std.specs.Prelude.{Option, Some, None, IfSome, ◌==◌, codes, option_map}
-use Rattle.std.specs.List.{AllByRecursion, flat_map, zip}
+use Rattle.std.specs.List.{AllByRecursion, flat_map}
 use Rattle.std.proofs.lemmas.Bool.{cases_Bool, cond-true, cond-false}
 use Rattle.std.proofs.lemmas.List.Concat.{flat_map-cons}
 use Rattle.si_lists.proofs.Lists.{all_append, all_map, all_through, all_to_map}
@@ -13,7 +13,7 @@ use Rattle.guide_model.specs.declared.event.Event.{Event}
 use Rattle.guide_model.specs.declared.event.Rating.{Rating}
 use Rattle.guide_model.specs.declared.guide.ServiceGuide.{ServiceGuide}
 use Rattle.guide_model.specs.declared.guide.Guide.{Guide}
-use Rattle.mux_model.specs.declared.mux.MuxService.{MuxService}
+use Rattle.mux_model.specs.Fed.{FedService, fed_services, feed_of}
 use Rattle.mux_model.specs.declared.mux.Mux.{Mux}
 use Rattle.mux_model.specs.Sound.{IsSound}
 use Rattle.guide_limits.specs.Limits.{IsRatingWithin, IsEventWithin, IsServiceWithin, IsGuideWithin}
@@ -79,20 +79,20 @@ refilling_fine feed guide within = ((tt, tt), filling_fine feed guide within)
 abbrev IsFineCommand : Command → Type 0
 IsFineCommand command = IsFine command.1
 
-services_fine : (edits : ServiceGuide → List Edit) → AreFine edits → (services : List MuxService) (guides : List ServiceGuide)
-    → AllByRecursion IsServiceWithin guides → AllByRecursion IsFineCommand (flat_map (service_steps edits) (zip services guides))
-services_fine edits way [] guides h = tt
-services_fine edits way (s ∷ services) [] h = tt
-services_fine edits way (s ∷ services) (guide ∷ guides) h =
-    subst (AllByRecursion IsFineCommand) (sym (flat_map-cons (service_steps edits) (s, guide) (zip services guides)))
-    (all_append IsFineCommand (service_steps edits (s, guide)) (flat_map (service_steps edits) (zip services guides))
-    (all_to_map IsFineCommand (λ (e : Edit). (0, edit s.feed e)) (edits guide) (way s.feed guide h.0)) (services_fine edits way services guides h.1))
+services_fine : (edits : ServiceGuide → List Edit) → AreFine edits → (services : List FedService) (guides : List ServiceGuide)
+    → AllByRecursion IsServiceWithin guides → AllByRecursion IsFineCommand (flat_map (service_steps edits services) guides)
+services_fine edits way services [] h = tt
+services_fine edits way services (guide ∷ guides) h =
+    let feed = feed_of services guide.service in
+    subst (AllByRecursion IsFineCommand) (sym (flat_map-cons (service_steps edits services) guide guides))
+    (all_append IsFineCommand (service_steps edits services guide) (flat_map (service_steps edits services) guides)
+    (all_to_map IsFineCommand (λ (e : Edit). (0, edit feed e)) (edits guide) (way feed guide h.0)) (services_fine edits way services guides h.1))
 
 guide_fine : (edits : ServiceGuide → List Edit) → AreFine edits → (mux : Mux) (guide : Guide) → IsGuideWithin guide → InRange guide.moment
     → AllByRecursion IsFineCommand (guide_steps edits mux guide)
 guide_fine edits way mux guide within early =
-    all_append IsFineCommand (flat_map (service_steps edits) (zip mux.services guide.services)) ((0, Tick guide.moment) ∷ [])
-    (services_fine edits way mux.services guide.services within.services) ((early, tt), tt)
+    all_append IsFineCommand (flat_map (service_steps edits (fed_services mux)) guide.services) ((0, Tick guide.moment) ∷ [])
+    (services_fine edits way (fed_services mux) guide.services within.services) ((early, tt), tt)
 
 -- ---- moments
 
@@ -127,7 +127,7 @@ steps_fine mux journal sound legal within =
     let latest = publication mux journal count in
     let draft = guide_steps refilling mux (guide_after mux journal) in
     let second = guide_fine refilling refilling_fine mux (guide_after mux journal) (draft_within mux journal sound legal) (moment_early mux journal sound within) in
-    let first = guide_fine filling filling_fine mux latest (publications_within mux journal count sound.services sound.ascend legal) (latest_moment mux journal count sound within) in
+    let first = guide_fine filling filling_fine mux latest (publications_within mux journal count sound legal) (latest_moment mux journal count sound within) in
     let one = guide_steps filling mux latest ++ (0, Publish) ∷ [] in
     elim (cases_Bool (count == 0)) [
       | inl none ↦ subst (AllByRecursion IsFineCommand) (sym (ap (λ (l : List Command). l ++ draft) (cond-true (count == 0) [] one none))) second

@@ -1,6 +1,7 @@
 -- Two journals that go on alike, but for the numbers of their publications.
 use Rattle.std.specs.Prelude.{◌≡◌, ℕ, ◌+◌, Bool, true, false, List, map}
 use Rattle.mux_model.specs.declared.mux.Mux.{Mux}
+use Rattle.mux_model.specs.Fed.{fed_services}
 use Rattle.guide_limits.specs.Guides.{book_after}
 use Rattle.feed_book.specs.Accepted.{is_done}
 use Rattle.journal_model.specs.declared.step.Outcome.{Outcome}
@@ -33,10 +34,10 @@ raised_entry shift entry = record { who = entry.who; step = entry.step; outcome 
 abbrev pub all_raised : ℕ → List Entry → List Entry
 all_raised shift entries = map (raised_entry shift) entries
 
--- What a desk has behind the one journal and behind the other is equal: the book, the moment and the latest publication. The
+-- What a desk has after the one journal and after the other is equal: the book, the moment and the latest publication. The
 -- first journal has more publications, by the shift.
 pub record GoOnAlike (mux : Mux) (shift : ℕ) (journal short : List Entry) : Type 0 where
-  pub book : book_after mux.services (accepted journal) ≡ book_after mux.services (accepted short)
+  pub book : book_after (fed_services mux) (accepted journal) ≡ book_after (fed_services mux) (accepted short)
   pub moment : moment_of mux journal ≡ moment_of mux short
   pub count : publishes journal ≡ shift + publishes short
   pub latest : publication mux journal (publishes journal) ≡ publication mux short (publishes short)

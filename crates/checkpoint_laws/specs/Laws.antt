@@ -33,7 +33,7 @@ abbrev pub NothingIsAired : Type 0
 NothingIsAired =
     (mux : Mux) (journal : List Entry) → IsSound mux → Legal mux journal → swaps (folded mux journal) ≡ []
 
--- Behind them the desk goes on as behind the journal.
+-- After them the desk goes on as after the journal.
 abbrev pub GoesOn : Type 0
 GoesOn =
     (mux : Mux) (journal : List Entry) → IsSound mux → Legal mux journal
@@ -47,9 +47,9 @@ AirGoesOn =
     airings mux (journal ++ all_raised (shift_of (publishes journal)) more)
     ≡ airings mux journal ++ airings mux (folded mux journal ++ more)
 
--- ---- of two legal journals that go on alike, behind which the same is asked
+-- ---- of two legal journals that go on alike, after which the same is asked
 
--- Behind both, replies and outcomes are equal, but for the shift.
+-- After both, replies and outcomes are equal, but for the shift.
 abbrev pub RepliesAreEqual : Type 0
 RepliesAreEqual =
     (mux : Mux) (shift : ℕ) (journal short : List Entry) (commands : List Command)
@@ -75,7 +75,7 @@ PublicationsAreEqual =
     (n : ℕ) → publishes short ≤ n → n ≤ publishes (short ++ more)
     → publication mux (journal ++ all_raised shift more) (shift + n) ≡ publication mux (short ++ more) n
 
--- What the first journal puts on air with what was asked is what it did alone, and then what the swaps behind the second do.
+-- What the first journal puts on air with what was asked is what it did alone, and then what the swaps after the second do.
 abbrev pub AiredIsEqual : Type 0
 AiredIsEqual =
     (mux : Mux) (shift : ℕ) (journal short : List Entry) (commands : List Command)

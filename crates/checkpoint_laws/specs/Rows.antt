@@ -1,4 +1,4 @@
--- Worked checkpoints: of a journal without an entry, of one with a publish, and of one whose event was withdrawn behind it.
+-- Worked checkpoints: of a journal without an entry, of one with a publish, and of one whose event was withdrawn after it.
 use Rattle.std.specs.Prelude.{◌≡◌, List, [], ◌∷◌, Some, map, refl, codes}
 use Rattle.si_time.specs.Readings.{readings_compute}
 use Rattle.si_time.specs.Moments.{moments_compute}

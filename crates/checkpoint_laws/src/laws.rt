@@ -11,7 +11,7 @@ pub fn checkpoints_are_taken()
     ensures air { AirGoesOn }
 {}
 
-/// Where two journals go on alike, replies and outcomes behind both are equal whatever is asked, but for the numbers of publications,
+/// Where two journals go on alike, replies and outcomes after both are equal whatever is asked, but for the numbers of publications,
 /// which are greater by the shift. So the first goes on with the raised entries of the second, and both still go on alike. Equal numbers
 /// but for the shift are of equal publications, and the same is put on air.
 pub fn desks_go_on()

@@ -1,7 +1,7 @@
 -- The steps of a checkpoint read back, since what stands came from edits that lines gave, or from the multiplex.
 use Rattle.std.proofs.Common.{◌≡◌, ◌==◌, ◌≤◌, ◌-◌, ◌++◌, ◌∷◌, [], ℕ, List, true, false, Option, Some, None, refl, sym, ap, subst, arith, length, map, inl, inr}
 use Rattle.std.specs.Prelude.{IfSome, option_map, filter_map}
-use Rattle.std.specs.List.{AllByRecursion, flat_map, zip}
+use Rattle.std.specs.List.{AllByRecursion, flat_map}
 use Rattle.std.proofs.lemmas.Bool.{cases_Bool, cond-true, cond-false}
 use Rattle.std.proofs.lemmas.Bool.Decides.{nat_tests}
 use Rattle.std.proofs.lemmas.List.Concat.{flat_map-cons}
@@ -13,9 +13,10 @@ use Rattle.guide_model.specs.declared.event.Event.{Event}
 use Rattle.guide_model.specs.declared.event.Rating.{Rating}
 use Rattle.guide_model.specs.declared.guide.ServiceGuide.{ServiceGuide}
 use Rattle.guide_model.specs.declared.guide.Guide.{Guide}
-use Rattle.mux_model.specs.declared.mux.MuxService.{MuxService}
+use Rattle.mux_model.specs.Fed.{FedService, IsNamed, IsSoundFed, fed_services, feed_of}
+use Rattle.mux_model.proofs.FedFacts.{fed_sound}
 use Rattle.mux_model.specs.declared.mux.Mux.{Mux}
-use Rattle.mux_model.specs.Sound.{IsSoundService}
+use Rattle.mux_model.specs.Sound.{IsSound}
 use Rattle.journal_model.specs.declared.edit.RawRating.{RawRating}
 use Rattle.journal_model.specs.declared.edit.Item.{Item}
 use Rattle.journal_model.specs.declared.edit.Edit.{Edit}
@@ -45,7 +46,7 @@ use Rattle.command_text.proofs.PlainFields.{is_written, written_kept}
 use Rattle.checkpoint_laws.specs.Items.{event_item, filling, raw_rating, refilling}
 use Rattle.checkpoint_laws.specs.Steps.{checkpoint_steps, guide_steps, service_steps}
 use Rattle.checkpoint_laws.proofs.StepFacts.{steps_within}
-use Rattle.desk_checkpoint.specs.Laws.{CanBeFolded, HasKeptNames, StepsAreReadable}
+use Rattle.desk_checkpoint.specs.Laws.{CanBeFolded, StepsAreReadable}
 use Rattle.desk_checkpoint.proofs.RowSizes.{duration_size, genres_size, moment_size, number_size, row_size, small_size}
 
 -- ---- events
@@ -142,7 +143,7 @@ clear_short feed service narrow low =
 
 -- ---- services
 
--- a service that stands behind edits that lines gave
+-- a service that stands after edits that lines gave
 record IsGivenService (guide : ServiceGuide) : Type 0 where
   service : guide.service ≤ 65535
   provider : IsKept guide.provider
@@ -170,7 +171,7 @@ refilling_written feed guide narrow given =
 
 -- ---- guides
 
-kept_given : (s : MuxService) (past : List Edit) → IsSoundService s → HasKeptNames s → AllByRecursion IsTypedEdit past → IsServiceWithin (kept_after past s).guide
+kept_given : (s : FedService) (past : List Edit) → IsSoundFed s → IsNamed s → AllByRecursion IsTypedEdit past → IsServiceWithin (kept_after past s).guide
     → IsGivenService (kept_after past s).guide
 kept_given s past sound kept typed within =
     let names = last_kept (s.provider, s.name) (filter_map (names_in s.service) past) (kept.0, kept.1) (all_given s.service past typed) in
@@ -182,22 +183,33 @@ kept_given s past sound kept typed within =
       within = within;
     }
 
-abbrev guides_of : List Edit → List MuxService → List ServiceGuide
+abbrev guides_of : List Edit → List FedService → List ServiceGuide
 guides_of past services = map (λ (kept : KeptService). kept.guide) (map (kept_after past) services)
 
-services_written : (edits : ServiceGuide → List Edit) → AreWritten edits → (past : List Edit) (services : List MuxService) → AllByRecursion IsSoundService services
-    → AllByRecursion HasKeptNames services → AllByRecursion IsTypedEdit past → AllByRecursion IsServiceWithin (guides_of past services)
-    → AllByRecursion IsWrittenCommand (flat_map (service_steps edits) (zip services (guides_of past services)))
-services_written edits way past [] sound kept typed within = tt
-services_written edits way past (s ∷ services) sound kept typed within =
-    let guide = (kept_after past s).guide in
-    let narrow : s.feed ≤ 255 = let k = sound.0.feed.1 in omega arith in
-    let here = way s.feed guide narrow (kept_given s past sound.0 kept.0 typed within.0) in
-    subst (AllByRecursion IsWrittenCommand) (sym (flat_map-cons (service_steps edits) (s, guide) (zip services (guides_of past services))))
-    (all_append IsWrittenCommand (service_steps edits (s, guide)) (flat_map (service_steps edits) (zip services (guides_of past services)))
-    (all_to_map IsWrittenCommand (λ (e : Edit). (0, edit s.feed e)) (edits guide)
-    (all_map (λ (e : Edit). IsWritten (edit s.feed e)) (λ (e : Edit). IsWrittenCommand (0, edit s.feed e)) (λ e h. (refl, h)) (edits guide) here))
-    (services_written edits way past services sound.1 kept.1 typed within.1))
+all_kept_given : (past : List Edit) (services : List FedService) → AllByRecursion IsSoundFed services → AllByRecursion IsNamed services → AllByRecursion IsTypedEdit past
+    → AllByRecursion IsServiceWithin (guides_of past services) → AllByRecursion IsGivenService (guides_of past services)
+all_kept_given past [] sound named typed within = tt
+all_kept_given past (s ∷ services) sound named typed within =
+    (kept_given s past sound.0 named.0 typed within.0, all_kept_given past services sound.1 named.1 typed within.1)
+
+feed_low : (services : List FedService) (id : ℕ) → AllByRecursion IsSoundFed services → feed_of services id ≤ 255
+feed_low [] id sound = omega arith
+feed_low (s ∷ services) id sound = elim (cases_Bool (s.service == id)) [
+  | inl is ↦ rw is (let k = sound.0.feed.1 in omega arith)
+  | inr other ↦ rw other (feed_low services id sound.1)
+]
+
+services_written : (edits : ServiceGuide → List Edit) → AreWritten edits → (services : List FedService) (guides : List ServiceGuide) → AllByRecursion IsSoundFed services
+    → AllByRecursion IsGivenService guides → AllByRecursion IsWrittenCommand (flat_map (service_steps edits services) guides)
+services_written edits way services [] sound given = tt
+services_written edits way services (guide ∷ guides) sound given =
+    let feed = feed_of services guide.service in
+    let here = way feed guide (feed_low services guide.service sound) given.0 in
+    subst (AllByRecursion IsWrittenCommand) (sym (flat_map-cons (service_steps edits services) guide guides))
+    (all_append IsWrittenCommand (service_steps edits services guide) (flat_map (service_steps edits services) guides)
+    (all_to_map IsWrittenCommand (λ (e : Edit). (0, edit feed e)) (edits guide)
+    (all_map (λ (e : Edit). IsWritten (edit feed e)) (λ (e : Edit). IsWrittenCommand (0, edit feed e)) (λ e h. (refl, h)) (edits guide) here))
+    (services_written edits way services guides sound given.1))
 
 tick_written : (guide : Guide) → IsWritten (Tick guide.moment)
 tick_written guide =
@@ -206,13 +218,14 @@ tick_written guide =
 publish_written : IsWritten Publish
 publish_written = (tt, omega (arith, row_size (command_row 0 Publish), number_size 0 (omega arith)), tt)
 
-guide_written : (edits : ServiceGuide → List Edit) → AreWritten edits → (mux : Mux) (before : List Entry) → AllByRecursion IsSoundService mux.services
-    → AllByRecursion HasKeptNames mux.services → AllByRecursion IsTypedEdit (accepted before) → AllByRecursion IsServiceWithin (guide_after mux before).services
+guide_written : (edits : ServiceGuide → List Edit) → AreWritten edits → (mux : Mux) (before : List Entry) → IsSound mux
+    → AllByRecursion IsNamed (fed_services mux) → AllByRecursion IsTypedEdit (accepted before) → AllByRecursion IsServiceWithin (guide_after mux before).services
     → AllByRecursion IsWrittenCommand (guide_steps edits mux (guide_after mux before))
-guide_written edits way mux before sound kept typed within =
+guide_written edits way mux before sound named typed within =
     let guide = guide_after mux before in
-    all_append IsWrittenCommand (flat_map (service_steps edits) (zip mux.services guide.services)) ((0, Tick guide.moment) ∷ [])
-    (services_written edits way (accepted before) mux.services sound kept typed within) ((refl, tick_written guide), tt)
+    let each = fed_sound mux sound in
+    all_append IsWrittenCommand (flat_map (service_steps edits (fed_services mux)) guide.services) ((0, Tick guide.moment) ∷ [])
+    (services_written edits way (fed_services mux) guide.services each (all_kept_given (accepted before) (fed_services mux) each named typed within)) ((refl, tick_written guide), tt)
 
 -- ---- edits of the journal
 
@@ -237,16 +250,16 @@ latest_written mux journal can some =
     let count = publishes journal in
     let front = before_publish count journal in
     let is : publication mux journal count ≡ guide_after mux front = ap (guide_after mux) (cond-false (count == 0) [] front some) in
-    let within = publications_within mux journal count can.sound.services can.sound.ascend can.legal in
+    let within = publications_within mux journal count can.sound can.legal in
     subst (λ (g : Guide). AllByRecursion IsServiceWithin g.services → AllByRecursion IsWrittenCommand (guide_steps filling mux g)) (sym is)
-    (guide_written filling filling_written mux front can.sound.services can.named (accepted_typed front (front_typed count journal can.typed))) within.services
+    (guide_written filling filling_written mux front can.sound can.named (accepted_typed front (front_typed count journal can.typed))) within.services
 
 steps_written : (mux : Mux) (journal : List Entry) → CanBeFolded mux journal → AllByRecursion IsWrittenCommand (checkpoint_steps mux journal)
 steps_written mux journal can =
     let count = publishes journal in
     let latest = publication mux journal count in
     let draft = guide_steps refilling mux (guide_after mux journal) in
-    let second = guide_written refilling refilling_written mux journal can.sound.services can.named (accepted_typed journal can.typed) (draft_within mux journal can.sound can.legal).services in
+    let second = guide_written refilling refilling_written mux journal can.sound can.named (accepted_typed journal can.typed) (draft_within mux journal can.sound can.legal).services in
     let one = guide_steps filling mux latest ++ (0, Publish) ∷ [] in
     elim (cases_Bool (count == 0)) [
       | inl none ↦ subst (AllByRecursion IsWrittenCommand) (sym (ap (λ (l : List Command). l ++ draft) (cond-true (count == 0) [] one none))) second

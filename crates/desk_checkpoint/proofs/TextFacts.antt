@@ -1,13 +1,12 @@
 -- The text of a checkpoint, part by part.
 use Rattle.std.proofs.Common.{◌≡◌, ◌<◌, ◌+◌, ◌-◌, ◌∙◌, ◌++◌, ◌∷◌, [], ℕ, zero, suc, List, Bool, true, length, take, flat_map, sym, ap, refl, subst, arith, append-nil, inl, inr}
 use Rattle.std.specs.Prelude.{Option, Some, Result, OnOk, ◌==◌}
-use Rattle.std.specs.List.{AllByRecursion, list_all, zip}
+use Rattle.std.specs.List.{AllByRecursion, list_all}
 use Rattle.std.proofs.Math.ListN.{get_or}
 use Rattle.std.proofs.lemmas.Bool.{cases_Bool}
 use Rattle.std.proofs.lemmas.Bool.Decides.{nat_tests}
 use Rattle.std.proofs.lemmas.Grind.{flat_map-append}
 use Rattle.std.proofs.lemmas.List.{flat_map_more, take_more}
-use Rattle.std.proofs.lemmas.Slice.Zip.{get_or-zip, length-zip}
 use Rattle.si_lists.proofs.Filters.{list_all-more}
 use Rattle.si_text.specs.Control.{is_printing}
 use Rattle.si_text.specs.Decoding.{IsKept}
@@ -17,7 +16,7 @@ use Rattle.guide_model.specs.declared.guide.Guide.{Guide}
 use Rattle.guide_model.specs.declared.guide.ServiceGuide.{ServiceGuide}
 use Rattle.guide_limits.specs.Limits.{IsRatingWithin, is_capital, is_small}
 use Rattle.mux_model.specs.declared.mux.Mux.{Mux}
-use Rattle.mux_model.specs.declared.mux.MuxService.{MuxService}
+use Rattle.mux_model.specs.Fed.{FedService, fed_services}
 use Rattle.mux_model.specs.Sound.{IsSound}
 use Rattle.journal_model.specs.declared.step.Step.TheVariants.{Tick}
 use Rattle.journal_model.specs.declared.step.Entry.{Entry}
@@ -46,14 +45,6 @@ pub next_piece : {X : Type 0} (f : X → List ℕ) (old middle new : List ℕ) (
 next_piece f old middle new xs i x lt at is more =
     more ∙ ap (λ (m : List ℕ). m ++ f x) is ∙ flat_map_more f old (take i xs) x
     ∙ ap (λ l. old ++ flat_map f (take i xs ++ l ∷ [])) at ∙ ap (λ l. old ++ flat_map f l) (sym (take_more xs i x lt))
-
--- the text of one pair more of two lists side by side
-pub next_pair : {X Y : Type 0} (f : X × Y → List ℕ) (old middle new : List ℕ) (xs : List X) (ys : List Y) (i n : ℕ) (x : X) (y : Y)
-    → i < length xs → i < length ys → x ≡ get_or xs i x → y ≡ get_or ys i y → n ≡ i + 1
-    → middle ≡ old ++ flat_map f (take i (zip xs ys)) → new ≡ middle ++ f (x, y) → new ≡ old ++ flat_map f (take n (zip xs ys))
-next_pair f old middle new xs ys i n x y lt_x lt_y at_x at_y next is more =
-    let pair : (x, y) ≡ get_or (zip xs ys) i (x, y) = (λ k. (at_x k, at_y k)) ∙ sym (get_or-zip xs ys i (x, y) lt_x lt_y) in
-    next_piece f old middle new (zip xs ys) i (x, y) (omega (arith, length-zip xs ys)) pair is more ∙ ap (λ (m : ℕ). old ++ flat_map f (take m (zip xs ys))) (sym next)
 
 -- an element of a list of which each has this
 pub all_get : {X : Type 0} (P : X → Type 0) (xs : List X) (i : ℕ) (x : X) → AllByRecursion P xs → i < length xs → x ≡ get_or xs i x → P x
@@ -87,18 +78,18 @@ pub step_behind : (steps : List Command) (step : Command) → steps_text (steps 
 step_behind steps step =
     flat_map-append step_text steps (step ∷ []) ∙ ap (λ (t : List ℕ). steps_text steps ++ t) (append-nil (step_text step))
 
-services_text : (clears : Bool) (services : List (MuxService × ServiceGuide)) → steps_text (flat_map (service_steps (edits_of clears)) services) ≡ flat_map (service_text clears) services
-services_text clears [] = refl
-services_text clears (s ∷ ss) =
-    flat_map-append step_text (service_steps (edits_of clears) s) (flat_map (service_steps (edits_of clears)) ss)
-    ∙ ap (λ (t : List ℕ). service_text clears s ++ t) (services_text clears ss)
+services_text : (clears : Bool) (services : List FedService) (guides : List ServiceGuide)
+    → steps_text (flat_map (service_steps (edits_of clears) services) guides) ≡ flat_map (service_text clears services) guides
+services_text clears services [] = refl
+services_text clears services (guide ∷ guides) =
+    flat_map-append step_text (service_steps (edits_of clears) services guide) (flat_map (service_steps (edits_of clears) services) guides)
+    ∙ ap (λ (t : List ℕ). service_text clears services guide ++ t) (services_text clears services guides)
 
 pub guide_text : (clears : Bool) (mux : Mux) (guide : Guide) → steps_text (guide_steps (edits_of clears) mux guide)
-    ≡ flat_map (service_text clears) (zip mux.services guide.services) ++ step_text (0, Tick guide.moment)
+    ≡ flat_map (service_text clears (fed_services mux)) guide.services ++ step_text (0, Tick guide.moment)
 guide_text clears mux guide =
-    let services = zip mux.services guide.services in
-    step_behind (flat_map (service_steps (edits_of clears)) services) (0, Tick guide.moment)
-    ∙ ap (λ (t : List ℕ). t ++ step_text (0, Tick guide.moment)) (services_text clears services)
+    step_behind (flat_map (service_steps (edits_of clears) (fed_services mux)) guide.services) (0, Tick guide.moment)
+    ∙ ap (λ (t : List ℕ). t ++ step_text (0, Tick guide.moment)) (services_text clears (fed_services mux) guide.services)
 
 pub desk_text : (shift : ℕ) (desk : DeskState) → steps_text (desk_steps shift desk)
     ≡ steps_text (publication_steps desk.mux (shift + publishes desk.entries) (publication desk.mux desk.entries (publishes desk.entries)))

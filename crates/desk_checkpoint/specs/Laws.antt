@@ -2,14 +2,13 @@
 use Rattle.std.specs.Prelude.{◌≡◌, ◌≢◌, ◌<◌, ◌≤◌, ◌^◌, ◌++◌, ℕ, true, List, [], Ok, length, map}
 use Rattle.std.specs.List.{AllByRecursion}
 use Rattle.std.specs.List.Sorted.{IsStrictlyIncreasing}
-use Rattle.si_text.specs.Decoding.{IsKept}
 use Rattle.section_codec.specs.declared.table.Key.{Key}
 use Rattle.section_codec.specs.declared.table.NumberedBody.{NumberedBody}
 use Rattle.section_codec.specs.Contents.{Ascend}
 use Rattle.version_book.specs.Book.{GivenVersion, GivenVersions, AreOrdered, given_entries}
 use Rattle.ts_packets.specs.declared.pid_counter.PidCounter.{PidCounter}
 use Rattle.mux_model.specs.declared.mux.Mux.{Mux}
-use Rattle.mux_model.specs.declared.mux.MuxService.{MuxService}
+use Rattle.mux_model.specs.Fed.{IsNamed, fed_services}
 use Rattle.mux_model.specs.Sound.{IsSound}
 use Rattle.journal_model.specs.declared.step.Entry.{Entry}
 use Rattle.journal_model.specs.Steps.{Command, IsStepWithin, IsTypedStep}
@@ -25,15 +24,11 @@ use Rattle.desk_checkpoint.specs.Text.{checkpoint_text}
 
 -- ---- what is written
 
--- the names of a service may be kept
-abbrev pub HasKeptNames : MuxService → Type 0
-HasKeptNames s = IsKept s.provider × IsKept s.name
-
 -- A journal that can be folded: a legal one of a sound multiplex whose names may be kept, with steps that a desk may be asked and that
 -- lines can give, and with fewer publications than 10^18.
 pub record CanBeFolded (mux : Mux) (journal : List Entry) : Type 0 where
   pub sound : IsSound mux
-  pub named : AllByRecursion HasKeptNames mux.services
+  pub named : AllByRecursion IsNamed (fed_services mux)
   pub legal : Legal mux journal
   pub within : AllByRecursion (λ (entry : Entry). IsStepWithin entry.step) journal
   pub typed : AllByRecursion (λ (entry : Entry). IsTypedStep entry.step) journal
@@ -89,7 +84,7 @@ StepsAreReadable =
     (mux : Mux) (journal : List Entry) → CanBeFolded mux journal
     → AllByRecursion (λ (command : Command). (command.0 ≡ 0) × IsReadableCommand 0 command.1) (checkpoint_steps mux journal)
 
--- The text of the checkpoint is read as the checkpoint, whatever stands behind its end.
+-- The text of the checkpoint is read as the checkpoint, whatever stands after its end.
 abbrev pub CheckpointsReadBack : Type 0
 CheckpointsReadBack =
     (mux : Mux) (journal : List Entry) (keys : GivenVersions) (counters : List PidCounter)

@@ -10,7 +10,7 @@ use Rattle.ts_packets.specs.PidCounters.{kept_from}
 use Rattle.carousel_player.specs.Playing.{Playing}
 use Rattle.guide_model.specs.declared.event.Event.{Event}
 use Rattle.guide_model.specs.declared.guide.ServiceGuide.{ServiceGuide}
-use Rattle.mux_model.specs.declared.mux.MuxService.{MuxService}
+use Rattle.mux_model.specs.Fed.{FedService, feed_of}
 use Rattle.journal_model.specs.declared.edit.Edit.{Edit}
 use Rattle.journal_model.specs.declared.edit.Edit.TheVariants.{Put}
 use Rattle.journal_model.specs.declared.step.Step.TheVariants.{Edit as edit}
@@ -31,7 +31,7 @@ step_text command = command_text command.0 command.1
 abbrev pub feed_steps : ℕ → List Edit → List Command
 feed_steps feed edits = map (λ (e : Edit). (0, edit feed e)) edits
 
--- the edits that make a service, behind a clear or not
+-- the edits that make a service, after a clear or not
 abbrev pub edits_of : Bool → ServiceGuide → List Edit
 edits_of true guide = refilling guide
 edits_of false guide = filling guide
@@ -43,9 +43,9 @@ steps_text steps = flat_map step_text steps
 abbrev pub put_text : ℕ → ℕ → Event → List ℕ
 put_text feed service event = step_text (0, edit feed (Put service (event_item event)))
 
--- the steps of a service
-abbrev pub service_text : Bool → MuxService × ServiceGuide → List ℕ
-service_text clears service = steps_text (feed_steps service.0.feed (edits_of clears service.1))
+-- the steps of a service, as of the feed that owns it
+abbrev pub service_text : Bool → List FedService → ServiceGuide → List ℕ
+service_text clears services guide = steps_text (feed_steps (feed_of services guide.service) (edits_of clears guide))
 
 abbrev pub section_text : NumberedBody → List ℕ
 section_text section = line_text (section_fields section)
@@ -70,7 +70,7 @@ abbrev pub checkpoint_text : ℕ → List Command → GivenVersions → List Pid
 checkpoint_text count steps keys counters =
     line_text (count_fields count) ++ steps_text steps ++ flat_map key_text keys ++ flat_map counter_text counters ++ codes "end\n"
 
--- the steps that a desk leaves behind a checkpoint whose count was greater by the shift
+-- the steps that a desk leaves after a checkpoint whose count was greater by the shift
 abbrev pub desk_steps : ℕ → DeskState → List Command
 desk_steps shift desk =
     let count = publishes desk.entries in

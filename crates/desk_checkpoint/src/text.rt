@@ -1,6 +1,8 @@
 // The text of a checkpoint.
-ghost use Rattle.std.specs.Prelude.{◌≡◌, ◌<◌, ◌*◌, ◌+◌, ◌^◌, ◌++◌, ◌∷◌, [], IfOk, OnOk, OnErr, flat_map, option_map};
-ghost use Rattle.std.specs.List.{AllByRecursion, zip};
+ghost use Rattle.std.specs.Prelude.{◌≡◌, ◌==◌, ◌<◌, ◌*◌, ◌+◌, ◌^◌, ◌++◌, ◌∷◌, [], IfOk, OnOk, OnErr, flat_map, option_copied, option_map};
+ghost use Rattle.std.specs.List.{AllByRecursion, find};
+ghost use Rattle.mux_model.specs.declared.mux.MuxService.{MuxService as Service};
+ghost use Rattle.mux_model.specs.Fed.{fed_services, feed_of};
 ghost use Rattle.si_text.specs.Decoding.{IsKept};
 ghost use Rattle.table_entries.specs.Loops.{AreBytes};
 ghost use Rattle.guide_limits.specs.Limits.{IsGuideWithin, IsServiceWithin, IsEventWithin};
@@ -169,20 +171,41 @@ fn put_service(
     put_filling(alloc, out, feed, guide)
 }
 
-// Appends the steps of services, each with its guide.
+// The first of these services that has this id.
+fn service_of(services: &[MuxService], id: u16) -> Option<&MuxService>
+    ensures { option_copied result ≡ find (λ (s : Service). s.service == id) services.now }
+{
+    services.iter().find(
+        |s: &&MuxService| -> bool
+            ensures { result ≡ (s.now.now.service == id) }
+        { s.service == id },
+    )
+}
+
+// The number of the feed that owns the service with this id, and 0 where none has it.
+fn feed_of(mux: &Mux, id: u16) -> u8
+    ensures { result ≡ feed_of (fed_services mux.now) id }
+{
+    match service_of(mux.services.as_slice(), id) {
+        Some(service) => service.feed,
+        None => 0,
+    }
+}
+
+// Appends the steps of services, each as of the feed that owns it.
 fn put_services(
     alloc: Global,
     out: &mut Vec<u8>,
-    services: &[MuxService],
+    mux: &Mux,
     guides: &[ServiceGuide],
     clears: bool,
 ) -> Result<(), AllocError>
     requires { AllByRecursion IsServiceWithin guides.now }
     ensures { OnOk result (out.new.items
-        ≡ out.old.items ++ flat_map (service_text clears) (zip services.now guides.now)) }
+        ≡ out.old.items ++ flat_map (service_text clears (fed_services mux.now)) guides.now) }
 {
-    for (service, guide) in services.iter().zip(guides) {
-        put_service(alloc, out, service.feed, guide, clears)?;
+    for guide in guides {
+        put_service(alloc, out, feed_of(mux, guide.service), guide, clears)?;
     }
     Ok(())
 }
@@ -200,8 +223,7 @@ fn put_guide(
     ensures { OnOk result (out.new.items
         ≡ out.old.items ++ steps_text (guide_steps (edits_of clears) mux.now guide.now)) }
 {
-    let guides = guide.services.as_slice();
-    put_services(alloc, out, mux.services.as_slice(), guides, clears)?;
+    put_services(alloc, out, mux, guide.services.as_slice(), clears)?;
     put_step(alloc, out, &Step::Tick(guide.moment))
 }
 
