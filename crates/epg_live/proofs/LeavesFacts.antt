@@ -4,6 +4,7 @@ use Rattle.std.specs.Prelude.{Option, Some, None, IfSome, IsSome, Ok, Err, Resul
 use Rattle.headend_live.specs.declared.watched.LivePlan.{LivePlan}
 use Rattle.si_causes.specs.Opening.{Files}
 use Rattle.mux_model.specs.declared.mux.Mux.{Mux}
+use Rattle.mux_model.proofs.FedFacts.{fed_named}
 use Rattle.mux_config.proofs.FineLines.{described_texts_are_kept, whole_descriptions_are_sound}
 use Rattle.input_lines.specs.declared.stop.EditStop.{EditStop}
 use Rattle.input_lines.specs.Ahead.{Ahead, Came}
@@ -75,7 +76,7 @@ module _ (mux : Mux) (plan : LivePlan) (text : List â„•) (left : Option (List â„
       record {
         sound = whole_descriptions_are_sound (ahead_of text) mux behind whole;
         network = kept.0;
-        services = kept.1;
+        services = fed_named mux kept.1;
         edits = typed.0;
         steps = typed.1;
       }

@@ -1,11 +1,10 @@
 -- The views of a run: for which services viewers ask, and the lines of what they were answered.
-use Rattle.std.specs.Prelude.{ℕ, ◌==◌, Bool, List, [], ◌++◌, codes, decimal, find, flat_map, not, Option, Some, None}
-use Rattle.std.specs.List.{list_any}
-use Rattle.mux_model.specs.declared.mux.MuxService.{MuxService}
+use Rattle.std.specs.Prelude.{ℕ, Bool, List, [], ◌++◌, codes, decimal, find, flat_map, not, Option, Some, None}
+use Rattle.mux_model.specs.Fed.{fed_ids}
 use Rattle.mux_model.specs.declared.mux.Mux.{Mux}
 use Rattle.guide_board.specs.declared.lines.Slot.{Slot}
 use Rattle.guide_board.specs.declared.post.Post.{Post}
-use Rattle.guide_board.specs.Posts.{Sight}
+use Rattle.guide_board.specs.Posts.{Sight, serves}
 use Rattle.command_words.specs.declared.command.LiveWords.{LiveWords}
 use Rattle.headend_live.specs.declared.views.ViewLine.{ViewLine}
 use Rattle.headend_live.specs.declared.watched.LivePlan.{LivePlan}
@@ -15,11 +14,11 @@ use Rattle.headend_live.specs.Viewing.{AreViewed}
 abbrev pub plan_of : LiveWords → LivePlan
 plan_of words = record { cycles = words.cycles; join = words.join; views = words.views }
 
--- whether the multiplex has a service with this number
+-- whether feeds edit a service with this number
 abbrev pub has_service : Mux → ℕ → Bool
-has_service mux service = list_any (λ (s : MuxService). s.service == service) mux.services
+has_service mux service = serves (fed_ids mux) service
 
--- the first of these services that the multiplex has not
+-- the first of these services that feeds do not edit
 abbrev pub unserved : Mux → List ℕ → Option ℕ
 unserved mux views = find (λ (service : ℕ). not (has_service mux service)) views
 
@@ -38,7 +37,7 @@ id_text (Some slot) = decimal slot.event
 abbrev pub view_head : ViewLine → List ℕ
 view_head line = codes "view\t" ++ decimal line.service ++ codes "\t" ++ decimal line.read.number
 
--- behind it the id of the present event, and of the following one
+-- after it the id of the present event, and of the following one
 abbrev pub view_text : ViewLine → List ℕ
 view_text line = view_head line ++ codes "\t" ++ id_text line.read.now ++ codes "\t" ++ id_text line.read.next ++ codes "\n"
 

@@ -1,10 +1,12 @@
 // A run of feeds, control and player over files.
 ghost use Rattle.std.specs.Prelude.{◌≡◌, ◌==◌, ◌≤◌, ◌⊎◌, List, ℕ, IfOk, OnErr, None, Some, length, not, option_copied};
+ghost use Rattle.std.specs.List.{list_any};
 ghost use Rattle.std.specs.Io.KnownBytes.{IsAtEnd};
 ghost use Rattle.si_causes.specs.Causes.{Rose};
 ghost use Rattle.si_causes.specs.Opening.{Files};
 ghost use Rattle.si_causes.specs.Reading.{fresh};
 ghost use Rattle.command_words.specs.Commands.{texts};
+ghost use Rattle.mux_model.specs.declared.mux.MuxService.{MuxService as Service};
 ghost use Rattle.mux_model.specs.Sound.{IsSound};
 ghost use Rattle.epg_report.specs.Texts.{CanBeSaid};
 ghost use Rattle.epg_live.specs.Ends.{HasAsked, HasMet, IsBlank, entries_of};
@@ -94,18 +96,25 @@ fn live_status(stop: Option<LiveStop>) -> Status
     }
 }
 
-// Whether the multiplex has a service with this number.
-fn has_service(mux: &Mux, service: u16) -> bool
-    ensures { result ≡ has_service mux.now service }
+// Whether one of these services has this number.
+fn is_among(services: &[MuxService], number: u16) -> bool
+    ensures { result ≡ list_any (λ (s : Service). s.service == number) services.now }
 {
-    mux.services.as_slice().iter().any(
+    services.iter().any(
         |s: &MuxService| -> bool
-            ensures { result ≡ (s.now.service == service) }
-        { s.service == service },
+            ensures { result ≡ (s.now.service == number) }
+        { s.service == number },
     )
 }
 
-// The first of these services that the multiplex has not.
+// Whether feeds edit a service with this number.
+fn has_service(mux: &Mux, service: u16) -> bool
+    ensures { result ≡ has_service mux.now service }
+{
+    is_among(mux.services.as_slice(), service)
+}
+
+// The first of these services that feeds do not edit.
 fn first_unserved<'v>(mux: &Mux, views: &'v [u16]) -> Option<&'v u16>
     ensures { option_copied result ≡ unserved mux.now views.now }
 {
@@ -235,7 +244,7 @@ fn run_described<W: Threads + Wait + Sync, O: Opener, S: Source + Send, A: Sink 
 }
 
 /// Runs `live` up to its report: reads the description of the multiplex, opens the files of the feeds in order, and then runs their jobs,
-/// the control's over the lines behind the description, and the player's, side by side. `Err` comes only where memory is wanting.
+/// the control's over the lines after the description, and the player's, side by side. `Err` comes only where memory is wanting.
 pub fn run_files<W: Threads + Wait + Sync, O: Opener, S: Source + Send, A: Sink + Send, G: Gate>(
     rt: &W,
     alloc: Global,

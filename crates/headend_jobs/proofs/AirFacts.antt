@@ -4,7 +4,7 @@ use Rattle.std.specs.Prelude.{flat_map, Option}
 use Rattle.std.specs.Io.KnownBytes.{Appends}
 use Rattle.std.proofs.lemmas.List.{take-append-le}
 use Rattle.guide_model.specs.declared.guide.ServiceGuide.{ServiceGuide}
-use Rattle.mux_model.specs.declared.mux.MuxService.{MuxService}
+use Rattle.mux_model.specs.Fed.{fed_ids}
 use Rattle.mux_model.specs.declared.mux.Mux.{Mux}
 use Rattle.section_codec.specs.declared.table.SubTable.{SubTable}
 use Rattle.version_book.specs.Airings.{CycleForm, AiredTables}
@@ -27,7 +27,7 @@ pub on_air_services : (desk : DeskState) (mux : Mux) (on : Airing) → mux ≡ d
 on_air_services desk mux on m e =
     ap (λ (o : Airing). map (λ (s : ServiceGuide). s.service) o.guide.services) e
     ∙ published_services desk.mux desk.entries (last_aired desk.mux desk.entries).0
-    ∙ ap (λ (x : Mux). map (λ (s : MuxService). s.service) x.services) (sym m)
+    ∙ ap fed_ids (sym m)
 
 -- ---- a cycle
 

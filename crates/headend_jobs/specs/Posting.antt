@@ -2,7 +2,7 @@
 use Rattle.std.specs.Prelude.{◌≡◌, ℕ, List, [], ◌∷◌, ◌++◌, map}
 use mathlib.Core.List.{IsPrefix}
 use Rattle.si_time.specs.declared.moment.Moment.{Moment}
-use Rattle.mux_model.specs.declared.mux.MuxService.{MuxService}
+use Rattle.mux_model.specs.Fed.{fed_ids}
 use Rattle.mux_model.specs.declared.mux.Mux.{Mux}
 use Rattle.journal_model.specs.declared.step.Entry.{Entry}
 use Rattle.desk_core.specs.Publications.{publication, swaps}
@@ -26,16 +26,16 @@ opening_of mux = post 0 (publication mux [] 0)
 abbrev pub posts_of : Mux → List Entry → List Post
 posts_of mux journal = opening_of mux ∷ posts_by mux journal journal
 
--- the posts have the services of the multiplex, in their order
+-- the posts have the services that feeds edit, in their order
 abbrev pub HaveServicesOf : Mux → List Post → Type 0
-HaveServicesOf mux posts = services_in posts ≡ map (λ (s : MuxService). s.service) mux.services
+HaveServicesOf mux posts = services_in posts ≡ fed_ids mux
 
 -- A board with more posts is the same board, and its posts have the services that they had.
 pub record KeepsBoard (old new : Sight) : Type 0 where
   pub board : new.board ≡ old.board
   pub services : services_in new.posts ≡ services_in old.posts
 
--- The pass made these entries more, and what they put on air was posted behind what was posted before; so it is in each journal that
+-- The pass made these entries more, and what they put on air was posted after what was posted before; so it is in each journal that
 -- begins with what the pass has seen.
 pub record HasPosted (mux : Mux) (v w : View) (old new : Sight) : Type 0 where
   pub added : List Entry

@@ -66,7 +66,7 @@ airings_fit mux journal sound typed legal = each_airing (IsFitAs (mux_form mux))
     one : (swap : ℕ × Moment) → IsFitAs (mux_form mux) (airing_at mux journal swap)
     one (n, moment) =
         let guide = publication mux journal n in
-        let within = publications_within mux journal n sound.services sound.ascend legal in
+        let within = publications_within mux journal n sound legal in
         (record { fit = publication_fit mux guide sound within (typed_small guide within (published_typed mux journal n typed within)); alone = runs_begin_alone mux guide; quota = sound.quota.0; offsets = offsets_told mux.offsets sound.offsets }, refl)
 
 pub air_spaced : (mux : Mux) (journal : List Entry) (before now : Option (List ℕ)) (sent : Result (Unit {0}) SendStop) → AreFitAs (mux_form mux) (airings mux journal)

@@ -1,6 +1,6 @@
 -- What the views of a run leave.
 use Rattle.std.specs.Prelude.{◌≡◌, ◌≤◌, ◌<◌, ◌+◌, ℕ, true, List, [], ◌∷◌, ◌++◌, length, map, vec_len, vec_capacity}
-use Rattle.mux_model.specs.declared.mux.MuxService.{MuxService}
+use Rattle.mux_model.specs.Fed.{fed_ids}
 use Rattle.mux_model.specs.declared.mux.Mux.{Mux}
 use Rattle.guide_board.specs.declared.lines.NowNext.{NowNext}
 use Rattle.guide_board.specs.declared.post.Post.{Post}
@@ -9,9 +9,9 @@ use Rattle.headend_jobs.specs.declared.views.ViewJob.{ViewJob}
 use Rattle.headend_jobs.specs.Views.{AreSaid, Viewed}
 use Rattle.headend_live.specs.declared.views.ViewLine.{ViewLine}
 
--- the multiplex has a service with this number
+-- feeds edit a service with this number
 abbrev pub IsServiceOf : Mux → ℕ → Type 0
-IsServiceOf mux service = serves (map (λ (s : MuxService). s.service) mux.services) service ≡ true
+IsServiceOf mux service = serves (fed_ids mux) service ≡ true
 
 -- the line of an answer
 abbrev pub line_of : ℕ → NowNext → ViewLine
