@@ -9,6 +9,7 @@ use Rattle.std.proofs.lemmas.List.Elements.{filter-append, filter_map-append}
 use Rattle.si_lists.proofs.Lists.{all_at, all_through, all_flat}
 use Rattle.si_lists.proofs.Truths.{not_both}
 use Rattle.guide_model.specs.declared.event.Event.{Event}
+use Rattle.mux_model.specs.Fed.{fed_services}
 use Rattle.journal_model.specs.declared.edit.Edit.{Edit}
 use Rattle.journal_model.specs.declared.edit.Edit.TheVariants.{Put, Withdraw, Clear, Name, Day}
 use Rattle.journal_model.specs.declared.reply.Reply.TheVariants.{Done}
@@ -116,7 +117,7 @@ second_feed f low high other = grind (arith, nat_tests)
 
 module _ (number : ℕ) where
   pub record IsFeed (feed : ℕ) : Type 0 where
-    pub owned : AllByRecursion (λ (s : ℕ). owns soak_mux.services feed s ≡ true) (feed_services feed)
+    pub owned : AllByRecursion (λ (s : ℕ). owns (fed_services soak_mux) feed s ≡ true) (feed_services feed)
     pub low : AllByRecursion (λ (s : ℕ). s ≤ 65535) (feed_services feed)
     pub own : AllByRecursion (λ (s : ℕ). of_service s (soak_edits number feed) ≡ service_edits number s) (feed_services feed)
     pub edits : AllByRecursion (λ (e : Edit). is_of feed (service_of e) ≡ true) (soak_edits number feed)
@@ -145,11 +146,11 @@ module _ (number : ℕ) where
 
   -- the next edit of a feed is done, where each of its services has had just the feed's edits of it
   next_done : (feed : ℕ) → IsFeed feed → (past front : List Edit) (e : Edit) (rest : List Edit) → soak_edits number feed ≡ front ++ e ∷ rest
-      → ((s : ℕ) → is_of feed s ≡ true → of_service s past ≡ of_service s front) → reply_to soak_mux.services past feed e ≡ Done
+      → ((s : ℕ) → is_of feed s ≡ true → of_service s past ≡ of_service s front) → reply_to (fed_services soak_mux) past feed e ≡ Done
   next_done feed is past front e rest whole same =
       let s = service_of e in
       let member : is_of feed s ≡ true = all_at (λ (x : Edit). is_of feed (service_of x) ≡ true) front e rest (subst (λ (l : List Edit). AllByRecursion (λ (x : Edit). is_of feed (service_of x) ≡ true) l) whole is.edits) in
-      let owned : owns soak_mux.services feed s ≡ true = among (λ (n : ℕ). owns soak_mux.services feed n ≡ true) s (feed_services feed) is.owned member in
+      let owned : owns (fed_services soak_mux) feed s ≡ true = among (λ (n : ℕ). owns (fed_services soak_mux) feed n ≡ true) s (feed_services feed) is.owned member in
       let low : s ≤ 65535 = among (λ (n : ℕ). n ≤ 65535) s (feed_services feed) is.low member in
       let own : of_service s (soak_edits number feed) ≡ service_edits number s = among (λ (n : ℕ). of_service n (soak_edits number feed) ≡ service_edits number n) s (feed_services feed) is.own member in
       let self : (s == s) ≡ true = same_number s s refl in
@@ -184,8 +185,8 @@ module _ (number : ℕ) where
       let front = edits_by feed before in
       let more = edits_by feed entries ++ rest in
       let row : soak_edits number feed ≡ front ++ e ∷ more = whole ∙ ap (λ (l : List Edit). l ++ rest) (parted feed f before entries who e outcome same) ∙ append_assoc front (e ∷ edits_by feed entries) rest in
-      let done : reply_to soak_mux.services (accepted before) feed e ≡ Done = next_done feed is (accepted before) front e more row shares in (
-        legal ∙ ap (λ (n : ℕ). Edited (reply_to soak_mux.services (accepted before) n e)) same ∙ ap Edited done,
+      let done : reply_to (fed_services soak_mux) (accepted before) feed e ≡ Done = next_done feed is (accepted before) front e more row shares in (
+        legal ∙ ap (λ (n : ℕ). Edited (reply_to (fed_services soak_mux) (accepted before) n e)) same ∙ ap Edited done,
         all_at (λ (x : Edit). is_of feed (service_of x) ≡ true) front e more (subst (λ (l : List Edit). AllByRecursion (λ (x : Edit). is_of feed (service_of x) ≡ true) l) row is.edits),
       )
 
@@ -257,7 +258,7 @@ module _ (number : ℕ) where
   stepped before entries who Publish outcome one two legal feeds first second = (tt, push_other 1 before (entry_with who Publish outcome) refl refl one, push_other 2 before (entry_with who Publish outcome) refl refl two)
   stepped before entries who Swap outcome one two legal feeds first second = (tt, push_other 1 before (entry_with who Swap outcome) refl refl one, push_other 2 before (entry_with who Swap outcome) refl refl two)
 
-  -- each edit of these entries is done, and behind them each service has had just its feed's edits of it
+  -- each edit of these entries is done, and after them each service has had just its feed's edits of it
   pub record Ran (before entries : List Entry) : Type 0 where
     pub done : AllByRecursion (λ (entry : Entry). IsDoneStep entry.step entry.outcome) entries
     pub one : Shares 1 (accepted (before ++ entries)) (edits_by 1 (before ++ entries))

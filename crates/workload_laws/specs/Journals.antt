@@ -5,6 +5,7 @@ use Rattle.si_causes.specs.Text.{text_lines}
 use Rattle.si_time.specs.declared.moment.Moment.{Moment}
 use Rattle.guide_model.specs.declared.guide.ServiceGuide.{ServiceGuide}
 use Rattle.guide_model.specs.declared.guide.Guide.{Guide}
+use Rattle.mux_model.specs.Fed.{fed_services}
 use Rattle.journal_model.specs.declared.edit.Edit.{Edit}
 use Rattle.journal_model.specs.declared.reply.Reply.TheVariants.{Done}
 use Rattle.journal_model.specs.declared.step.Step.{Step}
@@ -89,7 +90,7 @@ pub record IsCounted (number : ℕ) (journal : List Entry) : Type 0 where
   pub edits : length (edits_in journal) ≡ 120
   pub done : length (accepted journal) ≡ 120
   pub events : (moment : Moment)
-      → event_count (guide_of (book_after soak_mux.services (accepted journal)) moment) ≡ item_lines (feed_text number 1) + item_lines (feed_text number 2)
+      → event_count (guide_of (book_after (fed_services soak_mux) (accepted journal)) moment) ≡ item_lines (feed_text number 1) + item_lines (feed_text number 2)
 
 abbrev pub MadeJournalsAreCounted : Type 0
 MadeJournalsAreCounted =

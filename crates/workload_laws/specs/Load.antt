@@ -4,6 +4,7 @@ use Rattle.std.specs.List.{range_with_len}
 use Rattle.si_time.specs.Moments.{moment_text, duration_text}
 use Rattle.mux_model.specs.declared.mux.MuxService.{MuxService}
 use Rattle.mux_model.specs.declared.mux.Mux.{Mux}
+use Rattle.mux_model.specs.Muxes.{mux_of}
 use Rattle.journal_model.specs.declared.control.Control.{Control}
 use Rattle.journal_model.specs.declared.control.Control.TheVariants.{Tick, Publish}
 use Rattle.journal_model.specs.declared.edit.Item.{Item}
@@ -30,17 +31,7 @@ soak_service i = record {
 
 -- it starts at 1993-10-13T00:00:00Z
 abbrev pub soak_mux : Mux
-soak_mux = record {
-  network = 40;
-  network_name = codes "Soak";
-  stream = 1;
-  original = 1;
-  cable = None;
-  start = record { 0 = moment_at 0 };
-  quota = 200;
-  offsets = [];
-  services = map soak_service (range_with_len 0 8);
-}
+soak_mux = mux_of 40 (codes "Soak") 1 1 (record { 0 = moment_at 0 }) 200 (map soak_service (range_with_len 0 8))
 
 -- ---- what the control asks for
 
