@@ -7,6 +7,7 @@ use Rattle.input_lines.specs.Lines.{record_lines}
 use Rattle.input_lines.specs.Ahead.{Ahead, Tail}
 use Rattle.mux_model.specs.declared.mux.MuxService.{MuxService}
 use Rattle.mux_model.specs.declared.mux.Mux.{Mux}
+use Rattle.mux_model.proofs.FedFacts.{fed_named}
 use Rattle.mux_config.specs.Descriptions.{description_ahead}
 use Rattle.mux_config.proofs.FineLines.{described_texts_are_kept}
 use Rattle.journal_model.specs.Steps.{Command}
@@ -38,7 +39,7 @@ module _ (lines : List (List ℕ)) (tail : Tail) (air : ReportTaken) where
       record {
         sound = mux_of_script lines tail mux e;
         network = kept.0;
-        services = kept.1;
+        services = fed_named mux kept.1;
         edits = journal-typed mux commands typed;
         steps = journal-window mux commands typed;
       }

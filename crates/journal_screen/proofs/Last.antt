@@ -9,6 +9,7 @@ use Rattle.std.proofs.lemmas.List.Elements.{filter_map-append}
 use Rattle.si_time.specs.declared.moment.Moment.{Moment}
 use Rattle.guide_model.specs.declared.guide.Guide.{Guide}
 use Rattle.mux_model.specs.declared.mux.Mux.{Mux}
+use Rattle.mux_model.specs.Fed.{fed_services}
 use Rattle.guide_limits.specs.Guides.{book_after, guide_of as guide_at}
 use Rattle.journal_model.specs.declared.step.Step.{Step}
 use Rattle.journal_model.specs.declared.step.Step.TheVariants.{Publish, Swap}
@@ -59,7 +60,7 @@ no_parts : {X : Type 0} (one : List X) (x : X) (two : List X) → [] ≡ one ++ 
 no_parts [] x two e = cc
 no_parts (y ∷ one) x two e = cc
 
--- entries behind others are legal behind them
+-- entries after others are legal after them
 legal_behind : (mux : Mux) (before front rest : List Entry) → LegalAfter mux before (front ++ rest) → LegalAfter mux (before ++ front) rest
 legal_behind mux before [] rest legal = subst (λ (l : List Entry). LegalAfter mux l rest) (sym (append-nil before)) legal
 legal_behind mux before (x ∷ front) rest legal =
@@ -138,7 +139,7 @@ module _ (mux : Mux) (front : List Entry) (p f l : Entry) (publish : p.step ≡ 
   guide_is : publication mux journal number ≡ guide_after mux journal
   guide_is =
       ap (λ (j : List Entry). publication mux j number) whole ∙ frozen
-      ∙ sym (λ i. guide_at (book_after mux.services (accepted_are i)) (moment_is i)) ∙ ap (guide_after mux) (sym whole)
+      ∙ sym (λ i. guide_at (book_after (fed_services mux) (accepted_are i)) (moment_is i)) ∙ ap (guide_after mux) (sym whole)
 
   -- ---- its air
 

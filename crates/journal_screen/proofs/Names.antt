@@ -4,7 +4,7 @@ use Rattle.std.specs.Prelude.{map, if◌then◌else◌}
 use Rattle.std.specs.List.{AllByRecursion, filter_map}
 use Rattle.si_text.specs.Decoding.{IsKept}
 use Rattle.guide_model.specs.declared.guide.ServiceGuide.{ServiceGuide}
-use Rattle.mux_model.specs.declared.mux.MuxService.{MuxService}
+use Rattle.mux_model.specs.Fed.{FedService, IsNamed, fed_services}
 use Rattle.mux_model.specs.declared.mux.Mux.{Mux}
 use Rattle.journal_model.specs.declared.edit.Edit.{Edit}
 use Rattle.journal_model.specs.Edits.{IsTypedEdit}
@@ -19,7 +19,7 @@ use Rattle.publication_screen.specs.Shown.{HasKeptNames}
 use Rattle.journal_air.specs.Laws.{HasTypedEdits}
 use Rattle.journal_air.proofs.Published.{edits_before}
 
-services_kept : (services : List MuxService) (past : List Edit) → AllByRecursion (λ (s : MuxService). IsKept s.provider × IsKept s.name) services → AllByRecursion IsTypedEdit past
+services_kept : (services : List FedService) (past : List Edit) → AllByRecursion IsNamed services → AllByRecursion IsTypedEdit past
     → AllByRecursion (λ (s : ServiceGuide). IsKept s.provider × IsKept s.name) (map (λ (kept : KeptService). kept.guide) (map (kept_after past) services))
 services_kept [] past kept typed = tt
 services_kept (s ∷ services) past kept typed =
@@ -27,9 +27,9 @@ services_kept (s ∷ services) past kept typed =
     last_kept (s.provider, s.name) (filter_map (names_in s.service) past) (kept.0.0, kept.0.1) (all_given s.service past typed) in
     ((here.0, here.1), services_kept services past kept.1 typed)
 
-pub published_named : (mux : Mux) (journal : List Entry) (n : ℕ) → IsKept mux.network_name → AllByRecursion (λ (s : MuxService). IsKept s.provider × IsKept s.name) mux.services
+pub published_named : (mux : Mux) (journal : List Entry) (n : ℕ) → IsKept mux.network_name → AllByRecursion IsNamed (fed_services mux)
     → HasTypedEdits journal → HasKeptNames mux (publication mux journal n)
 published_named mux journal n network services typed = record {
   network = network;
-  services = services_kept mux.services (accepted (if n == 0 then [] else before_publish n journal)) services (edits_before journal n (n == 0) typed);
+  services = services_kept (fed_services mux) (accepted (if n == 0 then [] else before_publish n journal)) services (edits_before journal n (n == 0) typed);
 }

@@ -37,7 +37,7 @@ module _ (mux : Mux) (journal : List Entry) (is : IsAsRead mux journal) (legal :
 
   pub can_publish : (n : ℕ) → CanBePublished mux (guides n)
   can_publish n =
-      let within = publications_within mux journal n is.sound.sound.services is.sound.sound.ascend legal in
+      let within = publications_within mux journal n is.sound.sound legal in
       record {
         services = published_services mux journal n;
         within = within;

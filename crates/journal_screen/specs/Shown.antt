@@ -3,7 +3,7 @@ use Rattle.std.specs.Prelude.{◌≡◌, ℕ, ◌≤◌, List, ◌∷◌, ◌++�
 use Rattle.std.specs.List.{AllByRecursion}
 use Rattle.si_text.specs.Decoding.{IsKept}
 use Rattle.si_time.specs.declared.moment.Moment.{Moment}
-use Rattle.mux_model.specs.declared.mux.MuxService.{MuxService}
+use Rattle.mux_model.specs.Fed.{IsNamed, fed_services}
 use Rattle.mux_model.specs.declared.mux.Mux.{Mux}
 use Rattle.mux_model.specs.Sound.{IsSoundWithIds}
 use Rattle.journal_model.specs.declared.step.Entry.{Entry}
@@ -21,7 +21,7 @@ pub record IsAsRead (mux : Mux) (journal : List Entry) : Type 0 where
   -- the multiplex is sound, and its names may be kept
   pub sound : IsSoundWithIds mux
   pub network : IsKept mux.network_name
-  pub services : AllByRecursion (λ (s : MuxService). IsKept s.provider × IsKept s.name) mux.services
+  pub services : AllByRecursion IsNamed (fed_services mux)
   -- the accepted edits have numbers as wide as their fields, and texts that may be kept
   pub edits : HasTypedEdits journal
   -- each tick is at a moment that can be written
@@ -32,7 +32,7 @@ abbrev pub numbers_on_air : List Entry → List ℕ
 numbers_on_air journal = map (λ (swap : ℕ × Moment). swap.0) (swaps journal)
 
 -- Of these packets, which are the air of these cycles of a journal or a front of it, a receiver hears those from the place join on and before
--- the place end: where all packets of a cycle are among them, and behind it packets alone of cycles of the same publication, it shows
+-- the place end: where all packets of a cycle are among them, and after it only packets of cycles of the same publication, it shows
 -- that publication.
 abbrev pub IsExactIn : Mux → List Entry → ℕ → ℕ → List Aired → List (List ℕ) → Type 0
 IsExactIn mux journal join end cycles packets =
