@@ -18,6 +18,7 @@ use Rattle.carousel_player.proofs.SentSpaced.{IsFitAs, AreFitAs, cycles_sent_spa
 use Rattle.eit_tables.specs.Schedule.{last_table_of, schedule_table, near_tables, far_tables}
 use Rattle.eit_tables.specs.Present.{present_table}
 use Rattle.eit_tables.proofs.EntryFacts.{typed_small}
+use Rattle.publication.specs.Parts.{own_guide}
 use Rattle.publication.specs.Programs.{pat_table, pmt_table, pmt_tables}
 use Rattle.publication.specs.Network.{nit_table}
 use Rattle.publication.specs.Tables.{sdt_table, present_tables, all_near_tables, all_far_tables, tables_of}
@@ -46,9 +47,9 @@ runs_begin_alone mux guide =
     let moment = guide.moment.0 in
     let day = midnight moment in
     let schedule : (s : ServiceGuide) (table : ℕ) → IsApart (schedule_table mux day s table) = λ s table. inr (λ (e : 18 ≡ 0). omega arith) in
-    let near : AllByRecursion IsApart (all_near_tables mux guide) = each_flat IsApart (near_tables mux day) (λ s. each_apart (schedule_table mux day s) (schedule s) (range_with_len 0x50 (1 + min 0x51 (last_table_of day s.events) - 0x50))) guide.services in
-    let far : AllByRecursion IsApart (all_far_tables mux guide) = each_flat IsApart (far_tables mux day) (λ s. each_apart (schedule_table mux day s) (schedule s) (range_with_len 0x52 (1 + last_table_of day s.events - 0x52))) guide.services in
-    let eit = all_append IsApart (present_tables mux guide) (all_near_tables mux guide ++ all_far_tables mux guide) (each_apart (present_table mux moment) (λ s. inl refl) guide.services)
+    let near : AllByRecursion IsApart (all_near_tables mux guide) = each_flat IsApart (near_tables mux day) (λ s. each_apart (schedule_table mux day s) (schedule s) (range_with_len 0x50 (1 + min 0x51 (last_table_of day s.events) - 0x50))) (own_guide mux guide) in
+    let far : AllByRecursion IsApart (all_far_tables mux guide) = each_flat IsApart (far_tables mux day) (λ s. each_apart (schedule_table mux day s) (schedule s) (range_with_len 0x52 (1 + last_table_of day s.events - 0x52))) (own_guide mux guide) in
+    let eit = all_append IsApart (present_tables mux guide) (all_near_tables mux guide ++ all_far_tables mux guide) (each_apart (present_table mux moment) (λ s. inl refl) (own_guide mux guide))
     (all_append IsApart (all_near_tables mux guide) (all_far_tables mux guide) near far) in
     record {
       first = pat_table mux;

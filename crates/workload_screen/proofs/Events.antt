@@ -1,4 +1,4 @@
--- The events of the made load are all within the schedule of the screen behind a run.
+-- The events of the made load are all within the schedule of the screen after a run.
 use Rattle.std.proofs.Common.{◌≡◌, ◌≤◌, ◌<◌, ◌+◌, ◌*◌, ℕ, true, List, [], ◌∷◌, length, map, refl, sym, ap, ap₂, subst, ◌∙◌, arith}
 use Rattle.std.specs.Prelude.{nat_le, nat_lt}
 use Rattle.std.specs.List.{AllByRecursion, filter, sum_by}
@@ -8,17 +8,18 @@ use Rattle.std.proofs.lemmas.List.Sums.{sum_by-cons}
 use Rattle.si_lists.proofs.Lists.{all_through}
 use Rattle.si_lists.proofs.Filters.{all_stay}
 use Rattle.guide_model.specs.declared.event.Event.{Event}
+use Rattle.guide_model.specs.declared.guide.Guide.{Guide}
 use Rattle.guide_model.specs.declared.guide.ServiceGuide.{ServiceGuide}
 use Rattle.guide_model.specs.declared.screen.ScreenService.{ScreenService}
 use Rattle.mux_model.specs.declared.mux.MuxService.{MuxService}
 use Rattle.eit_codec.specs.Eit.{shown_event}
 use Rattle.guide_limits.specs.Events.{midnight}
 use Rattle.guide_limits.specs.Standing.{standing}
-use Rattle.guide_limits.specs.KeptService.{KeptService}
-use Rattle.guide_limits.specs.Guides.{kept_after, book_after}
 use Rattle.journal_model.specs.declared.edit.Edit.{Edit}
 use Rattle.desk_core.specs.Journal.{accepted, moment_of}
-use Rattle.publication_screen.specs.Screen.{is_scheduled, service_shown, services_shown}
+use Rattle.desk_core.specs.Publications.{guide_after}
+use Rattle.publication.specs.Parts.{part_of}
+use Rattle.publication_screen.specs.Screen.{is_scheduled, own_shown, service_shown}
 use Rattle.si_workload.specs.declared.shows.Show.{Show}
 use Rattle.si_workload.specs.Shows.{shows_of}
 use Rattle.si_workload.specs.Texts.{moment_at}
@@ -41,17 +42,14 @@ all_shown moment service guide h =
     length-map (filter (is_scheduled (midnight moment)) guide.events) shown_event
     ∙ ap (λ (l : List Event). length l) (all_stay (is_scheduled (midnight moment)) guide.events h)
 
-abbrev guides_of : List MuxService → List Edit → List ServiceGuide
-guides_of services past = map (λ (kept : KeptService). kept.guide) (book_after services past)
-
-sum_shown : (moment : ℕ) (services : List MuxService) (past : List Edit) → AllByRecursion (λ (s : MuxService). AreScheduled moment (standing s.service past)) services
-    → sum_by (λ (s : ScreenService). length s.events) (services_shown moment services (guides_of services past)) ≡ sum_by (λ (s : ServiceGuide). length s.events) (guides_of services past)
-sum_shown moment [] past h = refl
-sum_shown moment (s ∷ services) past h =
-    let guide = (kept_after past s).guide in
-    sum_by-cons (λ (x : ScreenService). length x.events) (service_shown moment s guide) (services_shown moment services (guides_of services past))
-    ∙ ap₂ (λ (a b : ℕ). a + b) (all_shown moment s guide h.0) (sum_shown moment services past h.1)
-    ∙ sym (sum_by-cons (λ (x : ServiceGuide). length x.events) guide (guides_of services past))
+sum_shown : (guide : Guide) (services : List MuxService) → AllByRecursion (λ (s : MuxService). AreScheduled guide.moment.0 (part_of guide s.service).events) services
+    → sum_by (λ (s : ScreenService). length s.events) (map (own_shown guide) services) ≡ sum_by (λ (s : ServiceGuide). length s.events) (map (λ (s : MuxService). part_of guide s.service) services)
+sum_shown guide [] h = refl
+sum_shown guide (s ∷ services) h =
+    let part = part_of guide s.service in
+    sum_by-cons (λ (x : ScreenService). length x.events) (own_shown guide s) (map (own_shown guide) services)
+    ∙ ap₂ (λ (a b : ℕ). a + b) (all_shown guide.moment.0 s part h.0) (sum_shown guide services h.1)
+    ∙ sym (sum_by-cons (λ (x : ServiceGuide). length x.events) part (map (λ (s : MuxService). part_of guide s.service) services))
 
 -- ---- the shows of a service
 
@@ -89,5 +87,5 @@ runs_shown number journal run clock =
     let a : (s : ℕ) → is_of 1 s ≡ true → AreScheduled at.0 (standing s past) = λ s m. all_scheduled number 1 (feed_one number) past one s m at.0 low high in
     let b : (s : ℕ) → is_of 2 s ≡ true → AreScheduled at.0 (standing s past) = λ s m. all_scheduled number 2 (feed_two number) past two s m at.0 low high in
     let counted = (runs_counted number journal run).2 in
-    sum_shown at.0 soak_mux.services past (a 101 refl, (b 102 refl, (a 103 refl, (b 104 refl, (a 105 refl, (b 106 refl, (a 107 refl, (b 108 refl, tt))))))))
+    sum_shown (guide_after soak_mux journal) soak_mux.services (a 101 refl, (b 102 refl, (a 103 refl, (b 104 refl, (a 105 refl, (b 106 refl, (a 107 refl, (b 108 refl, tt))))))))
     ∙ counted.events at
