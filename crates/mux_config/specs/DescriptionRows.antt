@@ -10,6 +10,7 @@ use Rattle.mux_config.specs.declared.fault.Word.TheVariants.{Network, Stream, Se
 use Rattle.mux_config.specs.declared.fault.MuxFault.TheVariants.{Line, Range, Twice, Missing}
 use Rattle.mux_model.specs.declared.mux.MuxService.{MuxService}
 use Rattle.mux_model.specs.declared.mux.Mux.{Mux}
+use Rattle.mux_model.specs.Muxes.{mux_of}
 use Rattle.mux_config.specs.declared.fault.MuxFault.{MuxFault}
 use Rattle.mux_config.specs.Descriptions.{Description, description_ahead, fault_in}
 
@@ -44,17 +45,7 @@ service id pmt pcr components = record {
 }
 
 abbrev mux_with : List MuxService → Mux
-mux_with services = record {
-  network = 40;
-  network_name = codes "Demo";
-  stream = 1;
-  original = 1;
-  cable = None;
-  start = record { 0 = 3506716800 };
-  quota = 200;
-  offsets = [];
-  services = services;
-}
+mux_with = mux_of 40 (codes "Demo") 1 1 (record { 0 = 3506716800 }) 200
 
 -- the multiplex with these services, and what is ahead behind its lines: these lines, and the end at line n
 abbrev whole : List MuxService → List Row → ℕ → Found Description

@@ -6,6 +6,7 @@ use Rattle.std.proofs.Math.Nat.{not-le_of_lt}
 use Rattle.guide_model.specs.declared.stream.Component.{Component}
 use Rattle.mux_model.specs.declared.mux.MuxService.{MuxService}
 use Rattle.mux_model.specs.declared.mux.Mux.{Mux}
+use Rattle.mux_model.specs.Muxes.{mux_of}
 use Rattle.mux_model.specs.Sound.{IsSound, HasSoundCable, HasSoundLanguage}
 
 -- numbers that differ as they compute
@@ -30,17 +31,9 @@ service id pmt pcr components = record {
 
 -- a multiplex with these services
 abbrev mux_with : List MuxService → Mux
-mux_with services = record {
-  network = 40;
-  network_name = codes "Demo";
-  stream = 1;
-  original = 1;
-  cable = Some (record { frequency = 3120000; modulation = 3; symbol_rate = 68750; fec_outer = 2; fec_inner = 15 });
-  start = record { 0 = 3506716800 };
-  quota = 200;
-  offsets = [];
-  services = services;
-}
+mux_with services =
+    let none : Mux = mux_of 40 (codes "Demo") 1 1 (record { 0 = 3506716800 }) 200 services in
+    record none { cable = Some (record { frequency = 3120000; modulation = 3; symbol_rate = 68750; fec_outer = 2; fec_inner = 15 }) }
 
 abbrev sound_services : List MuxService
 sound_services =
