@@ -8,6 +8,7 @@ use Rattle.std.proofs.lemmas.List.Sums.{sum_by-cons}
 use Rattle.si_lists.proofs.Lists.{all_map, all_two, range_more, all_of_map, all_to_map, each_flat}
 use Rattle.si_base.specs.Fields.{two, two_at}
 use Rattle.guide_model.specs.declared.event.Event.{Event}
+use Rattle.guide_model.specs.declared.guide.ServiceGuide.{ServiceGuide}
 use Rattle.desc_event.specs.EventDescriptors.{entry_size}
 use Rattle.guide_limits.specs.Events.{block_of}
 use Rattle.longest_runs.proofs.RunFacts.{runs_fit}
@@ -29,8 +30,8 @@ use Rattle.eit_segments.proofs.Numbers.{Rise, IsInSegment, table_rises, table_be
 use Rattle.eit_segments.proofs.EventsOf.{segments_have_runs}
 use Rattle.eit_tables.specs.Eit.{Bearer, eit_head}
 use Rattle.eit_tables.specs.Present.{event_at, present_event, following_event}
-use Rattle.eit_tables.specs.Schedule.{last_table_of, schedule_section}
-use Rattle.eit_tables.specs.Laws.{AreSmallEntries, AreEit, Names, PresentIsFit, ScheduleIsFit, EventsAreRead, EventsNameTheMux}
+use Rattle.eit_tables.specs.Schedule.{last_table_of, schedule_section, schedule_of}
+use Rattle.eit_tables.specs.Laws.{AreSmallEntries, AreEit, Names, PresentIsFit, ScheduleIsFit, EventsAreRead, EventsNameTheStream}
 use Rattle.eit_tables.proofs.EventFacts.{all_codable}
 
 -- ---- bodies
@@ -57,7 +58,7 @@ body_names bearer segment_last last_table status es stream original =
     let rest = segment_last ∷ last_table ∷ flat_map (written_bytes status) es in
     (at_front bearer.stream bearer.original rest stream, behind_front bearer.stream bearer.original rest original)
 
--- a body tells the last number of its segment
+-- a body has the last number of its segment
 tells : (h : EitHead) (rest : List ℕ) (number : ℕ) → segment_of h.segment_last ≡ segment_of number → segment_last_in number (head_bytes h ++ rest) ≡ Some h.segment_last
 tells h rest number same =
     ap (λ (b : Bool). last_beside number (if b then Some (slice_index (head_bytes h ++ rest) 4, slice_index (head_bytes h ++ rest) 5) else None))
@@ -140,7 +141,7 @@ module _ (bearer : Bearer) (events : List Event) (end : ℕ) where
       last_behind ps first (sections_from table last segment_last (1 + number) (from + length run) runs)
       ∙ last_run table last segment_last number from run runs ∙ (let e : number + length runs ≡ number + (suc (length runs) - 1) = omega arith in e)
 
-  -- what the first section of a segment tells
+  -- the numbers that the first section of a segment has
   made_told : (ps : List Piece) → AllByRecursion IsInSegment ps → (n : ℕ) → segment_last_at (map made ps) n ≡ told_last ps n
   made_told [] all n = refl
   made_told (p ∷ ps) all n = go (segment_of p.number == n) (made_told ps all.1 n)
@@ -212,9 +213,13 @@ table_fit bearer events end table first placed =
           ps inside (table_below table first ats placed.fit));
     }
 
+-- and of a service whose events can be placed, whatever its names are
+pub placed_fit : (bearer : Bearer) (day : ℕ) (service : ServiceGuide) (table : ℕ) → CanBePlaced (map at_of service.events) → AreEit (schedule_of bearer day service table).sections
+placed_fit bearer day service table placed =
+    table_fit bearer service.events (bearer.sent (last_table_of day service.events)) table (block_of day + 32 * (table - 0x50)) placed
+
 pub schedule_fit : ScheduleIsFit
-schedule_fit bearer day service table within small =
-    table_fit bearer service.events (bearer.sent (last_table_of day service.events)) table (block_of day + 32 * (table - 0x50)) (events_can_be_placed service.events within.events small)
+schedule_fit bearer day service table within small = placed_fit bearer day service table (events_can_be_placed service.events within.events small)
 
 -- ---- names
 
@@ -222,7 +227,7 @@ each_piece : {X : Type 0} (P : X → Type 0) → ((x : X) → P x) → (xs : Lis
 each_piece P each [] = tt
 each_piece P each (x ∷ xs) = (each x, each_piece P each xs)
 
-pub events_name : EventsNameTheMux
+pub events_name : EventsNameTheStream
 events_name bearer moment service table stream original =
     let made = schedule_section bearer service.events (bearer.sent (last_table_of moment service.events)) in
     let ps = sections_in_table moment table (map at_of service.events) in (

@@ -4,8 +4,8 @@ use Rattle.mux_model.specs.declared.mux.Mux.{Mux}
 use Rattle.section_codec.specs.declared.table.Key.{Key}
 use Rattle.eit_codec.specs.declared.eit.EitHead.{EitHead}
 
--- The stream that has a service: its transport_stream_id and original_network_id, the table_id of present and following, and under
--- which table_id each table 0x50 to 0x5F of a schedule is sent.
+-- The stream that carries a service, as event information names it: transport_stream_id, original_network_id, the table_id of present
+-- and following, and the table_id under which each table 0x50 to 0x5F of a schedule is sent.
 pub record Bearer : Type 0 where
   pub stream : ℕ
   pub original : ℕ

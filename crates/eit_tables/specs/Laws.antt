@@ -43,12 +43,12 @@ ReadEditsLeaveTypedEvents =
     (mux : Mux) (past : List Edit) (moment : Moment) → AllByRecursion IsTypedEdit past
     → IsGuideWithin (guide_of (book_after (fed_services mux) past) moment) → HasTypedEvents (guide_of (book_after (fed_services mux) past) moment)
 
--- Sections of event information that can be sent, and that describe themselves: what they tell a receiver to need is just their numbers.
+-- Sections of event information that can be sent, and that describe themselves: what they ask a receiver for is exactly their numbers.
 pub record AreEit (sections : List NumberedBody) : Type 0 where
   pub below : last_number sections < 256
   pub bodies : AllByRecursion (λ (s : NumberedBody). (6 ≤ length s.body) × (length s.body ≤ 4084)) sections
   pub by_segments : GoBySegments sections
-  -- each tells the last number of its segment, which is not above that of the table
+  -- each has the last number of its segment, which is not above the last number of the table
   pub told : AllByRecursion (λ (s : NumberedBody). (n : ℕ) × (segment_last_in s.number s.body ≡ Some n) × (n ≤ last_number sections)) sections
 
 -- The sections of present and following are such, at whatever moment, and so are those of each table of a schedule, from whatever day on.
@@ -67,13 +67,13 @@ EventsAreRead =
     → AllByRecursion (λ (s : NumberedBody). (eit : Eit) × IsEit s.body eit) (present_of b moment service).sections
     × AllByRecursion (λ (s : NumberedBody). (eit : Eit) × IsEit s.body eit) (schedule_of b moment service table).sections
 
--- a body that names the stream: it begins with transport_stream_id and original_network_id
+-- a body that names a stream: it begins with transport_stream_id and original_network_id
 abbrev pub Names : Bearer → List ℕ → Type 0
 Names b body = (two_at 0 body ≡ b.stream) × (two_at 2 body ≡ b.original)
 
--- All of them name the stream.
-abbrev pub EventsNameTheMux : Type 0
-EventsNameTheMux =
+-- All of them name their stream.
+abbrev pub EventsNameTheStream : Type 0
+EventsNameTheStream =
     (b : Bearer) (moment : ℕ) (service : ServiceGuide) (table : ℕ) → b.stream < 65536 → b.original < 65536
     → AllByRecursion (λ (s : NumberedBody). Names b s.body) (present_of b moment service).sections
     × AllByRecursion (λ (s : NumberedBody). Names b s.body) (schedule_of b moment service table).sections

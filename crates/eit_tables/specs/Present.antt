@@ -24,7 +24,7 @@ abbrev pub following_event : ℕ → List Event → List Event
 following_event moment events = event_at (following_at moment (map at_of events)) events
 
 -- section 0 has the present event with running_status 4 (running), section 1 the following one with 1 (not running); without one
--- the section is empty. Both tell segment_last_section_number 1 and their own table_id as last_table_id.
+-- the section is empty. Both have segment_last_section_number 1 and their own table_id as last_table_id.
 abbrev pub present_sections : Bearer → ℕ → List Event → List NumberedBody
 present_sections b moment events =
     record { number = 0; body = eit_body (eit_head b 1 b.present) 4 (present_event moment events) }
@@ -39,6 +39,6 @@ present_of b moment service = record {
   sections = present_sections b moment service.events;
 }
 
--- that of a service of this multiplex
+-- present and following of a service of this multiplex
 abbrev pub present_table : Mux → ℕ → ServiceGuide → SubTable
 present_table mux = present_of (own mux)

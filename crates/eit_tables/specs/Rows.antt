@@ -53,7 +53,7 @@ nothing_scheduled = refl
 nothing_later : far_tables (mux_of []) 4257187200 (with_events []) ≡ []
 nothing_later = refl
 
--- the entry of such an event behind event_id and start_time: duration, running_status with descriptors_loop_length, and a short_event
+-- the entry of such an event, after event_id and start_time: duration, running_status with descriptors_loop_length, and a short_event
 abbrev entry : ℕ → List ℕ → List ℕ → ℕ → List ℕ
 entry id start duration status =
     0x00 ∷ id ∷ 0xC0 ∷ 0x79 ∷ start ++ duration ++ 32 * status ∷ 0x0B
@@ -64,7 +64,7 @@ bodies [] bs = []
 bodies (n ∷ ns) [] = []
 bodies (n ∷ ns) (b ∷ bs) = record { number = n; body = b } ∷ bodies ns bs
 
--- at 13:00:00 for half an hour: section 32 of table 0x50, behind four empty ones
+-- at 13:00:00 for half an hour: section 32 of table 0x50, after four empty ones
 at_one : schedule_table (mux_of []) 4257187200 (with_events (news 7 46800 1800 ∷ [])) 0x50
     ≡ eit 101 0x50 Near (bodies (0 ∷ 8 ∷ 16 ∷ 24 ∷ 32 ∷ [])
     (head 0 0x50 ∷ head 8 0x50 ∷ head 16 0x50 ∷ head 24 0x50
@@ -78,9 +78,9 @@ over_midnight : present_sections (own (mux_of [])) 4257274500 (news 9 84600 3600
 unfolding moment_bcd duration_bcd pieces first_pieces
 over_midnight = refl
 
-day_behind : near_tables (mux_of []) 4257273600 (with_events (news 9 84600 3600 ∷ [])) ≡ eit 101 0x50 Near (bodies (0 ∷ []) (head 0 0x50 ∷ [])) ∷ []
+day_after : near_tables (mux_of []) 4257273600 (with_events (news 9 84600 3600 ∷ [])) ≡ eit 101 0x50 Near (bodies (0 ∷ []) (head 0 0x50 ∷ [])) ∷ []
 unfolding moment_bcd duration_bcd pieces first_pieces
-day_behind = refl
+day_after = refl
 
 -- before it begins: none is present, and it follows with running_status 1
 follows : present_sections (own (mux_of [])) 4257271799 (news 9 84600 3600 ∷ [])

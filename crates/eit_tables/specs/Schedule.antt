@@ -30,7 +30,7 @@ schedule_of b day service table = record {
   sections = map (schedule_section b service.events (b.sent (last_table_of day service.events))) (sections_in_table day table (map at_of service.events));
 }
 
--- that of a service of this multiplex
+-- such a table of a service of this multiplex
 abbrev pub schedule_table : Mux → ℕ → ServiceGuide → ℕ → SubTable
 schedule_table mux = schedule_of (own mux)
 

@@ -3,7 +3,7 @@ use Rattle.std.specs.Prelude.{if◌then◌else◌, ℕ, ◌+◌, Bool}
 use Rattle.eit_tables.specs.declared.events.Stream.{Stream}
 use Rattle.eit_tables.specs.Eit.{Bearer}
 
--- the stream that has a service
+-- the stream that carries a service
 abbrev pub bearer_of : Stream → Bearer
 bearer_of s = record {
   stream = s.stream;

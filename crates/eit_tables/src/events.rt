@@ -18,7 +18,7 @@ use std::alloc::{AllocError, Global};
 /// The PID of the event information tables (EN 300 468, 5.1.3).
 const EIT_PID: u16 = 0x0012;
 
-/// The stream that has a service: this multiplex or another one, its transport_stream_id and its original_network_id.
+/// The stream that carries a service: whether it is that of this multiplex, its transport_stream_id and its original_network_id.
 #[derive(Clone, Copy)]
 pub struct Stream {
     pub is_own: bool,

@@ -2,7 +2,8 @@
 //! (EN 300 468, 5.2.4).
 //!
 //! `put_service` gives exactly `present_table` at a moment, and `near_tables` and `far_tables` of
-//! the day of that moment. Their sections can be sent, name the multiplex, and are read as event
+//! the day of that moment; `put_remote` gives `present_of` and `remote_tables` of a service of
+//! another stream. Their sections can be sent, name their stream, and are read as event
 //! information; the section numbers that they ask for are exactly their own (`events_are_fit`). An
 //! event's entry has at most 1,338 bytes (`small`, `entries_are_small`). Edits that were read leave
 //! events that these calls accept (`read_edits_leave_typed_events`).

@@ -12,7 +12,7 @@ use crate::events::{Stream, eit_head, eit_key};
 use eit_codec::write_eit;
 use eit_segments::{EventAt, present_following};
 use guide_model::{Event, ServiceGuide};
-use section_codec::{NumberedBodies, NumberedBody, SubTable, Tier3};
+use section_codec::{NumberedBodies, NumberedBody, SubTable, tier_of};
 use si_base::Bytes;
 use si_time::Moment;
 use std::alloc::{AllocError, Global};
@@ -78,7 +78,7 @@ pub(crate) fn present_table(
 {
     Ok(SubTable {
         key: eit_key(of, of.present(), service.service),
-        tier: if of.is_own { Tier3::Fast } else { Tier3::Near },
+        tier: tier_of(of.present()),
         sections: present_sections(alloc, of, moment, service.events.as_slice(), at)?,
     })
 }

@@ -1,7 +1,6 @@
 // The schedule of a service.
 ghost use Rattle.std.specs.Prelude.{◌≡◌, ◌+◌, ◌-◌, ◌≤◌, ◌++◌, ◌%◌, map, IfOk, OnOk};
 ghost use Rattle.std.specs.List.{All};
-ghost use Rattle.section_codec.specs.Tables.{tier_of};
 ghost use Rattle.eit_codec.specs.Eit.{IsCodable};
 ghost use Rattle.eit_segments.specs.Schedule.{CanBePlaced, sections_in_table};
 ghost use Rattle.eit_segments.specs.Laws.{at_of};
@@ -12,7 +11,7 @@ use crate::events::{Stream, eit_head, eit_key};
 use eit_codec::write_eit;
 use eit_segments::{EventAt, Piece, sections_in_table};
 use guide_model::{Event, ServiceGuide};
-use section_codec::{NumberedBodies, NumberedBody, SubTable, SubTables, Tier3};
+use section_codec::{NumberedBodies, NumberedBody, SubTable, SubTables, tier_of};
 use si_time::Moment;
 use std::alloc::{AllocError, Global};
 
@@ -56,18 +55,6 @@ fn schedule_sections(
         sections.push(schedule_section(alloc, of, events, last_table, piece)?)?;
     }
     Ok(sections)
-}
-
-// How often a cycle repeats a table of a schedule.
-fn tier_of(table: u8) -> Tier3
-    requires { (80 ≤ table) × (table ≤ 111) }
-    ensures { result ≡ tier_of table }
-{
-    if table <= LAST_NEAR {
-        Tier3::Near
-    } else {
-        Tier3::Far
-    }
 }
 
 // A table of the schedule.

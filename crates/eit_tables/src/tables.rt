@@ -63,7 +63,10 @@ pub fn put_service(
 }
 
 /// Appends the tables of event information of a service of another stream (EN 300 468, 5.2.4): present and following at a moment to
-/// `near`, and the schedule of the 64 days from the midnight before that moment on to `far`. It is as `put_service` beside.
+/// `near`, and the schedule tables of the 64 days from the midnight before that moment on to `far`.
+///
+/// The service is within its limits. It fails only for want of memory, and then the two may have a part of the tables. Each event's
+/// entry has at most 1,338 bytes (`small`). The work is linear in the events and in the bytes of the sections.
 pub fn put_remote(
     alloc: Global,
     of: Stream,

@@ -4,7 +4,7 @@ use Rattle.eit_tables.specs.Schedule.{schedule_of}
 use Rattle.eit_tables.specs.Streams.{bearer_of}
 use Rattle.eit_tables.proofs.schedule.put_schedule.Given as goal
 
--- the tables so far stand behind what was there
+-- the tables so far stand after what was there
 abbrev pub invariant-loop-table : goal.invariant-loop-table
 invariant-loop-table l = record {
   tables : l.list ≡ l.initial.list ++ map (schedule_of (bearer_of l.of) l.day.0 l.service) (range_with_len l.from (l.table - l.from));
