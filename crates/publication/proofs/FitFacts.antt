@@ -13,7 +13,7 @@ use Rattle.mux_model.specs.declared.mux.Mux.{Mux}
 use Rattle.mux_model.specs.Sound.{IsSoundService, DoAscend}
 use Rattle.guide_limits.specs.Events.{midnight, block_of}
 use Rattle.guide_limits.specs.Sound.{AreAscending}
-use Rattle.guide_limits.specs.Limits.{IsServiceWithin, IsGuideWithin}
+use Rattle.guide_limits.specs.Limits.{IsServiceWithin, AreWithin, IsGuideWithin}
 use Rattle.longest_runs.specs.Runs.{longest_runs}
 use Rattle.longest_runs.proofs.RunFacts.{runs_some, runs_fit}
 use Rattle.section_codec.specs.declared.table.Key.{Key}
@@ -23,24 +23,27 @@ use Rattle.section_codec.specs.declared.table.Tier3.TheVariants.{Fast, Near, Far
 use Rattle.section_codec.specs.Tables.{is_eit, tier_of, tier_rank}
 use Rattle.section_codec.specs.Section.{longest_body}
 use Rattle.section_codec.specs.SubTables.{Lacks, KeysDiffer, IsFit, AreTiered}
-use Rattle.eit_segments.specs.Schedule.{last_used}
+use Rattle.eit_segments.specs.Schedule.{CanBePlaced, last_used}
+use Rattle.eit_segments.proofs.Few.{events_can_be_placed}
 use Rattle.eit_segments.proofs.Order.{used_less}
 use Rattle.eit_segments.specs.Laws.{at_of}
 use Rattle.eit_tables.specs.Eit.{own, eit_key}
 use Rattle.eit_tables.specs.Present.{present_table}
 use Rattle.eit_tables.specs.Schedule.{last_table_of, schedule_table, near_tables, far_tables}
 use Rattle.eit_tables.specs.Laws.{AreSmallEntries, AreEit}
-use Rattle.eit_tables.proofs.EitFacts.{present_fit, schedule_fit}
+use Rattle.eit_tables.proofs.EitFacts.{present_fit, placed_fit}
 use Rattle.nit_sdt.specs.declared.sdt.SdtService.{SdtService}
 use Rattle.publication.specs.Sections.{single_table}
 use Rattle.publication.specs.Programs.{pat_of, pat_key, pat_table, pmt_of, pmt_key, pmt_table, pmt_tables}
 use Rattle.publication.specs.Network.{nit_of, nit_key, nit_table}
+use Rattle.publication.specs.Parts.{own_guide}
 use Rattle.publication.specs.Sdt.{sdt_services, service_size, section_body, numbered}
 use Rattle.publication.specs.Tables.{sdt_key, sdt_table, present_tables, all_near_tables, all_far_tables, tables_of}
 use Rattle.publication.specs.Laws.{PublicationsAreFit}
 use Rattle.pat_pmt.specs.Pat.{pat_body}
 use Rattle.pat_pmt.specs.Pmt.{pmt_body}
 use Rattle.nit_sdt.specs.Nit.{nit_body}
+use Rattle.publication.proofs.PartFacts.{of_any, own_ascend}
 use Rattle.publication.proofs.ProgramFacts.{pat_short, pmt_short, nit_short}
 use Rattle.publication.proofs.SdtFacts.{length-body, length-numbered, ascend-numbered, services_fit}
 
@@ -92,13 +95,13 @@ pub any_pmt : (P : SubTable → Type 0) (mux : Mux) → ((s : MuxService) → P 
 any_pmt P mux each = each_pmt P (λ s. Unit {0}) (λ s q. each s) mux.services (each_unit mux.services)
 
 -- what holds of each sub-table of a publication
-pub each_sub_table : (P : SubTable → Type 0) (Q : ServiceGuide → Type 0) (mux : Mux) (guide : Guide) → AllByRecursion Q guide.services
+pub each_sub_table : (P : SubTable → Type 0) (Q : ServiceGuide → Type 0) (mux : Mux) (guide : Guide) → AllByRecursion Q (own_guide mux guide)
     → P (pat_table mux) → AllByRecursion P (pmt_tables mux) → P (nit_table mux) → P (sdt_table mux guide)
     → ((s : ServiceGuide) → Q s → P (present_table mux guide.moment.0 s))
     → ((s : ServiceGuide) (table : ℕ) → Q s → 0x50 ≤ table → table < 0x60 → P (schedule_table mux (midnight guide.moment.0) s table))
     → AllByRecursion P (tables_of mux guide)
 each_sub_table P Q mux guide all pat pmts nit sdt present schedule =
-    let ss = guide.services in
+    let ss = own_guide mux guide in
     let day = midnight guide.moment.0 in
     let events = present_tables mux guide ++ (all_near_tables mux guide ++ all_far_tables mux guide) in
     let of_events : AllByRecursion P events =
@@ -247,7 +250,7 @@ short original n (r ∷ runs) h = (omega (arith, length-body original r, h.0), s
 
 sdt_table-fit : (mux : Mux) (guide : Guide) → IsGuideWithin guide → IsFit (sdt_table mux guide)
 sdt_table-fit mux guide within =
-    let services = sdt_services mux.services guide.services in
+    let services = sdt_services mux guide in
     let runs = longest_runs service_size 1009 services in
     let bodies = map (section_body mux.original) runs in
     record {
@@ -257,7 +260,7 @@ sdt_table-fit mux guide within =
       some = omega (arith, length-numbered 0 bodies, length-map runs (section_body mux.original), runs_some service_size 1009 services);
       ascending = ascend-numbered 0 bodies;
       bodies = All-from_recursion (λ (s : NumberedBody). length s.body ≤ longest_body 0x42) (numbered 0 bodies)
-          (short mux.original 0 runs (runs_fit service_size 1009 services (services_fit mux.services guide.services within.services)));
+          (short mux.original 0 runs (runs_fit service_size 1009 services (services_fit mux guide within)));
     }
 
 eit_fit : (t : SubTable) → t.key.pid ≡ 0x0012 → 0x4E ≤ t.key.table → t.key.table < 0x60 → AreEit t.sections → IsFit t
@@ -282,17 +285,23 @@ joined_front : (mux : Mux) (guide : Guide) (ps later : List SubTable)
 joined_front mux guide ps later =
     ap (λ (l : List SubTable). pat_table mux ∷ l) (append_assoc (pmt_tables mux) (nit_table mux ∷ sdt_table mux guide ∷ ps) later)
 
--- a service within its limits, with small entries
+-- a service with small entries, whose events can be placed
 abbrev IsSmall : ServiceGuide → Type 0
-IsSmall s = IsServiceWithin s × AreSmallEntries s.events
+IsSmall s = AreSmallEntries s.events × CanBePlaced (map at_of s.events)
+
+none_within : AreWithin []
+none_within = record { apart = tt; few = omega arith; each = tt; blocks = λ block. omega arith }
 
 pub publication_fit : PublicationsAreFit
 publication_fit mux guide sound within small =
-    let ss = guide.services in
+    let ss = own_guide mux guide in
+    let ascend : AreAscending (map (λ (s : ServiceGuide). s.service) ss) = own_ascend mux guide sound.ascend in
     let moment = guide.moment.0 in
     let day = midnight moment in
     let any = each_unit ss in
-    let services = all_two IsServiceWithin (λ (s : ServiceGuide). AreSmallEntries s.events) IsSmall (λ s w t. (w, t)) ss within.services small in
+    let services : AllByRecursion IsSmall ss =
+    of_any IsSmall (λ id. (tt, events_can_be_placed [] none_within tt)) mux guide
+    (all_two IsServiceWithin (λ (s : ServiceGuide). AreSmallEntries s.events) IsSmall (λ s w t. (t, events_can_be_placed s.events w.events t)) guide.services within.services small) in
     let ps = present_tables mux guide in
     let ns = all_near_tables mux guide in
     let fs = all_far_tables mux guide in
@@ -304,13 +313,13 @@ publication_fit mux guide sound within small =
     let of_far = λ (P : SubTable → Type 0) (each : (s : ServiceGuide) (table : ℕ) → 0x52 ≤ table → table < 0x60 → P (schedule_table mux day s table)).
     of_services P (far_tables mux day) (λ s. each_far P mux day s (each s)) in
     let differ_ps : KeysDiffer ps =
-    subst KeysDiffer (presents mux moment ss) (differ_services (present_of mux moment) (λ s. (refl, tt)) (λ s. (tt, tt)) ss within.ascend) in
+    subst KeysDiffer (presents mux moment ss) (differ_services (present_of mux moment) (λ s. (refl, tt)) (λ s. (tt, tt)) ss ascend) in
     let differ_ns : KeysDiffer ns =
     differ_services (near_tables mux day) (λ s. each_near (IsOf s) mux day s (λ table above below. refl))
-    (λ s. differ_range mux day s 0x50 (1 + min 0x51 (last_table_of day s.events) - 0x50)) ss within.ascend in
+    (λ s. differ_range mux day s 0x50 (1 + min 0x51 (last_table_of day s.events) - 0x50)) ss ascend in
     let differ_fs : KeysDiffer fs =
     differ_services (far_tables mux day) (λ s. each_far (IsOf s) mux day s (λ table above below. refl))
-    (λ s. differ_range mux day s 0x52 (1 + last_table_of day s.events - 0x52)) ss within.ascend in
+    (λ s. differ_range mux day s 0x52 (1 + last_table_of day s.events - 0x52)) ss ascend in
     let schedules : KeysDiffer (ns ++ fs) =
     differ_tables 0x52 ns fs differ_ns differ_fs
     (of_near (λ (t : SubTable). t.key.table < 0x52) (λ s table above below. below))
@@ -347,8 +356,8 @@ publication_fit mux guide sound within small =
           (pmts_fit mux.services sound.services)
           (single_fit (nit_key mux) (nit_body (nit_of mux)) (lit< tt) (omega arith) (nit_short mux sound))
           (sdt_table-fit mux guide within)
-          (λ s q. eit_fit (present_table mux moment s) refl (omega arith) (omega arith) (present_fit (own mux) moment s q.1))
-          (λ s table q above below. eit_fit (schedule_table mux day s table) refl (omega (arith, above)) below (schedule_fit (own mux) day s table q.0 q.1)));
+          (λ s q. eit_fit (present_table mux moment s) refl (omega arith) (omega arith) (present_fit (own mux) moment s q.0))
+          (λ s table q above below. eit_fit (schedule_table mux day s table) refl (omega (arith, above)) below (placed_fit (own mux) day s table q.1)));
       tiers = All-from_recursion (λ (t : SubTable). t.tier ≡ tier_of t.key.table) (tables_of mux guide)
           (each_sub_table (λ (t : SubTable). t.tier ≡ tier_of t.key.table) (λ (s : ServiceGuide). Unit {0}) mux guide any
           refl (any_pmt (λ (t : SubTable). t.tier ≡ tier_of t.key.table) mux (λ s. refl)) refl refl

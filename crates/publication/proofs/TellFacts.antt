@@ -1,6 +1,6 @@
 -- Receivers take the sub-tables of a publication as they are meant.
-use Rattle.std.proofs.Common.{◌≡◌, ℕ, ◌<◌, ◌≤◌, Bool, true, false, ◌||◌, List, [], ◌∷◌, length, map, Option, Some, None, refl, sym, ap, ap₂, ◌∙◌, arith, le-leb}
-use Rattle.std.specs.Prelude.{◌&&◌, nat_le, if◌then◌else◌, option_and_then}
+use Rattle.std.proofs.Common.{◌≡◌, ℕ, ◌<◌, ◌≤◌, Bool, true, false, List, [], ◌∷◌, length, Option, Some, None, refl, sym, ap, ap₂, ◌∙◌, arith, le-leb}
+use Rattle.std.specs.Prelude.{if◌then◌else◌, option_and_then}
 use Rattle.std.specs.List.{AllByRecursion}
 use Rattle.std.proofs.lemmas.Bool.{false≢true}
 use Rattle.std.proofs.lemmas.Bool.Decides.{nat_tests}
@@ -47,9 +47,11 @@ use Rattle.nit_sdt.proofs.Bodies.{written_nits}
 use Rattle.publication.specs.Sections.{single_table}
 use Rattle.publication.specs.Programs.{pat_of, pat_key, pat_table, pmt_of, pmt_key, pmt_table}
 use Rattle.publication.specs.Network.{nit_of, nit_key, nit_table}
+use Rattle.publication.specs.Parts.{own_guide}
 use Rattle.publication.specs.Sdt.{sdt_sections}
 use Rattle.publication.specs.Tables.{sdt_key, sdt_table}
 use Rattle.publication.specs.Laws.{IsReadEit, IsSdtBody, AreSdt, TellsKey, TellsItself, PublicationsTellThemselves}
+use Rattle.publication.proofs.PartFacts.{of_own, by_ids}
 use Rattle.publication.proofs.SdtFacts.{sdt_fit}
 use Rattle.publication.proofs.ProgramFacts.{pmt_fits, nit_fits}
 use Rattle.publication.proofs.FitFacts.{each_pmt, each_sub_table}
@@ -181,14 +183,8 @@ eit_tells mux table service tier sections events eit few id are names read =
 
 -- ---- the sub-tables of a publication
 
-ids_fit : (gs : List ServiceGuide) (ss : List MuxService) → map (λ (g : ServiceGuide). g.service) gs ≡ map (λ (s : MuxService). s.service) ss → AllByRecursion IsSoundService ss
-    → AllByRecursion (λ (g : ServiceGuide). g.service < 65536) gs
-ids_fit [] ss same sound = tt
-ids_fit (g ∷ gs) [] same sound = absurd (let z : Prim.⊥ = cc in z)
-ids_fit (g ∷ gs) (s ∷ ss) same sound =
-    let here : g.service ≡ s.service = cc in
-    let rest : map (λ (g : ServiceGuide). g.service) gs ≡ map (λ (s : MuxService). s.service) ss = cc in
-    (omega (arith, here, (sound.0).service.1), ids_fit gs ss rest sound.1)
+id_fits : (s : MuxService) → IsSoundService s → s.service < 65536
+id_fits s sound = omega (arith, sound.service.1)
 
 -- what is asked of a service
 record IsTold (s : ServiceGuide) : Type 0 where
@@ -207,8 +203,11 @@ pub publication_tells : PublicationsTellThemselves
 publication_tells mux guide sound services within typed =
     let moment = guide.moment.0 in
     let day = midnight moment in
-    let ids = ids_fit guide.services mux.services services sound.sound.services in
-    let told = services_told guide.services within.services (typed_small guide within typed) typed ids in
+    let told =
+    services_told (own_guide mux guide) (of_own IsServiceWithin mux guide services within.services)
+    (of_own (λ (s : ServiceGuide). AreSmallEntries s.events) mux guide services (typed_small guide within typed))
+    (of_own (λ (s : ServiceGuide). AllByRecursion IsTyped s.events) mux guide services typed)
+    (by_ids (λ (n : ℕ). n < 65536) IsSoundService id_fits mux guide sound.sound.services) in
     each_sub_table TellsItself IsTold mux guide told
     (pat_tells mux sound.stream)
     (each_pmt TellsItself IsSoundService pmt_tells mux.services sound.sound.services)

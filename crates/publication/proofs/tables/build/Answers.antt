@@ -1,65 +1,101 @@
-use Rattle.std.proofs.Common.{◌≡◌, ◌<◌, List, [], ◌∷◌, ◌++◌, length, map, sym, ap, ◌∙◌, subst, arith, append-nil}
-use Rattle.std.specs.Prelude.{take, flat_map}
+use Rattle.std.proofs.Common.{◌≡◌, ◌≤◌, ◌<◌, List, [], ◌∷◌, ◌++◌, Bor, get_or, length, sym, ap, ◌∙◌, subst, arith, append-nil}
+use Rattle.std.specs.Prelude.{take, Option, Some, IfSome, unwrap_or, slice_get}
+use Rattle.std.specs.Option.{option_copied}
 use Rattle.std.specs.List.{AllByRecursion}
-use Rattle.std.proofs.lemmas.List.{take_all}
+use Rattle.std.proofs.lemmas.List.{take_all, length-map}
 use Rattle.si_time.specs.declared.moment.Moment.{Moment}
 use Rattle.guide_model.specs.declared.guide.ServiceGuide.{ServiceGuide}
+use Rattle.mux_model.specs.declared.mux.MuxService.{MuxService}
 use Rattle.guide_limits.specs.Events.{midnight}
-use Rattle.section_codec.specs.declared.table.SubTable.{SubTable}
+use Rattle.guide_limits.specs.Limits.{IsServiceWithin}
 use Rattle.section_codec.specs.SubTables.{AreFit}
 use Rattle.eit_tables.specs.Present.{present_table}
 use Rattle.eit_tables.specs.Schedule.{near_tables, far_tables}
-use Rattle.eit_tables.specs.Laws.{AreSmallEntries}
+use Rattle.eit_tables.specs.Laws.{AreSmallEntries, HasSmallEntries}
 use Rattle.eit_tables.proofs.ListFacts.{flat_next, all_next}
-use Rattle.publication.specs.Tables.{mux_tables, present_tables, all_near_tables, tables_of}
+use Rattle.publication.specs.Parts.{no_part, part_of, own_guide}
+use Rattle.publication.specs.Tables.{mux_tables, tables_of}
 use Rattle.publication.proofs.ListFacts.{map_behind}
-use Rattle.publication.proofs.TableFacts.{built_fit, tables_in_order}
+use Rattle.publication.proofs.PartFacts.{if_copied, if_found, never_missing, own_at, own_whole}
+use Rattle.publication.proofs.TableFacts.{joined_are, built_are, built_so, built_fit}
 use Rattle.publication.proofs.FitFacts.{publication_fit}
 use Rattle.publication.proofs.tables.build.Goals as goal
 
-pub services-init : goal.services-init
-services-init c = record {
+pub loop-service-init : goal.loop-service-init
+loop-service-init c = record {
   list = c.in_ok-list.ensures ∙ sym (append-nil (mux_tables c.args.mux.now c.args.guide.now.guide));
   near = c.new-near.ensures;
   far = c.new-far.ensures;
   small = tt;
 }
 
-pub services-preserved : goal.services-preserved
-services-preserved c =
+pub unreachable-requires : goal.unreachable-requires
+unreachable-requires c =
+    let n = c.loop-service.service-index in
+    let s = c.service-item.result in
+    never_missing c.args.mux.now c.args.guide.now.guide c.requires.services n s (omega (arith, c.loop-service-test.true, ap length c.as_slice-service-items.ensures))
+    (c.service-item.is ∙ ap (λ (ss : List MuxService). get_or ss n s) c.as_slice-service-items.ensures) (sym c.part_in.ensures ∙ ap option_copied c.in_default.is)
+
+pub put_service-requires : goal.put_service-requires
+put_service-requires c =
+    let id = c.service-item.result.service in
+    subst (λ (o : Option (Bor ServiceGuide)). IfSome o (λ (part : Bor ServiceGuide). IsServiceWithin part.now)) c.in-Some.is
+    (if_copied IsServiceWithin c.part_in.result _ c.part_in.ensures (if_found IsServiceWithin id c.args.guide.now.guide.services c.requires.within.services))
+
+pub loop-service-preserved : goal.loop-service-preserved
+loop-service-preserved c =
     let mux = c.args.mux.now in
     let guide = c.args.guide.now.guide in
-    let ss = guide.services in
-    let i = c.services.i in
-    let s = c.at-service.result.now in
-    let lt : i < length ss = omega arith in
+    let ss = own_guide mux guide in
+    let i = c.loop-service.service-index in
+    let s = c.in-Some.part.now in
+    let lt : i < length ss = omega (arith, length-map mux.services (λ (t : MuxService). part_of guide t.service), c.loop-service-test.true, ap length c.as_slice-service-items.ensures) in
+    let own = c.service-item.result in
+    let is : part_of guide own.service ≡ s =
+    ap (λ (o : Option ServiceGuide). unwrap_or o (no_part own.service)) (sym c.part_in.ensures ∙ ap option_copied c.in-Some.is) in
+    let at : slice_get ss i ≡ Some s = own_at mux guide i own s (omega (arith, c.loop-service-test.true, ap length c.as_slice-service-items.ensures))
+    (c.service-item.is ∙ ap (λ (os : List MuxService). get_or os i own) c.as_slice-service-items.ensures) is in
     let now = c.moment.ensures in
     let put = c.in_ok-put_service.ensures in
     record {
-      list = map_behind (present_table mux guide.moment.0) ss i s lt c.at-service.ensures (mux_tables mux guide)
-          c.services.list c.put_service.new.list c.services.invariant.list
-          (put.present ∙ ap (λ (m : Moment). c.services.list ++ present_table mux m.0 s ∷ []) now);
-      near = flat_next ss i s lt c.at-service.ensures (near_tables mux (midnight guide.moment.0)) c.services.near c.put_service.new.near c.services.invariant.near
-          (put.near ∙ ap (λ (m : Moment). c.services.near ++ near_tables mux (midnight m.0) s) now);
-      far = flat_next ss i s lt c.at-service.ensures (far_tables mux (midnight guide.moment.0)) c.services.far c.put_service.new.far c.services.invariant.far
-          (put.far ∙ ap (λ (m : Moment). c.services.far ++ far_tables mux (midnight m.0) s) now);
-      small = all_next ss i s lt c.at-service.ensures (λ (t : ServiceGuide). AreSmallEntries t.events) c.services.invariant.small put.small;
+      list = map_behind (present_table mux guide.moment.0) ss i s lt at (mux_tables mux guide)
+          c.loop-service.list c.put_service.new.list c.loop-service.invariant.list
+          (put.present ∙ ap (λ (m : Moment). c.loop-service.list ++ present_table mux m.0 s ∷ []) now);
+      near = flat_next ss i s lt at (near_tables mux (midnight guide.moment.0)) c.loop-service.near c.put_service.new.near c.loop-service.invariant.near
+          (put.near ∙ ap (λ (m : Moment). c.loop-service.near ++ near_tables mux (midnight m.0) s) now);
+      far = flat_next ss i s lt at (far_tables mux (midnight guide.moment.0)) c.loop-service.far c.put_service.new.far c.loop-service.invariant.far
+          (put.far ∙ ap (λ (m : Moment). c.loop-service.far ++ far_tables mux (midnight m.0) s) now);
+      small = all_next ss i s lt at (λ (t : ServiceGuide). AreSmallEntries t.events) c.loop-service.invariant.small put.small;
     }
+
+pub returns-clause-tables : goal.returns-clause-tables
+returns-clause-tables c =
+    let mux = c.args.mux.now in
+    let guide = c.args.guide.now.guide in
+    let done = c.loop-service.invariant in
+    built_are c.joined.result _ (tables_of mux guide) c.joined.ensures
+    (joined_are mux guide c.loop-service.service-index c.loop-service.list c.loop-service.near c.loop-service.far
+    (omega (arith, length-map mux.services (λ (t : MuxService). part_of guide t.service), c.loop-service-test.false, ap length c.as_slice-service-items.ensures)) done.list done.near done.far)
+
+pub returns-clause-small : goal.returns-clause-small
+returns-clause-small c =
+    let mux = c.args.mux.now in
+    let guide = c.args.guide.now.guide in
+    let n = c.loop-service.service-index in
+    let own = own_guide mux guide in
+    let all : take n own ≡ own = take_all n own (omega (arith, length-map mux.services (λ (t : MuxService). part_of guide t.service), c.loop-service-test.false, ap length c.as_slice-service-items.ensures)) in
+    built_so c.joined.result _
+    (subst (AllByRecursion (λ (s : ServiceGuide). AreSmallEntries s.events)) (all ∙ own_whole mux guide c.requires.sound.ascend c.requires.services) c.loop-service.invariant.small)
 
 pub returns-clause-fit : goal.returns-clause-fit
 returns-clause-fit c =
     let mux = c.args.mux.now in
     let guide = c.args.guide.now.guide in
-    let day = midnight guide.moment.0 in
-    let done = c.services.invariant in
-    let all : take c.services.i guide.services ≡ guide.services = take_all c.services.i guide.services (omega arith) in
-    let front = mux_tables mux guide ++ present_tables mux guide in
-    let are : c.services.list ++ (c.services.near ++ c.services.far) ≡ tables_of mux guide =
-    ap (λ (l : List SubTable). l ++ (c.services.near ++ c.services.far))
-    (done.list ∙ ap (λ (ss : List ServiceGuide). mux_tables mux guide ++ map (present_table mux guide.moment.0) ss) all)
-    ∙ ap (λ (l : List SubTable). front ++ (l ++ c.services.far)) (done.near ∙ ap (flat_map (near_tables mux day)) all)
-    ∙ ap (λ (l : List SubTable). front ++ (all_near_tables mux guide ++ l)) (done.far ∙ ap (flat_map (far_tables mux day)) all)
-    ∙ tables_in_order mux guide in
-    built_fit c.joined.result (c.services.list ++ (c.services.near ++ c.services.far)) c.joined.ensures
-    (subst AreFit (sym are) (publication_fit mux guide c.requires.sound c.requires.within
-    (subst (AllByRecursion (λ (s : ServiceGuide). AreSmallEntries s.events)) all done.small)))
+    let n = c.loop-service.service-index in
+    let own = own_guide mux guide in
+    let done = c.loop-service.invariant in
+    let last : length own ≤ n = omega (arith, length-map mux.services (λ (t : MuxService). part_of guide t.service), c.loop-service-test.false, ap length c.as_slice-service-items.ensures) in
+    let are = joined_are mux guide n c.loop-service.list c.loop-service.near c.loop-service.far last done.list done.near done.far in
+    let small : HasSmallEntries guide =
+    subst (AllByRecursion (λ (s : ServiceGuide). AreSmallEntries s.events)) (take_all n own last ∙ own_whole mux guide c.requires.sound.ascend c.requires.services) done.small in
+    built_fit c.joined.result _ c.joined.ensures (subst AreFit (sym are) (publication_fit mux guide c.requires.sound c.requires.within small))

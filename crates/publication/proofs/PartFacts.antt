@@ -1,0 +1,207 @@
+-- The parts of a guide that its services have.
+use Rattle.std.proofs.Common.{◌≡◌, ℕ, ◌<◌, ◌==◌, ◌||◌, Bool, true, false, List, [], ◌∷◌, Bor, map, get_or, refl, sym, ap, ap₂, ◌∙◌, subst, eq-eqb, eqb-true, arith}
+use Rattle.std.specs.Prelude.{cond, ◌+◌, length, drop, Option, Some, None, is_some, unwrap_or, option_map, IfSome, slice_get}
+use Rattle.std.specs.List.{AllByRecursion, list_any}
+use Rattle.std.specs.Option.{option_copied}
+use Rattle.std.proofs.Math.Bool.{or-true}
+use Rattle.std.proofs.lemmas.Bool.Decides.{nat_tests}
+use Rattle.std.proofs.lemmas.List.{drop_more}
+use Rattle.std.proofs.lemmas.Bool.{false≢true, ne_eqb}
+use Rattle.std.proofs.lemmas.List.Elements.{All-from_recursion}
+use Rattle.std.proofs.lemmas.Option.{get_or_from_slice_get, slice_get-map, slice_get_read}
+use Rattle.si_lists.proofs.Lists.{all_map, all_through, all_to_map, each_unit}
+use Rattle.guide_model.specs.declared.guide.Guide.{Guide}
+use Rattle.guide_model.specs.declared.guide.ServiceGuide.{ServiceGuide}
+use Rattle.mux_model.specs.declared.mux.MuxService.{MuxService}
+use Rattle.mux_model.specs.declared.mux.Mux.{Mux}
+use Rattle.mux_model.specs.Sound.{DoAscend}
+use Rattle.mux_model.specs.Fed.{FedService, fed_of, fed_ids}
+use Rattle.mux_model.proofs.FedFacts.{any_fed}
+use Rattle.guide_limits.specs.Sound.{AreAscending}
+use Rattle.publication.specs.Parts.{part_in, no_part, part_of, own_guide}
+use Rattle.publication.specs.Tables.{HasServicesOf}
+
+abbrev ids : List ServiceGuide → List ℕ
+ids parts = map (λ (part : ServiceGuide). part.service) parts
+
+abbrev found : ℕ → List ServiceGuide → ServiceGuide
+found id parts = unwrap_or (part_in id parts) (no_part id)
+
+-- ---- the part with an id
+
+id_found : (id : ℕ) (parts : List ServiceGuide) → (found id parts).service ≡ id
+id_found id [] = refl
+id_found id (p ∷ ps) = by (p.service == id) refl (id_found id ps)
+  where
+    by : (b : Bool) → (p.service == id) ≡ b → (found id ps).service ≡ id → (unwrap_or (cond b (Some p) (part_in id ps)) (no_part id)).service ≡ id
+    by true e rest = eqb-true p.service id e
+    by false e rest = rest
+
+pub part_id : (guide : Guide) (id : ℕ) → (part_of guide id).service ≡ id
+part_id guide id = id_found id guide.services
+
+-- what holds of each part holds of the one that is found
+holds_of_found : (P : ServiceGuide → Type 0) (id : ℕ) (parts : List ServiceGuide) → AllByRecursion P parts → is_some (part_in id parts) ≡ true → P (found id parts)
+holds_of_found P id [] all there = cc
+holds_of_found P id (p ∷ ps) all there = by (p.service == id) there (holds_of_found P id ps all.1)
+  where
+    by : (b : Bool) → is_some (cond b (Some p) (part_in id ps)) ≡ true → (is_some (part_in id ps) ≡ true → P (found id ps)) → P (unwrap_or (cond b (Some p) (part_in id ps)) (no_part id))
+    by true h rest = all.0
+    by false h rest = rest h
+
+-- or of the empty one
+holds_of_any : (P : ServiceGuide → Type 0) (id : ℕ) → P (no_part id) → (parts : List ServiceGuide) → AllByRecursion P parts → P (found id parts)
+holds_of_any P id none [] all = none
+holds_of_any P id none (p ∷ ps) all = by (p.service == id) (holds_of_any P id none ps all.1)
+  where
+    by : (b : Bool) → P (found id ps) → P (unwrap_or (cond b (Some p) (part_in id ps)) (no_part id))
+    by true rest = all.0
+    by false rest = rest
+
+-- ---- the search
+
+-- the first part of those from a place on
+abbrev first_or : ℕ → ServiceGuide → List ServiceGuide → Option ServiceGuide
+first_or id part parts = cond (part.service == id) (Some part) (part_in id parts)
+
+-- it is the part with this place, or none up to there
+module _ (id : ℕ) (parts : List ServiceGuide) (i : ℕ) (part : ServiceGuide) (lt : i < length parts) (at : slice_get parts i ≡ Some part)
+    (so_far : part_in id parts ≡ part_in id (drop i parts)) where
+  first : part_in id parts ≡ first_or id part (drop (i + 1) parts)
+  first =
+      so_far ∙ ap (part_in id) (drop_more parts i part lt)
+      ∙ ap (λ (p : ServiceGuide). first_or id p (drop (i + 1) parts)) (get_or_from_slice_get parts i part part at)
+
+  pub part_here : part.service ≡ id → Some part ≡ part_in id parts
+  part_here is = sym (first ∙ ap (λ (b : Bool). cond b (Some part) (part_in id (drop (i + 1) parts))) (eq-eqb part.service id is))
+
+  pub part_later : (part.service ≡ id → ⊥) → part_in id parts ≡ part_in id (drop (i + 1) parts)
+  part_later other = first ∙ ap (λ (b : Bool). cond b (Some part) (part_in id (drop (i + 1) parts))) (ne_eqb part.service id other)
+
+-- what holds of each part holds of the one that is found
+pub if_found : (P : ServiceGuide → Type 0) (id : ℕ) (parts : List ServiceGuide) → AllByRecursion P parts → IfSome (part_in id parts) P
+if_found P id [] all = tt
+if_found P id (p ∷ ps) all = by (p.service == id) (if_found P id ps all.1)
+  where
+    by : (b : Bool) → IfSome (part_in id ps) P → IfSome (cond b (Some p) (part_in id ps)) P
+    by true rest = all.0
+    by false rest = rest
+
+-- the same of a part that is lent
+pub if_copied : (P : ServiceGuide → Type 0) (lent : Option (Bor ServiceGuide)) (part : Option ServiceGuide) → option_copied lent ≡ part → IfSome part P
+    → IfSome lent (λ (p : Bor ServiceGuide). P p.now)
+if_copied P None part same h = tt
+if_copied P (Some p) part same h = subst (λ (o : Option ServiceGuide). IfSome o P) (sym same) h
+
+-- a part is found where its id stands among theirs
+found_among : (id : ℕ) (parts : List ServiceGuide) → is_some (part_in id parts) ≡ list_any (λ n. n == id) (ids parts)
+found_among id [] = refl
+found_among id (p ∷ ps) = by (p.service == id) (found_among id ps)
+  where
+    by : (b : Bool) → is_some (part_in id ps) ≡ list_any (λ n. n == id) (ids ps) → is_some (cond b (Some p) (part_in id ps)) ≡ (b || list_any (λ n. n == id) (ids ps))
+    by true rest = refl
+    by false rest = rest
+
+-- ---- the parts of the own services
+
+-- each own service stands among all that feeds edit
+abbrev IsFed : Mux → MuxService → Type 0
+IsFed mux s = list_any (λ n. n == s.service) (fed_ids mux) ≡ true
+
+among_themselves : (ss : List MuxService) → AllByRecursion (λ (s : MuxService). list_any (λ (t : MuxService). t.service == s.service) ss ≡ true) ss
+among_themselves [] = tt
+among_themselves (s ∷ ss) = (
+  ap (λ (b : Bool). b || list_any (λ (t : MuxService). t.service == s.service) ss) (eq-eqb s.service s.service refl),
+  all_map (λ (u : MuxService). list_any (λ (t : MuxService). t.service == u.service) ss ≡ true) (λ (u : MuxService). list_any (λ (t : MuxService). t.service == u.service) (s ∷ ss) ≡ true)
+      (λ u e. ap (λ (b : Bool). (s.service == u.service) || b) e ∙ or-true (s.service == u.service)) ss (among_themselves ss),
+)
+
+own_fed : (mux : Mux) → AllByRecursion (IsFed mux) mux.services
+own_fed mux =
+    all_map (λ (s : MuxService). list_any (λ (t : MuxService). t.service == s.service) mux.services ≡ true) (IsFed mux) (λ s e. sym (any_fed s.service mux.services) ∙ e)
+    mux.services (among_themselves mux.services)
+
+abbrev HasPart : Guide → MuxService → Type 0
+HasPart guide s = is_some (part_in s.service guide.services) ≡ true
+
+have_parts : (mux : Mux) (guide : Guide) → HasServicesOf mux guide → AllByRecursion (HasPart guide) mux.services
+have_parts mux guide have =
+    all_map (IsFed mux) (HasPart guide) (λ s e. found_among s.service guide.services ∙ ap (list_any (λ n. n == s.service)) have ∙ e) mux.services (own_fed mux)
+
+-- so none is missing
+pub never_missing : (mux : Mux) (guide : Guide) → HasServicesOf mux guide → (i : ℕ) (s : MuxService) → i < length mux.services → s ≡ get_or mux.services i s
+    → part_in s.service guide.services ≡ None → ⊥
+never_missing mux guide have i s lt is none =
+    let there : HasPart guide s = subst (HasPart guide) (sym is) (All-from_recursion (HasPart guide) mux.services (have_parts mux guide have) i s lt) in
+    false≢true (sym (ap is_some none) ∙ there)
+
+-- the part of the service with this place
+pub own_at : (mux : Mux) (guide : Guide) (i : ℕ) (s : MuxService) (part : ServiceGuide) → i < length mux.services → s ≡ get_or mux.services i s → part_of guide s.service ≡ part
+    → slice_get (own_guide mux guide) i ≡ Some part
+own_at mux guide i s part lt is found =
+    let of = λ (t : MuxService). part_of guide t.service in
+    slice_get-map of mux.services i ∙ ap (option_map of) (slice_get_read mux.services (length mux.services) i s refl lt is) ∙ ap Some found
+
+-- what holds of each part of a guide holds of those of the own services
+pub of_parts : (P : ServiceGuide → Type 0) (mux : Mux) (guide : Guide) → HasServicesOf mux guide → AllByRecursion P guide.services
+    → AllByRecursion (λ (s : MuxService). P (part_of guide s.service)) mux.services
+of_parts P mux guide have all =
+    all_map (HasPart guide) (λ (s : MuxService). P (part_of guide s.service)) (λ s there. holds_of_found P s.service guide.services all there) mux.services (have_parts mux guide have)
+
+pub of_own : (P : ServiceGuide → Type 0) (mux : Mux) (guide : Guide) → HasServicesOf mux guide → AllByRecursion P guide.services → AllByRecursion P (own_guide mux guide)
+of_own P mux guide have all = all_to_map P (λ (s : MuxService). part_of guide s.service) mux.services (of_parts P mux guide have all)
+
+-- and, where it holds of an empty part, whatever services the guide has
+pub of_any : (P : ServiceGuide → Type 0) → ((id : ℕ) → P (no_part id)) → (mux : Mux) (guide : Guide) → AllByRecursion P guide.services → AllByRecursion P (own_guide mux guide)
+of_any P none mux guide all =
+    all_through (λ (s : MuxService). Unit {0}) P (λ (s : MuxService). part_of guide s.service) (λ s q. holds_of_any P s.service (none s.service) guide.services all) mux.services (each_unit mux.services)
+
+-- what holds of the own services by their ids holds of their parts
+pub by_ids : (P : ℕ → Type 0) (Q : MuxService → Type 0) → ((s : MuxService) → Q s → P s.service) → (mux : Mux) (guide : Guide) → AllByRecursion Q mux.services
+    → AllByRecursion (λ (part : ServiceGuide). P part.service) (own_guide mux guide)
+by_ids P Q each mux guide all =
+    all_through Q (λ (part : ServiceGuide). P part.service) (λ (s : MuxService). part_of guide s.service) (λ s q. subst P (sym (part_id guide s.service)) (each s q)) mux.services all
+
+-- their ids are those of the services
+pub own_ids : (guide : Guide) (ss : List MuxService) → ids (map (λ (s : MuxService). part_of guide s.service) ss) ≡ map (λ (s : MuxService). s.service) ss
+own_ids guide [] = refl
+own_ids guide (s ∷ ss) = ap₂ (λ (n : ℕ) (ns : List ℕ). n ∷ ns) (part_id guide s.service) (own_ids guide ss)
+
+pub own_ascend : (mux : Mux) (guide : Guide) → DoAscend mux.services → AreAscending (ids (own_guide mux guide))
+own_ascend mux guide up = subst AreAscending (sym (own_ids guide mux.services)) (ascends mux.services up)
+  where
+    ascends : (ss : List MuxService) → DoAscend ss → AreAscending (map (λ (s : MuxService). s.service) ss)
+    ascends [] up = tt
+    ascends (s ∷ ss) up = (all_to_map (λ (n : ℕ). s.service < n) (λ (t : MuxService). t.service) ss up.0, ascends ss up.1)
+
+-- ---- a guide that has only own services
+
+-- the parts of services with other ids than the first
+others_found : (p : ServiceGuide) (ps : List ServiceGuide) (ss : List MuxService) → AllByRecursion (λ (s : MuxService). p.service < s.service) ss
+    → map (λ (s : MuxService). found s.service (p ∷ ps)) ss ≡ map (λ (s : MuxService). found s.service ps) ss
+others_found p ps [] above = refl
+others_found p ps (s ∷ ss) above =
+    ap₂ (λ (x : ServiceGuide) (xs : List ServiceGuide). x ∷ xs)
+    (ap (λ (b : Bool). unwrap_or (cond b (Some p) (part_in s.service ps)) (no_part s.service)) (differ p.service s.service above.0)) (others_found p ps ss above.1)
+  where
+    differ : (a b : ℕ) → a < b → (a == b) ≡ false
+    differ a b lt = grind (arith, nat_tests)
+
+all_found : (ss : List MuxService) (parts : List ServiceGuide) → DoAscend ss → ids parts ≡ map (λ (s : MuxService). s.service) ss → map (λ (s : MuxService). found s.service parts) ss ≡ parts
+all_found [] [] up same = refl
+all_found [] (p ∷ ps) up same = cc
+all_found (s ∷ ss) [] up same = cc
+all_found (s ∷ ss) (p ∷ ps) up same =
+    let first : p.service ≡ s.service = cc in
+    let rest : ids ps ≡ map (λ (t : MuxService). t.service) ss = cc in
+    ap₂ (λ (x : ServiceGuide) (xs : List ServiceGuide). x ∷ xs)
+    (ap (λ (b : Bool). unwrap_or (cond b (Some p) (part_in s.service ps)) (no_part s.service)) (eq-eqb p.service s.service first))
+    (others_found p ps ss (subst (λ (n : ℕ). AllByRecursion (λ (t : MuxService). n < t.service) ss) (sym first) up.0) ∙ all_found ss ps up.1 rest)
+
+-- the own parts of a guide are all that it has, where feeds edit only own services
+pub own_whole : (mux : Mux) (guide : Guide) → DoAscend mux.services → HasServicesOf mux guide → own_guide mux guide ≡ guide.services
+own_whole mux guide up have = all_found mux.services guide.services up (have ∙ fed_own mux.services)
+  where
+    fed_own : (ss : List MuxService) → map (λ (f : FedService). f.service) (map fed_of ss) ≡ map (λ (s : MuxService). s.service) ss
+    fed_own [] = refl
+    fed_own (s ∷ ss) = ap (λ (ns : List ℕ). s.service ∷ ns) (fed_own ss)
