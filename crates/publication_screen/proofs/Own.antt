@@ -4,7 +4,7 @@ use Rattle.std.specs.Prelude.{flat_map, if◌then◌else◌, ◌==◌, nat_lt, u
 use Rattle.std.specs.List.{AllByRecursion}
 use Rattle.std.proofs.lemmas.Bool.Decides.{nat_tests}
 use Rattle.std.proofs.lemmas.List.Elements.{recursion_from_All}
-use Rattle.si_lists.proofs.Lists.{all_two, all_front, all_behind}
+use Rattle.si_lists.proofs.Lists.{all_to_map, all_two, all_front, all_behind}
 use Rattle.si_text.specs.Decoding.{IsKept}
 use Rattle.si_text.proofs.RoundTrip.{decoded-coded}
 use Rattle.guide_model.specs.declared.guide.Guide.{Guide}
@@ -12,7 +12,7 @@ use Rattle.guide_model.specs.declared.guide.ServiceGuide.{ServiceGuide}
 use Rattle.mux_model.specs.declared.mux.MuxService.{MuxService}
 use Rattle.mux_model.specs.declared.mux.Mux.{Mux}
 use Rattle.mux_model.specs.Sound.{IsSound, IsSoundService, DoAscend, IsSoundWithIds}
-use Rattle.guide_limits.specs.Limits.{IsServiceWithin}
+use Rattle.guide_limits.specs.Limits.{IsServiceWithin, IsGuideWithin}
 use Rattle.longest_runs.specs.Runs.{longest_runs}
 use Rattle.longest_runs.proofs.RunFacts.{are_longest}
 use Rattle.pat_pmt.specs.Pat.{pat_in, pat_body, FitsProgram}
@@ -28,7 +28,10 @@ use Rattle.guide_screen.specs.Screen.{pid_in}
 use Rattle.guide_screen.proofs.Saying.{bodies_say}
 use Rattle.publication.specs.Programs.{program_entry, pat_of, pmt_of}
 use Rattle.publication.specs.Network.{nit_of, kind_of, stream_of}
-use Rattle.publication.specs.Sdt.{sdt_service, sdt_services, service_size, section_body, numbered, sdt_sections}
+use Rattle.publication.specs.Parts.{part_of}
+use Rattle.publication.specs.Sdt.{own_service, sdt_services, service_size, section_body, numbered, sdt_sections}
+use Rattle.publication.specs.Tables.{HasServicesOf}
+use Rattle.publication.proofs.PartFacts.{of_parts}
 use Rattle.publication.proofs.ProgramFacts.{pmt_fits, name_fits, streams_fit, streams_short}
 use Rattle.publication.proofs.SdtFacts.{service_fits, services_fit}
 
@@ -87,17 +90,24 @@ nit_said back mux sound kept =
 abbrev AreKept : ServiceGuide → Type 0
 AreKept g = IsKept g.provider × IsKept g.name
 
-services_wide : (ss : List MuxService) (gs : List ServiceGuide) → AllByRecursion IsSoundService ss → AllByRecursion IsServiceWithin gs → AllByRecursion AreKept gs
-    → AllByRecursion HasServiceWidths (sdt_services ss gs)
-services_wide [] gs sound within kept = tt
-services_wide (s ∷ ss) [] sound within kept = tt
-services_wide (s ∷ ss) (g ∷ gs) sound within kept =
-    let one : HasServiceWidths (sdt_service s g) = record {
-      service = omega (arith, sound.0.service.1);
-      fits = service_fits s g within.0;
-      shown = record { provider = decoded-coded g.provider kept.0.0; name = decoded-coded g.name kept.0.1 };
-    } in
-    (one, services_wide ss gs sound.1 within.1 kept.1)
+abbrev IsWide : ServiceGuide → Type 0
+IsWide g = IsServiceWithin g × AreKept g
+
+services_wide : (mux : Mux) (guide : Guide) → HasServicesOf mux guide → AllByRecursion IsSoundService mux.services → AllByRecursion IsServiceWithin guide.services
+    → AllByRecursion AreKept guide.services → AllByRecursion HasServiceWidths (sdt_services mux guide)
+services_wide mux guide have sound within kept =
+    all_to_map HasServiceWidths (own_service guide) mux.services
+    (all_two IsSoundService (λ (s : MuxService). IsWide (part_of guide s.service)) (λ (s : MuxService). HasServiceWidths (own_service guide s)) one mux.services sound
+    (of_parts IsWide mux guide have (all_two IsServiceWithin AreKept IsWide (λ g w k. (w, k)) guide.services within kept)))
+  where
+    one : (s : MuxService) → IsSoundService s → IsWide (part_of guide s.service) → HasServiceWidths (own_service guide s)
+    one s sound wide =
+        let g = part_of guide s.service in
+        record {
+          service = omega (arith, sound.service.1);
+          fits = service_fits s g wide.0;
+          shown = record { provider = decoded-coded g.provider wide.1.0; name = decoded-coded g.name wide.1.1 };
+        }
 
 -- what holds of things in runs holds of each run
 in_runs : {X : Type 0} (P : X → Type 0) (runs : List (List X)) → AllByRecursion P (flat_map (λ (run : List X). run) runs) → AllByRecursion (AllByRecursion P) runs
@@ -115,14 +125,14 @@ sections_said back original lt n (run ∷ runs) all =
     ap₂ (λ (o : Option Sdt) (l : List SdtService). unwrap_or (option_map (λ (x : Sdt). x.services) o) [] ++ l) said
     (sections_said back original lt (1 + n) runs all.1)
 
-pub sdt_said : SdtReadsBack → (mux : Mux) (guide : Guide) → IsSoundWithIds mux → AllByRecursion IsServiceWithin guide.services → AllByRecursion AreKept guide.services
-    → services_in (sdt_sections mux guide) ≡ sdt_services mux.services guide.services
-sdt_said back mux guide sound within kept =
-    let things : List SdtService = sdt_services mux.services guide.services in
-    let longest = are_longest service_size 1009 things (services_fit mux.services guide.services within) in
+pub sdt_said : SdtReadsBack → (mux : Mux) (guide : Guide) → IsSoundWithIds mux → HasServicesOf mux guide → IsGuideWithin guide → AllByRecursion AreKept guide.services
+    → services_in (sdt_sections mux guide) ≡ sdt_services mux guide
+sdt_said back mux guide sound have within kept =
+    let things : List SdtService = sdt_services mux guide in
+    let longest = are_longest service_size 1009 things (services_fit mux guide within) in
     sections_said back mux.original sound.original 0 (longest_runs service_size 1009 things)
     (in_runs HasServiceWidths (longest_runs service_size 1009 things)
-    (subst (AllByRecursion HasServiceWidths) (sym longest.join) (services_wide mux.services guide.services sound.sound.services within kept)))
+    (subst (AllByRecursion HasServiceWidths) (sym longest.join) (services_wide mux guide have sound.sound.services within.services kept)))
     ∙ longest.join
 
 -- ---- their order
@@ -131,16 +141,9 @@ abbrev Rise : List SdtService → Type 0
 Rise [] = Unit {0}
 Rise (s ∷ ss) = AllByRecursion (λ (t : SdtService). s.service < t.service) ss × Rise ss
 
-above : (n : ℕ) (ss : List MuxService) (gs : List ServiceGuide) → AllByRecursion (λ (s : MuxService). n < s.service) ss
-    → AllByRecursion (λ (t : SdtService). n < t.service) (sdt_services ss gs)
-above n [] gs all = tt
-above n (s ∷ ss) [] all = tt
-above n (s ∷ ss) (g ∷ gs) all = (all.0, above n ss gs all.1)
-
-rises : (ss : List MuxService) (gs : List ServiceGuide) → DoAscend ss → Rise (sdt_services ss gs)
-rises [] gs up = tt
-rises (s ∷ ss) [] up = tt
-rises (s ∷ ss) (g ∷ gs) up = (above s.service ss gs up.0, rises ss gs up.1)
+rises : (guide : Guide) (ss : List MuxService) → DoAscend ss → Rise (map (own_service guide) ss)
+rises guide [] up = tt
+rises guide (s ∷ ss) up = (all_to_map (λ (t : SdtService). s.service < t.service) (own_service guide) ss up.0, rises guide ss up.1)
 
 put_first : (s : SdtService) (ss : List SdtService) → AllByRecursion (λ (t : SdtService). s.service < t.service) ss → with_service s ss ≡ s ∷ ss
 put_first s [] all = refl
@@ -154,5 +157,5 @@ in_order : (ss : List SdtService) → Rise ss → by_service ss ≡ ss
 in_order [] up = refl
 in_order (s ∷ ss) up = ap (with_service s) (in_order ss up.1) ∙ put_first s ss up.0
 
-pub services_in_order : (ss : List MuxService) (gs : List ServiceGuide) → DoAscend ss → by_service (sdt_services ss gs) ≡ sdt_services ss gs
-services_in_order ss gs up = in_order (sdt_services ss gs) (rises ss gs up)
+pub services_in_order : (mux : Mux) (guide : Guide) → DoAscend mux.services → by_service (sdt_services mux guide) ≡ sdt_services mux guide
+services_in_order mux guide up = in_order (sdt_services mux guide) (rises guide mux.services up)

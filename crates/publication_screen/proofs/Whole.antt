@@ -49,8 +49,10 @@ use Rattle.guide_screen.specs.Screen.{cable_in, event_at, heard_by, heard_of, ne
 use Rattle.publication.specs.Network.{nit_key, nit_of, nit_table}
 use Rattle.publication.specs.Programs.{network_entry, program_entry, pat_of, pat_key, pat_table, pmt_tables}
 use Rattle.publication.specs.Programs as programs
-use Rattle.publication.specs.Sdt.{sdt_service, sdt_services}
+use Rattle.publication.specs.Parts.{part_of, own_guide}
+use Rattle.publication.specs.Sdt.{sdt_service, own_service, sdt_services}
 use Rattle.publication.specs.Tables.{HasServicesOf, sdt_key, sdt_table, present_tables, all_near_tables, all_far_tables}
+use Rattle.publication.proofs.PartFacts.{part_id, of_parts}
 use Rattle.publication_screen.specs.Screen.{first_shown, is_scheduled, service_shown, services_shown, screen_of}
 use Rattle.publication_screen.specs.Shown.{HasPublication, HasKeptNames}
 use Rattle.publication_screen.specs.Laws.{PublicationIsShown}
@@ -78,30 +80,26 @@ record HasService (mux : Mux) (moment : ℕ) (content : Key → Option Content) 
   present : Held content (present_table mux moment g)
   tables : AllByRecursion (HasTable mux (midnight moment) g content) (tables_to 0x50 (last_table_of (midnight moment) g.events))
 
-module _ (mux : Mux) (ids : HasIds mux) (moment : ℕ) (content : Key → Option Content) where
-  abbrev Services : List MuxService → List ServiceGuide → Type 0
-  Services [] [] = Unit {0}
-  Services [] (g ∷ gs) = Prim.⊥
-  Services (s ∷ ss) [] = Prim.⊥
-  Services (s ∷ ss) (g ∷ gs) = HasService mux moment content s g × Services ss gs
+module _ (mux : Mux) (ids : HasIds mux) (guide : Guide) (moment : ℕ) (content : Key → Option Content) where
+  -- an own service, with the part that the guide has of it
+  abbrev HasOwn : MuxService → Type 0
+  HasOwn s = HasService mux moment content s (part_of guide s.service)
+
+  abbrev Parts : (ServiceGuide → Type 0) → List MuxService → Type 0
+  Parts P ss = AllByRecursion (λ (s : MuxService). P (part_of guide s.service)) ss
 
   abbrev AreHeld : List SubTable → Type 0
   AreHeld ts = AllByRecursion (Held content) ts
 
-  all_services : (ss : List MuxService) (gs : List ServiceGuide) → map (λ (g : ServiceGuide). g.service) gs ≡ map (λ (s : MuxService). s.service) ss
-      → AllByRecursion IsSoundService ss → AllByRecursion IsServiceWithin gs → AllByRecursion (λ (g : ServiceGuide). AllByRecursion IsTyped g.events) gs
-      → AllByRecursion (λ (g : ServiceGuide). AreSmallEntries g.events) gs
-      → AllByRecursion (λ (s : MuxService). Held content (programs.pmt_table s)) ss → AllByRecursion (λ (g : ServiceGuide). Held content (present_table mux moment g)) gs
-      → AllByRecursion (λ (g : ServiceGuide). AreHeld (near_tables mux (midnight moment) g)) gs → AllByRecursion (λ (g : ServiceGuide). AreHeld (far_tables mux (midnight moment) g)) gs
-      → Services ss gs
-  all_services [] [] e sound within typed small pmts presents near far = tt
-  all_services [] (g ∷ gs) e sound within typed small pmts presents near far = cc
-  all_services (s ∷ ss) [] e sound within typed small pmts presents near far = cc
-  all_services (s ∷ ss) (g ∷ gs) e sound within typed small pmts presents near far =
-      let first : g.service ≡ s.service = cc in
-      let rest : map (λ (x : ServiceGuide). x.service) gs ≡ map (λ (x : MuxService). x.service) ss = cc in
-      let one : HasService mux moment content s g = record {
-        same = first;
+  all_services : (ss : List MuxService) → AllByRecursion IsSoundService ss → Parts IsServiceWithin ss → Parts (λ (g : ServiceGuide). AllByRecursion IsTyped g.events) ss
+      → Parts (λ (g : ServiceGuide). AreSmallEntries g.events) ss → AllByRecursion (λ (s : MuxService). Held content (programs.pmt_table s)) ss
+      → Parts (λ (g : ServiceGuide). Held content (present_table mux moment g)) ss → Parts (λ (g : ServiceGuide). AreHeld (near_tables mux (midnight moment) g)) ss
+      → Parts (λ (g : ServiceGuide). AreHeld (far_tables mux (midnight moment) g)) ss → AllByRecursion HasOwn ss
+  all_services [] sound within typed small pmts presents near far = tt
+  all_services (s ∷ ss) sound within typed small pmts presents near far =
+      let g = part_of guide s.service in
+      let one : HasOwn s = record {
+        same = part_id guide s.service;
         sound = sound.0;
         within = within.0;
         typed = typed.0;
@@ -110,7 +108,7 @@ module _ (mux : Mux) (ids : HasIds mux) (moment : ℕ) (content : Key → Option
         present = presents.0;
         tables = has_tables mux ids (midnight moment) g content near.0 far.0;
       } in
-      (one, all_services ss gs rest sound.1 within.1 typed.1 small.1 pmts.1 presents.1 near.1 far.1)
+      (one, all_services ss sound.1 within.1 typed.1 small.1 pmts.1 presents.1 near.1 far.1)
 
   -- ---- one service
 
@@ -209,29 +207,24 @@ module _ (mux : Mux) (ids : HasIds mux) (moment : ℕ) (content : Key → Option
 
   -- ---- all services
 
-  services_are : (es : List PatEntry) (ss : List MuxService) (gs : List ServiceGuide) → Services ss gs → AllByRecursion (λ (s : MuxService). pmt_pid es s.service ≡ Some s.pmt_pid) ss
-      → map (screen_service content es sdt) (sdt_services ss gs) ≡ services_shown moment ss gs
-  services_are es [] [] has pids = refl
-  services_are es [] (g ∷ gs) has pids = absurd has
-  services_are es (s ∷ ss) [] has pids = absurd has
-  services_are es (s ∷ ss) (g ∷ gs) has pids =
-      ap₂ (λ (x : ScreenService) (l : List ScreenService). x ∷ l) (service_is s g has.0 es pids.0) (services_are es ss gs has.1 pids.1)
+  services_are : (es : List PatEntry) (ss : List MuxService) → AllByRecursion HasOwn ss → AllByRecursion (λ (s : MuxService). pmt_pid es s.service ≡ Some s.pmt_pid) ss
+      → map (screen_service content es sdt) (map (own_service guide) ss) ≡ map (λ (s : MuxService). service_shown moment s (part_of guide s.service)) ss
+  services_are es [] has pids = refl
+  services_are es (s ∷ ss) has pids =
+      ap₂ (λ (x : ScreenService) (l : List ScreenService). x ∷ l) (service_is s (part_of guide s.service) has.0 es pids.0) (services_are es ss has.1 pids.1)
 
-  pmts_met : (ss : List MuxService) (gs : List ServiceGuide) → Services ss gs → AllByRecursion (λ (w : Want). is_some (content w.key) ≡ true) (flat_map want_pmt (map program_entry ss))
-  pmts_met [] [] has = tt
-  pmts_met [] (g ∷ gs) has = absurd has
-  pmts_met (s ∷ ss) [] has = absurd has
-  pmts_met (s ∷ ss) (g ∷ gs) has =
-      all_append (λ (w : Want). is_some (content w.key) ≡ true) (want_pmt (program_entry s)) (flat_map want_pmt (map program_entry ss)) (pmt_met s g has.0) (pmts_met ss gs has.1)
+  pmts_met : (ss : List MuxService) → AllByRecursion HasOwn ss → AllByRecursion (λ (w : Want). is_some (content w.key) ≡ true) (flat_map want_pmt (map program_entry ss))
+  pmts_met [] has = tt
+  pmts_met (s ∷ ss) has =
+      all_append (λ (w : Want). is_some (content w.key) ≡ true) (want_pmt (program_entry s)) (flat_map want_pmt (map program_entry ss)) (pmt_met s (part_of guide s.service) has.0)
+      (pmts_met ss has.1)
 
-  services_met : (ss : List MuxService) (gs : List ServiceGuide) → Services ss gs
-      → AllByRecursion (λ (w : Want). is_some (content w.key) ≡ true) (flat_map (want_service content sdt) (sdt_services ss gs))
-  services_met [] [] has = tt
-  services_met [] (g ∷ gs) has = absurd has
-  services_met (s ∷ ss) [] has = absurd has
-  services_met (s ∷ ss) (g ∷ gs) has =
-      all_append (λ (w : Want). is_some (content w.key) ≡ true) (want_service content sdt (sdt_service s g)) (flat_map (want_service content sdt) (sdt_services ss gs))
-      (service_met s g has.0) (services_met ss gs has.1)
+  services_met : (ss : List MuxService) → AllByRecursion HasOwn ss
+      → AllByRecursion (λ (w : Want). is_some (content w.key) ≡ true) (flat_map (want_service content sdt) (map (own_service guide) ss))
+  services_met [] has = tt
+  services_met (s ∷ ss) has =
+      all_append (λ (w : Want). is_some (content w.key) ≡ true) (want_service content sdt (own_service guide s)) (flat_map (want_service content sdt) (map (own_service guide) ss))
+      (service_met s (part_of guide s.service) has.0) (services_met ss has.1)
 
 none_unmet : (content : Key → Option Content) (ws : List Want) → AllByRecursion (λ (w : Want). is_some (content w.key) ≡ true) ws → unmet_of content ws ≡ []
 none_unmet content [] all = refl
@@ -279,16 +272,24 @@ module _ (nit_back : NitReadsBack) (sdt_back : SdtReadsBack) (mux : Mux) (guide 
   schedules_have : AllByRecursion (Held V.content) (all_near_tables mux guide ++ all_far_tables mux guide)
   schedules_have = all_behind (Held V.content) (present_tables mux guide) (all_near_tables mux guide ++ all_far_tables mux guide) others_have.1.1
 
-  services_have : Services mux ids moment V.content mux.services guide.services
+  -- what holds of each part of the guide, and of each table of the parts
+  of_guide : (P : ServiceGuide → Type 0) → AllByRecursion P guide.services → AllByRecursion (λ (s : MuxService). P (part_of guide s.service)) mux.services
+  of_guide P all = of_parts P mux guide same all
+
+  of_tables : (P : ServiceGuide → Type 0) → AllByRecursion P (own_guide mux guide) → AllByRecursion (λ (s : MuxService). P (part_of guide s.service)) mux.services
+  of_tables P all = all_of_map P (λ (s : MuxService). part_of guide s.service) mux.services all
+
+  services_have : AllByRecursion (HasOwn mux ids guide moment V.content) mux.services
   services_have =
-      all_services mux ids moment V.content mux.services guide.services same sound.sound.services within.services typed (typed_small guide within typed)
+      all_services mux ids guide moment V.content mux.services sound.sound.services (of_guide IsServiceWithin within.services)
+      (of_guide (λ (g : ServiceGuide). AllByRecursion IsTyped g.events) typed) (of_guide (λ (g : ServiceGuide). AreSmallEntries g.events) (typed_small guide within typed))
       (all_of_map (Held V.content) programs.pmt_table mux.services pmts_have)
-      (all_of_map (Held V.content) (present_table mux moment) guide.services
-      (all_front (Held V.content) (present_tables mux guide) (all_near_tables mux guide ++ all_far_tables mux guide) others_have.1.1))
-      (of_flat (Held V.content) (near_tables mux (midnight moment)) guide.services
-      (all_front (Held V.content) (all_near_tables mux guide) (all_far_tables mux guide) schedules_have))
-      (of_flat (Held V.content) (far_tables mux (midnight moment)) guide.services
-      (all_behind (Held V.content) (all_near_tables mux guide) (all_far_tables mux guide) schedules_have))
+      (of_tables (λ (g : ServiceGuide). Held V.content (present_table mux moment g)) (all_of_map (Held V.content) (present_table mux moment) (own_guide mux guide)
+      (all_front (Held V.content) (present_tables mux guide) (all_near_tables mux guide ++ all_far_tables mux guide) others_have.1.1)))
+      (of_tables (λ (g : ServiceGuide). AllByRecursion (Held V.content) (near_tables mux (midnight moment) g)) (of_flat (Held V.content) (near_tables mux (midnight moment)) (own_guide mux guide)
+      (all_front (Held V.content) (all_near_tables mux guide) (all_far_tables mux guide) schedules_have)))
+      (of_tables (λ (g : ServiceGuide). AllByRecursion (Held V.content) (far_tables mux (midnight moment) g)) (of_flat (Held V.content) (far_tables mux (midnight moment)) (own_guide mux guide)
+      (all_behind (Held V.content) (all_near_tables mux guide) (all_far_tables mux guide) schedules_have)))
 
   sdt_is : sdt_of V ≡ Some (sdt_key mux)
   sdt_is = ap (λ (o : Option Key). sdt_behind V o) has.pat ∙ has.sdt
@@ -298,21 +299,20 @@ module _ (nit_back : NitReadsBack) (sdt_back : SdtReadsBack) (mux : Mux) (guide 
       ap (λ (o : Option Key). programs_in (sections_at V.content o)) has.pat ∙ ap (λ (o : Option Content). programs_in (sections o)) pat_has
       ∙ ap (λ (o : Option (List PatEntry)). unwrap_or o [] ++ []) (pat_said mux sound.sound) ∙ append-nil (pat_of mux)
 
-  services_sorted : services_of V ≡ sdt_services mux.services guide.services
+  services_sorted : services_of V ≡ sdt_services mux guide
   services_sorted =
       ap (λ (o : Option Key). by_service (services_in (sections_at V.content o))) sdt_is
       ∙ ap (λ (o : Option Content). by_service (services_in (sections o))) others_have.1.0
-      ∙ ap by_service (sdt_said sdt_back mux guide sound within.services kept.services)
-      ∙ services_in_order mux.services guide.services sound.sound.ascend
+      ∙ ap by_service (sdt_said sdt_back mux guide sound same within kept.services)
+      ∙ services_in_order mux guide sound.sound.ascend
 
   all_met : AllByRecursion (λ (w : Want). is_some (V.content w.key) ≡ true) (wants V)
   all_met =
       subst (λ (es : List PatEntry). AllByRecursion (λ (w : Want). is_some (V.content w.key) ≡ true) (flat_map want_pmt es ++ want_services V.content (sdt_of V) (services_of V))) (sym programs_are)
       (subst (λ (o : Option Key). AllByRecursion (λ (w : Want). is_some (V.content w.key) ≡ true) (flat_map want_pmt (pat_of mux) ++ want_services V.content o (services_of V))) (sym sdt_is)
       (subst (λ (ss : List SdtService). AllByRecursion (λ (w : Want). is_some (V.content w.key) ≡ true) (flat_map want_pmt (pat_of mux) ++ flat_map (want_service V.content (sdt_key mux)) ss)) (sym services_sorted)
-      (all_append (λ (w : Want). is_some (V.content w.key) ≡ true) (flat_map want_pmt (pat_of mux)) (flat_map (want_service V.content (sdt_key mux)) (sdt_services mux.services guide.services))
-      (pmts_met mux ids moment V.content mux.services guide.services services_have)
-      (services_met mux ids moment V.content mux.services guide.services services_have))))
+      (all_append (λ (w : Want). is_some (V.content w.key) ≡ true) (flat_map want_pmt (pat_of mux)) (flat_map (want_service V.content (sdt_key mux)) (sdt_services mux guide))
+      (pmts_met mux ids guide moment V.content mux.services services_have) (services_met mux ids guide moment V.content mux.services services_have))))
 
   abbrev needs_by : Option Key → Option Key → Option Key → Option ℕ → List Need → List Need
   needs_by pat nit sdt at rest = unless Pat (is_some pat) ++ unless NeedNit (is_some nit) ++ unless Sdt (is_some sdt) ++ unless Clock (is_some at) ++ rest
@@ -344,11 +344,11 @@ module _ (nit_back : NitReadsBack) (sdt_back : SdtReadsBack) (mux : Mux) (guide 
       own : (a b : ℕ) → (a == a && b == b) ≡ true
       own a b = grind (arith, nat_tests)
 
-  services_are_shown : map (screen_service V.content (programs_of V) (sdt_key mux)) (services_of V) ≡ services_shown moment mux.services guide.services
+  services_are_shown : map (screen_service V.content (programs_of V) (sdt_key mux)) (services_of V) ≡ services_shown mux guide
   services_are_shown =
       ap (λ (es : List PatEntry). map (screen_service V.content es (sdt_key mux)) (services_of V)) programs_are
       ∙ ap (map (screen_service V.content (pat_of mux) (sdt_key mux))) services_sorted
-      ∙ services_are mux ids moment V.content (pat_of mux) mux.services guide.services services_have
+      ∙ services_are mux ids guide moment V.content (pat_of mux) mux.services services_have
       (pids_found mux.services mux.services sound.sound.services (pids_said mux.services sound.sound.ascend))
 
   abbrev screen_with : List Offset → Shown → Option Cable → List ScreenService → Screen

@@ -12,6 +12,7 @@ use Rattle.mux_model.specs.declared.mux.MuxService.{MuxService}
 use Rattle.guide_limits.specs.Events.{start_of, midnight}
 use Rattle.eit_codec.specs.Eit.{shown_event}
 use Rattle.eit_tables.specs.Present.{present_event, following_event}
+use Rattle.publication.specs.Parts.{part_of}
 
 -- the event, where there is one
 abbrev pub first_shown : List Event → Option ScreenEvent
@@ -38,11 +39,13 @@ service_shown moment service guide = record {
   events = map shown_event (filter (is_scheduled (midnight moment)) guide.events);
 }
 
--- the services of a multiplex, each with what a guide has of it
-abbrev pub services_shown : ℕ → List MuxService → List ServiceGuide → List ScreenService
-services_shown moment [] guides = []
-services_shown moment (service ∷ services) [] = []
-services_shown moment (service ∷ services) (guide ∷ guides) = service_shown moment service guide ∷ services_shown moment services guides
+-- an own service with the part that a guide has of it
+abbrev pub own_shown : Guide → MuxService → ScreenService
+own_shown guide service = service_shown guide.moment.0 service (part_of guide service.service)
+
+-- the own services of a multiplex, by ascending id
+abbrev pub services_shown : Mux → Guide → List ScreenService
+services_shown mux guide = map (own_shown guide) mux.services
 
 -- The screen of a guide that a multiplex sends, with the moment that was heard last.
 abbrev pub screen_of : Mux → Guide → ℕ → Screen
@@ -54,5 +57,5 @@ screen_of mux guide clock = record {
   stream = mux.stream;
   original = mux.original;
   cable = mux.cable;
-  services = services_shown guide.moment.0 mux.services guide.services;
+  services = services_shown mux guide;
 }
