@@ -11,6 +11,7 @@ use Rattle.section_codec.specs.declared.table.SubTable.{SubTable}
 use Rattle.guide_receiver.specs.Latest.{is_pat_key, is_nit_key, is_sdt_key}
 use Rattle.publication.specs.Network.{nit_key}
 use Rattle.publication.specs.Programs.{pat_key}
+use Rattle.publication.specs.Parts.{own_guide}
 use Rattle.publication.specs.Tables.{sdt_key, tables_of}
 use Rattle.publication.proofs.FitFacts.{each_pmt, each_sub_table}
 
@@ -22,7 +23,7 @@ IsKnown mux t = (t.key ≡ pat_key mux) ⊎ ((t.key ≡ nit_key mux) ⊎ ((t.key
 
 all_known : (mux : Mux) (guide : Guide) → IsSound mux → AllByRecursion (IsKnown mux) (tables_of mux guide)
 all_known mux guide sound =
-    each_sub_table (IsKnown mux) (λ s. Unit {0}) mux guide (each_unit guide.services)
+    each_sub_table (IsKnown mux) (λ s. Unit {0}) mux guide (each_unit (own_guide mux guide))
     (inl refl)
     (each_pmt (IsKnown mux) IsSoundService (λ s is. inr (inr (inr (inl refl)))) mux.services sound.services)
     (inr (inl refl))

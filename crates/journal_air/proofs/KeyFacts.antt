@@ -23,15 +23,15 @@ use Rattle.eit_tables.specs.Eit.{eit_key}
 use Rattle.sub_collect.proofs.KeyCounts.{key_laws}
 use Rattle.version_book.specs.Airings.{AiredTables}
 use Rattle.air_hearing.specs.Sending.{carried_keys}
-use Rattle.publication.specs.Tables.{HasServicesOf, sdt_key, tables_of}
+use Rattle.publication.specs.Tables.{sdt_key, tables_of}
 use Rattle.publication.specs.Programs.{pat_key, pmt_key}
 use Rattle.publication.specs.Network.{nit_key}
 use Rattle.publication.proofs.FitFacts.{each_pmt, each_sub_table}
+use Rattle.publication.proofs.PartFacts.{by_ids}
 use Rattle.journal_model.specs.declared.step.Entry.{Entry}
 use Rattle.desk_core.specs.Publications.{publication, swaps}
 use Rattle.journal_air.specs.Air.{airing_at, airings}
 use Rattle.journal_air.specs.Laws.{AiringsHaveFewKeys}
-use Rattle.journal_air.proofs.Published.{published_services}
 use Rattle.journal_air.proofs.CarryFacts.{each_airing}
 
 -- ---- the keys of a multiplex
@@ -102,14 +102,14 @@ in_flat f k n (m ∷ ns) is there = go (n == m) refl is (λ e. in_flat f k n ns 
     go true e h rest = in_first (f m) (flat_map f ns) k (ap (λ o. is_member is_key (f o) k) (sym (eqb-true n m e)) ∙ there)
     go false e h rest = in_second (f m) (flat_map f ns) k (rest h)
 
--- each of some services has one of their numbers
-own_numbers : (gs : List ServiceGuide) → AllByRecursion (λ (g : ServiceGuide). list_any (λ m. g.service == m) (map (λ (h : ServiceGuide). h.service) gs) ≡ true) gs
-own_numbers [] = tt
-own_numbers (g ∷ gs) = (
-  ap (λ b. b || list_any (λ m. g.service == m) (map (λ (h : ServiceGuide). h.service) gs)) (eq-eqb g.service g.service refl),
-  all_map (λ (h : ServiceGuide). list_any (λ m. h.service == m) (map (λ (j : ServiceGuide). j.service) gs) ≡ true)
-      (λ (h : ServiceGuide). list_any (λ m. h.service == m) (map (λ (j : ServiceGuide). j.service) (g ∷ gs)) ≡ true)
-      (λ h e. ap (λ b. (h.service == g.service) || b) e ∙ or-true (h.service == g.service)) gs (own_numbers gs),
+-- each of some services has one of their ids
+own_ids : (ss : List MuxService) → AllByRecursion (λ (s : MuxService). list_any (λ m. s.service == m) (map (λ (t : MuxService). t.service) ss) ≡ true) ss
+own_ids [] = tt
+own_ids (s ∷ ss) = (
+  ap (λ b. b || list_any (λ m. s.service == m) (map (λ (t : MuxService). t.service) ss)) (eq-eqb s.service s.service refl),
+  all_map (λ (t : MuxService). list_any (λ m. t.service == m) (map (λ (u : MuxService). u.service) ss) ≡ true)
+      (λ (t : MuxService). list_any (λ m. t.service == m) (map (λ (u : MuxService). u.service) (s ∷ ss)) ≡ true)
+      (λ t e. ap (λ b. (t.service == s.service) || b) e ∙ or-true (t.service == s.service)) ss (own_ids ss),
 )
 
 own_keys : (ss : List MuxService) → AllByRecursion (λ (s : MuxService). is_member is_key (map pmt_key ss) (pmt_key s) ≡ true) ss
@@ -133,11 +133,11 @@ of_events mux k n is e =
     of_others mux k
     (behind_one (nit_key mux) (sdt_key mux ∷ all_events mux) k (behind_one (sdt_key mux) (all_events mux) k (in_flat (event_keys mux) k n (service_ids mux) is e)))
 
-pub published_keys : (mux : Mux) (guide : Guide) → HasServicesOf mux guide → AllByRecursion (IsOfMux mux) (tables_of mux guide)
-published_keys mux guide have =
+pub published_keys : (mux : Mux) (guide : Guide) → AllByRecursion (IsOfMux mux) (tables_of mux guide)
+published_keys mux guide =
     let pmts = map pmt_key mux.services in
     each_sub_table (IsOfMux mux) (λ (g : ServiceGuide). list_any (λ m. g.service == m) (service_ids mux) ≡ true) mux guide
-    (subst (λ ns. AllByRecursion (λ (g : ServiceGuide). list_any (λ m. g.service == m) ns ≡ true) guide.services) have (own_numbers guide.services))
+    (by_ids (λ (n : ℕ). list_any (λ m. n == m) (service_ids mux) ≡ true) (λ (s : MuxService). list_any (λ m. s.service == m) (service_ids mux) ≡ true) (λ s e. e) mux guide (own_ids mux.services))
     (at_front (pat_key mux) (behind_pat mux))
     (each_pmt (IsOfMux mux) (λ (s : MuxService). is_member is_key pmts (pmt_key s) ≡ true)
     (λ s e. behind_one (pat_key mux) (behind_pat mux) (pmt_key s) (in_first pmts (behind_pmts mux) (pmt_key s) e)) mux.services (own_keys mux.services))
@@ -156,7 +156,7 @@ CarriesOfMux mux a = AllByRecursion (IsOfMux mux) a.tables
 pub airings_few : AiringsHaveFewKeys
 airings_few mux journal sound =
     let each : AllByRecursion (CarriesOfMux mux) (airings mux journal) =
-    each_airing (CarriesOfMux mux) mux journal (λ swap. published_keys mux (publication mux journal swap.0) (published_services mux journal swap.0)) (swaps journal) in
+    each_airing (CarriesOfMux mux) mux journal (λ swap. published_keys mux (publication mux journal swap.0)) (swaps journal) in
     let among : AllByRecursion (λ (k : Key). is_member is_key (mux_keys mux) k ≡ true) (carried_keys (airings mux journal)) =
     all_flat (CarriesOfMux mux) (λ (k : Key). is_member is_key (mux_keys mux) k ≡ true) (λ (a : AiredTables). map (λ (t : SubTable). t.key) a.tables)
     (λ a e. all_to_map (λ (k : Key). is_member is_key (mux_keys mux) k ≡ true) (λ (t : SubTable). t.key) a.tables e) (airings mux journal) each in
