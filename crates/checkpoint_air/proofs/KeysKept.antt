@@ -25,6 +25,7 @@ use Rattle.version_book.specs.Book.{GivenVersion, given_entry, given_entries}
 use Rattle.version_book.specs.Laws.{WasCarried}
 use Rattle.version_book.proofs.KeptEntries.{kept_was_carried}
 use Rattle.air_hearing.specs.Counting.{IsReadable, CanBeHeard}
+use Rattle.publication.specs.Parts.{own_guide}
 use Rattle.publication.specs.Tables.{tables_of}
 use Rattle.publication.proofs.FitFacts.{each_pmt, each_sub_table}
 use Rattle.journal_model.specs.declared.step.Entry.{Entry}
@@ -50,7 +51,7 @@ listed_tables mux guide sound =
     let none : 0 ≤ 65535 = omega arith in
     let stream : mux.stream ≤ 65535 = omega (arith, sound.stream) in
     let network : mux.original ≤ 65535 = omega (arith, sound.original) in
-    each_sub_table IsListedTable (λ s. Unit {0}) mux guide (each_unit guide.services)
+    each_sub_table IsListedTable (λ s. Unit {0}) mux guide (each_unit (own_guide mux guide))
     (record { listed = refl; stream = none; network = none })
     (each_pmt IsListedTable IsSoundService
     (λ s is. record { listed = pmt_listed s.pmt_pid s.service is.pmt_pid.0 is.pmt_pid.1; stream = none; network = none }) mux.services sound.sound.services)
