@@ -6,6 +6,7 @@ use Rattle.guide_model.specs.declared.event.Event.{Event}
 use Rattle.guide_model.specs.declared.guide.ServiceGuide.{ServiceGuide}
 use Rattle.mux_model.specs.declared.mux.MuxService.{MuxService}
 use Rattle.mux_model.specs.declared.mux.Mux.{Mux}
+use Rattle.mux_model.specs.Muxes.{mux_of}
 use Rattle.section_codec.specs.declared.table.NumberedBody.{NumberedBody}
 use Rattle.section_codec.specs.declared.table.SubTable.{SubTable}
 use Rattle.section_codec.specs.declared.table.Tier3.{Tier3}
@@ -14,8 +15,8 @@ use Rattle.eit_tables.specs.Eit.{own, another}
 use Rattle.eit_tables.specs.Present.{present_sections, present_of}
 use Rattle.eit_tables.specs.Schedule.{schedule_table, near_tables, far_tables, remote_tables}
 
-abbrev mux_of : List MuxService → Mux
-mux_of services = record { network = 40; network_name = codes "Demo"; stream = 2; original = 1; cable = None; start = record { 0 = 0 }; quota = 200; offsets = []; services = services }
+abbrev mux_with : List MuxService → Mux
+mux_with = mux_of 40 (codes "Demo") 2 1 (record { 0 = 0 }) 200
 
 abbrev eit : ℕ → ℕ → Tier3 → List NumberedBody → SubTable
 eit service table tier sections = record { key = record { pid = 18; table = table; ext = service; stream = 2; network = 1 }; tier = tier; sections = sections }
@@ -44,13 +45,13 @@ with_events events = record { service = 101; provider = codes "Acme"; name = cod
 
 -- ---- nothing published: present and following without an event, and one empty section of table 0x50
 
-nothing_present : present_sections (own (mux_of [])) 4257187200 [] ≡ record { number = 0; body = head 1 0x4E } ∷ record { number = 1; body = head 1 0x4E } ∷ []
+nothing_present : present_sections (own (mux_with [])) 4257187200 [] ≡ record { number = 0; body = head 1 0x4E } ∷ record { number = 1; body = head 1 0x4E } ∷ []
 nothing_present = refl
 
-nothing_scheduled : near_tables (mux_of []) 4257187200 (with_events []) ≡ eit 101 0x50 Near (record { number = 0; body = head 0 0x50 } ∷ []) ∷ []
+nothing_scheduled : near_tables (mux_with []) 4257187200 (with_events []) ≡ eit 101 0x50 Near (record { number = 0; body = head 0 0x50 } ∷ []) ∷ []
 nothing_scheduled = refl
 
-nothing_later : far_tables (mux_of []) 4257187200 (with_events []) ≡ []
+nothing_later : far_tables (mux_with []) 4257187200 (with_events []) ≡ []
 nothing_later = refl
 
 -- the entry of such an event, after event_id and start_time: duration, running_status with descriptors_loop_length, and a short_event
@@ -65,7 +66,7 @@ bodies (n ∷ ns) [] = []
 bodies (n ∷ ns) (b ∷ bs) = record { number = n; body = b } ∷ bodies ns bs
 
 -- at 13:00:00 for half an hour: section 32 of table 0x50, after four empty ones
-at_one : schedule_table (mux_of []) 4257187200 (with_events (news 7 46800 1800 ∷ [])) 0x50
+at_one : schedule_table (mux_with []) 4257187200 (with_events (news 7 46800 1800 ∷ [])) 0x50
     ≡ eit 101 0x50 Near (bodies (0 ∷ 8 ∷ 16 ∷ 24 ∷ 32 ∷ [])
     (head 0 0x50 ∷ head 8 0x50 ∷ head 16 0x50 ∷ head 24 0x50
     ∷ (head 32 0x50 ++ entry 7 (0x13 ∷ 0x00 ∷ 0x00 ∷ []) (0x00 ∷ 0x30 ∷ 0x00 ∷ []) 0) ∷ []))
@@ -73,29 +74,29 @@ unfolding moment_bcd duration_bcd pieces first_pieces
 at_one = refl
 
 -- over midnight, at a quarter past: present with running_status 4, and none follows; the day's table is empty
-over_midnight : present_sections (own (mux_of [])) 4257274500 (news 9 84600 3600 ∷ [])
+over_midnight : present_sections (own (mux_with [])) 4257274500 (news 9 84600 3600 ∷ [])
     ≡ bodies (0 ∷ 1 ∷ []) ((head 1 0x4E ++ entry 9 (0x23 ∷ 0x30 ∷ 0x00 ∷ []) (0x01 ∷ 0x00 ∷ 0x00 ∷ []) 4) ∷ head 1 0x4E ∷ [])
 unfolding moment_bcd duration_bcd pieces first_pieces
 over_midnight = refl
 
-day_after : near_tables (mux_of []) 4257273600 (with_events (news 9 84600 3600 ∷ [])) ≡ eit 101 0x50 Near (bodies (0 ∷ []) (head 0 0x50 ∷ [])) ∷ []
+day_after : near_tables (mux_with []) 4257273600 (with_events (news 9 84600 3600 ∷ [])) ≡ eit 101 0x50 Near (bodies (0 ∷ []) (head 0 0x50 ∷ [])) ∷ []
 unfolding moment_bcd duration_bcd pieces first_pieces
 day_after = refl
 
 -- before it begins: none is present, and it follows with running_status 1
-follows : present_sections (own (mux_of [])) 4257271799 (news 9 84600 3600 ∷ [])
+follows : present_sections (own (mux_with [])) 4257271799 (news 9 84600 3600 ∷ [])
     ≡ bodies (0 ∷ 1 ∷ []) (head 1 0x4E ∷ (head 1 0x4E ++ entry 9 (0x23 ∷ 0x30 ∷ 0x00 ∷ []) (0x01 ∷ 0x00 ∷ 0x00 ∷ []) 1) ∷ [])
 unfolding moment_bcd duration_bcd pieces first_pieces
 follows = refl
 
 -- one event eight days later: tables 0x50 and 0x51 have none, and all name the last table 0x52
-eight_days_later : near_tables (mux_of []) 4256496000 (with_events (news 9 84600 3600 ∷ []))
+eight_days_later : near_tables (mux_with []) 4256496000 (with_events (news 9 84600 3600 ∷ []))
     ≡ eit 101 0x50 Near (bodies (0 ∷ []) (head 0 0x52 ∷ [])) ∷ eit 101 0x51 Near (bodies (0 ∷ []) (head 0 0x52 ∷ [])) ∷ []
 unfolding moment_bcd duration_bcd pieces first_pieces
 eight_days_later = refl
 
 abbrev later_tables : List SubTable
-later_tables = far_tables (mux_of []) 4256496000 (with_events (news 9 84600 3600 ∷ []))
+later_tables = far_tables (mux_with []) 4256496000 (with_events (news 9 84600 3600 ∷ []))
 
 later_keys : map (λ (t : SubTable). t.key.table) later_tables ≡ 0x52 ∷ []
 later_keys = refl

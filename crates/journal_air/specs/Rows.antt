@@ -3,6 +3,7 @@ use Rattle.std.specs.Prelude.{◌≡◌, ℕ, List, [], ◌∷◌, codes, map, N
 use Rattle.si_time.specs.declared.moment.Moment.{Moment}
 use Rattle.mux_model.specs.declared.mux.MuxService.{MuxService}
 use Rattle.mux_model.specs.declared.mux.Mux.{Mux}
+use Rattle.mux_model.specs.Muxes.{mux_of}
 use Rattle.version_book.specs.Airings.{AiredTables}
 use Rattle.journal_model.specs.declared.step.Step.TheVariants.{Publish, Swap}
 use Rattle.journal_model.specs.declared.step.Outcome.TheVariants.{Published, Swapped}
@@ -14,7 +15,7 @@ abbrev news : MuxService
 news = record { service = 101; feed = 1; kind = 1; pmt_pid = 256; pcr_pid = 257; provider = codes "First"; name = codes "First"; components = [] }
 
 abbrev mux : Mux
-mux = record { network = 40; network_name = codes "Demo"; stream = 2; original = 1; cable = None; start = record { 0 = 0 }; quota = 200; offsets = []; services = news ∷ [] }
+mux = mux_of 40 (codes "Demo") 2 1 (record { 0 = 0 }) 200 (news ∷ [])
 
 -- ---- a swap before any publication, a publication, and two swaps
 

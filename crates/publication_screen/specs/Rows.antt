@@ -6,13 +6,14 @@ use Rattle.guide_model.specs.declared.guide.Guide.{Guide}
 use Rattle.guide_model.specs.declared.screen.ScreenEvent.{ScreenEvent}
 use Rattle.mux_model.specs.declared.mux.MuxService.{MuxService}
 use Rattle.mux_model.specs.declared.mux.Mux.{Mux}
+use Rattle.mux_model.specs.Muxes.{mux_of}
 use Rattle.publication_screen.specs.Screen.{screen_of}
 
 abbrev news : MuxService
 news = record { service = 101; feed = 1; kind = 1; pmt_pid = 256; pcr_pid = 257; provider = codes "First"; name = codes "First"; components = [] }
 
 abbrev mux : Mux
-mux = record { network = 40; network_name = codes "Demo"; stream = 2; original = 1; cable = None; start = record { 0 = 0 }; quota = 200; offsets = []; services = news ∷ [] }
+mux = mux_of 40 (codes "Demo") 2 1 (record { 0 = 0 }) 200 (news ∷ [])
 
 -- an event of half an hour, from a second of the day on; its day is the first, or a later one
 abbrev event : ℕ → ℕ → Event
