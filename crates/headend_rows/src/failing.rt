@@ -1,42 +1,26 @@
-// Runs of `play` in which one call of an end fails.
-use crate::journals::prints_itself;
-use crate::runs::{LISTEN, Left, MUX, NEVER, PLAY, Run, air_of, first_cycle, joined, leaves};
+// Runs of `play` in which each call of an end fails in turn, and what is due of them.
+use crate::packets::put_spelled;
+use crate::reports::put_whole;
+use crate::run::{Case, Ends, Faults, File, Room, Side, WHOLE};
 use crate::scripts::{EVERY_KIND, ONE_NAME, Script};
+use crate::texts::{cut, number};
 use epg_cli::{Origin, Outlet, Status};
-use std::alloc::{AllocError, Global};
+use row_lines::Buffer;
 use std::marker::Sync;
 use std::sync::Wait;
-use std::test::Fail;
 use std::thread::Threads;
-
-// Which end fails in a run.
-#[derive(Clone, Copy)]
-enum End {
-    Read,
-    Air,
-    Report,
-}
 
 // A script with its whole air, and how many bytes a call moves at most.
 #[derive(Clone, Copy)]
-struct Case<'a> {
-    script: &'a Script<'a>,
-    whole: &'a [u8],
+struct Failing<'b> {
+    script: &'b Script<'b>,
+    whole: &'b [u8],
     piece: usize,
-}
-
-// The numbers of the calls that fail, where call `n` of an end does.
-fn fails_of(end: End, n: usize) -> [u64; 3] {
-    match end {
-        End::Read => [n as u64, NEVER, NEVER],
-        End::Air => [NEVER, n as u64, NEVER],
-        End::Report => [NEVER, NEVER, n as u64],
-    }
 }
 
 // What a run is to leave: how many entries, how many bytes of the air and of the report, and the status with its line.
 #[derive(Clone, Copy)]
-struct Expected {
+struct Due {
     entries: usize,
     sent: usize,
     told: usize,
@@ -44,28 +28,29 @@ struct Expected {
     fault: &'static str,
 }
 
-fn expected_of(case: &Case, end: End, n: usize) -> Expected {
-    let script = case.script;
-    let moved = n.saturating_mul(case.piece);
-    let sent = script.sent_before(n, case.piece);
-    match end {
-        End::Read => Expected {
+// What is due where call `n` of a side fails.
+fn due_of(failing: &Failing, side: Side, n: usize) -> Due {
+    let script = failing.script;
+    let moved = n.saturating_mul(failing.piece);
+    let sent = script.sent_before(n, failing.piece);
+    match side {
+        Side::Input | Side::File => Due {
             entries: script.commands_in(moved),
             sent: script.sent_of(script.commands_in(moved)),
             told: usize::MAX,
             status: Status::ReadFault(Origin::Input),
             fault: "fault: input not read\n",
         },
-        End::Air => Expected {
+        Side::Air => Due {
             entries: script.commands_up_to(sent),
             sent,
             told: usize::MAX,
             status: Status::WriteFault(Outlet::Air),
             fault: "fault: air not written\n",
         },
-        End::Report => Expected {
+        Side::Report => Due {
             entries: script.entries.len(),
-            sent: case.whole.len(),
+            sent: failing.whole.len(),
             told: moved,
             status: Status::WriteFault(Outlet::Report),
             fault: "",
@@ -73,152 +58,156 @@ fn expected_of(case: &Case, end: End, n: usize) -> Expected {
     }
 }
 
-// Whether the run in which call `n` of an end fails leaves just this.
-fn leaves_so<W: Threads + Wait + Sync>(
-    rt: &W,
-    alloc: Global,
-    case: &Case,
-    fails: [u64; 3],
-    left: &Left,
-) -> Result<bool, AllocError> {
-    let input = case.script.text.as_bytes();
-    leaves(rt, alloc, &Run::of(PLAY, input, case.piece, fails), left)
+// What is due where no call fails.
+fn due_whole(failing: &Failing) -> Due {
+    Due {
+        entries: usize::MAX,
+        sent: failing.whole.len(),
+        told: usize::MAX,
+        status: Status::Done,
+        fault: "",
+    }
 }
 
-// Whether the run with call `n` of an end failing leaves what is due.
-fn fails_as_due<W: Threads + Wait + Sync>(
-    rt: &W,
-    alloc: Global,
-    case: &Case,
-    end: End,
-    n: usize,
-) -> Result<bool, AllocError> {
-    let due = expected_of(case, end, n);
-    let report = case.script.report_of(alloc, due.entries, due.fault)?;
-    let report = report.as_bytes();
-    let air = case.whole.get(..due.sent).unwrap_or(&[]);
-    let told = report.get(..due.told).unwrap_or(report);
-    let left = Left::of(due.status, air, told);
-    leaves_so(rt, alloc, case, fails_of(end, n), &left)
-}
-
-// Whether each of the first `calls` calls of an end, failing, leaves what is due, and the call behind them is not made.
-fn each_fails<W: Threads + Wait + Sync>(
-    rt: &W,
-    alloc: Global,
-    case: &Case,
-    end: End,
-    calls: usize,
-) -> Result<bool, AllocError> {
-    for n in 0..calls {
-        if !fails_as_due(rt, alloc, case, end, n)? {
-            return Ok(false);
+// How many calls of a side are made where none fails, of which each moves so many bytes.
+fn calls_of(failing: &Failing, side: Side, report: usize) -> usize {
+    let script = failing.script;
+    match side {
+        Side::Input | Side::File => script
+            .text
+            .len()
+            .div_ceil(failing.piece.max(1))
+            .saturating_add(1),
+        Side::Air => {
+            let cycles = failing.whole.len() / script.cycle.max(1);
+            cycles.saturating_mul(script.writes(failing.piece))
         }
+        Side::Report => report.div_ceil(failing.piece.max(1)),
     }
-    let journal = case.script.report_of(alloc, usize::MAX, "")?;
-    let left = Left::of(Status::Done, case.whole, journal.as_bytes());
-    leaves_so(rt, alloc, case, fails_of(end, calls), &left)
 }
 
-// Whether each call of each end, failing, leaves what is due, where each call moves so many bytes, of the air 47 at least.
-fn all_fail<W: Threads + Wait + Sync>(
-    rt: &W,
-    alloc: Global,
-    script: &Script,
-    whole: &[u8],
-    piece: usize,
-) -> Result<bool, AllocError> {
-    let piece = piece.max(1);
-    let case = Case {
-        script,
-        whole,
-        piece,
-    };
-    let wide = Case {
-        piece: piece.max(47),
-        ..case
-    };
-    let reads = script.text.len().div_ceil(piece).saturating_add(1);
-    let sent = script.sent_of(script.entries.len()) / script.cycle.max(1);
-    let sent = sent.saturating_mul(script.writes(wide.piece));
-    let told = script
-        .report_of(alloc, usize::MAX, "")?
-        .len()
-        .div_ceil(piece);
-    Ok(
-        each_fails(rt, alloc, &case, End::Read, reads)?
-            && each_fails(rt, alloc, &wide, End::Air, sent)?
-            && each_fails(rt, alloc, &case, End::Report, told)?,
-    )
-}
-
-// Its air is made by a run in which nothing fails.
-#[test]
-fn each_call_fails_in_turn(rt: HostRuntime) -> Result<(), Fail> {
-    let whole = air_of(&rt, rt.alloc(), EVERY_KIND.text)?;
-    assert!(rt; whole.len() == 2 * EVERY_KIND.cycle);
-    for piece in [5, 188, 65_536] {
-        assert!(rt;
-            all_fail(&rt, rt.alloc(), &EVERY_KIND, &whole, piece)?,
-            "{piece}"
-        );
+impl<'a, W: Threads + Wait + Sync> Room<'a, W> {
+    // Whether the run in which a call fails leaves what is due.
+    fn leaves(&self, ends: &mut Ends, failing: &Failing, faults: &Faults, due: &Due) -> bool {
+        let case = Case {
+            words: "play",
+            input: failing.script.text.as_bytes(),
+            file: File::Absent,
+        };
+        let status = ends.run(self.rt, &case, faults);
+        let mut report = Buffer::open(self.alloc);
+        failing
+            .script
+            .put_report(due.entries, due.fault, &mut report);
+        ends.note(report.lacks());
+        let report = report.as_slice();
+        let told = report.get(..due.told).unwrap_or(report);
+        let air = failing.whole.get(..due.sent).unwrap_or(&[]);
+        status == due.status && ends.report() == told && ends.air() == air
     }
-    Ok(())
-}
 
-// Its air is that of the standards.
-#[test]
-fn each_call_over_one_name_fails_in_turn(rt: HostRuntime) -> Result<(), Fail> {
-    let whole = first_cycle(rt.alloc())?;
-    assert!(rt; whole.len() == ONE_NAME.cycle);
-    for piece in [1, 7, 16, 188, 65_536] {
-        assert!(rt;
-            all_fail(&rt, rt.alloc(), &ONE_NAME, &whole, piece)?,
-            "{piece}"
-        );
-    }
-    Ok(())
-}
-
-#[test]
-fn a_printed_journal_is_a_script(rt: HostRuntime) -> Result<(), Fail> {
-    let journal = joined(rt.alloc(), EVERY_KIND.entries)?;
-    assert!(rt; prints_itself(&rt, rt.alloc(), &journal)?);
-    Ok(())
-}
-
-// Whether a run that met this fault keeps its status where a write of the report fails, whichever it is, and has told all before it.
-fn keeps_its_fault<W: Threads + Wait + Sync>(
-    rt: &W,
-    alloc: Global,
-    words: &[&str],
-    input: &[u8],
-    status: Status,
-    report: &[u8],
-) -> Result<bool, AllocError> {
-    for (n, told) in (0..report.len()).step_by(5).enumerate() {
-        let run = Run::of(words, input, 5, [NEVER, NEVER, n as u64]);
-        let left = Left::of(status, &[], report.get(..told).unwrap_or(report));
-        if !leaves(rt, alloc, &run, &left)? {
-            return Ok(false);
+    // Whether each of the first calls of a side, failing, leaves what is due, and the call after them is not made.
+    fn each_fails(&self, ends: &mut Ends, failing: &Failing, side: Side, calls: usize) -> bool {
+        for n in 0..calls {
+            let faults = Faults::of(side, failing.piece, n as u64);
+            if !self.leaves(ends, failing, &faults, &due_of(failing, side, n)) {
+                return false;
+            }
         }
+        let faults = Faults::of(side, failing.piece, calls as u64);
+        self.leaves(ends, failing, &faults, &due_whole(failing))
     }
-    Ok(true)
-}
 
-#[test]
-fn a_fault_of_a_script_stays(rt: HostRuntime) -> Result<(), Fail> {
-    let input = joined(rt.alloc(), &[MUX, "publish\nswop\n"])?;
-    let report = b"0,publish\n=,published,1\nfault: input line 6 is no command\n";
-    let status = Status::BadScript(6);
-    assert!(rt; keeps_its_fault(&rt, rt.alloc(), PLAY, input.as_bytes(), status, report)?);
-    Ok(())
-}
+    // Whether each call of each side, failing, leaves what is due, where each call moves so many bytes, of the air 47 at least.
+    fn all_fail(
+        &self,
+        ends: &mut Ends,
+        script: &Script,
+        whole: &[u8],
+        piece: usize,
+        report: usize,
+    ) -> bool {
+        for side in [Side::Input, Side::Air, Side::Report] {
+            let piece = if side == Side::Air {
+                piece.max(47)
+            } else {
+                piece
+            };
+            let failing = Failing {
+                script,
+                whole,
+                piece,
+            };
+            let calls = calls_of(&failing, side, report);
+            if !self.each_fails(ends, &failing, side, calls) {
+                return false;
+            }
+        }
+        true
+    }
 
-#[test]
-fn a_fault_of_a_recording_stays(rt: HostRuntime) -> Result<(), Fail> {
-    let report = b"fault: packet 0\n";
-    let status = Status::BadStream(0);
-    assert!(rt; keeps_its_fault(&rt, rt.alloc(), LISTEN, &[0x47; 187], status, report)?);
-    Ok(())
+    // The air and the length of the report of a script are those of a run in which nothing fails.
+    fn fail_all(&self, ends: &mut Ends, script: &Script, piece: usize) -> bool {
+        self.play(ends, script.text.as_bytes());
+        let report = ends.report().len();
+        let mut whole = Buffer::open(self.alloc);
+        whole.put(ends.air());
+        ends.note(whole.lacks());
+        whole.len() == script.sent_of(script.entries.len())
+            && self.all_fail(ends, script, whole.as_slice(), piece, report)
+    }
+
+    /// `NAME PIECE`
+    pub fn tell_fails(&self, ends: &mut Ends, row: &str, out: &mut Buffer) {
+        let (name, piece) = cut(row);
+        let script = match name {
+            "one" => &ONE_NAME,
+            "every" => &EVERY_KIND,
+            _ => return out.say("no row"),
+        };
+        let is_due = self.fail_all(ends, script, number(piece).max(1));
+        out.say(if is_due { "as due" } else { "not as due" })
+    }
+
+    // Whether a case keeps this status, and tells a proper front of this report, where a write of the report fails, whichever it is.
+    fn keeps(&self, ends: &mut Ends, case: &Case, status: Status, report: &[u8]) -> bool {
+        for n in 0..report.len().div_ceil(5) {
+            let faults = Faults::of(Side::Report, 5, n as u64);
+            let kept = ends.run(self.rt, case, &faults) == status;
+            let told = report.get(..n.saturating_mul(5)).unwrap_or(report);
+            if !kept || ends.report() != told || !ends.air().is_empty() {
+                return false;
+            }
+        }
+        true
+    }
+
+    // Appends the report of a case that meets a fault, and whether each run of it in which a write of the report fails keeps its status.
+    fn put_keeps(&self, ends: &mut Ends, case: &Case, out: &mut Buffer) {
+        let status = ends.run(self.rt, case, &WHOLE);
+        let mut report = Buffer::open(self.alloc);
+        report.put(ends.report());
+        ends.note(report.lacks());
+        let keeps = self.keeps(ends, case, status, report.as_slice());
+        put_whole(out, status.code(), report.text());
+        out.say(if keeps { " stays" } else { " goes" })
+    }
+
+    /// `play SCRIPT`, or `listen BYTES`
+    pub fn tell_stays(&self, ends: &mut Ends, row: &str, out: &mut Buffer) {
+        let (words, text) = cut(row);
+        let mut bytes = Buffer::open(self.alloc);
+        if words == "listen" {
+            put_spelled(&mut bytes, text);
+        } else {
+            self.put_script(text, &mut bytes);
+        }
+        ends.note(bytes.lacks());
+        let case = Case {
+            words,
+            input: bytes.as_slice(),
+            file: File::Absent,
+        };
+        self.put_keeps(ends, &case, out)
+    }
 }

@@ -1,13 +1,18 @@
 // What is written before the next piece of an input is read: no clause says it, since each speaks of before and after a run.
 ghost use Rattle.std.specs.Prelude.{None};
 
-use crate::airs::renamed;
-use crate::runs::{CYCLE, air_of};
+use crate::run::{Ends, Room};
 use epg_cli::{Status, run_listen, run_play};
+use row_lines::Buffer;
 use si_causes::{Failed, Sink, Source};
-use std::alloc::Global;
+use std::alloc::{AllocError, Global};
 use std::cell::Cell;
-use std::test::Fail;
+use std::marker::Sync;
+use std::sync::Wait;
+use std::thread::Threads;
+
+// How many bytes the cycles of these scripts have.
+const CYCLE: usize = 6 * 188;
 
 // A source that gives one piece a read, and looks at each read how many bytes a sink has taken.
 #[derive(Drop)]
@@ -96,12 +101,6 @@ fn sends_before_it_reads(alloc: Global) -> bool {
     status == Status::Done && input.agrees && input.reads == SENT.len()
 }
 
-#[test]
-fn a_cycle_is_sent_before_the_next_line_is_read(rt: HostRuntime) -> Result<(), Fail> {
-    assert!(rt; sends_before_it_reads(rt.alloc()));
-    Ok(())
-}
-
 // How many bytes are reported when each of 18 packets is read, and when the end is met: in the first cycle each of PAT, PMT, NIT and
 // SDT has its line, and the packet of event information two, of present and following and of the schedule; in each further cycle the SDT
 // alone.
@@ -109,7 +108,7 @@ const REPORTED: &[usize] = &[
     0, 19, 42, 64, 85, 85, 131, 131, 131, 131, 152, 152, 152, 152, 152, 152, 174, 174, 174,
 ];
 
-// What is reported behind them.
+// What is reported after them.
 const GUIDE: &str = "\
 clock\t1970-01-01T00:00:00Z
 network\t40\tDemo
@@ -136,12 +135,41 @@ fn reports_before_it_reads(alloc: Global, packets: &[&[u8]]) -> bool {
         && taken.get() == 174 + GUIDE.len()
 }
 
-// The same of the air of three swaps, each of a new name.
-#[test]
-fn completions_are_reported_before_the_next_packet_is_read(rt: HostRuntime) -> Result<(), Fail> {
-    let script = renamed(rt.alloc(), &[1, 1, 1])?;
-    let air = air_of(&rt, rt.alloc(), &script)?;
-    let packets: Vec<&[u8]> = air.chunks(188).collect(rt.alloc())?;
-    assert!(rt; reports_before_it_reads(rt.alloc(), &packets));
-    Ok(())
+// The air of three swaps, each of a new name.
+const THREE_NAMES: &str = "\
+network,40,Demo
+stream,1,1
+service,101,1,1,256,257,Acme,One
+end
+feed,1,name,101,Acme,News 0
+publish
+swap
+feed,1,name,101,Acme,News 1
+publish
+swap
+feed,1,name,101,Acme,News 2
+publish
+swap
+";
+
+impl<'a, W: Threads + Wait + Sync> Room<'a, W> {
+    fn reports_in_order(&self, ends: &mut Ends) -> Result<bool, AllocError> {
+        self.play(ends, THREE_NAMES.as_bytes());
+        let packets: Vec<&[u8]> = ends.air().chunks(188).collect(self.alloc)?;
+        Ok(reports_before_it_reads(self.alloc, &packets))
+    }
+
+    /// `play` or `listen`
+    pub fn tell_order(&self, ends: &mut Ends, row: &str, out: &mut Buffer) {
+        let is_due = match row {
+            "play" => Ok(sends_before_it_reads(self.alloc)),
+            "listen" => self.reports_in_order(ends),
+            _ => Ok(false),
+        };
+        out.say(match is_due {
+            Ok(true) => "as due",
+            Ok(false) => "not as due",
+            Err(_) => "no memory",
+        });
+    }
 }

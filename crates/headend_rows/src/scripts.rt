@@ -1,5 +1,5 @@
 // Scripts of `play`, and what is due of their first commands.
-use std::alloc::{AllocError, Global};
+use row_lines::Buffer;
 
 // A script of every kind of line, and two swaps of a guide with two events of the day.
 const EVERY: &str = "\
@@ -38,16 +38,16 @@ const ENTRIES: [&str; 6] = [
 // A script: its text, the entries of its journal, the last line of each of its commands, how many cycles are sent with so many entries,
 // and how many bytes a cycle has.
 #[derive(Clone, Copy)]
-pub(crate) struct Script<'a> {
-    pub(crate) text: &'a str,
-    pub(crate) entries: &'a [&'a str],
-    pub(crate) last_lines: &'a [usize],
-    pub(crate) cycles: &'a [usize],
-    pub(crate) cycle: usize,
+pub struct Script<'a> {
+    pub text: &'a str,
+    pub entries: &'a [&'a str],
+    pub last_lines: &'a [usize],
+    pub cycles: &'a [usize],
+    pub cycle: usize,
 }
 
 // A cycle of it has PAT, PMT, NIT, SDT and TDT in a packet each, and 206 bytes of present, following and a schedule up to 15:00 in two.
-pub(crate) const EVERY_KIND: Script = Script {
+pub const EVERY_KIND: Script = Script {
     text: EVERY,
     entries: &ENTRIES,
     last_lines: &[8, 13, 15, 16, 18, 20],
@@ -56,7 +56,7 @@ pub(crate) const EVERY_KIND: Script = Script {
 };
 
 // A script of a new name, a publication and a swap.
-pub(crate) const ONE_NAME: Script = Script {
+pub const ONE_NAME: Script = Script {
     text: "\
 network,40,Demo
 stream,1,1
@@ -78,7 +78,7 @@ swap
 
 impl<'a> Script<'a> {
     // How many commands end in the first bytes.
-    pub(crate) fn commands_in(&self, bytes: usize) -> usize {
+    pub fn commands_in(&self, bytes: usize) -> usize {
         let taken = self.text.as_bytes().iter().take(bytes);
         let lines = taken.filter(|byte| **byte == b'\n').count();
         self.last_lines
@@ -88,42 +88,35 @@ impl<'a> Script<'a> {
     }
 
     // How many bytes the cycles of the first commands have.
-    pub(crate) fn sent_of(&self, commands: usize) -> usize {
+    pub fn sent_of(&self, commands: usize) -> usize {
         let cycles = self.cycles.get(commands).copied().unwrap_or(0);
         cycles.saturating_mul(self.cycle)
     }
 
     // How many commands there are up to the swap whose cycle is not whole in so many bytes.
-    pub(crate) fn commands_up_to(&self, sent: usize) -> usize {
+    pub fn commands_up_to(&self, sent: usize) -> usize {
         let cycles = sent / self.cycle.max(1);
         self.cycles.iter().filter(|aired| **aired <= cycles).count()
     }
 
     // The writes that send a cycle, where each call moves at most `piece` bytes of it.
-    pub(crate) fn writes(&self, piece: usize) -> usize {
+    pub fn writes(&self, piece: usize) -> usize {
         self.cycle.div_ceil(piece.max(1))
     }
 
     // How many bytes the air has before call `n`.
-    pub(crate) fn sent_before(&self, n: usize, piece: usize) -> usize {
+    pub fn sent_before(&self, n: usize, piece: usize) -> usize {
         let calls = self.writes(piece).max(1);
         (n / calls)
             .saturating_mul(self.cycle)
             .saturating_add((n % calls).saturating_mul(piece))
     }
 
-    // The first entries of the journal, and a line.
-    pub(crate) fn report_of(
-        &self,
-        alloc: Global,
-        entries: usize,
-        fault: &str,
-    ) -> Result<String, AllocError> {
-        let mut report = String::new(alloc);
+    // Appends the first entries of the journal, and a line.
+    pub fn put_report(&self, entries: usize, fault: &str, report: &mut Buffer) {
         for entry in self.entries.iter().take(entries) {
-            report.push_str(entry)?;
+            report.say(entry);
         }
-        report.push_str(fault)?;
-        Ok(report)
+        report.say(fault);
     }
 }

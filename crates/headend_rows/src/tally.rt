@@ -1,6 +1,5 @@
-// How runs ended, counted.
-use crate::run::{Left, report_of};
-use std::alloc::AllocError;
+// How audits ended, counted.
+use row_lines::Buffer;
 
 // The ends of an audit: the exit status, and the word with which the line of the report begins or ends.
 const ENDS: [(u8, &str); 7] = [
@@ -13,7 +12,7 @@ const ENDS: [(u8, &str); 7] = [
     (15, "bytes"),
 ];
 
-/// How many runs ended in each way, behind these in another, and the sum of the packets that their reports name.
+/// How many runs ended in each way, after these in another, and the sum of the packets that their reports name.
 #[derive(Drop)]
 pub struct Tally {
     counts: [u64; 7],
@@ -30,7 +29,7 @@ pub fn no_runs() -> Tally {
     }
 }
 
-// The word by which a report is told.
+// The word by which a report is known.
 fn end_word(report: &str) -> &str {
     let line = report.strip_suffix('\n').unwrap_or("");
     match line.split_once('\t') {
@@ -45,12 +44,11 @@ fn packet_in(report: &str) -> Option<u64> {
     number.parse::<u64>().ok()
 }
 
-/// Counts a run.
-pub fn count(tally: &mut Tally, left: &Left) {
-    let report = report_of(left);
-    let end = (left.status.code(), end_word(report));
+/// Counts a run with this exit status and report.
+pub fn count(tally: &mut Tally, code: u8, report: &str) {
     let packet = packet_in(report).unwrap_or(0);
     tally.packets = tally.packets.saturating_add(packet);
+    let end = (code, end_word(report));
     let place = ENDS.iter().position(|known| *known == end);
     match place.and_then(|place| tally.counts.get_mut(place)) {
         Some(count) => *count = count.saturating_add(1),
@@ -59,14 +57,19 @@ pub fn count(tally: &mut Tally, left: &Left) {
 }
 
 /// Appends the ends that came, and how often each did; and the sum of the packets.
-pub fn put_tally(out: &mut String, tally: &Tally) -> Result<(), AllocError> {
+pub fn put_tally(out: &mut Buffer, tally: &Tally) {
     for ((code, word), count) in ENDS.iter().zip(&tally.counts) {
         if *count != 0 {
-            write!(out, "{count} times {code} {word}, ")?;
+            out.say_number("", *count);
+            out.say_number(" times ", u64::from(*code));
+            out.say(" ");
+            out.say(word);
+            out.say(", ");
         }
     }
     if tally.others != 0 {
-        write!(out, "{} times another, ", tally.others)?;
+        out.say_number("", tally.others);
+        out.say(" times another, ");
     }
-    write!(out, "packets {}", tally.packets)
+    out.say_number("packets ", tally.packets);
 }
