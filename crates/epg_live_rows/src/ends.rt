@@ -1,22 +1,16 @@
 // What a run left, as text.
-use crate::run::Left;
-use std::alloc::AllocError;
+use crate::run::Ends;
+use row_lines::Buffer;
 
 // Appends lines of a report: a slash for LF, a space for a tab.
-fn put_lines(out: &mut String, lines: &str) -> Result<(), AllocError> {
-    for c in lines.chars() {
-        match c {
-            '\n' => out.push('/')?,
-            '\t' => out.push(' ')?,
-            c => out.push(c)?,
-        }
+fn put_lines(out: &mut Buffer, lines: &str) {
+    for byte in lines.as_bytes() {
+        out.push(match *byte {
+            b'\n' => b'/',
+            b'\t' => b' ',
+            byte => byte,
+        });
     }
-    Ok(())
-}
-
-/// The report as text.
-pub fn report_of(left: &Left) -> &str {
-    str::from_utf8(left.report.taken()).unwrap_or("no UTF-8")
 }
 
 // The last line of a report, without its LF.
@@ -29,49 +23,48 @@ fn last_line(report: &str) -> &str {
 }
 
 // Appends these lines, where there are some.
-fn put_behind(out: &mut String, lines: &str) -> Result<(), AllocError> {
+fn put_behind(out: &mut Buffer, lines: &str) {
     if lines.is_empty() {
-        return Ok(());
+        return;
     }
-    out.push_str(", ")?;
+    out.say(", ");
     put_lines(out, lines)
 }
 
 // Appends code and packets.
-fn put_sent(out: &mut String, left: &Left) -> Result<(), AllocError> {
-    let (code, packets) = (left.status.code(), left.air.taken().len() / 188);
-    write!(out, "{code}, {packets} packets")
+fn put_sent(out: &mut Buffer, ends: &Ends) {
+    let (code, packets) = (ends.status().code(), ends.air().len() / 188);
+    out.say_number("", u64::from(code));
+    out.say_number(", ", packets as u64);
+    out.say(" packets");
 }
 
 /// Appends code, packets and the last line of the report.
-pub fn put_end(out: &mut String, left: &Left) -> Result<(), AllocError> {
-    put_sent(out, left)?;
-    put_behind(out, last_line(report_of(left)))
+pub fn put_end(out: &mut Buffer, ends: &Ends) {
+    put_sent(out, ends);
+    put_behind(out, last_line(ends.report_text()))
 }
 
 /// Appends code, packets and the whole report.
-pub fn put_whole(out: &mut String, left: &Left) -> Result<(), AllocError> {
-    put_sent(out, left)?;
-    put_behind(out, report_of(left))
+pub fn put_whole(out: &mut Buffer, ends: &Ends) {
+    put_sent(out, ends);
+    put_behind(out, ends.report_text())
 }
 
 /// Appends code and the whole report, without the packets: how many these are depends on the order in which the jobs ran.
-pub fn put_report(out: &mut String, left: &Left) -> Result<(), AllocError> {
-    let code = left.status.code();
-    write!(out, "{code}")?;
-    put_behind(out, report_of(left))
+pub fn put_report(out: &mut Buffer, ends: &Ends) {
+    out.say_number("", u64::from(ends.status().code()));
+    put_behind(out, ends.report_text())
 }
 
 /// Appends code, and the lines of views that the report has.
-pub fn put_views(out: &mut String, left: &Left) -> Result<(), AllocError> {
-    let code = left.status.code();
-    write!(out, "{code}")?;
-    for line in report_of(left).lines() {
+pub fn put_views(out: &mut Buffer, ends: &Ends) {
+    out.say_number("", u64::from(ends.status().code()));
+    for line in ends.report_text().lines() {
         if line.starts_with("view\t") {
-            put_behind(out, line)?;
+            put_behind(out, line);
         }
     }
-    Ok(())
 }
 
 /// The caller of an entry's line of a report.
@@ -89,12 +82,12 @@ fn entries_of(report: &str, who: u32) -> usize {
 }
 
 /// Appends code, packets, how many entries the journal has of the callers 0 to 3, and the last line of the report.
-pub fn put_counts(out: &mut String, left: &Left) -> Result<(), AllocError> {
-    put_sent(out, left)?;
-    out.push_str(", entries")?;
+pub fn put_counts(out: &mut Buffer, ends: &Ends) {
+    put_sent(out, ends);
+    out.say(", entries");
     for who in 0..4 {
-        let entries = entries_of(report_of(left), who);
-        write!(out, " {entries}")?;
+        let entries = entries_of(ends.report_text(), who);
+        out.say_number(" ", entries as u64);
     }
-    put_behind(out, last_line(report_of(left)))
+    put_behind(out, last_line(ends.report_text()))
 }

@@ -1,48 +1,61 @@
 // What fails in a run.
 
+/// No call has this number.
+pub const NEVER: u64 = 1_000_000_000;
+
 /// The calls that fail: a read of the input, a write of the air, one of the report, an opening, each by its number from 0; and a
 /// read of a feed, by the numbers of its opening and of the read.
 #[derive(Clone, Copy)]
 pub struct Faults {
-    pub input: Option<u64>,
-    pub air: Option<u64>,
-    pub report: Option<u64>,
-    pub opening: Option<u64>,
-    pub read: Option<(u64, u64)>,
+    pub input: u64,
+    pub air: u64,
+    pub report: u64,
+    pub opening: u64,
+    pub read: (u64, u64),
 }
 
 /// Nothing fails.
 pub const NONE: Faults = Faults {
-    input: None,
-    air: None,
-    report: None,
-    opening: None,
-    read: None,
+    input: NEVER,
+    air: NEVER,
+    report: NEVER,
+    opening: NEVER,
+    read: (NEVER, NEVER),
 };
 
-fn number(text: &str) -> Option<u64> {
-    text.parse::<u64>().ok()
+fn number(text: &str) -> u64 {
+    text.parse::<u64>().unwrap_or(NEVER)
 }
 
-fn read_of(text: &str) -> Option<(u64, u64)> {
-    let (opening, read) = text.split_once('.')?;
-    Some((number(opening)?, number(read)?))
+// The number of a call that fails, where this is its kind.
+fn at(is_kind: bool, call: u64) -> u64 {
+    if is_kind { call } else { NEVER }
+}
+
+// The faults of a kind: `i` fails this read of the input, `a` this write of the air, `w` this write of the report, `o` this opening, and
+// `r` this read of an opening.
+fn faults_at(kind: &str, opening: u64, call: u64) -> Faults {
+    Faults {
+        input: at(kind == "i", call),
+        air: at(kind == "a", call),
+        report: at(kind == "w", call),
+        opening: at(kind == "o", call),
+        read: (opening, at(kind == "r", call)),
+    }
+}
+
+/// The faults of a kind, as `i` or `r3.`, where this call fails.
+pub fn faults_in(kind: &str, call: u64) -> Faults {
+    match kind.strip_prefix('r') {
+        Some(opening) => faults_at("r", number(opening.strip_suffix('.').unwrap_or("")), call),
+        None => faults_at(kind, NEVER, call),
+    }
 }
 
 /// The faults of a word: `-` is none, `i3` fails read 3 of the input, `a3` write 3 of the air, `w3` write 3 of the report, `o3` opening
 /// 3, and `r3.1` read 1 of opening 3, all counted from 0.
 pub fn faults_of(word: &str) -> Faults {
-    let mut faults = NONE;
-    if let Some(text) = word.strip_prefix('i') {
-        faults.input = number(text);
-    } else if let Some(text) = word.strip_prefix('a') {
-        faults.air = number(text);
-    } else if let Some(text) = word.strip_prefix('w') {
-        faults.report = number(text);
-    } else if let Some(text) = word.strip_prefix('o') {
-        faults.opening = number(text);
-    } else if let Some(text) = word.strip_prefix('r') {
-        faults.read = read_of(text);
-    }
-    faults
+    let (kind, text) = (word.get(..1).unwrap_or("-"), word.get(1..).unwrap_or(""));
+    let (opening, read) = text.split_once('.').unwrap_or(("", text));
+    faults_at(kind, number(opening), number(read))
 }

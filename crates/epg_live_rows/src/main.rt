@@ -15,13 +15,26 @@ mod run;
 mod turns;
 mod weeks;
 
+use row_gates::Holding;
+use row_lines::Buffer;
+use run::{Ends, Room};
 use std::io;
 
 fn main(rt: HostRuntime) -> io::Result<()> {
+    let open = Holding::of(rt.alloc(), "")?;
+    let room = Room {
+        rt: &rt,
+        alloc: rt.alloc(),
+        open: &open,
+    };
+    let mut ends = Ends::open(rt.alloc());
+    let mut told = Buffer::open(rt.alloc());
     for line in rt.lines(rt.alloc()) {
         let line = line?;
-        let told = rows::told(&rt, rt.alloc(), line.as_str())?;
-        println!(rt; "{told}")?;
+        told.clear();
+        room.tell(&mut ends, line.as_str(), &mut told);
+        let answer = told.finished(ends.lacks())?;
+        println!(rt; "{answer}")?;
     }
     Ok(())
 }
