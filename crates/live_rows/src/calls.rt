@@ -7,35 +7,34 @@ ghost use Rattle.desk_hall.specs.Turn.{KeepsNumbers};
 
 use crate::halls::two_services;
 use crate::journals::put_entries;
-use crate::lines::Lines;
 use crate::words::{put_outcome, put_reply};
 use desk_core::Airing;
 use headend_live::{Hall, HallPass};
 use journal_model::Step;
 use journal_text::{ScriptItem, next_item};
 use mux_model::Mux;
+use row_lines::{Buffer, Lines, WHOLE, reader};
 use std::alloc::{AllocError, Global};
 use std::sync::Wait;
 
 // Appends the number of what went on air, and the name of its first service.
-fn put_airing(out: &mut String, airing: &Airing) -> Result<(), AllocError> {
-    let number = airing.number;
-    write!(out, "airs {number}")?;
+fn put_airing(out: &mut Buffer, airing: &Airing) {
+    out.say_number("airs ", airing.number);
     if airing.guide.len() > 0 {
-        let name = airing.guide.at(0).name.as_str();
-        write!(out, " \"{name}\"")?;
+        out.say(" \"");
+        out.say(airing.guide.at(0).name.as_str());
+        out.say("\"");
     }
-    Ok(())
 }
 
-// Does a step by the call for it, and appends what that answers.
+// Does a step by the call for it, and appends what that answers; there was one.
 fn tell_step<W: Wait>(
     rt: &W,
     hall: &Hall,
     pass: &mut HallPass,
     step: Step,
-    out: &mut String,
-) -> Result<(), AllocError>
+    out: &mut Buffer,
+) -> Result<bool, AllocError>
     requires turns { pass.old.turns ≡ hall.now.turns }
     requires within { IsStepWithin step }
     ensures { KeepsNumbers pass.old pass.new }
@@ -43,13 +42,10 @@ fn tell_step<W: Wait>(
     match step {
         Step::Edit(feed, edit) => put_reply(out, hall.edit(rt, pass, feed, edit)?),
         Step::Tick(at) => put_outcome(out, hall.tick(rt, pass, at)?),
-        Step::Publish => put_published(out, hall.publish(rt, pass)?),
+        Step::Publish => out.say_number("publishes ", hall.publish(rt, pass)?),
         Step::Swap => put_airing(out, &hall.swap(rt, pass)?),
     }
-}
-
-fn put_published(out: &mut String, number: u64) -> Result<(), AllocError> {
-    write!(out, "publishes {number}")
+    Ok(true)
 }
 
 // Does the next step of a script; whether there was one.
@@ -59,17 +55,13 @@ fn tell_next<W: Wait>(
     hall: &Hall,
     pass: &mut HallPass,
     lines: &mut Lines,
-    out: &mut String,
+    out: &mut Buffer,
 ) -> Result<bool, AllocError>
     requires { pass.old.turns ≡ hall.now.turns }
     ensures { KeepsNumbers pass.old pass.new }
 {
     match next_item(alloc, lines, false) {
-        Ok(ScriptItem::Step(_, step)) => {
-            tell_step(rt, hall, pass, step, out)?;
-            out.push_str("; ")?;
-            Ok(true)
-        }
+        Ok(ScriptItem::Step(_, step)) => tell_step(rt, hall, pass, step, out),
         _ => Ok(false),
     }
 }
@@ -81,7 +73,7 @@ fn tell_steps<W: Wait>(
     hall: &Hall,
     pass: &mut HallPass,
     lines: &mut Lines,
-    out: &mut String,
+    out: &mut Buffer,
 ) -> Result<(), AllocError>
     requires { pass.old.turns ≡ hall.now.turns }
     ensures { KeepsNumbers pass.old pass.new }
@@ -90,6 +82,7 @@ fn tell_steps<W: Wait>(
         if !tell_next(rt, alloc, hall, pass, lines, out)? {
             return Ok(());
         }
+        out.say("; ");
     }
     Ok(())
 }
@@ -99,26 +92,25 @@ fn tell_hall<W: Wait>(
     alloc: Global,
     mux: Mux,
     lines: &mut Lines,
-    out: &mut String,
+    out: &mut Buffer,
 ) -> Result<(), AllocError>
     requires { IsSound mux }
 {
     let (hall, mut pass) = Hall::open(alloc, mux, 1)?;
     tell_steps(rt, alloc, &hall, &mut pass, lines, out)?;
     let desk = hall.close(pass);
-    out.push_str("journal ")?;
-    put_entries(out, desk.entries())
+    out.say("journal ");
+    put_entries(out, desk.entries());
+    Ok(())
 }
 
-/// Appends what each call answers, and then the journal.
+/// Appends what each call for the steps of a script answers, and then the journal.
 pub fn tell<W: Wait>(
     rt: &W,
     alloc: Global,
-    lines: &mut Lines,
-    out: &mut String,
+    text: &str,
+    out: &mut Buffer,
 ) -> Result<(), AllocError> {
-    match two_services(alloc)? {
-        Some(mux) => tell_hall(rt, alloc, mux, lines, out),
-        None => out.push_str("no row"),
-    }
+    let mut lines = reader(alloc, text, WHOLE)?;
+    tell_hall(rt, alloc, two_services(alloc)?, &mut lines, out)
 }

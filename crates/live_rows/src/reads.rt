@@ -4,10 +4,10 @@ ghost use Rattle.mux_model.specs.Sound.{IsSound};
 
 use crate::halls::two_services;
 use crate::journals::put_entries;
-use crate::lines::Lines;
 use crate::words::put_stop;
 use headend_live::{Hall, HallPass};
 use mux_model::Mux;
+use row_lines::{Buffer, Lines};
 use si_causes::OpenGate;
 use std::alloc::{AllocError, Global};
 use std::sync::Wait;
@@ -26,7 +26,7 @@ fn tell_job<W: Wait>(
     reads: Reads,
     mux: Mux,
     lines: &mut Lines,
-    out: &mut String,
+    out: &mut Buffer,
 ) -> Result<(), AllocError>
     requires { IsSound mux }
 {
@@ -36,8 +36,9 @@ fn tell_job<W: Wait>(
         Reads::Control => hall.control(rt, alloc, &mut pass, lines),
     };
     let desk = hall.close(pass);
-    put_entries(out, desk.entries())?;
-    put_stop(out, stop)
+    put_entries(out, desk.entries());
+    put_stop(out, stop);
+    Ok(())
 }
 
 /// Appends the journal that a job leaves, and why it ended.
@@ -46,10 +47,7 @@ pub fn tell<W: Wait>(
     alloc: Global,
     reads: Reads,
     lines: &mut Lines,
-    out: &mut String,
+    out: &mut Buffer,
 ) -> Result<(), AllocError> {
-    match two_services(alloc)? {
-        Some(mux) => tell_job(rt, alloc, reads, mux, lines, out),
-        None => out.push_str("no row"),
-    }
+    tell_job(rt, alloc, reads, two_services(alloc)?, lines, out)
 }

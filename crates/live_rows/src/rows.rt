@@ -1,13 +1,18 @@
 // A row and its answer.
-use crate::lines::{Cut, WHOLE, reader};
 use crate::reads::Reads;
 use crate::runs::Run;
 use crate::{callers, calls, reads, runs};
 use input_lines::numeral;
+use row_lines::{Buffer, Cut, reader};
 use std::alloc::{AllocError, Global};
 use std::marker::Sync;
 use std::sync::Wait;
 use std::thread::Threads;
+
+fn no_row(out: &mut Buffer) -> Result<(), AllocError> {
+    out.say("no row");
+    Ok(())
+}
 
 // How the text of a row comes, and the text.
 fn cut_of(row: &str) -> Option<(Cut, &str)> {
@@ -23,34 +28,24 @@ fn tell_reads<W: Wait>(
     alloc: Global,
     reads: Reads,
     row: &str,
-    out: &mut String,
+    out: &mut Buffer,
 ) -> Result<(), AllocError> {
     let Some((cut, text)) = cut_of(row) else {
-        return out.push_str("no row");
+        return no_row(out);
     };
     let mut lines = reader(alloc, text, cut)?;
     reads::tell(rt, alloc, reads, &mut lines, out)
-}
-
-fn tell_calls<W: Wait>(
-    rt: &W,
-    alloc: Global,
-    text: &str,
-    out: &mut String,
-) -> Result<(), AllocError> {
-    let mut lines = reader(alloc, text, WHOLE)?;
-    calls::tell(rt, alloc, &mut lines, out)
 }
 
 fn tell_callers<W: Threads + Wait + Sync>(
     rt: &W,
     alloc: Global,
     text: &str,
-    out: &mut String,
+    out: &mut Buffer,
 ) -> Result<(), AllocError> {
     match text.split_once(" ; ") {
-        Some((first, second)) => callers::tell(rt, alloc, first, second, out),
-        None => out.push_str("no row"),
+        Some(texts) => callers::tell(rt, alloc, texts, out),
+        None => no_row(out),
     }
 }
 
@@ -58,12 +53,12 @@ fn tell_held<W: Threads + Wait + Sync>(
     rt: &W,
     alloc: Global,
     row: &str,
-    out: &mut String,
+    out: &mut Buffer,
 ) -> Result<(), AllocError> {
     let (holds, text) = row.split_once(' ').unwrap_or((row, ""));
     match text.split_once(" ; ") {
-        Some((first, second)) => callers::tell_held(rt, alloc, holds, first, second, out),
-        None => out.push_str("no row"),
+        Some(texts) => callers::tell_held(rt, alloc, holds, texts, out),
+        None => no_row(out),
     }
 }
 
@@ -91,11 +86,11 @@ fn tell_live<W: Threads + Wait + Sync>(
     alloc: Global,
     row: &str,
     in_order: bool,
-    out: &mut String,
+    out: &mut Buffer,
 ) -> Result<(), AllocError> {
     match run_of(row) {
         Some(run) => runs::tell(rt, alloc, &run, in_order, out),
-        None => out.push_str("no row"),
+        None => no_row(out),
     }
 }
 
@@ -105,32 +100,28 @@ fn tell<W: Threads + Wait + Sync>(
     alloc: Global,
     call: &str,
     text: &str,
-    out: &mut String,
+    out: &mut Buffer,
 ) -> Result<(), AllocError> {
     match call {
         "feed" => tell_reads(rt, alloc, Reads::Feed, text, out),
         "control" => tell_reads(rt, alloc, Reads::Control, text, out),
-        "calls" => tell_calls(rt, alloc, text, out),
+        "calls" => calls::tell(rt, alloc, text, out),
         "callers" => tell_callers(rt, alloc, text, out),
         "held" => tell_held(rt, alloc, text, out),
         "live" => tell_live(rt, alloc, text, false, out),
         "order" => tell_live(rt, alloc, text, true, out),
-        _ => out.push_str("no row"),
+        _ => no_row(out),
     }
 }
 
-/// The line with its answer; an empty line and one that begins with `#` as they are.
-pub fn told<W: Threads + Wait + Sync>(
-    rt: &W,
-    alloc: Global,
-    line: &str,
-) -> Result<String, AllocError> {
-    let mut out = String::from_str(alloc, line)?;
+/// Appends the line with its answer; an empty line and one that begins with `#` as they are.
+pub fn put_told<W: Threads + Wait + Sync>(rt: &W, alloc: Global, line: &str, out: &mut Buffer) {
+    out.say(line);
     if line.is_empty() || line.starts_with('#') {
-        return Ok(out);
+        return;
     }
     let (call, text) = line.split_once(' ').unwrap_or((line, ""));
-    out.push_str(" = ")?;
-    tell(rt, alloc, call, text, &mut out)?;
-    Ok(out)
+    out.say(" = ");
+    let done = tell(rt, alloc, call, text, out);
+    out.note(done);
 }

@@ -1,14 +1,14 @@
 // What a run of two feeds, a control and a player leaves.
-ghost use Rattle.std.specs.Prelude.{◌≡◌, ◌≤◌, []};
+ghost use Rattle.std.specs.Prelude.{◌≡◌, ◌≤◌, [], length, IfOk};
 ghost use Rattle.mux_model.specs.Sound.{IsSound};
 
 use crate::halls::two_services;
 use crate::journals::{put_others, put_steps_of};
-use crate::lines::{Lines, WHOLE, reader};
 use crate::words::put_stop;
-use headend_live::{DoneLine, LiveEnd, LivePlan, LiveStop, Numbers, run_live};
+use headend_live::{DoneLine, LiveEnd, LivePlan, LiveStop, Numbers, Readers, run_live};
 use mux_model::Mux;
 use row_gates::Holding;
+use row_lines::{Buffer, Lines, WHOLE, reader};
 use si_causes::{MemSink, MemSource};
 use std::alloc::{AllocError, Global};
 use std::marker::Sync;
@@ -28,114 +28,120 @@ pub struct Run<'a> {
     pub second: &'a str,
 }
 
+// A plan, and where its run takes memory.
+#[derive(Drop)]
+struct Plan {
+    alloc: Global,
+    live: LivePlan,
+}
+
 type Left = LiveEnd<MemSource, MemSource>;
 
+// The readers of two feeds.
+fn feeds_of(alloc: Global, run: &Run) -> Result<Readers<MemSource>, AllocError>
+    ensures { IfOk result (λ feeds. length feeds.items ≤ 16) }
+{
+    let mut feeds = Vec::new(alloc);
+    feeds.push(reader(alloc, run.first, WHOLE)?)?;
+    feeds.push(reader(alloc, run.second, WHOLE)?)?;
+    Ok(feeds)
+}
+
+// What a run of these readers leaves.
 fn ended<W: Threads + Wait + Sync>(
     rt: &W,
-    alloc: Global,
     mux: Mux,
-    plan: LivePlan,
-    first: Lines,
-    second: Lines,
+    plan: Plan,
+    feeds: Readers<MemSource>,
     control: Lines,
     air: &mut MemSink,
     gate: &Holding,
 ) -> Result<Left, AllocError>
     requires sound { IsSound mux }
-    requires cycles { plan.cycles ≤ 1000 }
-    requires views { plan.views ≡ [] }
+    requires few { length feeds.items ≤ 16 }
+    requires cycles { plan.live.cycles ≤ 1000 }
+    requires views { plan.live.views ≡ [] }
 {
-    let mut feeds = Vec::new(alloc);
-    feeds.push(first)?;
-    feeds.push(second)?;
-    run_live(rt, alloc, mux, plan, feeds, control, air, gate)
+    run_live(rt, plan.alloc, mux, plan.live, feeds, control, air, gate)
 }
 
 fn ended_of<W: Threads + Wait + Sync>(
     rt: &W,
     alloc: Global,
     run: &Run,
-    mux: Mux,
     air: &mut MemSink,
     gate: &Holding,
-) -> Result<Left, AllocError>
-    requires { IsSound mux }
-{
-    let plan = LivePlan {
+) -> Result<Left, AllocError> {
+    let feeds = feeds_of(alloc, run)?;
+    let control = reader(alloc, run.control, WHOLE)?;
+    let mux = two_services(alloc)?;
+    let live = LivePlan {
         cycles: u64::from(run.cycles).min(1000),
         join: u64::from(run.join),
         views: Numbers::new(alloc),
     };
-    let first = reader(alloc, run.first, WHOLE)?;
-    let second = reader(alloc, run.second, WHOLE)?;
-    let control = reader(alloc, run.control, WHOLE)?;
-    ended(rt, alloc, mux, plan, first, second, control, air, gate)
+    ended(rt, mux, Plan { alloc, live }, feeds, control, air, gate)
 }
 
-fn put_live_stop(out: &mut String, stop: Option<LiveStop>) -> Result<(), AllocError> {
+fn put_live_stop(out: &mut Buffer, stop: Option<LiveStop>) {
     match stop {
-        None => out.push_str("end"),
-        Some(LiveStop::Air) => out.push_str("air failed"),
+        None => out.say("end"),
+        Some(LiveStop::Air) => out.say("air failed"),
         Some(LiveStop::Control(stop)) => {
-            out.push_str("control: ")?;
-            put_stop(out, Some(stop))
+            out.say("control: ");
+            put_stop(out, Some(stop));
         }
         Some(LiveStop::Feed(feed, stop)) => {
-            write!(out, "feed {feed}: ")?;
-            put_stop(out, Some(stop))
+            out.say_number("feed ", u64::from(feed));
+            out.say(": ");
+            put_stop(out, Some(stop));
         }
-        Some(LiveStop::Memory) => Err(AllocError),
+        Some(LiveStop::Memory) => out.note(Err(AllocError)),
     }
 }
 
 // Appends the completions: of each the packet and the version.
-fn put_dones(out: &mut String, dones: &[DoneLine]) -> Result<(), AllocError> {
-    out.push_str("dones")?;
+fn put_dones(out: &mut Buffer, dones: &[DoneLine]) {
+    out.say("dones");
     for done in dones {
-        let (packet, version) = (done.packet, done.version);
-        write!(out, " {packet}:{version}")?;
+        out.say_number(" ", done.packet);
+        out.say_number(":", u64::from(done.version));
     }
-    out.push_str("; ")
+    out.say("; ");
 }
 
-fn put_packets(out: &mut String, taken: &[u8]) -> Result<(), AllocError> {
-    let packets = taken.len() / 188;
-    write!(out, "packets {packets}; ")
-}
-
-fn put_end(out: &mut String, end: &Left, taken: &[u8]) -> Result<(), AllocError> {
+fn put_end(out: &mut Buffer, end: &Left, taken: &[u8]) {
     for who in 0..4 {
-        put_steps_of(out, who, end.desk.entries())?;
+        put_steps_of(out, who, end.desk.entries());
     }
-    put_packets(out, taken)?;
-    put_dones(out, end.dones.as_slice())?;
-    put_live_stop(out, end.stop)
+    out.say_number("packets ", (taken.len() / 188) as u64);
+    out.say("; ");
+    put_dones(out, end.dones.as_slice());
+    put_live_stop(out, end.stop);
 }
 
-fn put_order(out: &mut String, end: &Left, gate: &Holding) -> Result<(), AllocError> {
-    put_others(out, end.desk.entries())?;
-    out.push_str(if gate.gave_up() { "gave up" } else { "end" })
+fn put_order(out: &mut Buffer, end: &Left, gate: &Holding) {
+    put_others(out, end.desk.entries());
+    out.say(if gate.gave_up() { "gave up" } else { "end" });
 }
 
 // Appends the steps of each caller, the air and the completions, and why the run stopped; or the journal in its order.
-fn tell_run<W: Threads + Wait + Sync>(
+fn tell_over<W: Threads + Wait + Sync>(
     rt: &W,
     alloc: Global,
     run: &Run,
-    mux: Mux,
     in_order: bool,
-    out: &mut String,
-) -> Result<(), AllocError>
-    requires { IsSound mux }
-{
-    let gate = Holding::of(alloc, run.holds)?;
-    let mut air = MemSink::open(alloc, 65_536, vec![in alloc; u64::from(run.fails_at); 1]?);
-    let end = ended_of(rt, alloc, run, mux, &mut air, &gate)?;
+    air: &mut MemSink,
+    gate: &Holding,
+    out: &mut Buffer,
+) -> Result<(), AllocError> {
+    let end = ended_of(rt, alloc, run, air, gate)?;
     if in_order {
-        put_order(out, &end, &gate)
+        put_order(out, &end, gate);
     } else {
-        put_end(out, &end, air.taken())
+        put_end(out, &end, air.taken());
     }
+    Ok(())
 }
 
 /// Appends what a run leaves.
@@ -144,10 +150,10 @@ pub fn tell<W: Threads + Wait + Sync>(
     alloc: Global,
     run: &Run,
     in_order: bool,
-    out: &mut String,
+    out: &mut Buffer,
 ) -> Result<(), AllocError> {
-    match two_services(alloc)? {
-        Some(mux) => tell_run(rt, alloc, run, mux, in_order, out),
-        None => out.push_str("no row"),
-    }
+    let gate = Holding::of(alloc, run.holds)?;
+    let fails = vec![in alloc; u64::from(run.fails_at); 1]?;
+    let mut air = MemSink::open(alloc, 65_536, fails);
+    tell_over(rt, alloc, run, in_order, &mut air, &gate, out)
 }
