@@ -4,23 +4,23 @@ ghost use Rattle.journal_model.specs.Steps.{IsStepWithin, IsEntryInWindow, IsInW
 
 use journal_model::{Entry, Outcome};
 use journal_text::{ScriptItem, next_item, write_entry};
-use row_lines::{Lines, text_of};
-use std::alloc::{AllocError, Global};
+use row_lines::{Buffer, Lines};
+use std::alloc::Global;
 
 // Appends a text with a slash for LF.
-fn put_lines(out: &mut String, text: &str) -> Result<(), AllocError> {
-    for c in text.chars() {
-        out.push(if c == '\n' { '/' } else { c })?;
+fn put_lines(out: &mut Buffer, text: &[u8]) {
+    for byte in text {
+        out.push(if *byte == b'\n' { b'/' } else { *byte });
     }
-    Ok(())
 }
 
-fn put_entry(alloc: Global, entry: &Entry, out: &mut String) -> Result<(), AllocError>
+fn put_entry(alloc: Global, entry: &Entry, out: &mut Buffer)
     requires { IsEntryInWindow entry.now }
 {
     let mut text = Vec::new(alloc);
-    write_entry(alloc, entry, &mut text)?;
-    put_lines(out, text_of(&text))
+    let done = write_entry(alloc, entry, &mut text);
+    out.note(done);
+    put_lines(out, &text);
 }
 
 // The outcome that is the next item.
@@ -34,30 +34,20 @@ fn kept(alloc: Global, lines: &mut Lines) -> Option<Outcome>
 }
 
 // Appends the entry, with the outcome that is the next item.
-fn tell_kept(
-    alloc: Global,
-    lines: &mut Lines,
-    entry: &mut Entry,
-    out: &mut String,
-) -> Result<(), AllocError>
+fn tell_kept(alloc: Global, lines: &mut Lines, entry: &mut Entry, out: &mut Buffer)
     requires { IsStepWithin entry.old.step }
 {
     match kept(alloc, lines) {
         Some(outcome) => {
             entry.outcome = outcome;
-            put_entry(alloc, entry, out)
+            put_entry(alloc, entry, out);
         }
-        None => out.push_str("no row"),
+        None => out.say("no row"),
     }
 }
 
 /// Appends the entry of this caller whose command and outcome are the first items of a text.
-pub fn tell(
-    alloc: Global,
-    who: u32,
-    lines: &mut Lines,
-    out: &mut String,
-) -> Result<(), AllocError> {
+pub fn tell(alloc: Global, who: u32, lines: &mut Lines, out: &mut Buffer) {
     match next_item(alloc, lines, false) {
         Ok(ScriptItem::Step(_, step)) => {
             let mut entry = Entry {
@@ -65,8 +55,8 @@ pub fn tell(
                 step,
                 outcome: Outcome::Ticked,
             };
-            tell_kept(alloc, lines, &mut entry, out)
+            tell_kept(alloc, lines, &mut entry, out);
         }
-        _ => out.push_str("no row"),
+        _ => out.say("no row"),
     }
 }

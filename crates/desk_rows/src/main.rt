@@ -18,13 +18,17 @@ mod rows;
 mod scripts;
 mod words;
 
+use row_lines::Buffer;
 use std::io;
 
 fn main(rt: HostRuntime) -> io::Result<()> {
+    let mut told = Buffer::open(rt.alloc());
     for line in rt.lines(rt.alloc()) {
         let line = line?;
-        let told = rows::told(rt.alloc(), line.as_str())?;
-        println!(rt; "{told}")?;
+        told.clear();
+        rows::put_told(rt.alloc(), line.as_str(), &mut told);
+        let answer = told.finished(false)?;
+        println!(rt; "{answer}")?;
     }
     Ok(())
 }

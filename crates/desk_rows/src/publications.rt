@@ -1,8 +1,8 @@
-// What a publication shows before and behind edits of the book that shared its pages.
+// What a publication shows before and after edits of the book that shared its pages.
 use crate::books::{opened, put_pages_of, tell_replies};
 use feed_book::Book;
 use page_share::PageGuide;
-use row_lines::Lines;
+use row_lines::{Buffer, Lines};
 use si_time::Moment;
 use std::alloc::{AllocError, Global};
 
@@ -19,17 +19,17 @@ fn tell_edits(
     lines: &mut Lines,
     book: &mut Book,
     publication: &PageGuide,
-    out: &mut String,
+    out: &mut Buffer,
 ) -> Result<(), AllocError> {
     put_pages_of(publication, out)?;
-    out.push_str("; ")?;
-    tell_replies(alloc, lines, book, out)?;
+    out.say("; ");
+    tell_replies(alloc, lines, book, out);
     put_pages_of(publication, out)
 }
 
 // Appends what the next publication shows.
-fn tell_next(book: &mut Book, out: &mut String) -> Result<(), AllocError> {
-    out.push_str("; ")?;
+fn tell_next(book: &mut Book, out: &mut Buffer) -> Result<(), AllocError> {
+    out.say("; ");
     let next = book.shared(AT)?;
     put_pages_of(&next, out)
 }
@@ -39,19 +39,32 @@ fn tell_publication(
     alloc: Global,
     lines: &mut Lines,
     book: &mut Book,
-    out: &mut String,
+    out: &mut Buffer,
 ) -> Result<(), AllocError> {
-    tell_replies(alloc, lines, book, out)?;
+    tell_replies(alloc, lines, book, out);
     let publication = book.shared(AT)?;
     tell_edits(alloc, lines, book, &publication, out)
 }
 
-/// Appends the replies to the edits of a script up to its publish, what is published, the replies to the edits behind it, what that
+// The same, and what the next publication shows.
+fn tell_book(
+    alloc: Global,
+    lines: &mut Lines,
+    book: &mut Book,
+    out: &mut Buffer,
+) -> Result<(), AllocError> {
+    tell_publication(alloc, lines, book, out)?;
+    tell_next(book, out)
+}
+
+/// Appends the replies to the edits of a script up to its publish, what is published, the replies to the edits after it, what that
 /// publication shows then, and what the next one shows.
-pub fn tell(alloc: Global, lines: &mut Lines, out: &mut String) -> Result<(), AllocError> {
-    let Some(mut book) = opened(alloc, THREE_SERVICES)? else {
-        return out.push_str("no row");
-    };
-    tell_publication(alloc, lines, &mut book, out)?;
-    tell_next(&mut book, out)
+pub fn tell(alloc: Global, lines: &mut Lines, out: &mut Buffer) {
+    match opened(alloc, THREE_SERVICES) {
+        Ok(mut book) => {
+            let done = tell_book(alloc, lines, &mut book, out);
+            out.note(done);
+        }
+        Err(error) => out.note(Err(error)),
+    }
 }

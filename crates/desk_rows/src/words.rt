@@ -1,37 +1,41 @@
 // Parts of answers in words.
 use journal_model::{DayFault, Field, Outcome, Reply};
-use row_lines::{moment_text, text_of};
+use row_lines::{Buffer, moment_text};
 use script_lines::EditStop;
 use si_causes::ReadStop;
 use si_time::Moment;
 use std::alloc::AllocError;
 
+/// Appends a text, and a moment after it.
+pub fn put_moment(out: &mut Buffer, text: &str, at: Moment) {
+    out.say(text);
+    out.put(&moment_text(at));
+}
+
+/// Appends a text in quotes after a blank.
+pub fn put_quoted(out: &mut Buffer, text: &str) {
+    out.say(" \"");
+    out.say(text);
+    out.say("\"");
+}
+
 /// Appends why a reader stopped.
-pub fn put_read_stop(out: &mut String, stop: ReadStop) -> Result<(), AllocError> {
-    out.push_str(match stop {
+pub fn put_read_stop(out: &mut Buffer, stop: ReadStop) {
+    out.say(match stop {
         ReadStop::Failed => "read failed",
         ReadStop::TooLong => "text too long",
-    })
-}
-
-/// Appends that nothing is left, and says that there is no more.
-pub fn put_end(out: &mut String) -> Result<bool, AllocError> {
-    out.push_str("end")?;
-    Ok(false)
-}
-
-/// Appends why no edit, control line or item was read, and says that there is no more.
-pub fn put_last(out: &mut String, stop: EditStop) -> Result<bool, AllocError> {
-    put_edit_stop(out, stop)?;
-    Ok(false)
+    });
 }
 
 /// Appends why no edit, control line or item was read.
-pub fn put_edit_stop(out: &mut String, stop: EditStop) -> Result<(), AllocError> {
+pub fn put_edit_stop(out: &mut Buffer, stop: EditStop) {
     match stop {
-        EditStop::NoCommand(line) => write!(out, "line {line} refused"),
+        EditStop::NoCommand(line) => {
+            out.say_number("line ", line);
+            out.say(" refused");
+        }
         EditStop::Read(stop) => put_read_stop(out, stop),
-        EditStop::Memory => Err(AllocError),
+        EditStop::Memory => out.note(Err(AllocError)),
     }
 }
 
@@ -55,53 +59,45 @@ fn field_word(field: Field) -> &'static str {
     }
 }
 
-fn put_range(out: &mut String, field: Field) -> Result<(), AllocError> {
-    let word = field_word(field);
-    match field {
-        Field::Count(n) | Field::Segment(n) => write!(out, "range {word} {n}"),
-        _ => write!(out, "range {word}"),
+fn put_range(out: &mut Buffer, field: Field) {
+    out.say("range ");
+    out.say(field_word(field));
+    if let Field::Count(n) | Field::Segment(n) = field {
+        out.say_number(" ", u64::from(n));
     }
 }
 
 // Appends why the item at this place of a day is not taken.
-fn put_member(out: &mut String, place: u16, fault: DayFault) -> Result<(), AllocError> {
-    write!(out, "member {place} ")?;
+fn put_member(out: &mut Buffer, place: u16, fault: DayFault) {
+    out.say_number("member ", u64::from(place));
+    out.say(" ");
     match fault {
         DayFault::Range(field) => put_range(out, field),
-        DayFault::Overlap(event) => write!(out, "overlap {event}"),
+        DayFault::Overlap(event) => out.say_number("overlap ", u64::from(event)),
     }
 }
 
 /// Appends a reply.
-pub fn put_reply(out: &mut String, reply: Reply) -> Result<(), AllocError> {
+pub fn put_reply(out: &mut Buffer, reply: Reply) {
     match reply {
-        Reply::Done => out.push_str("done"),
-        Reply::Foreign(service) => write!(out, "foreign {service}"),
+        Reply::Done => out.say("done"),
+        Reply::Foreign(service) => out.say_number("foreign ", u64::from(service)),
         Reply::Range(field) => put_range(out, field),
-        Reply::Overlap(event) => write!(out, "overlap {event}"),
+        Reply::Overlap(event) => out.say_number("overlap ", u64::from(event)),
         Reply::Member(place, fault) => put_member(out, place, fault),
     }
 }
 
-fn put_late(out: &mut String, at: Moment) -> Result<(), AllocError> {
-    let at = moment_text(at);
-    let at = text_of(&at);
-    write!(out, "late {at}")
-}
-
-fn put_swapped(out: &mut String, number: u64, at: Moment) -> Result<(), AllocError> {
-    let at = moment_text(at);
-    let at = text_of(&at);
-    write!(out, "swapped {number} at {at}")
-}
-
 /// Appends an outcome.
-pub fn put_outcome(out: &mut String, outcome: Outcome) -> Result<(), AllocError> {
+pub fn put_outcome(out: &mut Buffer, outcome: Outcome) {
     match outcome {
         Outcome::Edited(reply) => put_reply(out, reply),
-        Outcome::Ticked => out.push_str("ticked"),
-        Outcome::Late(at) => put_late(out, at),
-        Outcome::Published(number) => write!(out, "published {number}"),
-        Outcome::Swapped(number, at) => put_swapped(out, number, at),
+        Outcome::Ticked => out.say("ticked"),
+        Outcome::Late(at) => put_moment(out, "late ", at),
+        Outcome::Published(number) => out.say_number("published ", number),
+        Outcome::Swapped(number, at) => {
+            out.say_number("swapped ", number);
+            put_moment(out, " at ", at);
+        }
     }
 }
