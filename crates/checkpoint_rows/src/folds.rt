@@ -3,7 +3,7 @@ ghost use Rattle.std.specs.Prelude.{◌≡◌, ◌<◌, ◌≤◌, ◌^◌, [], 
 ghost use Rattle.journal_model.specs.Steps.{IsStepWithin};
 ghost use Rattle.mux_model.specs.Sound.{IsSound};
 
-use crate::starts::put_text;
+use crate::starts::{mux_of, put_text};
 use carousel_player::Player;
 use desk_checkpoint::write_checkpoint;
 use desk_core::Desk;
@@ -48,20 +48,72 @@ fn player_of(alloc: Global, mux: &Mux) -> Result<Player, AllocError>
     Ok(Player::open(alloc, mux.quota, offsets))
 }
 
-/// Appends the checkpoint of a desk that did the steps of a script, with this shift, and of a player that sent nothing.
-pub fn tell(
+// Appends the checkpoint of a desk and of a player that sent nothing.
+fn put_checkpoint(
     alloc: Global,
-    mux: Mux,
+    desk: &Desk,
+    player: &Player,
+    shift: u32,
+    out: &mut String,
+) -> Result<(), AllocError>
+    requires { player.now.left ≡ [] }
+{
+    let mut text = Vec::new(alloc);
+    write_checkpoint(alloc, desk, u64::from(shift), player, &mut text)?;
+    put_text(out, &text)
+}
+
+// Appends the checkpoint of a desk that did the steps of a script.
+fn tell_desk(
+    alloc: Global,
+    desk: &mut Desk,
+    player: &Player,
     shift: u32,
     lines: &mut Lines,
     out: &mut String,
 ) -> Result<(), AllocError>
-    requires { IsSound mux }
+    requires { player.now.left ≡ [] }
 {
-    let player = player_of(alloc, &mux)?;
-    let mut desk = Desk::open(alloc, mux)?;
-    steps(alloc, lines, &mut desk)?;
-    let mut text = Vec::new(alloc);
-    write_checkpoint(alloc, &desk, u64::from(shift), &player, &mut text)?;
-    put_text(out, &text)
+    steps(alloc, lines, desk)?;
+    put_checkpoint(alloc, desk, player, shift, out)
+}
+
+// The desk of the multiplex with so many services.
+fn desk_of(alloc: Global, services: u32) -> Result<Desk, AllocError> {
+    Desk::open(alloc, mux_of(alloc, services)?)
+}
+
+// The player of the multiplex with so many services.
+fn player_for(alloc: Global, services: u32) -> Result<Player, AllocError>
+    ensures { IfOk result (λ player. player.left ≡ []) }
+{
+    let mux = mux_of(alloc, services)?;
+    player_of(alloc, &mux)
+}
+
+fn tell_player(
+    alloc: Global,
+    services: u32,
+    player: &Player,
+    shift: u32,
+    lines: &mut Lines,
+    out: &mut String,
+) -> Result<(), AllocError>
+    requires { player.now.left ≡ [] }
+{
+    let mut desk = desk_of(alloc, services)?;
+    tell_desk(alloc, &mut desk, player, shift, lines, out)
+}
+
+/// Appends the checkpoint of a desk of the multiplex with so many services that did the steps of a script, with this shift, and of a
+/// player that sent nothing.
+pub fn tell(
+    alloc: Global,
+    services: u32,
+    shift: u32,
+    lines: &mut Lines,
+    out: &mut String,
+) -> Result<(), AllocError> {
+    let player = player_for(alloc, services)?;
+    tell_player(alloc, services, &player, shift, lines, out)
 }

@@ -1,10 +1,8 @@
 // What is read of the text of a checkpoint.
 ghost use Rattle.std.specs.Prelude.{◌≡◌, ◌<◌, ◌^◌, [], None};
-ghost use Rattle.mux_model.specs.Sound.{IsSound};
 
-use crate::starts::put_text;
+use crate::starts::{mux_of, put_text};
 use desk_checkpoint::{CheckStop, Start, read_checkpoint, write_checkpoint};
-use mux_model::Mux;
 use row_lines::Lines;
 use si_causes::ReadStop;
 use std::alloc::{AllocError, Global};
@@ -30,12 +28,17 @@ fn put_start(alloc: Global, out: &mut String, start: &Start) -> Result<(), Alloc
     put_text(out, &text)
 }
 
-/// Appends why a checkpoint is not read, or the shift, and the checkpoint that its start leaves at once.
-pub fn tell(alloc: Global, mux: Mux, lines: &mut Lines, out: &mut String) -> Result<(), AllocError>
-    requires sound { IsSound mux }
-    requires going { lines.old.stop ≡ None }
+/// Appends why a checkpoint of the multiplex with so many services is not read, or the shift, and the checkpoint that its start leaves at
+/// once.
+pub fn tell(
+    alloc: Global,
+    services: u32,
+    lines: &mut Lines,
+    out: &mut String,
+) -> Result<(), AllocError>
+    requires { lines.old.stop ≡ None }
 {
-    match read_checkpoint(alloc, mux, lines) {
+    match read_checkpoint(alloc, mux_of(alloc, services)?, lines) {
         Ok(start) => put_start(alloc, out, &start),
         Err(stop) => put_stop(out, stop),
     }

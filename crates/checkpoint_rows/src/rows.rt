@@ -1,11 +1,11 @@
 // A row and its answer.
-use crate::{folds, reads, starts};
+use crate::{folds, reads};
 use input_lines::numeral;
-use row_lines::{Cut, NEVER, parts_counted, reader, runs_counted, written_out};
+use row_lines::{Cut, NEVER, WHOLE, parts_counted, reader, runs_counted, written_out};
 use si_causes::LineReader;
 use std::alloc::{AllocError, Global};
 
-// The number that a text begins with, and what stands behind it and a space.
+// The number that a text begins with, and what stands after it and a space.
 fn numbered(text: &str) -> Option<(u32, &str)> {
     let (number, text) = text.split_once(' ').unwrap_or((text, ""));
     Some((numeral(number)?, text))
@@ -19,12 +19,9 @@ fn read(
     cut: Cut,
     out: &mut String,
 ) -> Result<(), AllocError> {
-    let Some(mux) = starts::mux_of(alloc, services)? else {
-        return out.push_str("no row");
-    };
     let source = reader(alloc, text, cut)?.close();
     let mut lines = LineReader::open(alloc, source)?;
-    reads::tell(alloc, mux, &mut lines, out)
+    reads::tell(alloc, services, &mut lines, out)
 }
 
 // A text that comes in pieces of so many bytes.
@@ -56,11 +53,8 @@ fn fold(alloc: Global, services: u32, text: &str, out: &mut String) -> Result<()
     let Some((shift, text)) = numbered(text) else {
         return out.push_str("no row");
     };
-    let Some(mux) = starts::mux_of(alloc, services)? else {
-        return out.push_str("no row");
-    };
-    let mut lines = reader(alloc, text, row_lines::WHOLE)?;
-    folds::tell(alloc, mux, shift, &mut lines, out)
+    let mut lines = reader(alloc, text, WHOLE)?;
+    folds::tell(alloc, services, shift, &mut lines, out)
 }
 
 // Appends what is read of a text in pieces of one byte, whose read with this number fails.
@@ -76,12 +70,9 @@ fn read_to(alloc: Global, text: &str, out: &mut String) -> Result<(), AllocError
     let Some((limit, text)) = numbered(text) else {
         return out.push_str("no row");
     };
-    let Some(mux) = starts::mux_of(alloc, 1)? else {
-        return out.push_str("no row");
-    };
-    let source = reader(alloc, text, row_lines::WHOLE)?.close();
+    let source = reader(alloc, text, WHOLE)?.close();
     let mut lines = LineReader::open_to(alloc, source, u64::from(limit))?;
-    reads::tell(alloc, mux, &mut lines, out)
+    reads::tell(alloc, 1, &mut lines, out)
 }
 
 // Appends what a row gives.

@@ -1,6 +1,6 @@
 // The multiplexes of rows, and the text of what a head-end goes on from.
 ghost use Rattle.mux_model.specs.Sound.{IsSound};
-ghost use Rattle.std.specs.Prelude.{IfOk, IfSome};
+ghost use Rattle.std.specs.Prelude.{IfOk};
 
 use mux_config::read_mux;
 use mux_model::Mux;
@@ -14,9 +14,9 @@ const ONE_SERVICE: &str = "network,40,Demo/stream,1,1/service,101,1,1,256,257,Ac
 const TWO_SERVICES: &str =
     "network,40,Demo/stream,1,1/start,1993-10-13T12:45:00Z/service,9,1,1,100,100,P,Nine/service,5,2,1,101,100,P,Five/end/";
 
-/// The multiplex with so many services, one or two.
-pub fn mux_of(alloc: Global, services: u32) -> Result<Option<Mux>, AllocError>
-    ensures { IfOk result (λ found. IfSome found IsSound) }
+/// The multiplex with so many services, one or two. Its description can be read, so it fails for want of memory alone.
+pub fn mux_of(alloc: Global, services: u32) -> Result<Mux, AllocError>
+    ensures { IfOk result IsSound }
 {
     let text = if services == 1 {
         ONE_SERVICE
@@ -25,8 +25,8 @@ pub fn mux_of(alloc: Global, services: u32) -> Result<Option<Mux>, AllocError>
     };
     let mut lines = reader(alloc, text, WHOLE)?;
     match read_mux(alloc, &mut lines) {
-        Ok(mux) => Ok(Some(mux)),
-        Err(_) => Ok(None),
+        Ok(mux) => Ok(mux),
+        Err(_) => Err(AllocError),
     }
 }
 
