@@ -11,9 +11,11 @@ mod run;
 use std::io;
 
 fn main(rt: HostRuntime) -> io::Result<()> {
+    let mut told = String::new(rt.alloc());
     for line in rt.lines(rt.alloc()) {
         let line = line?;
-        let told = rows::told(&rt, rt.alloc(), line.as_str())?;
+        told.clear();
+        rows::put_told(&rt, rt.alloc(), line.as_str(), &mut told)?;
         println!(rt; "{told}")?;
     }
     Ok(())

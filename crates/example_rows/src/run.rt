@@ -1,5 +1,5 @@
 // A run of the top call over the files of a folder.
-use epg_cli::{Status, run};
+use epg_cli::{Status, run, run_listen};
 use si_causes::{MemSink, MemSource, OpenGate, Opener};
 use std::alloc::{AllocError, Global};
 use std::io::Read;
@@ -9,86 +9,77 @@ use std::sync::Wait;
 use std::thread::Threads;
 use std_streams::Opening;
 
-/// What a run left: its status, and what the air and the report took.
+/// The words of a run, and what its air and its report took.
 #[derive(Drop)]
-pub struct Left {
-    pub status: Status,
-    pub air: MemSink,
-    pub report: MemSink,
+pub struct Ends {
+    words: Vec<String>,
+    air: MemSink,
+    report: MemSink,
 }
 
-// The words of a command line with a space between.
-fn words_of(alloc: Global, text: &str) -> Result<Vec<String>, AllocError> {
-    let mut words = Vec::new(alloc);
-    for word in text.split(' ') {
-        words.push(String::from_str(alloc, word)?)?;
+impl Ends {
+    /// No words, and nothing taken.
+    pub fn open(alloc: Global) -> Ends {
+        Ends {
+            words: Vec::new(alloc),
+            air: MemSink::open(alloc, 65_536, Vec::new(alloc)),
+            report: MemSink::open(alloc, 65_536, Vec::new(alloc)),
+        }
     }
-    Ok(words)
+
+    /// Takes the words of a command line with a space between.
+    pub fn say(&mut self, alloc: Global, text: &str) -> Result<(), AllocError> {
+        for word in text.split(' ') {
+            self.words.push(String::from_str(alloc, word)?)?;
+        }
+        Ok(())
+    }
+
+    /// What the air took.
+    pub fn air(&self) -> &[u8] {
+        self.air.taken()
+    }
+
+    /// The report as a text.
+    pub fn report(&self) -> &str {
+        report_of(&self.report)
+    }
 }
 
-/// Runs these words over the file of this path, None where it is not opened.
+/// A report as a text.
+pub fn report_of(report: &MemSink) -> &str {
+    str::from_utf8(report.taken()).unwrap_or("no UTF-8")
+}
+
+/// Runs the words over the file of this path, None where it is not opened.
 pub fn run_file<W: Threads + Wait + Sync + Files>(
     rt: &W,
     alloc: Global,
-    words: &str,
+    ends: &mut Ends,
     path: &str,
-) -> Result<Option<Left>, AllocError>
+) -> Option<Status>
 where
     W::File: Read + Drop + Send,
 {
-    let words = words_of(alloc, words)?;
     let mut files = Opening::open(rt);
-    let mut input = match files.open(path) {
-        Ok(input) => input,
-        Err(_) => return Ok(None),
-    };
-    let mut air = MemSink::open(alloc, 65_536, Vec::new(alloc));
-    let mut report = MemSink::open(alloc, 65_536, Vec::new(alloc));
-    let status = run(
+    let mut input = files.open(path).ok()?;
+    Some(run(
         rt,
         alloc,
-        &words,
+        &ends.words,
         &mut files,
         &mut input,
-        &mut air,
-        &mut report,
+        &mut ends.air,
+        &mut ends.report,
         &OpenGate,
-    );
-    Ok(Some(Left {
-        status,
-        air,
-        report,
-    }))
+    ))
 }
 
-/// Listens to what a run sent.
-pub fn listen_to<W: Threads + Wait + Sync + Files>(
-    rt: &W,
-    alloc: Global,
-    left: &Left,
-) -> Result<Left, AllocError>
-where
-    W::File: Read + Drop + Send,
-{
-    let words = words_of(alloc, "listen")?;
-    let bytes = left.air.taken().to_vec(alloc)?;
-    let mut files = Opening::open(rt);
+/// What `listen` reports of these packets.
+pub fn heard_of(alloc: Global, packets: &[u8]) -> Result<MemSink, AllocError> {
+    let bytes = packets.to_vec(alloc)?;
     let mut input = MemSource::open(bytes, 65_536, Vec::new(alloc));
-    let mut air = MemSink::open(alloc, 65_536, Vec::new(alloc));
     let mut report = MemSink::open(alloc, 65_536, Vec::new(alloc));
-    let status = run(
-        rt,
-        alloc,
-        &words,
-        &mut files,
-        &mut input,
-        &mut air,
-        &mut report,
-        &OpenGate,
-    );
-    Ok(Left {
-        status,
-        air,
-        report,
-    })
+    run_listen(alloc, &mut input, &mut report);
+    Ok(report)
 }
