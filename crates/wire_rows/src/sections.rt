@@ -1,12 +1,11 @@
 // Sections both ways, and their keys.
 ghost use Rattle.std.specs.Prelude.{◌≡◌, ◌<◌};
 ghost use Rattle.section_codec.specs.Section.{longest_body};
-ghost use Rattle.section_codec.specs.Tables.{has_long_form, has_short_form};
 
 use row_lines::Row;
 use section_codec::{
-    BadSection, Key, LongHeader, Section, eit_numbers, key_of, read_section, write_long,
-    write_short, write_short_crc,
+    BadSection, Key, LongHeader, Section, eit_numbers, has_long_form, has_short_form, key_of,
+    read_section, write_long, write_short, write_short_crc,
 };
 
 /// `write_long HEADER | BODY`: the bytes of the section.
@@ -168,20 +167,6 @@ fn answer_index(row: &mut Row, bytes: &[u8]) -> usize
             0
         }
     }
-}
-
-// Whether the sections of a table have the short form.
-fn has_short_form(table: u8) -> bool
-    ensures { result ≡ has_short_form table }
-{
-    table == 0x70 || table == 0x73
-}
-
-// Whether the sections of a table have the long form.
-fn has_long_form(table: u8) -> bool
-    ensures { result ≡ has_long_form table }
-{
-    matches!(table, 0x00 | 0x02 | 0x40 | 0x42 | 0x46 | 0x4E..=0x6F)
 }
 
 /// `key_of PID | HEADER | BODY`: what names the sub-table.
