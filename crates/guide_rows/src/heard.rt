@@ -12,14 +12,34 @@ pub fn heard_text(
     packets: &[Packet],
     tells_completions: bool,
 ) -> Result<String, AllocError> {
-    let mut receiver = Receiver::open(alloc);
     let mut lines = Vec::new(alloc);
-    hear_all(alloc, &mut receiver, packets, &mut lines)?;
+    put_heard(alloc, packets, tells_completions, &mut lines)?;
+    runs_counted(alloc, text_of(&lines))
+}
+
+fn put_heard(
+    alloc: Global,
+    packets: &[Packet],
+    tells_completions: bool,
+    lines: &mut Vec<u8>,
+) -> Result<(), AllocError> {
+    let mut receiver = Receiver::open(alloc);
+    hear_and_print(alloc, &mut receiver, packets, tells_completions, lines)
+}
+
+// Appends what a receiver prints of packets.
+fn hear_and_print(
+    alloc: Global,
+    receiver: &mut Receiver,
+    packets: &[Packet],
+    tells_completions: bool,
+    lines: &mut Vec<u8>,
+) -> Result<(), AllocError> {
+    hear_all(alloc, receiver, packets, lines)?;
     if !tells_completions {
         lines.clear();
     }
-    print_heard(alloc, &receiver.guide()?, &mut lines)?;
-    runs_counted(alloc, text_of(&lines))
+    print_heard(alloc, &receiver.guide()?, lines)
 }
 
 fn hear_all(
