@@ -9,7 +9,7 @@
 //! `soak` reads no input (`air_kept`, `opener_kept`, `input_kept`). `cause`, `open_cause` and
 //! `report` hold for all words: each fault has its cause.
 //!
-//! Tested by whole runs in `headend_rows`, `epg_live_rows`, `listen_rows` and `example_rows`.
+//! Tested by whole runs in `headend_rows`, `epg_live_rows` and `example_rows`.
 #![tactic(auto)]
 
 mod top;

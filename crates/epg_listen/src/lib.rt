@@ -6,8 +6,8 @@
 //! bytes is a packet, and the report has the completions of all packets and the text of their
 //! guide.
 //!
-//! Tested in `listen_rows` and `headend_rows`: a completion is reported before the next packet is
-//! read.
+//! Tested in `headend_rows`: a completion is reported before the next packet is read; recordings
+//! of other generators.
 //!
 //! Not promised: what is left after Memory, and that it comes only where memory runs out.
 #![tactic(auto)]
