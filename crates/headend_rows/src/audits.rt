@@ -27,8 +27,15 @@ fn file_of<'b>(text: &str, bytes: &'b [u8]) -> File<'b> {
 }
 
 impl<'a, W: Threads + Wait + Sync> Room<'a, W> {
-    // `SCRIPT | RECORDING` or `SCRIPT | RECORDING | SCRIPT`
-    fn tell_recording(&self, ends: &mut Ends, row: &str, turns: Option<Turns>, out: &mut Buffer) {
+    // `SCRIPT | RECORDING` or `SCRIPT | RECORDING | SCRIPT`, audited with these words
+    fn tell_recording(
+        &self,
+        ends: &mut Ends,
+        words: &str,
+        row: &str,
+        turns: Option<Turns>,
+        out: &mut Buffer,
+    ) {
         let (own, text) = row.split_once(" | ").unwrap_or((row, ""));
         let (text, played) = text.split_once(" | ").unwrap_or((text, own));
         let mut bytes = Buffer::open(self.alloc);
@@ -37,7 +44,7 @@ impl<'a, W: Threads + Wait + Sync> Room<'a, W> {
         self.put_script(own, &mut script);
         ends.note(bytes.lacks() || script.lacks());
         let case = Case {
-            words: "audit --air=p",
+            words,
             input: script.as_slice(),
             file: file_of(text, bytes.as_slice()),
         };
@@ -52,7 +59,7 @@ impl<'a, W: Threads + Wait + Sync> Room<'a, W> {
             side: side_of(side),
             piece: piece.parse::<usize>().unwrap_or(1),
         };
-        self.tell_recording(ends, row, Some(turns), out)
+        self.tell_recording(ends, "audit --air=p", row, Some(turns), out)
     }
 
     // Audits an air against its script, with one change in turn.
@@ -107,7 +114,8 @@ impl<'a, W: Threads + Wait + Sync> Room<'a, W> {
     pub fn tell_audit(&self, ends: &mut Ends, row: &str, out: &mut Buffer) {
         let (call, row) = cut(row);
         match call {
-            "audit" => self.tell_recording(ends, row, None, out),
+            "audit" => self.tell_recording(ends, "audit --air=p", row, None, out),
+            "nulls" => self.tell_recording(ends, "audit --air=p --nulls", row, None, out),
             "each" => self.tell_each(ends, row, out),
             "turns" => self.tell_changes(ends, row, out),
             "words" => self.tell_words(ends, row, out),

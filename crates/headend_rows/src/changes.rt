@@ -1,4 +1,5 @@
 // Changes of a recording.
+use crate::nulls::put_with_nulls;
 use crate::texts::number;
 use row_lines::Buffer;
 use std::alloc::Global;
@@ -72,6 +73,7 @@ fn put_changed(into: &mut Buffer, bytes: &[u8], word: &str) {
     match word.as_bytes().first() {
         Some(b'-') => put_without(into, bytes, number(rest)),
         Some(b'+') => put_doubled(into, bytes, number(rest)),
+        Some(b'!') => put_with_nulls(into, bytes, rest),
         Some(b'<') => {
             let len = bytes.len().saturating_sub(number(rest));
             into.put(bytes.get(..len).unwrap_or(bytes));

@@ -17,6 +17,7 @@ mod cuts;
 mod failing;
 mod folds;
 mod hearing;
+mod nulls;
 mod order;
 mod packets;
 mod plays;
