@@ -9,6 +9,7 @@ use Rattle.si_causes.specs.declared.stop.ReadStop.TheVariants.{Failed, TooLong a
 use Rattle.input_lines.specs.Ahead.{Ahead, Came, End, Found, NoCommand as NoLine, Stop as LineStop, Stopped, TooLong as PastEnd, Unread as Broken}
 use Rattle.air_model.specs.Air.{Aired}
 use Rattle.mux_model.specs.declared.mux.Mux.{Mux}
+use Rattle.mux_model.proofs.FedFacts.{fed_named}
 use Rattle.mux_config.specs.Descriptions.{Description}
 use Rattle.mux_config.specs.Texts.{described}
 use Rattle.mux_config.proofs.FineLines.{described_texts_are_kept, whole_descriptions_are_sound}
@@ -140,8 +141,8 @@ new_run mux lines (from, is) =
     let kept = described_texts_are_kept from mux lines is in
     let sound = whole_descriptions_are_sound from mux lines is in
     record {
-      read = record { sound = sound; network = kept.0; services = kept.1; edits = tt; steps = tt };
-      folds = record { sound = sound.sound; named = kept.1; legal = tt; within = tt; typed = tt; few = omega arith };
+      read = record { sound = sound; network = kept.0; services = fed_named mux kept.1; edits = tt; steps = tt };
+      folds = record { sound = sound.sound; named = fed_named mux kept.1; legal = tt; within = tt; typed = tt; few = omega arith };
       is_air = record { airings_are = refl; cycles = tt; counted = λ pid. tt; fields = tt; nulls = tt };
     }
 
