@@ -102,7 +102,7 @@ IsLineWithin (Play fold resume) = Unit {0}
 IsLineWithin (Listen strict) = Unit {0}
 IsLineWithin (Live feeds cycles join views) = (length feeds ≤ 16) × (cycles ≤ 1000) × (length views ≤ 8)
 IsLineWithin (Soak number) = Unit {0}
-IsLineWithin (Audit path) = Unit {0}
+IsLineWithin (Audit path nulls) = Unit {0}
 
 abbrev IfLine : Option CommandLine → Type 0
 IfLine None = Unit {0}

@@ -3,6 +3,7 @@ use Rattle.std.specs.Prelude.{◌≤◌, List, ℕ, length, map, option_map, Str
 use Rattle.command_words.specs.declared.command.Command.{Command}
 use Rattle.command_words.specs.declared.command.Command.TheVariants as command
 use Rattle.command_words.specs.declared.command.LiveWords.{LiveWords}
+use Rattle.command_words.specs.declared.audit.AuditWords.{AuditWords}
 use Rattle.command_words.specs.declared.play.PlayWords.{PlayWords}
 use Rattle.command_words.specs.declared.setting.LiveOption.{LiveOption}
 use Rattle.command_words.specs.declared.setting.LiveOption.TheVariants as option
@@ -27,13 +28,17 @@ said_live live = Live (texts live.feeds.items) live.cycles live.join live.views
 abbrev pub said_play : PlayWords → CommandLine
 said_play play = Play play.fold (option_map string_bytes play.resume)
 
+-- the words of this `audit` say this
+abbrev pub said_audit : AuditWords → CommandLine
+said_audit audit = Audit (string_bytes audit.path) audit.nulls
+
 -- the words of this command say this
 abbrev pub said : Command → CommandLine
 said (command.Play play) = said_play play
 said (command.Listen strict) = Listen strict
 said (command.Live live) = said_live live
 said (command.Soak number) = Soak number
-said (command.Audit path) = Audit (string_bytes path)
+said (command.Audit audit) = said_audit audit
 
 -- the limits of a command: at most 16 feeds, 1,000 cycles, and 8 views; the number of a load has at most nine digits
 abbrev pub IsWithin : Command → Type 0
@@ -41,4 +46,4 @@ IsWithin (command.Play play) = Unit {0}
 IsWithin (command.Listen strict) = Unit {0}
 IsWithin (command.Live live) = (length live.feeds.items ≤ 16) × (live.cycles ≤ 1000) × (length live.views ≤ 8)
 IsWithin (command.Soak number) = number ≤ 999999999
-IsWithin (command.Audit path) = Unit {0}
+IsWithin (command.Audit audit) = Unit {0}

@@ -102,8 +102,8 @@ pub data CommandLine : Type 0 where
   Live : List (List ℕ) → ℕ → ℕ → List ℕ → CommandLine
   -- the number of its load
   Soak : ℕ → CommandLine
-  -- the path of its recording
-  Audit : List ℕ → CommandLine
+  -- the path of its recording, and whether null packets may stand in it
+  Audit : List ℕ → Bool → CommandLine
 
 -- 1 to 16 feeds, cycles once, join once, and at most 8 views
 abbrev pub live_with : List (List ℕ) → List ℕ → List ℕ → List ℕ → Option CommandLine
@@ -134,41 +134,38 @@ front_option (word ∷ next ∷ words) =
     else if is_dashed next then None
     else Some (word, next, words)
 
--- the option `--air` with a path, behind which no word stands
-abbrev pub air_alone : List ℕ × List ℕ × List (List ℕ) → Option CommandLine
-air_alone (name, value, []) = if bytes_eq name (codes "--air") && is_path value then Some (Audit value) else None
-air_alone (name, value, word ∷ words) = None
+-- whether a flag stands at the front of words, and the words behind it
+abbrev pub flag_front : List ℕ → List (List ℕ) → Bool × List (List ℕ)
+flag_front flag [] = (false, [])
+flag_front flag (word ∷ words) = if bytes_eq word flag then (true, words) else (false, word ∷ words)
 
--- one option, the path of a recording
+-- the path of an option of this name, and the words behind it
+abbrev pub path_behind : List ℕ → List ℕ × List ℕ × List (List ℕ) → Option (List ℕ × List (List ℕ))
+path_behind name (found, value, behind) = if bytes_eq found name && is_path value then Some (value, behind) else None
+
+-- such an option at the front of words
+abbrev pub path_front : List ℕ → List (List ℕ) → Option (List ℕ × List (List ℕ))
+path_front name words = option_and_then (path_behind name) (front_option words)
+
+-- a path behind which the flag may stand, where it did not stand before, and no other word
+abbrev pub flagged_from : List ℕ → Bool → List ℕ × List (List ℕ) → Option (Bool × List ℕ)
+flagged_from flag before (path, behind) =
+    let last = flag_front flag behind in
+    if is_none last.1 && not (before && last.0) then Some (before || last.0, path) else None
+
+-- an option of this name with a path, once, and a flag, at most once, in either order: whether the flag stands, and the path
+abbrev pub flagged_path : List ℕ → List ℕ → List (List ℕ) → Option (Bool × List ℕ)
+flagged_path flag name words = let first = flag_front flag words in option_and_then (flagged_from flag first.0) (path_front name first.1)
+
+-- `--air` with a path, and `--nulls` at most once
 abbrev pub audit_of : List (List ℕ) → Option CommandLine
-audit_of words = option_and_then air_alone (front_option words)
-
--- whether `--fold` stands at the front of words, and the words behind it
-abbrev pub fold_front : List (List ℕ) → Bool × List (List ℕ)
-fold_front [] = (false, [])
-fold_front (word ∷ words) = if bytes_eq word (codes "--fold") then (true, words) else (false, word ∷ words)
-
--- the path of an option `--resume`, and the words behind it
-abbrev pub path_behind : List ℕ × List ℕ × List (List ℕ) → Option (List ℕ × List (List ℕ))
-path_behind (name, value, behind) = if bytes_eq name (codes "--resume") && is_path value then Some (value, behind) else None
-
--- `--resume` with a path at the front of words
-abbrev pub resume_front : List (List ℕ) → Option (List ℕ × List (List ℕ))
-resume_front words = option_and_then path_behind (front_option words)
-
--- `play` that goes on from a path, behind which `--fold` may stand, where it did not stand before
-abbrev pub play_from : Bool → List ℕ × List (List ℕ) → Option CommandLine
-play_from fold (path, behind) =
-    let last = fold_front behind in
-    if is_none last.1 && not (fold && last.0) then Some (Play (fold || last.0) (Some path)) else None
-
-abbrev pub play_behind : Bool → List (List ℕ) → Option CommandLine
-play_behind fold [] = Some (Play fold None)
-play_behind fold (word ∷ words) = option_and_then (play_from fold) (resume_front (word ∷ words))
+audit_of words = option_map (λ r. Audit r.1 r.0) (flagged_path (codes "--nulls") (codes "--air") words)
 
 -- `--fold` and `--resume` with a path, each at most once
 abbrev pub play_of : List (List ℕ) → Option CommandLine
-play_of words = let first = fold_front words in play_behind first.0 first.1
+play_of words =
+    let first = flag_front (codes "--fold") words in
+    if is_none first.1 then Some (Play first.0 None) else option_map (λ r. Play r.0 (Some r.1)) (flagged_path (codes "--fold") (codes "--resume") words)
 
 -- the command that words spell
 abbrev pub command_of : List (List ℕ) → Option CommandLine

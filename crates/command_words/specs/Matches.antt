@@ -39,7 +39,7 @@ abbrev pub Say : Found → CommandLine → Type 0
 Say found (Play fold resume) = ⊥
 Say found (Listen strict) = ⊥
 Say found (Soak number) = ⊥
-Say found (Audit path) = ⊥
+Say found (Audit path nulls) = ⊥
 Say found (Live feeds cycles join views) = (option_map raw_values (matched_of found (codes "feed")) ≡ Some feeds)
     × (option_and_then (number_in 1 1000) (first_value found (codes "cycles")) ≡ Some cycles)
     × (option_and_then (number_in 0 999999999) (first_value found (codes "join")) ≡ Some join)

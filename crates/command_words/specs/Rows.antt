@@ -90,11 +90,11 @@ soak_dashes = refl
 soak_alone : command_of (codes "soak" ∷ []) ≡ None
 soak_alone = refl
 
--- the one option of `audit`, in two words or in one
-audit : command_of (codes "audit" ∷ codes "--air" ∷ codes "week.ts" ∷ []) ≡ Some (Audit (codes "week.ts"))
+-- the option `--air` of `audit`, in two words or in one
+audit : command_of (codes "audit" ∷ codes "--air" ∷ codes "week.ts" ∷ []) ≡ Some (Audit (codes "week.ts") false)
 audit = refl
 
-audit_in_one : command_of (codes "audit" ∷ codes "--air=-a=b" ∷ []) ≡ Some (Audit (codes "-a=b"))
+audit_in_one : command_of (codes "audit" ∷ codes "--air=-a=b" ∷ []) ≡ Some (Audit (codes "-a=b") false)
 audit_in_one = refl
 
 audit_alone : command_of (codes "audit" ∷ []) ≡ None
@@ -108,3 +108,26 @@ audit_twice = refl
 
 audit_of_nothing : command_of (codes "audit" ∷ codes "--air=" ∷ []) ≡ None
 audit_of_nothing = refl
+
+-- with `--nulls`, before it or after it
+audit_nulls : command_of (codes "audit" ∷ codes "--nulls" ∷ codes "--air" ∷ codes "week.ts" ∷ []) ≡ Some (Audit (codes "week.ts") true)
+audit_nulls = refl
+
+audit_nulls_last : command_of (codes "audit" ∷ codes "--air=--nulls" ∷ codes "--nulls" ∷ []) ≡ Some (Audit (codes "--nulls") true)
+audit_nulls_last = refl
+
+-- twice, with a value, or in place of the path
+audit_nulls_twice : command_of (codes "audit" ∷ codes "--nulls" ∷ codes "--air=a" ∷ codes "--nulls" ∷ []) ≡ None
+audit_nulls_twice = refl
+
+audit_nulls_behind : command_of (codes "audit" ∷ codes "--air=a" ∷ codes "--nulls" ∷ codes "--nulls" ∷ []) ≡ None
+audit_nulls_behind = refl
+
+audit_nulls_value : command_of (codes "audit" ∷ codes "--air=a" ∷ codes "--nulls=1" ∷ []) ≡ None
+audit_nulls_value = refl
+
+audit_nulls_alone : command_of (codes "audit" ∷ codes "--nulls" ∷ []) ≡ None
+audit_nulls_alone = refl
+
+audit_without_path : command_of (codes "audit" ∷ codes "--air" ∷ codes "--nulls" ∷ []) ≡ None
+audit_without_path = refl

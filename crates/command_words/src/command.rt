@@ -1,12 +1,12 @@
 // Commands.
-ghost use Rattle.std.specs.Prelude.{◌≡◌, ◌↔◌, Some, None, Err, IfNone, IfOk, IfSome, option_and_then, option_map};
+ghost use Rattle.std.specs.Prelude.{◌≡◌, ◌↔◌, Some, None, Err, IfOk, IfSome, option_and_then, option_map};
 ghost use Rattle.command_words.specs.declared.command.WordsStop.TheVariants.{Usage};
 ghost use Rattle.command_words.specs.Commands.{IsWithin, said, texts};
-ghost use Rattle.command_words.specs.Grammar.{Audit, audit_of, command_of, listen_of, live_of, play_of, settings_of, soak_of};
+ghost use Rattle.command_words.specs.Grammar.{audit_of, command_of, listen_of, live_of, play_of, settings_of, soak_of};
 
+use crate::audit::{AuditWords, audit_words};
 use crate::matches::live_words;
 use crate::play::{PlayWords, play_words};
-use crate::setting::{first_option, is_path};
 use crate::uses::are_live;
 use input_lines::number;
 use si_base::Items;
@@ -34,8 +34,8 @@ pub enum Command {
     Live(LiveWords),
     /// A run of a load of its own making: the number of the load, 0 to 999,999,999.
     Soak(u64),
-    /// A recording held against the air of a journal: the path of the recording.
-    Audit(String),
+    /// A recording held against the air of a journal.
+    Audit(AuditWords),
 }
 
 /// Why words give no command: they spell none, or memory is wanting for a path.
@@ -49,9 +49,9 @@ pub enum WordsStop {
 ///
 /// `listen` may have the one word `--strict`. `play` has, in any order, `--fold` and `--resume PATH`, each at most once. `soak` has one,
 /// the number of its load, 0 to 999,999,999. `live` has, in any order, `--feed PATH` 1 to 16 times, `--cycles N` once,
-/// `--join J` once and `--view SERVICE`, 0 to 65,535, at most 8 times. `audit` has `--air PATH` once. An option with a value
-/// is one word with `=`, or two words, of which the second does not begin with `-`. A path is not empty and is not `-`. A
-/// number has one to nine digits and lies in its range. There are no short spellings.
+/// `--join J` once and `--view SERVICE`, 0 to 65,535, at most 8 times. `audit` has, in any order, `--air PATH` once and
+/// `--nulls` at most once. An option with a value is one word with `=`, or two words, of which the second does not begin with `-`.
+/// A path is not empty and is not `-`. A number has one to nine digits and lies in its range. There are no short spellings.
 ///
 /// `Usage` comes exactly where the words spell no command. `Memory` comes only where they do and memory is wanting.
 pub fn parse_words(alloc: Global, words: &[String]) -> Result<Command, WordsStop>
@@ -120,33 +120,15 @@ fn soak(words: &[String]) -> Option<Command>
     Some(Command::Soak(u64::from(number)))
 }
 
-// The path that the one option of `audit` gives.
-fn air_path(words: &[String]) -> Option<&str>
-    ensures some { IfSome result (λ path. audit_of (texts words.now) ≡ Some (Audit path.now)) }
-    ensures none { IfNone result (audit_of (texts words.now) ≡ None) }
-{
-    if words.is_empty() {
-        return None;
-    }
-    let (name, path, behind) = first_option(words)?;
-    if !behind.is_empty() || name != "--air" || !is_path(path) {
-        return None;
-    }
-    Some(path)
-}
-
-// The command of this option of `audit`.
+// The command of these options of `audit`.
 fn audit(alloc: Global, words: &[String]) -> Result<Command, WordsStop>
     ensures command { IfOk result (λ command. audit_of (texts words.now) ≡ Some (said command)) }
     ensures within { IfOk result IsWithin }
     ensures usage { result ≡ Err Usage ↔ (audit_of (texts words.now) ≡ None) }
 {
-    let Some(path) = air_path(words) else {
-        return Err(WordsStop::Usage);
-    };
-    match String::from_str(alloc, path) {
-        Ok(path) => Ok(Command::Audit(path)),
-        Err(_) => Err(WordsStop::Memory),
+    match audit_words(alloc, words) {
+        Ok(audit) => Ok(Command::Audit(audit)),
+        Err(stop) => Err(stop),
     }
 }
 

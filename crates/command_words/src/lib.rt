@@ -11,11 +11,14 @@
 //! Not promised: that `Memory` comes only where memory runs out.
 #![tactic(auto)]
 
+mod audit;
 mod command;
+mod front;
 mod matches;
 mod play;
 mod setting;
 mod uses;
 
+pub use audit::AuditWords;
 pub use command::{Command, LiveWords, Paths, WordsStop, parse_words};
 pub use play::PlayWords;

@@ -1,11 +1,11 @@
 // The options of `play`.
 ghost use Rattle.std.specs.Prelude.{◌≡◌, ◌≢◌, ◌↔◌, Some, None, Err, IfOk, option_map, string_bytes};
 ghost use Rattle.command_words.specs.Commands.{said_play, texts};
-ghost use Rattle.command_words.specs.Grammar.{Play, fold_front, play_of, resume_front};
+ghost use Rattle.command_words.specs.Grammar.{Play, play_of};
 ghost use Rattle.command_words.specs.declared.command.WordsStop.TheVariants.{Usage};
 
 use crate::command::WordsStop;
-use crate::setting::{first_option, is_path};
+use crate::front::{flagged_path, split_flag};
 use std::alloc::Global;
 
 /// The options of `play`: whether its report is the checkpoint, and the path of the checkpoint from which it goes on.
@@ -15,45 +15,17 @@ pub struct PlayWords {
     pub resume: Option<String>,
 }
 
-// Whether `--fold` stands at the front of these words, and the words behind it.
-fn split_fold(words: &[String]) -> (bool, &[String])
-    ensures { (result.0, texts result.1.now) ≡ fold_front (texts words.now) }
-{
-    match words.split_first() {
-        Some((word, behind)) if word.as_str() == "--fold" => (true, behind),
-        _ => (false, words),
-    }
-}
-
-// The path of the option `--resume` at the front of these words, and the words behind it.
-fn split_resume(words: &[String]) -> Option<(&str, &[String])>
-    ensures { option_map (λ r. (r.0.now, texts r.1.now)) result ≡ resume_front (texts words.now) }
-{
-    if words.is_empty() {
-        return None;
-    }
-    let (name, path, behind) = first_option(words)?;
-    if name != "--resume" || !is_path(path) {
-        return None;
-    }
-    Some((path, behind))
-}
-
 // What the options say: whether `--fold` is among them, and the path of `--resume`.
 fn play_options(words: &[String]) -> Option<(bool, Option<&str>)>
     ensures { option_map (λ r. Play r.0 (option_map (λ path. path.now) r.1)) result
         ≡ play_of (texts words.now) }
 {
-    let (first, rest) = split_fold(words);
+    let (fold, rest) = split_flag(words, "--fold");
     if rest.is_empty() {
-        return Some((first, None));
+        return Some((fold, None));
     }
-    let (path, behind) = split_resume(rest)?;
-    let (last, rest) = split_fold(behind);
-    if !rest.is_empty() || (first && last) {
-        return None;
-    }
-    Some((first || last, Some(path)))
+    let (fold, path) = flagged_path(words, "--fold", "--resume")?;
+    Some((fold, Some(path)))
 }
 
 fn copy_of(alloc: Global, path: Option<&str>) -> Result<Option<String>, WordsStop>
