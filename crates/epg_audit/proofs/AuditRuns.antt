@@ -1,5 +1,5 @@
 -- A run of `audit`, from what it found and how its report ended.
-use Rattle.std.proofs.Common.{◌≡◌, ℕ, suc, ◌<◌, ◌≤◌, List, ◌++◌, take, drop, refl, sym, ap, ◌∙◌, subst, arith, append-nil, inl, inr, ◌⊎◌}
+use Rattle.std.proofs.Common.{◌≡◌, ℕ, Bool, suc, ◌<◌, ◌≤◌, List, ◌++◌, take, drop, refl, sym, ap, ◌∙◌, subst, arith, append-nil, inl, inr, ◌⊎◌}
 use Rattle.std.specs.Prelude.{Option, Some, None, Ok, Err, Result, IfErr, OnOk}
 use Rattle.std.specs.Io.KnownBytes.{Appends, IsAtEnd}
 use Rattle.std.proofs.lemmas.List.{take-append-drop}
@@ -26,7 +26,8 @@ use Rattle.epg_audit.specs.Ends.{air_line, count_text, met_by}
 use Rattle.epg_audit.specs.Audits.{HasAuditCause}
 use Rattle.epg_audit.specs.Finds.{FindsIn, HasMetCause, IsAtFault, IsFound, IsMetBehind, IsMetByAudit}
 use Rattle.epg_audit.specs.Leaves.{AuditRun, DecidedBy, IsOfAudit, IsUnhindered, LeavesAudit}
-use Rattle.epg_audit.specs.Recorded.{IsFaulty, IsRecordedAir, airings_for, script_airings}
+use Rattle.epg_audit.specs.Recorded.{IsFaulty, IsRecordedAir, airings_for, script_airings, seen}
+use Rattle.epg_audit.proofs.Nulls.{seen_parts}
 
 abbrev pub Finished : Result AirCount Status → ReportTaken → Status → Type 0
 Finished audited report status = (status ≡ Memory) ⊎ ReportEnds (met_by audited) (count_text audited) report status
@@ -37,25 +38,25 @@ same_met other is = refl
 
 -- ---- what is left
 
-leaves_met : (path : List ℕ) (files : Files) (text : List ℕ) (left : Option (List ℕ)) (report : ReportTaken) (met : Status) → IsMetByAudit met → IsFound path files text left met → Reported report (fault_lines met)
-    → LeavesAudit path files text left report met
-leaves_met path files text left report Done is found took = absurd is
-leaves_met path files text left report (WriteFault Air) is found took = absurd is
-leaves_met path files text left report (WriteFault Report) is found took = absurd is
-leaves_met path files text left report Memory is found took = tt
-leaves_met path files text left report other is found took = (found, took)
+leaves_met : (path : List ℕ) (nulls : Bool) (files : Files) (text : List ℕ) (left : Option (List ℕ)) (report : ReportTaken) (met : Status) → IsMetByAudit met → IsFound path nulls files text left met → Reported report (fault_lines met)
+    → LeavesAudit path nulls files text left report met
+leaves_met path nulls files text left report Done is found took = absurd is
+leaves_met path nulls files text left report (WriteFault Air) is found took = absurd is
+leaves_met path nulls files text left report (WriteFault Report) is found took = absurd is
+leaves_met path nulls files text left report Memory is found took = tt
+leaves_met path nulls files text left report other is found took = (found, took)
 
-leaves_of : (path : List ℕ) (files : Files) (text : List ℕ) (left : Option (List ℕ)) (report : ReportTaken) (audited : Result AirCount Status) (status : Status) → IfErr audited IsMetByAudit
-    → FindsIn path files text left audited → Finished audited report status → LeavesAudit path files text left report status
-leaves_of path files text left report audited status is found (inl memory) = subst (LeavesAudit path files text left report) (sym memory) tt
-leaves_of path files text left report (Ok count) status is found (inr (inl (took, same))) =
-    subst (LeavesAudit path files text left report) (sym same) (count, found, subst (Appends report.old report.new) (append-nil (air_line count)) took)
-leaves_of path files text left report (Ok count) status is found (inr (inr (rose, took, same))) =
-    subst (LeavesAudit path files text left report) (sym same) (count, found, subst (AppendsFront report.old report.new) (append-nil (air_line count)) took)
-leaves_of path files text left report (Err met) status is found (inr (inl (took, same))) =
-    subst (LeavesAudit path files text left report) (sym same) (leaves_met path files text left report met is found (inl took))
-leaves_of path files text left report (Err met) status is found (inr (inr (rose, took, same))) =
-    subst (LeavesAudit path files text left report) (sym (same ∙ same_met met is)) (leaves_met path files text left report met is found (inr (rose, took)))
+leaves_of : (path : List ℕ) (nulls : Bool) (files : Files) (text : List ℕ) (left : Option (List ℕ)) (report : ReportTaken) (audited : Result AirCount Status) (status : Status) → IfErr audited IsMetByAudit
+    → FindsIn path nulls files text left audited → Finished audited report status → LeavesAudit path nulls files text left report status
+leaves_of path nulls files text left report audited status is found (inl memory) = subst (LeavesAudit path nulls files text left report) (sym memory) tt
+leaves_of path nulls files text left report (Ok count) status is found (inr (inl (took, same))) =
+    subst (LeavesAudit path nulls files text left report) (sym same) (count, found, subst (Appends report.old report.new) (append-nil (air_line count)) took)
+leaves_of path nulls files text left report (Ok count) status is found (inr (inr (rose, took, same))) =
+    subst (LeavesAudit path nulls files text left report) (sym same) (count, found, subst (AppendsFront report.old report.new) (append-nil (air_line count)) took)
+leaves_of path nulls files text left report (Err met) status is found (inr (inl (took, same))) =
+    subst (LeavesAudit path nulls files text left report) (sym same) (leaves_met path nulls files text left report met is found (inl took))
+leaves_of path nulls files text left report (Err met) status is found (inr (inr (rose, took, same))) =
+    subst (LeavesAudit path nulls files text left report) (sym (same ∙ same_met met is)) (leaves_met path nulls files text left report met is found (inr (rose, took)))
 
 -- ---- statuses
 
@@ -106,23 +107,23 @@ ended_of left report (Err met) status is end (inr (inr (rose, took, same))) e = 
 script_aired : (text : List ℕ) (mux : Mux) → (script_in text).mux ≡ Some mux → script_airings (script_in text) ≡ airings_for (Some mux) (whole_journal (script_in text))
 script_aired text mux e = ap (λ (o : Option Mux). airings_for o (whole_journal (script_in text))) e
 
-module _ (path : List ℕ) (files : Files) (text : List ℕ) (left : Option (List ℕ)) (report : ReportTaken) where
+module _ (path : List ℕ) (nulls : Bool) (files : Files) (text : List ℕ) (left : Option (List ℕ)) (report : ReportTaken) where
   abbrev aired : List AiredTables
   aired = script_airings (script_in text)
 
   abbrev Decided : Status → Type 0
-  Decided status = (status ≡ Memory) ⊎ AtPath path files (DecidedBy aired status)
+  Decided status = (status ≡ Memory) ⊎ AtPath path files (DecidedBy nulls aired status)
 
   stops_not : (stop : Stop) (status : Status) → (script_in text).stop ≡ Ended → (script_in text).stop ≡ stop → (Ended ≡ stop → ⊥) → Decided status
   stops_not stop status ended is apart = absurd (apart (sym ended ∙ is))
 
-  at_fault : (status : Status) → AtPath path files (IsAtFault (script_in text) status) → AtPath path files (λ bytes. IsFaulty aired bytes status)
+  at_fault : (status : Status) → AtPath path files (IsAtFault nulls (script_in text) status) → AtPath path files (λ bytes. IsFaulty nulls aired bytes status)
   at_fault status at = record { bytes = at.bytes; file = at.file; is = at.is.faulty }
 
-  decided : (status : Status) → LeavesAudit path files text left report status → (script_in text).stop ≡ Ended → (status ≡ ReadFault Input → ⊥) → (status ≡ ReadFault Recording → ⊥) → ((n : ℕ) → status ≡ OpenFault n → ⊥)
+  decided : (status : Status) → LeavesAudit path nulls files text left report status → (script_in text).stop ≡ Ended → (status ≡ ReadFault Input → ⊥) → (status ≡ ReadFault Recording → ⊥) → ((n : ℕ) → status ≡ OpenFault n → ⊥)
       → (status ≡ WriteFault Report → ⊥) → Decided status
   decided Done (count, accepted, took) ended no_input no_reading no_opening no_report =
-      inr (record { bytes = accepted.bytes; file = accepted.file; is = subst (λ (l : List AiredTables). IsRecordedAir l accepted.bytes) (sym (script_aired text accepted.mux accepted.described)) accepted.air })
+      inr (record { bytes = accepted.bytes; file = accepted.file; is = subst (λ (l : List AiredTables). IsRecordedAir nulls l accepted.bytes) (sym (script_aired text accepted.mux accepted.described)) accepted.air })
   decided (WriteFault Report) leaves ended no_input no_reading no_opening no_report = absurd (no_report refl)
   decided (WriteFault Air) leaves ended no_input no_reading no_opening no_report = absurd leaves.0
   decided Memory leaves ended no_input no_reading no_opening no_report = inl refl
@@ -147,11 +148,12 @@ module _ (path : List ℕ) (files : Files) (text : List ℕ) (left : Option (Lis
 
   -- ---- an air is not at fault
 
-  front_begins : (airings : List AiredTables) (bytes : List ℕ) (n : ℕ) (air : IsRecordedAir airings bytes) → AreAnAir airings (take n (whole_packets bytes) ++ drop n (whole_packets bytes))
-  front_begins airings bytes n air = subst (AreAnAir airings) (sym (take-append-drop n (whole_packets bytes))) air.air
+  front_begins : (airings : List AiredTables) (bytes : List ℕ) (n : ℕ) (air : IsRecordedAir nulls airings bytes) → AreAnAir airings (seen nulls (take n (whole_packets bytes)) ++ seen nulls (drop n (whole_packets bytes)))
+  front_begins airings bytes n air =
+      subst (AreAnAir airings) (sym (ap (seen nulls) (take-append-drop n (whole_packets bytes))) ∙ seen_parts nulls (take n (whole_packets bytes)) (drop n (whole_packets bytes))) air.air
 
-  no_fault : (airings : List AiredTables) (bytes : List ℕ) (status : Status) → IsRecordedAir airings bytes → (status ≡ ReadFault Recording → ⊥) → IsFaulty airings bytes status → ⊥
-  no_fault airings bytes (NotAir n rule) air no_reading faulty = faulty.0.differs (record { more = drop (suc n) (whole_packets bytes); whole = front_begins airings bytes (suc n) air })
+  no_fault : (airings : List AiredTables) (bytes : List ℕ) (status : Status) → IsRecordedAir nulls airings bytes → (status ≡ ReadFault Recording → ⊥) → IsFaulty nulls airings bytes status → ⊥
+  no_fault airings bytes (NotAir n rule) air no_reading faulty = faulty.0.differs (record { more = seen nulls (drop (suc n) (whole_packets bytes)); whole = front_begins airings bytes (suc n) air })
   no_fault airings bytes (Short n) air no_reading faulty = faulty.no_air air.air
   no_fault airings bytes (BadStream n) air no_reading faulty = omega (arith, faulty.more, faulty.less, air.whole)
   no_fault airings bytes (PastLimit Recording) air no_reading faulty = omega (arith, faulty.more, air.whole, air.limit)
@@ -162,36 +164,36 @@ module _ (path : List ℕ) (files : Files) (text : List ℕ) (left : Option (Lis
   no_fault airings bytes (ReadFault (Feed f)) air no_reading faulty = faulty
   no_fault airings bytes other air no_reading faulty = faulty
 
-  accept_by : (airings : List AiredTables) (bytes : List ℕ) (status : Status) → IsRecordedAir airings bytes → (status ≡ ReadFault Recording → ⊥) → DecidedBy airings status bytes → (status ≡ Done) ⊎ (status ≡ Memory)
+  accept_by : (airings : List AiredTables) (bytes : List ℕ) (status : Status) → IsRecordedAir nulls airings bytes → (status ≡ ReadFault Recording → ⊥) → DecidedBy nulls airings status bytes → (status ≡ Done) ⊎ (status ≡ Memory)
   accept_by airings bytes Done air no_reading by = inl refl
   accept_by airings bytes other air no_reading by = absurd (no_fault airings bytes other air no_reading by)
 
   same_bytes : (a b : List ℕ) → file_at path files ≡ Some a → file_at path files ≡ Some b → a ≡ b
   same_bytes a b at too = (let same : (let o : Option (List ℕ) = Some a in o) ≡ Some b = sym at ∙ too in cc same)
 
-  accepts : (status : Status) → Decided status → AtPath path files (IsRecordedAir aired) → (status ≡ ReadFault Recording → ⊥) → (status ≡ Done) ⊎ (status ≡ Memory)
+  accepts : (status : Status) → Decided status → AtPath path files (IsRecordedAir nulls aired) → (status ≡ ReadFault Recording → ⊥) → (status ≡ Done) ⊎ (status ≡ Memory)
   accepts status (inl memory) air no_reading = inr memory
   accepts status (inr by) air no_reading =
-      accept_by aired by.bytes status (subst (IsRecordedAir aired) (same_bytes air.bytes by.bytes air.file by.file) air.is) no_reading by.is
+      accept_by aired by.bytes status (subst (IsRecordedAir nulls aired) (same_bytes air.bytes by.bytes air.file by.file) air.is) no_reading by.is
 
 -- ---- the run
 
-pub audit_run : (path : List ℕ) (opener : OpenerAsked) (input : SourceGave) (report : ReportTaken) (audited : Result AirCount Status) (status : Status) → IfErr audited IsMetByAudit
-    → ((text : List ℕ) → input.old ≡ Some text → (files : Files) → opener.files ≡ Some files → FindsIn path files text input.new audited) → OnOk audited (IsAtEnd input.new)
+pub audit_run : (path : List ℕ) (nulls : Bool) (opener : OpenerAsked) (input : SourceGave) (report : ReportTaken) (audited : Result AirCount Status) (status : Status) → IfErr audited IsMetByAudit
+    → ((text : List ℕ) → input.old ≡ Some text → (files : Files) → opener.files ≡ Some files → FindsIn path nulls files text input.new audited) → OnOk audited (IsAtEnd input.new)
     → IfErr audited (HasMetCause input.faults_old input.faults_new opener) → HasAskedFor path opener.tried_old opener.tried_new (met_by audited) → Finished audited report status
-    → AuditRun path opener input report status
-audit_run path opener input report audited status is finds end cause asked finished =
-    let leaves = λ (text : List ℕ) (tells : input.old ≡ Some text) (files : Files) (has : opener.files ≡ Some files). leaves_of path files text input.new report audited status is (finds text tells files has) finished in
+    → AuditRun path nulls opener input report status
+audit_run path nulls opener input report audited status is finds end cause asked finished =
+    let leaves = λ (text : List ℕ) (tells : input.old ≡ Some text) (files : Files) (has : opener.files ≡ Some files). leaves_of path nulls files text input.new report audited status is (finds text tells files has) finished in
     let causes = caused input.faults_old input.faults_new opener report audited status is cause finished in
     let rose = report_caused report audited status is finished in
     let decide = λ (text : List ℕ) (tells : input.old ≡ Some text) (files : Files) (has : opener.files ≡ Some files) (ended : (script_in text).stop ≡ Ended) (none : IsUnhindered opener input report).
-    decided path files text input.new report status (leaves text tells files has) ended (λ e. none.no_input (subst (HasMetCause input.faults_old input.faults_new opener) e causes))
+    decided path nulls files text input.new report status (leaves text tells files has) ended (λ e. none.no_input (subst (HasMetCause input.faults_old input.faults_new opener) e causes))
     (λ e. none.no_reading (subst (HasMetCause input.faults_old input.faults_new opener) e causes)) (λ n e. none.no_opening (subst (HasMetCause input.faults_old input.faults_new opener) e causes)) (λ e. none.no_report (rose e)) in
     record {
       leaves = leaves;
       decides = decide;
       accepts = λ text tells files has ended none air.
-          accepts path files text input.new report status (decide text tells files has ended none) air (λ e. none.no_reading (subst (HasMetCause input.faults_old input.faults_new opener) e causes));
+          accepts path nulls files text input.new report status (decide text tells files has ended none) air (λ e. none.no_reading (subst (HasMetCause input.faults_old input.faults_new opener) e causes));
       known = of_audit report audited status is finished;
       asked_for = asked_of path opener.tried_old opener.tried_new report audited status is asked finished;
       end = ended_of input.new report audited status is end finished;
@@ -200,8 +202,8 @@ audit_run path opener input report audited status is finds end cause asked finis
     }
 
 -- where memory was wanting before anything was read
-pub audit_memory : (path : List ℕ) (opener : OpenerAsked) (input : SourceGave) (report : ReportTaken) (status : Status) → status ≡ Memory → opener.tried_new ≡ opener.tried_old → AuditRun path opener input report status
-audit_memory path opener input report status e same = subst (AuditRun path opener input report) (sym e) (record {
+pub audit_memory : (path : List ℕ) (nulls : Bool) (opener : OpenerAsked) (input : SourceGave) (report : ReportTaken) (status : Status) → status ≡ Memory → opener.tried_new ≡ opener.tried_old → AuditRun path nulls opener input report status
+audit_memory path nulls opener input report status e same = subst (AuditRun path nulls opener input report) (sym e) (record {
   leaves = λ text tells files has. tt;
   decides = λ text tells files has ended none. inl refl;
   accepts = λ text tells files has ended none air. inr refl;

@@ -1,5 +1,6 @@
 -- Why a recording is at fault.
-use Rattle.std.proofs.Common.{◌≡◌, ℕ, suc, ◌%◌, ◌==◌, ◌<◌, ◌≤◌, true, false, List, [], ◌∷◌, ◌++◌, length, take, drop, get_or, slice_index, refl, sym, ap, ◌∙◌, arith, append_assoc, length-append, subst, inl, inr}
+use Rattle.std.proofs.Common.{◌≡◌, ℕ, suc, ◌%◌, ◌==◌, ◌<◌, ◌≤◌, Bool, true, false, List, [], ◌∷◌, ◌++◌, length, take, drop, get_or, slice_index, refl, sym, ap, ◌∙◌, arith, append_assoc, length-append, subst, inl, inr}
+use Rattle.std.proofs.lemmas.Bool.{cases_Bool}
 use Rattle.std.proofs.lemmas.List.{take-append-drop, length-take-le}
 use Rattle.std.specs.Prelude.{◌&&◌}
 use Rattle.packet_reader.specs.Recordings.{is_packet, packet_limit}
@@ -19,15 +20,16 @@ use Rattle.air_audit.proofs.Longer.{longer_begins, longer_lists_agree}
 use Rattle.epg_report.specs.declared.status.Status.TheVariants.{BadStream, NotAir, Short, TooLong}
 use Rattle.epg_report.specs.declared.status.Origin.TheVariants.{Recording}
 use Rattle.epg_audit.specs.Checks.{AreTaken}
-use Rattle.epg_audit.specs.Recorded.{Breaks, IsFaulty, IsRecordedAir}
+use Rattle.epg_audit.specs.Recorded.{Breaks, IsFaulty, IsRecordedAir, is_passed, seen}
+use Rattle.epg_audit.proofs.Nulls.{seen_more, seen_same, shapeless}
 use Rattle.epg_audit.proofs.Pieces.{at_front, front_is, packets_parted, packets_taken, size_parted, taken_more}
 
 -- ---- a packet that differs
 
 -- a packet stands behind those that were taken
-differs_at : (airings : List AiredTables) (bytes : List ℕ) (packets : List (List ℕ)) (rest p behind : List ℕ) (n : ℕ) (rule : Rule) → AreTaken bytes packets rest → rest ≡ p ++ behind → length p ≡ 188 → n ≡ length packets
-    → BeginAnAir airings packets → (BeginAnAir airings (packets ++ p ∷ []) → ⊥) → Breaks airings packets p rule → IsFaulty airings bytes (NotAir n rule)
-differs_at airings bytes packets rest p behind n rule t e long number begins differs breaks =
+differs_at : (nulls : Bool) (airings : List AiredTables) (bytes : List ℕ) (packets : List (List ℕ)) (rest p behind : List ℕ) (n : ℕ) (rule : Rule) → AreTaken bytes packets rest → rest ≡ p ++ behind → length p ≡ 188 → n ≡ length packets
+    → BeginAnAir airings (seen nulls packets) → (BeginAnAir airings (seen nulls (packets ++ p ∷ [])) → ⊥) → Breaks airings (seen nulls packets) p rule → IsFaulty nulls airings bytes (NotAir n rule)
+differs_at nulls airings bytes packets rest p behind n rule t e long number begins differs breaks =
     let all : whole_packets bytes ≡ (packets ++ p ∷ []) ++ whole_packets behind = packets_parted bytes (packets ++ p ∷ []) behind (taken_more bytes packets rest p behind t e long) in
     let cut : whole_packets bytes ≡ packets ++ p ∷ whole_packets behind = all ∙ append_assoc packets (p ∷ []) (whole_packets behind) in
     let front : take n (whole_packets bytes) ≡ packets = ap (take n) cut ∙ front_is packets (p ∷ whole_packets behind) n number in
@@ -35,20 +37,21 @@ differs_at airings bytes packets rest p behind n rule t e long number begins dif
     let here : get_or (whole_packets bytes) n [] ≡ p = ap (λ (l : List (List ℕ)). get_or l n []) cut ∙ at_front packets p (whole_packets behind) [] n number in (
       record {
         within = omega (arith, ap length cut, length-append packets (p ∷ whole_packets behind), number);
-        begins = subst (BeginAnAir airings) (sym front) begins;
-        differs = λ b. differs (subst (BeginAnAir airings) next b);
+        begins = subst (λ (l : List (List ℕ)). BeginAnAir airings (seen nulls l)) (sym front) begins;
+        differs = λ b. differs (subst (λ (l : List (List ℕ)). BeginAnAir airings (seen nulls l)) next b);
       },
-      subst (λ (l : List (List ℕ)). Breaks airings l (get_or (whole_packets bytes) n []) rule) (sym front) (subst (λ (q : List ℕ). Breaks airings packets q rule) (sym here) breaks),
+      subst (λ (l : List (List ℕ)). Breaks airings (seen nulls l) (get_or (whole_packets bytes) n []) rule) (sym front) (subst (λ (q : List ℕ). Breaks airings (seen nulls packets) q rule) (sym here) breaks),
     )
 
 -- in a cycle that has not ended, whatever airings follow
-pub differs_in_cycle : (airings others : List AiredTables) (bytes : List ℕ) (packets : List (List ℕ)) (rest p behind : List ℕ) (n : ℕ) (rule : Rule) (c : Checking) → StandsFor airings packets c → (IsAtEnd c → ⊥)
-    → CanBeSent others → (BeginAnAir airings (packets ++ p ∷ []) → ⊥) → rule ≡ rule_broken (to_come_on c.on_pids (pid_in p)) (count_on (pid_in p) packets % 16) p
-    → AreTaken bytes packets rest → rest ≡ p ++ behind → length p ≡ 188 → n ≡ length packets → IsFaulty (airings ++ others) bytes (NotAir n rule)
-differs_in_cycle airings others bytes packets rest p behind n rule c stands unended can differs rule_is t e long number =
-    differs_at (airings ++ others) bytes packets rest p behind n rule t e long number
-    (longer_begins airings others packets can (stands_begins airings packets c stands))
-    (λ b. differs ((longer_lists_agree airings others packets c p stands unended can).0 b))
+differs_kept : (nulls : Bool) (airings others : List AiredTables) (bytes : List ℕ) (packets : List (List ℕ)) (rest p behind : List ℕ) (n : ℕ) (rule : Rule) (c : Checking) → StandsFor airings (seen nulls packets) c → (IsAtEnd c → ⊥)
+    → CanBeSent others → is_passed nulls p ≡ false → (BeginAnAir airings (seen nulls (packets ++ p ∷ [])) → ⊥) → rule ≡ rule_broken (to_come_on c.on_pids (pid_in p)) (count_on (pid_in p) (seen nulls packets) % 16) p
+    → AreTaken bytes packets rest → rest ≡ p ++ behind → length p ≡ 188 → n ≡ length packets → IsFaulty nulls (airings ++ others) bytes (NotAir n rule)
+differs_kept nulls airings others bytes packets rest p behind n rule c stands unended can other differs rule_is t e long number =
+    let more = seen_more nulls packets p other in
+    differs_at nulls (airings ++ others) bytes packets rest p behind n rule t e long number
+    (longer_begins airings others (seen nulls packets) can (stands_begins airings (seen nulls packets) c stands))
+    (λ b. differs (subst (BeginAnAir airings) (sym more) ((longer_lists_agree airings others (seen nulls packets) c p stands unended can).0 (subst (BeginAnAir (airings ++ others)) more b))))
     (inl (record {
       front = airings;
       others = others;
@@ -61,8 +64,17 @@ differs_in_cycle airings others bytes packets rest p behind n rule c stands unen
       rule_is = rule_is;
     }))
 
+-- a packet that is passed over makes no difference
+pub differs_in_cycle : (nulls : Bool) (airings others : List AiredTables) (bytes : List ℕ) (packets : List (List ℕ)) (rest p behind : List ℕ) (n : ℕ) (rule : Rule) (c : Checking) → StandsFor airings (seen nulls packets) c → (IsAtEnd c → ⊥)
+    → CanBeSent others → (BeginAnAir airings (seen nulls (packets ++ p ∷ [])) → ⊥) → rule ≡ rule_broken (to_come_on c.on_pids (pid_in p)) (count_on (pid_in p) (seen nulls packets) % 16) p
+    → AreTaken bytes packets rest → rest ≡ p ++ behind → length p ≡ 188 → n ≡ length packets → IsFaulty nulls (airings ++ others) bytes (NotAir n rule)
+differs_in_cycle nulls airings others bytes packets rest p behind n rule c stands unended can differs rule_is t e long number = elim (cases_Bool (is_passed nulls p)) [
+  | inl over ↦ absurd (differs (subst (BeginAnAir airings) (sym (seen_same nulls packets p over)) (stands_begins airings (seen nulls packets) c stands)))
+  | inr other ↦ differs_kept nulls airings others bytes packets rest p behind n rule c stands unended can other differs rule_is t e long number
+]
+
 -- a piece that does not begin as a packet
-no_shape : (p : List ℕ) → length p ≡ 188 → is_packet p ≡ false → has_shape p ≡ false
+pub no_shape : (p : List ℕ) → length p ≡ 188 → is_packet p ≡ false → has_shape p ≡ false
 no_shape p long e =
     let whole : (length p == 188) ≡ true = rw long refl in
     let sync : (slice_index p 0 == 71) ≡ false = (let h : ((length p == 188) && (slice_index p 0 == 71)) ≡ false = e in rw whole at h) in
@@ -71,59 +83,60 @@ no_shape p long e =
 shape_broken : (c : Checking) (packets : List (List ℕ)) (p : List ℕ) → has_shape p ≡ false → Shape ≡ rule_broken (to_come_on c.on_pids (pid_in p)) (count_on (pid_in p) packets % 16) p
 shape_broken c packets p e = rw e refl
 
-pub broken_in_cycle : (airings others : List AiredTables) (bytes : List ℕ) (packets : List (List ℕ)) (rest : List ℕ) (n : ℕ) (c : Checking) → StandsFor airings packets c → (IsAtEnd c → ⊥)
-    → CanBeSent others → AreTaken bytes packets rest → 188 ≤ length rest → is_packet (take 188 rest) ≡ false → n ≡ length packets → IsFaulty (airings ++ others) bytes (NotAir n Shape)
-broken_in_cycle airings others bytes packets rest n c stands unended can t long broken number =
+pub broken_in_cycle : (nulls : Bool) (airings others : List AiredTables) (bytes : List ℕ) (packets : List (List ℕ)) (rest : List ℕ) (n : ℕ) (c : Checking) → StandsFor airings (seen nulls packets) c → (IsAtEnd c → ⊥)
+    → CanBeSent others → AreTaken bytes packets rest → 188 ≤ length rest → is_packet (take 188 rest) ≡ false → n ≡ length packets → IsFaulty nulls (airings ++ others) bytes (NotAir n Shape)
+broken_in_cycle nulls airings others bytes packets rest n c stands unended can t long broken number =
     let p = take 188 rest in
     let size : length p ≡ 188 = length-take-le 188 rest long in
     let shape = no_shape p size broken in
-    differs_in_cycle airings others bytes packets rest p (drop 188 rest) n Shape c stands unended can
-    (λ b. (let none = (wrong_shape airings packets c p stands shape).1 b in cc none)) (shape_broken c packets p shape)
+    let other = shapeless nulls p shape in
+    differs_kept nulls airings others bytes packets rest p (drop 188 rest) n Shape c stands unended can other
+    (λ b. (let none = (wrong_shape airings (seen nulls packets) c p stands shape).1 (subst (BeginAnAir airings) (seen_more nulls packets p other) b) in cc none)) (shape_broken c (seen nulls packets) p shape)
     t (sym (take-append-drop 188 rest)) size number
 
 -- behind the last cycle
-pub differs_at_end : (airings : List AiredTables) (bytes : List ℕ) (packets : List (List ℕ)) (rest : List ℕ) (n : ℕ) → CanBeSent airings → AreAnAir airings packets → BeginAnAir airings packets
-    → AreTaken bytes packets rest → 188 ≤ length rest → n ≡ length packets → IsFaulty airings bytes (NotAir n Pid)
-differs_at_end airings bytes packets rest n can air begins t long number =
+pub differs_at_end : (nulls : Bool) (airings : List AiredTables) (bytes : List ℕ) (packets : List (List ℕ)) (rest : List ℕ) (n : ℕ) → CanBeSent airings → AreAnAir airings (seen nulls packets) → BeginAnAir airings (seen nulls packets)
+    → AreTaken bytes packets rest → 188 ≤ length rest → is_passed nulls (take 188 rest) ≡ false → n ≡ length packets → IsFaulty nulls airings bytes (NotAir n Pid)
+differs_at_end nulls airings bytes packets rest n can air begins t long other number =
     let p = take 188 rest in
-    differs_at airings bytes packets rest p (drop 188 rest) n Pid t (sym (take-append-drop 188 rest)) (length-take-le 188 rest long) number begins
-    (whole_airs_end airings packets p can air) (inr (air, refl))
+    differs_at nulls airings bytes packets rest p (drop 188 rest) n Pid t (sym (take-append-drop 188 rest)) (length-take-le 188 rest long) number begins
+    (λ b. whole_airs_end airings (seen nulls packets) p can air (subst (BeginAnAir airings) (seen_more nulls packets p other) b)) (inr (air, refl))
 
 -- ---- a recording that ends, or goes on
 
-pub short_in_cycle : (airings others : List AiredTables) (bytes : List ℕ) (packets : List (List ℕ)) (rest : List ℕ) (n : ℕ) (c : Checking) → StandsFor airings packets c → (AreAnAir airings packets → ⊥)
-    → CanBeSent others → AreTaken bytes packets rest → rest ≡ [] → n ≡ length packets → IsFaulty (airings ++ others) bytes (Short n)
-short_in_cycle airings others bytes packets rest n c stands no_air can t none number =
-    let begins = stands_begins airings packets c stands in
+pub short_in_cycle : (nulls : Bool) (airings others : List AiredTables) (bytes : List ℕ) (packets : List (List ℕ)) (rest : List ℕ) (n : ℕ) (c : Checking) → StandsFor airings (seen nulls packets) c → (AreAnAir airings (seen nulls packets) → ⊥)
+    → CanBeSent others → AreTaken bytes packets rest → rest ≡ [] → n ≡ length packets → IsFaulty nulls (airings ++ others) bytes (Short n)
+short_in_cycle nulls airings others bytes packets rest n c stands no_air can t none number =
+    let begins = stands_begins airings (seen nulls packets) c stands in
     let all : whole_packets bytes ≡ packets = packets_taken bytes packets rest t (omega (arith, ap length none)) in
     record {
       whole = omega (arith, size_parted bytes packets rest t, ap length none, number);
-      begins = subst (BeginAnAir (airings ++ others)) (sym all) (longer_begins airings others packets can begins);
-      no_air = λ air. no_air (longer_airs airings others packets stands.can_be_sent (subst (AreAnAir (airings ++ others)) all air) begins);
+      begins = subst (λ (l : List (List ℕ)). BeginAnAir (airings ++ others) (seen nulls l)) (sym all) (longer_begins airings others (seen nulls packets) can begins);
+      no_air = λ air. no_air (longer_airs airings others (seen nulls packets) stands.can_be_sent (subst (λ (l : List (List ℕ)). AreAnAir (airings ++ others) (seen nulls l)) all air) begins);
     }
 
-pub cut_short : (airings : List AiredTables) (bytes : List ℕ) (packets : List (List ℕ)) (rest : List ℕ) (n : ℕ) → BeginAnAir airings packets → AreTaken bytes packets rest → 0 < length rest → length rest < 188
-    → n ≡ length packets → IsFaulty airings bytes (BadStream n)
-cut_short airings bytes packets rest n begins t some few number = record {
+pub cut_short : (nulls : Bool) (airings : List AiredTables) (bytes : List ℕ) (packets : List (List ℕ)) (rest : List ℕ) (n : ℕ) → BeginAnAir airings (seen nulls packets) → AreTaken bytes packets rest → 0 < length rest → length rest < 188
+    → n ≡ length packets → IsFaulty nulls airings bytes (BadStream n)
+cut_short nulls airings bytes packets rest n begins t some few number = record {
   more = omega (arith, size_parted bytes packets rest t, some, number);
   less = omega (arith, size_parted bytes packets rest t, few, number);
-  begins = subst (BeginAnAir airings) (sym (packets_taken bytes packets rest t few)) begins;
+  begins = subst (λ (l : List (List ℕ)). BeginAnAir airings (seen nulls l)) (sym (packets_taken bytes packets rest t few)) begins;
 }
 
-pub past_limit : (airings : List AiredTables) (bytes : List ℕ) (packets : List (List ℕ)) (rest : List ℕ) → BeginAnAir airings packets → AreTaken bytes packets rest → 0 < length rest
-    → packet_limit ≡ length packets → IsFaulty airings bytes (TooLong Recording)
-past_limit airings bytes packets rest begins t some number = record {
+pub past_limit : (nulls : Bool) (airings : List AiredTables) (bytes : List ℕ) (packets : List (List ℕ)) (rest : List ℕ) → BeginAnAir airings (seen nulls packets) → AreTaken bytes packets rest → 0 < length rest
+    → packet_limit ≡ length packets → IsFaulty nulls airings bytes (TooLong Recording)
+past_limit nulls airings bytes packets rest begins t some number = record {
   more = omega (arith, size_parted bytes packets rest t, some, number);
   begins =
-      subst (BeginAnAir airings) (sym (ap (take packet_limit) (packets_parted bytes packets rest t) ∙ front_is packets (whole_packets rest) packet_limit number)) begins;
+      subst (λ (l : List (List ℕ)). BeginAnAir airings (seen nulls l)) (sym (ap (take packet_limit) (packets_parted bytes packets rest t) ∙ front_is packets (whole_packets rest) packet_limit number)) begins;
 }
 
 -- nothing is left behind the last cycle
-pub recorded : (airings : List AiredTables) (bytes : List ℕ) (packets : List (List ℕ)) (rest : List ℕ) → AreAnAir airings packets → AreTaken bytes packets rest → rest ≡ [] → length packets ≤ packet_limit → IsRecordedAir airings bytes
-recorded airings bytes packets rest air t none few =
+pub recorded : (nulls : Bool) (airings : List AiredTables) (bytes : List ℕ) (packets : List (List ℕ)) (rest : List ℕ) → AreAnAir airings (seen nulls packets) → AreTaken bytes packets rest → rest ≡ [] → length packets ≤ packet_limit → IsRecordedAir nulls airings bytes
+recorded nulls airings bytes packets rest air t none few =
     let all : whole_packets bytes ≡ packets = packets_taken bytes packets rest t (omega (arith, ap length none)) in
     record {
-      air = subst (AreAnAir airings) (sym all) air;
+      air = subst (λ (l : List (List ℕ)). AreAnAir airings (seen nulls l)) (sym all) air;
       whole = omega (arith, size_parted bytes packets rest t, ap length none, ap length all);
       limit = omega (arith, few, ap length all);
     }

@@ -1,4 +1,5 @@
 pub mod Pieces
+pub mod Nulls
 pub mod Faults
 pub mod Following
 pub mod Airings

@@ -1,5 +1,5 @@
 -- How far an audit has come with a script and a recording, and why it stops.
-use Rattle.std.specs.Prelude.{◌≡◌, ◌⊎◌, ℕ, List, ◌++◌, length, Option, Some, Ok, Err, Result}
+use Rattle.std.specs.Prelude.{◌≡◌, ◌⊎◌, ℕ, Bool, List, ◌++◌, length, Option, Some, Ok, Err, Result}
 use Rattle.si_causes.specs.Causes.{Rose}
 use Rattle.si_causes.specs.Reading.{Reading}
 use Rattle.packet_reader.specs.Reading.{PacketReading, bytes_left}
@@ -18,7 +18,7 @@ use Rattle.epg_play.specs.declared.stop.PlayStop.TheVariants.{Air, NoMux}
 use Rattle.epg_play.specs.Items.{Stops, Went}
 use Rattle.epg_play.specs.Leaves.{status_for}
 use Rattle.epg_audit.specs.declared.cycles.AirCount.{AirCount}
-use Rattle.epg_audit.specs.Recorded.{BeginsWithAir, IsFaulty, IsRecordedAir}
+use Rattle.epg_audit.specs.Recorded.{BeginsWithAir, IsFaulty, IsRecordedAir, passed_over}
 
 -- what a desk has put on air
 abbrev pub desk_airings : DeskState → List AiredTables
@@ -30,7 +30,7 @@ IsOfScript (NoMux fault) = ⊥
 IsOfScript Air = ⊥
 IsOfScript stop = Unit {0}
 
-module _ {S F : Type 0} (left : S → Option (List ℕ)) (gives : F → Option (List ℕ)) (old now : Reading S) (start : PacketReading F) (before desk : DeskState) where
+module _ {S F : Type 0} (nulls : Bool) (left : S → Option (List ℕ)) (gives : F → Option (List ℕ)) (old now : Reading S) (start : PacketReading F) (before desk : DeskState) where
   -- of what the recording has, where it tells it
   abbrev pub OfRecording : (List ℕ → Type 0) → Type 0
   OfRecording Is = (bytes : List ℕ) → bytes_left gives start ≡ Some bytes → Is bytes
@@ -41,28 +41,29 @@ module _ {S F : Type 0} (left : S → Option (List ℕ)) (gives : F → Option (
     pub is : status ≡ status_for stop
     pub of_script : IsOfScript stop
     pub stops : Stops 0 left old now before desk (Err stop)
-    pub behind : OfRecording (BeginsWithAir (desk_airings desk))
+    pub behind : OfRecording (BeginsWithAir nulls (desk_airings desk))
 
   -- the recording is at fault in the cycle of the last command that was done, whatever airings follow
   pub record CycleStops (status : Status) : Type 0 where
     pub made : Option Outcome
     pub went : Went 0 left old now before desk made
-    pub faulty : OfRecording (λ bytes. (others : List AiredTables) → CanBeSent others → IsFaulty (desk_airings desk ++ others) bytes status)
+    pub faulty : OfRecording (λ bytes. (others : List AiredTables) → CanBeSent others → IsFaulty nulls (desk_airings desk ++ others) bytes status)
 
   -- the recording is at fault behind the last cycle of a script that is whole
   pub record EndStops (status : Status) : Type 0 where
     pub ended : Stops 0 left old now before desk (Ok tt)
-    pub faulty : OfRecording (λ bytes. IsFaulty (desk_airings desk) bytes status)
+    pub faulty : OfRecording (λ bytes. IsFaulty nulls (desk_airings desk) bytes status)
 
   -- an audit of the rest of a script goes through, or stops
   abbrev pub AuditDid : Result (Unit {0}) Status → Type 0
-  AuditDid (Ok u) = Stops 0 left old now before desk (Ok tt) × OfRecording (IsRecordedAir (desk_airings desk))
+  AuditDid (Ok u) = Stops 0 left old now before desk (Ok tt) × OfRecording (IsRecordedAir nulls (desk_airings desk))
   AuditDid (Err Memory) = Unit {0}
   AuditDid (Err status) = ScriptStops status ⊎ (CycleStops status ⊎ EndStops status)
 
--- the packets of a recording and the swaps were counted
-abbrev pub IsCounted : List ℕ → List AiredTables → AirCount → Type 0
-IsCounted bytes aired count = (count.packets ≡ length (whole_packets bytes)) × (count.swaps ≡ length aired)
+-- the packets of a recording were counted, and the swaps; and where null packets may stand, these
+abbrev pub IsCounted : Bool → List ℕ → List AiredTables → AirCount → Type 0
+IsCounted nulls bytes aired count =
+    (count.packets ≡ length (whole_packets bytes)) × (count.swaps ≡ length aired) × (count.nulls ≡ passed_over nulls (whole_packets bytes))
 
 -- a failed read has its cause: of the input, or of the recording
 abbrev pub HasAuditCause : {T : Type 0} → ℕ → ℕ → ℕ → ℕ → Result T Status → Type 0
@@ -71,7 +72,7 @@ HasAuditCause input_before input_now before now (Err (ReadFault Recording)) = Ro
 HasAuditCause input_before input_now before now result = Unit {0}
 
 -- an audit of a recording by the script behind the description of a multiplex
-abbrev pub RecordingAudited : {S F : Type 0} → (S → Option (List ℕ)) → (F → Option (List ℕ)) → Reading S → Reading S → PacketReading F → Mux → Result AirCount Status → Type 0
-RecordingAudited left gives old now start mux (Ok count) =
-    (desk : DeskState) × AuditDid left gives old now start (fresh mux) desk (Ok tt) × ((bytes : List ℕ) → bytes_left gives start ≡ Some bytes → IsCounted bytes (desk_airings desk) count)
-RecordingAudited left gives old now start mux (Err status) = (desk : DeskState) × AuditDid left gives old now start (fresh mux) desk (Err status)
+abbrev pub RecordingAudited : {S F : Type 0} → Bool → (S → Option (List ℕ)) → (F → Option (List ℕ)) → Reading S → Reading S → PacketReading F → Mux → Result AirCount Status → Type 0
+RecordingAudited nulls left gives old now start mux (Ok count) =
+    (desk : DeskState) × AuditDid nulls left gives old now start (fresh mux) desk (Ok tt) × ((bytes : List ℕ) → bytes_left gives start ≡ Some bytes → IsCounted nulls bytes (desk_airings desk) count)
+RecordingAudited nulls left gives old now start mux (Err status) = (desk : DeskState) × AuditDid nulls left gives old now start (fresh mux) desk (Err status)

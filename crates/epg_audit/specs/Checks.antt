@@ -1,5 +1,5 @@
 -- How far an audit has come with a recording.
-use Rattle.std.specs.Prelude.{◌≡◌, ◌≤◌, ◌<◌, ℕ, List, [], ◌++◌, length, flat_map, Option, Some, Ok, Err, Result, if◌then◌else◌, nat_lt}
+use Rattle.std.specs.Prelude.{◌≡◌, ◌≤◌, ◌<◌, ℕ, Bool, false, List, [], ◌++◌, length, take, flat_map, Option, Some, Ok, Err, Result, OnOk, if◌then◌else◌, nat_lt}
 use Rattle.si_causes.specs.Causes.{Rose}
 use Rattle.packet_reader.specs.declared.stop.PacketStop.{PacketStop}
 use Rattle.packet_reader.specs.declared.stop.PacketStop.TheVariants as stop
@@ -14,27 +14,29 @@ use Rattle.air_audit.specs.Checking.{Checking, StandsFor}
 use Rattle.epg_report.specs.declared.status.Status.{Status}
 use Rattle.epg_report.specs.declared.status.Status.TheVariants.{BadStream, Memory, NotAir, ReadFault, Short, TooLong}
 use Rattle.epg_report.specs.declared.status.Origin.TheVariants.{Recording}
-use Rattle.epg_audit.specs.Recorded.{IsFaulty}
+use Rattle.epg_audit.specs.Recorded.{IsFaulty, is_passed, passed_over, seen}
 
 -- Of bytes these packets were taken, and the others are left.
 pub record AreTaken (bytes : List ℕ) (packets : List (List ℕ)) (rest : List ℕ) : Type 0 where
   pub parted : bytes ≡ flat_map (λ (p : List ℕ). p) packets ++ rest
   pub whole : AreWhole packets
 
--- From start to now a reader gave packets which a checker of these airings has accepted, each of them.
-pub record Follows {F : Type 0} (left : F → Option (List ℕ)) (start now : PacketReading F) (airings : List AiredTables) (checker : Checking) : Type 0 where
+-- From start to now a reader gave packets which a checker of these airings has accepted, each of them; or, where null packets may stand,
+-- has passed over, so many.
+pub record Follows {F : Type 0} (nulls : Bool) (left : F → Option (List ℕ)) (start now : PacketReading F) (airings : List AiredTables) (checker : Checking) (passed : Option ℕ) : Type 0 where
   pub packets : List (List ℕ)
-  pub stands : StandsFor airings packets checker
+  pub stands : StandsFor airings (seen nulls packets) checker
   pub number : now.number ≡ length packets
   pub within : length packets ≤ packet_limit
+  pub counted : passed ≡ passed_over nulls packets
   pub taken : (bytes : List ℕ) → bytes_left left start ≡ Some bytes → (rest : List ℕ) × (bytes_left left now ≡ Some rest) × AreTaken bytes packets rest
 
 -- a cycle was checked to its end, or the recording is at fault, whatever airings follow
-abbrev pub Checks : {F : Type 0} → (F → Option (List ℕ)) → PacketReading F → PacketReading F → List AiredTables → Checking → Result (Unit {0}) Status → Type 0
-Checks left start now airings checker (Ok u) = Follows left start now airings checker
-Checks left start now airings checker (Err Memory) = Unit {0}
-Checks left start now airings checker (Err status) =
-    (bytes : List ℕ) → bytes_left left start ≡ Some bytes → (others : List AiredTables) → CanBeSent others → IsFaulty (airings ++ others) bytes status
+abbrev pub Checks : {F : Type 0} → Bool → (F → Option (List ℕ)) → PacketReading F → PacketReading F → List AiredTables → Checking → Option ℕ → Result (Unit {0}) Status → Type 0
+Checks nulls left start now airings checker passed (Ok u) = Follows nulls left start now airings checker passed
+Checks nulls left start now airings checker passed (Err Memory) = Unit {0}
+Checks nulls left start now airings checker passed (Err status) =
+    (bytes : List ℕ) → bytes_left left start ≡ Some bytes → (others : List AiredTables) → CanBeSent others → IsFaulty nulls (airings ++ others) bytes status
 
 -- the status of a recording that gives no further packet
 abbrev pub recording_status : {F : Type 0} → PacketReading F → PacketStop → Rule → Status
@@ -52,17 +54,24 @@ IsOfCheck (ReadFault Recording) = Unit {0}
 IsOfCheck Memory = Unit {0}
 IsOfCheck status = ⊥
 
--- What a reader gives behind the last cycle: nothing, or what is at fault.
-abbrev pub GivesNoMore : List ℕ → ℕ → Result (Unit {0}) Status → Type 0
-GivesNoMore rest number (Ok u) = rest ≡ []
-GivesNoMore rest number (Err (NotAir n rule)) = (n ≡ number) × (rule ≡ Pid) × (188 ≤ length rest)
-GivesNoMore rest number (Err (BadStream n)) = (n ≡ number) × (0 < length rest) × (length rest < 188)
-GivesNoMore rest number (Err (TooLong Recording)) = (packet_limit ≤ number) × (0 < length rest)
-GivesNoMore rest number (Err (ReadFault Recording)) = Unit {0}
-GivesNoMore rest number (Err status) = ⊥
+-- What a reader gives after the last cycle, and after the null packets that may stand there: nothing, or what is at fault.
+abbrev pub GivesNoMore : Bool → List ℕ → ℕ → Result (Unit {0}) Status → Type 0
+GivesNoMore nulls rest number (Ok u) = rest ≡ []
+GivesNoMore nulls rest number (Err (NotAir n rule)) = (n ≡ number) × (rule ≡ Pid) × (188 ≤ length rest) × (is_passed nulls (take 188 rest) ≡ false)
+GivesNoMore nulls rest number (Err (BadStream n)) = (n ≡ number) × (0 < length rest) × (length rest < 188)
+GivesNoMore nulls rest number (Err (TooLong Recording)) = (packet_limit ≤ number) × (0 < length rest)
+GivesNoMore nulls rest number (Err (ReadFault Recording)) = Unit {0}
+GivesNoMore nulls rest number (Err status) = ⊥
 
-abbrev pub Ends : {F : Type 0} → (F → Option (List ℕ)) → PacketReading F → PacketReading F → Result (Unit {0}) Status → Type 0
-Ends left old new result = (rest : List ℕ) → bytes_left left old ≡ Some rest → GivesNoMore rest old.number result
+abbrev pub GivesEnd : {F : Type 0} → Bool → (F → Option (List ℕ)) → PacketReading F → Result (Unit {0}) Status → Type 0
+GivesEnd nulls left last result = (rest : List ℕ) → bytes_left left last ≡ Some rest → GivesNoMore nulls rest last.number result
+
+-- From start on a reader gave such packets up to the last one that may stand, and then no more, or what is at fault.
+pub record Ends {F : Type 0} (nulls : Bool) (left : F → Option (List ℕ)) (start now : PacketReading F) (airings : List AiredTables) (checker : Checking) (passed : Option ℕ) (result : Result (Unit {0}) Status) : Type 0 where
+  pub last : PacketReading F
+  pub follows : Follows nulls left start last airings checker passed
+  pub gives : GivesEnd nulls left last result
+  pub number : OnOk result (now.number ≡ last.number)
 
 -- a failed read has its cause
 abbrev pub HasReadCause : ℕ → ℕ → Result (Unit {0}) Status → Type 0

@@ -1,5 +1,5 @@
 -- What an audit finds of the text of its input and of the file of its recording.
-use Rattle.std.specs.Prelude.{◌≡◌, ◌⊎◌, ℕ, List, ◌++◌, map, Option, Some, IfSome, IsSome, Ok, Err, Result}
+use Rattle.std.specs.Prelude.{◌≡◌, ◌⊎◌, ℕ, Bool, List, ◌++◌, map, Option, Some, IfSome, IsSome, Ok, Err, Result}
 use Rattle.si_causes.specs.Causes.{Rose}
 use Rattle.si_causes.specs.Opening.{Files, file_at}
 use Rattle.mux_model.specs.declared.mux.Mux.{Mux}
@@ -18,62 +18,62 @@ use Rattle.epg_play.specs.Script.{Script, Stop, Ended, NoMux, NoCommand, Disagre
 use Rattle.epg_play.specs.Leaves.{whole_journal}
 use Rattle.epg_audit.specs.declared.cycles.AirCount.{AirCount}
 use Rattle.epg_audit.specs.Audits.{IsCounted}
-use Rattle.epg_audit.specs.Recorded.{BeginsWithAir, IsFaulty, IsRecordedAir, script_airings}
+use Rattle.epg_audit.specs.Recorded.{BeginsWithAir, IsFaulty, IsRecordedAir, script_airings, seen}
 
 -- The script is whole, and the recording is an air of its journal, of so many packets and swaps.
-pub record IsAccepted (path : List ℕ) (files : Files) (script : Script) (count : AirCount) : Type 0 where
+pub record IsAccepted (path : List ℕ) (nulls : Bool) (files : Files) (script : Script) (count : AirCount) : Type 0 where
   pub ended : script.stop ≡ Ended
   pub mux : Mux
   pub described : script.mux ≡ Some mux
   pub bytes : List ℕ
   pub file : file_at path files ≡ Some bytes
-  pub air : IsRecordedAir (airings mux (whole_journal script)) bytes
-  pub heard : IsHeardAs mux (whole_journal script) (whole_packets bytes)
-  pub counts : IsCounted bytes (airings mux (whole_journal script)) count
+  pub air : IsRecordedAir nulls (airings mux (whole_journal script)) bytes
+  pub heard : IsHeardAs mux (whole_journal script) (seen nulls (whole_packets bytes))
+  pub counts : IsCounted nulls bytes (airings mux (whole_journal script)) count
 
 -- The script stops so; and where a multiplex is described, the recording begins with an air of what its commands put on air.
-pub record StopsBehind (path : List ℕ) (files : Files) (script : Script) (stop : Stop) : Type 0 where
+pub record StopsBehind (path : List ℕ) (nulls : Bool) (files : Files) (script : Script) (stop : Stop) : Type 0 where
   pub stopped : script.stop ≡ stop
-  pub begins : IfSome script.mux (λ mux. AtPath path files (BeginsWithAir (script_airings script)))
+  pub begins : IfSome script.mux (λ mux. AtPath path files (BeginsWithAir nulls (script_airings script)))
 
 -- A read of the input failed: the script of the lines that were whole in the bytes taken.
-pub record StopsUnread (path : List ℕ) (files : Files) (text : List ℕ) (left : Option (List ℕ)) : Type 0 where
+pub record StopsUnread (path : List ℕ) (nulls : Bool) (files : Files) (text : List ℕ) (left : Option (List ℕ)) : Type 0 where
   pub taken : List ℕ
   pub behind : List ℕ
   pub text_is : text ≡ taken ++ behind
   pub left_is : left ≡ Some behind
-  pub stops : StopsBehind path files (script_taken taken) Unread
+  pub stops : StopsBehind path nulls files (script_taken taken) Unread
 
 -- The recording is at fault, before what the commands of a script put on air has ended, or behind it where the script is whole: so whatever
 -- airings follow, or none do.
-pub record IsAtFault (script : Script) (status : Status) (bytes : List ℕ) : Type 0 where
-  pub faulty : IsFaulty (script_airings script) bytes status
-  pub first : (script.stop ≡ Ended) ⊎ ((others : List AiredTables) → CanBeSent others → IsFaulty (script_airings script ++ others) bytes status)
+pub record IsAtFault (nulls : Bool) (script : Script) (status : Status) (bytes : List ℕ) : Type 0 where
+  pub faulty : IsFaulty nulls (script_airings script) bytes status
+  pub first : (script.stop ≡ Ended) ⊎ ((others : List AiredTables) → CanBeSent others → IsFaulty nulls (script_airings script ++ others) bytes status)
 
 -- What is at fault, by the status: the script, or the recording, or a file that was not opened or read.
-abbrev pub IsFound : List ℕ → Files → List ℕ → Option (List ℕ) → Status → Type 0
-IsFound path files text left (BadMux fault) = StopsBehind path files (script_in text) (NoMux fault)
-IsFound path files text left (BadScript n) = StopsBehind path files (script_in text) (NoCommand n)
-IsFound path files text left (Disagrees n kept found) = StopsBehind path files (script_in text) (Disagreed n kept found)
-IsFound path files text left (PastLimit Input) = StopsBehind path files (script_in text) TooLong
-IsFound path files text left (ReadFault Input) = StopsUnread path files text left
-IsFound path files text left (OpenFault n) = (n ≡ 0) × IsSome (script_in text).mux
-IsFound path files text left (ReadFault Recording) = IsSome (script_in text).mux
-IsFound path files text left (PastLimit Recording) = AtPath path files (IsAtFault (script_in text) (PastLimit Recording))
-IsFound path files text left (BadStream n) = AtPath path files (IsAtFault (script_in text) (BadStream n))
-IsFound path files text left (NotAir n rule) = AtPath path files (IsAtFault (script_in text) (NotAir n rule))
-IsFound path files text left (Short n) = AtPath path files (IsAtFault (script_in text) (Short n))
-IsFound path files text left Memory = Unit {0}
-IsFound path files text left status = ⊥
+abbrev pub IsFound : List ℕ → Bool → Files → List ℕ → Option (List ℕ) → Status → Type 0
+IsFound path nulls files text left (BadMux fault) = StopsBehind path nulls files (script_in text) (NoMux fault)
+IsFound path nulls files text left (BadScript n) = StopsBehind path nulls files (script_in text) (NoCommand n)
+IsFound path nulls files text left (Disagrees n kept found) = StopsBehind path nulls files (script_in text) (Disagreed n kept found)
+IsFound path nulls files text left (PastLimit Input) = StopsBehind path nulls files (script_in text) TooLong
+IsFound path nulls files text left (ReadFault Input) = StopsUnread path nulls files text left
+IsFound path nulls files text left (OpenFault n) = (n ≡ 0) × IsSome (script_in text).mux
+IsFound path nulls files text left (ReadFault Recording) = IsSome (script_in text).mux
+IsFound path nulls files text left (PastLimit Recording) = AtPath path files (IsAtFault nulls (script_in text) (PastLimit Recording))
+IsFound path nulls files text left (BadStream n) = AtPath path files (IsAtFault nulls (script_in text) (BadStream n))
+IsFound path nulls files text left (NotAir n rule) = AtPath path files (IsAtFault nulls (script_in text) (NotAir n rule))
+IsFound path nulls files text left (Short n) = AtPath path files (IsAtFault nulls (script_in text) (Short n))
+IsFound path nulls files text left Memory = Unit {0}
+IsFound path nulls files text left status = ⊥
 
-abbrev pub FindsIn : List ℕ → Files → List ℕ → Option (List ℕ) → Result AirCount Status → Type 0
-FindsIn path files text left (Ok count) = IsAccepted path files (script_in text) count
-FindsIn path files text left (Err status) = IsFound path files text left status
+abbrev pub FindsIn : List ℕ → Bool → Files → List ℕ → Option (List ℕ) → Result AirCount Status → Type 0
+FindsIn path nulls files text left (Ok count) = IsAccepted path nulls files (script_in text) count
+FindsIn path nulls files text left (Err status) = IsFound path nulls files text left status
 
 -- where the source and the opener tell what they have
-abbrev pub Finds : {S : Type 0} → List ℕ → OpenerAsked → (S → Option (List ℕ)) → S → S → Result AirCount Status → Type 0
-Finds path opener left old new result =
-    (text : List ℕ) → left old ≡ Some text → (files : Files) → opener.files ≡ Some files → FindsIn path files text (left new) result
+abbrev pub Finds : {S : Type 0} → List ℕ → Bool → OpenerAsked → (S → Option (List ℕ)) → S → S → Result AirCount Status → Type 0
+Finds path nulls opener left old new result =
+    (text : List ℕ) → left old ≡ Some text → (files : Files) → opener.files ≡ Some files → FindsIn path nulls files text (left new) result
 
 -- a fault of the outside has its cause
 abbrev pub HasMetCause : ℕ → ℕ → OpenerAsked → Status → Type 0

@@ -1,5 +1,5 @@
 -- What a run of `audit` leaves, for each status, and all that it promises.
-use Rattle.std.specs.Prelude.{◌≡◌, ◌⊎◌, ℕ, List, Option, Some}
+use Rattle.std.specs.Prelude.{◌≡◌, ◌⊎◌, ℕ, Bool, List, Option, Some}
 use Rattle.std.specs.Io.KnownBytes.{Appends, IsAtEnd}
 use Rattle.si_causes.specs.Causes.{Rose, AppendsFront}
 use Rattle.si_causes.specs.Opening.{Files}
@@ -17,12 +17,12 @@ use Rattle.epg_audit.specs.Finds.{HasMetCause, IsAccepted, IsFound, IsMetByAudit
 use Rattle.epg_audit.specs.Recorded.{IsFaulty, IsRecordedAir, script_airings}
 
 -- What a run of `audit` leaves with each status. With Done the report is the one line of the air, and with a fault its line alone.
-abbrev pub LeavesAudit : List ℕ → Files → List ℕ → Option (List ℕ) → ReportTaken → Status → Type 0
-LeavesAudit path files text left report Done = (count : AirCount) × IsAccepted path files (script_in text) count × Appends report.old report.new (air_line count)
-LeavesAudit path files text left report (WriteFault Report) =
-    (count : AirCount) × IsAccepted path files (script_in text) count × AppendsFront report.old report.new (air_line count)
-LeavesAudit path files text left report Memory = Unit {0}
-LeavesAudit path files text left report status = IsFound path files text left status × Reported report (fault_lines status)
+abbrev pub LeavesAudit : List ℕ → Bool → Files → List ℕ → Option (List ℕ) → ReportTaken → Status → Type 0
+LeavesAudit path nulls files text left report Done = (count : AirCount) × IsAccepted path nulls files (script_in text) count × Appends report.old report.new (air_line count)
+LeavesAudit path nulls files text left report (WriteFault Report) =
+    (count : AirCount) × IsAccepted path nulls files (script_in text) count × AppendsFront report.old report.new (air_line count)
+LeavesAudit path nulls files text left report Memory = Unit {0}
+LeavesAudit path nulls files text left report status = IsFound path nulls files text left status × Reported report (fault_lines status)
 
 -- the statuses of `audit`
 abbrev pub IsOfAudit : Status → Type 0
@@ -31,9 +31,9 @@ IsOfAudit (WriteFault Report) = Unit {0}
 IsOfAudit status = IsMetByAudit status
 
 -- Of a whole script, the recording decides the status: Done where it is an air, and else what is at fault.
-abbrev pub DecidedBy : List AiredTables → Status → List ℕ → Type 0
-DecidedBy airings Done bytes = IsRecordedAir airings bytes
-DecidedBy airings status bytes = IsFaulty airings bytes status
+abbrev pub DecidedBy : Bool → List AiredTables → Status → List ℕ → Type 0
+DecidedBy nulls airings Done bytes = IsRecordedAir nulls airings bytes
+DecidedBy nulls airings status bytes = IsFaulty nulls airings bytes status
 
 -- nothing failed: neither the input, nor opening or reading the file, nor the report
 pub record IsUnhindered (opener : OpenerAsked) (input : SourceGave) (report : ReportTaken) : Type 0 where
@@ -42,16 +42,16 @@ pub record IsUnhindered (opener : OpenerAsked) (input : SourceGave) (report : Re
   pub no_reading : ¬ (Rose opener.read_old opener.read_new)
   pub no_report : ¬ (Rose report.faults_old report.faults_new)
 
--- A run of `audit` over the file of this path: what its opener was asked, what its input gave, what its report took, and its status.
-pub record AuditRun (path : List ℕ) (opener : OpenerAsked) (input : SourceGave) (report : ReportTaken) (status : Status) : Type 0 where
+-- A run of `audit` over the file of this path, in which null packets may stand or not: what its opener was asked, what its input gave, what its report took, and its status.
+pub record AuditRun (path : List ℕ) (nulls : Bool) (opener : OpenerAsked) (input : SourceGave) (report : ReportTaken) (status : Status) : Type 0 where
   -- what is left with each status: what was found of the script and of the recording, and the report
-  pub leaves : (text : List ℕ) → input.old ≡ Some text → (files : Files) → opener.files ≡ Some files → LeavesAudit path files text input.new report status
+  pub leaves : (text : List ℕ) → input.old ≡ Some text → (files : Files) → opener.files ≡ Some files → LeavesAudit path nulls files text input.new report status
   -- where nothing fails and the script is whole, the recording decides the status, but for want of memory
   pub decides : (text : List ℕ) → input.old ≡ Some text → (files : Files) → opener.files ≡ Some files → (script_in text).stop ≡ Ended → IsUnhindered opener input report
-      → (status ≡ Memory) ⊎ AtPath path files (DecidedBy (script_airings (script_in text)) status)
+      → (status ≡ Memory) ⊎ AtPath path files (DecidedBy nulls (script_airings (script_in text)) status)
   -- and so a recording that is an air of the journal of that script is accepted
   pub accepts : (text : List ℕ) → input.old ≡ Some text → (files : Files) → opener.files ≡ Some files → (script_in text).stop ≡ Ended → IsUnhindered opener input report
-      → AtPath path files (IsRecordedAir (script_airings (script_in text))) → (status ≡ Done) ⊎ (status ≡ Memory)
+      → AtPath path files (IsRecordedAir nulls (script_airings (script_in text))) → (status ≡ Done) ⊎ (status ≡ Memory)
   -- no other status comes
   pub known : IsOfAudit status
   -- the opener was asked for the path
@@ -64,8 +64,8 @@ pub record AuditRun (path : List ℕ) (opener : OpenerAsked) (input : SourceGave
 
 -- So a call ran with this opener, this input and this report: of each what tells what it has and its faults, and how it was before and
 -- behind.
-abbrev pub AuditRan : {O S R : Type 0} → List ℕ → (O → Option Files) → (O → Option (List (List ℕ))) → (O → ℕ) → (O → ℕ) → O → O
+abbrev pub AuditRan : {O S R : Type 0} → List ℕ → Bool → (O → Option Files) → (O → Option (List (List ℕ))) → (O → ℕ) → (O → ℕ) → O → O
     → (S → Option (List ℕ)) → (S → ℕ) → S → S → (R → Option (List ℕ)) → (R → ℕ) → R → R → Status → Type 0
-AuditRan path files tried open_faults file_faults opener opener_then left read_faults input input_then taken report_faults report report_then status =
-    AuditRun path (asked files tried open_faults file_faults opener opener_then) (gave left read_faults input input_then)
+AuditRan path nulls files tried open_faults file_faults opener opener_then left read_faults input input_then taken report_faults report report_then status =
+    AuditRun path nulls (asked files tried open_faults file_faults opener opener_then) (gave left read_faults input input_then)
     (told taken report_faults report report_then) status

@@ -1,5 +1,5 @@
 // The commands of a script, done one after the other, and the cycles that they put on air, held against a recording.
-ghost use Rattle.std.specs.Prelude.{◌≡◌, ◌≤◌, ◌++◌, ◌∷◌, [], List, ℕ, None, Some, IfErr, OnOk, is_some, length};
+ghost use Rattle.std.specs.Prelude.{◌≡◌, ◌≤◌, ◌++◌, ◌∷◌, [], Bool, List, ℕ, None, Some, IfErr, OnOk, is_some, length};
 ghost use Rattle.std.specs.Io.KnownBytes.{IsAtEnd as IsReadToEnd};
 ghost use Rattle.desk_core.specs.Journal.{Legal};
 ghost use Rattle.desk_core.specs.Publications.{aired_by, swaps};
@@ -13,6 +13,7 @@ ghost use Rattle.epg_report.specs.Texts.{CanBeSaid};
 ghost use Rattle.epg_audit.specs.Audits.{AuditDid, HasAuditCause};
 ghost use Rattle.epg_audit.specs.Finds.{IsMetBehind};
 ghost use Rattle.epg_audit.specs.Checks.{Checks, Follows, HasReadCause, IsOfCheck};
+ghost use Rattle.epg_audit.specs.Recorded.{passed_over};
 
 use crate::recording::{check_cycle, check_end};
 use air_audit::Checker;
@@ -25,11 +26,13 @@ use publication::build;
 use si_causes::{LineReader, Source};
 use std::alloc::{AllocError, Global};
 
-/// How many packets an air has, and how many swaps put it on air.
+/// How many packets a recording of an air has, how many swaps put it on air, and how many null packets were passed over, where these may
+/// stand in it.
 #[derive(Clone, Copy)]
 pub(crate) struct AirCount {
     pub(crate) packets: u64,
     pub(crate) swaps: u64,
+    pub(crate) nulls: Option<u64>,
 }
 
 // Has the checker begin the cycle of what is on air at the desk.
@@ -50,11 +53,14 @@ fn check_on_air<F: Source>(
     desk: &Desk,
     packets: &mut PacketReader<F>,
     checker: &mut Checker,
+    passed: &mut Option<u64>,
 ) -> Result<(), Status>
     requires going { packets.old.stop ≡ None }
     requires at_end { IsAtEnd checker.old }
-    ensures checks { (start : PacketReading F) (past : List AiredTables) → Follows F.left start packets.old past checker.old
-        → Checks F.left start packets.new (past ++ airing_on desk.now checker.old.form ∷ []) checker.new result }
+    ensures checks { (nulls : Bool) (start : PacketReading F) (past : List AiredTables)
+        → Follows nulls F.left start packets.old past checker.old passed.old
+        → Checks nulls F.left start packets.new (past ++ airing_on desk.now checker.old.form ∷ [])
+        checker.new passed.new result }
     ensures at_end { OnOk result (IsAtEnd checker.new) }
     ensures going { OnOk result (packets.new.stop ≡ None) }
     ensures form { checker.new.form ≡ checker.old.form }
@@ -65,17 +71,19 @@ fn check_on_air<F: Source>(
     let Ok(()) = begin_cycle(alloc, desk, checker) else {
         return Err(Status::Memory);
     };
-    check_cycle(packets, checker)
+    check_cycle(packets, checker, passed)
 }
 
 /// Does the commands that are left, up to the first line that is none, or that keeps another outcome than the desk's; behind each swap
-/// the packets of its cycle are read and checked before the next line is read, and behind the last command none is to come.
+/// the packets of its cycle are read and checked before the next line is read, and behind the last command none is to come. Null packets
+/// may stand anywhere where they are counted.
 pub(crate) fn audit_rest<S: Source, F: Source>(
     alloc: Global,
     lines: &mut LineReader<S>,
     desk: &mut Desk,
     packets: &mut PacketReader<F>,
     checker: &mut Checker,
+    passed: &mut Option<u64>,
 ) -> Result<(), Status>
     requires going { lines.old.stop ≡ None }
     requires unread { packets.old.stop ≡ None }
@@ -84,9 +92,12 @@ pub(crate) fn audit_rest<S: Source, F: Source>(
     requires at_end { IsAtEnd checker.old }
     requires form { checker.old.form ≡ mux_form desk.old.mux }
     requires none { desk.old.entries ≡ [] }
-    ensures did { AuditDid S.left F.left lines.old lines.new packets.old desk.old desk.new result }
-    ensures number { (bytes : List ℕ) → bytes_left F.left packets.old ≡ Some bytes
-        → OnOk result (packets.new.number ≡ length (whole_packets bytes)) }
+    ensures did { (nulls : Bool) → passed.old ≡ passed_over nulls []
+        → AuditDid nulls S.left F.left lines.old lines.new packets.old desk.old desk.new result }
+    ensures counted { (nulls : Bool) (bytes : List ℕ) → passed.old ≡ passed_over nulls []
+        → bytes_left F.left packets.old ≡ Some bytes
+        → OnOk result ((packets.new.number ≡ length (whole_packets bytes))
+        × (passed.new ≡ passed_over nulls (whole_packets bytes))) }
     ensures said { IfErr result CanBeSaid }
     ensures known { IfErr result IsMetBehind }
     ensures end { OnOk result (IsReadToEnd (S.left lines.new.source)) }
@@ -98,12 +109,12 @@ pub(crate) fn audit_rest<S: Source, F: Source>(
     'items: loop {
         match do_item(alloc, lines, desk, &mut made, 0) {
             Ok(ItemDone::Swap) => {
-                if let Err(status) = check_on_air(alloc, desk, packets, checker) {
+                if let Err(status) = check_on_air(alloc, desk, packets, checker, passed) {
                     return Err(status);
                 }
             }
             Ok(ItemDone::Other) => {}
-            Ok(ItemDone::End) => return check_end(packets),
+            Ok(ItemDone::End) => return check_end(packets, passed),
             Err(stop) => return Err(status_of(stop)),
         }
     }

@@ -3,13 +3,24 @@ ghost use Rattle.std.specs.Prelude.{◌≡◌, ◌⊎◌, ◌++◌, IfErr, OnOk,
 ghost use Rattle.epg_report.specs.Ends.{ReportEnds};
 ghost use Rattle.epg_report.specs.Texts.{CanBeSaid, fault_lines};
 ghost use Rattle.epg_report.specs.Told.{told};
-ghost use Rattle.epg_audit.specs.Ends.{air_line, count_text, met_by};
+ghost use Rattle.epg_audit.specs.Ends.{air_line, count_text, met_by, nulls_field};
 
 use crate::cycles::AirCount;
 use epg_report::{Status, ended, out_of_memory, put_fault_line};
 use si_base::put_number;
 use si_causes::{Sink, write_all};
 use std::alloc::{AllocError, Global};
+
+// Appends how many null packets were passed over, where they may stand.
+fn put_nulls(alloc: Global, out: &mut Vec<u8>, nulls: Option<u64>) -> Result<(), AllocError>
+    ensures { OnOk result (out.new.items ≡ out.old.items ++ nulls_field nulls) }
+{
+    if let Some(nulls) = nulls {
+        out.extend_from_slice(b"\t")?;
+        put_number(alloc, out, nulls)?;
+    }
+    Ok(())
+}
 
 // Appends the line of an air.
 fn put_air_line(alloc: Global, out: &mut Vec<u8>, count: AirCount) -> Result<(), AllocError>
@@ -19,6 +30,7 @@ fn put_air_line(alloc: Global, out: &mut Vec<u8>, count: AirCount) -> Result<(),
     put_number(alloc, out, count.packets)?;
     out.extend_from_slice(b"\t")?;
     put_number(alloc, out, count.swaps)?;
+    put_nulls(alloc, out, count.nulls)?;
     out.extend_from_slice(b"\n")
 }
 

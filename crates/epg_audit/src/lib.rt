@@ -6,6 +6,8 @@
 //! and memory lasts. So whatever a receiver completes of it is of one airing, and after a whole
 //! cycle the guide is the one published. For any other recording the report names the first packet
 //! that differs and the rule that it breaks, or says that the recording is too short or too long.
+//! Where null packets may stand in the recording, they are passed over, and counted (ISO/IEC
+//! 13818-1, 2.4.3.3).
 //!
 //! Tested in `audit_rows`: the airs of rows and examples, whole, short and changed; files that
 //! cannot be opened or read.

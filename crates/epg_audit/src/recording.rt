@@ -1,11 +1,14 @@
 // The packets of a recording, held against the cycle that is on air.
-ghost use Rattle.std.specs.Prelude.{◌≡◌, ◌≤◌, None, IfErr, OnOk, List, ℕ};
+ghost use Rattle.std.specs.Prelude.{◌≡◌, ◌≤◌, ◌↔◌, ◌++◌, ◌∷◌, [], None, IfErr, IfNone, IfSome, IsNone, OnOk, Bool, false, List, ℕ, length};
 ghost use Rattle.packet_reader.specs.Reading.{PacketReading};
+ghost use Rattle.packet_reader.specs.Recordings.{packet_limit};
 ghost use Rattle.version_book.specs.Airings.{AiredTables};
-ghost use Rattle.air_audit.specs.Checking.{IsAtEnd};
+ghost use Rattle.air_audit.specs.Audits.{BeginAnAir};
+ghost use Rattle.air_audit.specs.Checking.{Checking, IsAtEnd, StandsFor, rule_at};
 ghost use Rattle.epg_audit.specs.Checks.{Checks, Ends, Follows, HasReadCause, IsOfCheck, recording_status};
+ghost use Rattle.epg_audit.specs.Recorded.{is_passed, passed_over, seen};
 
-use air_audit::Checker;
+use air_audit::{Checker, is_null};
 use air_model::Rule;
 use epg_report::{Origin, Status};
 use packet_reader::{PacketReader, PacketStop};
@@ -26,15 +29,62 @@ fn status_of<F: Source>(packets: &PacketReader<F>, stop: PacketStop, rule: Rule)
     }
 }
 
+// Whether a packet is passed over: a null packet, where null packets may stand. It is then counted.
+fn pass_over(packet: &[u8; 188], passed: &mut Option<u64>) -> bool
+    ensures null { (nulls : Bool) (packets : List (List ℕ))
+        → passed.old ≡ passed_over nulls packets → result ≡ is_passed nulls packet.now }
+    ensures counted { (nulls : Bool) (packets : List (List ℕ)) → length packets ≤ packet_limit
+        → passed.old ≡ passed_over nulls packets
+        → passed.new ≡ passed_over nulls (packets ++ packet.now ∷ []) }
+    ensures kept { result ≡ false → passed.new ≡ passed.old }
+{
+    let Some(count) = *passed else {
+        return false;
+    };
+    if !is_null(packet) {
+        return false;
+    }
+    *passed = Some(count.saturating_add(1));
+    true
+}
+
+// Checks the next packet. Where null packets may stand, one of them is passed over and counted.
+fn check_packet(checker: &mut Checker, packet: &[u8; 188], passed: &mut Option<u64>) -> Option<Rule>
+    ensures accepted { (nulls : Bool) (airings : List AiredTables) (packets : List (List ℕ))
+        → passed.old ≡ passed_over nulls packets
+        → StandsFor airings (seen nulls packets) checker.old
+        → IfNone result (StandsFor airings (seen nulls (packets ++ packet.now ∷ [])) checker.new) }
+    ensures exactly { (nulls : Bool) (airings : List AiredTables) (packets : List (List ℕ))
+        → passed.old ≡ passed_over nulls packets
+        → StandsFor airings (seen nulls packets) checker.old
+        → IsNone result ↔ BeginAnAir airings (seen nulls (packets ++ packet.now ∷ [])) }
+    ensures rule { (nulls : Bool) (airings : List AiredTables) (packets : List (List ℕ))
+        → passed.old ≡ passed_over nulls packets
+        → StandsFor airings (seen nulls packets) checker.old
+        → IfSome result (λ rule. rule ≡ rule_at (seen nulls packets) checker.old packet.now) }
+    ensures counted { (nulls : Bool) (packets : List (List ℕ)) → length packets ≤ packet_limit
+        → passed.old ≡ passed_over nulls packets
+        → passed.new ≡ passed_over nulls (packets ++ packet.now ∷ []) }
+    ensures form { checker.new.form ≡ checker.old.form }
+{
+    if passed.is_none() {
+        return checker.check(packet);
+    }
+    pass_over(packet, passed);
+    checker.check_past_nulls(packet)
+}
+
 /// Reads and checks packets up to the end of the cycle that the checker is in. The first packet that is no part of an air is refused, and
-/// so is a recording that ends before.
+/// so is a recording that ends before. Where null packets may stand, those that are passed over are counted.
 pub(crate) fn check_cycle<F: Source>(
     packets: &mut PacketReader<F>,
     checker: &mut Checker,
+    passed: &mut Option<u64>,
 ) -> Result<(), Status>
     requires going { packets.old.stop ≡ None }
-    ensures checks { (start : PacketReading F) (airings : List AiredTables) → Follows F.left start packets.old airings checker.old
-        → Checks F.left start packets.new airings checker.new result }
+    ensures checks { (nulls : Bool) (start : PacketReading F) (airings : List AiredTables)
+        → Follows nulls F.left start packets.old airings checker.old passed.old
+        → Checks nulls F.left start packets.new airings checker.new passed.new result }
     ensures at_end { OnOk result (IsAtEnd checker.new) }
     ensures going { OnOk result (packets.new.stop ≡ None) }
     ensures form { checker.new.form ≡ checker.old.form }
@@ -45,7 +95,7 @@ pub(crate) fn check_cycle<F: Source>(
     while !checker.at_end() {
         match packets.next() {
             Ok(Some(number)) => {
-                if let Some(rule) = checker.check(packets.packet()) {
+                if let Some(rule) = check_packet(checker, packets.packet(), passed) {
                     return Err(Status::NotAir(number, rule));
                 }
             }
@@ -56,18 +106,29 @@ pub(crate) fn check_cycle<F: Source>(
     Ok(())
 }
 
-/// Behind the last cycle no packet is to come: one that does has a PID of which no cycle has a byte left.
-pub(crate) fn check_end<F: Source>(packets: &mut PacketReader<F>) -> Result<(), Status>
+/// Behind the last cycle no packet is to come, but null packets where these may stand: any other that does has a PID of which no cycle has
+/// a byte left.
+pub(crate) fn check_end<F: Source>(
+    packets: &mut PacketReader<F>,
+    passed: &mut Option<u64>,
+) -> Result<(), Status>
     requires going { packets.old.stop ≡ None }
-    ensures ends { Ends F.left packets.old packets.new result }
-    ensures number { OnOk result (packets.new.number ≡ packets.old.number) }
+    ensures ends { (nulls : Bool) (start : PacketReading F) (airings : List AiredTables)
+        (c : Checking) → Follows nulls F.left start packets.old airings c passed.old
+        → Ends nulls F.left start packets.new airings c passed.new result }
     ensures known { IfErr result IsOfCheck }
     ensures cause { HasReadCause (F.faults packets.old.source) (F.faults packets.new.source) result }
     ensures later { F.faults packets.old.source ≤ F.faults packets.new.source }
 {
-    match packets.next() {
-        Ok(None) => Ok(()),
-        Ok(Some(number)) => Err(Status::NotAir(number, Rule::Pid)),
-        Err(stop) => Err(status_of(packets, stop, Rule::Pid)),
+    'nulls: loop {
+        match packets.next() {
+            Ok(None) => return Ok(()),
+            Ok(Some(number)) => {
+                if !pass_over(packets.packet(), passed) {
+                    return Err(Status::NotAir(number, Rule::Pid));
+                }
+            }
+            Err(stop) => return Err(status_of(packets, stop, Rule::Pid)),
+        }
     }
 }

@@ -43,11 +43,13 @@ fn audit_recording<S: Source, F: Source>(
     lines: &mut LineReader<S>,
     mux: Mux,
     packets: &mut PacketReader<F>,
+    nulls: bool,
 ) -> Result<AirCount, Status>
     requires sound { IsSound mux }
     requires going { lines.old.stop ≡ None }
     requires unread { packets.old ≡ unread packets.old.source }
-    ensures audited { RecordingAudited S.left F.left lines.old lines.new packets.old mux result }
+    ensures audited { RecordingAudited nulls S.left F.left lines.old lines.new packets.old mux
+        result }
     ensures said { IfErr result CanBeSaid }
     ensures known { IfErr result IsMetBehind }
     ensures end { OnOk result (IsAtEnd (S.left lines.new.source)) }
@@ -61,10 +63,12 @@ fn audit_recording<S: Source, F: Source>(
     let Ok(mut desk) = Desk::open(alloc, mux) else {
         return Err(Status::Memory);
     };
-    audit_rest(alloc, lines, &mut desk, packets, &mut checker)?;
+    let mut passed = nulls.then_some(0);
+    audit_rest(alloc, lines, &mut desk, packets, &mut checker, &mut passed)?;
     Ok(AirCount {
         packets: packets.number(),
         swaps: swap_count(desk.entries()),
+        nulls: passed,
     })
 }
 
@@ -73,10 +77,12 @@ fn audit<O: Opener, S: Source>(
     alloc: Global,
     lines: &mut LineReader<S>,
     path: &str,
+    nulls: bool,
     opener: &mut O,
 ) -> Result<AirCount, Status>
     requires unread { lines.old ≡ fresh lines.old.source }
-    ensures finds { Finds path.now (asked O.files O.tried O.faults O.read_faults opener.old opener.new)
+    ensures finds { Finds path.now nulls
+        (asked O.files O.tried O.faults O.read_faults opener.old opener.new)
         S.left lines.old.source lines.new.source result }
     ensures said { IfErr result CanBeSaid }
     ensures end { OnOk result (IsAtEnd (S.left lines.new.source)) }
@@ -96,7 +102,7 @@ fn audit<O: Opener, S: Source>(
     let Ok(mut packets) = PacketReader::open(alloc, source) else {
         return Err(Status::Memory);
     };
-    let audited = audit_recording(alloc, lines, mux, &mut packets);
+    let audited = audit_recording(alloc, lines, mux, &mut packets, nulls);
     opener.close(packets.close());
     audited
 }
@@ -105,21 +111,24 @@ fn audit<O: Opener, S: Source>(
 /// the packets of its cycle from the file of this path, which is opened behind the description of the multiplex. Whoever made the
 /// recording, it is an air of the journal exactly where the run ends with Done, faults of the outside and want of memory aside. The
 /// report is one line: `air`, how many packets it has and how many swaps, or what is at fault (ISO/IEC 13818-1, 2.4.3 and 2.4.4;
-/// EN 300 468, 5.1).
+/// EN 300 468, 5.1). With `nulls` null packets may stand anywhere in the recording (ISO/IEC 13818-1, 2.4.3.3): they are passed over, and
+/// the line says last how many there were.
 pub fn run_audit<O: Opener, S: Source, R: Sink>(
     alloc: Global,
     path: &str,
+    nulls: bool,
     opener: &mut O,
     input: &mut S,
     report: &mut R,
 ) -> Status
-    ensures run { AuditRan path.now O.files O.tried O.faults O.read_faults opener.old opener.new
+    ensures run { AuditRan path.now nulls
+        O.files O.tried O.faults O.read_faults opener.old opener.new
         S.left S.faults input.old input.new R.written R.faults report.old report.new result }
 {
     let Ok(mut lines) = LineReader::open(alloc, &mut *input) else {
         return out_of_memory(report);
     };
-    let audited = audit(alloc, &mut lines, path, opener);
+    let audited = audit(alloc, &mut lines, path, nulls, opener);
     let _source = lines.close();
     finish(alloc, audited, report)
 }

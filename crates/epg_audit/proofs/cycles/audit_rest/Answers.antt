@@ -26,17 +26,17 @@ items-init g c = record {
   legal = subst (λ (l : List Entry). Legal c.args.desk.now.mux l) (sym c.requires.none) tt;
   window = tt;
   went = went_none 0 g.S.Source.left c.args.lines.now c.args.desk.now;
-  follows = subst (λ (l : List AiredTables). Follows g.F.Source.left c.args.packets.now c.args.packets.now l c.args.checker.now) (sym (ap (airings c.args.desk.now.mux) c.requires.none))
-      (follows_none g.F.Source.left c.args.packets.now c.args.packets.now c.args.packets.now c.args.checker.now c.requires.stands c.requires.first);
+  follows = λ nulls none. subst (λ (l : List AiredTables). Follows nulls g.F.Source.left c.args.packets.now c.args.packets.now l c.args.checker.now c.args.passed.now) (sym (ap (airings c.args.desk.now.mux) c.requires.none))
+      (follows_none nulls g.F.Source.left c.args.packets.now c.args.packets.now c.args.packets.now c.args.checker.now c.args.passed.now c.requires.stands c.requires.first none);
 }
 
 pub returns-in-Err-check_on_air-clause-did : goal.returns-in-Err-check_on_air-clause-did
-returns-in-Err-check_on_air-clause-did g c =
+returns-in-Err-check_on_air-clause-did g c = λ nulls none.
     let i = c.items.invariant in
     let e = rw c.in-Ok-Swap.field-0-is at c.in-Ok-Swap.ensures in
-    cycle_did g.S.Source.left g.F.Source.left c.args.lines.now c.do_item.new.lines c.args.packets.now c.items.packets c.check_on_air.new.packets c.args.desk.now c.do_item.new.desk
-    _ c.check_on_air.new.checker c.do_item.new.made c.in-Err-check_on_air.status (swap_adds c.items.desk c.do_item.new.desk c.items.checker i.legal e.did i.form)
-    (e.goes_on c.args.lines.now c.args.desk.now i.went) (c.in-Err-check_on_air.ensures.checks c.args.packets.now (desk_airings c.items.desk) i.follows)
+    cycle_did nulls g.S.Source.left g.F.Source.left c.args.lines.now c.do_item.new.lines c.args.packets.now c.items.packets c.check_on_air.new.packets c.args.desk.now c.do_item.new.desk
+    _ c.check_on_air.new.checker c.check_on_air.new.passed c.do_item.new.made c.in-Err-check_on_air.status (swap_adds c.items.desk c.do_item.new.desk c.items.checker i.legal e.did i.form)
+    (e.goes_on c.args.lines.now c.args.desk.now i.went) (c.in-Err-check_on_air.ensures.checks nulls c.args.packets.now (desk_airings c.items.desk) (i.follows nulls none))
 
 pub items-preserved-in_default : goal.items-preserved-in_default
 items-preserved-in_default g c =
@@ -53,8 +53,8 @@ items-preserved-in_default g c =
       legal = e.legal;
       window = e.window;
       went = e.goes_on c.args.lines.now c.args.desk.now i.went;
-      follows = subst (λ (l : List AiredTables). Follows g.F.Source.left c.args.packets.now c.check_on_air.new.packets l c.check_on_air.new.checker)
-          (swap_adds c.items.desk c.do_item.new.desk c.items.checker i.legal e.did i.form) (c.in_default.ensures.checks c.args.packets.now (desk_airings c.items.desk) i.follows);
+      follows = λ nulls none. subst (λ (l : List AiredTables). Follows nulls g.F.Source.left c.args.packets.now c.check_on_air.new.packets l c.check_on_air.new.checker c.check_on_air.new.passed)
+          (swap_adds c.items.desk c.do_item.new.desk c.items.checker i.legal e.did i.form) (c.in_default.ensures.checks nulls c.args.packets.now (desk_airings c.items.desk) (i.follows nulls none));
     }
 
 pub items-preserved : goal.items-preserved
@@ -72,26 +72,30 @@ items-preserved g c =
       legal = e.legal;
       window = e.window;
       went = e.goes_on c.args.lines.now c.args.desk.now i.went;
-      follows = subst (λ (l : List AiredTables). Follows g.F.Source.left c.args.packets.now c.items.packets l c.items.checker) (sym (other_keeps c.items.desk c.do_item.new.desk i.legal e.did)) i.follows;
+      follows = λ nulls none. subst (λ (l : List AiredTables). Follows nulls g.F.Source.left c.args.packets.now c.items.packets l c.items.checker c.items.passed) (sym (other_keeps c.items.desk c.do_item.new.desk i.legal e.did)) (i.follows nulls none);
     }
 
 pub returns-in-Ok-End-clause-did : goal.returns-in-Ok-End-clause-did
-returns-in-Ok-End-clause-did g c =
+returns-in-Ok-End-clause-did g c = λ nulls none.
     let i = c.items.invariant in
     let e = rw c.in-Ok-End.field-0-is at c.in-Ok-End.ensures in
-    end_did g.S.Source.left g.F.Source.left c.args.lines.now c.do_item.new.lines c.args.packets.now c.items.packets c.check_end.new.packets c.args.desk.now c.do_item.new.desk c.items.checker c.check_end.result
-    (subst (λ (d : DeskState). Follows g.F.Source.left c.args.packets.now c.items.packets (desk_airings d) c.items.checker) (sym e.did) i.follows) i.at_end (e.goes_on c.args.lines.now c.args.desk.now i.went) c.check_end.ensures.ends
+    let f = subst (λ (d : DeskState). Follows nulls g.F.Source.left c.args.packets.now c.items.packets (desk_airings d) c.items.checker c.items.passed) (sym e.did) (i.follows nulls none) in
+    let ends = c.check_end.ensures.ends nulls c.args.packets.now (desk_airings c.do_item.new.desk) c.items.checker f in
+    end_did nulls g.S.Source.left g.F.Source.left c.args.lines.now c.do_item.new.lines c.args.packets.now ends.last c.check_end.new.packets c.args.desk.now c.do_item.new.desk c.items.checker c.check_end.new.passed c.check_end.result
+    ends.follows i.at_end (e.goes_on c.args.lines.now c.args.desk.now i.went) ends.gives
 
-pub returns-in-Ok-End-clause-number : goal.returns-in-Ok-End-clause-number
-returns-in-Ok-End-clause-number g c = λ bytes told.
+pub returns-in-Ok-End-clause-counted : goal.returns-in-Ok-End-clause-counted
+returns-in-Ok-End-clause-counted g c = λ nulls bytes none told.
     let i = c.items.invariant in
     let e = rw c.in-Ok-End.field-0-is at c.in-Ok-End.ensures in
-    end_counts g.S.Source.left g.F.Source.left c.args.lines.now c.do_item.new.lines c.args.packets.now c.items.packets c.check_end.new.packets c.args.desk.now c.do_item.new.desk c.items.checker bytes c.check_end.result
-    (subst (λ (d : DeskState). Follows g.F.Source.left c.args.packets.now c.items.packets (desk_airings d) c.items.checker) (sym e.did) i.follows) told c.check_end.ensures.ends c.check_end.ensures.number
+    let f = subst (λ (d : DeskState). Follows nulls g.F.Source.left c.args.packets.now c.items.packets (desk_airings d) c.items.checker c.items.passed) (sym e.did) (i.follows nulls none) in
+    let ends = c.check_end.ensures.ends nulls c.args.packets.now (desk_airings c.do_item.new.desk) c.items.checker f in
+    end_counts nulls g.S.Source.left g.F.Source.left c.args.lines.now c.do_item.new.lines c.args.packets.now ends.last c.check_end.new.packets c.args.desk.now c.do_item.new.desk c.items.checker c.check_end.new.passed bytes c.check_end.result
+    ends.follows told ends.gives ends.number
 
 pub returns-in-Err-clause-did : goal.returns-in-Err-clause-did
-returns-in-Err-clause-did g c =
+returns-in-Err-clause-did g c = λ nulls none.
     let i = c.items.invariant in
-    subst (λ (s : Status). AuditDid g.S.Source.left g.F.Source.left c.args.lines.now c.do_item.new.lines c.args.packets.now c.args.desk.now c.do_item.new.desk (Err s)) (sym c.status_of.ensures)
-    (script_did g.S.Source.left g.F.Source.left c.args.lines.now c.do_item.new.lines c.args.packets.now c.items.packets c.items.packets c.args.desk.now c.do_item.new.desk c.items.desk c.items.checker c.in-Err.stop i.follows i.at_end
-    c.in-Err.ensures.did (c.in-Err.ensures.goes_on c.args.lines.now c.args.desk.now i.went))
+    subst (λ (s : Status). AuditDid nulls g.S.Source.left g.F.Source.left c.args.lines.now c.do_item.new.lines c.args.packets.now c.args.desk.now c.do_item.new.desk (Err s)) (sym c.status_of.ensures)
+    (script_did nulls g.S.Source.left g.F.Source.left c.args.lines.now c.do_item.new.lines c.args.packets.now c.items.packets c.items.packets c.args.desk.now c.do_item.new.desk c.items.desk c.items.checker c.items.passed c.in-Err.stop
+    (i.follows nulls none) i.at_end c.in-Err.ensures.did (c.in-Err.ensures.goes_on c.args.lines.now c.args.desk.now i.went))

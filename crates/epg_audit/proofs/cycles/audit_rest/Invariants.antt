@@ -1,4 +1,4 @@
-use Rattle.std.proofs.Common.{◌≡◌, ◌≤◌}
+use Rattle.std.proofs.Common.{◌≡◌, ◌≤◌, Bool, []}
 use Rattle.std.specs.Prelude.{None, IfSome}
 use Rattle.si_causes.specs.Reading.{room}
 use Rattle.desk_core.specs.Journal.{Legal}
@@ -8,6 +8,7 @@ use Rattle.journal_air.specs.Air.{mux_form}
 use Rattle.epg_play.specs.Items.{Went}
 use Rattle.epg_audit.specs.Audits.{desk_airings}
 use Rattle.epg_audit.specs.Checks.{Follows}
+use Rattle.epg_audit.specs.Recorded.{passed_over}
 use Rattle.epg_audit.proofs.cycles.audit_rest.Given as goal
 
 abbrev pub invariant-items : goal.invariant-items
@@ -23,7 +24,7 @@ invariant-items g l =
       legal : Legal l.desk.mux l.desk.entries;
       window : IfSome l.made IsInWindow;
       went : Went 0 g.S.Source.left l.fn.lines l.lines l.fn.desk l.desk l.made;
-      follows : Follows g.F.Source.left l.fn.packets l.packets (desk_airings l.desk) l.checker;
+      follows : (nulls : Bool) → l.fn.passed ≡ passed_over nulls [] → Follows nulls g.F.Source.left l.fn.packets l.packets (desk_airings l.desk) l.checker l.passed;
     }
 
 abbrev pub decreases-items : goal.decreases-items

@@ -1,4 +1,4 @@
-use Rattle.std.proofs.Common.{◌≡◌, ◌≤◌, List}
+use Rattle.std.proofs.Common.{◌≡◌, ◌≤◌, Bool, List}
 use Rattle.std.specs.Prelude.{None}
 use Rattle.packet_reader.specs.Reading.{PacketReading, packets_to_come}
 use Rattle.version_book.specs.Airings.{AiredTables}
@@ -11,7 +11,8 @@ invariant-loop-packets g l =
       going : l.packets.stop ≡ None;
       form : l.checker.form ≡ l.fn.checker.form;
       later : g.F.Source.faults l.fn.packets.source ≤ g.F.Source.faults l.packets.source;
-      follows : (start : PacketReading g.row.F.Denot) (airings : List AiredTables) → Follows g.F.Source.left start l.fn.packets airings l.fn.checker → Follows g.F.Source.left start l.packets airings l.checker;
+      follows : (nulls : Bool) (start : PacketReading g.row.F.Denot) (airings : List AiredTables) → Follows nulls g.F.Source.left start l.fn.packets airings l.fn.checker l.fn.passed
+          → Follows nulls g.F.Source.left start l.packets airings l.checker l.passed;
     }
 
 abbrev pub decreases-loop-packets : goal.decreases-loop-packets

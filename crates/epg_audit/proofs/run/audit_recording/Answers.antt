@@ -6,6 +6,7 @@ use Rattle.desk_core.specs.Desks.{DeskState, fresh}
 use Rattle.desk_core.specs.Publications.{swaps}
 use Rattle.journal_air.specs.Air.{airing_at}
 use Rattle.epg_audit.specs.Audits.{AuditDid}
+use Rattle.epg_audit.proofs.Nulls.{none_yet}
 use Rattle.epg_audit.proofs.run.audit_recording.Goals as goal
 
 pub returns-in_default-clause-audited : goal.returns-in_default-clause-audited
@@ -17,11 +18,14 @@ returns-in_default-open-clause-audited g c = (fresh c.args.mux, tt)
 pub returns-clause-audited : goal.returns-clause-audited
 returns-clause-audited g c =
     let desk = c.audit_rest.new.desk in
-    let e = c.in_ok-audit_rest.ensures in (
+    let e = c.in_ok-audit_rest.ensures in
+    let first = none_yet c.args.nulls c.then_some-passed.result c.then_some-passed.ensures in (
       desk,
-      subst (λ (d : DeskState). AuditDid g.S.Source.left g.F.Source.left c.args.lines.now c.audit_rest.new.lines c.args.packets.now d desk (Ok tt)) c.in-Ok-open.ensures e.did,
-      λ bytes told. (
-        c.number.ensures ∙ e.number bytes told,
-        c.swap_count.ensures ∙ ap (λ (l : List Entry). length (swaps l)) c.entries.ensures.value ∙ sym (length-map (swaps desk.entries) (airing_at desk.mux desk.entries)),
-      ),
+      subst (λ (d : DeskState). AuditDid c.args.nulls g.S.Source.left g.F.Source.left c.args.lines.now c.audit_rest.new.lines c.args.packets.now d desk (Ok tt)) c.in-Ok-open.ensures (e.did c.args.nulls first),
+      λ bytes told.
+          let counted = e.counted c.args.nulls bytes first told in (
+            c.number.ensures ∙ counted.0,
+            c.swap_count.ensures ∙ ap (λ (l : List Entry). length (swaps l)) c.entries.ensures.value ∙ sym (length-map (swaps desk.entries) (airing_at desk.mux desk.entries)),
+            counted.1,
+          ),
     )
