@@ -40,44 +40,47 @@ listen_soak c strict number e f = cc
 pub live_soak : (c : Option CommandLine) (paths : List (List ℕ)) (plan : LivePlan) (number : ℕ) → c ≡ Some (Live paths plan.cycles plan.join plan.views) → c ≡ Some (Soak number) → ⊥
 live_soak c paths plan number e f = cc
 
-pub play_audit : (c : Option CommandLine) (fold : Bool) (resume : Option (List ℕ)) (path : List ℕ) → c ≡ Some (Play fold resume) → c ≡ Some (Audit path) → ⊥
-play_audit c fold resume path e f = cc
+pub play_audit : (c : Option CommandLine) (fold : Bool) (resume : Option (List ℕ)) (path : List ℕ) (nulls : Bool) → c ≡ Some (Play fold resume) → c ≡ Some (Audit path nulls) → ⊥
+play_audit c fold resume path nulls e f = cc
 
-pub listen_audit : (c : Option CommandLine) (strict : Bool) (path : List ℕ) → c ≡ Some (Listen strict) → c ≡ Some (Audit path) → ⊥
-listen_audit c strict path e f = cc
+pub listen_audit : (c : Option CommandLine) (strict : Bool) (path : List ℕ) (nulls : Bool) → c ≡ Some (Listen strict) → c ≡ Some (Audit path nulls) → ⊥
+listen_audit c strict path nulls e f = cc
 
-pub live_audit : (c : Option CommandLine) (paths : List (List ℕ)) (plan : LivePlan) (path : List ℕ) → c ≡ Some (Live paths plan.cycles plan.join plan.views) → c ≡ Some (Audit path) → ⊥
-live_audit c paths plan path e f = cc
+pub live_audit : (c : Option CommandLine) (paths : List (List ℕ)) (plan : LivePlan) (path : List ℕ) (nulls : Bool) → c ≡ Some (Live paths plan.cycles plan.join plan.views) → c ≡ Some (Audit path nulls) → ⊥
+live_audit c paths plan path nulls e f = cc
 
-pub soak_audit : (c : Option CommandLine) (number : ℕ) (path : List ℕ) → c ≡ Some (Soak number) → c ≡ Some (Audit path) → ⊥
-soak_audit c number path e f = cc
+pub soak_audit : (c : Option CommandLine) (number : ℕ) (path : List ℕ) (nulls : Bool) → c ≡ Some (Soak number) → c ≡ Some (Audit path nulls) → ⊥
+soak_audit c number path nulls e f = cc
 
 -- neither `listen` nor `audit`
-pub play_sends : (c : Option CommandLine) (fold : Bool) (resume : Option (List ℕ)) → c ≡ Some (Play fold resume) → ((strict : Bool) × (c ≡ Some (Listen strict))) ⊎ ((path : List ℕ) × (c ≡ Some (Audit path))) → ⊥
+pub play_sends : (c : Option CommandLine) (fold : Bool) (resume : Option (List ℕ)) → c ≡ Some (Play fold resume) → ((strict : Bool) × (c ≡ Some (Listen strict))) ⊎ ((path : List ℕ) × (nulls : Bool) × (c ≡ Some (Audit path nulls))) → ⊥
 play_sends c fold resume e (inl (strict, listen)) = play_listen c fold resume strict e listen
-play_sends c fold resume e (inr (path, audit)) = play_audit c fold resume path e audit
+play_sends c fold resume e (inr (path, nulls, audit)) = play_audit c fold resume path nulls e audit
 
-pub live_sends : (c : Option CommandLine) (paths : List (List ℕ)) (plan : LivePlan) → c ≡ Some (Live paths plan.cycles plan.join plan.views) → ((strict : Bool) × (c ≡ Some (Listen strict))) ⊎ ((path : List ℕ) × (c ≡ Some (Audit path))) → ⊥
+pub live_sends : (c : Option CommandLine) (paths : List (List ℕ)) (plan : LivePlan) → c ≡ Some (Live paths plan.cycles plan.join plan.views) → ((strict : Bool) × (c ≡ Some (Listen strict))) ⊎ ((path : List ℕ) × (nulls : Bool) × (c ≡ Some (Audit path nulls))) → ⊥
 live_sends c paths plan e (inl (strict, listen)) = listen_live c strict paths plan listen e
-live_sends c paths plan e (inr (path, audit)) = live_audit c paths plan path e audit
+live_sends c paths plan e (inr (path, nulls, audit)) = live_audit c paths plan path nulls e audit
 
-pub soak_sends : (c : Option CommandLine) (number : ℕ) → c ≡ Some (Soak number) → ((strict : Bool) × (c ≡ Some (Listen strict))) ⊎ ((path : List ℕ) × (c ≡ Some (Audit path))) → ⊥
+pub soak_sends : (c : Option CommandLine) (number : ℕ) → c ≡ Some (Soak number) → ((strict : Bool) × (c ≡ Some (Listen strict))) ⊎ ((path : List ℕ) × (nulls : Bool) × (c ≡ Some (Audit path nulls))) → ⊥
 soak_sends c number e (inl (strict, listen)) = listen_soak c strict number listen e
-soak_sends c number e (inr (path, audit)) = soak_audit c number path e audit
+soak_sends c number e (inr (path, nulls, audit)) = soak_audit c number path nulls e audit
 
-pub none_sends : (c : Option CommandLine) → c ≡ None → ((strict : Bool) × (c ≡ Some (Listen strict))) ⊎ ((path : List ℕ) × (c ≡ Some (Audit path))) → ⊥
+pub none_sends : (c : Option CommandLine) → c ≡ None → ((strict : Bool) × (c ≡ Some (Listen strict))) ⊎ ((path : List ℕ) × (nulls : Bool) × (c ≡ Some (Audit path nulls))) → ⊥
 none_sends c none (inl (strict, listen)) = some_none c (Listen strict) listen none
-none_sends c none (inr (path, audit)) = some_none c (Audit path) audit none
+none_sends c none (inr (path, nulls, audit)) = some_none c (Audit path nulls) audit none
 
 -- none of those that open no file
-pub audit_others : (c : Option CommandLine) (path : List ℕ) → c ≡ Some (Audit path) → (c ≡ Some (Play false None)) ⊎ ((c ≡ Some (Play true None)) ⊎ (((strict : Bool) × (c ≡ Some (Listen strict))) ⊎ ((number : ℕ) × (c ≡ Some (Soak number))))) → ⊥
-audit_others c path e (inl play) = play_audit c false None path play e
-audit_others c path e (inr (inl fold)) = play_audit c true None path fold e
-audit_others c path e (inr (inr (inl (strict, listen)))) = listen_audit c strict path listen e
-audit_others c path e (inr (inr (inr (number, soak)))) = soak_audit c number path soak e
+pub audit_others : (c : Option CommandLine) (path : List ℕ) (nulls : Bool) → c ≡ Some (Audit path nulls) → (c ≡ Some (Play false None)) ⊎ ((c ≡ Some (Play true None)) ⊎ (((strict : Bool) × (c ≡ Some (Listen strict))) ⊎ ((number : ℕ) × (c ≡ Some (Soak number))))) → ⊥
+audit_others c path nulls e (inl play) = play_audit c false None path nulls play e
+audit_others c path nulls e (inr (inl fold)) = play_audit c true None path nulls fold e
+audit_others c path nulls e (inr (inr (inl (strict, listen)))) = listen_audit c strict path nulls listen e
+audit_others c path nulls e (inr (inr (inr (number, soak)))) = soak_audit c number path nulls soak e
 
-pub audit_is : (P : List ℕ → Type 0) (c : Option CommandLine) (read path : List ℕ) → c ≡ Some (Audit read) → c ≡ Some (Audit path) → P read → P path
-audit_is P c read path e f p = let same : read ≡ path = cc in subst P same p
+pub audit_is : (P : List ℕ → Bool → Type 0) (c : Option CommandLine) (read path : List ℕ) (said nulls : Bool) → c ≡ Some (Audit read said) → c ≡ Some (Audit path nulls) → P read said → P path nulls
+audit_is P c read path said nulls e f p =
+    let first : read ≡ path = cc in
+    let second : said ≡ nulls = cc in
+    subst (P path) second (subst (λ (l : List ℕ). P l said) first p)
 
 pub live_others : (c : Option CommandLine) (paths : List (List ℕ)) (plan : LivePlan) → c ≡ Some (Live paths plan.cycles plan.join plan.views)
     → (c ≡ Some (Play false None)) ⊎ ((c ≡ Some (Play true None)) ⊎ (((strict : Bool) × (c ≡ Some (Listen strict))) ⊎ ((number : ℕ) × (c ≡ Some (Soak number))))) → ⊥

@@ -39,13 +39,13 @@ IsLive words paths plan = command_of (texts words) ≡ Some (Live paths plan.cyc
 abbrev pub IsSoak : {Y : Type 0} → List (String Y) → ℕ → Type 0
 IsSoak words number = command_of (texts words) ≡ Some (Soak number)
 
--- of the recording at this path
-abbrev pub IsAudit : {Y : Type 0} → List (String Y) → List ℕ → Type 0
-IsAudit words path = command_of (texts words) ≡ Some (Audit path)
+-- of the recording at this path, with `--nulls` or without
+abbrev pub IsAudit : {Y : Type 0} → List (String Y) → List ℕ → Bool → Type 0
+IsAudit words path nulls = command_of (texts words) ≡ Some (Audit path nulls)
 
 -- of a recording, whatever its path
 abbrev pub SpellsAudit : {Y : Type 0} → List (String Y) → Type 0
-SpellsAudit words = (path : List ℕ) × IsAudit words path
+SpellsAudit words = (path : List ℕ) × (nulls : Bool) × IsAudit words path nulls
 
 -- of a load, whatever its number
 abbrev pub SpellsSoak : {Y : Type 0} → List (String Y) → Type 0

@@ -128,8 +128,8 @@ pub fn run<W: Threads + Wait + Sync, O: Opener, S: Source + Send, A: Sink + Send
         S.left input.old R.written R.faults report.old report.new result }
     ensures soak { (number : ℕ) → IsSoak words.now number → SoakRan number
         A.written A.faults air.old air.new R.written R.faults report.old report.new result }
-    ensures audit { (path : List ℕ) → IsAudit words.now path → AuditRan path
-        O.files O.tried O.faults O.read_faults opener.old opener.new
+    ensures audit { (path : List ℕ) (nulls : Bool) → IsAudit words.now path nulls
+        → AuditRan path nulls O.files O.tried O.faults O.read_faults opener.old opener.new
         S.left S.faults input.old input.new R.written R.faults report.old report.new result }
     // With `listen` and `audit` nothing is sent, only `live`, `audit` and `play --resume` open files, and `soak` makes
     // its input itself.
@@ -154,7 +154,9 @@ pub fn run<W: Threads + Wait + Sync, O: Opener, S: Source + Send, A: Sink + Send
             run_live_files(rt, alloc, &live, opener, input, air, report, gate)
         }
         Ok(Command::Soak(number)) => run_soak(rt, alloc, number, air, report, gate),
-        Ok(Command::Audit(path)) => run_audit(alloc, path.as_str(), opener, input, report),
+        Ok(Command::Audit(audit)) => {
+            run_audit(alloc, audit.path.as_str(), audit.nulls, opener, input, report)
+        }
         Err(WordsStop::Memory) => out_of_memory(report),
         Err(WordsStop::Usage) => {
             let _ = write_all(report, b"fault: usage\n");
