@@ -9,7 +9,7 @@
 //! Where null packets may stand in the recording, they are passed over, and counted (ISO/IEC
 //! 13818-1, 2.4.3.3).
 //!
-//! Tested in `audit_rows`: the airs of rows and examples, whole, short and changed; files that
+//! Tested in `headend_rows`: the airs of rows and examples, whole, short and changed; files that
 //! cannot be opened or read.
 //!
 //! Not promised: how often sections repeat, what is left after Memory, and that it comes only where

@@ -1,9 +1,22 @@
-use Rattle.std.proofs.Common.{sym, subst}
+use Rattle.std.proofs.Common.{List, ◌++◌, ◌∷◌, [], sym, ◌∙◌, subst}
+use Rattle.std.specs.Prelude.{OnOk}
 use Rattle.desk_core.specs.declared.airing.Airing.{Airing}
 use Rattle.publication.specs.Tables.{HasServicesOf}
-use Rattle.headend_jobs.proofs.AirFacts.{on_air_services}
+use Rattle.version_book.specs.Airings.{AiredTables}
+use Rattle.air_audit.specs.Checking.{StandsFor}
+use Rattle.headend_jobs.proofs.AirFacts.{on_air_services, airing_sent, airing_is}
 use Rattle.epg_audit.proofs.cycles.begin_cycle.Goals as goal
 
 pub build-requires-clause-services : goal.build-requires-clause-services
 build-requires-clause-services c =
     subst (λ (a : Airing). HasServicesOf c.mux.result.now a.guide) (sym c.airing.view_is) (on_air_services c.args.desk.now c.mux.result.now c.in_ok-airing.airing c.mux.ensures.value c.in_ok-airing.ensures.airing)
+
+pub returns-clause-begun : goal.returns-clause-begun
+returns-clause-begun c = λ airings accepted stands.
+    let form = c.args.checker.now.form in
+    let mux = c.mux.result.now in
+    let on : Airing = record { number = c.airing.inside.number; moment = c.airing.inside.moment; guide = c.airing.inside.guide.guide } in
+    let same =
+    airing_sent mux form on c.in_ok-airing.airing c.in_ok-tables.tables.list c.airing.view_is c.in_ok-tables.ensures.tables
+    ∙ airing_is c.args.desk.now c.in_ok-airing.airing mux form c.in_ok-airing.ensures.airing c.mux.ensures.value in
+    subst (λ (a : AiredTables). OnOk c.swap.result (StandsFor (airings ++ a ∷ []) accepted c.swap.new.self)) same (c.swap.ensures.swapped airings accepted stands)

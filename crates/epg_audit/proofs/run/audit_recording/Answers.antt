@@ -1,6 +1,7 @@
 use Rattle.std.proofs.Common.{List, length, sym, ap, ◌∙◌, subst}
-use Rattle.std.specs.Prelude.{Ok}
+use Rattle.std.specs.Prelude.{Ok, Err}
 use Rattle.std.proofs.lemmas.List.{length-map}
+use Rattle.std.proofs.lemmas.Result.{err_from_is_err_and}
 use Rattle.journal_model.specs.declared.step.Entry.{Entry}
 use Rattle.desk_core.specs.Desks.{DeskState, fresh}
 use Rattle.desk_core.specs.Publications.{swaps}
@@ -28,4 +29,15 @@ returns-clause-audited g c =
             c.swap_count.ensures ∙ ap (λ (l : List Entry). length (swaps l)) c.entries.ensures.value ∙ sym (length-map (swaps desk.entries) (airing_at desk.mux desk.entries)),
             counted.1,
           ),
+    )
+
+pub returns-in_err-audit_rest-clause-audited : goal.returns-in_err-audit_rest-clause-audited
+returns-in_err-audit_rest-clause-audited g c =
+    let desk = c.audit_rest.new.desk in
+    let first = none_yet c.args.nulls c.then_some-passed.result c.then_some-passed.ensures in
+    let did = c.in_err-audit_rest.ensures.did c.args.nulls first in
+    let p = err_from_is_err_and c.from_residual.result c.from_residual.ensures.1 in
+    rw (p.1, p.2) (
+      desk,
+      subst (λ (d : DeskState). AuditDid c.args.nulls g.S.Source.left g.F.Source.left c.args.lines.now c.audit_rest.new.lines c.args.packets.now d desk (Err _)) c.in-Ok-open.ensures did,
     )
