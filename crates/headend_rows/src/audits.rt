@@ -3,17 +3,21 @@ use crate::answers::{Form, Turns};
 use crate::changes::{Change, change_of, put_turn, turns_of};
 use crate::run::{Case, Ends, File, Room, Side, WHOLE};
 use crate::tally::{Tally, count, no_runs, put_tally};
-use crate::texts::cut;
+use crate::texts::{cut, number, refuse};
 use row_lines::Buffer;
 use std::marker::Sync;
 use std::sync::Wait;
 use std::thread::Threads;
 
-fn side_of(word: &str) -> Side {
+fn side_of(out: &mut Buffer, word: &str) -> Side {
     match word {
         "input" => Side::Input,
         "recording" => Side::File,
-        _ => Side::Report,
+        "report" => Side::Report,
+        _ => {
+            refuse(out);
+            Side::Report
+        }
     }
 }
 
@@ -56,8 +60,8 @@ impl<'a, W: Threads + Wait + Sync> Room<'a, W> {
         let (side, row) = cut(row);
         let (piece, row) = cut(row);
         let turns = Turns {
-            side: side_of(side),
-            piece: piece.parse::<usize>().unwrap_or(1),
+            side: side_of(out, side),
+            piece: number(out, piece),
         };
         self.tell_recording(ends, "audit --air=p", row, Some(turns), out)
     }
@@ -95,7 +99,7 @@ impl<'a, W: Threads + Wait + Sync> Room<'a, W> {
         self.put_script(text, &mut script);
         ends.note(air.lacks() || script.lacks());
         let mut tally = no_runs();
-        let change = change_of(change);
+        let change = change_of(out, change);
         self.tally_turns(ends, script.as_slice(), air.as_slice(), change, &mut tally);
         put_tally(out, &tally);
     }

@@ -1,6 +1,6 @@
 // Changes of a recording.
 use crate::nulls::put_with_nulls;
-use crate::texts::number;
+use crate::texts::{byte, number};
 use row_lines::Buffer;
 use std::alloc::Global;
 
@@ -47,15 +47,12 @@ fn put_flipped(into: &mut Buffer, bytes: &[u8], packet: usize, bit: usize) {
     into.flip(place, 128 >> (bit % 8));
 }
 
-fn byte(word: &str) -> u8 {
-    u8::from_str_radix(word, 16).unwrap_or(0)
-}
-
 // `COUNT*BYTE`
 fn append(bytes: &mut Buffer, change: &str) {
     let (count, value) = change.split_once('*').unwrap_or((change, ""));
-    for _ in 0..number(count) {
-        bytes.push(byte(value));
+    let value = byte(bytes, value);
+    for _ in 0..number(bytes, count) {
+        bytes.push(value);
     }
 }
 
@@ -63,19 +60,27 @@ fn append(bytes: &mut Buffer, change: &str) {
 fn put_byte(bytes: &mut Buffer, change: &str) {
     let (packet, change) = change.split_once(':').unwrap_or((change, ""));
     let (place, value) = change.split_once(':').unwrap_or((change, ""));
-    let at = number(packet).saturating_mul(188);
-    bytes.set(at.saturating_add(number(place)), byte(value));
+    let at = number(bytes, packet).saturating_mul(188);
+    let place = at.saturating_add(number(bytes, place));
+    let value = byte(bytes, value);
+    bytes.set(place, value);
 }
 
 // Appends these bytes with one change.
 fn put_changed(into: &mut Buffer, bytes: &[u8], word: &str) {
     let rest = word.get(1..).unwrap_or("");
     match word.as_bytes().first() {
-        Some(b'-') => put_without(into, bytes, number(rest)),
-        Some(b'+') => put_doubled(into, bytes, number(rest)),
+        Some(b'-') => {
+            let packet = number(into, rest);
+            put_without(into, bytes, packet);
+        }
+        Some(b'+') => {
+            let packet = number(into, rest);
+            put_doubled(into, bytes, packet);
+        }
         Some(b'!') => put_with_nulls(into, bytes, rest),
         Some(b'<') => {
-            let len = bytes.len().saturating_sub(number(rest));
+            let len = bytes.len().saturating_sub(number(into, rest));
             into.put(bytes.get(..len).unwrap_or(bytes));
         }
         Some(b'>') => {
@@ -89,7 +94,10 @@ fn put_changed(into: &mut Buffer, bytes: &[u8], word: &str) {
 // Appends these bytes with two packets exchanged, or with one byte changed.
 fn put_moved(into: &mut Buffer, bytes: &[u8], word: &str) {
     match word.split_once('~') {
-        Some((first, second)) => put_exchanged(into, bytes, number(first), number(second)),
+        Some((first, second)) => {
+            let (first, second) = (number(into, first), number(into, second));
+            put_exchanged(into, bytes, first, second);
+        }
         None => {
             into.put(bytes);
             put_byte(into, word);
@@ -119,14 +127,14 @@ pub enum Change {
 }
 
 /// The change that this word says.
-pub fn change_of(word: &str) -> Change {
+pub fn change_of(out: &mut Buffer, word: &str) -> Change {
     match word {
         "without" => Change::Without,
         "doubled" => Change::Doubled,
         "exchanged" => Change::Exchanged,
         _ => match word.split_once(':') {
-            Some((packet, bit)) => Change::Bit(number(packet), number(bit)),
-            None => Change::Bits(number(word)),
+            Some((packet, bit)) => Change::Bit(number(out, packet), number(out, bit)),
+            None => Change::Bits(number(out, word)),
         },
     }
 }

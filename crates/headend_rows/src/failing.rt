@@ -165,7 +165,8 @@ impl<'a, W: Threads + Wait + Sync> Room<'a, W> {
             "every" => &EVERY_KIND,
             _ => return out.say("no row"),
         };
-        let is_due = self.fail_all(ends, script, number(piece).max(1));
+        let piece = number(out, piece).max(1);
+        let is_due = self.fail_all(ends, script, piece);
         out.say(if is_due { "as due" } else { "not as due" })
     }
 

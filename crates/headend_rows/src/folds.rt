@@ -2,7 +2,7 @@
 use crate::answers::{Form, Turns};
 use crate::cuts::Cut;
 use crate::run::{Case, Ends, File, Room, Side, WHOLE};
-use crate::texts::{cut, description, put_lines_of};
+use crate::texts::{cut, description, number, put_lines_of, refuse};
 use row_lines::Buffer;
 use std::marker::Sync;
 use std::sync::Wait;
@@ -11,12 +11,16 @@ use std::thread::Threads;
 // The script of words: a service, and no command.
 const ONE_SERVICE: &str = "network,40,Demo/stream,1,1/service,101,1,1,256,257,Acme,One/end/";
 
-fn side_of(word: &str) -> Side {
+fn side_of(out: &mut Buffer, word: &str) -> Side {
     match word {
         "input" => Side::Input,
         "file" => Side::File,
         "air" => Side::Air,
-        _ => Side::Report,
+        "report" => Side::Report,
+        _ => {
+            refuse(out);
+            Side::Report
+        }
     }
 }
 
@@ -98,8 +102,8 @@ impl<'a, W: Threads + Wait + Sync> Room<'a, W> {
         let (side, row) = cut(row);
         let (piece, row) = cut(row);
         let turns = Turns {
-            side: side_of(side),
-            piece: piece.parse::<usize>().unwrap_or(1),
+            side: side_of(out, side),
+            piece: number(out, piece),
         };
         self.tell_case(ends, words, row, Some(turns), out);
     }

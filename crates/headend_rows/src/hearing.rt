@@ -2,7 +2,7 @@
 use crate::answers::{Form, Turns};
 use crate::reports::{put_lines, put_whole};
 use crate::run::{Case, Ends, File, Room, Side, WHOLE};
-use crate::texts::cut;
+use crate::texts::{cut, number, refuse};
 use row_lines::Buffer;
 use si_base::crc32;
 use std::marker::Sync;
@@ -17,6 +17,17 @@ enum Shows<'b> {
     Guide,
     Lines,
     Table(&'b str),
+}
+
+fn side_of(out: &mut Buffer, word: &str) -> Side {
+    match word {
+        "read" => Side::Input,
+        "write" => Side::Report,
+        _ => {
+            refuse(out);
+            Side::Report
+        }
+    }
 }
 
 fn is_done(line: &str) -> bool {
@@ -124,12 +135,8 @@ impl<'a, W: Threads + Wait + Sync> Room<'a, W> {
         let (kind, row) = cut(row);
         let (piece, row) = cut(row);
         let turns = Turns {
-            side: if kind == "read" {
-                Side::Input
-            } else {
-                Side::Report
-            },
-            piece: piece.parse::<usize>().unwrap_or(1),
+            side: side_of(out, kind),
+            piece: number(out, piece),
         };
         let mut bytes = Buffer::open(self.alloc);
         self.put_recording(ends, row, &mut bytes);

@@ -26,8 +26,8 @@ fn put_nulls(into: &mut Buffer, count: usize) {
 /// Appends packets with null packets before, between and after them: `COUNT:SEED`, so many, at places that a seed draws.
 pub fn put_with_nulls(into: &mut Buffer, packets: &[u8], text: &str) {
     let (count, seed) = text.split_once(':').unwrap_or((text, ""));
-    let mut left = number(count);
-    let mut seed = number(seed) as u32;
+    let mut left = number(into, count);
+    let mut seed = (number(into, seed) % 65_536) as u32;
     let mut places = (packets.len() / 188).saturating_add(1);
     for packet in packets.chunks(188) {
         seed = next_number(seed);

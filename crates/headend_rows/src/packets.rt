@@ -1,15 +1,15 @@
 // Bytes and packets of recordings.
-use crate::texts::number;
+use crate::texts::{byte, number};
 use row_lines::Buffer;
 use si_base::crc32;
 
 /// Appends the bytes that a text spells: each word is a byte in hex, and after a star how often it stands.
 pub fn put_spelled(bytes: &mut Buffer, text: &str) {
     for word in text.split_whitespace() {
-        let (byte, count) = word.split_once('*').unwrap_or((word, "1"));
-        let byte = u8::from_str_radix(byte, 16).unwrap_or(0);
-        for _ in 0..number(count) {
-            bytes.push(byte);
+        let (value, count) = word.split_once('*').unwrap_or((word, "1"));
+        let value = byte(bytes, value);
+        for _ in 0..number(bytes, count) {
+            bytes.push(value);
         }
     }
 }

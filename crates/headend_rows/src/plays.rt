@@ -2,7 +2,7 @@
 use crate::packets::{pid_of, put_spelled};
 use crate::reports::put_lines;
 use crate::run::{Case, Ends, Faults, File, NEVER, Room, Side, WHOLE};
-use crate::texts::{cut, description, number};
+use crate::texts::{cut, description, number, pid};
 use epg_cli::{Origin, Outlet, Status};
 use journal_model::Outcome;
 use mux_config::MuxFault;
@@ -104,7 +104,7 @@ impl<'a, W: Threads + Wait + Sync> Room<'a, W> {
     // `N WORDS`: the first words, which bars part, over the description alone, of which a call moves 7 bytes.
     fn tell_said(&self, ends: &mut Ends, row: &str, out: &mut Buffer) {
         let (count, words) = cut(row);
-        ends.say(words, '|', number(count));
+        ends.say(words, '|', number(out, count));
         let faults = Faults { piece: 7, ..WHOLE };
         let status = ends.run_said(self.rt, MUX.as_bytes(), File::Absent, &faults);
         put_end(out, status, ends)
@@ -134,8 +134,11 @@ impl<'a, W: Threads + Wait + Sync> Room<'a, W> {
         let (piece, row) = cut(row);
         let (write, row) = cut(row);
         let (text, packets) = row.split_once(" | ").unwrap_or((row, ""));
-        let call = write.parse::<u64>().unwrap_or(NEVER);
-        let faults = Faults::of(Side::Air, number(piece), call);
+        let call = match write {
+            "-" => NEVER,
+            write => number(out, write) as u64,
+        };
+        let faults = Faults::of(Side::Air, number(out, piece), call);
         let status = self.played(ends, text, &faults);
         let mut bytes = Buffer::open(self.alloc);
         put_spelled(&mut bytes, packets);
@@ -168,9 +171,10 @@ impl<'a, W: Threads + Wait + Sync> Room<'a, W> {
 
     // `PID SCRIPT`
     fn tell_numbers(&self, ends: &mut Ends, row: &str, out: &mut Buffer) {
-        let (pid, text) = cut(row);
+        let (on, text) = cut(row);
         self.play_text(ends, text);
-        put_numbers(out, ends.air(), pid.parse::<u16>().unwrap_or(0))
+        let on = pid(out, on);
+        put_numbers(out, ends.air(), on);
     }
 
     // `SCRIPT`
@@ -185,7 +189,8 @@ impl<'a, W: Threads + Wait + Sync> Room<'a, W> {
         let (count, row) = cut(row);
         let (later, text) = cut(row);
         self.play_text(ends, text);
-        let repeats = repeats(ends.air(), number(from), number(count), number(later));
+        let (from, count, later) = (number(out, from), number(out, count), number(out, later));
+        let repeats = repeats(ends.air(), from, count, later);
         out.say(if repeats { "repeated" } else { "not repeated" })
     }
 
@@ -195,7 +200,8 @@ impl<'a, W: Threads + Wait + Sync> Room<'a, W> {
         let (count, text) = cut(row);
         self.play_text(ends, text);
         out.say("bytes");
-        for byte in ends.air().iter().skip(number(from)).take(number(count)) {
+        let (from, count) = (number(out, from), number(out, count));
+        for byte in ends.air().iter().skip(from).take(count) {
             out.say(" ");
             out.say_hex(*byte);
         }

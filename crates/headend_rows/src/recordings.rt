@@ -3,7 +3,7 @@ use crate::changes::change_all;
 use crate::nulls::put_with_nulls;
 use crate::packets::{put_again, put_fronts, put_kept, put_others, put_pmts, put_spelled};
 use crate::run::{Ends, Room};
-use crate::texts::{cut, number};
+use crate::texts::{cut, number, pid};
 use row_lines::Buffer;
 use std::alloc::Global;
 use std::marker::Sync;
@@ -13,18 +13,18 @@ use std::thread::Threads;
 // Appends a script of so many swaps, each of a publication with a new name.
 fn put_name_script(count: &str, out: &mut Buffer) {
     out.say("network,40,Demo\nstream,1,1\nservice,101,1,1,256,257,Acme,One\nend\n");
-    for i in 0..number(count) as u64 {
+    for i in 0..number(out, count) as u64 {
         out.say_number("feed,1,name,101,Acme,News ", i);
         out.say("\npublish\nswap\n");
     }
 }
 
-// The packets of a recording from one on, up to another.
-fn part<'b>(bytes: &'b [u8], range: &str) -> &'b [u8] {
-    let (from, to) = range.split_once('-').unwrap_or((range, range));
-    let from = number(from).saturating_mul(188);
-    let to = number(to).saturating_mul(188);
-    bytes.get(from..to).unwrap_or(&[])
+// Appends the packets of a recording from one on, up to another.
+fn put_range(into: &mut Buffer, bytes: &[u8], range: &str) {
+    let (from, to) = range.split_once('-').unwrap_or((range, ""));
+    let from = number(into, from).saturating_mul(188);
+    let to = number(into, to).saturating_mul(188);
+    into.put(bytes.get(from..to).unwrap_or(&[]));
 }
 
 // Appends so many bytes, again and again: `N BYTES`.
@@ -32,7 +32,8 @@ fn put_bytes(alloc: Global, bytes: &mut Buffer, text: &str) {
     let (len, text) = cut(text);
     let mut unit = Buffer::open(alloc);
     put_spelled(&mut unit, text);
-    put_again(bytes, number(len), unit.as_slice());
+    let len = number(bytes, len);
+    put_again(bytes, len, unit.as_slice());
 }
 
 impl<'a, W: Threads + Wait + Sync> Room<'a, W> {
@@ -54,7 +55,7 @@ impl<'a, W: Threads + Wait + Sync> Room<'a, W> {
     // Appends the packets of an air from one on, up to another.
     fn put_part(&self, ends: &mut Ends, range: &str, text: &str, bytes: &mut Buffer) {
         self.play_text(ends, text);
-        bytes.put(part(ends.air(), range));
+        put_range(bytes, ends.air(), range);
     }
 
     // Appends a recording before packets are taken out.
@@ -64,7 +65,10 @@ impl<'a, W: Threads + Wait + Sync> Room<'a, W> {
             "hex" => put_spelled(bytes, text),
             "play" | "counted" => self.put_air(ends, text, bytes),
             "names" => self.put_names(ends, text, bytes),
-            "pmts" => put_pmts(bytes, number(text) as u64),
+            "pmts" => {
+                let count = number(bytes, text) as u64;
+                put_pmts(bytes, count);
+            }
             "bytes" => put_bytes(self.alloc, bytes, text),
             _ => self.put_part(ends, form, text, bytes),
         }
@@ -81,17 +85,13 @@ impl<'a, W: Threads + Wait + Sync> Room<'a, W> {
 
     // `PID NUMBERS RECORDING`
     fn put_on_pid(&self, ends: &mut Ends, text: &str, bytes: &mut Buffer) {
-        let (pid, text) = cut(text);
+        let (on, text) = cut(text);
         let (numbers, text) = cut(text);
         let mut whole = Buffer::open(self.alloc);
         self.put_heard(ends, text, &mut whole);
         ends.note(whole.lacks());
-        put_kept(
-            bytes,
-            whole.as_slice(),
-            pid.parse::<u16>().unwrap_or(0),
-            numbers,
-        );
+        let on = pid(bytes, on);
+        put_kept(bytes, whole.as_slice(), on, numbers);
     }
 
     // `COUNT:SEED RECORDING`

@@ -12,9 +12,42 @@ pub fn cut(text: &str) -> (&str, &str) {
     text.split_once(' ').unwrap_or((text, ""))
 }
 
-/// The decimal number that a word is, or 0.
-pub fn number(word: &str) -> usize {
-    word.parse::<usize>().unwrap_or(0)
+/// Notes that a row cannot be read: the program then ends with an error.
+pub fn refuse(out: &mut Buffer) {
+    out.note(Err(AllocError));
+}
+
+/// The decimal number that a word of a row is.
+pub fn number(out: &mut Buffer, word: &str) -> usize {
+    match word.parse::<usize>() {
+        Ok(number) => number,
+        Err(_) => {
+            refuse(out);
+            0
+        }
+    }
+}
+
+/// The PID that a word of a row is.
+pub fn pid(out: &mut Buffer, word: &str) -> u16 {
+    match word.parse::<u16>() {
+        Ok(pid) => pid,
+        Err(_) => {
+            refuse(out);
+            0
+        }
+    }
+}
+
+/// The byte of hex digits that a word of a row is.
+pub fn byte(out: &mut Buffer, word: &str) -> u8 {
+    match u8::from_str_radix(word, 16) {
+        Ok(byte) => byte,
+        Err(_) => {
+            refuse(out);
+            0
+        }
+    }
 }
 
 // Appends the text that the notation of rows stands for, in which a slash stands for LF.
@@ -35,7 +68,9 @@ pub fn put_lines_of(alloc: Global, text: &str, out: &mut Buffer) {
 // the script is not cut.
 fn put_large(alloc: Global, text: &str, out: &mut Buffer) {
     let (services, events) = cut(text);
-    let last = (number(services) as u64).min(10_000).saturating_add(100);
+    let last = (number(out, services) as u64)
+        .min(10_000)
+        .saturating_add(100);
     let mut row = Buffer::open(alloc);
     row.say("network,40,Demo/stream,1,1/start,1993-10-13T12:45:00Z/");
     row.say_number("[101..", last);
