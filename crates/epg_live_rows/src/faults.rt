@@ -23,10 +23,6 @@ pub const NONE: Faults = Faults {
     read: (NEVER, NEVER),
 };
 
-fn number(text: &str) -> u64 {
-    text.parse::<u64>().unwrap_or(NEVER)
-}
-
 // The number of a call that fails, where this is its kind.
 fn at(is_kind: bool, call: u64) -> u64 {
     if is_kind { call } else { NEVER }
@@ -34,28 +30,40 @@ fn at(is_kind: bool, call: u64) -> u64 {
 
 // The faults of a kind: `i` fails this read of the input, `a` this write of the air, `w` this write of the report, `o` this opening, and
 // `r` this read of an opening.
-fn faults_at(kind: &str, opening: u64, call: u64) -> Faults {
-    Faults {
+fn faults_at(kind: &str, opening: u64, call: u64) -> Option<Faults> {
+    if !matches!(kind, "i" | "a" | "w" | "o" | "r") {
+        return None;
+    }
+    Some(Faults {
         input: at(kind == "i", call),
         air: at(kind == "a", call),
         report: at(kind == "w", call),
         opening: at(kind == "o", call),
         read: (opening, at(kind == "r", call)),
-    }
+    })
+}
+
+fn number(text: &str) -> Option<u64> {
+    text.parse::<u64>().ok()
 }
 
 /// The faults of a kind, as `i` or `r3.`, where this call fails.
-pub fn faults_in(kind: &str, call: u64) -> Faults {
+pub fn faults_in(kind: &str, call: u64) -> Option<Faults> {
     match kind.strip_prefix('r') {
-        Some(opening) => faults_at("r", number(opening.strip_suffix('.').unwrap_or("")), call),
+        Some(opening) => faults_at("r", number(opening.strip_suffix('.')?)?, call),
         None => faults_at(kind, NEVER, call),
     }
 }
 
 /// The faults of a word: `-` is none, `i3` fails read 3 of the input, `a3` write 3 of the air, `w3` write 3 of the report, `o3` opening
 /// 3, and `r3.1` read 1 of opening 3, all counted from 0.
-pub fn faults_of(word: &str) -> Faults {
-    let (kind, text) = (word.get(..1).unwrap_or("-"), word.get(1..).unwrap_or(""));
-    let (opening, read) = text.split_once('.').unwrap_or(("", text));
-    faults_at(kind, number(opening), number(read))
+pub fn faults_of(word: &str) -> Option<Faults> {
+    if word == "-" {
+        return Some(NONE);
+    }
+    let (kind, text) = (word.get(..1)?, word.get(1..)?);
+    match text.split_once('.') {
+        Some((opening, read)) => faults_at(kind, number(opening)?, number(read)?),
+        None => faults_at(kind, NEVER, number(text)?),
+    }
 }

@@ -14,8 +14,15 @@ fn cut(row: &str) -> (&str, &str) {
     row.split_once(' ').unwrap_or((row, ""))
 }
 
-fn number(word: &str) -> u64 {
-    word.parse::<u64>().unwrap_or(0)
+// The number that a word of a row is; where it is none, the program ends with an error.
+fn number(ends: &mut Ends, word: &str) -> u64 {
+    match word.parse::<u64>() {
+        Ok(number) => number,
+        Err(_) => {
+            ends.note(true);
+            0
+        }
+    }
 }
 
 // `INPUT ; FEED ; FEED ..`
@@ -30,15 +37,15 @@ fn given_of<'a>(words: &'a str, piece: usize, texts: &'a str) -> Given<'a> {
 }
 
 // `SERVICES DAYS EVENTS CYCLES`
-fn week_of(row: &str) -> Week {
+fn week_of(ends: &mut Ends, row: &str) -> Week {
     let (services, row) = cut(row);
     let (days, row) = cut(row);
     let (events, cycles) = cut(row);
     Week {
-        services: number(services),
-        days: number(days),
-        events: number(events),
-        cycles: number(cycles),
+        services: number(ends, services),
+        days: number(ends, days),
+        events: number(ends, events),
+        cycles: number(ends, cycles),
     }
 }
 
@@ -48,7 +55,10 @@ impl<'a, W: Threads + Wait + Sync> Room<'a, W> {
         let (words, row) = cut(row);
         let (fault, texts) = cut(row);
         let given = given_of(words, 65_536, texts);
-        self.run(ends, &given, &faults_of(fault))
+        match faults_of(fault) {
+            Some(faults) => self.run(ends, &given, &faults),
+            None => ends.note(true),
+        }
     }
 
     // `KIND PIECE HOLDS WORDS INPUT ; FEED ; FEED ..`
@@ -57,7 +67,7 @@ impl<'a, W: Threads + Wait + Sync> Room<'a, W> {
         let (piece, row) = cut(row);
         let (holds, row) = cut(row);
         let (words, texts) = cut(row);
-        let given = given_of(words, number(piece) as usize, texts);
+        let given = given_of(words, number(ends, piece) as usize, texts);
         self.tell_turns(ends, Turns { kind, holds }, &given, out)
     }
 
@@ -88,7 +98,10 @@ impl<'a, W: Threads + Wait + Sync> Room<'a, W> {
             "ends" | "reports" | "says" | "counts" | "views" => self.tell_run(ends, call, row, out),
             "each" => self.tell_each(ends, row, out),
             "order" => self.tell_held(ends, row, out),
-            "week" => self.tell_week(ends, &week_of(row), out),
+            "week" => {
+                let week = week_of(ends, row);
+                self.tell_week(ends, &week, out);
+            }
             _ => out.say("no row"),
         }
     }

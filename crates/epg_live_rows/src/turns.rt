@@ -49,7 +49,10 @@ impl<'a, W: Threads + Wait + Sync> Room<'a, W> {
     ) -> bool {
         let mut all_kept = true;
         for call in 0..MOST {
-            let faults = faults_in(turns.kind, call);
+            let Some(faults) = faults_in(turns.kind, call) else {
+                ends.note(true);
+                return false;
+            };
             self.run_gate(ends, turns.holds, given, &faults);
             put_counts(out, ends);
             out.say(" | ");
