@@ -30,8 +30,13 @@ fn file_of<'b>(text: &str, bytes: &'b [u8]) -> File<'b> {
     }
 }
 
+// `audit` of a recording, in which null packets may stand in the second case.
+const PLAIN: &str = "audit --air=p";
+
+const NULLS: &str = "audit --air=p --nulls";
+
 impl<'a, W: Threads + Wait + Sync> Room<'a, W> {
-    // `SCRIPT | RECORDING` or `SCRIPT | RECORDING | SCRIPT`, audited with these words
+    // `SCRIPT | RECORDING` or `SCRIPT | RECORDING | SCRIPT`
     fn tell_recording(
         &self,
         ends: &mut Ends,
@@ -56,14 +61,48 @@ impl<'a, W: Threads + Wait + Sync> Room<'a, W> {
     }
 
     // `KIND PIECE SCRIPT | RECORDING`
-    fn tell_each(&self, ends: &mut Ends, row: &str, out: &mut Buffer) {
+    fn tell_each(&self, ends: &mut Ends, words: &str, row: &str, out: &mut Buffer) {
         let (side, row) = cut(row);
         let (piece, row) = cut(row);
         let turns = Turns {
             side: side_of(out, side),
             piece: number(out, piece),
         };
-        self.tell_recording(ends, "audit --air=p", row, Some(turns), out)
+        self.tell_recording(ends, words, row, Some(turns), out)
+    }
+
+    // Appends what `listen` reports of a recording, without the lines of tables, which name packets.
+    fn put_guide(&self, ends: &mut Ends, bytes: &[u8], guide: &mut Buffer) {
+        let case = Case {
+            words: "listen",
+            input: bytes,
+            file: File::Absent,
+        };
+        ends.run(self.rt, &case, &WHOLE);
+        for line in ends.report_text().lines() {
+            if !line.starts_with("done\t") {
+                guide.say(line);
+                guide.push(b'\n');
+            }
+        }
+    }
+
+    // `SCRIPT | RECORDING`
+    fn tell_guide(&self, ends: &mut Ends, row: &str, out: &mut Buffer) {
+        let (script, text) = row.split_once(" | ").unwrap_or((row, ""));
+        let mut bytes = Buffer::open(self.alloc);
+        self.put_changed(ends, script, text, &mut bytes);
+        let mut guide = Buffer::open(self.alloc);
+        self.put_guide(ends, bytes.as_slice(), &mut guide);
+        let mut air = Buffer::open(self.alloc);
+        self.put_air(ends, script, &mut air);
+        let mut whole = Buffer::open(self.alloc);
+        self.put_guide(ends, air.as_slice(), &mut whole);
+        ends.note(bytes.lacks() || guide.lacks());
+        ends.note(air.lacks() || whole.lacks());
+        let same = guide.as_slice() == whole.as_slice();
+        out.say(if same { "the same" } else { "another" });
+        out.say_number(", lines ", guide.text().lines().count() as u64);
     }
 
     // Audits an air against its script, with one change in turn.
@@ -80,7 +119,7 @@ impl<'a, W: Threads + Wait + Sync> Room<'a, W> {
             bytes.clear();
             put_turn(&mut bytes, air, change, turn);
             let case = Case {
-                words: "audit --air=p",
+                words: PLAIN,
                 input: script,
                 file: File::Holds(bytes.as_slice()),
             };
@@ -118,9 +157,11 @@ impl<'a, W: Threads + Wait + Sync> Room<'a, W> {
     pub fn tell_audit(&self, ends: &mut Ends, row: &str, out: &mut Buffer) {
         let (call, row) = cut(row);
         match call {
-            "audit" => self.tell_recording(ends, "audit --air=p", row, None, out),
-            "nulls" => self.tell_recording(ends, "audit --air=p --nulls", row, None, out),
-            "each" => self.tell_each(ends, row, out),
+            "audit" => self.tell_recording(ends, PLAIN, row, None, out),
+            "nulls" => self.tell_recording(ends, NULLS, row, None, out),
+            "each" => self.tell_each(ends, PLAIN, row, out),
+            "each-nulls" => self.tell_each(ends, NULLS, row, out),
+            "heard" => self.tell_guide(ends, row, out),
             "turns" => self.tell_changes(ends, row, out),
             "words" => self.tell_words(ends, row, out),
             _ => out.say("no row"),

@@ -1,20 +1,21 @@
 // Changes of a recording.
-use crate::nulls::put_with_nulls;
+use crate::nulls::{put_with_null, put_with_nulls};
 use crate::texts::{byte, number};
 use row_lines::Buffer;
 use std::alloc::Global;
 
-// The packets up to one, without it.
-fn before(bytes: &[u8], packet: usize) -> &[u8] {
+/// The packets up to one, without it.
+pub fn before(bytes: &[u8], packet: usize) -> &[u8] {
     bytes.get(..packet.saturating_mul(188)).unwrap_or(bytes)
 }
 
-// The packets from one on.
-fn from(bytes: &[u8], packet: usize) -> &[u8] {
+/// The packets from one on.
+pub fn from(bytes: &[u8], packet: usize) -> &[u8] {
     bytes.get(packet.saturating_mul(188)..).unwrap_or(&[])
 }
 
-fn one(bytes: &[u8], packet: usize) -> &[u8] {
+/// One packet.
+pub fn one(bytes: &[u8], packet: usize) -> &[u8] {
     before(from(bytes, packet), 1)
 }
 
@@ -66,6 +67,20 @@ fn put_byte(bytes: &mut Buffer, change: &str) {
     bytes.set(place, value);
 }
 
+// `PACKET`, or `COUNT:SEED`
+fn put_nulls(into: &mut Buffer, bytes: &[u8], change: &str) {
+    match change.split_once(':') {
+        Some((count, seed)) => {
+            let (count, seed) = (number(into, count), number(into, seed) as u64);
+            put_with_nulls(into, bytes, count, seed);
+        }
+        None => {
+            let packet = number(into, change);
+            put_with_null(into, bytes, packet);
+        }
+    }
+}
+
 // Appends these bytes with one change.
 fn put_changed(into: &mut Buffer, bytes: &[u8], word: &str) {
     let rest = word.get(1..).unwrap_or("");
@@ -78,7 +93,7 @@ fn put_changed(into: &mut Buffer, bytes: &[u8], word: &str) {
             let packet = number(into, rest);
             put_doubled(into, bytes, packet);
         }
-        Some(b'!') => put_with_nulls(into, bytes, rest),
+        Some(b'@') => put_nulls(into, bytes, rest),
         Some(b'<') => {
             let len = bytes.len().saturating_sub(number(into, rest));
             into.put(bytes.get(..len).unwrap_or(bytes));

@@ -4,10 +4,10 @@
 //! part of `stdin` explains its calls. Rows of `play` cover words, each kind of line, replies and
 //! limits of edits, faults of a description, versions and counters, the smallest runs byte for byte,
 //! and the order of reads and writes; then scripts that are cut and resumed. Rows of `audit` cover
-//! airs that are whole, short and changed, and files that do not open. Rows of `listen` cover empty,
-//! short, broken and hostile recordings, parts of a cycle, each line of a guide, and with `--strict`
-//! losses, gaps, repeats and an independent recording with 91 breaks. Each read and each write fails
-//! in turn.
+//! airs that are whole, short and changed, null packets with `--nulls` and without, and files that do
+//! not open. Rows of `listen` cover empty, short, broken and hostile recordings, parts of a cycle,
+//! each line of a guide, and with `--strict` losses, gaps, repeats and an independent recording with
+//! 91 breaks. Each read and each write fails in turn.
 #![tactic(auto)]
 
 mod answers;

@@ -1,6 +1,5 @@
 // Recordings of rows.
 use crate::changes::change_all;
-use crate::nulls::put_with_nulls;
 use crate::packets::{put_again, put_fronts, put_kept, put_others, put_pmts, put_spelled};
 use crate::run::{Ends, Room};
 use crate::texts::{cut, number, pid};
@@ -94,19 +93,9 @@ impl<'a, W: Threads + Wait + Sync> Room<'a, W> {
         put_kept(bytes, whole.as_slice(), on, numbers);
     }
 
-    // `COUNT:SEED RECORDING`
-    fn put_among_nulls(&self, ends: &mut Ends, text: &str, bytes: &mut Buffer) {
-        let (nulls, text) = cut(text);
-        let mut whole = Buffer::open(self.alloc);
-        self.put_heard(ends, text, &mut whole);
-        ends.note(whole.lacks());
-        put_with_nulls(bytes, whole.as_slice(), nulls);
-    }
-
     /// Appends the recording of `listen` that this text says.
     pub fn put_recording(&self, ends: &mut Ends, text: &str, bytes: &mut Buffer) {
         match cut(text) {
-            ("nulls", rest) => self.put_among_nulls(ends, rest, bytes),
             ("without", rest) => self.put_without(ends, rest, bytes),
             ("kept", rest) => self.put_on_pid(ends, rest, bytes),
             _ => self.put_heard(ends, text, bytes),

@@ -1,5 +1,5 @@
 use Rattle.std.proofs.Common.{List, length, sym, ap, ◌∙◌, subst}
-use Rattle.std.specs.Prelude.{Ok, Err}
+use Rattle.std.specs.Prelude.{Ok}
 use Rattle.std.proofs.lemmas.List.{length-map}
 use Rattle.std.proofs.lemmas.Result.{err_from_is_err_and}
 use Rattle.journal_model.specs.declared.step.Entry.{Entry}
@@ -33,11 +33,7 @@ returns-clause-audited g c =
 
 pub returns-in_err-audit_rest-clause-audited : goal.returns-in_err-audit_rest-clause-audited
 returns-in_err-audit_rest-clause-audited g c =
-    let desk = c.audit_rest.new.desk in
     let first = none_yet c.args.nulls c.then_some-passed.result c.then_some-passed.ensures in
     let did = c.in_err-audit_rest.ensures.did c.args.nulls first in
     let p = err_from_is_err_and c.from_residual.result c.from_residual.ensures.1 in
-    rw (p.1, p.2) (
-      desk,
-      subst (λ (d : DeskState). AuditDid c.args.nulls g.S.Source.left g.F.Source.left c.args.lines.now c.audit_rest.new.lines c.args.packets.now d desk (Err _)) c.in-Ok-open.ensures did,
-    )
+    rw (p.1, p.2) (c.audit_rest.new.desk, rw (← c.in-Ok-open.ensures) did)
