@@ -106,7 +106,7 @@ pub(crate) fn check_cycle<F: Source>(
     Ok(())
 }
 
-/// Behind the last cycle no packet is to come, but null packets where these may stand: any other that does has a PID of which no cycle has
+/// After the last cycle no packet is to come, but null packets where these may stand: any other that does has a PID of which no cycle has
 /// a byte left.
 pub(crate) fn check_end<F: Source>(
     packets: &mut PacketReader<F>,

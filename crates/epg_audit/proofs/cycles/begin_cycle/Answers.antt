@@ -1,10 +1,11 @@
-use Rattle.std.proofs.Common.{List, ◌++◌, ◌∷◌, [], sym, ◌∙◌, subst}
-use Rattle.std.specs.Prelude.{OnOk}
+use Rattle.std.proofs.Common.{◌≡◌, ◌++◌, ◌∷◌, [], OnOk, sym, ◌∙◌, subst}
 use Rattle.desk_core.specs.declared.airing.Airing.{Airing}
-use Rattle.publication.specs.Tables.{HasServicesOf}
 use Rattle.version_book.specs.Airings.{AiredTables}
+use Rattle.version_book.specs.Book.{aired}
 use Rattle.air_audit.specs.Checking.{StandsFor}
-use Rattle.headend_jobs.proofs.AirFacts.{on_air_services, airing_sent, airing_is}
+use Rattle.publication.specs.Tables.{HasServicesOf}
+use Rattle.headend_jobs.specs.OnAir.{airing_on}
+use Rattle.headend_jobs.proofs.AirFacts.{airing_is, airing_sent, on_air_services}
 use Rattle.epg_audit.proofs.cycles.begin_cycle.Goals as goal
 
 pub build-requires-clause-services : goal.build-requires-clause-services
@@ -14,9 +15,7 @@ build-requires-clause-services c =
 pub returns-clause-begun : goal.returns-clause-begun
 returns-clause-begun c = λ airings accepted stands.
     let form = c.args.checker.now.form in
-    let mux = c.mux.result.now in
     let on : Airing = record { number = c.airing.inside.number; moment = c.airing.inside.moment; guide = c.airing.inside.guide.guide } in
-    let same =
-    airing_sent mux form on c.in_ok-airing.airing c.in_ok-tables.tables.list c.airing.view_is c.in_ok-tables.ensures.tables
-    ∙ airing_is c.args.desk.now c.in_ok-airing.airing mux form c.in_ok-airing.ensures.airing c.mux.ensures.value in
+    let same : aired c.in_ok-tables.tables.list on.moment.0 form ≡ airing_on c.args.desk.now form = airing_sent c.mux.result.now form on c.in_ok-airing.airing c.in_ok-tables.tables.list c.airing.view_is c.in_ok-tables.ensures.tables
+    ∙ airing_is c.args.desk.now c.in_ok-airing.airing c.mux.result.now form c.in_ok-airing.ensures.airing c.mux.ensures.value in
     subst (λ (a : AiredTables). OnOk c.swap.result (StandsFor (airings ++ a ∷ []) accepted c.swap.new.self)) same (c.swap.ensures.swapped airings accepted stands)

@@ -1,12 +1,13 @@
-use Rattle.std.proofs.Common.{List, length, sym, ap, ◌∙◌, subst}
-use Rattle.std.specs.Prelude.{Ok}
+use Rattle.std.proofs.Common.{◌≡◌, List, length, sym, ap, ◌∙◌, subst}
+use Rattle.std.specs.Prelude.{Ok, Err, IsErrAnd, Result}
 use Rattle.std.proofs.lemmas.List.{length-map}
-use Rattle.std.proofs.lemmas.Result.{err_from_is_err_and}
 use Rattle.journal_model.specs.declared.step.Entry.{Entry}
 use Rattle.desk_core.specs.Desks.{DeskState, fresh}
 use Rattle.desk_core.specs.Publications.{swaps}
 use Rattle.journal_air.specs.Air.{airing_at}
-use Rattle.epg_audit.specs.Audits.{AuditDid}
+use Rattle.epg_report.specs.declared.status.Status.{Status}
+use Rattle.epg_audit.specs.declared.cycles.AirCount.{AirCount}
+use Rattle.epg_audit.specs.Audits.{AuditDid, RecordingAudited}
 use Rattle.epg_audit.proofs.Nulls.{none_yet}
 use Rattle.epg_audit.proofs.run.audit_recording.Goals as goal
 
@@ -15,6 +16,20 @@ returns-in_default-clause-audited g c = (fresh c.args.mux, tt)
 
 pub returns-in_default-open-clause-audited : goal.returns-in_default-open-clause-audited
 returns-in_default-open-clause-audited g c = (fresh c.args.mux, tt)
+
+of_err : (P : Result AirCount Status → Type 0) (result : Result AirCount Status) (status : Status) → IsErrAnd result (λ s. s ≡ status) → P (Err status) → P result
+of_err P (Ok count) status is p = absurd is
+of_err P (Err s) status is p = subst (λ (t : Status). P (Err t)) (sym is) p
+
+pub returns-in_err-audit_rest-clause-audited : goal.returns-in_err-audit_rest-clause-audited
+returns-in_err-audit_rest-clause-audited g c =
+    let first = none_yet c.args.nulls c.then_some-passed.result c.then_some-passed.ensures in
+    let status = c.in_err-audit_rest.field-0.0 in
+    of_err (RecordingAudited c.args.nulls g.S.Source.left g.F.Source.left c.args.lines.now c.audit_rest.new.lines c.args.packets.now c.args.mux) c.from_residual.result status c.from_residual.ensures.1 (
+      c.audit_rest.new.desk,
+      subst (λ (d : DeskState). AuditDid c.args.nulls g.S.Source.left g.F.Source.left c.args.lines.now c.audit_rest.new.lines c.args.packets.now d c.audit_rest.new.desk (Err status)) c.in-Ok-open.ensures
+          (c.in_err-audit_rest.ensures.did c.args.nulls first),
+    )
 
 pub returns-clause-audited : goal.returns-clause-audited
 returns-clause-audited g c =
@@ -30,10 +45,3 @@ returns-clause-audited g c =
             counted.1,
           ),
     )
-
-pub returns-in_err-audit_rest-clause-audited : goal.returns-in_err-audit_rest-clause-audited
-returns-in_err-audit_rest-clause-audited g c =
-    let first = none_yet c.args.nulls c.then_some-passed.result c.then_some-passed.ensures in
-    let did = c.in_err-audit_rest.ensures.did c.args.nulls first in
-    let p = err_from_is_err_and c.from_residual.result c.from_residual.ensures.1 in
-    rw (p.1, p.2) (c.audit_rest.new.desk, rw (← c.in-Ok-open.ensures) did)
