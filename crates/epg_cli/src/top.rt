@@ -155,7 +155,14 @@ pub fn run<W: Threads + Wait + Sync, O: Opener, S: Source + Send, A: Sink + Send
         }
         Ok(Command::Soak(number)) => run_soak(rt, alloc, number, air, report, gate),
         Ok(Command::Audit(audit)) => {
-            run_audit(alloc, audit.path.as_str(), audit.nulls, opener, input, report)
+            run_audit(
+                alloc,
+                audit.path.as_str(),
+                audit.nulls,
+                opener,
+                input,
+                report,
+            )
         }
         Err(WordsStop::Memory) => out_of_memory(report),
         Err(WordsStop::Usage) => {
