@@ -12,6 +12,7 @@ use Rattle.epg_report.specs.Told.{ReportTaken}
 use Rattle.epg_play.proofs.AgainFacts.{journals-again}
 use Rattle.epg_live.specs.declared.reporting.Observed.{Observed}
 use Rattle.epg_report.specs.Ends.{ReportEnds}
+use Rattle.epg_live.specs.Runs.{ReadFaults}
 use Rattle.epg_live.specs.Ends.{HasMet, run_text}
 use Rattle.epg_live.specs.Leaves.{LeavesLive}
 use Rattle.mux_config.specs.Texts.{described}
@@ -30,15 +31,15 @@ is_script text mux rows journal whole legal other behind block is d readable le 
 none_is_script : (text : List ℕ) (journal : List Entry) → journal ≡ [] → IsScript text journal
 none_is_script text journal none mux rows block is d readable le = journals-again mux block journal d (subst (λ (es : List Entry). Legal mux es) (sym none) tt) readable le
 
-prints_met : (paths : List (List ℕ)) (plan : LivePlan) (text : List ℕ) (files : Files) (left : Option (List ℕ)) (feeds_before feeds_now : ℕ) (before now : Option (List ℕ)) (report : ReportTaken) (journal : List Entry) (observed : Observed) (met status : Status)
-    → HasMet paths plan text files left feeds_before feeds_now before now journal observed met → ReportEnds met (run_text journal observed) report status → PrintsScript text report status
-prints_met paths plan text files left feeds_before feeds_now before now report journal observed met status (inl memory) ends = inl (by_memory (run_text journal observed) report met status memory ends)
-prints_met paths plan text files left feeds_before feeds_now before now report journal observed met status (inr (inl none)) ends = inr (journal, observed, met, ends, none_is_script text journal none.journal_is)
-prints_met paths plan text files left feeds_before feeds_now before now report journal observed met status (inr (inr (mux, rows, whole, ran))) ends =
+prints_met : (paths : List (List ℕ)) (plan : LivePlan) (text : List ℕ) (files : Files) (left : Option (List ℕ)) (faults_before faults_now : ReadFaults) (before now : Option (List ℕ)) (report : ReportTaken) (journal : List Entry) (observed : Observed) (met status : Status)
+    → HasMet paths plan text files left faults_before faults_now before now journal observed met → ReportEnds met (run_text journal observed) report status → PrintsScript text report status
+prints_met paths plan text files left faults_before faults_now before now report journal observed met status (inl memory) ends = inl (by_memory (run_text journal observed) report met status memory ends)
+prints_met paths plan text files left faults_before faults_now before now report journal observed met status (inr (inl none)) ends = inr (journal, observed, met, ends, none_is_script text journal none.journal_is)
+prints_met paths plan text files left faults_before faults_now before now report journal observed met status (inr (inr (mux, rows, whole, ran))) ends =
     inr (journal, observed, met, ends, is_script text mux rows journal whole ran.journal_is.legal)
 
-pub prints : (paths : List (List ℕ)) (plan : LivePlan) (text : List ℕ) (files : Files) (left : Option (List ℕ)) (feeds_before feeds_now : ℕ) (air report : ReportTaken) (status : Status)
-    → LeavesLive paths plan text files left feeds_before feeds_now air report status → PrintsScript text report status
-prints paths plan text files left feeds_before feeds_now air report status (inl memory) = inl memory
-prints paths plan text files left feeds_before feeds_now air report status (inr run) =
-    prints_met paths plan text files left feeds_before feeds_now air.old air.new report run.journal run.observed run.met status run.ran run.reported
+pub prints : (paths : List (List ℕ)) (plan : LivePlan) (text : List ℕ) (files : Files) (left : Option (List ℕ)) (faults_before faults_now : ReadFaults) (air report : ReportTaken) (status : Status)
+    → LeavesLive paths plan text files left faults_before faults_now air report status → PrintsScript text report status
+prints paths plan text files left faults_before faults_now air report status (inl memory) = inl memory
+prints paths plan text files left faults_before faults_now air report status (inr run) =
+    prints_met paths plan text files left faults_before faults_now air.old air.new report run.journal run.observed run.met status run.ran run.reported

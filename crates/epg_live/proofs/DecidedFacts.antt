@@ -30,7 +30,7 @@ use Rattle.epg_report.specs.declared.status.Outlet.TheVariants.{Air}
 use Rattle.epg_report.specs.Told.{ReportTaken}
 use Rattle.epg_live.specs.Stops.{HasStatusCause, HaveReadCauses, feeds_stop, live_status}
 use Rattle.mux_config.specs.Texts.{ahead_of, described}
-use Rattle.epg_live.specs.Runs.{EndsBefore, FeedsDid, JobsRan}
+use Rattle.epg_live.specs.Runs.{EndsBefore, FeedsDid, JobsRan, ReadFaults}
 use Rattle.epg_live.specs.Decided.{AreWhole, HasEdits, feed_text_stop, job_stop, jobs_status, text_status, description_status, views_status}
 use Rattle.epg_report.specs.Ends.{ReportEnds}
 use Rattle.epg_live.specs.Ends.{HasMet, run_text}
@@ -115,12 +115,12 @@ module _ (status : Status) (no_input : status ≡ ReadFault Input → ⊥) (no_a
   run_decided (Ok u) control ahead feeds fed is (inr (inr same)) (inr found) =
       inr (is ∙ ap (λ (o : Option LiveStop). live_status (and_stop (control_stop control) o)) found ∙ ap (λ (o : Option EditStop). live_status (and_stop (control_stop o) fed)) same)
 
-  jobs_decided : (mux : Mux) (plan : LivePlan) (text : List ℕ) (left : Option (List ℕ)) (behind : Ahead) (paths : List (List ℕ)) (files : Files) (feeds_before feeds_now : ℕ) (before now : Option (List ℕ)) (journal : List Entry) (observed : Observed)
-      → (Rose feeds_before feeds_now → ⊥) → JobsRan mux plan text left behind paths files feeds_before feeds_now before now journal observed status → (status ≡ Memory) ⊎ (status ≡ jobs_status behind paths files)
-  jobs_decided mux plan text left behind paths files feeds_before feeds_now before now journal observed none ran =
+  jobs_decided : (mux : Mux) (plan : LivePlan) (text : List ℕ) (left : Option (List ℕ)) (behind : Ahead) (paths : List (List ℕ)) (files : Files) (faults_before faults_now : ReadFaults) (before now : Option (List ℕ)) (journal : List Entry) (observed : Observed)
+      → (Rose faults_before.feeds faults_now.feeds → ⊥) → JobsRan mux plan text left behind paths files faults_before faults_now before now journal observed status → (status ≡ Memory) ⊎ (status ≡ jobs_status behind paths files)
+  jobs_decided mux plan text left behind paths files faults_before faults_now before now journal observed none ran =
       run_decided ran.sent ran.control_stop (controls_ahead behind).1 (feeds_stop None 1 ran.feed_stops) (feeds_stop None 1 (map (λ path. feed_text_stop (file_at path files)) paths)) ran.status_is
       (as_ahead (λ values. CommandsAre journal 0 (commands_by 0 control_step values ++ map command_of ran.final)) (controls_ahead behind) ran.control_stop ran.journal_is.control_did)
-      (feeds_decided files journal feeds_before feeds_now none None 1 paths ran.feed_stops ran.journal_is.feeds_did ran.causes)
+      (feeds_decided files journal faults_before.feeds faults_now.feeds none None 1 paths ran.feed_stops ran.journal_is.feeds_did ran.causes)
 
 -- ---- the run
 
@@ -145,29 +145,29 @@ before_decided plan text left paths files (ReadFault Recording) why no_open no_i
 before_decided plan text left paths files other why no_open no_input = absurd why
 
 -- a run that met neither a failed source nor a failed air met what the texts decide
-pub met_decided : (paths : List (List ℕ)) (plan : LivePlan) (text : List ℕ) (files : Files) (left : Option (List ℕ)) (feeds_before feeds_now : ℕ) (before now : Option (List ℕ)) (journal : List Entry) (observed : Observed) (met : Status)
-    → HasMet paths plan text files left feeds_before feeds_now before now journal observed met → ((f : ℕ) → met ≡ OpenFault f → ⊥) → (met ≡ ReadFault Input → ⊥) → (met ≡ WriteFault Air → ⊥) → (Rose feeds_before feeds_now → ⊥)
+pub met_decided : (paths : List (List ℕ)) (plan : LivePlan) (text : List ℕ) (files : Files) (left : Option (List ℕ)) (faults_before faults_now : ReadFaults) (before now : Option (List ℕ)) (journal : List Entry) (observed : Observed) (met : Status)
+    → HasMet paths plan text files left faults_before faults_now before now journal observed met → ((f : ℕ) → met ≡ OpenFault f → ⊥) → (met ≡ ReadFault Input → ⊥) → (met ≡ WriteFault Air → ⊥) → (Rose faults_before.feeds faults_now.feeds → ⊥)
     → (met ≡ Memory) ⊎ (met ≡ text_status text plan.views paths files)
-met_decided paths plan text files left feeds_before feeds_now before now journal observed met (inl memory) no_open no_input no_air no_feed = inl memory
-met_decided paths plan text files left feeds_before feeds_now before now journal observed met (inr (inl none)) no_open no_input no_air no_feed =
+met_decided paths plan text files left faults_before faults_now before now journal observed met (inl memory) no_open no_input no_air no_feed = inl memory
+met_decided paths plan text files left faults_before faults_now before now journal observed met (inr (inl none)) no_open no_input no_air no_feed =
     inr (before_decided plan text left paths files met none.why no_open no_input)
-met_decided paths plan text files left feeds_before feeds_now before now journal observed met (inr (inr (mux, behind, whole, ran))) no_open no_input no_air no_feed =
-    elim (jobs_decided met no_input no_air mux plan text left behind paths files feeds_before feeds_now before now journal observed no_feed ran) [
+met_decided paths plan text files left faults_before faults_now before now journal observed met (inr (inr (mux, behind, whole, ran))) no_open no_input no_air no_feed =
+    elim (jobs_decided met no_input no_air mux plan text left behind paths files faults_before faults_now before now journal observed no_feed ran) [
       | inl memory ↦ inl memory
       | inr ends ↦ inr (ends ∙ sym (ap (λ (d : Found Description). description_status d plan.views paths files) whole ∙ ap (λ (o : Option ℕ). views_status o behind paths files) ran.served))
     ]
 
-pub decided : (paths : List (List ℕ)) (plan : LivePlan) (text : List ℕ) (files : Files) (left : Option (List ℕ)) (input_before input_now feeds_before feeds_now : ℕ) (air report : ReportTaken) (status : Status)
-    → LeavesLive paths plan text files left feeds_before feeds_now air report status → HasStatusCause input_before input_now feeds_before feeds_now air.faults_old air.faults_new status → ((f : ℕ) → status ≡ OpenFault f → ⊥)
-    → (Rose input_before input_now → ⊥) → (Rose feeds_before feeds_now → ⊥) → (Rose air.faults_old air.faults_new → ⊥) → (Rose report.faults_old report.faults_new → ⊥) → (status ≡ Memory) ⊎ (status ≡ text_status text plan.views paths files)
-decided paths plan text files left input_before input_now feeds_before feeds_now air report status (inl memory) cause no_open no_read no_feed no_air no_report = inl memory
-decided paths plan text files left input_before input_now feeds_before feeds_now air report status (inr run) cause no_open no_read no_feed no_air no_report = by run.reported
+pub decided : (paths : List (List ℕ)) (plan : LivePlan) (text : List ℕ) (files : Files) (left : Option (List ℕ)) (faults_before faults_now : ReadFaults) (air report : ReportTaken) (status : Status)
+    → LeavesLive paths plan text files left faults_before faults_now air report status → HasStatusCause faults_before.input faults_now.input faults_before.feeds faults_now.feeds air.faults_old air.faults_new status → ((f : ℕ) → status ≡ OpenFault f → ⊥)
+    → (Rose faults_before.input faults_now.input → ⊥) → (Rose faults_before.feeds faults_now.feeds → ⊥) → (Rose air.faults_old air.faults_new → ⊥) → (Rose report.faults_old report.faults_new → ⊥) → (status ≡ Memory) ⊎ (status ≡ text_status text plan.views paths files)
+decided paths plan text files left faults_before faults_now air report status (inl memory) cause no_open no_read no_feed no_air no_report = inl memory
+decided paths plan text files left faults_before faults_now air report status (inr run) cause no_open no_read no_feed no_air no_report = by run.reported
   where
     by : ReportEnds run.met (run_text run.journal run.observed) report status → (status ≡ Memory) ⊎ (status ≡ text_status text plan.views paths files)
     by (inr (rose, took, same)) = absurd (no_report rose)
     by (inl (took, same)) =
-        let caused : (s : Status) → run.met ≡ s → HasStatusCause input_before input_now feeds_before feeds_now air.faults_old air.faults_new s = (λ s e. subst (λ (t : Status). HasStatusCause input_before input_now feeds_before feeds_now air.faults_old air.faults_new t) (same ∙ e) cause) in
-        elim (met_decided paths plan text files left feeds_before feeds_now air.old air.new run.journal run.observed run.met run.ran (λ f e. no_open f (same ∙ e)) (λ e. no_read (caused (ReadFault Input) e)) (λ e. no_air (caused (WriteFault Air) e)) no_feed) [
+        let caused : (s : Status) → run.met ≡ s → HasStatusCause faults_before.input faults_now.input faults_before.feeds faults_now.feeds air.faults_old air.faults_new s = (λ s e. subst (λ (t : Status). HasStatusCause faults_before.input faults_now.input faults_before.feeds faults_now.feeds air.faults_old air.faults_new t) (same ∙ e) cause) in
+        elim (met_decided paths plan text files left faults_before faults_now air.old air.new run.journal run.observed run.met run.ran (λ f e. no_open f (same ∙ e)) (λ e. no_read (caused (ReadFault Input) e)) (λ e. no_air (caused (WriteFault Air) e)) no_feed) [
           | inl memory ↦ inl (same ∙ memory)
           | inr ends ↦ inr (same ∙ ends)
         ]

@@ -31,7 +31,7 @@ use Rattle.epg_report.specs.Told.{ReportTaken}
 use Rattle.epg_live.specs.declared.reporting.Observed.{Observed}
 use Rattle.epg_live.specs.Stops.{feeds_stop}
 use Rattle.mux_config.specs.Texts.{ahead_of, described}
-use Rattle.epg_live.specs.Runs.{EndsBefore, JobsRan, NoJobs}
+use Rattle.epg_live.specs.Runs.{EndsBefore, JobsRan, NoJobs, ReadFaults}
 use Rattle.epg_report.specs.Ends.{ReportEnds, or_report}
 use Rattle.epg_live.specs.Ends.{HasMet, run_text}
 use Rattle.epg_live.specs.Leaves.{LeavesLive}
@@ -62,9 +62,9 @@ told_guide : (guide : Option Heard) (heard : Heard) → IsSome guide → IfSome 
 told_guide None heard some is = (let no : false ≡ true = some in cc no)
 told_guide (Some h) heard some is = ap (λ (x : Heard). Some x) is
 
-module _ (mux : Mux) (plan : LivePlan) (text : List ℕ) (left : Option (List ℕ)) (behind : Ahead) (paths : List (List ℕ)) (files : Files) (feeds_before feeds_now : ℕ)
+module _ (mux : Mux) (plan : LivePlan) (text : List ℕ) (left : Option (List ℕ)) (behind : Ahead) (paths : List (List ℕ)) (files : Files) (faults_before faults_now : ReadFaults)
     (before now : Option (List ℕ)) (journal : List Entry) (observed : Observed) (status : Status) (whole : described text ≡ Came (Ok mux) behind)
-    (ran : JobsRan mux plan text left behind paths files feeds_before feeds_now before now journal observed status) where
+    (ran : JobsRan mux plan text left behind paths files faults_before faults_now before now journal observed status) where
   abbrev fed : Option LiveStop
   fed = feeds_stop None 1 ran.feed_stops
 
@@ -108,11 +108,11 @@ by_memory text report met status is (inr (rose, took, same)) = same ∙ ap or_re
 none_done : (plan : LivePlan) (text : List ℕ) (left before now : Option (List ℕ)) (journal : List Entry) (observed : Observed) (met : Status) → NoJobs plan text left before now journal observed met → met ≡ Done → Prim.⊥
 none_done plan text left before now journal observed met none done = subst (λ (s : Status). EndsBefore plan text left s) done none.why
 
-pub leaves : (paths : List (List ℕ)) (plan : LivePlan) (text : List ℕ) (files : Files) (left : Option (List ℕ)) (feeds_before feeds_now : ℕ) (air report : ReportTaken) (journal : List Entry) (observed : Observed) (met status : Status)
-    → HasMet paths plan text files left feeds_before feeds_now air.old air.new journal observed met → ReportEnds met (run_text journal observed) report status
-    → LeavesLive paths plan text files left feeds_before feeds_now air report status
-leaves paths plan text files left feeds_before feeds_now air report journal observed met status (inl memory) ends = inl (by_memory (run_text journal observed) report met status memory ends)
-leaves paths plan text files left feeds_before feeds_now air report journal observed met status (inr (inl none)) ends = inr (record {
+pub leaves : (paths : List (List ℕ)) (plan : LivePlan) (text : List ℕ) (files : Files) (left : Option (List ℕ)) (faults_before faults_now : ReadFaults) (air report : ReportTaken) (journal : List Entry) (observed : Observed) (met status : Status)
+    → HasMet paths plan text files left faults_before faults_now air.old air.new journal observed met → ReportEnds met (run_text journal observed) report status
+    → LeavesLive paths plan text files left faults_before faults_now air report status
+leaves paths plan text files left faults_before faults_now air report journal observed met status (inl memory) ends = inl (by_memory (run_text journal observed) report met status memory ends)
+leaves paths plan text files left faults_before faults_now air report journal observed met status (inr (inl none)) ends = inr (record {
   journal = journal;
   observed = observed;
   met = met;
@@ -121,8 +121,8 @@ leaves paths plan text files left feeds_before feeds_now air report journal obse
   sent = inl none.sent;
   shown = λ done sent knows. absurd (none_done plan text left air.old air.new journal observed met none done);
 })
-leaves paths plan text files left feeds_before feeds_now air report journal observed met status (inr (inr (mux, behind, whole, ran))) ends =
-    let read = as_read mux plan text left behind paths files feeds_before feeds_now air.old air.new journal observed met whole ran in
+leaves paths plan text files left faults_before faults_now air report journal observed met status (inr (inr (mux, behind, whole, ran))) ends =
+    let read = as_read mux plan text left behind paths files faults_before faults_now air.old air.new journal observed met whole ran in
     inr (record {
       journal = journal;
       observed = observed;
@@ -130,5 +130,5 @@ leaves paths plan text files left feeds_before feeds_now air report journal obse
       ran = inr (inr (mux, behind, whole, ran));
       reported = ends;
       sent = inr (mux, behind, whole, air_sent mux journal air.old air.new ran.sent read ran.journal_is.legal ran.air_is);
-      shown = λ done sent knows. (mux, behind, whole, ran_shown mux plan text left behind paths files feeds_before feeds_now air.old air.new journal observed met whole ran done sent knows);
+      shown = λ done sent knows. (mux, behind, whole, ran_shown mux plan text left behind paths files faults_before faults_now air.old air.new journal observed met whole ran done sent knows);
     })

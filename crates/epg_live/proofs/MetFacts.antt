@@ -12,8 +12,11 @@ use Rattle.mux_config.specs.declared.stop.MuxStop.{MuxStop}
 use Rattle.mux_config.specs.declared.stop.MuxStop.TheVariants as mux
 use Rattle.mux_config.specs.Reads.{ReadMux}
 use Rattle.mux_config.proofs.Reading.{read_stopped}
+use Rattle.input_lines.specs.declared.stop.EditStop.{EditStop}
+use Rattle.input_lines.specs.declared.stop.EditStop.TheVariants as edit
 use Rattle.input_lines.specs.Ahead.{Ahead, Came}
 use Rattle.journal_model.specs.declared.step.Entry.{Entry}
+use Rattle.desk_hall.specs.Reads.{HasReadCause}
 use Rattle.epg_live.specs.declared.reporting.Observed.{Observed}
 use Rattle.epg_report.specs.declared.status.Status.{Status}
 use Rattle.epg_report.specs.declared.status.Status.TheVariants.{Done, Usage, Disagrees, BadMux, BadStream, TooLong, OpenFault, ReadFault, WriteFault, Memory, NoView, NotAir, Short, TooMany, BadCheckpoint}
@@ -24,7 +27,7 @@ use Rattle.epg_live.specs.declared.feeds.OpenStop.TheVariants as opening
 use Rattle.epg_live.specs.Opened.{HasOpenCause, HasTried, OpenedTo}
 use Rattle.epg_live.specs.Stops.{HasStatusCause, IsMet, IsOfLive, IsOfRun, mux_status, open_status}
 use Rattle.mux_config.specs.Texts.{described}
-use Rattle.epg_live.specs.Runs.{NoJobs, Ran, nothing_observed}
+use Rattle.epg_live.specs.Runs.{NoJobs, Ran, ReadFaults, nothing_observed, read_faults}
 use Rattle.epg_report.specs.Ends.{ReportEnds, or_report}
 use Rattle.epg_live.specs.Ends.{AskedFor, HasAsked, HasMet}
 use Rattle.epg_report.specs.Told.{ReportTaken}
@@ -70,9 +73,9 @@ not_opened plan text left before now journal observed opening.Memory mux behind 
 
 -- ---- where the multiplex lacks a service that is viewed
 
-pub not_served : (paths : List (List ℕ)) (plan : LivePlan) (text : List ℕ) (files : Files) (left : Option (List ℕ)) (feeds : ℕ) (before : Option (List ℕ)) (journal : List Entry) (observed : Observed) (service : ℕ) (mux : Mux) (behind : Ahead)
-    → described text ≡ Came (Ok mux) behind → unserved mux plan.views ≡ Some service → journal ≡ [] → observed ≡ nothing_observed → HasMet paths plan text files left feeds feeds before before journal observed (NoView service)
-not_served paths plan text files left feeds before journal observed service mux behind whole lacks none quiet = inr (inl (record { why = (mux, behind, whole, lacks); journal_is = none; observed_is = quiet; sent = refl }))
+pub not_served : (paths : List (List ℕ)) (plan : LivePlan) (text : List ℕ) (files : Files) (left : Option (List ℕ)) (faults_old faults_now : ReadFaults) (before : Option (List ℕ)) (journal : List Entry) (observed : Observed) (service : ℕ) (mux : Mux) (behind : Ahead)
+    → described text ≡ Came (Ok mux) behind → unserved mux plan.views ≡ Some service → journal ≡ [] → observed ≡ nothing_observed → HasMet paths plan text files left faults_old faults_now before before journal observed (NoView service)
+not_served paths plan text files left faults_old faults_now before journal observed service mux behind whole lacks none quiet = inr (inl (record { why = (mux, behind, whole, lacks); journal_is = none; observed_is = quiet; sent = refl }))
 
 pub open_caused : (stop : OpenStop) (input_before input_now feeds_before feeds_now air_before air_now : ℕ) → HasStatusCause input_before input_now feeds_before feeds_now air_before air_now (open_status stop)
 open_caused (opening.Feed f) input_before input_now feeds_before feeds_now air_before air_now = tt
@@ -137,14 +140,50 @@ all_asked r paths old mid new n feeds met is count same of (k, tried, to) =
     let all : k ≡ n = subst (OpenedTo k n) is to in
     (k, subst (λ (o : Option (List (List ℕ))). HasTried old o (take k paths)) (sym same) tried, run_asked (length paths) k met of (all ∙ sym count))
 
-pub ran_met : {S E : Type 0} (left : S → Option (List ℕ)) (r : Result S E) (paths : List (List ℕ)) (said plan : LivePlan) (text : List ℕ) (files : Files) (feeds_old feeds_mid feeds_now : ℕ) (before now : Option (List ℕ)) (journal : List Entry) (observed : Observed)
-    (met : Status) → said ≡ plan → feeds_mid ≡ feeds_old → IfOk r (λ s. (met ≡ Memory) ⊎ Ran paths said text files (left s) feeds_mid feeds_now before now journal observed met)
-    → IfOk r (λ s. HasMet paths plan text files (left s) feeds_old feeds_now before now journal observed met)
-ran_met left (Err e) paths said plan text files feeds_old feeds_mid feeds_now before now journal observed met is same did = tt
-ran_met left (Ok s) paths said plan text files feeds_old feeds_mid feeds_now before now journal observed met is same (inl memory) = inl memory
-ran_met left (Ok s) paths said plan text files feeds_old feeds_mid feeds_now before now journal observed met is same (inr ran) =
-    inr (inr (subst (λ (p : LivePlan). Ran paths p text files (left s) feeds_old feeds_now before now journal observed met) is
-    (subst (λ (n : ℕ). Ran paths said text files (left s) n feeds_now before now journal observed met) same ran)))
+-- the count of the input's faults may have risen before the jobs started
+read_from : (old mid now : ℕ) (stop : Option EditStop) → old ≤ mid → HasReadCause mid now stop → HasReadCause old now stop
+read_from old mid now (Some (edit.Read Failed)) le cause = Rose-from old mid now le cause
+read_from old mid now (Some (edit.Read Overlong)) le cause = tt
+read_from old mid now other le cause = tt
+
+ran_from : (paths : List (List ℕ)) (plan : LivePlan) (text : List ℕ) (files : Files) (left : Option (List ℕ)) (old mid now feeds_old feeds_now : ℕ) (before after : Option (List ℕ)) (journal : List Entry) (observed : Observed) (met : Status)
+    → old ≤ mid → Ran paths plan text files left (read_faults mid feeds_old) (read_faults now feeds_now) before after journal observed met
+    → Ran paths plan text files left (read_faults old feeds_old) (read_faults now feeds_now) before after journal observed met
+ran_from paths plan text files left old mid now feeds_old feeds_now before after journal observed met le (mux, behind, whole, ran) = (
+  mux,
+  behind,
+  whole,
+  record {
+    player = ran.player;
+    sent = ran.sent;
+    control_stop = ran.control_stop;
+    feed_stops = ran.feed_stops;
+    final = ran.final;
+    journal_is = ran.journal_is;
+    last = ran.last;
+    failed = ran.failed;
+    status_is = ran.status_is;
+    control_cause = read_from old mid now ran.control_stop le ran.control_cause;
+    causes = ran.causes;
+    air_is = ran.air_is;
+    was_heard = ran.was_heard;
+    told = ran.told;
+    served = ran.served;
+    viewed = ran.viewed;
+    unviewed = ran.unviewed;
+  },
+)
+
+pub ran_met : {S E : Type 0} (left : S → Option (List ℕ)) (faults : S → ℕ) (r : Result S E) (paths : List (List ℕ)) (said plan : LivePlan) (text : List ℕ) (files : Files) (old mid feeds_old feeds_mid feeds_now : ℕ) (before now : Option (List ℕ))
+    (journal : List Entry) (observed : Observed) (met : Status) → said ≡ plan → old ≤ mid → feeds_mid ≡ feeds_old
+    → IfOk r (λ s. (met ≡ Memory) ⊎ Ran paths said text files (left s) (read_faults mid feeds_mid) (read_faults (faults s) feeds_now) before now journal observed met)
+    → IfOk r (λ s. HasMet paths plan text files (left s) (read_faults old feeds_old) (read_faults (faults s) feeds_now) before now journal observed met)
+ran_met left faults (Err e) paths said plan text files old mid feeds_old feeds_mid feeds_now before now journal observed met is le same did = tt
+ran_met left faults (Ok s) paths said plan text files old mid feeds_old feeds_mid feeds_now before now journal observed met is le same (inl memory) = inl memory
+ran_met left faults (Ok s) paths said plan text files old mid feeds_old feeds_mid feeds_now before now journal observed met is le same (inr ran) =
+    inr (inr (ran_from paths plan text files (left s) old mid (faults s) feeds_old feeds_now before now journal observed met le
+    (subst (λ (p : LivePlan). Ran paths p text files (left s) (read_faults mid feeds_old) (read_faults (faults s) feeds_now) before now journal observed met) is
+    (subst (λ (n : ℕ). Ran paths said text files (left s) (read_faults mid n) (read_faults (faults s) feeds_now) before now journal observed met) same ran))))
 
 cause_from : (old mid now feeds_old feeds_mid feeds_now air_before air_now : ℕ) (met : Status) → old ≤ mid → feeds_mid ≡ feeds_old → HasStatusCause mid now feeds_mid feeds_now air_before air_now met → HasStatusCause old now feeds_old feeds_now air_before air_now met
 cause_from old mid now feeds_old feeds_mid feeds_now air_before air_now (ReadFault Input) le same cause = Rose-from old mid now le cause
@@ -164,10 +203,10 @@ pub if_ok : {S E : Type 0} (P Q : S → Type 0) (r : Result S E) → ((s : S) �
 if_ok P Q (Err e) f p = tt
 if_ok P Q (Ok s) f p = f s p
 
-pub as_met : (paths : List (List ℕ)) (plan : LivePlan) (text : List ℕ) (files : Files) (left : Option (List ℕ)) (feeds_old feeds_now : ℕ) (before now : Option (List ℕ)) (journal : List Entry) (observed : Observed) (met : Status)
-    → (met ≡ Memory) ⊎ NoJobs plan text left before now journal observed met → HasMet paths plan text files left feeds_old feeds_now before now journal observed met
-as_met paths plan text files left feeds_old feeds_now before now journal observed met (inl memory) = inl memory
-as_met paths plan text files left feeds_old feeds_now before now journal observed met (inr none) = inr (inl none)
+pub as_met : (paths : List (List ℕ)) (plan : LivePlan) (text : List ℕ) (files : Files) (left : Option (List ℕ)) (faults_old faults_now : ReadFaults) (before now : Option (List ℕ)) (journal : List Entry) (observed : Observed) (met : Status)
+    → (met ≡ Memory) ⊎ NoJobs plan text left before now journal observed met → HasMet paths plan text files left faults_old faults_now before now journal observed met
+as_met paths plan text files left faults_old faults_now before now journal observed met (inl memory) = inl memory
+as_met paths plan text files left faults_old faults_now before now journal observed met (inr none) = inr (inl none)
 
 -- where memory was wanting behind the opening, all were asked for
 pub some_asked : {S E T : Type 0} (r : Result S E) (opened : Result T OpenStop) (paths : List (List ℕ)) (old mid new : Option (List (List ℕ))) (n : ℕ) → new ≡ mid → (k : ℕ) × HasTried old mid (take k paths) × OpenedTo k n opened

@@ -31,7 +31,7 @@ use Rattle.epg_live.specs.Views.{unserved}
 use Rattle.epg_live.specs.Opened.{AreOpened, IfFailed, IsOpened}
 use Rattle.epg_live.specs.Stops.{HasStatusCause, HaveReadCauses, feeds_stop, live_status}
 use Rattle.mux_config.specs.Texts.{ahead_of}
-use Rattle.epg_live.specs.Runs.{CallerDid, ControlTook, FeedsDid, HasRead, Ran}
+use Rattle.epg_live.specs.Runs.{CallerDid, ControlTook, FeedsDid, HasRead, Ran, read_faults}
 use Rattle.epg_live.proofs.DescribedFacts.{control_took}
 use Rattle.epg_live.proofs.OpenFacts.{opened_length}
 use Rattle.epg_live.proofs.StopFacts.{done_control, done_none, done_told, memory_or, run_caused, unless_wanting}
@@ -129,7 +129,7 @@ module _ {F S : Type 0} (left : F → Option (List ℕ)) (faults : F → ℕ) (i
   pub jobs_ran : (mux : Mux) (plan : LivePlan) (feeds : List (Reading F)) (control : Reading S) (text : List ℕ) (paths : List (List ℕ)) (files : Files) (before now : Option (List ℕ)) (air_before air_now feeds_before feeds_now : ℕ)
       (end : LiveEnd F S) (source : S) (met : Status) → WatchedRan left faults is_same leftS faultsS is_sameS mux plan feeds control before now air_before air_now end → AreOpened left faults (Some files) paths feeds → control.stop ≡ None
       → HasRead leftS text mux control → IfFailed faults (Rose feeds_before feeds_now) end.feeds.items → met ≡ live_status end.stop → source ≡ end.control.source → unserved mux plan.views ≡ None
-      → (met ≡ Memory) ⊎ Ran paths plan text files (leftS source) feeds_before feeds_now before now end.desk.entries (record { dones = end.dones; views = end.views; guide = end.heard }) met
+      → (met ≡ Memory) ⊎ Ran paths plan text files (leftS source) (read_faults (faultsS control.source) feeds_before) (read_faults (faultsS source) feeds_now) before now end.desk.entries (record { dones = end.dones; views = end.views; guide = end.heard }) met
   jobs_ran mux plan feeds control text paths files before now air_before air_now feeds_before feeds_now end source met ran opened going read rose is back served =
       let jobs = ran.did.feeds in
       let stop = ran.did.control.stop in
@@ -166,6 +166,7 @@ module _ {F S : Type 0} (left : F → Option (List ℕ)) (faults : F → ℕ) (i
                 (subst (λ (k : ℕ). LastMade (halts ran.did.player.end stop (first_stop jobs)) k ran.did.final ran.sent) low ran.did.last);
             failed = ran.did.failed;
             status_is = is ∙ ap live_status (unless_wanting ran.wanting end.stop (run_stop ran.sent stop (first_stop jobs)) ran.stop_is other ∙ ap (run_stop ran.sent stop) first);
+            control_cause = subst (λ (s : S). HasReadCause (faultsS control.source) (faultsS s) stop) (sym source_is) (ran.did.control_did.cause going);
             causes = feeds_caused left faults is_same files end.desk.entries ran.turns mux feeds_before feeds_now 1 paths (Some files) feeds jobs opened ran.did.feeds_ran (subst (λ (l : List (Reading F)). IfFailed faults (Rose feeds_before feeds_now) l) ran.feeds_are rose);
             air_is = ran.did.air;
             was_heard = λ sent knows. let heard = ran.whole sent knows other in record { taken = heard.taken; gave = heard.gave; lines = heard.lines; guide = heard.guide };

@@ -18,7 +18,7 @@ use Rattle.epg_live.specs.declared.reporting.Observed.{Observed}
 use Rattle.epg_live.specs.declared.reporting.LiveResult.{LiveResult}
 use Rattle.epg_live.specs.Opened.{HasTried}
 use Rattle.epg_live.specs.Views.{views_text}
-use Rattle.epg_live.specs.Runs.{NoJobs, Ran, nothing_observed}
+use Rattle.epg_live.specs.Runs.{NoJobs, Ran, ReadFaults, nothing_observed}
 
 -- ---- the report
 
@@ -41,7 +41,7 @@ run_text journal observed = journal_text journal ++ observed_text observed
 -- ---- the whole run
 
 -- what was met, and done until then: want of memory; or no job started; or they ran
-abbrev pub HasMet : List (List ℕ) → LivePlan → List ℕ → Files → Option (List ℕ) → ℕ → ℕ → Option (List ℕ) → Option (List ℕ) → List Entry → Observed → Status → Type 0
+abbrev pub HasMet : List (List ℕ) → LivePlan → List ℕ → Files → Option (List ℕ) → ReadFaults → ReadFaults → Option (List ℕ) → Option (List ℕ) → List Entry → Observed → Status → Type 0
 HasMet paths plan text files left faults_before faults_now before now journal observed met =
     (met ≡ Memory) ⊎ (NoJobs plan text left before now journal observed met ⊎ Ran paths plan text files left faults_before faults_now before now journal observed met)
 

@@ -14,6 +14,7 @@ use Rattle.epg_report.specs.Told.{ReportTaken}
 use Rattle.epg_live.specs.declared.reporting.Observed.{Observed}
 use Rattle.mux_config.specs.Texts.{described}
 use Rattle.epg_report.specs.Ends.{ReportEnds}
+use Rattle.epg_live.specs.Runs.{ReadFaults}
 use Rattle.epg_live.specs.Ends.{HasMet, run_text}
 
 -- What was sent is an air of this journal, over the multiplex that the text describes, or the first bytes of one; or nothing was sent.
@@ -27,13 +28,13 @@ MonitorShows join text journal before now guide =
     (mux : Mux) × (behind : Ahead) × (described text ≡ Came (Ok mux) behind) × IsShownLast join mux journal before now guide
 
 -- What a run over the files of these paths leaves, of the text of its input and the files of its opener, and of what is left of that text.
-pub record LeftLive (paths : List (List ℕ)) (plan : LivePlan) (text : List ℕ) (files : Files) (left : Option (List ℕ)) (feeds_before feeds_now : ℕ)
+pub record LeftLive (paths : List (List ℕ)) (plan : LivePlan) (text : List ℕ) (files : Files) (left : Option (List ℕ)) (faults_before faults_now : ReadFaults)
     (air report : ReportTaken) (status : Status) : Type 0 where
   pub journal : List Entry
   pub observed : Observed
   pub met : Status
   -- the journal has just the commands of each caller, each once, in order, with the replies of a desk of one thread; what was sent is its air
-  pub ran : HasMet paths plan text files left feeds_before feeds_now air.old air.new journal observed met
+  pub ran : HasMet paths plan text files left faults_before faults_now air.old air.new journal observed met
   -- the report is the text of the journal, of the completions, of the views and of the guide, and a fault line, if there is one
   pub reported : ReportEnds met (run_text journal observed) report status
   -- whoever joins that air at any packet, and loses none: each completion is of one airing, and once a cycle was heard whole the guide is that
@@ -43,6 +44,6 @@ pub record LeftLive (paths : List (List ℕ)) (plan : LivePlan) (text : List ℕ
   pub shown : met ≡ Done → (sent : List ℕ) → air.old ≡ Some sent → MonitorShows plan.join text journal air.old air.new observed.guide
 
 -- So does each run; but want of memory, whoever met it, goes before all.
-abbrev pub LeavesLive : List (List ℕ) → LivePlan → List ℕ → Files → Option (List ℕ) → ℕ → ℕ → ReportTaken → ReportTaken → Status → Type 0
-LeavesLive paths plan text files left feeds_before feeds_now air report status =
-    (status ≡ Memory) ⊎ LeftLive paths plan text files left feeds_before feeds_now air report status
+abbrev pub LeavesLive : List (List ℕ) → LivePlan → List ℕ → Files → Option (List ℕ) → ReadFaults → ReadFaults → ReportTaken → ReportTaken → Status → Type 0
+LeavesLive paths plan text files left faults_before faults_now air report status =
+    (status ≡ Memory) ⊎ LeftLive paths plan text files left faults_before faults_now air report status

@@ -9,6 +9,7 @@ use Rattle.epg_report.specs.Texts.{CanBeSaid}
 use Rattle.epg_report.specs.Told.{OpenerAsked, ReportTaken, SourceGave, asked, gave, told}
 use Rattle.epg_live.specs.declared.reporting.LiveResult.{LiveResult}
 use Rattle.epg_live.specs.Stops.{HasStatusCause, IsMet}
+use Rattle.epg_live.specs.Runs.{read_faults}
 use Rattle.epg_live.specs.Ends.{HasAsked, HasMet, entries_of}
 
 -- What a run over the files of these paths met: what its opener was asked, what its input gave, what its air took, and what it leaves to be
@@ -16,7 +17,8 @@ use Rattle.epg_live.specs.Ends.{HasAsked, HasMet, entries_of}
 pub record LiveMet (paths : List (List ℕ)) (plan : LivePlan) (opener : OpenerAsked) (input : SourceGave) (air : ReportTaken) (run : LiveResult) : Type 0 where
   -- the journal of all callers, its air and what was observed of it; or why no job started
   pub met : (text : List ℕ) → input.old ≡ Some text → (files : Files) → opener.files ≡ Some files
-      → HasMet paths plan text files input.new opener.read_old opener.read_new air.old air.new (entries_of run.desk) run.observed run.met
+      → HasMet paths plan text files input.new (read_faults input.faults_old opener.read_old) (read_faults input.faults_new opener.read_new)
+      air.old air.new (entries_of run.desk) run.observed run.met
   -- no other status comes, and its line can be written
   pub known : IsMet run.met
   pub said : CanBeSaid run.met

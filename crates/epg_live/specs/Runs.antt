@@ -18,7 +18,7 @@ use Rattle.journal_model.specs.declared.step.Entry.{Entry}
 use Rattle.desk_core.specs.Journal.{Legal}
 use Rattle.journal_model.specs.Steps.{Command, command_of}
 use Rattle.desk_hall.specs.Turn.{caller_of}
-use Rattle.desk_hall.specs.Reads.{ToldDid, commands_by, control_step, controls_ahead, edit_step}
+use Rattle.desk_hall.specs.Reads.{HasReadCause, ToldDid, commands_by, control_step, controls_ahead, edit_step}
 use Rattle.turn_lock.specs.Journal.{entries_of}
 use Rattle.guide_screen.specs.declared.need.Heard.{Heard}
 use Rattle.air_monitor.specs.Heard.{lines_of_air}
@@ -96,11 +96,20 @@ pub record WasHeard (join : ℕ) (before now : Option (List ℕ)) (observed : Ob
   pub lines : observed.dones ≡ lines_of_air join taken
   pub guide : IfSome observed.guide (λ (h : Heard). h ≡ guide_of_air join taken)
 
+-- how many reads failed: of the input, and of the files of the feeds
+pub record ReadFaults : Type 0 where
+  pub input : ℕ
+  pub feeds : ℕ
+
+abbrev pub read_faults : ℕ → ℕ → ReadFaults
+read_faults input feeds = record { input = input; feeds = feeds }
+
 -- The jobs started, and all have ended. The status is that of the first stop in the order air, control, feeds by number; Done exactly
 -- where there is none, and then the control's publish, swap and swap end the journal (`last`). `sent` says how the last cycle ended; where the
--- player failed, that was its last (`failed`). A feed was not read to its own stop only where the opener's count of read faults rose (`causes`). A guide is told exactly with
--- Done (`told`); what it and the completions are is known where the air tells its bytes.
-pub record JobsRan (mux : Mux) (plan : LivePlan) (text : List ℕ) (left : Option (List ℕ)) (behind : Ahead) (paths : List (List ℕ)) (files : Files) (faults_before faults_now : ℕ) (before now : Option (List ℕ))
+-- player failed, that was its last (`failed`). A failed read stopped the control only where the input's count of faults rose, whatever other jobs
+-- met (`control_cause`), and a feed only where the opener's count of read faults rose (`causes`). A guide is told exactly with Done (`told`); what
+-- it and the completions are is known where the air tells its bytes.
+pub record JobsRan (mux : Mux) (plan : LivePlan) (text : List ℕ) (left : Option (List ℕ)) (behind : Ahead) (paths : List (List ℕ)) (files : Files) (faults_before faults_now : ReadFaults) (before now : Option (List ℕ))
     (journal : List Entry) (observed : Observed) (status : Status) : Type 0 where
   pub player : Result (Unit {0}) SendStop
   pub sent : Result (Unit {0}) SendStop
@@ -111,7 +120,8 @@ pub record JobsRan (mux : Mux) (plan : LivePlan) (text : List ℕ) (left : Optio
   pub last : LastMade (halts player control_stop (feeds_stop None 1 feed_stops)) 0 final sent
   pub failed : (stop : SendStop) → player ≡ Err stop → sent ≡ Err stop
   pub status_is : status ≡ live_status (run_stop sent control_stop (feeds_stop None 1 feed_stops))
-  pub causes : HaveReadCauses faults_before faults_now feed_stops
+  pub control_cause : HasReadCause faults_before.input faults_now.input control_stop
+  pub causes : HaveReadCauses faults_before.feeds faults_now.feeds feed_stops
   pub air_is : AirDid mux journal before now sent
   pub was_heard : (sent : List ℕ) → before ≡ Some sent → WasHeard plan.join before now observed
   pub told : IsSome observed.guide ↔ (status ≡ Done)
@@ -120,7 +130,7 @@ pub record JobsRan (mux : Mux) (plan : LivePlan) (text : List ℕ) (left : Optio
   pub unviewed : status ≢ Done → observed.views ≡ []
 
 -- jobs ran over the multiplex of the text
-abbrev pub Ran : List (List ℕ) → LivePlan → List ℕ → Files → Option (List ℕ) → ℕ → ℕ → Option (List ℕ) → Option (List ℕ) → List Entry → Observed → Status → Type 0
+abbrev pub Ran : List (List ℕ) → LivePlan → List ℕ → Files → Option (List ℕ) → ReadFaults → ReadFaults → Option (List ℕ) → Option (List ℕ) → List Entry → Observed → Status → Type 0
 Ran paths plan text files left faults_before faults_now before now journal observed met =
     (mux : Mux) × (behind : Ahead) × (described text ≡ Came (Ok mux) behind)
     × JobsRan mux plan text left behind paths files faults_before faults_now before now journal observed met

@@ -22,7 +22,7 @@ use Rattle.epg_report.specs.Told.{ReportTaken}
 use Rattle.epg_live.specs.declared.reporting.LiveResult.{LiveResult}
 use Rattle.epg_live.specs.Stops.{HasStatusCause, IsMet}
 use Rattle.mux_config.specs.Texts.{described}
-use Rattle.epg_live.specs.Runs.{Ran}
+use Rattle.epg_live.specs.Runs.{Ran, read_faults}
 use Rattle.epg_report.specs.Ends.{ReportEnds}
 use Rattle.epg_live.specs.Ends.{HasMet, entries_of}
 use Rattle.epg_live.proofs.DecidedFacts.{met_decided}
@@ -39,7 +39,7 @@ use Rattle.workload_runs.proofs.Texts.{made_done}
 use Rattle.workload_runs.proofs.Journals.{done_counted, runs_whole}
 use Rattle.epg_soak.specs.Files.{soak_files, soak_paths}
 use Rattle.epg_soak.specs.Summary.{count_line, guide_lines, soak_summary, summary_text}
-use Rattle.epg_soak.specs.Load.{IsMetByLoad, LoadMet, is_reported, soak_plan}
+use Rattle.epg_soak.specs.Load.{IsMetByLoad, LoadMet, is_reported, never_failed, soak_plan}
 use Rattle.epg_soak.specs.SoakRun.{IsOfSoak, LeftSoak, SoakRun, run_summary}
 
 -- ---- what a run of the load may meet
@@ -53,12 +53,12 @@ have_texts number = record { first_is = refl; second_is = refl }
 
 -- what a run over the load's files met
 abbrev MetOfLoad : ℕ → Option (List ℕ) → ReportTaken → LiveResult → Status → Type 0
-MetOfLoad number left air run met = HasMet soak_paths soak_plan soak_text (soak_files number) left 0 0 air.old air.new (entries_of run.desk) run.observed met
+MetOfLoad number left air run met = HasMet soak_paths soak_plan soak_text (soak_files number) left never_failed never_failed air.old air.new (entries_of run.desk) run.observed met
 
 met_of : (number : ℕ) (air : ReportTaken) (run : LiveResult) (load : LoadMet number air run) → MetOfLoad number load.left air run run.met
 met_of number air run load =
-    subst (λ (n : ℕ). HasMet soak_paths soak_plan soak_text (soak_files number) load.left 0 n air.old air.new (entries_of run.desk) run.observed run.met) load.of_load.now
-    (subst (λ (n : ℕ). HasMet soak_paths soak_plan soak_text (soak_files number) load.left n load.opener.read_new air.old air.new (entries_of run.desk) run.observed run.met) load.of_load.before
+    subst (λ (n : ℕ). HasMet soak_paths soak_plan soak_text (soak_files number) load.left never_failed (read_faults 0 n) air.old air.new (entries_of run.desk) run.observed run.met) load.of_load.now
+    (subst (λ (n : ℕ). HasMet soak_paths soak_plan soak_text (soak_files number) load.left (read_faults 0 n) (read_faults 0 load.opener.read_new) air.old air.new (entries_of run.desk) run.observed run.met) load.of_load.before
     (load.met.met soak_text refl (soak_files number) load.of_load.files))
 
 caused : (number : ℕ) (air : ReportTaken) (run : LiveResult) (load : LoadMet number air run) → HasStatusCause 0 0 0 0 air.faults_old air.faults_new run.met
@@ -70,7 +70,7 @@ caused number air run load =
 decided : (number : ℕ) (left : Option (List ℕ)) (air : ReportTaken) (run : LiveResult) (met : Status) → MetOfLoad number left air run met
     → ((f : ℕ) → met ≡ OpenFault f → ⊥) → (met ≡ ReadFault Input → ⊥) → (met ≡ WriteFault Air → ⊥) → (met ≡ Memory) ⊎ (met ≡ Done)
 decided number left air run met has no_open no_input no_air =
-    elim (met_decided soak_paths soak_plan soak_text (soak_files number) left 0 0 air.old air.new (entries_of run.desk) run.observed met has no_open no_input no_air never_rose) [
+    elim (met_decided soak_paths soak_plan soak_text (soak_files number) left never_failed never_failed air.old air.new (entries_of run.desk) run.observed met has no_open no_input no_air never_rose) [
       | inl memory ↦ inl memory
       | inr ends ↦ inr (ends ∙ made_done number (codes "1") (codes "2") (soak_files number) (have_texts number))
     ]
@@ -137,7 +137,7 @@ module _ (number : ℕ) (air report : ReportTaken) (run : LiveResult) (status : 
   journal = entries_of run.desk
 
   abbrev RanOfLoad : Status → Type 0
-  RanOfLoad met = Ran soak_paths soak_plan soak_text (soak_files number) load.left 0 0 air.old air.new journal run.observed met
+  RanOfLoad met = Ran soak_paths soak_plan soak_text (soak_files number) load.left never_failed never_failed air.old air.new journal run.observed met
 
   -- a run that met Done, or a fault of the air, has run
   jobs_ran : (met : Status) → is_reported met ≡ true → IsMetByLoad met → MetOfLoad number load.left air run met → RanOfLoad met
@@ -159,8 +159,8 @@ module _ (number : ℕ) (air report : ReportTaken) (run : LiveResult) (status : 
     join = 0;
     views = [];
     left = load.left;
-    faults_before = 0;
-    faults_now = 0;
+    faults_before = never_failed;
+    faults_now = never_failed;
     before = air.old;
     now = air.new;
     observed = run.observed;
@@ -170,12 +170,12 @@ module _ (number : ℕ) (air report : ReportTaken) (run : LiveResult) (status : 
   sent_air : (met : Status) → RanOfLoad met → SentAir soak_mux journal air.old air.new
   sent_air met (mux, behind, whole, ran) =
       subst (λ (m : Mux). SentAir m journal air.old air.new) (same_mux mux soak_mux behind control_behind (described soak_text) description_read.1 whole)
-      (air_sent mux journal air.old air.new ran.sent (as_read mux soak_plan soak_text load.left behind soak_paths (soak_files number) 0 0 air.old air.new journal run.observed met whole ran) ran.journal_is.legal ran.air_is)
+      (air_sent mux journal air.old air.new ran.sent (as_read mux soak_plan soak_text load.left behind soak_paths (soak_files number) never_failed never_failed air.old air.new journal run.observed met whole ran) ran.journal_is.legal ran.air_is)
 
   summary_said : MetOfLoad number load.left air run Done → RanOfLoad Done → (sent : List ℕ) → air.old ≡ Some sent → summary_text journal run.observed.guide ≡ soak_summary number
   summary_said has (mux, behind, whole, ran) sent knows =
       let same = same_mux mux soak_mux behind control_behind (described soak_text) description_read.1 whole in
-      let last = ran_shown mux soak_plan soak_text load.left behind soak_paths (soak_files number) 0 0 air.old air.new journal run.observed Done whole ran refl sent knows in
+      let last = ran_shown mux soak_plan soak_text load.left behind soak_paths (soak_files number) never_failed never_failed air.old air.new journal run.observed Done whole ran refl sent knows in
       let shown = last.shown (omega arith) in
       let counted = done_counted number journal (whole_run has) in
       summary_is number journal run.observed.guide shown.0 counted.0 counted.2.edits counted.2.done (runs_whole number journal (whole_run has))

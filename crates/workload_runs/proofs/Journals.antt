@@ -21,7 +21,7 @@ use Rattle.epg_report.specs.declared.status.Status.TheVariants.{Done}
 use Rattle.epg_live.specs.declared.reporting.Observed.{Observed}
 use Rattle.epg_live.specs.Stops.{feeds_stop}
 use Rattle.mux_config.specs.Texts.{described}
-use Rattle.epg_live.specs.Runs.{CallerDid, FeedsDid, JobsRan}
+use Rattle.epg_live.specs.Runs.{CallerDid, FeedsDid, JobsRan, ReadFaults}
 use Rattle.epg_live.specs.Ends.{HasMet}
 use Rattle.si_workload.specs.Texts.{feed_text}
 use Rattle.workload_laws.specs.Load.{soak_controls, soak_edits, soak_mux}
@@ -77,7 +77,7 @@ feeds_did number first second files journal (a ∷ b ∷ []) have none did =
 -- ---- the run
 
 module _ (number : ℕ) (first second text : List ℕ) (files : Files) (have : HaveFeedTexts number first second files) (is : described text ≡ Came (Ok soak_mux) control_behind) (plan : LivePlan) (three : plan.cycles ≡ 3) (left : Option (List ℕ))
-    (faults_before faults_now : ℕ) (before now : Option (List ℕ)) (journal : List Entry) (observed : Observed) where
+    (faults_before faults_now : ReadFaults) (before now : Option (List ℕ)) (journal : List Entry) (observed : Observed) where
   jobs_ran : (mux : Mux) (behind : Ahead) → described text ≡ Came (Ok mux) behind
       → JobsRan mux plan text left behind (first ∷ second ∷ []) files faults_before faults_now before now journal observed Done → IsSoakRun number journal
   jobs_ran mux behind whole ran =

@@ -5,6 +5,7 @@ use Rattle.journal_model.specs.declared.step.Entry.{Entry}
 use Rattle.epg_report.specs.declared.status.Status.TheVariants.{Done}
 use Rattle.epg_live.specs.declared.reporting.Observed.{Observed}
 use Rattle.epg_live.specs.Decided.{AreWhole, text_status}
+use Rattle.epg_live.specs.Runs.{ReadFaults}
 use Rattle.epg_live.specs.Ends.{HasMet}
 use Rattle.si_workload.specs.Texts.{mux_text, control_text, feed_text}
 use Rattle.workload_laws.specs.Journals.{IsCounted, IsSoakJournal}
@@ -39,8 +40,8 @@ pub record HasMetDone (number : ℕ) (journal : List Entry) : Type 0 where
   pub join : ℕ
   pub views : List ℕ
   pub left : Option (List ℕ)
-  pub faults_before : ℕ
-  pub faults_now : ℕ
+  pub faults_before : ReadFaults
+  pub faults_now : ReadFaults
   pub before : Option (List ℕ)
   pub now : Option (List ℕ)
   pub observed : Observed
