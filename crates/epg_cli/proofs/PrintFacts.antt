@@ -8,15 +8,15 @@ use Rattle.input_lines.specs.Ahead.{Ahead, Came}
 use Rattle.journal_model.specs.declared.step.Entry.{Entry}
 use Rattle.desk_core.specs.Journal.{Legal}
 use Rattle.epg_report.specs.declared.status.Status.{Status}
-use Rattle.epg_report.specs.Told.{ReportTaken}
+use Rattle.epg_report.specs.Told.{OpenerAsked, ReportTaken, SourceGave}
 use Rattle.epg_play.proofs.AgainFacts.{journals-again}
 use Rattle.epg_live.specs.declared.reporting.Observed.{Observed}
 use Rattle.epg_report.specs.Ends.{ReportEnds}
-use Rattle.epg_live.specs.Runs.{ReadFaults}
+use Rattle.epg_live.specs.Runs.{ReadFaults, read_faults}
 use Rattle.epg_live.specs.Ends.{HasMet, run_text}
 use Rattle.epg_live.specs.Leaves.{LeavesLive}
 use Rattle.mux_config.specs.Texts.{described}
-use Rattle.epg_live.proofs.LeavesFacts.{by_memory}
+use Rattle.epg_live.proofs.LeavesFacts.{by_memory, met_of}
 use Rattle.epg_cli.specs.Prints.{IsScript, PrintsScript}
 
 -- a text describes one multiplex
@@ -38,8 +38,9 @@ prints_met paths plan text files left faults_before faults_now before now report
 prints_met paths plan text files left faults_before faults_now before now report journal observed met status (inr (inr (mux, rows, whole, ran))) ends =
     inr (journal, observed, met, ends, is_script text mux rows journal whole ran.journal_is.legal)
 
-pub prints : (paths : List (List ℕ)) (plan : LivePlan) (text : List ℕ) (files : Files) (left : Option (List ℕ)) (faults_before faults_now : ReadFaults) (air report : ReportTaken) (status : Status)
-    → LeavesLive paths plan text files left faults_before faults_now air report status → PrintsScript text report status
-prints paths plan text files left faults_before faults_now air report status (inl memory) = inl memory
-prints paths plan text files left faults_before faults_now air report status (inr run) =
-    prints_met paths plan text files left faults_before faults_now air.old air.new report run.journal run.observed run.met status run.ran run.reported
+pub prints : (paths : List (List ℕ)) (plan : LivePlan) (text : List ℕ) (files : Files) (opener : OpenerAsked) (input : SourceGave) (air report : ReportTaken) (status : Status)
+    → LeavesLive paths plan text files opener input air report status → PrintsScript text report status
+prints paths plan text files opener input air report status (inl memory) = inl memory
+prints paths plan text files opener input air report status (inr run) =
+    prints_met paths plan text files input.new (read_faults input.faults_old opener.read_old) (read_faults input.faults_new opener.read_new) air.old air.new report run.journal run.observed run.met status
+    (met_of paths plan text files input.new (read_faults input.faults_old opener.read_old) (read_faults input.faults_new opener.read_new) opener.tried_old opener.tried_new air.old air.new run.journal run.observed run.met run.ran) run.reported

@@ -27,14 +27,15 @@ use Rattle.epg_report.specs.declared.status.Status.{Status}
 use Rattle.epg_report.specs.declared.status.Status.TheVariants.{Done, BadMux, TooLong, OpenFault, ReadFault, WriteFault, Memory, NoView}
 use Rattle.epg_report.specs.declared.status.Origin.TheVariants.{Input, Feed, Recording}
 use Rattle.epg_report.specs.declared.status.Outlet.TheVariants.{Air}
-use Rattle.epg_report.specs.Told.{ReportTaken}
+use Rattle.epg_report.specs.Told.{OpenerAsked, ReportTaken, SourceGave}
 use Rattle.epg_live.specs.Stops.{HasStatusCause, HaveReadCauses, feeds_stop, live_status}
 use Rattle.mux_config.specs.Texts.{ahead_of, described}
-use Rattle.epg_live.specs.Runs.{EndsBefore, FeedsDid, JobsRan, ReadFaults}
+use Rattle.epg_live.specs.Runs.{EndsBefore, FeedsDid, JobsRan, ReadFaults, read_faults}
 use Rattle.epg_live.specs.Decided.{AreWhole, HasEdits, feed_text_stop, job_stop, jobs_status, text_status, description_status, views_status}
 use Rattle.epg_report.specs.Ends.{ReportEnds}
 use Rattle.epg_live.specs.Ends.{HasMet, run_text}
 use Rattle.epg_live.specs.Leaves.{LeavesLive}
+use Rattle.epg_live.proofs.LeavesFacts.{met_of}
 
 -- ---- want of memory is taken, whoever met it
 
@@ -157,17 +158,18 @@ met_decided paths plan text files left faults_before faults_now before now journ
       | inr ends ↦ inr (ends ∙ sym (ap (λ (d : Found Description). description_status d plan.views paths files) whole ∙ ap (λ (o : Option ℕ). views_status o behind paths files) ran.served))
     ]
 
-pub decided : (paths : List (List ℕ)) (plan : LivePlan) (text : List ℕ) (files : Files) (left : Option (List ℕ)) (faults_before faults_now : ReadFaults) (air report : ReportTaken) (status : Status)
-    → LeavesLive paths plan text files left faults_before faults_now air report status → HasStatusCause faults_before.input faults_now.input faults_before.feeds faults_now.feeds air.faults_old air.faults_new status → ((f : ℕ) → status ≡ OpenFault f → ⊥)
-    → (Rose faults_before.input faults_now.input → ⊥) → (Rose faults_before.feeds faults_now.feeds → ⊥) → (Rose air.faults_old air.faults_new → ⊥) → (Rose report.faults_old report.faults_new → ⊥) → (status ≡ Memory) ⊎ (status ≡ text_status text plan.views paths files)
-decided paths plan text files left faults_before faults_now air report status (inl memory) cause no_open no_read no_feed no_air no_report = inl memory
-decided paths plan text files left faults_before faults_now air report status (inr run) cause no_open no_read no_feed no_air no_report = by run.reported
+pub decided : (paths : List (List ℕ)) (plan : LivePlan) (text : List ℕ) (files : Files) (opener : OpenerAsked) (input : SourceGave) (air report : ReportTaken) (status : Status)
+    → LeavesLive paths plan text files opener input air report status → HasStatusCause input.faults_old input.faults_new opener.read_old opener.read_new air.faults_old air.faults_new status → ((f : ℕ) → status ≡ OpenFault f → ⊥)
+    → (Rose input.faults_old input.faults_new → ⊥) → (Rose opener.read_old opener.read_new → ⊥) → (Rose air.faults_old air.faults_new → ⊥) → (Rose report.faults_old report.faults_new → ⊥) → (status ≡ Memory) ⊎ (status ≡ text_status text plan.views paths files)
+decided paths plan text files opener input air report status (inl memory) cause no_open no_read no_feed no_air no_report = inl memory
+decided paths plan text files opener input air report status (inr run) cause no_open no_read no_feed no_air no_report = by run.reported
   where
     by : ReportEnds run.met (run_text run.journal run.observed) report status → (status ≡ Memory) ⊎ (status ≡ text_status text plan.views paths files)
     by (inr (rose, took, same)) = absurd (no_report rose)
     by (inl (took, same)) =
-        let caused : (s : Status) → run.met ≡ s → HasStatusCause faults_before.input faults_now.input faults_before.feeds faults_now.feeds air.faults_old air.faults_new s = (λ s e. subst (λ (t : Status). HasStatusCause faults_before.input faults_now.input faults_before.feeds faults_now.feeds air.faults_old air.faults_new t) (same ∙ e) cause) in
-        elim (met_decided paths plan text files left faults_before faults_now air.old air.new run.journal run.observed run.met run.ran (λ f e. no_open f (same ∙ e)) (λ e. no_read (caused (ReadFault Input) e)) (λ e. no_air (caused (WriteFault Air) e)) no_feed) [
+        let caused : (s : Status) → run.met ≡ s → HasStatusCause input.faults_old input.faults_new opener.read_old opener.read_new air.faults_old air.faults_new s = (λ s e. subst (λ (t : Status). HasStatusCause input.faults_old input.faults_new opener.read_old opener.read_new air.faults_old air.faults_new t) (same ∙ e) cause) in
+        let met = met_of paths plan text files input.new (read_faults input.faults_old opener.read_old) (read_faults input.faults_new opener.read_new) opener.tried_old opener.tried_new air.old air.new run.journal run.observed run.met run.ran in
+        elim (met_decided paths plan text files input.new (read_faults input.faults_old opener.read_old) (read_faults input.faults_new opener.read_new) air.old air.new run.journal run.observed run.met met (λ f e. no_open f (same ∙ e)) (λ e. no_read (caused (ReadFault Input) e)) (λ e. no_air (caused (WriteFault Air) e)) no_feed) [
           | inl memory ↦ inl (same ∙ memory)
           | inr ends ↦ inr (same ∙ ends)
         ]

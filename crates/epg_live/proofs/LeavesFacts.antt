@@ -27,13 +27,13 @@ use Rattle.headend_live.proofs.Sent.{air_sent}
 use Rattle.headend_jobs.specs.Whole.{final_commands}
 use Rattle.epg_report.specs.declared.status.Status.{Status}
 use Rattle.epg_report.specs.declared.status.Status.TheVariants.{Done, Memory}
-use Rattle.epg_report.specs.Told.{ReportTaken}
+use Rattle.epg_report.specs.Told.{OpenerAsked, ReportTaken, SourceGave}
 use Rattle.epg_live.specs.declared.reporting.Observed.{Observed}
 use Rattle.epg_live.specs.Stops.{feeds_stop}
 use Rattle.mux_config.specs.Texts.{ahead_of, described}
-use Rattle.epg_live.specs.Runs.{EndsBefore, JobsRan, NoJobs, ReadFaults}
+use Rattle.epg_live.specs.Runs.{EndsBefore, JobsRan, NoJobs, ReadFaults, read_faults}
 use Rattle.epg_report.specs.Ends.{ReportEnds, or_report}
-use Rattle.epg_live.specs.Ends.{HasMet, run_text}
+use Rattle.epg_live.specs.Ends.{HasMet, HasMetAsking, run_text}
 use Rattle.epg_live.specs.Leaves.{LeavesLive}
 use Rattle.epg_live.proofs.StopFacts.{and_none, done_none, no_control}
 use Rattle.epg_live.proofs.TypedFacts.{run_typed}
@@ -105,30 +105,38 @@ pub by_memory : (text : List ℕ) (report : ReportTaken) (met status : Status) �
 by_memory text report met status is (inl (took, same)) = same ∙ is
 by_memory text report met status is (inr (rose, took, same)) = same ∙ ap or_report is
 
+-- what was met, whatever was asked for
+pub met_of : (paths : List (List ℕ)) (plan : LivePlan) (text : List ℕ) (files : Files) (left : Option (List ℕ)) (faults_before faults_now : ReadFaults) (tried_before tried_now : Option (List (List ℕ))) (before now : Option (List ℕ))
+    (journal : List Entry) (observed : Observed) (met : Status) → HasMetAsking paths plan text files left faults_before faults_now tried_before tried_now before now journal observed met
+    → HasMet paths plan text files left faults_before faults_now before now journal observed met
+met_of paths plan text files left faults_before faults_now tried_before tried_now before now journal observed met (inl memory) = inl memory
+met_of paths plan text files left faults_before faults_now tried_before tried_now before now journal observed met (inr (inl none)) = inr (inl none.0)
+met_of paths plan text files left faults_before faults_now tried_before tried_now before now journal observed met (inr (inr ran)) = inr (inr ran.0)
+
 none_done : (plan : LivePlan) (text : List ℕ) (left before now : Option (List ℕ)) (journal : List Entry) (observed : Observed) (met : Status) → NoJobs plan text left before now journal observed met → met ≡ Done → Prim.⊥
 none_done plan text left before now journal observed met none done = subst (λ (s : Status). EndsBefore plan text left s) done none.why
 
-pub leaves : (paths : List (List ℕ)) (plan : LivePlan) (text : List ℕ) (files : Files) (left : Option (List ℕ)) (faults_before faults_now : ReadFaults) (air report : ReportTaken) (journal : List Entry) (observed : Observed) (met status : Status)
-    → HasMet paths plan text files left faults_before faults_now air.old air.new journal observed met → ReportEnds met (run_text journal observed) report status
-    → LeavesLive paths plan text files left faults_before faults_now air report status
-leaves paths plan text files left faults_before faults_now air report journal observed met status (inl memory) ends = inl (by_memory (run_text journal observed) report met status memory ends)
-leaves paths plan text files left faults_before faults_now air report journal observed met status (inr (inl none)) ends = inr (record {
+pub leaves : (paths : List (List ℕ)) (plan : LivePlan) (text : List ℕ) (files : Files) (opener : OpenerAsked) (input : SourceGave) (air report : ReportTaken) (journal : List Entry) (observed : Observed) (met status : Status)
+    → HasMetAsking paths plan text files input.new (read_faults input.faults_old opener.read_old) (read_faults input.faults_new opener.read_new) opener.tried_old opener.tried_new air.old air.new journal observed met → ReportEnds met (run_text journal observed) report status
+    → LeavesLive paths plan text files opener input air report status
+leaves paths plan text files opener input air report journal observed met status (inl memory) ends = inl (by_memory (run_text journal observed) report met status memory ends)
+leaves paths plan text files opener input air report journal observed met status (inr (inl (none, tried))) ends = inr (record {
   journal = journal;
   observed = observed;
   met = met;
-  ran = inr (inl none);
+  ran = inr (inl (none, tried));
   reported = ends;
   sent = inl none.sent;
-  shown = λ done sent knows. absurd (none_done plan text left air.old air.new journal observed met none done);
+  shown = λ done sent knows. absurd (none_done plan text input.new air.old air.new journal observed met none done);
 })
-leaves paths plan text files left faults_before faults_now air report journal observed met status (inr (inr (mux, behind, whole, ran))) ends =
-    let read = as_read mux plan text left behind paths files faults_before faults_now air.old air.new journal observed met whole ran in
+leaves paths plan text files opener input air report journal observed met status (inr (inr ((mux, behind, whole, ran), tried))) ends =
+    let read = as_read mux plan text input.new behind paths files (read_faults input.faults_old opener.read_old) (read_faults input.faults_new opener.read_new) air.old air.new journal observed met whole ran in
     inr (record {
       journal = journal;
       observed = observed;
       met = met;
-      ran = inr (inr (mux, behind, whole, ran));
+      ran = inr (inr ((mux, behind, whole, ran), tried));
       reported = ends;
       sent = inr (mux, behind, whole, air_sent mux journal air.old air.new ran.sent read ran.journal_is.legal ran.air_is);
-      shown = λ done sent knows. (mux, behind, whole, ran_shown mux plan text left behind paths files faults_before faults_now air.old air.new journal observed met whole ran done sent knows);
+      shown = λ done sent knows. (mux, behind, whole, ran_shown mux plan text input.new behind paths files (read_faults input.faults_old opener.read_old) (read_faults input.faults_new opener.read_new) air.old air.new journal observed met whole ran done sent knows);
     })

@@ -15,7 +15,7 @@ use Rattle.epg_live.specs.Stops.{HasStatusCause, IsMet, IsOfLive}
 use Rattle.epg_live.specs.declared.reporting.LiveResult.{LiveResult}
 use Rattle.epg_report.specs.Ends.{ReportEnds}
 use Rattle.epg_live.specs.Runs.{read_faults}
-use Rattle.epg_live.specs.Ends.{HasAsked, HasMet, entries_of, run_text}
+use Rattle.epg_live.specs.Ends.{HasAsked, HasMetAsking, entries_of, run_text}
 use Rattle.epg_live.specs.Leaves.{LeavesLive}
 use Rattle.epg_live.specs.LiveRun.{IsUnfailing, LiveRun}
 use Rattle.epg_live.specs.Met.{LiveMet}
@@ -25,7 +25,7 @@ use Rattle.epg_live.proofs.LeavesFacts.{leaves}
 use Rattle.epg_live.proofs.MetFacts.{ends_asked, ends_caused, ends_done, ends_of_live, ends_open, ends_rose}
 
 pub live_run : (paths : List (List ℕ)) (plan : LivePlan) (opener : OpenerAsked) (input : SourceGave) (air report : ReportTaken) (status : Status)
-    → ((text : List ℕ) → input.old ≡ Some text → (files : Files) → opener.files ≡ Some files → LeavesLive paths plan text files input.new (read_faults input.faults_old opener.read_old) (read_faults input.faults_new opener.read_new) air report status)
+    → ((text : List ℕ) → input.old ≡ Some text → (files : Files) → opener.files ≡ Some files → LeavesLive paths plan text files opener input air report status)
     → IsOfLive status → HasAsked paths opener.tried_old opener.tried_new status → (status ≡ Done → IsAtEnd input.new)
     → HasStatusCause input.faults_old input.faults_new opener.read_old opener.read_new air.faults_old air.faults_new status
     → ((feed : ℕ) → status ≡ OpenFault feed → Rose opener.faults_old opener.faults_new) → (status ≡ WriteFault Report → Rose report.faults_old report.faults_new)
@@ -44,7 +44,7 @@ live_run paths plan opener input air report status leaves known asked_for end ca
   where
     completes : (text : List ℕ) → input.old ≡ Some text → (files : Files) → opener.files ≡ Some files → IsUnfailing opener input air report → (status ≡ Memory) ⊎ (status ≡ text_status text plan.views paths files)
     completes text tells files told none =
-        decided paths plan text files input.new (read_faults input.faults_old opener.read_old) (read_faults input.faults_new opener.read_new) air report status (leaves text tells files told) cause
+        decided paths plan text files opener input air report status (leaves text tells files told) cause
         (λ feed e. none.no_opening (open_rose feed e)) none.no_input none.no_reading none.no_air none.no_report
 
 -- from what it met, and how its report ended
@@ -62,11 +62,11 @@ live_ends paths plan opener input air report run status m ends =
     (λ feed e. m.open_cause feed (ends_open run.met text report status feed ends e))
     (ends_rose run.met text report status m.known ends)
   where
-    left : (said : List ℕ) (files : Files) → HasMet paths plan said files input.new (read_faults input.faults_old opener.read_old) (read_faults input.faults_new opener.read_new) air.old air.new (entries_of run.desk) run.observed run.met
+    left : (said : List ℕ) (files : Files) → HasMetAsking paths plan said files input.new (read_faults input.faults_old opener.read_old) (read_faults input.faults_new opener.read_new) opener.tried_old opener.tried_new air.old air.new (entries_of run.desk) run.observed run.met
         → (status ≡ Memory) ⊎ ReportEnds run.met (run_text (entries_of run.desk) run.observed) report status
-        → LeavesLive paths plan said files input.new (read_faults input.faults_old opener.read_old) (read_faults input.faults_new opener.read_new) air report status
+        → LeavesLive paths plan said files opener input air report status
     left said files has (inl memory) = inl memory
-    left said files has (inr ends) = leaves paths plan said files input.new (read_faults input.faults_old opener.read_old) (read_faults input.faults_new opener.read_new) air report (entries_of run.desk) run.observed run.met status has ends
+    left said files has (inr ends) = leaves paths plan said files opener input air report (entries_of run.desk) run.observed run.met status has ends
 
 -- no path was asked for
 pub none_asked : (paths : List (List ℕ)) (tried : Option (List (List ℕ))) → HasAsked paths tried tried Memory
@@ -76,13 +76,13 @@ none_asked paths tried = (0, tried_none tried, tt)
 pub live_met : {S : Type 0} (left : S → Option (List ℕ)) (faults : S → ℕ) (old first source new : S) (paths : List (List ℕ)) (plan : LivePlan) (opener : OpenerAsked) (air : ReportTaken) (run : LiveResult)
     → first ≡ old → new ≡ source
     → ((text : List ℕ) → left first ≡ Some text → (files : Files) → opener.files ≡ Some files
-    → HasMet paths plan text files (left source) (read_faults (faults first) opener.read_old) (read_faults (faults source) opener.read_new) air.old air.new (entries_of run.desk) run.observed run.met)
+    → HasMetAsking paths plan text files (left source) (read_faults (faults first) opener.read_old) (read_faults (faults source) opener.read_new) opener.tried_old opener.tried_new air.old air.new (entries_of run.desk) run.observed run.met)
     → IsMet run.met → CanBeSaid run.met → HasAsked paths opener.tried_old opener.tried_new run.met → (run.met ≡ Done → IsAtEnd (left source))
     → HasStatusCause (faults first) (faults source) opener.read_old opener.read_new air.faults_old air.faults_new run.met
     → ((feed : ℕ) → run.met ≡ OpenFault feed → Rose opener.faults_old opener.faults_new) → LiveMet paths plan opener (gave left faults old new) air run
 live_met {S = S} left faults old first source new paths plan opener air run begins gives met known said asked_for end cause open_cause =
     subst (λ (s : S). LiveMet paths plan opener (gave left faults old s) air run) (sym gives) (record {
-      met = λ text tells files told. subst (λ (s : S). HasMet paths plan text files (left source) (read_faults (faults s) opener.read_old) (read_faults (faults source) opener.read_new) air.old air.new (entries_of run.desk) run.observed run.met) begins
+      met = λ text tells files told. subst (λ (s : S). HasMetAsking paths plan text files (left source) (read_faults (faults s) opener.read_old) (read_faults (faults source) opener.read_new) opener.tried_old opener.tried_new air.old air.new (entries_of run.desk) run.observed run.met) begins
           (met text (ap left begins ∙ tells) files told);
       known = known;
       said = said;

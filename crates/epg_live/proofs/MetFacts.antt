@@ -1,6 +1,7 @@
 -- What a run met, from what its parts tell.
-use Rattle.std.proofs.Common.{◌≡◌, ◌⊎◌, inl, inr, ℕ, ◌≤◌, List, [], length, take, refl, sym, ◌∙◌, subst}
+use Rattle.std.proofs.Common.{◌≡◌, ◌⊎◌, inl, inr, ℕ, ◌≤◌, List, [], length, take, refl, sym, ap, ◌∙◌, subst}
 use Rattle.std.specs.Prelude.{Option, None, Some, Ok, Err, Result, IfOk, OnErr}
+use Rattle.std.proofs.Math.Seq.{take-length}
 use Rattle.headend_live.specs.declared.watched.LivePlan.{LivePlan}
 use Rattle.si_causes.specs.Causes.{Rose}
 use Rattle.si_causes.specs.Opening.{Files}
@@ -29,7 +30,7 @@ use Rattle.epg_live.specs.Stops.{HasStatusCause, IsMet, IsOfLive, IsOfRun, mux_s
 use Rattle.mux_config.specs.Texts.{described}
 use Rattle.epg_live.specs.Runs.{NoJobs, Ran, ReadFaults, nothing_observed, read_faults}
 use Rattle.epg_report.specs.Ends.{ReportEnds, or_report}
-use Rattle.epg_live.specs.Ends.{AskedFor, HasAsked, HasMet}
+use Rattle.epg_live.specs.Ends.{AskedFor, HasAsked, HasMetAsking, asked_before}
 use Rattle.epg_report.specs.Told.{ReportTaken}
 use Rattle.epg_live.specs.Views.{unserved}
 use Rattle.epg_live.proofs.OpenFacts.{tried_none}
@@ -48,6 +49,13 @@ mux_asked paths tried (mux.Fault fault) = (0, tried_none tried, refl)
 mux_asked paths tried (mux.Read Failed) = (0, tried_none tried, inl refl)
 mux_asked paths tried (mux.Read Overlong) = (0, tried_none tried, inl refl)
 mux_asked paths tried mux.Memory = (0, tried_none tried, tt)
+
+-- no path was asked for
+pub mux_tried : (paths : List (List ℕ)) (tried : Option (List (List ℕ))) (stop : MuxStop) → (mux_status stop ≡ Memory) ⊎ HasTried tried tried (take (asked_before (mux_status stop)) paths)
+mux_tried paths tried (mux.Fault fault) = inr (tried_none tried)
+mux_tried paths tried (mux.Read Failed) = inr (tried_none tried)
+mux_tried paths tried (mux.Read Overlong) = inr (tried_none tried)
+mux_tried paths tried mux.Memory = inl refl
 
 pub mux_of_live : (stop : MuxStop) → IsMet (mux_status stop)
 mux_of_live (mux.Read Failed) = tt
@@ -73,9 +81,10 @@ not_opened plan text left before now journal observed opening.Memory mux behind 
 
 -- ---- where the multiplex lacks a service that is viewed
 
-pub not_served : (paths : List (List ℕ)) (plan : LivePlan) (text : List ℕ) (files : Files) (left : Option (List ℕ)) (faults_old faults_now : ReadFaults) (before : Option (List ℕ)) (journal : List Entry) (observed : Observed) (service : ℕ) (mux : Mux) (behind : Ahead)
-    → described text ≡ Came (Ok mux) behind → unserved mux plan.views ≡ Some service → journal ≡ [] → observed ≡ nothing_observed → HasMet paths plan text files left faults_old faults_now before before journal observed (NoView service)
-not_served paths plan text files left faults_old faults_now before journal observed service mux behind whole lacks none quiet = inr (inl (record { why = (mux, behind, whole, lacks); journal_is = none; observed_is = quiet; sent = refl }))
+pub not_served : (paths : List (List ℕ)) (plan : LivePlan) (text : List ℕ) (files : Files) (left : Option (List ℕ)) (faults_old faults_now : ReadFaults) (tried : Option (List (List ℕ))) (before : Option (List ℕ)) (journal : List Entry) (observed : Observed) (service : ℕ) (mux : Mux) (behind : Ahead)
+    → described text ≡ Came (Ok mux) behind → unserved mux plan.views ≡ Some service → journal ≡ [] → observed ≡ nothing_observed → HasMetAsking paths plan text files left faults_old faults_now tried tried before before journal observed (NoView service)
+not_served paths plan text files left faults_old faults_now tried before journal observed service mux behind whole lacks none quiet =
+    inr (inl (record { why = (mux, behind, whole, lacks); journal_is = none; observed_is = quiet; sent = refl }, tried_none tried))
 
 pub open_caused : (stop : OpenStop) (input_before input_now feeds_before feeds_now air_before air_now : ℕ) → HasStatusCause input_before input_now feeds_before feeds_now air_before air_now (open_status stop)
 open_caused (opening.Feed f) input_before input_now feeds_before feeds_now air_before air_now = tt
@@ -90,6 +99,13 @@ open_asked r paths old new n (opening.Feed f) is count (k, tried, to) =
     let at : (k ≡ f) × (1 ≤ f) × (f ≤ n) = subst (OpenedTo k n) is to in
     (k, tried, (at.0, at.1, subst (λ (m : ℕ). f ≤ m) (sym count) at.2))
 open_asked r paths old new n opening.Memory is count (k, tried, to) = (k, tried, tt)
+
+-- those up to the one that was not opened were asked for
+pub open_tried : {T : Type 0} (r : Result T OpenStop) (paths : List (List ℕ)) (old new : Option (List (List ℕ))) (n : ℕ) (stop : OpenStop) → r ≡ Err stop → (k : ℕ) × HasTried old new (take k paths) × OpenedTo k n r
+    → (open_status stop ≡ Memory) ⊎ HasTried old new (take (asked_before (open_status stop)) paths)
+open_tried r paths old new n (opening.Feed f) is (k, tried, to) =
+    let at : (k ≡ f) × (1 ≤ f) × (f ≤ n) = subst (OpenedTo k n) is to in inr (subst (λ (m : ℕ). HasTried old new (take m paths)) at.0 tried)
+open_tried r paths old new n opening.Memory is opened = inl refl
 
 pub open_of_live : (stop : OpenStop) → IsMet (open_status stop)
 open_of_live (opening.Feed f) = tt
@@ -140,6 +156,14 @@ all_asked r paths old mid new n feeds met is count same of (k, tried, to) =
     let all : k ≡ n = subst (OpenedTo k n) is to in
     (k, subst (λ (o : Option (List (List ℕ))). HasTried old o (take k paths)) (sym same) tried, run_asked (length paths) k met of (all ∙ sym count))
 
+-- all were asked for
+pub all_tried : {T : Type 0} (r : Result T OpenStop) (paths : List (List ℕ)) (old mid new : Option (List (List ℕ))) (n : ℕ) (feeds : T) → r ≡ Ok feeds → length paths ≡ n → new ≡ mid
+    → (k : ℕ) × HasTried old mid (take k paths) × OpenedTo k n r → HasTried old new paths
+all_tried r paths old mid new n feeds is count same (k, tried, to) =
+    let all : k ≡ n = subst (OpenedTo k n) is to in
+    subst (λ (o : Option (List (List ℕ))). HasTried old o paths) (sym same)
+    (subst (λ (l : List (List ℕ)). HasTried old mid l) (ap (λ (m : ℕ). take m paths) (all ∙ sym count) ∙ take-length paths) tried)
+
 -- the count of the input's faults may have risen before the jobs started
 read_from : (old mid now : ℕ) (stop : Option EditStop) → old ≤ mid → HasReadCause mid now stop → HasReadCause old now stop
 read_from old mid now (Some (edit.Read Failed)) le cause = Rose-from old mid now le cause
@@ -174,16 +198,19 @@ ran_from paths plan text files left old mid now feeds_old feeds_now before after
   },
 )
 
-pub ran_met : {S E : Type 0} (left : S → Option (List ℕ)) (faults : S → ℕ) (r : Result S E) (paths : List (List ℕ)) (said plan : LivePlan) (text : List ℕ) (files : Files) (old mid feeds_old feeds_mid feeds_now : ℕ) (before now : Option (List ℕ))
-    (journal : List Entry) (observed : Observed) (met : Status) → said ≡ plan → old ≤ mid → feeds_mid ≡ feeds_old
+pub ran_met : {S E : Type 0} (left : S → Option (List ℕ)) (faults : S → ℕ) (r : Result S E) (paths : List (List ℕ)) (said plan : LivePlan) (text : List ℕ) (files : Files) (old mid feeds_old feeds_mid feeds_now : ℕ) (tried_old tried_now : Option (List (List ℕ)))
+    (before now : Option (List ℕ)) (journal : List Entry) (observed : Observed) (met : Status) → said ≡ plan → old ≤ mid → feeds_mid ≡ feeds_old → HasTried tried_old tried_now paths
     → IfOk r (λ s. (met ≡ Memory) ⊎ Ran paths said text files (left s) (read_faults mid feeds_mid) (read_faults (faults s) feeds_now) before now journal observed met)
-    → IfOk r (λ s. HasMet paths plan text files (left s) (read_faults old feeds_old) (read_faults (faults s) feeds_now) before now journal observed met)
-ran_met left faults (Err e) paths said plan text files old mid feeds_old feeds_mid feeds_now before now journal observed met is le same did = tt
-ran_met left faults (Ok s) paths said plan text files old mid feeds_old feeds_mid feeds_now before now journal observed met is le same (inl memory) = inl memory
-ran_met left faults (Ok s) paths said plan text files old mid feeds_old feeds_mid feeds_now before now journal observed met is le same (inr ran) =
-    inr (inr (ran_from paths plan text files (left s) old mid (faults s) feeds_old feeds_now before now journal observed met le
-    (subst (λ (p : LivePlan). Ran paths p text files (left s) (read_faults mid feeds_old) (read_faults (faults s) feeds_now) before now journal observed met) is
-    (subst (λ (n : ℕ). Ran paths said text files (left s) (read_faults mid n) (read_faults (faults s) feeds_now) before now journal observed met) same ran))))
+    → IfOk r (λ s. HasMetAsking paths plan text files (left s) (read_faults old feeds_old) (read_faults (faults s) feeds_now) tried_old tried_now before now journal observed met)
+ran_met left faults (Err e) paths said plan text files old mid feeds_old feeds_mid feeds_now tried_old tried_now before now journal observed met is le same tried did = tt
+ran_met left faults (Ok s) paths said plan text files old mid feeds_old feeds_mid feeds_now tried_old tried_now before now journal observed met is le same tried (inl memory) = inl memory
+ran_met left faults (Ok s) paths said plan text files old mid feeds_old feeds_mid feeds_now tried_old tried_now before now journal observed met is le same tried (inr ran) =
+    inr (inr (
+      ran_from paths plan text files (left s) old mid (faults s) feeds_old feeds_now before now journal observed met le
+          (subst (λ (p : LivePlan). Ran paths p text files (left s) (read_faults mid feeds_old) (read_faults (faults s) feeds_now) before now journal observed met) is
+          (subst (λ (n : ℕ). Ran paths said text files (left s) (read_faults mid n) (read_faults (faults s) feeds_now) before now journal observed met) same ran)),
+      tried,
+    ))
 
 cause_from : (old mid now feeds_old feeds_mid feeds_now air_before air_now : ℕ) (met : Status) → old ≤ mid → feeds_mid ≡ feeds_old → HasStatusCause mid now feeds_mid feeds_now air_before air_now met → HasStatusCause old now feeds_old feeds_now air_before air_now met
 cause_from old mid now feeds_old feeds_mid feeds_now air_before air_now (ReadFault Input) le same cause = Rose-from old mid now le cause
@@ -203,10 +230,12 @@ pub if_ok : {S E : Type 0} (P Q : S → Type 0) (r : Result S E) → ((s : S) �
 if_ok P Q (Err e) f p = tt
 if_ok P Q (Ok s) f p = f s p
 
-pub as_met : (paths : List (List ℕ)) (plan : LivePlan) (text : List ℕ) (files : Files) (left : Option (List ℕ)) (faults_old faults_now : ReadFaults) (before now : Option (List ℕ)) (journal : List Entry) (observed : Observed) (met : Status)
-    → (met ≡ Memory) ⊎ NoJobs plan text left before now journal observed met → HasMet paths plan text files left faults_old faults_now before now journal observed met
-as_met paths plan text files left faults_old faults_now before now journal observed met (inl memory) = inl memory
-as_met paths plan text files left faults_old faults_now before now journal observed met (inr none) = inr (inl none)
+pub as_met : (paths : List (List ℕ)) (plan : LivePlan) (text : List ℕ) (files : Files) (left : Option (List ℕ)) (faults_old faults_now : ReadFaults) (tried_old tried_now : Option (List (List ℕ))) (before now : Option (List ℕ))
+    (journal : List Entry) (observed : Observed) (met : Status) → (met ≡ Memory) ⊎ NoJobs plan text left before now journal observed met → (met ≡ Memory) ⊎ HasTried tried_old tried_now (take (asked_before met) paths)
+    → HasMetAsking paths plan text files left faults_old faults_now tried_old tried_now before now journal observed met
+as_met paths plan text files left faults_old faults_now tried_old tried_now before now journal observed met (inl memory) asked = inl memory
+as_met paths plan text files left faults_old faults_now tried_old tried_now before now journal observed met (inr none) (inl memory) = inl memory
+as_met paths plan text files left faults_old faults_now tried_old tried_now before now journal observed met (inr none) (inr tried) = inr (inl (none, tried))
 
 -- where memory was wanting behind the opening, all were asked for
 pub some_asked : {S E T : Type 0} (r : Result S E) (opened : Result T OpenStop) (paths : List (List ℕ)) (old mid new : Option (List (List ℕ))) (n : ℕ) → new ≡ mid → (k : ℕ) × HasTried old mid (take k paths) × OpenedTo k n opened

@@ -45,6 +45,19 @@ abbrev pub HasMet : List (List ℕ) → LivePlan → List ℕ → Files → Opti
 HasMet paths plan text files left faults_before faults_now before now journal observed met =
     (met ≡ Memory) ⊎ (NoJobs plan text left before now journal observed met ⊎ Ran paths plan text files left faults_before faults_now before now journal observed met)
 
+-- how many paths were asked for where no job started: those up to one that was not opened, and else none
+abbrev pub asked_before : Status → ℕ
+asked_before (OpenFault f) = f
+asked_before status = 0
+
+-- what was met, and which of these paths an opener was asked for: all where jobs ran, and else the first `asked_before`
+abbrev pub HasMetAsking : List (List ℕ) → LivePlan → List ℕ → Files → Option (List ℕ) → ReadFaults → ReadFaults → Option (List (List ℕ)) → Option (List (List ℕ))
+    → Option (List ℕ) → Option (List ℕ) → List Entry → Observed → Status → Type 0
+HasMetAsking paths plan text files left faults_before faults_now tried_before tried_now before now journal observed met =
+    (met ≡ Memory)
+    ⊎ ((NoJobs plan text left before now journal observed met × HasTried tried_before tried_now (take (asked_before met) paths))
+    ⊎ (Ran paths plan text files left faults_before faults_now before now journal observed met × HasTried tried_before tried_now paths))
+
 -- ---- inside a run
 
 abbrev pub entries_of : Option DeskState → List Entry

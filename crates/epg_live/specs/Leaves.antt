@@ -10,12 +10,12 @@ use Rattle.journal_screen.specs.Last.{IsShownLast}
 use Rattle.headend_live.specs.SentAir.{SentAir}
 use Rattle.epg_report.specs.declared.status.Status.{Status}
 use Rattle.epg_report.specs.declared.status.Status.TheVariants.{Done, Memory}
-use Rattle.epg_report.specs.Told.{ReportTaken}
+use Rattle.epg_report.specs.Told.{OpenerAsked, ReportTaken, SourceGave}
 use Rattle.epg_live.specs.declared.reporting.Observed.{Observed}
 use Rattle.mux_config.specs.Texts.{described}
 use Rattle.epg_report.specs.Ends.{ReportEnds}
-use Rattle.epg_live.specs.Runs.{ReadFaults}
-use Rattle.epg_live.specs.Ends.{HasMet, run_text}
+use Rattle.epg_live.specs.Runs.{read_faults}
+use Rattle.epg_live.specs.Ends.{HasMetAsking, run_text}
 
 -- What was sent is an air of this journal, over the multiplex that the text describes, or the first bytes of one; or nothing was sent.
 abbrev pub JournalIsSent : List ℕ → List Entry → Option (List ℕ) → Option (List ℕ) → Type 0
@@ -27,14 +27,16 @@ abbrev pub MonitorShows : ℕ → List ℕ → List Entry → Option (List ℕ) 
 MonitorShows join text journal before now guide =
     (mux : Mux) × (behind : Ahead) × (described text ≡ Came (Ok mux) behind) × IsShownLast join mux journal before now guide
 
--- What a run over the files of these paths leaves, of the text of its input and the files of its opener, and of what is left of that text.
-pub record LeftLive (paths : List (List ℕ)) (plan : LivePlan) (text : List ℕ) (files : Files) (left : Option (List ℕ)) (faults_before faults_now : ReadFaults)
+-- What a run over the files of these paths leaves, of the text of its input and the files of its opener.
+pub record LeftLive (paths : List (List ℕ)) (plan : LivePlan) (text : List ℕ) (files : Files) (opener : OpenerAsked) (input : SourceGave)
     (air report : ReportTaken) (status : Status) : Type 0 where
   pub journal : List Entry
   pub observed : Observed
   pub met : Status
-  -- the journal has just the commands of each caller, each once, in order, with the replies of a desk of one thread; what was sent is its air
-  pub ran : HasMet paths plan text files left faults_before faults_now air.old air.new journal observed met
+  -- the journal has just the commands of each caller, each once, in order, with the replies of a desk of one thread; what was sent is its air;
+  -- the opener was asked for all paths where jobs ran, and for none where the description ended the run
+  pub ran : HasMetAsking paths plan text files input.new (read_faults input.faults_old opener.read_old) (read_faults input.faults_new opener.read_new)
+      opener.tried_old opener.tried_new air.old air.new journal observed met
   -- the report is the text of the journal, of the completions, of the views and of the guide, and a fault line, if there is one
   pub reported : ReportEnds met (run_text journal observed) report status
   -- whoever joins that air at any packet, and loses none: each completion is of one airing, and once a cycle was heard whole the guide is that
@@ -44,6 +46,6 @@ pub record LeftLive (paths : List (List ℕ)) (plan : LivePlan) (text : List ℕ
   pub shown : met ≡ Done → (sent : List ℕ) → air.old ≡ Some sent → MonitorShows plan.join text journal air.old air.new observed.guide
 
 -- So does each run; but want of memory, whoever met it, goes before all.
-abbrev pub LeavesLive : List (List ℕ) → LivePlan → List ℕ → Files → Option (List ℕ) → ReadFaults → ReadFaults → ReportTaken → ReportTaken → Status → Type 0
-LeavesLive paths plan text files left faults_before faults_now air report status =
-    (status ≡ Memory) ⊎ LeftLive paths plan text files left faults_before faults_now air report status
+abbrev pub LeavesLive : List (List ℕ) → LivePlan → List ℕ → Files → OpenerAsked → SourceGave → ReportTaken → ReportTaken → Status → Type 0
+LeavesLive paths plan text files opener input air report status =
+    (status ≡ Memory) ⊎ LeftLive paths plan text files opener input air report status

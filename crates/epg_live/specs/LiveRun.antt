@@ -10,7 +10,6 @@ use Rattle.epg_report.specs.declared.status.Outlet.TheVariants.{Report}
 use Rattle.epg_report.specs.Told.{OpenerAsked, ReportTaken, SourceGave, asked, gave, told}
 use Rattle.epg_live.specs.Decided.{AreWhole, text_status}
 use Rattle.epg_live.specs.Stops.{HasStatusCause, IsOfLive}
-use Rattle.epg_live.specs.Runs.{read_faults}
 use Rattle.epg_live.specs.Ends.{HasAsked}
 use Rattle.epg_live.specs.Leaves.{LeavesLive}
 
@@ -28,7 +27,7 @@ pub record LiveRun (paths : List (List ℕ)) (plan : LivePlan) (opener : OpenerA
   -- what is left with each status: one journal of all callers, however their threads interleave, its air, how that can be heard, and what
   -- was observed of it
   pub leaves : (text : List ℕ) → input.old ≡ Some text → (files : Files) → opener.files ≡ Some files
-      → LeavesLive paths plan text files input.new (read_faults input.faults_old opener.read_old) (read_faults input.faults_new opener.read_new) air report status
+      → LeavesLive paths plan text files opener input air report status
   -- where nothing fails, the texts of the input and of the files decide the status, but for want of memory
   pub completes : (text : List ℕ) → input.old ≡ Some text → (files : Files) → opener.files ≡ Some files → IsUnfailing opener input air report
       → (status ≡ Memory) ⊎ (status ≡ text_status text plan.views paths files)

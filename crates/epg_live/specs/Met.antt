@@ -10,15 +10,15 @@ use Rattle.epg_report.specs.Told.{OpenerAsked, ReportTaken, SourceGave, asked, g
 use Rattle.epg_live.specs.declared.reporting.LiveResult.{LiveResult}
 use Rattle.epg_live.specs.Stops.{HasStatusCause, IsMet}
 use Rattle.epg_live.specs.Runs.{read_faults}
-use Rattle.epg_live.specs.Ends.{HasAsked, HasMet, entries_of}
+use Rattle.epg_live.specs.Ends.{HasAsked, HasMetAsking, entries_of}
 
 -- What a run over the files of these paths met: what its opener was asked, what its input gave, what its air took, and what it leaves to be
 -- reported.
 pub record LiveMet (paths : List (List ℕ)) (plan : LivePlan) (opener : OpenerAsked) (input : SourceGave) (air : ReportTaken) (run : LiveResult) : Type 0 where
-  -- the journal of all callers, its air and what was observed of it; or why no job started
+  -- the journal of all callers, its air and what was observed of it; or why no job started; and which paths were asked for until then
   pub met : (text : List ℕ) → input.old ≡ Some text → (files : Files) → opener.files ≡ Some files
-      → HasMet paths plan text files input.new (read_faults input.faults_old opener.read_old) (read_faults input.faults_new opener.read_new)
-      air.old air.new (entries_of run.desk) run.observed run.met
+      → HasMetAsking paths plan text files input.new (read_faults input.faults_old opener.read_old) (read_faults input.faults_new opener.read_new)
+      opener.tried_old opener.tried_new air.old air.new (entries_of run.desk) run.observed run.met
   -- no other status comes, and its line can be written
   pub known : IsMet run.met
   pub said : CanBeSaid run.met

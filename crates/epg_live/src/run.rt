@@ -9,7 +9,7 @@ ghost use Rattle.command_words.specs.Commands.{texts};
 ghost use Rattle.mux_model.specs.declared.mux.MuxService.{MuxService as Service};
 ghost use Rattle.mux_model.specs.Sound.{IsSound};
 ghost use Rattle.epg_report.specs.Texts.{CanBeSaid};
-ghost use Rattle.epg_live.specs.Ends.{HasAsked, HasMet, IsBlank, entries_of};
+ghost use Rattle.epg_live.specs.Ends.{HasAsked, HasMetAsking, IsBlank, entries_of};
 ghost use Rattle.epg_live.specs.Runs.{HasRead, Ran, read_faults};
 ghost use Rattle.epg_live.specs.Opened.{AreOpened};
 ghost use Rattle.epg_live.specs.Views.{has_service, plan_of, unserved};
@@ -168,7 +168,8 @@ fn run_jobs<W: Threads + Wait + Sync, O: Opener, S: Source + Send, A: Sink + Sen
     ensures ran { (paths : List (List ℕ)) → AreOpened O.From.left O.From.faults (O.files opener.old) paths feeds.items
         → (text : List ℕ) → HasRead S.left text mux lines → (files : Files) → O.files opener.old ≡ Some files
         → IfOk result (λ source. (run.new.met ≡ Status.Memory) ⊎ Ran paths plan text files (S.left source)
-        (read_faults (S.faults lines.source) (O.read_faults opener.old)) (read_faults (S.faults source) (O.read_faults opener.new))
+        (read_faults (S.faults lines.source) (O.read_faults opener.old))
+        (read_faults (S.faults source) (O.read_faults opener.new))
         (A.written air.old) (A.written air.new) (entries_of run.new.desk) run.new.observed run.new.met) }
     ensures cause { IfOk result (λ source. HasStatusCause (S.faults lines.source) (S.faults source) (O.read_faults opener.old) (O.read_faults opener.new) (A.faults air.old) (A.faults air.new) run.new.met) }
     ensures end { IfOk result (λ source. run.new.met ≡ Status.Done → IsAtEnd (S.left source)) }
@@ -208,8 +209,10 @@ fn run_described<W: Threads + Wait + Sync, O: Opener, S: Source + Send, A: Sink 
     requires unread { lines ≡ fresh lines.source }
     requires blank { IsBlank run.old }
     ensures met { (text : List ℕ) → S.left lines.source ≡ Some text → (files : Files) → O.files opener.old ≡ Some files
-        → IfOk result (λ source. HasMet (texts words.now.feeds.items) (plan_of words.now) text files (S.left source)
-        (read_faults (S.faults lines.source) (O.read_faults opener.old)) (read_faults (S.faults source) (O.read_faults opener.new))
+        → IfOk result (λ source. HasMetAsking (texts words.now.feeds.items) (plan_of words.now) text files (S.left source)
+        (read_faults (S.faults lines.source) (O.read_faults opener.old))
+        (read_faults (S.faults source) (O.read_faults opener.new))
+        (O.tried opener.old) (O.tried opener.new)
         (A.written air.old) (A.written air.new) (entries_of run.new.desk) run.new.observed run.new.met) }
     ensures cause { IfOk result (λ source. HasStatusCause (S.faults lines.source) (S.faults source) (O.read_faults opener.old) (O.read_faults opener.new) (A.faults air.old) (A.faults air.new) run.new.met) }
     ensures open_cause { IfOk result (λ _. (f : ℕ) → run.new.met ≡ Status.OpenFault f → Rose (O.faults opener.old) (O.faults opener.new)) }

@@ -26,7 +26,7 @@ use Rattle.epg_live.specs.Runs.{Ran, read_faults}
 use Rattle.epg_report.specs.Ends.{ReportEnds}
 use Rattle.epg_live.specs.Ends.{HasMet, entries_of}
 use Rattle.epg_live.proofs.DecidedFacts.{met_decided}
-use Rattle.epg_live.proofs.LeavesFacts.{as_read, ran_shown}
+use Rattle.epg_live.proofs.LeavesFacts.{as_read, met_of, ran_shown}
 use Rattle.si_workload.specs.Texts.{feed_text}
 use Rattle.workload_laws.specs.Load.{soak_mux}
 use Rattle.workload_laws.specs.Laws.{control_behind}
@@ -55,11 +55,12 @@ have_texts number = record { first_is = refl; second_is = refl }
 abbrev MetOfLoad : ℕ → Option (List ℕ) → ReportTaken → LiveResult → Status → Type 0
 MetOfLoad number left air run met = HasMet soak_paths soak_plan soak_text (soak_files number) left never_failed never_failed air.old air.new (entries_of run.desk) run.observed met
 
-met_of : (number : ℕ) (air : ReportTaken) (run : LiveResult) (load : LoadMet number air run) → MetOfLoad number load.left air run run.met
-met_of number air run load =
+load_met : (number : ℕ) (air : ReportTaken) (run : LiveResult) (load : LoadMet number air run) → MetOfLoad number load.left air run run.met
+load_met number air run load =
     subst (λ (n : ℕ). HasMet soak_paths soak_plan soak_text (soak_files number) load.left never_failed (read_faults 0 n) air.old air.new (entries_of run.desk) run.observed run.met) load.of_load.now
     (subst (λ (n : ℕ). HasMet soak_paths soak_plan soak_text (soak_files number) load.left (read_faults 0 n) (read_faults 0 load.opener.read_new) air.old air.new (entries_of run.desk) run.observed run.met) load.of_load.before
-    (load.met.met soak_text refl (soak_files number) load.of_load.files))
+    (met_of soak_paths soak_plan soak_text (soak_files number) load.left (read_faults 0 load.opener.read_old) (read_faults 0 load.opener.read_new) load.opener.tried_old load.opener.tried_new air.old air.new
+    (entries_of run.desk) run.observed run.met (load.met.met soak_text refl (soak_files number) load.of_load.files)))
 
 caused : (number : ℕ) (air : ReportTaken) (run : LiveResult) (load : LoadMet number air run) → HasStatusCause 0 0 0 0 air.faults_old air.faults_new run.met
 caused number air run load =
@@ -76,7 +77,7 @@ decided number left air run met has no_open no_input no_air =
     ]
 
 pub met_by_load : (number : ℕ) (air : ReportTaken) (run : LiveResult) → LoadMet number air run → IsMetByLoad run.met
-met_by_load number air run load = by run.met load.met.known (caused number air run load) (met_of number air run load)
+met_by_load number air run load = by run.met load.met.known (caused number air run load) (load_met number air run load)
   where
     by : (met : Status) → IsMet met → HasStatusCause 0 0 0 0 air.faults_old air.faults_new met → MetOfLoad number load.left air run met → IsMetByLoad met
     by Done known cause has = tt
@@ -248,4 +249,4 @@ pub soak_run : (number : ℕ) (air report : ReportTaken) (run : LiveResult) (sta
     → (status ≡ Memory) ⊎ ((is_reported run.met ≡ true) × ReportEnds run.met (run_summary run.met (entries_of run.desk) run.observed) report status) → SoakRun number air report status
 soak_run number air report run status load (inl memory) = soak_memory number air report status memory
 soak_run number air report run status load (inr (ended, ends)) =
-    by number air report run status load run.met ended (met_by_load number air run load) (met_of number air run load) (caused number air run load) ends
+    by number air report run status load run.met ended (met_by_load number air run load) (load_met number air run load) (caused number air run load) ends

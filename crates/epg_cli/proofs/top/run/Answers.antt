@@ -100,7 +100,7 @@ returns-in-Ok-Live g c =
       live = λ paths plan spelled.
           live_is (λ ps p. LiveRun ps p opener input air report c.run_live_files.result) command read paths (plan_of words) plan spells spelled run;
       live_again = λ paths plan spelled text tells files known.
-          prints read (plan_of words) text files input.new (read_faults input.faults_old opener.read_old) (read_faults input.faults_new opener.read_new) air report c.run_live_files.result (run.leaves text tells files known);
+          prints read (plan_of words) text files opener input air report c.run_live_files.result (run.leaves text tells files known);
       soak = λ number spelled. absurd (live_soak command read (plan_of words) number spells spelled);
       audit = λ path nulls spelled. absurd (live_audit command read (plan_of words) path nulls spells spelled);
       air_kept = λ spelled. absurd (live_sends command read (plan_of words) spells spelled);
