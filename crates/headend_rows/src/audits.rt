@@ -52,11 +52,9 @@ impl<'a, W: Threads + Wait + Sync> Room<'a, W> {
         let mut script = Buffer::open(self.alloc);
         self.put_script(own, &mut script);
         ends.note(bytes.lacks() || script.lacks());
-        let case = Case {
-            words,
-            input: script.as_slice(),
-            file: file_of(text, bytes.as_slice()),
-        };
+        let file = file_of(text, bytes.as_slice());
+        let input = script.as_slice();
+        let case = Case { words, input, file };
         self.put_case(ends, &case, turns, Form::Reported, out)
     }
 
@@ -118,10 +116,11 @@ impl<'a, W: Threads + Wait + Sync> Room<'a, W> {
         for turn in 0..turns_of(change, air.len() / 188) {
             bytes.clear();
             put_turn(&mut bytes, air, change, turn);
+            let file = File::Holds(bytes.as_slice());
             let case = Case {
                 words: PLAIN,
                 input: script,
-                file: File::Holds(bytes.as_slice()),
+                file,
             };
             let code = ends.run(self.rt, &case, &WHOLE).code();
             count(tally, code, ends.report_text());

@@ -163,10 +163,11 @@ impl<'a, W: Threads + Wait + Sync> Room<'a, W> {
 
     // Whether `audit` takes the airs joined.
     fn is_audited(&self, ends: &mut Ends, script: &str, air: &[u8]) -> bool {
+        let file = File::Holds(air);
         let case = Case {
             words: "audit --air=p",
             input: script.as_bytes(),
-            file: File::Holds(air),
+            file,
         };
         ends.run(self.rt, &case, &WHOLE).code() == 0
     }

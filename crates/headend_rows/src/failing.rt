@@ -12,9 +12,9 @@ use std::thread::Threads;
 
 // A script with its whole air, and how many bytes a call moves at most.
 #[derive(Clone, Copy)]
-struct Failing<'b> {
-    script: &'b Script<'b>,
-    whole: &'b [u8],
+struct Failing<'s, 't, 'w> {
+    script: &'s Script<'t>,
+    whole: &'w [u8],
     piece: usize,
 }
 

@@ -89,11 +89,9 @@ impl<'a, W: Threads + Wait + Sync> Room<'a, W> {
         let mut bytes = Buffer::open(self.alloc);
         self.put_file(ends, file, &mut bytes);
         ends.note(script.lacks() || bytes.lacks());
-        let case = Case {
-            words,
-            input: script.as_slice(),
-            file: file_of(file, bytes.as_slice()),
-        };
+        let file = file_of(file, bytes.as_slice());
+        let input = script.as_slice();
+        let case = Case { words, input, file };
         self.put_case(ends, &case, turns, Form::Played, out);
     }
 

@@ -27,10 +27,10 @@ pub enum File<'a> {
 
 /// A run: its words with a space between, its input, and its file.
 #[derive(Clone, Copy)]
-pub struct Case<'a> {
-    pub words: &'a str,
-    pub input: &'a [u8],
-    pub file: File<'a>,
+pub struct Case<'w, 'i, 'f> {
+    pub words: &'w str,
+    pub input: &'i [u8],
+    pub file: File<'f>,
 }
 
 /// What of the outside has a call that fails: the reads of the input or of the file, the writes of the air or of the report.
