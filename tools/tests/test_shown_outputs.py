@@ -118,6 +118,9 @@ class Check(unittest.TestCase):
     def test_a_program_that_is_not_here(self) -> None:
         self.assertIn("its program is not here", self.assert_right(console("$ no-such-program air.ts", "x"), program=True))
 
+    def test_a_file_that_is_not_here(self) -> None:
+        self.assertIn("its program is not here", self.assert_right(console("$ sort /no/such/file", "x"), program=True))
+
     def live(self, *lines: str) -> str:
         return console("$ ./lepnugan live --feed examples/f < examples/live.txt > air.ts", *lines)
 
