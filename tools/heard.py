@@ -8,7 +8,7 @@ from __future__ import annotations
 import re
 from dataclasses import dataclass, field
 from datetime import datetime, timedelta, timezone
-from typing import Callable, Dict, Iterable, List, NamedTuple, Optional, Tuple
+from typing import Callable, Dict, Iterable, List, NamedTuple, Optional, Sequence, Tuple
 
 MOMENT = re.compile(r"(\d{4})-(\d\d)-(\d\d)T(\d\d):(\d\d):(\d\d)Z", re.ASCII)
 DURATION = re.compile(r"(\d\d):(\d\d):(\d\d)", re.ASCII)
@@ -54,17 +54,25 @@ class Component(NamedTuple):
 
 
 @dataclass
-class Service:
+class Remote:
+    """A service of another stream."""
+
     id: int
     type: int
     provider: str
     name: str
-    pmt_pid: int
-    pcr_pid: int
-    components: List[Component] = field(default_factory=list)
     present: Optional[Event] = None
     following: Optional[Event] = None
     events: List[Event] = field(default_factory=list)
+
+
+@dataclass
+class Service(Remote):
+    """A service of the stream; a PID is None where no programme gives it."""
+
+    pmt_pid: Optional[int] = None
+    pcr_pid: Optional[int] = None
+    components: List[Component] = field(default_factory=list)
 
 
 class Named(NamedTuple):
@@ -87,6 +95,16 @@ class Cable(NamedTuple):
     symbol_rate: int
     outer: int
     inner: int
+
+
+@dataclass
+class Other:
+    """Another stream of the network; its cable is None where none was told."""
+
+    id: int
+    original_network_id: int
+    cable: Optional[Cable]
+    services: List[Remote] = field(default_factory=list)
 
 
 class LocalTime(NamedTuple):
@@ -137,6 +155,7 @@ class Heard:
     stream: Optional[Stream] = None
     cable: Optional[Cable] = None
     services: List[Service] = field(default_factory=list)
+    others: List[Other] = field(default_factory=list)
     wanting: List[Tuple[str, ...]] = field(default_factory=list)
     completions: List[Completion] = field(default_factory=list)
     losses: List[Loss] = field(default_factory=list)
@@ -209,8 +228,8 @@ class Reader:
         self.heard = Heard()
         self._words: Dict[str, Callable[[List[str]], None]] = {
             "done": self._done, "lost": self._lost, "clock": self._clock, "local": self._local, "network": self._network,
-            "stream": self._stream, "cable": self._cable, "service": self._service, "component": self._component, "now": self._now,
-            "next": self._next, "event": self._event, "wanting": self._wanting, "end": self._end,
+            "stream": self._stream, "cable": self._cable, "service": self._service, "component": self._component, "other": self._other,
+            "remote": self._remote, "now": self._now, "next": self._next, "event": self._event, "wanting": self._wanting, "end": self._end,
         }
 
     def take(self, line: str) -> None:
@@ -252,11 +271,27 @@ class Reader:
 
     def _service(self, fields: List[str]) -> None:
         number, kind, provider, name, pmt, pcr = fields
-        self.heard.services.append(Service(int(number), int(kind), provider, name, int(pmt), int(pcr)))
+        pids = [int(pid) if pid else None for pid in (pmt, pcr)]
+        self.heard.services.append(Service(int(number), int(kind), provider, name, pmt_pid=pids[0], pcr_pid=pids[1]))
 
     def _component(self, fields: List[str]) -> None:
         kind, pid, language = fields
-        self._last_service().components.append(Component(int(kind), int(pid), language))
+        service = self._last_service()
+        if not isinstance(service, Service):
+            raise ValueError("a service of another stream has no components")
+        service.components.append(Component(int(kind), int(pid), language))
+
+    def _other(self, fields: List[str]) -> None:
+        number, original, *cable = fields
+        if len(cable) != len(Cable._fields):
+            raise ValueError("it does not have five fields of a cable")
+        self.heard.others.append(Other(int(number), int(original), Cable(*map(int, cable)) if any(cable) else None))
+
+    def _remote(self, fields: List[str]) -> None:
+        number, kind, provider, name = fields
+        if not self.heard.others:
+            raise ValueError("no other stream stands before it")
+        self.heard.others[-1].services.append(Remote(int(number), int(kind), provider, name))
 
     def _now(self, fields: List[str]) -> None:
         self._last_service().present = read_event(fields)
@@ -277,10 +312,12 @@ class Reader:
             raise ValueError("it has fields")
         self.heard.ended = True
 
-    def _last_service(self) -> Service:
-        if not self.heard.services:
+    def _last_service(self) -> Remote:
+        """The service that stands last: of the last other stream, or of the stream where there is none."""
+        services: Sequence[Remote] = self.heard.others[-1].services if self.heard.others else self.heard.services
+        if not services:
             raise ValueError("no service stands before it")
-        return self.heard.services[-1]
+        return services[-1]
 
 
 def read_heard(lines: Iterable[str]) -> Heard:
@@ -311,14 +348,23 @@ def event_json(event: Event) -> Dict[str, object]:
     }
 
 
-def service_json(service: Service) -> Dict[str, object]:
+def remote_json(service: Remote) -> Dict[str, object]:
     return {
         "service_id": service.id, "service_type": service.type, "provider": service.provider, "name": service.name,
-        "pmt_pid": service.pmt_pid, "pcr_pid": service.pcr_pid, "components": [part._asdict() for part in service.components],
         "present": event_json(service.present) if service.present else None,
         "following": event_json(service.following) if service.following else None,
         "events": [event_json(event) for event in service.events],
     }
+
+
+def service_json(service: Service) -> Dict[str, object]:
+    return {**remote_json(service), "pmt_pid": service.pmt_pid, "pcr_pid": service.pcr_pid,
+            "components": [part._asdict() for part in service.components]}
+
+
+def other_json(other: Other) -> Dict[str, object]:
+    return {"id": other.id, "original_network_id": other.original_network_id, "cable": other.cable._asdict() if other.cable else None,
+            "services": [remote_json(service) for service in other.services]}
 
 
 def local_time_json(local: LocalTime) -> Dict[str, object]:
@@ -335,6 +381,7 @@ def heard_json(heard: Heard) -> Dict[str, object]:
         "stream": heard.stream._asdict() if heard.stream else None,
         "cable": heard.cable._asdict() if heard.cable else None,
         "services": [service_json(service) for service in heard.services],
+        "others": [other_json(other) for other in heard.others],
         "completions": [done._asdict() for done in heard.completions],
         "losses": [loss._asdict() for loss in heard.losses],
     }

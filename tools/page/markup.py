@@ -22,7 +22,8 @@ from page.zones import offset_of
 
 HERE = Path(__file__).resolve().parent
 CONTROLS = re.compile("[\x00-\x08\x0b-\x1f\x7f-\x9f]")
-TABLES = {0x00: "PAT", 0x02: "PMT", 0x40: "NIT", 0x42: "SDT", 0x4E: "EIT present/following"}
+TABLES = {0x00: "PAT", 0x02: "PMT", 0x40: "NIT", 0x42: "SDT", 0x46: "SDT other", 0x4E: "EIT present/following",
+          0x4F: "EIT present/following other"}
 # The service types that are pictures, and those that are sound (EN 300 468, 6.2.33).
 TELEVISION = {0x01, 0x11, 0x16, 0x19, 0x1C, 0x1F, 0x20}
 RADIO = {0x02, 0x07, 0x0A}
@@ -61,7 +62,9 @@ def day_of(local: datetime) -> str:
 
 
 def table_name(table: int) -> str:
-    return TABLES.get(table, f"EIT schedule 0x{table:02X}" if 0x50 <= table <= 0x5F else f"0x{table:02X}")
+    if 0x50 <= table <= 0x6F:
+        return f"EIT schedule {'other ' if 0x60 <= table else ''}0x{table:02X}"
+    return TABLES.get(table, f"0x{table:02X}")
 
 
 def kind_of(service: Service) -> str:
@@ -234,6 +237,21 @@ def services_markup(heard: Heard) -> str:
     return list_markup("Services and PIDs", head, rows)
 
 
+def others_markup(heard: Heard, window: Window) -> str:
+    """A line for each service of other streams; nothing where no other stream was heard."""
+    if not heard.others:
+        return ""
+    head = ["stream", "service", "name", "provider", "now", "next", "events"]
+    rows = [[f"{other.id} of network {other.original_network_id}", service.id, service.name, service.provider,
+             named_event(service.present, window), named_event(service.following, window), len(service.events)]
+            for other in heard.others for service in other.services]
+    return list_markup("Services of other streams", head, rows)
+
+
+def named_event(event: Optional[Event], window: Window) -> str:
+    return f"{window.local(event.start):%H:%M} {heard_text(event.name)}" if event else ""
+
+
 def parts_of(service: Service) -> str:
     return ", ".join(f"{part.pid} ({part.stream_type}{', ' + part.language if part.language else ''})" for part in service.components)
 
@@ -294,8 +312,8 @@ def page_markup(heard: Heard, window: Window, title: Optional[str] = None) -> st
     style = (HERE / "guide.css").read_text(encoding="utf-8")
     script = (HERE / "guide.js").read_text(encoding="utf-8")
     texts = embedded_json([event_texts(placed, window) for row in rows for placed in row.placed])
-    lists = [wanting_markup(heard), losses_markup(heard), services_markup(heard), local_times_markup(heard), tables_markup(heard),
-             colours_markup(rows)]
+    lists = [wanting_markup(heard), losses_markup(heard), services_markup(heard), others_markup(heard, window), local_times_markup(heard),
+             tables_markup(heard), colours_markup(rows)]
     return "\n".join([
         '<!DOCTYPE html>', '<html lang="en">', '<head>', '<meta charset="utf-8">',
         f'<meta http-equiv="Content-Security-Policy" content="{escape(policy(script))}">',

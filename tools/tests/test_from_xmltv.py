@@ -327,6 +327,12 @@ class Channels(Folder):
             made = self.made(titled("A", "0900", "1000"), words=("--mux", str(mux)), channels=channels)
             self.assertEqual((made.status, "which the map has for a" in made.said), (1, True))
 
+    def test_a_service_of_another_stream_has_a_feed_too(self) -> None:
+        mux = self.folder / "mux.txt"
+        mux.write_text("network,1,N\nother,2,1\nremote,2,1,102,3,1,A,B\nend\n", encoding="utf-8")
+        for channels, status in (("a,102,3\n", 0), ("a,102,1\n", 1)):
+            self.assertEqual(self.made(titled("A", "0900", "1000"), words=("--mux", str(mux)), channels=channels).status, status)
+
 
 class Ids(Folder):
     def ids(self, *programmes: str) -> List[int]:

@@ -118,6 +118,14 @@ class Shown(unittest.TestCase):
         self.assertEqual(two.texts["td"][at:at + 5], ["PRT 2", "2026-11-30 19:20:00", "UTC-01:00", "2027-03-28 01:00:00", "UTC+00:00"])
         self.assertNotIn("ocal time", page_of([*HEAD, "end"]))
 
+    def test_services_of_other_streams_are_a_list(self) -> None:
+        lines = [*HEAD, "other\t2\t1\t\t\t\t\t", "remote\t201\t1\tFar\tOne", event("now", 1, "2026-11-30T20:00:00Z"), "remote\t202\t1\tFar\tTwo", "end"]
+        page = Page(page_of(lines, "+0100"))
+        self.assertIn("Services of other streams: 2", page.texts["summary"])
+        at = page.texts["td"].index("2 of network 1")
+        self.assertEqual(page.texts["td"][at:at + 5], ["2 of network 1", "201", "One", "Far", "21:00 Show"])
+        self.assertNotIn("other streams", page_of([*HEAD, "end"]))
+
     def test_all_text_is_escaped(self) -> None:
         head = [line.replace("Demo", BAD).replace("Acme", BAD).replace("News", BAD) for line in HEAD]
         wanting, fault = f"wanting\t{BAD}", f"fault: {BAD}"

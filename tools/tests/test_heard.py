@@ -38,6 +38,23 @@ class Lines(unittest.TestCase):
         self.assertEqual([azores.offset_at(moment) for moment in moments], [-60, 0, -60])
         self.assertEqual((other, [other.offset_at(moment) for moment in moments]), (("hex:414200", 63, False, 780, None, 780, ""), [780] * 3))
 
+    def test_other_streams(self) -> None:
+        lines = [*LINES[:-1], "other\t2\t65281\t\t\t\t\t", "other\t3\t4\t3460000\t3\t69000\t2\t15", "remote\t101\t1\tFar Media\tFar One",
+                 "now\t" + EVENT, "remote\t102\t2\t\thex:05ff", "event\t" + EVENT, "end"]
+        heard = read_heard(lines)
+        empty, other = heard.others
+        self.assertEqual((empty.id, empty.original_network_id, empty.cable, empty.services), (2, 65281, None, []))
+        self.assertEqual((other.id, other.original_network_id, other.cable), (3, 4, (3460000, 3, 69000, 2, 15)))
+        self.assertEqual([(remote.id, remote.name, remote.present is None, len(remote.events)) for remote in other.services],
+                         [(101, "Far One", False, 0), (102, "hex:05ff", True, 1)])
+        self.assertEqual([(service.id, len(service.events)) for service in heard.services], [(101, 1)])
+        made = json.loads(json.dumps(heard_json(heard)))["others"][1]
+        self.assertEqual((made["id"], made["cable"]["inner"], made["services"][0]["present"]["name"]), (3, 15, "The Lighthouse"))
+
+    def test_a_service_without_a_programme(self) -> None:
+        (service,) = read_heard(["service\t5\t0\t\tFive\t\t"]).services
+        self.assertEqual((service.pmt_pid, service.pcr_pid), (None, None))
+
     def test_the_examples(self) -> None:
         heard = read_heard(stored_lines("play < week.txt"))
         self.assertEqual((heard.is_whole, heard.passed_over, len(heard.completions)), (True, 0, 20))
@@ -58,7 +75,8 @@ class Lines(unittest.TestCase):
     def test_lines_that_listen_does_not_print(self) -> None:
         for line in ("done\t1", "lost\t1\tx", "clock\t2026-11-31T00:00:00Z", "clock\t٢٠٢٦-11-30T00:00:00Z", "network\t1", "wanting", "end\t1",
                      "local\tGBR\t0\tahead\t60", "local\tGBR\t0\twest\t0\t2027-03-28T01:00:00Z\t0\t", "local\tGBR\t0\tahead\t0\t\t0\t20:20",
-                     "event\t" + EVENT, "component\t1\t2\teng", "service\t1\t1\tA\tB\t1"):
+                     "event\t" + EVENT, "component\t1\t2\teng", "service\t1\t1\tA\tB\t1", "remote\t1\t1\tA\tB", "other\t1\t1",
+                     "other\t1\t1\t1\t\t\t\t"):
             with self.assertRaises(HeardError) as caught:
                 read_heard(["", line])
             self.assertIn("line 2 is no `", str(caught.exception))

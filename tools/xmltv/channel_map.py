@@ -13,6 +13,7 @@ from typing import Dict, Iterable, List, NamedTuple, Optional, Tuple
 from xml_elements import ListingsError
 
 LONGEST_SHIFT = 7 * 1440
+ID_FIELD = {"service": 1, "remote": 3}
 
 
 class Target(NamedTuple):
@@ -73,13 +74,14 @@ def read_map(path: Path) -> ChannelMap:
 
 
 def read_feeds(path: Path) -> Dict[int, int]:
-    """The services of a description of a multiplex, each with its feed. Only these fields are looked at."""
+    """The services of a description of a multiplex and those of other streams, each with its feed. Only these fields are looked at."""
     feeds: Dict[int, int] = {}
     for number, fields in numbered_records(path):
         if fields[0] == "end":
             break
-        if fields[0] == "service":
-            service, feed = (number_within(field, 0, 65535) for field in (fields + ["", ""])[1:3])
+        first = ID_FIELD.get(fields[0])
+        if first:
+            service, feed = (number_within(field, 0, 65535) for field in (fields + [""] * 4)[first:first + 2])
             if service is None or feed is None:
                 raise ListingsError(f"{path}: line {number}: a service has an id and a feed")
             feeds[service] = feed

@@ -36,6 +36,13 @@ only_keys test k (d ∷ ds) all = go (test d.key) refl (only_keys test k ds all.
     go true e others = subst (λ (b : Bool). AllByRecursion (λ (q : Key). q ≡ k) (cond b (d.key ∷ rest) rest)) (sym e) (all.0 e, others)
     go false e others = subst (λ (b : Bool). AllByRecursion (λ (q : Key). q ≡ k) (cond b (d.key ∷ rest) rest)) (sym e) others
 
+-- where no key passes the test, none is left of them
+pub none_pass : (test : Key → Bool) (ds : List Completed) → AllByRecursion (λ (d : Completed). test d.key ≡ false) ds → filter test (map (λ (d : Completed). d.key) ds) ≡ []
+none_pass test [] all = refl
+none_pass test (d ∷ ds) all =
+    let rest = filter test (map (λ (d : Completed). d.key) ds) in
+    ap (λ (b : Bool). cond b (d.key ∷ rest) rest) all.0 ∙ none_pass test ds all.1
+
 -- where one completion of the key is shown, and of keys that pass the test only of this one, it is the latest
 pub only_is_latest : (test : Key → Bool) (k : Key) (ds : List Completed) → AllByRecursion (IsOnly test k) ds → test k ≡ true → (last : Completed)
     → latest_done (filter (is_done_of k) ds) ≡ Some last → last_of (filter test (map (λ (d : Completed). d.key) ds)) ≡ Some k

@@ -1,12 +1,12 @@
 -- What is heard of what stays on air.
-use Rattle.std.proofs.Common.{◌≡◌, ℕ, List, [], ◌∷◌, ◌++◌, Bool, true, false, Option, Some, None, map, refl, sym, ◌∙◌, subst}
+use Rattle.std.proofs.Common.{◌≡◌, ℕ, List, [], ◌∷◌, ◌++◌, Bool, true, false, Option, Some, None, map, refl, sym, ap, ◌∙◌, subst}
 use Rattle.std.specs.Prelude.{filter, slice_range, option_map, if◌then◌else◌, IsSome}
 use Rattle.std.specs.List.{AllByRecursion}
 use Rattle.si_lists.proofs.Lists.{all_map}
 use Rattle.section_codec.specs.declared.table.Key.{Key}
 use Rattle.section_codec.specs.declared.table.SubTable.{SubTable}
 use Rattle.section_codec.specs.Contents.{Content}
-use Rattle.section_codec.specs.KeyOrder.{is_key}
+use Rattle.section_codec.specs.KeyOrder.{is_key, in_order}
 use Rattle.section_codec.proofs.KeyOrderFacts.{is_key-same}
 use Rattle.version_book.specs.Airings.{AiredTables, content_at, content_in as content_among}
 use Rattle.ts_packets.specs.Bytes.{bytes_of_packet}
@@ -15,17 +15,17 @@ use Rattle.sub_collect.specs.declared.completed.Completed.{Completed}
 use Rattle.sub_collect.proofs.Done.{latest-is_shown}
 use Rattle.section_codec.specs.Tables.{is_counted}
 use Rattle.heard_completions.specs.Dones.{counted_heard}
-use Rattle.guide_receiver.specs.Latest.{last_of, keys_shown, is_pat_key, is_nit_key, is_sdt_key}
+use Rattle.guide_receiver.specs.Latest.{last_of, keys_shown, is_pat_key, is_nit_key, is_sdt_key, is_other_sdt_key}
 use Rattle.air_model.specs.Air.{Aired, air, airings_of}
 use Rattle.air_model.specs.Repeating.{IsRepeatingAirOf}
 use Rattle.air_hearing.specs.Counting.{CanBeHeard}
 use Rattle.air_coherence.specs.Coherence.{IsAiredIn}
 use Rattle.air_coherence.proofs.Coherent.{coherent_in}
-use Rattle.air_exact.specs.Exact.{StaysOnAir, IsOnlyKey, IsCarried}
+use Rattle.air_exact.specs.Exact.{StaysOnAir, IsOnlyKey, HaveNoKey, IsCarried}
 use Rattle.air_exact.specs.Laws.{OnAirIsHeard}
 use Rattle.air_exact.proofs.Contents.{contents_heard}
 use Rattle.air_exact.proofs.Shown.{all_shown}
-use Rattle.air_exact.proofs.Latest.{only_is_latest}
+use Rattle.air_exact.proofs.Latest.{only_is_latest, none_pass}
 use Rattle.air_exact.proofs.Clock.{clock_heard}
 use Rattle.air_exact.proofs.Offsets.{offsets_are_heard}
 
@@ -80,6 +80,18 @@ module _ (airings : List AiredTables) (before : List Aired) (x : Aired) (after :
           key_carried (λ (q : Key). test q ≡ true → q ≡ k) d.key aired.cycle.airing.tables
           (element_at (λ (a : AiredTables). AllByRecursion (λ (t : SubTable). test t.key ≡ true → t.key ≡ k) a.tables) aired.before aired.cycle aired.after all) d.sections aired.content
 
+  -- where no key of the airings passes a test, none that is shown does
+  none_shown : (test : Key → Bool) → HaveNoKey test airings → filter test (keys_shown (counted_heard packets)) ≡ []
+  none_shown test none =
+      none_pass test (dones [] (counted_heard packets))
+      (all_map (IsAiredIn join end (before ++ x ∷ after)) (λ (d : Completed). test d.key ≡ false) one (dones [] (counted_heard packets)) each_aired)
+    where
+      one : (d : Completed) → IsAiredIn join end (before ++ x ∷ after) d → test d.key ≡ false
+      one d aired =
+          let all = subst (λ (ys : List Aired). HaveNoKey test (airings_of ys)) aired.cut (subst (HaveNoKey test) (sym is.airings_are) none) in
+          key_carried (λ (q : Key). test q ≡ false) d.key aired.cycle.airing.tables
+          (element_at (λ (a : AiredTables). AllByRecursion (λ (t : SubTable). test t.key ≡ false) a.tables) aired.before aired.cycle aired.after all) d.sections aired.content
+
 pub on_air_heard : OnAirIsHeard
 on_air_heard airings before x after is can join end stays within pat nit sdt once offsets =
     let clock = clock_heard airings before x after is can join end stays.joined stays.whole within in
@@ -88,6 +100,7 @@ on_air_heard airings before x after is can join end stays within pat nit sdt onc
       pat_is = latest_key airings before x after is can join end stays is_pat_key pat once.pats once.pat_is;
       nit_is = latest_key airings before x after is can join end stays is_nit_key nit once.nits once.nit_is;
       sdt_is = latest_key airings before x after is can join end stays (is_sdt_key sdt.ext) sdt once.sdts once.sdt_is;
+      others = ap in_order (none_shown airings before x after is can join end stays is_other_sdt_key once.others);
       clock = subst IsSome (sym clock.1) refl;
       offsets = offsets_are_heard airings before x after is can join end stays.joined stays.whole within offsets;
     }

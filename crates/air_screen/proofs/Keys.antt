@@ -1,5 +1,5 @@
 -- The keys of the tables of a publication.
-use Rattle.std.proofs.Common.{◌≡◌, ◌≤◌, ◌⊎◌, inl, inr, true, refl, ap, arith}
+use Rattle.std.proofs.Common.{◌≡◌, ℕ, ◌≤◌, ◌==◌, ◌⊎◌, inl, inr, true, false, refl, ap, arith}
 use Rattle.std.specs.List.{AllByRecursion}
 use Rattle.std.proofs.lemmas.Bool.Decides.{nat_tests}
 use Rattle.si_lists.proofs.Lists.{all_map, each_unit}
@@ -8,7 +8,7 @@ use Rattle.mux_model.specs.declared.mux.Mux.{Mux}
 use Rattle.mux_model.specs.Sound.{IsSound, IsSoundService}
 use Rattle.section_codec.specs.declared.table.Key.{Key}
 use Rattle.section_codec.specs.declared.table.SubTable.{SubTable}
-use Rattle.guide_receiver.specs.Latest.{is_pat_key, is_nit_key, is_sdt_key}
+use Rattle.guide_receiver.specs.Latest.{is_pat_key, is_nit_key, is_sdt_key, is_other_sdt_key}
 use Rattle.publication.specs.Network.{nit_key}
 use Rattle.publication.specs.Programs.{pat_key}
 use Rattle.publication.specs.Parts.{own_guide}
@@ -52,6 +52,13 @@ sdt_only mux t (inr (inr (inl e))) test = e
 sdt_only mux t (inr (inr (inr (inl n)))) test = absurd (let z : Prim.⊥ = grind (arith, nat_tests) in z)
 sdt_only mux t (inr (inr (inr (inr n)))) test = absurd (let z : Prim.⊥ = grind (arith, nat_tests) in z)
 
+not_other : (mux : Mux) (t : SubTable) → IsKnown mux t → is_other_sdt_key t.key ≡ false
+not_other mux t (inl e) = ap is_other_sdt_key e
+not_other mux t (inr (inl e)) = ap is_other_sdt_key e
+not_other mux t (inr (inr (inl e))) = ap is_other_sdt_key e
+not_other mux t (inr (inr (inr (inl n)))) = ap (λ (table : ℕ). table == 0x46) n
+not_other mux t (inr (inr (inr (inr n)))) = grind (arith, nat_tests)
+
 pub only_pat : (mux : Mux) (guide : Guide) → IsSound mux → AllByRecursion (λ (t : SubTable). is_pat_key t.key ≡ true → t.key ≡ pat_key mux) (tables_of mux guide)
 only_pat mux guide sound =
     all_map (IsKnown mux) (λ (t : SubTable). is_pat_key t.key ≡ true → t.key ≡ pat_key mux) (pat_only mux) (tables_of mux guide) (all_known mux guide sound)
@@ -63,3 +70,6 @@ only_nit mux guide sound =
 pub only_sdt : (mux : Mux) (guide : Guide) → IsSound mux → AllByRecursion (λ (t : SubTable). is_sdt_key mux.stream t.key ≡ true → t.key ≡ sdt_key mux) (tables_of mux guide)
 only_sdt mux guide sound =
     all_map (IsKnown mux) (λ (t : SubTable). is_sdt_key mux.stream t.key ≡ true → t.key ≡ sdt_key mux) (sdt_only mux) (tables_of mux guide) (all_known mux guide sound)
+
+pub no_other : (mux : Mux) (guide : Guide) → IsSound mux → AllByRecursion (λ (t : SubTable). is_other_sdt_key t.key ≡ false) (tables_of mux guide)
+no_other mux guide sound = all_map (IsKnown mux) (λ (t : SubTable). is_other_sdt_key t.key ≡ false) (not_other mux) (tables_of mux guide) (all_known mux guide sound)

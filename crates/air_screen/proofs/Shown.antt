@@ -17,7 +17,7 @@ use Rattle.nit_sdt.specs.Nit.{NitReadsBack}
 use Rattle.nit_sdt.specs.Sdt.{SdtReadsBack}
 use Rattle.guide_screen.specs.View.{View}
 use Rattle.section_codec.specs.Tables.{is_counted}
-use Rattle.guide_receiver.specs.Latest.{is_pat_key, is_nit_key, is_sdt_key, clock_of}
+use Rattle.guide_receiver.specs.Latest.{is_pat_key, is_nit_key, is_sdt_key, is_other_sdt_key, clock_of}
 use Rattle.guide_receiver.specs.Guides.{view_of}
 use Rattle.air_model.specs.Air.{Aired, air, airings_of}
 use Rattle.air_model.specs.Repeating.{IsRepeatingAirOf}
@@ -33,7 +33,7 @@ use Rattle.publication.proofs.CountedFacts.{published_counted}
 use Rattle.publication_screen.proofs.Whole.{publication_is_shown}
 use Rattle.air_screen.specs.Published.{CanBePublished, ArePublished, HaveOffsetsOf, number_at, StaysPublished, AreShown}
 use Rattle.air_screen.specs.Laws.{PublishedIsShown}
-use Rattle.air_screen.proofs.Keys.{only_pat, only_nit, only_sdt}
+use Rattle.air_screen.proofs.Keys.{only_pat, only_nit, only_sdt, no_other}
 use Rattle.air_exact.proofs.Contents.{can_at}
 
 -- ---- the publication of an airing
@@ -113,6 +113,7 @@ module _ (nit_back : NitReadsBack) (sdt_back : SdtReadsBack) (mux : Mux) (guides
     pats = each_published (AllByRecursion (λ (t : SubTable). is_pat_key t.key ≡ true → t.key ≡ pat_key mux)) mux guides (λ n. only_pat mux (guides n) sound.sound) numbers airings are;
     nits = each_published (AllByRecursion (λ (t : SubTable). is_nit_key t.key ≡ true → t.key ≡ nit_key mux)) mux guides (λ n. only_nit mux (guides n) sound.sound) numbers airings are;
     sdts = each_published (AllByRecursion (λ (t : SubTable). is_sdt_key mux.stream t.key ≡ true → t.key ≡ sdt_key mux)) mux guides (λ n. only_sdt mux (guides n) sound.sound) numbers airings are;
+    others = each_published (AllByRecursion (λ (t : SubTable). is_other_sdt_key t.key ≡ false)) mux guides (λ n. no_other mux (guides n) sound.sound) numbers airings are;
     pat_is = record { passes = refl; counted = refl; some = some_of (pat_key mux) (pat_table mux).sections found.0 };
     nit_is = record { passes = refl; counted = refl; some = some_of (nit_key mux) (nit_table mux).sections others_found.0 };
     sdt_is = record { passes = eq-eqb mux.stream mux.stream refl; counted = refl; some = some_of (sdt_key mux) (sdt_table mux guide).sections others_found.1.0 };
@@ -125,6 +126,7 @@ module _ (nit_back : NitReadsBack) (sdt_back : SdtReadsBack) (mux : Mux) (guides
     pat = on.pat_is;
     nit = on.nit_is;
     sdt = on.sdt_is;
+    others_are = on.others;
     clock_is = told;
     offsets_are = on.offsets ∙ own_offsets;
   }

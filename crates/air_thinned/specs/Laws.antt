@@ -44,8 +44,8 @@ ThinnedContentsAreHeard =
     → (k : Key) → is_counted k.pid k.table ≡ true → (c : Content) → content_at k x.airing ≡ Some c
     → content_over (taken_of (bytes_that_came fates)) k ≡ Some c
 
--- So a receiver has what is on air, where of the tables that come once all airings have the same, and tell the same offsets: the contents,
--- the keys, a moment, and the offsets.
+-- So a receiver has what is on air, where of the tables that come once all airings have the same, describe no other stream, and tell the same
+-- offsets: the contents, the keys, no SDT of another stream, a moment, and the offsets.
 abbrev pub ThinnedOnAirIsHeard : Type 0
 ThinnedOnAirIsHeard =
     (airings : List AiredTables) (before : List Aired) (x : Aired) (after : List Aired) → IsRepeatingAirOf airings (before ++ x ∷ after) → AllByRecursion CanBeHeard airings

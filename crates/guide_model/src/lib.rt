@@ -14,5 +14,8 @@ mod stream;
 pub use event::{Event, Events, Genre, Genres, Rating};
 pub use guide::{Guide, ServiceGuide, ServiceGuides};
 pub use offset::{Offset, Offsets};
-pub use screen::{Screen, ScreenEvent, ScreenEvents, ScreenService, ScreenServices};
+pub use screen::{
+    Screen, ScreenEvent, ScreenEvents, ScreenOther, ScreenOthers, ScreenRemote, ScreenRemotes,
+    ScreenService, ScreenServices,
+};
 pub use stream::{Cable, Component, Components};

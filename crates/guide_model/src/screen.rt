@@ -44,10 +44,39 @@ pub struct ScreenService {
 /// Services in ascending order of service_id.
 pub type ScreenServices = Items<ScreenService>;
 
+/// A service of another stream as it was heard: its service_id, its service_type (`kind`), the names of its provider
+/// and its own, its present and following event, and the events of its schedule (EN 300 468, 5.2.3, 5.2.4 and 6.2.33).
+#[derive(Drop)]
+pub struct ScreenRemote {
+    pub service: u16,
+    pub kind: u8,
+    pub provider: Shown,
+    pub name: Shown,
+    pub now: Option<ScreenEvent>,
+    pub next: Option<ScreenEvent>,
+    pub events: ScreenEvents,
+}
+
+/// Services of another stream in ascending order of service_id.
+pub type ScreenRemotes = Items<ScreenRemote>;
+
+/// Another stream as it was heard: its transport_stream_id (`stream`) and original_network_id, how it is sent by cable
+/// where it is told, and its services (EN 300 468, 5.2.1 and 5.2.3).
+#[derive(Drop)]
+pub struct ScreenOther {
+    pub stream: u16,
+    pub original: u16,
+    pub cable: Option<Cable>,
+    pub services: ScreenRemotes,
+}
+
+/// Other streams in ascending order of transport_stream_id and then original_network_id.
+pub type ScreenOthers = Items<ScreenOther>;
+
 /// What a receiver shows of a multiplex: the last moment that it heard, how far the clocks of
 /// regions are from UTC, network_id and name of the network, transport_stream_id (`stream`) and
-/// original_network_id, how the stream is sent by cable where it is told, and the services (EN 300
-/// 468, 5.2.1, 5.2.3, 5.2.5 and 5.2.6).
+/// original_network_id, how the stream is sent by cable where it is told, the services, and the
+/// other streams (EN 300 468, 5.2.1, 5.2.3, 5.2.5 and 5.2.6).
 #[derive(Drop)]
 pub struct Screen {
     pub clock: Moment,
@@ -58,4 +87,5 @@ pub struct Screen {
     pub original: u16,
     pub cable: Option<Cable>,
     pub services: ScreenServices,
+    pub others: ScreenOthers,
 }

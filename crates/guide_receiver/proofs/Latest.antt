@@ -12,6 +12,8 @@ use Rattle.time_tables.specs.Tot.{tot_in}
 use Rattle.guide_model.specs.declared.offset.Offset.{Offset}
 use Rattle.std.specs.Ordering.{nat_cmp}
 use Rattle.std.specs.BTreeMap.{get, is_at}
+use Rattle.std.specs.BTreeSet.{insert_key}
+use Rattle.std.proofs.lemmas.Grind.{fold-append}
 use Rattle.std.specs.Cmp.{unsigned_ties}
 use Rattle.std.specs.Map.{lookup}
 use Rattle.std.specs.Option.{option_or}
@@ -20,6 +22,7 @@ use Rattle.std.proofs.lemmas.List.{map-append, take_more}
 use Rattle.std.proofs.lemmas.List.Elements.{filter-append, filter_map-append}
 use Rattle.si_time.specs.declared.moment.Moment.{Moment}
 use Rattle.section_codec.specs.declared.table.Key.{Key}
+use Rattle.section_codec.specs.KeyOrder.{key_cmp, in_order}
 use Rattle.ts_demux.specs.declared.section.RawSection.{RawSection}
 use Rattle.sub_collect.specs.Runs.{Counted}
 use Rattle.sub_collect.specs.Completions.{dones}
@@ -29,7 +32,7 @@ use Rattle.guide_screen.specs.View.{View, sdt_of, sdt_behind}
 use Rattle.heard_completions.specs.declared.done.DoneKey.{DoneKey}
 use Rattle.guide_receiver.specs.declared.latest_keys.LatestKeys.{LatestKeys}
 use Rattle.heard_completions.specs.Dones.{done_key}
-use Rattle.guide_receiver.specs.Latest.{LatestKept, sdt_in, last_of, keys_shown, is_pat_key, is_nit_key, is_sdt_key, short_by, moment_by, moment_in, clock_of, offsets_by, offsets_in, offsets_heard, AreLatest, IsClock}
+use Rattle.guide_receiver.specs.Latest.{LatestKept, sdt_in, last_of, keys_shown, is_pat_key, is_nit_key, is_sdt_key, is_other_sdt_key, other_sdts, short_by, moment_by, moment_in, clock_of, offsets_by, offsets_in, offsets_heard, AreLatest, IsClock}
 
 last-push : {X : Type 0} (xs : List X) (x : X) → last_of (xs ++ x ∷ []) ≡ Some x
 last-push [] x = refl
@@ -44,16 +47,26 @@ last_that-push test xs x = ap last_of (filter-append test xs (x ∷ [])) ∙ go 
 
 -- ---- keys
 
+-- in order, with one more
+pub ordered-push : (keys : List Key) (k : Key) → other_sdts (keys ++ k ∷ []) ≡ (if is_other_sdt_key k then insert_key key_cmp (other_sdts keys) k else other_sdts keys)
+ordered-push keys k = ap in_order (filter-append is_other_sdt_key keys (k ∷ [])) ∙ go (is_other_sdt_key k)
+  where
+    go : (b : Bool) → in_order (filter is_other_sdt_key keys ++ cond b (k ∷ []) []) ≡ (if b then insert_key key_cmp (other_sdts keys) k else other_sdts keys)
+    go true = fold-append (insert_key key_cmp) [] (filter is_other_sdt_key keys) (k ∷ [])
+    go false = ap in_order (append-nil (filter is_other_sdt_key keys))
+
 -- one more key was completed
 pub key-put : (keys : List Key) (k : Key) (old new : LatestKept) → AreLatest keys old
     → new.pat ≡ (if is_pat_key k then Some k else old.pat)
     → new.nit ≡ (if is_nit_key k then Some k else old.nit)
     → ((ext : ℕ) → sdt_in ext new.sdts ≡ (if is_sdt_key ext k then Some k else sdt_in ext old.sdts))
+    → new.others ≡ (if is_other_sdt_key k then insert_key key_cmp old.others k else old.others)
     → AreLatest (keys ++ k ∷ []) new
-key-put keys k old new are pat nit sdts = record {
+key-put keys k old new are pat nit sdts others = record {
   pat = pat ∙ ap (λ o. if is_pat_key k then Some k else o) are.pat ∙ sym (last_that-push is_pat_key keys k);
   nit = nit ∙ ap (λ o. if is_nit_key k then Some k else o) are.nit ∙ sym (last_that-push is_nit_key keys k);
   sdts = λ ext. sdts ext ∙ ap (λ o. if is_sdt_key ext k then Some k else o) (are.sdts ext) ∙ sym (last_that-push (is_sdt_key ext) keys k);
+  others = others ∙ ap (λ (l : List Key). if is_other_sdt_key k then insert_key key_cmp l k else l) are.others ∙ sym (ordered-push keys k);
 }
 
 -- the SDT of a transport_stream_id, as the map has it

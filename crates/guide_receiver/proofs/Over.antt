@@ -15,7 +15,7 @@ use Rattle.heard_completions.specs.declared.done.DoneKey.{DoneKey}
 use Rattle.heard_completions.specs.Counting.{counted_among}
 use Rattle.heard_completions.specs.Dones.{counted_heard, done_key, dones_by}
 use Rattle.heard_completions.proofs.Shown.{keyed, by_version, listed, counted-push}
-use Rattle.guide_receiver.specs.Latest.{keys_shown, keys_shown_over, last_of, is_pat_key, is_nit_key, is_sdt_key, clock_of, offsets_heard}
+use Rattle.guide_receiver.specs.Latest.{keys_shown, keys_shown_over, last_of, is_pat_key, is_nit_key, is_sdt_key, other_sdts, clock_of, offsets_heard}
 use Rattle.guide_receiver.specs.Guides.{view_of, view_over}
 use Rattle.guide_receiver.specs.Heard.{Hearing, took_by, ReceiverStandsFor, ReceiverStandsOver}
 
@@ -74,6 +74,7 @@ view-free past =
       pat = last_of (filter is_pat_key (keys i));
       nit = last_of (filter is_nit_key (keys i));
       sdt = λ ext. last_of (filter (is_sdt_key ext) (keys i));
+      others = other_sdts (keys i);
       clock = clock_of (heard_all [] past);
       offsets = offsets_heard (heard_all [] past);
     }

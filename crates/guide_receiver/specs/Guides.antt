@@ -7,17 +7,18 @@ use Rattle.guide_screen.specs.Holding.{content_in}
 use Rattle.guide_screen.specs.Screen.{heard_of}
 use Rattle.guide_screen.specs.declared.need.Heard.{Heard}
 use Rattle.heard_completions.specs.Dones.{counted_heard}
-use Rattle.guide_receiver.specs.Latest.{last_of, keys_shown, keys_shown_over, is_pat_key, is_nit_key, is_sdt_key, clock_of, offsets_heard}
+use Rattle.guide_receiver.specs.Latest.{last_of, keys_shown, keys_shown_over, is_pat_key, is_nit_key, is_sdt_key, other_sdts, clock_of, offsets_heard}
 
 -- What is heard: of each key the content that it completed last; of the PAT, of the NIT and of the SDT of each
--- transport_stream_id the key whose completion was shown last; the moment that the last TDT tells, and the offsets that the last TOT
--- tells.
+-- transport_stream_id the key whose completion was shown last; of the SDTs of other streams all keys; the moment that the last TDT tells,
+-- and the offsets that the last TOT tells.
 abbrev pub view_of : List (List ℕ) → View
 view_of packets = record {
   content = content_in (counted_heard packets);
   pat = last_of (filter is_pat_key (keys_shown (counted_heard packets)));
   nit = last_of (filter is_nit_key (keys_shown (counted_heard packets)));
   sdt = λ ext. last_of (filter (is_sdt_key ext) (keys_shown (counted_heard packets)));
+  others = other_sdts (keys_shown (counted_heard packets));
   clock = clock_of (heard_all [] packets);
   offsets = offsets_heard (heard_all [] packets);
 }
@@ -29,6 +30,7 @@ view_over packets taken = record {
   pat = last_of (filter is_pat_key (keys_shown_over taken));
   nit = last_of (filter is_nit_key (keys_shown_over taken));
   sdt = λ ext. last_of (filter (is_sdt_key ext) (keys_shown_over taken));
+  others = other_sdts (keys_shown_over taken);
   clock = clock_of (heard_all [] packets);
   offsets = offsets_heard (heard_all [] packets);
 }

@@ -1,9 +1,10 @@
--- What was heard last: of the tables that come once, the key that was completed last, and the moment of the last time and date table
--- and the offsets of the last time offset table (ISO/IEC 13818-1, 2.4.4.3; EN 300 468, 5.2.1, 5.2.3, 5.2.5 and 5.2.6).
+-- What was heard last: of the tables that come once, the key that was completed last, the SDTs of other streams, and the moment of the last
+-- time and date table and the offsets of the last time offset table (ISO/IEC 13818-1, 2.4.4.3; EN 300 468, 5.2.1, 5.2.3, 5.2.5 and 5.2.6).
 use Rattle.std.specs.Prelude.{◌≡◌, ℕ, Bool, ◌&&◌, ◌==◌, if◌then◌else◌, List, [], ◌∷◌, map, filter, filter_map, Option, Some, None, option_map, unwrap_or, Result, Ok, Err}
 use Rattle.std.specs.Option.{option_or}
 use Rattle.si_time.specs.declared.moment.Moment.{Moment}
 use Rattle.section_codec.specs.declared.table.Key.{Key}
+use Rattle.section_codec.specs.KeyOrder.{in_order}
 use Rattle.section_codec.specs.declared.section.Section.{Section}
 use Rattle.section_codec.specs.declared.section.Section.TheVariants.{Long, Short}
 use Rattle.section_codec.specs.declared.section.BadSection.{BadSection}
@@ -43,6 +44,14 @@ is_nit_key k = k.table == 0x40
 -- the SDT of a transport_stream_id, of any network
 abbrev pub is_sdt_key : ℕ → Key → Bool
 is_sdt_key ext k = k.table == 0x42 && k.ext == ext
+
+-- an SDT of another stream
+abbrev pub is_other_sdt_key : Key → Bool
+is_other_sdt_key k = k.table == 0x46
+
+-- the SDTs of other streams among these, in their order: by transport_stream_id, and then original_network_id
+abbrev pub other_sdts : List Key → List Key
+other_sdts keys = in_order (filter is_other_sdt_key keys)
 
 -- ---- sections in the short form
 
@@ -95,14 +104,15 @@ offsets_heard sections = unwrap_or (last_of (filter_map offsets_in sections)) []
 
 -- ---- what is kept
 
--- the keys of the PAT and of the NIT, and by transport_stream_id those of the SDTs
+-- the keys of the PAT and of the NIT, by transport_stream_id those of the SDTs, and those of the SDTs of other streams
 pub record LatestKept : Type 0 where
   pub pat : Option Key
   pub nit : Option Key
   pub sdts : List (ℕ × Key)
+  pub others : List Key
 
 abbrev pub kept_keys : LatestKeys → LatestKept
-kept_keys keys = record { pat = keys.pat; nit = keys.nit; sdts = keys.sdts.entries }
+kept_keys keys = record { pat = keys.pat; nit = keys.nit; sdts = keys.sdts.entries; others = keys.others.keys }
 
 -- the SDT that is kept of a transport_stream_id
 abbrev pub sdt_in : ℕ → List (ℕ × Key) → Option Key
@@ -114,6 +124,7 @@ pub record AreLatest (keys : List Key) (latest : LatestKept) : Type 0 where
   pub pat : latest.pat ≡ last_of (filter is_pat_key keys)
   pub nit : latest.nit ≡ last_of (filter is_nit_key keys)
   pub sdts : (ext : ℕ) → sdt_in ext latest.sdts ≡ last_of (filter (is_sdt_key ext) keys)
+  pub others : latest.others ≡ other_sdts keys
 
 -- This is the moment that these sections tell last.
 abbrev pub IsClock : List RawSection → Option Moment → Type 0

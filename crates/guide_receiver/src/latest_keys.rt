@@ -1,5 +1,5 @@
 // The keys that were completed last.
-ghost use Rattle.std.specs.Prelude.{◌≡◌, [], List, ◌++◌, ◌∷◌, Some, None, OnOk};
+ghost use Rattle.std.specs.Prelude.{◌≡◌, [], List, ◌++◌, ◌∷◌, Some, None, IfOk, OnOk};
 ghost use Rattle.std.specs.BTreeMap.{get};
 ghost use Rattle.std.specs.Ordering.{nat_cmp};
 ghost use Rattle.section_codec.specs.declared.table.Key.{Key};
@@ -7,14 +7,16 @@ ghost use Rattle.guide_receiver.specs.Latest.{AreLatest, kept_keys};
 
 use section_codec::Key;
 use std::alloc::{AllocError, Global};
-use std::collections::BTreeMap;
+use std::collections::{BTreeMap, BTreeSet};
 
-// The keys of the PAT and of the NIT that were completed last, and by transport_stream_id those of the SDTs.
+// The keys of the PAT and of the NIT that were completed last, by transport_stream_id those of the SDTs, and those of the SDTs of other
+// streams.
 #[derive(Drop)]
 pub(crate) struct LatestKeys {
     pub(crate) pat: Option<Key>,
     pub(crate) nit: Option<Key>,
     pub(crate) sdts: BTreeMap<u16, Key>,
+    pub(crate) others: BTreeSet<Key>,
 }
 
 impl LatestKeys {
@@ -26,6 +28,7 @@ impl LatestKeys {
             pat: None,
             nit: None,
             sdts: BTreeMap::new(alloc),
+            others: BTreeSet::new(alloc),
         }
     }
 
@@ -40,6 +43,17 @@ impl LatestKeys {
         }
     }
 
+    // The keys of the SDTs of other streams, in their order.
+    pub(crate) fn others(&self, alloc: Global) -> Result<Vec<Key>, AllocError>
+        ensures { IfOk result (λ others. others.items ≡ self.now.others.keys) }
+    {
+        let mut others = Vec::with_capacity(alloc, self.others.len())?;
+        for key in self.others.iter() {
+            others.push(*key)?;
+        }
+        Ok(others)
+    }
+
     // Keeps a key that was completed.
     pub(crate) fn complete(&mut self, key: Key) -> Result<(), AllocError>
         ensures { (keys : List Key) → AreLatest keys (kept_keys self.old)
@@ -50,6 +64,9 @@ impl LatestKeys {
             0x40 => self.nit = Some(key),
             0x42 => {
                 self.sdts.insert(key.ext, key)?;
+            }
+            0x46 => {
+                self.others.insert(key)?;
             }
             _ => {}
         }

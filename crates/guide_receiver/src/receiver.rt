@@ -43,8 +43,8 @@ pub enum HearStop {
 /// A receiver of a transport stream. It stands for the packets that it heard, and for their
 /// sections that count with the marks between them. It keeps of each PID the section that is open
 /// and the sections that counted last, of each sub-table its present run of sections and its latest
-/// completion, the keys of PAT, NIT and SDTs that were completed last, and the last moment and the
-/// last offsets that it heard. It keeps its allocator.
+/// completion, the keys of PAT, NIT and SDTs that were completed last and of the SDTs of other
+/// streams, and the last moment and the last offsets that it heard. It keeps its allocator.
 #[derive(Drop)]
 pub struct Receiver {
     alloc: Global,
@@ -174,7 +174,9 @@ impl Receiver {
             sdt: self.latest.sdt(),
             clock: self.clock,
         };
-        heard_guide(self.alloc, &self.collector, latest, self.offsets.as_slice())
+        let others = self.latest.others(self.alloc)?;
+        let offsets = self.offsets.as_slice();
+        heard_guide(self.alloc, &self.collector, latest, offsets, &others)
     }
 }
 

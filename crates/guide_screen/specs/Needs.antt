@@ -35,13 +35,13 @@ services_of V = by_service (services_in (sections_at V.content (sdt_of V)))
 
 -- ---- the tables of a schedule
 
--- last_table_id, which is the highest table_id of a schedule, by section 0 of its first table; 0x5F at most, and 0 where none tells it
-abbrev pub last_beside : Option (ℕ × ℕ) → ℕ
-last_beside None = 0
-last_beside (Some told) = min 0x5F told.1
+-- last_table_id, which is the highest table_id of a schedule, by section 0 of its first table; at most this one, and 0 where none is there
+abbrev pub last_beside : ℕ → Option (ℕ × ℕ) → ℕ
+last_beside most None = 0
+last_beside most (Some told) = min most told.1
 
-abbrev pub last_table : Content → ℕ
-last_table c = last_beside (value_in eit_numbers_in 0 c)
+abbrev pub last_table : ℕ → Content → ℕ
+last_table most c = last_beside most (value_in eit_numbers_in 0 c)
 
 -- the tables from a first one to a last one
 abbrev pub tables_to : ℕ → ℕ → List ℕ
@@ -68,7 +68,7 @@ want_table sdt service table = record { need = Schedule service table; key = eit
 
 -- its first table, and those that it tells; where it was not completed it tells none
 abbrev pub schedule_tables : (Key → Option Content) → Key → ℕ → List ℕ
-schedule_tables content sdt service = 0x50 ∷ tables_to 0x51 (last_table (table_at content sdt service 0x50))
+schedule_tables content sdt service = 0x50 ∷ tables_to 0x51 (last_table 0x5F (table_at content sdt service 0x50))
 
 -- the tables of the schedule, where its flag tells that they are sent
 abbrev pub want_schedule : (Key → Option Content) → Key → SdtService → List Want

@@ -5,6 +5,7 @@ use Rattle.si_text.specs.declared.shown.Shown.TheVariants.{Text}
 use Rattle.si_time.specs.Readings.{moment_from_bcd, duration_from_bcd}
 use Rattle.guide_model.specs.declared.screen.ScreenEvent.{ScreenEvent}
 use Rattle.guide_model.specs.declared.screen.Screen.{Screen}
+use Rattle.guide_model.specs.declared.screen.ScreenOther.{ScreenOther}
 use Rattle.section_codec.specs.declared.table.Key.{Key}
 use Rattle.section_codec.specs.KeyOrder.{is_key}
 use Rattle.section_codec.specs.Contents.{Content}
@@ -127,15 +128,16 @@ having cs = record {
   pat = Some pat_key;
   nit = Some nit_key;
   sdt = λ ext. Some sdt_key;
+  others = [];
   clock = Some 4257234000;
   offsets = [];
 }
 
 -- ---- screens
 
--- what is shown of it, with these events of its schedule
-abbrev shown_with : List ScreenEvent → Screen
-shown_with events = record {
+-- what is shown of it, with these events of its schedule, and with these other streams
+abbrev shown_beside : List ScreenOther → List ScreenEvent → Screen
+shown_beside others events = record {
   clock = record { 0 = 4257234000 };
   offsets = [];
   network = 40;
@@ -156,7 +158,11 @@ shown_with events = record {
     events = events;
   }
       ∷ [];
+  others = others;
 }
+
+abbrev shown_with : List ScreenEvent → Screen
+shown_with events = shown_beside [] events
 
 whole : heard_of (having (pat ∷ pmt ∷ nit ∷ sdt_with 0xFF ∷ present ∷ schedule_to 0x50 ∷ [])) ≡ Whole (shown_with [])
 unfolding chars
@@ -178,9 +184,103 @@ shown_all_the_same : heard_of (having (pat ∷ pmt ∷ nit ∷ sdt_with 0xFC ∷
 unfolding chars moment_from_bcd duration_from_bcd
 shown_all_the_same = refl
 
+-- ---- other streams
+
+abbrev other_key : ℕ → ℕ → Key
+other_key stream network = record { pid = 0x11; table = 0x46; ext = stream; stream = 0; network = network }
+
+-- an SDT of table 0x46 with service 201, Two of Acme
+abbrev other_sdt : ℕ → ℕ → Key × Content
+other_sdt stream network = (
+  other_key stream network,
+  one_body
+      (0x00 ∷ network ∷ 0xFF ∷ 0x00 ∷ 0xC9 ∷ 0xFF ∷ 0x80 ∷ 0x0C
+      ∷ 0x48 ∷ 0x0A ∷ 0x01 ∷ 0x04 ∷ 0x41 ∷ 0x63 ∷ 0x6D ∷ 0x65 ∷ 0x03 ∷ 0x54 ∷ 0x77 ∷ 0x6F ∷ []),
+)
+
+-- a schedule of service 201 of stream 2 of network 1, with one event in the table after its first, which names that table as the last
+abbrev remote_first : ℕ → Key × Content
+remote_first last_table = (eit_key (other_key 2 1) 0x60 201, one_body (0x00 ∷ 0x02 ∷ 0x00 ∷ 0x01 ∷ 0x00 ∷ last_table ∷ []))
+
+abbrev remote_second : Key × Content
+remote_second = (
+  eit_key (other_key 2 1) 0x61 201,
+  one_body
+      (0x00 ∷ 0x02 ∷ 0x00 ∷ 0x01 ∷ 0x00 ∷ 0x61 ∷ 0x00 ∷ 0x07 ∷ 0xC0 ∷ 0x79 ∷ 0x13 ∷ 0x00 ∷ 0x00 ∷ 0x00 ∷ 0x30 ∷ 0x00 ∷ 0x00 ∷ 0x00 ∷ []),
+)
+
+-- the same event as the following one, in section 1 of table 0x4F
+abbrev remote_present : Key × Content
+remote_present = (
+  eit_key (other_key 2 1) 0x4F 201,
+  record { number = 0; body = 0x00 ∷ 0x02 ∷ 0x00 ∷ 0x01 ∷ 0x01 ∷ 0x4F ∷ [] }
+      ∷ record {
+        number = 1;
+        body = 0x00 ∷ 0x02 ∷ 0x00 ∷ 0x01 ∷ 0x01 ∷ 0x4F ∷ 0x00 ∷ 0x07 ∷ 0xC0 ∷ 0x79 ∷ 0x13 ∷ 0x00 ∷ 0x00 ∷ 0x00 ∷ 0x30 ∷ 0x00 ∷ 0x00 ∷ 0x00 ∷ [];
+      }
+      ∷ [],
+)
+
+-- a receiver that has the tables of service 101, those of other streams, and the keys of their SDTs
+abbrev having_others : List Key → List (Key × Content) → View
+having_others others more = record {
+  content = content_among (pat ∷ pmt ∷ nit ∷ sdt_with 0xFC ∷ more);
+  pat = Some pat_key;
+  nit = Some nit_key;
+  sdt = λ ext. Some sdt_key;
+  others = others;
+  clock = Some 4257234000;
+  offsets = [];
+}
+
+abbrev stream_shown : ℕ → ℕ → Option ScreenEvent → List ScreenEvent → ScreenOther
+stream_shown stream network next events = record {
+  stream = stream;
+  original = network;
+  cable = None;
+  services = record {
+    service = 201;
+    kind = 1;
+    provider = Text (codes "Acme");
+    name = Text (codes "Two");
+    now = None;
+    next = next;
+    events = events;
+  }
+      ∷ [];
+}
+
+-- the SDT of table 0x46 that describes the own stream, with the ids 1 and 1, is not shown; one that has one id in common with it is
+others_shown : heard_of (having_others (other_key 1 1 ∷ other_key 1 2 ∷ other_key 2 1 ∷ []) (other_sdt 1 1 ∷ other_sdt 1 2 ∷ other_sdt 2 1 ∷ []))
+    ≡ Whole (shown_beside (stream_shown 1 2 None [] ∷ stream_shown 2 1 None [] ∷ []) [])
+unfolding chars
+others_shown = refl
+
+-- with its following event and the event of its schedule
+remote_shown : heard_of (having_others (other_key 2 1 ∷ []) (other_sdt 2 1 ∷ remote_present ∷ remote_first 0x61 ∷ remote_second ∷ []))
+    ≡ Whole (shown_beside (stream_shown 2 1 (Some bare) (bare ∷ []) ∷ []) [])
+unfolding chars moment_from_bcd duration_from_bcd
+remote_shown = refl
+
+-- a table after the last one that the first names is not shown, nor is one without the first
+above_last : heard_of (having_others (other_key 2 1 ∷ []) (other_sdt 2 1 ∷ remote_first 0x60 ∷ remote_second ∷ []))
+    ≡ Whole (shown_beside (stream_shown 2 1 None [] ∷ []) [])
+unfolding chars
+above_last = refl
+
+without_first : heard_of (having_others (other_key 2 1 ∷ []) (other_sdt 2 1 ∷ remote_second ∷ []))
+    ≡ Whole (shown_beside (stream_shown 2 1 None [] ∷ []) [])
+unfolding chars
+without_first = refl
+
+-- event information of a stream without an SDT is not shown
+not_described : heard_of (having_others [] (remote_present ∷ remote_first 0x61 ∷ remote_second ∷ [])) ≡ Whole (shown_with [])
+unfolding chars
+not_described = refl
+
 -- ---- needs
 
-nothing : heard_of (record { content = λ k. None; pat = None; nit = None; sdt = λ ext. None; clock = None; offsets = [] })
+nothing : heard_of (record { content = λ k. None; pat = None; nit = None; sdt = λ ext. None; others = []; clock = None; offsets = [] })
     ≡ Wanting (Pat ∷ Nit ∷ Sdt ∷ Clock ∷ [])
 nothing = refl
 

@@ -1,5 +1,5 @@
 -- What a receiver shows (EN 300 468, 5.2).
-use Rattle.std.specs.Prelude.{◌≡◌, ◌≢◌, ◌↔◌, ℕ, ◌&&◌, List, [], ◌∷◌, ◌==◌, if◌then◌else◌, Option, Some, None, map, option_map}
+use Rattle.std.specs.Prelude.{◌≡◌, ◌≢◌, ◌↔◌, ℕ, Bool, not, ◌&&◌, List, [], ◌∷◌, ◌==◌, if◌then◌else◌, Option, Some, None, map, filter, option_map}
 use Rattle.std.specs.Prelude.{option_and_then, unwrap_or}
 use Rattle.std.specs.List.{flat_map}
 use Rattle.si_text.specs.declared.shown.Shown.{Shown}
@@ -7,6 +7,8 @@ use Rattle.si_text.specs.declared.shown.Shown.TheVariants.{Text}
 use Rattle.guide_model.specs.declared.stream.Cable.{Cable}
 use Rattle.guide_model.specs.declared.screen.ScreenEvent.{ScreenEvent}
 use Rattle.guide_model.specs.declared.screen.ScreenService.{ScreenService}
+use Rattle.guide_model.specs.declared.screen.ScreenRemote.{ScreenRemote}
+use Rattle.guide_model.specs.declared.screen.ScreenOther.{ScreenOther}
 use Rattle.guide_model.specs.declared.screen.Screen.{Screen}
 use Rattle.section_codec.specs.declared.table.Key.{Key}
 use Rattle.section_codec.specs.Contents.{Content}
@@ -19,8 +21,8 @@ use Rattle.guide_screen.specs.declared.need.Need.{Need}
 use Rattle.guide_screen.specs.declared.need.Heard.{Heard}
 use Rattle.guide_screen.specs.declared.need.Heard.TheVariants.{Whole, Wanting}
 use Rattle.guide_screen.specs.View.{View, sections, sdt_of, pmt_key, table_at}
-use Rattle.guide_screen.specs.Reading.{pmt_in, nit_in, eit_in, streams_in, events_in, value_in}
-use Rattle.guide_screen.specs.Needs.{programs_of, services_of, last_table, tables_to, needs}
+use Rattle.guide_screen.specs.Reading.{pmt_in, nit_in, eit_in, streams_in, services_in, events_in, value_in}
+use Rattle.guide_screen.specs.Needs.{programs_of, by_service, services_of, last_table, tables_to, needs}
 
 -- ---- a service
 
@@ -51,11 +53,11 @@ event_at number c = option_and_then (λ (eit : Eit). first_of eit.events) (value
 abbrev pub events_at : (Key → Option Content) → Key → ℕ → ℕ → List ScreenEvent
 events_at content sdt service table = events_in (table_at content sdt service table)
 
--- the events of a schedule, in the order of tables and sections: of the tables from 0x50 on that its first one tells, those that were
--- completed; none where that one was not
-abbrev pub schedule_of : (Key → Option Content) → Key → ℕ → List ScreenEvent
-schedule_of content sdt service =
-    flat_map (events_at content sdt service) (tables_to 0x50 (last_table (table_at content sdt service 0x50)))
+-- the events of a schedule, in the order of tables and sections: of the tables from a first one to the last that the first one names, those
+-- that were completed; none where that one was not
+abbrev pub schedule_of : (Key → Option Content) → Key → ℕ → ℕ → ℕ → List ScreenEvent
+schedule_of content sdt service first most =
+    flat_map (events_at content sdt service) (tables_to first (last_table most (table_at content sdt service first)))
 
 abbrev pub service_with : (Key → Option Content) → Key → SdtService → Option ℕ → Option Pmt → ScreenService
 service_with content sdt s pid pmt = record {
@@ -68,7 +70,7 @@ service_with content sdt s pid pmt = record {
   components = unwrap_or (option_map (λ p. p.components) pmt) [];
   now = event_at 0 (table_at content sdt s.service 0x4E);
   next = event_at 1 (table_at content sdt s.service 0x4E);
-  events = schedule_of content sdt s.service;
+  events = schedule_of content sdt s.service 0x50 0x5F;
 }
 
 abbrev pub service_on : (Key → Option Content) → Key → SdtService → Option ℕ → ScreenService
@@ -77,17 +79,52 @@ service_on content sdt s pid = service_with content sdt s pid (pmt_of content s.
 abbrev pub screen_service : (Key → Option Content) → List PatEntry → Key → SdtService → ScreenService
 screen_service content es sdt s = service_on content sdt s (pmt_pid es s.service)
 
--- ---- the screen
+-- ---- other streams
 
--- the name of the network, by section 0 of the NIT
-abbrev pub network_name : Content → Shown
-network_name c = unwrap_or (option_map (λ nit. nit.name) (value_in nit_in 0 c)) (Text [])
+-- a service of a stream that this SDT describes; its event information stands in the tables 0x4F and 0x60 to 0x6F
+abbrev pub remote_service : (Key → Option Content) → Key → SdtService → ScreenRemote
+remote_service content sdt s = record {
+  service = s.service;
+  kind = s.kind;
+  provider = s.provider;
+  name = s.name;
+  now = event_at 0 (table_at content sdt s.service 0x4F);
+  next = event_at 1 (table_at content sdt s.service 0x4F);
+  events = schedule_of content sdt s.service 0x60 0x6F;
+}
+
+-- the services of another stream, by ascending service_id; a repeated one once, by its first entry
+abbrev pub remote_services : (Key → Option Content) → Key → List ScreenRemote
+remote_services content sdt = map (remote_service content sdt) (by_service (services_in (sections (content sdt))))
 
 -- the cable of the first entry of this stream and network
 abbrev pub cable_in : ℕ → ℕ → List NitStream → Option Cable
 cable_in stream original [] = None
 cable_in stream original (e ∷ es) =
     if e.stream == stream && e.original == original then e.cable else cable_in stream original es
+
+-- the stream that this SDT describes, by these entries of the NIT
+abbrev pub other_stream : (Key → Option Content) → List NitStream → Key → ScreenOther
+other_stream content streams sdt = record {
+  stream = sdt.ext;
+  original = sdt.network;
+  cable = cable_in sdt.ext sdt.network streams;
+  services = remote_services content sdt;
+}
+
+-- it is not the stream with these ids
+abbrev pub is_other : ℕ → ℕ → Key → Bool
+is_other stream original sdt = not (sdt.ext == stream && sdt.network == original)
+
+-- the streams that these SDTs describe, without the one with these ids
+abbrev pub other_streams : (Key → Option Content) → List NitStream → ℕ → ℕ → List Key → List ScreenOther
+other_streams content streams stream original sdts = map (other_stream content streams) (filter (is_other stream original) sdts)
+
+-- ---- the screen
+
+-- the name of the network, by section 0 of the NIT
+abbrev pub network_name : Content → Shown
+network_name c = unwrap_or (option_map (λ nit. nit.name) (value_in nit_in 0 c)) (Text [])
 
 abbrev pub screen : View → Key → Key → Key → ℕ → Screen
 screen V pat nit sdt clock = record {
@@ -99,6 +136,7 @@ screen V pat nit sdt clock = record {
   original = sdt.network;
   cable = cable_in pat.ext sdt.network (streams_in (sections (V.content nit)));
   services = map (screen_service V.content (programs_of V) sdt) (services_of V);
+  others = other_streams V.content (streams_in (sections (V.content nit))) pat.ext sdt.network V.others;
 }
 
 -- the needs that are not met, or else the screen

@@ -5,13 +5,14 @@ use Rattle.section_codec.specs.declared.table.Key.{Key}
 use Rattle.section_codec.specs.Contents.{Content}
 
 -- The content of each key that was completed; the key of the PAT and that of the NIT that was completed last, and for each
--- transport_stream_id that of its SDT; the last moment that was heard, in seconds since Modified Julian Date 0, and the offsets that were
--- heard last.
+-- transport_stream_id that of its SDT; the keys of the SDTs of other streams, in their order; the last moment that was heard, in seconds
+-- since Modified Julian Date 0, and the offsets that were heard last.
 pub record View : Type 0 where
   pub content : Key → Option Content
   pub pat : Option Key
   pub nit : Option Key
   pub sdt : ℕ → Option Key
+  pub others : List Key
   pub clock : Option ℕ
   pub offsets : List Offset
 

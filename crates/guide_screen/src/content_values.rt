@@ -72,12 +72,12 @@ fn first_of(events: ScreenEvents) -> Option<ScreenEvent>
     events.into_vec().into_iter().next()
 }
 
-// The last_table_id that section 0 of the first table of a schedule tells, 0x5F at most; 0 where it tells none.
-pub(crate) fn last_table(content: &[NumberedBody]) -> u8
-    ensures { result ≡ last_table content.now }
+// The last_table_id of section 0 of the first table of a schedule, `most` at most; 0 where there is none.
+pub(crate) fn last_table(content: &[NumberedBody], most: u8) -> u8
+    ensures { result ≡ last_table most content.now }
 {
     match part_in(content, 0) {
-        Some(body) if 6 <= body.len() => { if body[5] < 0x5F { body[5] } else { 0x5F } }
+        Some(body) if 6 <= body.len() => { if body[5] < most { body[5] } else { most } }
         _ => 0,
     }
 }

@@ -10,6 +10,7 @@ use crate::needs::needs_of;
 use crate::screen::{Named, screen_of};
 use crate::services::{programs_of, services_of};
 use guide_model::Offset;
+use section_codec::Key;
 use si_base::Items;
 use std::alloc::{AllocError, Global};
 use sub_collect::Collector;
@@ -20,19 +21,23 @@ use sub_collect::Collector;
 ///
 /// It needs a PAT, a NIT, the SDT of the PAT's stream, a moment, and the PMT of each program of the
 /// PAT; then, of each service of the SDT, the present and following events and the tables of the
-/// schedule, where its flags say that they are sent. The screen has the offsets of local time that
-/// are handed in. `Wanting` has one need at least (`screens_need_nothing`). The screen shows the
-/// services by ascending service_id, a repeated one by its first entry.
+/// schedule, where its flags say that they are sent. Nothing is needed of other streams. The screen
+/// has the offsets of local time that are handed in, and the streams that the SDTs with the keys
+/// `others` describe, in this order, but its own. `Wanting` has one need at least
+/// (`screens_need_nothing`). The screen shows the services of each stream by ascending service_id, a
+/// repeated one by its first entry.
 ///
-/// Beside looking keys up, its time is linear in the services and in the bytes of the contents.
+/// Beside looking keys up, its time is linear in the services, in the bytes of the contents, and in
+/// the other streams times the streams of the NIT.
 pub fn heard_guide(
     alloc: Global,
     contents: &Collector,
     latest: Latest,
     offsets: &[Offset],
+    others: &[Key],
 ) -> Result<Heard, AllocError>
     ensures { (V : View) → Holds contents.now latest V → V.offsets ≡ offsets.now
-        → IfOk result (λ heard. heard ≡ heard_of V) }
+        → V.others ≡ others.now → IfOk result (λ heard. heard ≡ heard_of V) }
 {
     let programs = programs_of(alloc, contents, latest.pat)?;
     let services = services_of(alloc, contents, latest.sdt)?;
@@ -40,7 +45,7 @@ pub fn heard_guide(
     if let Some(of) = named(&latest)
         && needs.is_empty()
     {
-        let screen = screen_of(alloc, contents, of, offsets, &programs, services)?;
+        let screen = screen_of(alloc, contents, of, offsets, &programs, services, others)?;
         return Ok(Heard::Whole(screen));
     }
     Ok(Heard::Wanting(Items::of(needs)))

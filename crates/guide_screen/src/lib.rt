@@ -2,8 +2,8 @@
 //! EN 300 468, 5.2).
 //!
 //! `heard_guide` gives exactly the needs that are not met, in order, or else the whole screen, with
-//! the moment of the last TDT and the offsets of the last TOT. It is whole exactly where nothing is
-//! needed (`screens_need_nothing`). `specs/Needs.antt` says what is needed, `specs/Screen.antt`
+//! the moment of the last TDT, the offsets of the last TOT, and the other streams that were
+//! described. It is whole exactly where nothing is needed (`screens_need_nothing`). `specs/Needs.antt` says what is needed, `specs/Screen.antt`
 //! what is shown, and `specs/Reading.antt` what table bodies say; that agrees with the readers
 //! (`bodies_say_what_is_read`). Worked screens stand in `specs/Rows.antt`. Not promised: that it
 //! fails only where memory runs out.
@@ -16,6 +16,8 @@ mod heard;
 mod laws;
 mod need;
 mod needs;
+mod others;
+mod schedule;
 mod screen;
 mod services;
 

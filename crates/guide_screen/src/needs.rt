@@ -97,7 +97,7 @@ fn put_schedule(
     }
     put_table(contents, sdt, service.service, 0x50, needs)?;
     let first = sections_of(contents, eit_key(sdt, 0x50, service.service));
-    let further = tables_to(alloc, 0x51, last_table(first))?;
+    let further = tables_to(alloc, 0x51, last_table(first, 0x5F))?;
     put_tables(contents, sdt, service.service, &further, needs)
 }
 

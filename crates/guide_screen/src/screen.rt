@@ -1,5 +1,5 @@
 // The screen.
-ghost use Rattle.std.specs.Prelude.{◌≡◌, ◌++◌, ℕ, List, [], Option, map, flat_map, option_map, unwrap_or, IfOk, OnOk};
+ghost use Rattle.std.specs.Prelude.{◌≡◌, ℕ, List, [], Option, map, option_map, unwrap_or, IfOk};
 ghost use Rattle.std.specs.BTreeMap.{get};
 ghost use Rattle.std.specs.Ordering.{nat_cmp};
 ghost use Rattle.section_codec.specs.declared.table.Key.{Key};
@@ -8,16 +8,14 @@ ghost use Rattle.pat_pmt.specs.declared.pat.PatEntry.{PatEntry};
 ghost use Rattle.guide_screen.specs.View.{View};
 ghost use Rattle.guide_screen.specs.Holding.{KeepsContents};
 ghost use Rattle.guide_screen.specs.Needs.{programs_of, services_of};
-ghost use Rattle.guide_screen.specs.Screen.{pid_in, pmt_pid, pmt_of, events_at, schedule_of, service_on, screen_service, cable_in, screen};
+ghost use Rattle.guide_screen.specs.Screen.{pid_in, pmt_pid, pmt_of, service_on, screen_service, screen};
 
-use crate::content_values::{event_at, last_table, network_name, pmt_told, put_events, streams_in};
+use crate::content_values::{event_at, network_name, pmt_told, streams_in};
 use crate::contents::{eit_key, pmt_key, sections_of};
-use crate::needs::tables_to;
-use guide_model::{
-    Cable, Components, Offset, Offsets, Screen, ScreenEvent, ScreenEvents, ScreenService,
-    ScreenServices,
-};
-use nit_sdt::{NitStream, SdtService};
+use crate::others::{cable_in, other_streams};
+use crate::schedule::schedule_of;
+use guide_model::{Components, Offset, Offsets, Screen, ScreenService, ScreenServices};
+use nit_sdt::SdtService;
 use pat_pmt::{PatEntry, Pmt};
 use section_codec::Key;
 use si_base::Items;
@@ -67,54 +65,6 @@ fn pmt_of(
     }
 }
 
-// The cable of the first of these streams with these ids.
-fn cable_in(streams: &[NitStream], stream: u16, original: u16) -> Option<Cable>
-    ensures { result ≡ cable_in stream original streams.now }
-{
-    for entry in streams {
-        if entry.stream == stream && entry.original == original {
-            return entry.cable;
-        }
-    }
-    None
-}
-
-// The events of the schedule of a service: of the tables that its first one tells, those that were completed.
-fn schedule_of(
-    alloc: Global,
-    contents: &Collector,
-    sdt: Key,
-    service: u16,
-) -> Result<ScreenEvents, AllocError>
-    ensures { (content : Key → Option Content) → KeepsContents contents.now content
-        → IfOk result (λ events. events ≡ schedule_of content sdt service) }
-{
-    let first = sections_of(contents, eit_key(sdt, 0x50, service));
-    let tables = tables_to(alloc, 0x50, last_table(first))?;
-    let mut events = Vec::new(alloc);
-    put_tables(alloc, contents, sdt, service, &tables, &mut events)?;
-    Ok(Items::of(events))
-}
-
-// Appends the events of these tables; want of memory may leave a part of them.
-fn put_tables(
-    alloc: Global,
-    contents: &Collector,
-    sdt: Key,
-    service: u16,
-    tables: &[u8],
-    events: &mut Vec<ScreenEvent>,
-) -> Result<(), AllocError>
-    ensures { (content : Key → Option Content) → KeepsContents contents.now content
-        → OnOk result (events.new.items ≡ events.old.items ++ flat_map (events_at content sdt service) tables.now) }
-{
-    for table in tables {
-        let sections = sections_of(contents, eit_key(sdt, *table, service));
-        put_events(alloc, sections, events)?;
-    }
-    Ok(())
-}
-
 // What is shown of a service, whose PMT has this PID.
 fn service_on(
     alloc: Global,
@@ -131,7 +81,7 @@ fn service_on(
     let present = sections_of(contents, eit_key(sdt, 0x4E, id));
     let now = event_at(alloc, 0, present)?;
     let next = event_at(alloc, 1, present)?;
-    let events = schedule_of(alloc, contents, sdt, id)?;
+    let events = schedule_of(alloc, contents, sdt, id, 0x50, 0x5F)?;
     Ok(ScreenService {
         service: id,
         kind: service.kind,
@@ -193,7 +143,7 @@ fn copied(alloc: Global, offsets: &[Offset]) -> Result<Offsets, AllocError>
     Ok(Items::of(Vec::from_slice(alloc, offsets)?))
 }
 
-// The screen of these programs and services.
+// The screen of these programs and services, and of these SDTs of other streams.
 pub(crate) fn screen_of(
     alloc: Global,
     contents: &Collector,
@@ -201,15 +151,25 @@ pub(crate) fn screen_of(
     offsets: &[Offset],
     programs: &[PatEntry],
     services: Vec<SdtService>,
+    others: &[Key],
 ) -> Result<Screen, AllocError>
     ensures { (V : View) → KeepsContents contents.now V.content
         → programs.now ≡ programs_of V → services.items ≡ services_of V → V.offsets ≡ offsets.now
+        → V.others ≡ others.now
         → IfOk result (λ shown. shown ≡ screen V of.pat of.nit of.sdt of.clock.0) }
 {
     let network = sections_of(contents, of.nit);
     let streams = streams_in(alloc, network)?;
     let network_name = network_name(alloc, network)?;
     let services = screen_services(alloc, contents, programs, of.sdt, services)?;
+    let others = other_streams(
+        alloc,
+        contents,
+        &streams,
+        of.pat.ext,
+        of.sdt.network,
+        others,
+    )?;
     Ok(Screen {
         clock: of.clock,
         offsets: copied(alloc, offsets)?,
@@ -219,5 +179,6 @@ pub(crate) fn screen_of(
         original: of.sdt.network,
         cable: cable_in(&streams, of.pat.ext, of.sdt.network),
         services,
+        others,
     })
 }

@@ -7,6 +7,8 @@ use Rattle.guide_model.specs.declared.stream.Cable.{Cable}
 use Rattle.guide_model.specs.declared.stream.Component.{Component}
 use Rattle.guide_model.specs.declared.screen.ScreenEvent.{ScreenEvent}
 use Rattle.guide_model.specs.declared.screen.ScreenService.{ScreenService}
+use Rattle.guide_model.specs.declared.screen.ScreenRemote.{ScreenRemote}
+use Rattle.guide_model.specs.declared.screen.ScreenOther.{ScreenOther}
 use Rattle.guide_model.specs.declared.screen.Screen.{Screen}
 use Rattle.guide_screen.specs.declared.need.Need.{Need}
 use Rattle.guide_screen.specs.declared.need.Need.TheVariants.{Pat, Nit, Sdt, Clock, Pmt, Present, Schedule}
@@ -109,15 +111,41 @@ abbrev pub stream_line : Screen → List ℕ
 stream_line s = line (codes "stream" ∷ decimal s.stream ∷ decimal s.original ∷ [])
 
 -- frequency, modulation, symbol rate, outer and inner error protection
+abbrev pub cable_fields : Option Cable → List (List ℕ)
+cable_fields cable =
+    optional (λ (c : Cable). decimal c.frequency) cable ∷ optional (λ (c : Cable). decimal c.modulation) cable
+    ∷ optional (λ (c : Cable). decimal c.symbol_rate) cable ∷ optional (λ (c : Cable). decimal c.fec_outer) cable
+    ∷ optional (λ (c : Cable). decimal c.fec_inner) cable ∷ []
+
 abbrev pub cable_line : Cable → List ℕ
-cable_line c =
-    line (codes "cable" ∷ decimal c.frequency ∷ decimal c.modulation ∷ decimal c.symbol_rate
-    ∷ decimal c.fec_outer ∷ decimal c.fec_inner ∷ [])
+cable_line c = line (codes "cable" ∷ cable_fields (Some c))
+
+-- ---- other streams
+
+-- transport_stream_id, original_network_id, and the fields of a cable
+abbrev pub other_line : ScreenOther → List ℕ
+other_line o = line (codes "other" ∷ decimal o.stream ∷ decimal o.original ∷ cable_fields o.cable)
+
+-- service_id, service_type, provider and name
+abbrev pub remote_line : ScreenRemote → List ℕ
+remote_line s = line (codes "remote" ∷ decimal s.service ∷ decimal s.kind ∷ shown_text s.provider ∷ shown_text s.name ∷ [])
+
+-- a service of another stream, and its events
+abbrev pub remote_text : ScreenRemote → List ℕ
+remote_text s =
+    remote_line s ++ optional (event_line (codes "now")) s.now ++ optional (event_line (codes "next")) s.next
+    ++ flat_map (event_line (codes "event")) s.events
+
+-- another stream, and its services
+abbrev pub other_text : ScreenOther → List ℕ
+other_text o = other_line o ++ flat_map remote_text o.services
+
+-- ---- the whole screen
 
 abbrev pub screen_text : Screen → List ℕ
 screen_text s =
     clock_line s.clock.0 ++ flat_map (local_line s.clock.0) s.offsets ++ network_line s ++ stream_line s ++ optional cable_line s.cable
-    ++ flat_map service_text s.services
+    ++ flat_map service_text s.services ++ flat_map other_text s.others
 
 -- ---- the guide
 

@@ -6,6 +6,7 @@ use Rattle.si_time.specs.Moments.{moments_compute}
 use Rattle.si_text.specs.declared.shown.Shown.TheVariants.{Text, Hex}
 use Rattle.guide_model.specs.declared.screen.ScreenEvent.{ScreenEvent}
 use Rattle.guide_model.specs.declared.screen.ScreenService.{ScreenService}
+use Rattle.guide_model.specs.declared.screen.ScreenRemote.{ScreenRemote}
 use Rattle.guide_model.specs.declared.offset.Offset.{Offset}
 use Rattle.guide_model.specs.declared.screen.Screen.{Screen}
 use Rattle.guide_screen.specs.declared.need.Need.TheVariants.{Pat, Nit, Sdt, Clock, Pmt, Present, Schedule}
@@ -45,6 +46,7 @@ row_screen = record {
   original = 1;
   cable = None;
   services = row_service ∷ [];
+  others = [];
 }
 
 row_whole : guide_text (Whole row_screen) ≡ codes "clock\t1970-01-01T00:00:00Z\nnetwork\t40\tDemo\nstream\t1\t1\nservice\t101\t1\tAcme\tNews\t256\t257\nend\n"
@@ -91,6 +93,39 @@ row_bare = record {
 row_bare_line : event_line (codes "next") row_bare ≡ codes "next\t65535\t1858-11-17T00:00:00Z\t00:00:00\thex:656e31\t\t\t\t\t\t\n"
 unfolding digits moments_compute encode_with
 row_bare_line = refl
+
+-- ---- other streams: one that is sent by cable, with a service and its following event, and one of which nothing more is known
+
+abbrev row_remote : ScreenRemote
+row_remote = record {
+  service = 201;
+  kind = 1;
+  provider = Text (codes "Acme");
+  name = Text (codes "Two");
+  now = None;
+  next = Some row_bare;
+  events = [];
+}
+
+abbrev row_others : Screen
+row_others = record {
+  clock = record { 0 = 3506716800 };
+  offsets = [];
+  network = 40;
+  network_name = Text (codes "Demo");
+  stream = 1;
+  original = 1;
+  cable = None;
+  services = [];
+  others = record { stream = 2; original = 1; cable = Some (record { frequency = 3120000; modulation = 3; symbol_rate = 68750; fec_outer = 2; fec_inner = 15 }); services = row_remote ∷ [] }
+      ∷ record { stream = 65535; original = 0; cable = None; services = [] }
+      ∷ [];
+}
+
+row_with_others : guide_text (Whole row_others)
+    ≡ codes "clock\t1970-01-01T00:00:00Z\nnetwork\t40\tDemo\nstream\t1\t1\nother\t2\t1\t3120000\t3\t68750\t2\t15\nremote\t201\t1\tAcme\tTwo\nnext\t65535\t1858-11-17T00:00:00Z\t00:00:00\thex:656e31\t\t\t\t\t\t\nother\t65535\t0\t\t\t\t\t\nend\n"
+unfolding digits moments_compute encode_with
+row_with_others = refl
 
 -- a component with a language and one without
 row_component : component_line (record { stream_type = 3; pid = 258; language = Some (codes "deu") }) ≡ codes "component\t3\t258\tdeu\n"

@@ -7,11 +7,13 @@
 //! field. Not promised: that no heard guide has one.
 #![tactic(auto)]
 
+mod cable;
 mod event;
 mod field;
 mod guide;
 mod local;
 mod need;
+mod others;
 mod screen;
 mod service;
 

@@ -3,8 +3,10 @@ ghost use Rattle.std.specs.Prelude.{◌≡◌, ◌++◌, OnOk};
 ghost use Rattle.guide_text.specs.Fields.{optional};
 ghost use Rattle.guide_text.specs.Guides.{clock_line, network_line, stream_line, cable_line, screen_text};
 
+use crate::cable::put_cable_numbers;
 use crate::field::{put_decimal, put_moment, put_shown};
 use crate::local::put_offsets;
+use crate::others::put_others;
 use crate::service::put_services;
 use guide_model::{Cable, Screen};
 use si_time::Moment;
@@ -44,11 +46,7 @@ fn put_cable(alloc: Global, out: &mut Vec<u8>, cable: Cable) -> Result<(), Alloc
     ensures { OnOk result (out.new.items ≡ out.old.items ++ cable_line cable) }
 {
     out.extend_from_slice(b"cable")?;
-    put_decimal(alloc, out, u64::from(cable.frequency))?;
-    put_decimal(alloc, out, u64::from(cable.modulation))?;
-    put_decimal(alloc, out, u64::from(cable.symbol_rate))?;
-    put_decimal(alloc, out, u64::from(cable.fec_outer))?;
-    put_decimal(alloc, out, u64::from(cable.fec_inner))?;
+    put_cable_numbers(alloc, out, cable)?;
     out.extend_from_slice(b"\n")
 }
 
@@ -75,5 +73,6 @@ pub(crate) fn put_screen(
     put_network(alloc, out, screen)?;
     put_stream(alloc, out, screen)?;
     put_some_cable(alloc, out, screen.cable)?;
-    put_services(alloc, out, screen.services.as_slice())
+    put_services(alloc, out, screen.services.as_slice())?;
+    put_others(alloc, out, screen.others.as_slice())
 }

@@ -167,12 +167,13 @@ impl<'a, W: Threads + Wait + Sync> Room<'a, W> {
 
     // Appends what `listen --strict` gives of the file of this path.
     fn tell_file(&self, ends: &mut Ends, path: &str, out: &mut Buffer) {
-        match path {
-            "lossy.packets" => {
-                self.put_bytes(ends, "listen --strict", self.lossy, Shows::Lines, out)
-            }
-            _ => out.say("no such file"),
-        }
+        let bytes = match path {
+            "lossy.packets" => self.lossy,
+            "others-bits.packets" => self.others_bits,
+            "others-psi.packets" => self.others_psi,
+            _ => return out.say("no such file"),
+        };
+        self.put_bytes(ends, "listen --strict", bytes, Shows::Lines, out)
     }
 
     /// Appends what a row gives: one that begins with `strict` is of `listen --strict`, and one that begins with `words` of its own words

@@ -38,12 +38,16 @@ fn main(rt: HostRuntime) -> io::Result<()> {
     let week = fs::read_to_string(&rt, "week.txt")?;
     let one_name = fs::read_to_string(&rt, "one-name.txt")?;
     let lossy = fs::read(&rt, "lossy.packets")?;
+    let others_bits = fs::read(&rt, "others-bits.packets")?;
+    let others_psi = fs::read(&rt, "others-psi.packets")?;
     let room = Room {
         rt: &rt,
         alloc: rt.alloc(),
         week: week.as_str(),
         one_name: one_name.as_str(),
         lossy: &lossy,
+        others_bits: &others_bits,
+        others_psi: &others_psi,
     };
     let mut ends = Ends::open(rt.alloc());
     let mut part = Part::Play;

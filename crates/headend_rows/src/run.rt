@@ -15,6 +15,8 @@ pub struct Room<'a, W> {
     pub week: &'a str,
     pub one_name: &'a str,
     pub lossy: &'a [u8],
+    pub others_bits: &'a [u8],
+    pub others_psi: &'a [u8],
 }
 
 /// What stands at the path `p`: no file, one that does not open, or one with these bytes.

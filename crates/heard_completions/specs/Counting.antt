@@ -1,5 +1,5 @@
 -- The sections that count (ISO/IEC 13818-1, 2.4.4; EN 300 468, 5.1.3, 5.2.1, 5.2.3 and 5.2.4): those of the PAT and the PMTs, of the NIT
--- of the actual network, of the SDT of the actual stream, and of the event information of this multiplex.
+-- of the actual network, and of the SDT and the event information of this stream and of others.
 use Rattle.std.specs.Prelude.{ℕ, Bool, false, ◌&&◌, ◌||◌, ◌==◌, if◌then◌else◌, nat_le, List, filter_map, Option, Some, None, option_map, Result, Ok, Err}
 use Rattle.section_codec.specs.declared.section.LongHeader.{LongHeader}
 use Rattle.section_codec.specs.declared.section.Section.{Section}
@@ -32,7 +32,7 @@ is_body_of_table h body =
     else if h.table == 0x00 then is_pat_body body
     else if h.table == 0x02 then is_pmt_body body
     else if h.table == 0x40 then is_nit_body body
-    else h.table == 0x42 && is_sdt_body body
+    else (h.table == 0x42 || h.table == 0x46) && is_sdt_body body
 
 -- A section counts where it has the long form with current_next_indicator 1, its PID and its table are those that count, its body is one
 -- of its table, and begins with what its key needs.

@@ -60,7 +60,7 @@ fn is_body_of_table(header: &LongHeader, body: &[u8]) -> bool
         0x00 => is_pat_body(body),
         0x02 => is_pmt_body(body),
         0x40 => is_nit_body(body),
-        0x42 => is_sdt_body(body),
+        0x42 | 0x46 => is_sdt_body(body),
         _ => false,
     }
 }

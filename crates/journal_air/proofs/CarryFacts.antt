@@ -1,8 +1,8 @@
 -- Each airing of a legal journal can be heard, and receivers count all tables that it carries.
-use Rattle.std.proofs.Common.{◌≡◌, ℕ, ◌<◌, ◌≤◌, ◌==◌, ◌&&◌, ◌||◌, Bool, true, false, List, [], ◌∷◌, Option, Some, None, refl, ap, ◌∙◌, arith, le-leb}
+use Rattle.std.proofs.Common.{◌≡◌, ℕ, ◌<◌, ◌≤◌, ◌==◌, ◌&&◌, ◌||◌, ◌⊎◌, inl, inr, Bool, true, false, List, [], ◌∷◌, Option, Some, None, refl, ap, ◌∙◌, arith, le-leb}
 use Rattle.std.specs.Prelude.{map, is_some, if◌then◌else◌}
 use Rattle.std.specs.List.{AllByRecursion}
-use Rattle.std.proofs.lemmas.Bool.{and_from}
+use Rattle.std.proofs.lemmas.Bool.{and_from, eqb-true}
 use Rattle.std.proofs.lemmas.Bool.Decides.{nat_tests}
 use Rattle.si_lists.proofs.Lists.{all_map, all_two}
 use Rattle.si_time.specs.declared.moment.Moment.{Moment}
@@ -49,8 +49,12 @@ pmt_table_id pid table h = grind (arith, nat_tests)
 nit_table_id : (pid table : ℕ) → is_nit pid table ≡ true → table ≡ 0x40
 nit_table_id pid table h = grind (arith, nat_tests)
 
-sdt_table_id : (pid table : ℕ) → is_sdt pid table ≡ true → table ≡ 0x42
-sdt_table_id pid table h = grind (arith, nat_tests)
+sdt_table_id : (pid table : ℕ) → is_sdt pid table ≡ true → (table ≡ 0x42) ⊎ (table ≡ 0x46)
+sdt_table_id pid table h = go (table == 0x42) refl
+  where
+    go : (b : Bool) → (table == 0x42) ≡ b → (table ≡ 0x42) ⊎ (table ≡ 0x46)
+    go true e = inl (eqb-true table 0x42 e)
+    go false e = (let other : table ≡ 0x46 = grind (arith, nat_tests) in inr other)
 
 events_are_eit : (pid table : ℕ) → is_events pid table ≡ true → is_eit table ≡ true
 events_are_eit pid table h = grind (arith, nat_tests)
@@ -70,9 +74,13 @@ event_body t s eit is =
     else if h.table == 0x00 then is_pat_body s.body
     else if h.table == 0x02 then is_pmt_body s.body
     else if h.table == 0x40 then is_nit_body s.body
-    else h.table == 0x42 && is_sdt_body s.body) eit
+    else (h.table == 0x42 || h.table == 0x46) && is_sdt_body s.body) eit
     ∙ and_from (is_eit_body s.body) (is_last_within (segment_last_in s.number s.body) (last_number t.sections)) is.body
     (ap (λ (o : Option ℕ). is_last_within o (last_number t.sections)) is.told.1 ∙ le-leb is.told.0 (last_number t.sections) is.told.2)
+
+sdt_body : (t : SubTable) (s : NumberedBody) → (t.key.table ≡ 0x42) ⊎ (t.key.table ≡ 0x46) → is_sdt_body s.body ≡ true → IsBody t s
+sdt_body t s (inl own) is = ap (asked t s) own ∙ is
+sdt_body t s (inr other) is = ap (asked t s) other ∙ is
 
 bodies_of : (t : SubTable) → IsCountedTable t → TellsItself t → AllByRecursion (IsBody t) t.sections
 bodies_of t counted tells =
@@ -92,7 +100,7 @@ bodies_of t counted tells =
     by false false true sdt events a b c d e h =
         each (λ s. is_nit_body s.body ≡ true) (λ s is. ap (asked t s) (nit_table_id t.key.pid t.key.table c) ∙ is) (tells.nit c)
     by false false false true events a b c d e h =
-        each (λ s. is_sdt_body s.body ≡ true) (λ s is. ap (asked t s) (sdt_table_id t.key.pid t.key.table d) ∙ is) (tells.sdt d)
+        each (λ s. is_sdt_body s.body ≡ true) (λ s is. sdt_body t s (sdt_table_id t.key.pid t.key.table d) is) (tells.sdt d)
     by false false false false true a b c d e h =
         let eit = events_are_eit t.key.pid t.key.table e in
         each (IsReadEit (last_number t.sections)) (λ s is. event_body t s eit is) (tells.read eit)

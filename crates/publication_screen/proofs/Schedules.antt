@@ -92,17 +92,17 @@ module _ (mux : Mux) (ids : HasIds mux) (day : ℕ) (g : ServiceGuide) where
   pub last_high : end ≤ 0x5F
   last_high = (let less = used_less (block_of day) 512 ats (omega arith) in omega (arith, less))
 
-  pub last_said : FitSegments ats → last_table (schedule_table mux day g 0x50).sections ≡ end
+  pub last_said : FitSegments ats → last_table 0x5F (schedule_table mux day g 0x50).sections ≡ end
   last_said fit =
       let b = begins 0x50 (block_of day + 32 * (0x50 - 0x50)) ats fit in
-      ap (λ (ps : List Piece). last_table (map (schedule_section (own mux) g.events end) ps)) b.are ∙ go b.piece b.rest b.zeroth
+      ap (λ (ps : List Piece). last_table 0x5F (map (schedule_section (own mux) g.events end) ps)) b.are ∙ go b.piece b.rest b.zeroth
     where
-      go : (p : Piece) (rest : List Piece) → p.number ≡ 0 → last_table (map (schedule_section (own mux) g.events end) (p ∷ rest)) ≡ end
+      go : (p : Piece) (rest : List Piece) → p.number ≡ 0 → last_table 0x5F (map (schedule_section (own mux) g.events end) (p ∷ rest)) ≡ end
       go p rest e =
           let body : List ℕ = (schedule_section (own mux) g.events end p).body in
           let others : List NumberedBody = map (schedule_section (own mux) g.events end) rest in
-          ap (λ (n : ℕ). let s : NumberedBody = record { number = n; body = body } in last_table (s ∷ others)) e
-          ∙ ap last_beside (numbers_told (eit_head (own mux) p.segment_last end) (flat_map (written_bytes 0) (section_events p g.events)))
+          ap (λ (n : ℕ). let s : NumberedBody = record { number = n; body = body } in last_table 0x5F (s ∷ others)) e
+          ∙ ap (last_beside 0x5F) (numbers_told (eit_head (own mux) p.segment_last end) (flat_map (written_bytes 0) (section_events p g.events)))
           ∙ smaller end last_high
         where
           smaller : (n : ℕ) → n ≤ 0x5F → min 0x5F n ≡ n
@@ -160,12 +160,12 @@ module _ (mux : Mux) (ids : HasIds mux) (day : ℕ) (g : ServiceGuide) where
             subst (λ (n : ℕ). AllByRecursion Has (numbers_from 0x50 n)) (sym size) (first.0, tt)
 
     -- the table that tells the last one
-    pub last_is : FitSegments ats → Has 0x50 → last_table (table_at content (sdt_key mux) g.service 0x50) ≡ end
-    last_is fit has = ap (λ (o : Option Content). last_table (sections o)) has ∙ last_said fit
+    pub last_is : FitSegments ats → Has 0x50 → last_table 0x5F (table_at content (sdt_key mux) g.service 0x50) ≡ end
+    last_is fit has = ap (λ (o : Option Content). last_table 0x5F (sections o)) has ∙ last_said fit
 
     pub schedule_said : All IsCodable g.events → All IsTyped g.events → IsServiceWithin g → CanBePlaced ats → day % 86400 ≡ 0
-        → AllByRecursion Has (tables_to 0x50 end) → last_table (table_at content (sdt_key mux) g.service 0x50) ≡ end
-        → schedule_of content (sdt_key mux) g.service ≡ map shown_event (filter (is_scheduled day) g.events)
+        → AllByRecursion Has (tables_to 0x50 end) → last_table 0x5F (table_at content (sdt_key mux) g.service 0x50) ≡ end
+        → schedule_of content (sdt_key mux) g.service 0x50 0x5F ≡ map shown_event (filter (is_scheduled day) g.events)
     schedule_said codable typed within placed zeroth all last =
         ap (λ (n : ℕ). flat_map (events_at content (sdt_key mux) g.service) (tables_to 0x50 n)) last
         ∙ tables_said codable typed (tables_to 0x50 end) all

@@ -13,6 +13,7 @@ use Rattle.guide_model.specs.declared.guide.Guide.{Guide}
 use Rattle.guide_model.specs.declared.guide.ServiceGuide.{ServiceGuide}
 use Rattle.guide_model.specs.declared.screen.ScreenEvent.{ScreenEvent}
 use Rattle.guide_model.specs.declared.screen.ScreenService.{ScreenService}
+use Rattle.guide_model.specs.declared.screen.ScreenOther.{ScreenOther}
 use Rattle.guide_model.specs.declared.screen.Screen.{Screen}
 use Rattle.mux_model.specs.declared.mux.MuxService.{MuxService}
 use Rattle.guide_model.specs.declared.offset.Offset.{Offset}
@@ -45,7 +46,7 @@ use Rattle.guide_screen.specs.declared.need.Heard.TheVariants.{Whole}
 use Rattle.guide_screen.specs.View.{View, sections, sections_at, sdt_behind, sdt_of, table_at, pmt_key as guide_pmt_key}
 use Rattle.guide_screen.specs.Reading.{programs_in, services_in, streams_in, nit_in, pmt_in, value_in}
 use Rattle.guide_screen.specs.Needs.{Want, by_service, last_table, needs, programs_of, schedule_tables, services_of, tables_to, unless, unmet_of, want_pmt, want_service, want_services, want_table, wants}
-use Rattle.guide_screen.specs.Screen.{cable_in, event_at, heard_by, heard_of, network_name, pid_in, pmt_of, pmt_pid, schedule_of, screen, screen_service}
+use Rattle.guide_screen.specs.Screen.{cable_in, event_at, heard_by, heard_of, network_name, other_streams, pid_in, pmt_of, pmt_pid, schedule_of, screen, screen_service}
 use Rattle.publication.specs.Network.{nit_key, nit_of, nit_table}
 use Rattle.publication.specs.Programs.{network_entry, program_entry, pat_of, pat_key, pat_table, pmt_tables}
 use Rattle.publication.specs.Programs as programs
@@ -160,19 +161,19 @@ module _ (mux : Mux) (ids : HasIds mux) (guide : Guide) (moment : ℕ) (content 
         (subst (λ (n : ℕ). AllByRecursion (HasTable mux (midnight moment) g content) (numbers_from 0x50 n))
         (let size : 1 + last - 0x50 ≡ suc (1 + last - 0x51) = omega arith in size) has.tables).0
 
-    last_own : last_table (table_at content sdt g.service 0x50) ≡ last
+    last_own : last_table 0x5F (table_at content sdt g.service 0x50) ≡ last
     last_own = last_is mux ids (midnight moment) g content has.placed.fit first_table
 
-    events_are : schedule_of content sdt s.service ≡ map shown_event (filter (is_scheduled (midnight moment)) g.events)
+    events_are : schedule_of content sdt s.service 0x50 0x5F ≡ map shown_event (filter (is_scheduled (midnight moment)) g.events)
     events_are =
-        ap (λ (n : ℕ). schedule_of content sdt n) (sym has.same)
+        ap (λ (n : ℕ). schedule_of content sdt n 0x50 0x5F) (sym has.same)
         ∙ schedule_said mux ids (midnight moment) g content codable types has.within has.placed (zeroth moment) has.tables last_own
 
     service_is : (es : List PatEntry) → pmt_pid es s.service ≡ Some s.pmt_pid → screen_service content es sdt (sdt_service s g) ≡ service_shown moment s g
     service_is es pid =
         let now = event_at 0 (table_at content sdt s.service 0x4E) in
         let next = event_at 1 (table_at content sdt s.service 0x4E) in
-        let events = schedule_of content sdt s.service in
+        let events = schedule_of content sdt s.service 0x50 0x5F in
         ap (λ (o : Option ℕ). made o (pmt_of content s.service o) now next events) pid
         ∙ ap (λ (o : Option Pmt). made (Some s.pmt_pid) o now next events) pmt_is
         ∙ ap (λ (o : Option ScreenEvent). made (Some s.pmt_pid) (Some (programs.pmt_of s)) o next events) now_is
@@ -189,7 +190,7 @@ module _ (mux : Mux) (ids : HasIds mux) (guide : Guide) (moment : ℕ) (content 
 
     schedule_met : AllByRecursion Met (map (want_table sdt s.service) (schedule_tables content sdt s.service))
     schedule_met =
-        let told : last_table (table_at content sdt s.service 0x50) ≡ last = ap (λ (n : ℕ). last_table (table_at content sdt n 0x50)) (sym has.same) ∙ last_own in
+        let told : last_table 0x5F (table_at content sdt s.service 0x50) ≡ last = ap (λ (n : ℕ). last_table 0x5F (table_at content sdt n 0x50)) (sym has.same) ∙ last_own in
         subst (λ (n : ℕ). AllByRecursion Met (map (want_table sdt s.service) (0x50 ∷ tables_to 0x51 n))) (sym told)
         (tables_met (0x50 ∷ tables_to 0x51 last)
         (subst (λ (n : ℕ). AllByRecursion (HasTable mux (midnight moment) g content) (numbers_from 0x50 n))
@@ -351,8 +352,8 @@ module _ (nit_back : NitReadsBack) (sdt_back : SdtReadsBack) (mux : Mux) (guide 
       ∙ services_are mux ids guide moment V.content (pat_of mux) mux.services services_have
       (pids_found mux.services mux.services sound.sound.services (pids_said mux.services sound.sound.ascend))
 
-  abbrev screen_with : List Offset → Shown → Option Cable → List ScreenService → Screen
-  screen_with offsets name cable services = record {
+  abbrev screen_with : List Offset → Shown → Option Cable → List ScreenService → List ScreenOther → Screen
+  screen_with offsets name cable services others = record {
     clock = record { 0 = clock };
     offsets = offsets;
     network = mux.network;
@@ -361,16 +362,19 @@ module _ (nit_back : NitReadsBack) (sdt_back : SdtReadsBack) (mux : Mux) (guide 
     original = mux.original;
     cable = cable;
     services = services;
+    others = others;
   }
 
   screen_is : screen V (pat_key mux) (nit_key mux) (sdt_key mux) clock ≡ screen_of mux guide clock
   screen_is =
       let c = sections (V.content (nit_key mux)) in
       let services = map (screen_service V.content (programs_of V) (sdt_key mux)) (services_of V) in
-      ap (λ (os : List Offset). screen_with os (network_name c) (cable_in mux.stream mux.original (streams_in c)) services) has.offsets_are
-      ∙ ap (λ (x : Shown). screen_with mux.offsets x (cable_in mux.stream mux.original (streams_in c)) services) name_is
-      ∙ ap (λ (x : Option Cable). screen_with mux.offsets (Text mux.network_name) x services) cable_is
-      ∙ ap (λ (l : List ScreenService). screen_with mux.offsets (Text mux.network_name) mux.cable l) services_are_shown
+      let others = λ (ks : List Key). other_streams V.content (streams_in c) mux.stream mux.original ks in
+      ap (λ (os : List Offset). screen_with os (network_name c) (cable_in mux.stream mux.original (streams_in c)) services (others V.others)) has.offsets_are
+      ∙ ap (λ (x : Shown). screen_with mux.offsets x (cable_in mux.stream mux.original (streams_in c)) services (others V.others)) name_is
+      ∙ ap (λ (x : Option Cable). screen_with mux.offsets (Text mux.network_name) x services (others V.others)) cable_is
+      ∙ ap (λ (l : List ScreenService). screen_with mux.offsets (Text mux.network_name) mux.cable l (others V.others)) services_are_shown
+      ∙ ap (λ (ks : List Key). screen_with mux.offsets (Text mux.network_name) mux.cable (services_shown mux guide) (others ks)) has.others_are
 
   pub shown : heard_of V ≡ Whole (screen_of mux guide clock)
   shown =

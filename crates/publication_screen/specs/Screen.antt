@@ -58,4 +58,5 @@ screen_of mux guide clock = record {
   original = mux.original;
   cable = mux.cable;
   services = services_shown mux guide;
+  others = [];
 }

@@ -29,19 +29,13 @@ abbrev pub is_nit : ℕ → ℕ → Bool
 is_nit pid table = pid == 0x0010 && table == 0x40
 
 abbrev pub is_sdt : ℕ → ℕ → Bool
-is_sdt pid table = pid == 0x0011 && table == 0x42
-
-abbrev pub is_sdt_other : ℕ → ℕ → Bool
-is_sdt_other pid table = pid == 0x0011 && table == 0x46
+is_sdt pid table = pid == 0x0011 && (table == 0x42 || table == 0x46)
 
 -- present and following, or schedule
 abbrev pub is_events : ℕ → ℕ → Bool
-is_events pid table = pid == 0x0012 && (table == 0x4E || nat_le 0x50 table && nat_le table 0x5F)
+is_events pid table = pid == 0x0012 && is_eit table
 
-abbrev pub is_events_other : ℕ → ℕ → Bool
-is_events_other pid table = pid == 0x0012 && (table == 0x4F || nat_le 0x60 table && nat_le table 0x6F)
-
--- what names the sub-tables of a table on its PID, where the receiver hears them: those of this multiplex
+-- what names the sub-tables of a table on its PID, where the receiver hears them
 abbrev pub naming_of : ℕ → ℕ → Option Naming
 naming_of pid table =
     if is_pat pid table || is_pmt pid table || is_nit pid table then Some Extension

@@ -34,8 +34,8 @@ pub fn naming_of(pid: u16, table: u8) -> Option<Naming>
 {
     match (pid, table) {
         (0x0000, 0x00) | (0x0020..=0x1FFE, 0x02) | (0x0010, 0x40) => Some(Naming::Extension),
-        (0x0011, 0x42) => Some(Naming::Network),
-        (0x0012, 0x4E | 0x50..=0x5F) => Some(Naming::Stream),
+        (0x0011, 0x42 | 0x46) => Some(Naming::Network),
+        (0x0012, 0x4E..=0x6F) => Some(Naming::Stream),
         _ => None,
     }
 }

@@ -9,7 +9,7 @@ use Rattle.guide_screen.proofs.Hearing.{shown_whole}
 use Rattle.guide_screen.proofs.heard.heard_guide.Goals as goal
 
 pub returns : goal.returns
-returns c V holds offsets =
+returns c V holds offsets others =
     let content = V.content in
     let programs : c.in_ok-programs.programs.items ≡ programs_of V =
     c.in_ok-programs.ensures content holds.keeps ∙ ap (λ (k : Option Key). programs_in (sections_at content k)) (sym holds.pat) in
@@ -21,4 +21,4 @@ returns c V holds offsets =
     ∙ eqb-true _ _ (sym c.is_empty.ensures ∙ c.if-is_empty.true) in
     shown_whole c.args.contents.now c.args.latest V c.in-Some.of c.in_ok-screen.screen holds
     (sym c.named.ensures ∙ c.in-Some.is) (sym wanting ∙ nil_from_length c.in_ok-needs.needs.items empty)
-    (c.in_ok-screen.ensures V holds.keeps (c.deref-3.ensures.value ∙ programs) services offsets)
+    (c.in_ok-screen.ensures V holds.keeps (c.deref-3.ensures.value ∙ programs) services offsets others)

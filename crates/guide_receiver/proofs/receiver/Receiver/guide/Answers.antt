@@ -20,7 +20,7 @@ returns-clause-over c = λ packets taken stands.
       nit = sym kept.latest.nit;
       sdt = sdt-kept V c.self.inside.latest c.sdt.result (sym kept.latest.pat) (λ ext. sym (kept.latest.sdts ext)) c.sdt.ensures.some c.sdt.ensures.none;
       clock = sym kept.clock;
-    }) (sym kept.offsets ∙ sym c.as_slice.ensures)
+    }) (sym kept.offsets ∙ sym c.as_slice-offsets.ensures) (sym kept.latest.others ∙ sym c.in_ok-others.ensures ∙ sym c.deref.ensures.value)
 
 pub returns-clause-heard : goal.returns-clause-heard
 returns-clause-heard c = λ past stands.

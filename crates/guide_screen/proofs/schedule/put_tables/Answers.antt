@@ -4,7 +4,7 @@ use Rattle.guide_screen.specs.View.{sections}
 use Rattle.guide_screen.specs.Reading.{events_in}
 use Rattle.guide_screen.specs.Screen.{events_at}
 use Rattle.guide_screen.proofs.Lists.{list-next}
-use Rattle.guide_screen.proofs.screen.put_tables.Goals as goal
+use Rattle.guide_screen.proofs.schedule.put_tables.Goals as goal
 
 pub loop-table-preserved : goal.loop-table-preserved
 loop-table-preserved c content keeps =

@@ -3,7 +3,7 @@ use Rattle.section_codec.specs.declared.table.Key.{Key}
 use Rattle.section_codec.specs.Contents.{Content}
 use Rattle.guide_screen.specs.Holding.{KeepsContents}
 use Rattle.guide_screen.specs.Screen.{events_at}
-use Rattle.guide_screen.proofs.screen.put_tables.Given as goal
+use Rattle.guide_screen.proofs.schedule.put_tables.Given as goal
 
 -- the events of the tables so far
 abbrev pub invariant-loop-table : goal.invariant-loop-table

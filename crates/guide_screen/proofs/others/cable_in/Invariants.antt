@@ -1,6 +1,6 @@
 use Rattle.std.proofs.Common.{◌≡◌, drop}
 use Rattle.guide_screen.specs.Screen.{cable_in}
-use Rattle.guide_screen.proofs.screen.cable_in.Given as goal
+use Rattle.guide_screen.proofs.others.cable_in.Given as goal
 
 -- those so far are other streams
 abbrev pub invariant-loop-entry : goal.invariant-loop-entry
