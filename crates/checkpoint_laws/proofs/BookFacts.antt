@@ -8,6 +8,7 @@ use Rattle.std.proofs.lemmas.List.Concat.{flat_map-cons}
 use Rattle.si_lists.proofs.Lists.{all_append, all_map, all_two}
 use Rattle.guide_model.specs.declared.guide.ServiceGuide.{ServiceGuide}
 use Rattle.mux_model.specs.Fed.{FedService, DoFedAscend, feed_of}
+use Rattle.mux_model.proofs.FedFacts.{feeds_found}
 use Rattle.journal_model.specs.declared.edit.Edit.{Edit}
 use Rattle.guide_limits.specs.KeptService.{KeptService}
 use Rattle.guide_limits.specs.Standing.{standing}
@@ -210,18 +211,6 @@ book_owned edits own services old = owned_all edits own services services old (o
 asked_each : (feed : ℕ) (edits : List Edit) → map asked (map (λ (e : Edit). (feed, e)) edits) ≡ map (λ (e : Edit). (0, edit feed e)) edits
 asked_each feed [] = refl
 asked_each feed (e ∷ edits) = ap (λ (cs : List Command). (0, edit feed e) ∷ cs) (asked_each feed edits)
-
--- the feed of each service is found by its id
-feeds_found : (services : List FedService) → DoFedAscend services → AllByRecursion (λ (s : FedService). feed_of services s.service ≡ s.feed) services
-feeds_found [] ascend = tt
-feeds_found (s ∷ services) ascend = (
-  rw (eq-eqb s.service s.service refl) refl,
-  all_two (λ (t : FedService). s.service < t.service) (λ (t : FedService). feed_of services t.service ≡ t.feed) (λ (t : FedService). feed_of (s ∷ services) t.service ≡ t.feed)
-      (λ t above found. rw (other s.service t.service above) found) services ascend.0 (feeds_found services ascend.1),
-)
-  where
-    other : (m n : ℕ) → m < n → (m == n) ≡ false
-    other m n l = grind (arith, nat_tests)
 
 each_steps : (edits : ServiceGuide → List Edit) (all services : List FedService) (past : List Edit) → AllByRecursion (λ (s : FedService). feed_of all s.service ≡ s.feed) services
     → flat_map (service_steps edits all) (map (λ (kept : KeptService). kept.guide) (book_after services past)) ≡ map asked (book_edits edits (book_after services past))

@@ -1,8 +1,8 @@
 // The text of a checkpoint.
-ghost use Rattle.std.specs.Prelude.{◌≡◌, ◌==◌, ◌<◌, ◌*◌, ◌+◌, ◌^◌, ◌++◌, ◌∷◌, [], IfOk, OnOk, OnErr, flat_map, option_copied, option_map};
-ghost use Rattle.std.specs.List.{AllByRecursion, find};
-ghost use Rattle.mux_model.specs.declared.mux.MuxService.{MuxService as Service};
-ghost use Rattle.mux_model.specs.Fed.{fed_services, feed_of};
+ghost use Rattle.std.specs.Prelude.{◌≡◌, ◌<◌, ◌*◌, ◌+◌, ◌^◌, ◌++◌, ◌∷◌, [], IfOk, OnOk, OnErr, flat_map, option_map};
+ghost use Rattle.std.specs.List.{AllByRecursion};
+ghost use Rattle.mux_model.specs.Sound.{IsSound};
+ghost use Rattle.mux_model.specs.Fed.{fed_services};
 ghost use Rattle.si_text.specs.Decoding.{IsKept};
 ghost use Rattle.table_entries.specs.Loops.{AreBytes};
 ghost use Rattle.guide_limits.specs.Limits.{IsGuideWithin, IsServiceWithin, IsEventWithin};
@@ -23,7 +23,7 @@ use command_text::{LineWriter, write_command};
 use desk_core::Desk;
 use guide_model::{Event, Guide, Rating, ServiceGuide};
 use journal_model::{Edit, Item, Length, RawRating, Stamp, Step};
-use mux_model::{Mux, MuxService};
+use mux_model::Mux;
 use page_share::PageGuide;
 use section_codec::NumberedBody;
 use si_base::Copies;
@@ -171,27 +171,6 @@ fn put_service(
     put_filling(alloc, out, feed, guide)
 }
 
-// The first of these services that has this id.
-fn service_of(services: &[MuxService], id: u16) -> Option<&MuxService>
-    ensures { option_copied result ≡ find (λ (s : Service). s.service == id) services.now }
-{
-    services.iter().find(
-        |s: &&MuxService| -> bool
-            ensures { result ≡ (s.now.now.service == id) }
-        { s.service == id },
-    )
-}
-
-// The number of the feed that owns the service with this id, and 0 where none has it.
-fn feed_of(mux: &Mux, id: u16) -> u8
-    ensures { result ≡ feed_of (fed_services mux.now) id }
-{
-    match service_of(mux.services.as_slice(), id) {
-        Some(service) => service.feed,
-        None => 0,
-    }
-}
-
 // Appends the steps of services, each as of the feed that owns it.
 fn put_services(
     alloc: Global,
@@ -200,12 +179,13 @@ fn put_services(
     guides: &[ServiceGuide],
     clears: bool,
 ) -> Result<(), AllocError>
-    requires { AllByRecursion IsServiceWithin guides.now }
+    requires sound { IsSound mux.now }
+    requires within { AllByRecursion IsServiceWithin guides.now }
     ensures { OnOk result (out.new.items
         ≡ out.old.items ++ flat_map (service_text clears (fed_services mux.now)) guides.now) }
 {
     for guide in guides {
-        put_service(alloc, out, feed_of(mux, guide.service), guide, clears)?;
+        put_service(alloc, out, mux.feed_of(guide.service), guide, clears)?;
     }
     Ok(())
 }
@@ -218,6 +198,7 @@ fn put_guide(
     guide: &Guide,
     clears: bool,
 ) -> Result<(), AllocError>
+    requires sound { IsSound mux.now }
     requires within { IsGuideWithin guide.now }
     requires moment { guide.now.moment.0 < 65536 * 86400 }
     ensures { OnOk result (out.new.items
@@ -234,6 +215,7 @@ fn put_publication(
     mux: &Mux,
     latest: &PageGuide,
 ) -> Result<(), AllocError>
+    requires sound { IsSound mux.now }
     requires within { IsGuideWithin latest.now.guide }
     requires moment { latest.now.guide.moment.0 < 65536 * 86400 }
     ensures { OnOk result (out.new.items
@@ -252,6 +234,7 @@ fn put_latest(
     count: u64,
     latest: &PageGuide,
 ) -> Result<(), AllocError>
+    requires sound { IsSound mux.now }
     requires within { IsGuideWithin latest.now.guide }
     requires moment { latest.now.guide.moment.0 < 65536 * 86400 }
     ensures { OnOk result (out.new.items

@@ -2,7 +2,7 @@
 use crate::words::{put_moment, put_quoted, put_read_stop};
 use guide_model::{Cable, Component, Offset};
 use mux_config::{MuxFault, MuxStop, Word, read_mux};
-use mux_model::{Mux, MuxService};
+use mux_model::{Mux, MuxService, Other, RemoteService};
 use row_lines::{Buffer, Lines};
 use std::alloc::{AllocError, Global};
 
@@ -136,12 +136,61 @@ fn put_offsets(out: &mut Buffer, offsets: &[Offset]) {
     }
 }
 
+fn put_remote(out: &mut Buffer, service: &RemoteService) {
+    out.say_number("; remote ", u64::from(service.service));
+    out.say_number(" of feed ", u64::from(service.feed));
+    out.say_number(", type ", u64::from(service.kind));
+    out.say(",");
+    put_quoted(out, service.provider.as_str());
+    put_quoted(out, service.name.as_str());
+}
+
+// The services of another stream; of more than nine their number and the last.
+fn put_remotes(out: &mut Buffer, services: &[RemoteService]) {
+    let count = services.len();
+    if let [.., last] = services
+        && 9 < count
+    {
+        out.say_number("; ", count as u64);
+        out.say(" remote services");
+        return put_remote(out, last);
+    }
+    for service in services {
+        put_remote(out, service);
+    }
+}
+
+fn put_other(out: &mut Buffer, other: &Other) {
+    out.say_number("; other ", u64::from(other.stream));
+    out.say_number(" of ", u64::from(other.original));
+    if let Some(cable) = &other.cable {
+        put_cable(out, cable);
+    }
+    put_remotes(out, other.services.as_slice());
+}
+
+// The other streams; of more than nine their number and the last.
+fn put_others(out: &mut Buffer, others: &[Other]) {
+    let count = others.len();
+    if let [.., last] = others
+        && 9 < count
+    {
+        out.say_number("; ", count as u64);
+        out.say(" other streams");
+        return put_other(out, last);
+    }
+    for other in others {
+        put_other(out, other);
+    }
+}
+
 fn put_mux(out: &mut Buffer, mux: &Mux) {
     put_stream(out, mux);
     put_moment(out, "; start ", mux.start);
     out.say_number("; quota ", u64::from(mux.quota));
     put_offsets(out, mux.offsets.as_slice());
     put_services(out, mux.services.as_slice());
+    put_others(out, mux.others.as_slice());
 }
 
 // The copy of a multiplex.

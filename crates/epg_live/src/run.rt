@@ -1,12 +1,10 @@
 // A run of feeds, control and player over files.
-ghost use Rattle.std.specs.Prelude.{◌≡◌, ◌==◌, ◌≤◌, ◌⊎◌, List, ℕ, IfOk, OnErr, None, Some, length, not, option_copied};
-ghost use Rattle.std.specs.List.{list_any};
+ghost use Rattle.std.specs.Prelude.{◌≡◌, ◌≤◌, ◌⊎◌, List, ℕ, IfOk, OnErr, None, Some, length, not, option_copied};
 ghost use Rattle.std.specs.Io.KnownBytes.{IsAtEnd};
 ghost use Rattle.si_causes.specs.Causes.{Rose};
 ghost use Rattle.si_causes.specs.Opening.{Files};
 ghost use Rattle.si_causes.specs.Reading.{fresh};
 ghost use Rattle.command_words.specs.Commands.{texts};
-ghost use Rattle.mux_model.specs.declared.mux.MuxService.{MuxService as Service};
 ghost use Rattle.mux_model.specs.Sound.{IsSound};
 ghost use Rattle.epg_report.specs.Texts.{CanBeSaid};
 ghost use Rattle.epg_live.specs.Ends.{HasAsked, HasMetAsking, IsBlank, entries_of};
@@ -22,7 +20,7 @@ use command_words::LiveWords;
 use epg_report::{Origin, Outlet, Status};
 use headend_live::{LivePlan, LiveStop, Readers, run_live};
 use mux_config::{MuxStop, read_mux};
-use mux_model::{Mux, MuxService};
+use mux_model::Mux;
 use script_lines::EditStop;
 use si_base::Items;
 use si_causes::{Gate, LineReader, Opener, ReadStop, Sink, Source};
@@ -96,22 +94,11 @@ fn live_status(stop: Option<LiveStop>) -> Status
     }
 }
 
-// Whether one of these services has this number.
-fn is_among(services: &[MuxService], number: u16) -> bool
-    ensures { result ≡ list_any (λ (s : Service). s.service == number) services.now }
-{
-    services.iter().any(
-        |s: &MuxService| -> bool
-            ensures { result ≡ (s.now.service == number) }
-        { s.service == number },
-    )
-}
-
 // Whether feeds edit a service with this number.
 fn has_service(mux: &Mux, service: u16) -> bool
     ensures { result ≡ has_service mux.now service }
 {
-    is_among(mux.services.as_slice(), service)
+    mux.has_fed(service)
 }
 
 // The first of these services that feeds do not edit.

@@ -6,8 +6,9 @@ use Rattle.si_text.specs.Decoding.{IsKept}
 use Rattle.input_lines.specs.Lines.{record_lines}
 use Rattle.input_lines.specs.Ahead.{Ahead, Tail}
 use Rattle.mux_model.specs.declared.mux.MuxService.{MuxService}
+use Rattle.mux_model.specs.Sound.{remote_services}
 use Rattle.mux_model.specs.declared.mux.Mux.{Mux}
-use Rattle.mux_model.proofs.FedFacts.{fed_named}
+use Rattle.mux_model.proofs.FedFacts.{HasNames, fed_named}
 use Rattle.mux_config.specs.Descriptions.{description_ahead}
 use Rattle.mux_config.proofs.FineLines.{described_texts_are_kept}
 use Rattle.journal_model.specs.Steps.{Command}
@@ -31,7 +32,8 @@ module _ (lines : List (List ℕ)) (tail : Tail) (air : ReportTaken) where
   ahead = record { rows = record_lines 1 lines; tail = tail }
 
   abbrev HasKeptNames : Mux → Type 0
-  HasKeptNames mux = IsKept mux.network_name × AllByRecursion (λ (s : MuxService). IsKept s.provider × IsKept s.name) mux.services
+  HasKeptNames mux =
+      IsKept mux.network_name × (AllByRecursion (λ (s : MuxService). IsKept s.provider × IsKept s.name) mux.services × AllByRecursion HasNames (remote_services mux.others))
 
   as_read : (commands : List Command) (mux : Mux) → AreTypedCommands commands → script.mux ≡ Some mux → IsAsRead mux (journal_of mux commands)
   as_read commands mux typed e =

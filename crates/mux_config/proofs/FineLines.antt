@@ -15,17 +15,18 @@ use Rattle.input_lines.specs.Numbers.{in_range, is_word, numeral_of}
 use Rattle.input_lines.proofs.CleanLines.{is_line_back, line_kept}
 use Rattle.guide_model.specs.declared.stream.Component.{Component}
 use Rattle.mux_model.specs.declared.mux.MuxService.{MuxService}
+use Rattle.mux_model.specs.declared.mux.RemoteService.{RemoteService}
 use Rattle.mux_model.specs.declared.mux.Mux.{Mux}
-use Rattle.mux_model.specs.Sound.{AreDifferent, Between, HasSoundLanguage, IsSoundCable, IsSoundComponent, IsSoundOffset, IsSoundService, farthest}
+use Rattle.mux_model.specs.Sound.{AreDifferent, Between, HasSoundLanguage, IsSoundCable, IsSoundComponent, IsSoundOffset, IsSoundRemote, IsSoundService, farthest}
 use Rattle.mux_config.specs.declared.fault.MuxFault.{MuxFault}
 use Rattle.mux_config.specs.declared.rows.Numbers.{Numbers}
 use Rattle.mux_config.specs.declared.record.Record.{Record}
-use Rattle.mux_config.specs.declared.record.Record.TheVariants.{Network, Stream, Delivery, Service, Part, Quota, Local, End}
+use Rattle.mux_config.specs.declared.record.Record.TheVariants.{Network, Stream, Delivery, Service, Part, Quota, Local, Elsewhere, Remote, End}
 use Rattle.mux_config.specs.declared.record.RecordFound.{RecordFound}
 use Rattle.mux_config.specs.declared.record.RecordFound.TheVariants.{NoRecord, OutOfRange, Is}
 use Rattle.mux_config.specs.declared.record.Numbered.{Numbered}
 use Rattle.mux_config.specs.Descriptions.{Description, and_found, described_from, ended, fault_of, has_no_place, is_end, repeated_at, unless}
-use Rattle.mux_config.specs.Fields.{cable_with, found_fields, found_in, found_line, found_with, is_language, is_letter, is_service_in_range, language_of, network_in, stream_in, cable_in, numbers_in, service_of, service_in, bare_service, part_in, is_capital, country_of, side_of, offset_with, offset_in, start_with, start_in, quota_in, within}
+use Rattle.mux_config.specs.Fields.{are_ids, cabled_in, is_remote_in_range, other_by, other_in, remote_by, remote_in, cable_with, found_fields, found_in, found_line, found_with, is_language, is_letter, is_service_in_range, language_of, network_in, stream_in, cable_in, numbers_in, service_of, service_in, bare_service, part_in, is_capital, country_of, side_of, offset_with, offset_in, start_with, start_in, quota_in, within}
 use Rattle.mux_config.specs.Laws.{DescribedTextsAreKept, WholeDescriptionsAreSound}
 use Rattle.mux_config.proofs.FineRecords.{AreFine, IsFine, IsFineFound}
 use Rattle.mux_config.proofs.Soundness.{IsFineMux, fine_end, fine_more, fine_none}
@@ -128,6 +129,39 @@ sound_part s k p language e =
       language = sound_language language (second_true (in_range 0 65535 s && (in_range 0 255 k && in_range 32 8190 p)) _ e);
     }
 
+ids_bound : (s o : ℕ) → are_ids s o ≡ true → (s < 65536) × (o < 65536)
+ids_bound s o e = (short_bound 0 s (first_true (in_range 0 65535 s) (in_range 0 65535 o) e), short_bound 0 o (second_true (in_range 0 65535 s) (in_range 0 65535 o) e))
+
+fine_other : (stream original : List ℕ) → IsFineFound (other_in stream original)
+fine_other stream original =
+    fine_with (numeral_of stream) _ (λ s. fine_with (numeral_of original) _ (λ o. fine_within (are_ids s o) (Elsewhere s o None) (λ e. (ids_bound s o e, tt))))
+
+fine_by : (s o : ℕ) (found : RecordFound) → IsFineFound found → IsFineFound (other_by s o found)
+fine_by s o (Is (Delivery cable)) h = fine_within (are_ids s o) (Elsewhere s o (Some cable)) (λ e. (ids_bound s o e, h))
+fine_by s o other h = h
+
+fine_cabled : (stream original frequency modulation rate outer inner : List ℕ) → IsFineFound (cabled_in stream original frequency modulation rate outer inner)
+fine_cabled stream original frequency modulation rate outer inner =
+    fine_with (numeral_of stream) _ (λ s. fine_with (numeral_of original) _ (λ o. fine_by s o (cable_in frequency modulation rate outer inner) (fine_cable frequency modulation rate outer inner)))
+
+sound_remote : (s : RemoteService) → is_remote_in_range s ≡ true → IsSoundRemote s
+sound_remote s e =
+    let numbers = first_true (in_range 1 65535 s.service && (in_range 1 16 s.feed && in_range 0 255 s.kind)) (in_range 0 100 (coded_size s.provider) && in_range 1 100 (coded_size s.name)) e in
+    let names = second_true (in_range 1 65535 s.service && (in_range 1 16 s.feed && in_range 0 255 s.kind)) (in_range 0 100 (coded_size s.provider) && in_range 1 100 (coded_size s.name)) e in
+    let feeds = second_true (in_range 1 65535 s.service) (in_range 1 16 s.feed && in_range 0 255 s.kind) numbers in
+    record {
+      service = bounds 1 65535 s.service (first_true (in_range 1 65535 s.service) (in_range 1 16 s.feed && in_range 0 255 s.kind) numbers);
+      feed = bounds 1 16 s.feed (first_true (in_range 1 16 s.feed) (in_range 0 255 s.kind) feeds);
+      provider = (bounds 0 100 (coded_size s.provider) (first_true (in_range 0 100 (coded_size s.provider)) (in_range 1 100 (coded_size s.name)) names)).1;
+      name = bounds 1 100 (coded_size s.name) (second_true (in_range 0 100 (coded_size s.provider)) (in_range 1 100 (coded_size s.name)) names);
+    }
+
+fine_remote : (stream original id feed kind provider name : List ℕ) → IsKept provider → IsKept name → IsFineFound (remote_in stream original id feed kind provider name)
+fine_remote stream original id feed kind provider name p n =
+    fine_with (numeral_of stream) _ (λ s. fine_with (numeral_of original) _ (λ o. fine_with (numeral_of id) _ (λ i. fine_with (numeral_of feed) _ (λ f. fine_with (numeral_of kind) _ (λ k.
+    let service = remote_by i f k provider name in
+    fine_within (are_ids s o && is_remote_in_range service) (Remote s o service) (λ e. (sound_remote service (second_true (are_ids s o) (is_remote_in_range service) e), (p, n))))))))
+
 fine_part : (service kind pid language : List ℕ) → IsFineFound (part_in service kind pid language)
 fine_part service kind pid language = fine_with (numeral_of service) _ (λ s. fine_with (numeral_of kind) _ (λ k. fine_with (numeral_of pid) _ (λ p. fine_within _ _ (sound_part s k p language))))
 
@@ -188,12 +222,17 @@ fine_in (word ∷ a ∷ []) kept =
     (fine_if (is_word (codes "quota") word) (quota_in a) NoRecord (fine_quota a) tt)
 fine_in (word ∷ a ∷ b ∷ []) kept =
     fine_if (is_word (codes "network") word) (network_in a b) _ (fine_network a b kept.1.1.0)
-    (fine_if (is_word (codes "stream") word) (stream_in a b) NoRecord (fine_stream a b) tt)
+    (fine_if (is_word (codes "stream") word) (stream_in a b) _ (fine_stream a b)
+    (fine_if (is_word (codes "other") word) (other_in a b) NoRecord (fine_other a b) tt))
 fine_in (word ∷ a ∷ b ∷ c ∷ d ∷ []) kept = fine_if (is_word (codes "component") word) (part_in a b c d) NoRecord (fine_part a b c d) tt
 fine_in (word ∷ a ∷ b ∷ c ∷ d ∷ e ∷ []) kept = fine_if (is_word (codes "cable") word) (cable_in a b c d e) NoRecord (fine_cable a b c d e) tt
 fine_in (word ∷ a ∷ b ∷ c ∷ d ∷ e ∷ f ∷ []) kept = fine_if (is_word (codes "offset") word) (offset_in a b c d e f) NoRecord (fine_offset a b c d e f) tt
 fine_in (word ∷ a ∷ b ∷ c ∷ d ∷ e ∷ f ∷ g ∷ []) kept =
-    fine_if (is_word (codes "service") word) (service_in a b c d e f g) NoRecord (fine_service (numbers_in a b c d e) f g kept.1.1.1.1.1.1.0 kept.1.1.1.1.1.1.1.0) tt
+    let provider = kept.1.1.1.1.1.1.0 in
+    let name = kept.1.1.1.1.1.1.1.0 in
+    fine_if (is_word (codes "service") word) (service_in a b c d e f g) _ (fine_service (numbers_in a b c d e) f g provider name)
+    (fine_if (is_word (codes "other") word) (cabled_in a b c d e f g) _ (fine_cabled a b c d e f g)
+    (fine_if (is_word (codes "remote") word) (remote_in a b c d e f g) NoRecord (fine_remote a b c d e f g provider name) tt))
 fine_in other kept = tt
 
 -- a line's record has every field in its range, and texts that may be kept
@@ -235,4 +274,4 @@ pub whole_descriptions_are_sound : WholeDescriptionsAreSound
 whole_descriptions_are_sound lines mux behind e = (fine_from lines.rows lines.tail [] mux behind fine_none e).sound
 
 pub described_texts_are_kept : DescribedTextsAreKept
-described_texts_are_kept lines mux behind e = let fine = fine_from lines.rows lines.tail [] mux behind fine_none e in (fine.network_name, fine.services)
+described_texts_are_kept lines mux behind e = let fine = fine_from lines.rows lines.tail [] mux behind fine_none e in (fine.network_name, (fine.services, fine.remotes))

@@ -1,7 +1,9 @@
-pub mod ServiceFields
 pub mod RecordFacts
+pub mod Tallies
 pub mod FineRecords
 pub mod Ordering
+pub mod FineOthers
 pub mod Soundness
+pub mod EightFields
 pub mod FineLines
 pub mod Reading

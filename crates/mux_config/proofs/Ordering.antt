@@ -10,8 +10,13 @@ use Rattle.si_lists.proofs.Truths.{none_not}
 use Rattle.mux_model.specs.declared.mux.MuxService.{MuxService}
 use Rattle.mux_config.specs.declared.record.Record.{Record}
 use Rattle.mux_config.specs.declared.record.Numbered.{Numbered}
-use Rattle.mux_config.specs.Descriptions.{all_of, insert, service_in, sorted, with_parts}
-use Rattle.mux_config.specs.Kinds.{put_service}
+use Rattle.mux_model.specs.declared.mux.RemoteService.{RemoteService}
+use Rattle.mux_model.specs.declared.mux.Other.{Other}
+use Rattle.mux_model.specs.Order.{all_placed}
+use Rattle.mux_model.specs.Sound.{comes_before, has_lower_id}
+use Rattle.mux_model.proofs.Placing.{map_with, placed_more}
+use Rattle.mux_config.specs.Descriptions.{all_of, insert, other_in, service_in, sorted, with_parts, with_remotes}
+use Rattle.mux_config.specs.Kinds.{put_other, put_remote, put_service}
 use Rattle.mux_config.proofs.RecordFacts.{all_more}
 
 -- ---- the place of a service
@@ -79,3 +84,30 @@ services_next rs i x done next lt e before put =
     put ∙ ap (λ (l : List MuxService). put_service rs l (service_in x.says)) before
     ∙ services_put rs (all_of service_in (take i rs)) (service_in x.says)
     ∙ ap (λ (l : List MuxService). map (with_parts rs) (sorted l)) (sym (all_step service_in rs i x lt e))
+
+-- ---- other streams and their services
+
+remotes_put : (xs : List RemoteService) (o : Option RemoteService) → put_remote (all_placed has_lower_id xs []) o ≡ all_placed has_lower_id (xs ++ cons_option o []) []
+remotes_put xs None = ap (λ (l : List RemoteService). all_placed has_lower_id l []) (sym (append-nil xs))
+remotes_put xs (Some s) = sym (placed_more has_lower_id xs [] s)
+
+pub remotes_next : (kind : Record → Option RemoteService) (rs : List Numbered) (i : ℕ) (x : Numbered) (done next : List RemoteService) → i < length rs → x ≡ get_or rs i x
+    → done ≡ all_placed has_lower_id (all_of kind (take i rs)) [] → next ≡ put_remote done (kind x.says) → next ≡ all_placed has_lower_id (all_of kind (take (i + 1) rs)) []
+remotes_next kind rs i x done next lt e before put =
+    put ∙ ap (λ (l : List RemoteService). put_remote l (kind x.says)) before
+    ∙ remotes_put (all_of kind (take i rs)) (kind x.says)
+    ∙ ap (λ (l : List RemoteService). all_placed has_lower_id l []) (sym (all_step kind rs i x lt e))
+
+others_put : (rs : List Numbered) (xs : List Other) (o : Option Other)
+    → put_other rs (map (with_remotes rs) (all_placed comes_before xs [])) o ≡ map (with_remotes rs) (all_placed comes_before (xs ++ cons_option o []) [])
+others_put rs xs None = ap (λ (l : List Other). map (with_remotes rs) (all_placed comes_before l [])) (sym (append-nil xs))
+others_put rs xs (Some o) =
+    sym (ap (map (with_remotes rs)) (placed_more comes_before xs [] o) ∙ map_with (with_remotes rs) comes_before comes_before (λ a b. refl) o (all_placed comes_before xs []))
+
+pub others_next : (rs : List Numbered) (i : ℕ) (x : Numbered) (done next : List Other) → i < length rs → x ≡ get_or rs i x
+    → done ≡ map (with_remotes rs) (all_placed comes_before (all_of other_in (take i rs)) []) → next ≡ put_other rs done (other_in x.says)
+    → next ≡ map (with_remotes rs) (all_placed comes_before (all_of other_in (take (i + 1) rs)) [])
+others_next rs i x done next lt e before put =
+    put ∙ ap (λ (l : List Other). put_other rs l (other_in x.says)) before
+    ∙ others_put rs (all_of other_in (take i rs)) (other_in x.says)
+    ∙ ap (λ (l : List Other). map (with_remotes rs) (all_placed comes_before l [])) (sym (all_step other_in rs i x lt e))

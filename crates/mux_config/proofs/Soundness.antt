@@ -12,15 +12,17 @@ use Rattle.guide_model.specs.declared.stream.Cable.{Cable}
 use Rattle.guide_model.specs.declared.stream.Component.{Component}
 use Rattle.si_text.specs.Decoding.{IsKept}
 use Rattle.mux_model.specs.declared.mux.MuxService.{MuxService}
+use Rattle.mux_model.specs.declared.mux.RemoteService.{RemoteService}
 use Rattle.mux_model.specs.declared.mux.Mux.{Mux}
 use Rattle.mux_config.specs.declared.record.Record.{Record}
-use Rattle.mux_config.specs.declared.record.Record.TheVariants.{Network, Stream, Delivery, Service, Part, Start, Quota, Local}
+use Rattle.mux_config.specs.declared.record.Record.TheVariants.{Network, Stream, Delivery, Service, Part, Start, Quota, Local, Elsewhere, Remote}
 use Rattle.mux_config.specs.declared.record.Numbered.{Numbered}
-use Rattle.mux_config.specs.Descriptions.{Description, all_of, cable_of, delivery_in, first, first_line, has_id, has_pmt, has_pid, has_region, holds, local_in, ended, is_stream, stream_in, with_network, with_services, with_stream, has_no_place, insert, is_delivery, is_network, is_quota, is_start, mux_with, network_in, numbered, part_in, quota_in, repeated_at, said, service_in, services_of, sorted, start_in, with_parts}
-use Rattle.mux_config.proofs.FineRecords.{AreFine, IsApart, IsFine, IsFineNetwork, IsFineService, IsFineStart, IsFineStream, in_order, parts_in}
-use Rattle.mux_model.specs.Sound.{AreDifferent, Between, DoAscend, HasSoundCable, IsSoundCable, IsSoundComponent, IsSoundOffset, IsSoundService, AreOfRegions, is_region, all_component_pids, component_pids, pmt_pids, IsSoundWithIds}
-use Rattle.mux_config.proofs.RecordFacts.{all_more, or_none_left, or_none_right, all_kept}
+use Rattle.mux_config.specs.Descriptions.{Description, all_of, cable_of, delivery_in, first, first_line, has_any_id, has_id, has_ids, has_pmt, has_pid, has_region, holds, local_in, ended, is_stream, stream_in, with_network, with_services, with_stream, has_no_place, insert, is_delivery, is_network, is_quota, is_start, mux_with, network_in, numbered, part_in, quota_in, repeated_at, said, service_in, services_of, sorted, start_in, with_parts}
+use Rattle.mux_config.proofs.FineRecords.{AreFine, AreFineOthers, IsAlone, IsApart, IsFine, IsFineNetwork, IsFineService, IsFineStart, IsFineStream, in_order, others_in, parts_in}
+use Rattle.mux_model.specs.Sound.{AreDifferent, Between, DoAscend, HasSoundCable, IsSoundCable, IsSoundComponent, IsSoundOffset, IsSoundService, AreOfRegions, is_region, all_component_pids, component_pids, pmt_pids, IsSoundWithIds, remote_services}
+use Rattle.mux_config.proofs.RecordFacts.{all_kept, all_more, differs, first_not, none_pass, or_false_left, or_false_right, or_none_left, or_none_right, said_all}
 use Rattle.mux_config.proofs.Ordering.{sorted_more}
+use Rattle.mux_config.proofs.FineOthers.{first_alone, kept_names, others_kept, others_more, others_none, remotes_more, sound_others, stream_alone}
 
 -- ---- lists
 
@@ -68,21 +70,9 @@ different_snoc (x ∷ xs) c new h = (
   different_snoc xs c new.1 h.1,
 )
 
-differs : (m n : ℕ) → (m == n) ≡ false → n ≢ m
-differs m n e same = absurd (grind (arith, nat_tests))
-
 said_here : (P : Component → Type 0) (b : Bool) (d c : Component) → P d → cond b (Some d) None ≡ Some c → P c
 said_here P true d c h e = (let same : d ≡ c = cc e in subst P same h)
 said_here P false d c h e = cc e
-
-cons_all : {X : Type 0} (P : X → Type 0) (o : Option X) (xs : List X) → ((x : X) → o ≡ Some x → P x) → AllByRecursion P xs → AllByRecursion P (cons_option o xs)
-cons_all P None xs f h = h
-cons_all P (Some x) xs f h = (f x refl, h)
-
--- what those of a kind have whose records have something
-said_all : {X : Type 0} (kind : Record → Option X) (P : X → Type 0) (Q : Record → Type 0) (f : (r : Record) (x : X) → Q r → kind r ≡ Some x → P x) (rs : List Numbered) → AllByRecursion (λ (r : Numbered). Q r.says) rs → AllByRecursion P (all_of kind rs)
-said_all kind P Q f [] h = tt
-said_all kind P Q f (r ∷ rs) h = cons_all P (kind r.says) (all_of kind rs) (λ x e. f r.says x h.0 e) (said_all kind P Q f rs h.1)
 
 all_sorted_from : (P : MuxService → Type 0) (xs done : List MuxService) → AllByRecursion P done → AllByRecursion P xs → AllByRecursion P (fold (λ (d : List MuxService) (x : MuxService). insert x d) done xs)
 all_sorted_from P [] done d h = d
@@ -91,16 +81,6 @@ all_sorted_from P (x ∷ xs) done d h = all_sorted_from P xs (insert x done) (al
 -- what the services have whose records have something
 served_all : (P : MuxService → Type 0) (Q : Record → Type 0) (f : (r : Record) (s : MuxService) → Q r → service_in r ≡ Some s → P s) (rs : List Numbered) → AllByRecursion (λ (r : Numbered). Q r.says) rs → AllByRecursion P (in_order rs)
 served_all P Q f rs h = all_sorted_from P (all_of service_in rs) [] tt (said_all service_in P Q f rs h)
-
-first_not : (test : Record → Bool) (r : Numbered) (rs : List Numbered) → first_line test (r ∷ rs) ≡ None → (test r.says ≡ false) × (first_line test rs ≡ None)
-first_not test r rs e = elim (cases_Bool (test r.says)) [
-  | inl yes' ↦ cc (rw yes' at e)
-  | inr no' ↦ (no', rw no' at e)
-]
-
-none_pass : (test : Record → Bool) (rs : List Numbered) → first_line test rs ≡ None → AllByRecursion (λ (r : Numbered). test r.says ≡ false) rs
-none_pass test [] e = tt
-none_pass test (r ∷ rs) e = (let n = first_not test r rs e in (n.0, none_pass test rs n.1))
 
 -- ---- what is not found is not there
 
@@ -155,12 +135,12 @@ offset_said other o h e = cc e
 -- ---- records that were taken
 
 pub fine_none : AreFine []
-fine_none = record { each = tt; count = omega arith; ascend = tt; pmts = tt; few = λ id. omega arith; once = λ id. tt; apart = λ id. tt; few_offsets = omega arith; regions = tt }
+fine_none = record { each = tt; count = omega arith; ascend = tt; pmts = tt; few = λ id. omega arith; once = λ id. tt; apart = λ id. tt; few_offsets = omega arith; regions = tt; others = others_none }
 
--- records that keep the services and the components
+-- records that keep the services, the components and the offsets
 pub fine_kept : (rs : List Numbered) (line : ℕ) (says : Record) → AreFine rs → IsFine says → service_in says ≡ None → ((id : ℕ) → part_in id says ≡ None) → local_in says ≡ None
-    → AreFine (rs ++ numbered line says ∷ [])
-fine_kept rs line says f fine no_service no_part no_offset =
+    → AreFineOthers (rs ++ numbered line says ∷ []) → AreFine (rs ++ numbered line says ∷ [])
+fine_kept rs line says f fine no_service no_part no_offset others =
     let r = numbered line says in
     let services : in_order (rs ++ r ∷ []) ≡ in_order rs = ap sorted (all_kept service_in rs r no_service) in
     let parts_same : (id : ℕ) → parts_in id (rs ++ r ∷ []) ≡ parts_in id rs = λ id. all_kept (part_in id) rs r (no_part id) in
@@ -175,6 +155,7 @@ fine_kept rs line says f fine no_service no_part no_offset =
       apart = λ id. rw (services, parts_same id) (f.apart id);
       few_offsets = rw offsets f.few_offsets;
       regions = rw offsets f.regions;
+      others = others;
     }
 
 length_insert : (s : MuxService) (ts : List MuxService) → length (insert s ts) ≡ length ts + 1
@@ -188,14 +169,26 @@ length_sorted_from : (xs done : List MuxService) → length (fold (λ (d : List 
 length_sorted_from [] done = omega arith
 length_sorted_from (x ∷ xs) done = omega (arith, length_sorted_from xs (insert x done), length_insert x done)
 
+own_not : (id : ℕ) (r : Record) → has_any_id id r ≡ false → has_id id r ≡ false
+own_not id (Service s) e = e
+own_not id other e = refl
+
+-- no own service has an id that none has
+own_none : (rs : List Numbered) (id : ℕ) → first_line (has_any_id id) rs ≡ None → first_line (has_id id) rs ≡ None
+own_none [] id e = refl
+own_none (r ∷ rs) id e =
+    let (a, b) = first_not (has_any_id id) r rs e in
+    rw (own_not id r.says a) (own_none rs id b)
+
 pub fine_service : (rs : List Numbered) (line : ℕ) (s : MuxService) → AreFine rs → IsFineService s → has_no_place rs (Service s) ≡ false → repeated_at rs (Service s) ≡ None → AreFine (rs ++ numbered line (Service s) ∷ [])
 fine_service rs line s f fine place once =
     let r = numbered line (Service s) in
     let services : in_order (rs ++ r ∷ []) ≡ insert s (in_order rs) = ap sorted (all_more service_in rs r) ∙ sorted_more (all_of service_in rs) s in
     let parts_same : (id : ℕ) → parts_in id (rs ++ r ∷ []) ≡ parts_in id rs = λ id. all_kept (part_in id) rs r refl in
-    let no_id = or_none_left (first_line (has_id s.service) rs) _ once in
-    let no_pmt = or_none_left (first_line (has_pmt s.pmt_pid) rs) _ (or_none_right (first_line (has_id s.service) rs) _ once) in
-    let no_pid = or_none_right (first_line (has_pmt s.pmt_pid) rs) (first_line (has_pid s.pmt_pid) rs) (or_none_right (first_line (has_id s.service) rs) _ once) in
+    let no_any = or_none_left (first_line (has_any_id s.service) rs) _ once in
+    let no_id = own_none rs s.service no_any in
+    let no_pmt = or_none_left (first_line (has_pmt s.pmt_pid) rs) _ (or_none_right (first_line (has_any_id s.service) rs) _ once) in
+    let no_pid = or_none_right (first_line (has_pmt s.pmt_pid) rs) (first_line (has_pid s.pmt_pid) rs) (or_none_right (first_line (has_any_id s.service) rs) _ once) in
     let room : length (all_of service_in rs) < 64 = grind (arith, nat_tests) in
     record {
       each = all_push (λ (x : Numbered). IsFine x.says) rs r f.each fine;
@@ -207,18 +200,11 @@ fine_service rs line s f fine place once =
       apart = λ id. rw (services, parts_same id) (all_insert (IsApart (parts_in id rs)) s (in_order rs) (no_pids rs s.pmt_pid id no_pid) (f.apart id));
       few_offsets = rw (all_kept local_in rs r refl) f.few_offsets;
       regions = rw (all_kept local_in rs r refl) f.regions;
+      others = others_kept rs line (Service s) f.others refl refl (λ a b. refl) tt (λ id e. subst (λ (n : ℕ). first_line (has_any_id n) rs ≡ None) (eqb-true s.service id e) no_any);
     }
-
-or_false_left : (a b : Bool) → (a || b) ≡ false → a ≡ false
-or_false_left false b e = refl
-or_false_left true b e = cc e
 
 fewer : (n : ℕ) → nat_le 16 n ≡ false → n < 16
 fewer n e = grind (arith, nat_tests)
-
-or_false_right : (a b : Bool) → (a || b) ≡ false → b ≡ false
-or_false_right false b e = e
-or_false_right true b e = cc e
 
 -- a component, among those of a service
 parts_split : (rs : List Numbered) (line home : ℕ) (c : Component) (id : ℕ)
@@ -269,6 +255,7 @@ fine_part rs line home c f fine place once =
       apart = λ id. rw services (parts_with (λ (cs : List Component). AllByRecursion (IsApart cs) (in_order rs)) rs line home c id (λ same. apart_more c (parts_in id rs) (in_order rs) no_pmt (f.apart id)) (f.apart id));
       few_offsets = rw (all_kept local_in rs r refl) f.few_offsets;
       regions = rw (all_kept local_in rs r refl) f.regions;
+      others = others_kept rs line (Part home c) f.others refl refl (λ a b. refl) tt (λ id e. cc e);
     }
 
 -- an offset of another region than those there
@@ -298,6 +285,7 @@ fine_local rs line o f fine place once =
       few_offsets = rw offsets (omega (arith, room, length-append (all_of local_in rs) (o ∷ [])));
       regions = rw offsets (regions_push (all_of local_in rs) o
           (said_all local_in (λ (p : Offset). is_region p o ≡ false) (λ r. has_region o r ≡ false) (region_said o) rs (none_pass (has_region o) rs once)) f.regions);
+      others = others_kept rs line (Local o) f.others refl refl (λ a b. refl) tt (λ id e. cc e);
     }
 
 -- one record more
@@ -305,7 +293,12 @@ pub fine_more : (rs : List Numbered) (line : ℕ) (says : Record) → AreFine rs
 fine_more rs line (Service s) f fine place once = fine_service rs line s f fine place once
 fine_more rs line (Part id c) f fine place once = fine_part rs line id c f fine place once
 fine_more rs line (Local o) f fine place once = fine_local rs line o f fine place once
-fine_more rs line other f fine place once = fine_kept rs line other f fine refl (λ id. refl) refl
+fine_more rs line (Stream s o) f fine place once =
+    let alone = stream_alone rs s o (or_none_right (first_line is_stream rs) (first_line (has_ids s o) rs) once) in
+    fine_kept rs line (Stream s o) f fine refl (λ id. refl) refl (others_kept rs line (Stream s o) f.others refl refl (λ a b. refl) alone (λ id e. cc e))
+fine_more rs line (Elsewhere s o cable) f fine place once = fine_kept rs line (Elsewhere s o cable) f fine refl (λ id. refl) refl (others_more rs line s o cable f.others place once)
+fine_more rs line (Remote s o service) f fine place once = fine_kept rs line (Remote s o service) f fine refl (λ id. refl) refl (remotes_more rs line s o service f.others place once)
+fine_more rs line other f fine place once = fine_kept rs line other f fine refl (λ id. refl) refl (others_kept rs line other f.others refl refl (λ a b. refl) tt (λ id e. cc e))
 
 -- ---- the multiplex
 
@@ -393,9 +386,11 @@ pub record IsFineMux (mux : Mux) : Type 0 where
   pub sound : IsSoundWithIds mux
   pub network_name : IsKept mux.network_name
   pub services : AllByRecursion (λ (s : MuxService). IsKept s.provider × IsKept s.name) mux.services
+  pub remotes : AllByRecursion (λ (s : RemoteService). IsKept s.provider × IsKept s.name) (remote_services mux.others)
 
-fine_mux : (rs : List Numbered) (network : ℕ × List ℕ) (stream : ℕ × ℕ) → AreFine rs → IsFineNetwork network → IsFineStream stream → 1 ≤ length (services_of rs) → IsFineMux (mux_with network stream rs)
-fine_mux rs network stream f named ids some =
+fine_mux : (rs : List Numbered) (network : ℕ × List ℕ) (stream : ℕ × ℕ) → AreFine rs → IsFineNetwork network → IsFineStream stream → IsAlone (others_in rs) (Some stream) → 1 ≤ length (services_of rs)
+    → IsFineMux (mux_with network stream rs)
+fine_mux rs network stream f named ids alone some =
     let ts = in_order rs in
     let served = served_all IsFineService IsFine service_said rs f.each in
     record {
@@ -411,6 +406,7 @@ fine_mux rs network stream f named ids some =
           ascend = ascend_parts rs ts f.ascend;
           pmts_once = subst AreDifferent (sym (pmts_same rs ts)) f.pmts;
           apart = apart_pids rs f;
+          others = sound_others rs network stream f.each f.others alone;
         };
         network = named.0;
         stream = ids.0;
@@ -418,6 +414,7 @@ fine_mux rs network stream f named ids some =
       };
       network_name = named.1.1;
       services = all_to_map (λ (s : MuxService). IsKept s.provider × IsKept s.name) (with_parts rs) ts (all_map IsFineService (λ (s : MuxService). IsKept s.provider × IsKept s.name) (λ s h. h.1) ts served);
+      remotes = kept_names rs f.each;
     }
 
 whole_services : (mux made : Mux) → with_services mux ≡ Ok made → (1 ≤ length mux.services) × (mux ≡ made)
@@ -426,15 +423,15 @@ whole_services mux made e = elim (cases_Bool (nat_le 1 (length mux.services))) [
   | inr none ↦ cc (rw none at e)
 ]
 
-whole_stream : (rs : List Numbered) (network : ℕ × List ℕ) (o : Option (ℕ × ℕ)) (made : Mux) → AreFine rs → IsFineNetwork network → IfSome o IsFineStream → with_stream rs network o ≡ Ok made → IsFineMux made
-whole_stream rs network None made f named ids e = cc e
-whole_stream rs network (Some stream) made f named ids e =
+whole_stream : (rs : List Numbered) (network : ℕ × List ℕ) (o : Option (ℕ × ℕ)) (made : Mux) → AreFine rs → IsFineNetwork network → IfSome o IsFineStream → IsAlone (others_in rs) o → with_stream rs network o ≡ Ok made → IsFineMux made
+whole_stream rs network None made f named ids alone e = cc e
+whole_stream rs network (Some stream) made f named ids alone e =
     let w = whole_services (mux_with network stream rs) made e in
-    subst IsFineMux w.1 (fine_mux rs network stream f named ids w.0)
+    subst IsFineMux w.1 (fine_mux rs network stream f named ids alone w.0)
 
 whole_network : (rs : List Numbered) (o : Option (ℕ × List ℕ)) (made : Mux) → AreFine rs → IfSome o IsFineNetwork → with_network rs o ≡ Ok made → IsFineMux made
 whole_network rs None made f named e = cc e
-whole_network rs (Some network) made f named e = whole_stream rs network (said stream_in (first is_stream rs)) made f named (said_first stream_in IsFineStream in_stream is_stream rs f.each) e
+whole_network rs (Some network) made f named e = whole_stream rs network (said stream_in (first is_stream rs)) made f named (said_first stream_in IsFineStream in_stream is_stream rs f.each) (first_alone (others_in rs) rs f.others.alone) e
 
 pub fine_end : (rs : List Numbered) (made : Mux) → AreFine rs → ended rs ≡ Ok made → IsFineMux made
 fine_end rs made f e = whole_network rs (said network_in (first is_network rs)) made f (said_first network_in IsFineNetwork in_network is_network rs f.each) e

@@ -9,6 +9,8 @@ use Rattle.si_time.specs.Readings as times
 use Rattle.mux_config.specs.declared.fault.Word.TheVariants.{Network, Stream, Service, End}
 use Rattle.mux_config.specs.declared.fault.MuxFault.TheVariants.{Line, Range, Twice, Missing}
 use Rattle.mux_model.specs.declared.mux.MuxService.{MuxService}
+use Rattle.mux_model.specs.declared.mux.RemoteService.{RemoteService}
+use Rattle.mux_model.specs.declared.mux.Other.{Other}
 use Rattle.mux_model.specs.declared.mux.Mux.{Mux}
 use Rattle.mux_model.specs.Muxes.{mux_of}
 use Rattle.mux_config.specs.declared.fault.MuxFault.{MuxFault}
@@ -44,12 +46,22 @@ service id pmt pcr components = record {
   components = components;
 }
 
+-- a service of another stream
+abbrev remote : ℕ → RemoteService
+remote id = record { service = id; feed = 1; kind = 1; provider = codes "Acme"; name = codes "Two" }
+
 abbrev mux_with : List MuxService → Mux
 mux_with = mux_of 40 (codes "Demo") 1 1 (record { 0 = 3506716800 }) 200
 
 -- the multiplex with these services, and what is ahead behind its lines: these lines, and the end at line n
 abbrev whole : List MuxService → List Row → ℕ → Found Description
 whole services rows n = Came (Ok (mux_with services)) (record { rows = rows; tail = Ends n })
+
+-- and with these other streams, where nothing is after its lines
+abbrev whole_with : List MuxService → List Other → ℕ → Found Description
+whole_with services others n =
+    let mux : Mux = mux_with services in
+    Came (Ok (record mux { others = others })) (record { rows = []; tail = Ends n })
 
 -- four lines, and what stands behind them
 demo : described (network_line ∷ stream_line ∷ service_line ∷ end_line ∷ codes "#" ∷ codes "publish" ∷ []) ≡ whole (service 101 256 257 [] ∷ []) ((6, codes "publish") ∷ []) 7
@@ -133,3 +145,60 @@ two_services : described (codes "service,102,1,1,300,257,Acme,One" ∷ service_l
     ≡ whole (service 101 256 257 (record { stream_type = 2; pid = 41; language = Some (codes "deu") } ∷ []) ∷ service 102 300 257 (record { stream_type = 2; pid = 41; language = None } ∷ record { stream_type = 3; pid = 40; language = None } ∷ []) ∷ []) [] 9
 unfolding chars is_utf8 lib.Utf8.encode next_record strip_bom
 two_services = refl
+
+-- ---- other streams
+
+abbrev other_line : List ℕ
+other_line = codes "other,2,1"
+
+abbrev remote_line : List ℕ
+remote_line = codes "remote,2,1,201,1,1,Acme,Two"
+
+-- one other stream with one service
+other_stream : described (network_line ∷ stream_line ∷ service_line ∷ other_line ∷ remote_line ∷ end_line ∷ [])
+    ≡ whole_with (service 101 256 257 [] ∷ []) (record { stream = 2; original = 1; cable = None; services = remote 201 ∷ [] } ∷ []) 7
+unfolding chars is_utf8 lib.Utf8.encode next_record strip_bom
+other_stream = refl
+
+-- other streams ascend by stream and then by original, and each one's services by id
+in_order : described (codes "other,3,1" ∷ codes "other,2,2,3120000,3,68750,2,15" ∷ other_line ∷ codes "remote,2,1,203,1,1,Acme,Two" ∷ codes "remote,2,2,202,1,1,Acme,Two" ∷ remote_line ∷ network_line ∷ stream_line ∷ service_line ∷ end_line ∷ [])
+    ≡ whole_with (service 101 256 257 [] ∷ [])
+    (record { stream = 2; original = 1; cable = None; services = remote 201 ∷ remote 203 ∷ [] }
+    ∷ record { stream = 2; original = 2; cable = Some (record { frequency = 3120000; modulation = 3; symbol_rate = 68750; fec_outer = 2; fec_inner = 15 }); services = remote 202 ∷ [] }
+    ∷ record { stream = 3; original = 1; cable = None; services = [] } ∷ [])
+    11
+unfolding chars is_utf8 lib.Utf8.encode next_record strip_bom
+in_order = refl
+
+-- the own stream's ids, whichever line comes later
+own_ids : fault_of_text (network_line ∷ stream_line ∷ codes "other,1,1" ∷ []) ≡ Some (Twice 3 2)
+unfolding chars is_utf8 lib.Utf8.encode next_record strip_bom
+own_ids = refl
+
+own_later : fault_of_text (codes "other,1,1" ∷ network_line ∷ stream_line ∷ []) ≡ Some (Twice 3 1)
+unfolding chars is_utf8 lib.Utf8.encode next_record strip_bom
+own_later = refl
+
+-- a second stream goes before another stream's ids
+second_first : fault_of_text (codes "other,1,1" ∷ codes "stream,5,5" ∷ stream_line ∷ []) ≡ Some (Twice 3 2)
+unfolding chars is_utf8 lib.Utf8.encode next_record strip_bom
+second_first = refl
+
+-- an own service and one of another stream with one id, whichever comes later
+remote_of_own : fault_of_text (service_line ∷ other_line ∷ codes "remote,2,1,101,1,1,Acme,Two" ∷ []) ≡ Some (Twice 3 1)
+unfolding chars is_utf8 lib.Utf8.encode next_record strip_bom
+remote_of_own = refl
+
+own_of_remote : fault_of_text (other_line ∷ codes "remote,2,1,101,1,1,Acme,Two" ∷ service_line ∷ []) ≡ Some (Twice 3 2)
+unfolding chars is_utf8 lib.Utf8.encode next_record strip_bom
+own_of_remote = refl
+
+-- the own stream is no other stream
+of_own_stream : fault_of_text (stream_line ∷ codes "remote,1,1,201,1,1,Acme,Two" ∷ []) ≡ Some (Range 2)
+unfolding chars is_utf8 lib.Utf8.encode next_record strip_bom
+of_own_stream = refl
+
+-- one cable field of five
+part_of_cable : fault_of_text (codes "other,2,1,3120000" ∷ []) ≡ Some (Line 1)
+unfolding chars is_utf8 lib.Utf8.encode next_record strip_bom
+part_of_cable = refl

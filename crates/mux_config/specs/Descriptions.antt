@@ -11,10 +11,13 @@ use Rattle.mux_config.specs.declared.fault.Word.TheVariants as word
 use Rattle.mux_config.specs.declared.fault.MuxFault.{MuxFault}
 use Rattle.mux_config.specs.declared.fault.MuxFault.TheVariants as fault
 use Rattle.mux_model.specs.declared.mux.MuxService.{MuxService}
+use Rattle.mux_model.specs.declared.mux.RemoteService.{RemoteService}
+use Rattle.mux_model.specs.declared.mux.Other.{Other}
 use Rattle.mux_model.specs.declared.mux.Mux.{Mux}
-use Rattle.mux_model.specs.Sound.{is_region}
+use Rattle.mux_model.specs.Order.{all_placed}
+use Rattle.mux_model.specs.Sound.{comes_before, has_lower_id, is_region}
 use Rattle.mux_config.specs.declared.record.Record.{Record}
-use Rattle.mux_config.specs.declared.record.Record.TheVariants.{Network, Stream, Delivery, Service, Part, Start, Quota, Local, End}
+use Rattle.mux_config.specs.declared.record.Record.TheVariants.{Network, Stream, Delivery, Service, Part, Start, Quota, Local, Elsewhere, Remote, End}
 use Rattle.mux_config.specs.declared.record.Numbered.{Numbered}
 use Rattle.mux_config.specs.declared.record.RecordFound.{RecordFound}
 use Rattle.mux_config.specs.declared.record.RecordFound.TheVariants.{NoRecord, OutOfRange, Is}
@@ -49,6 +52,21 @@ quota_in r = None
 abbrev pub local_in : Record → Option Offset
 local_in (Local offset) = Some offset
 local_in r = None
+
+-- another stream, still without services
+abbrev pub other_in : Record → Option Other
+other_in (Elsewhere stream original cable) = Some (record { stream = stream; original = original; cable = cable; services = [] })
+other_in r = None
+
+-- a service of another stream
+abbrev pub remote_in : Record → Option RemoteService
+remote_in (Remote stream original s) = Some s
+remote_in r = None
+
+-- the service, where the record is one of this other stream
+abbrev pub remote_of : ℕ → ℕ → Record → Option RemoteService
+remote_of stream original (Remote s o service) = if s == stream && o == original then Some service else None
+remote_of stream original r = None
 
 -- the component, where the record is one of this service
 abbrev pub part_in : ℕ → Record → Option Component
@@ -87,7 +105,23 @@ is_start r = is_some (start_in r)
 abbrev pub is_quota : Record → Bool
 is_quota r = is_some (quota_in r)
 
--- a service with this id; with this PMT PID
+-- a service of whatever stream with this id
+abbrev pub has_any_id : ℕ → Record → Bool
+has_any_id id (Service s) = s.service == id
+has_any_id id (Remote stream original s) = s.service == id
+has_any_id id r = false
+
+-- another stream with these ids; a stream with these, the own one or another
+abbrev pub is_other : ℕ → ℕ → Record → Bool
+is_other stream original (Elsewhere s o cable) = s == stream && o == original
+is_other stream original r = false
+
+abbrev pub has_ids : ℕ → ℕ → Record → Bool
+has_ids stream original (Stream s o) = s == stream && o == original
+has_ids stream original (Elsewhere s o cable) = s == stream && o == original
+has_ids stream original r = false
+
+-- an own service with this id; with this PMT PID
 abbrev pub has_id : ℕ → Record → Bool
 has_id id (Service s) = s.service == id
 has_id id r = false
@@ -114,25 +148,30 @@ has_region offset r = false
 abbrev pub holds : ℕ → ℕ → Record → Bool
 holds id pid r = has_pmt pid r || has_part id pid r
 
--- Whether the record has no place behind these: it is a 65th service, or a component of no earlier service, or the
--- 17th of its service, or a 17th offset.
+-- Whether the record has no place after these: it is a 65th service, or a component of no earlier service, or the
+-- 17th of its service, or a 17th offset, or a 16th other stream, or a service of no earlier other stream, or the 65th
+-- service of other streams.
 abbrev pub has_no_place : List Numbered → Record → Bool
 has_no_place before (Service s) = nat_le 64 (length (all_of service_in before))
 has_no_place before (Part id c) = not (list_any (λ (r : Numbered). has_id id r.says) before) || nat_le 16 (length (all_of (part_in id) before))
 has_no_place before (Local o) = nat_le 16 (length (all_of local_in before))
+has_no_place before (Elsewhere s o cable) = nat_le 15 (length (all_of other_in before))
+has_no_place before (Remote s o service) = not (list_any (λ (r : Numbered). is_other s o r.says) before) || nat_le 64 (length (all_of remote_in before))
 has_no_place before r = false
 
 -- The first line that has what the record repeats. Of a service these are tried in turn: its id, its PMT PID as a PMT
--- PID, its PMT PID as a component's PID.
+-- PID, its PMT PID as a component's PID; of the stream: a stream, another stream with its ids.
 abbrev pub repeated_at : List Numbered → Record → Option ℕ
 repeated_at before (Network id name) = first_line is_network before
-repeated_at before (Stream id original) = first_line is_stream before
+repeated_at before (Stream id original) = option_or (first_line is_stream before) (first_line (has_ids id original) before)
 repeated_at before (Delivery cable) = first_line is_delivery before
-repeated_at before (Service s) = option_or (first_line (has_id s.service) before) (option_or (first_line (has_pmt s.pmt_pid) before) (first_line (has_pid s.pmt_pid) before))
+repeated_at before (Service s) = option_or (first_line (has_any_id s.service) before) (option_or (first_line (has_pmt s.pmt_pid) before) (first_line (has_pid s.pmt_pid) before))
 repeated_at before (Part id c) = first_line (holds id c.pid) before
 repeated_at before (Start moment) = first_line is_start before
 repeated_at before (Quota n) = first_line is_quota before
 repeated_at before (Local o) = first_line (has_region o) before
+repeated_at before (Elsewhere s o cable) = first_line (has_ids s o) before
+repeated_at before (Remote s o service) = first_line (has_any_id service.service) before
 repeated_at before End = None
 
 -- the fault of line n behind these records
@@ -158,6 +197,13 @@ with_parts records s = record s { components = all_of (part_in s.service) record
 abbrev pub services_of : List Numbered → List MuxService
 services_of records = map (with_parts records) (sorted (all_of service_in records))
 
+-- another stream with its services among the records, by ascending id
+abbrev pub with_remotes : List Numbered → Other → Other
+with_remotes records o = record o { services = all_placed has_lower_id (all_of (remote_of o.stream o.original) records) [] }
+
+abbrev pub others_of : List Numbered → List Other
+others_of records = map (with_remotes records) (all_placed comes_before (all_of other_in records) [])
+
 abbrev pub cable_of : List Numbered → Option Cable
 cable_of records = said delivery_in (first is_delivery records)
 
@@ -180,6 +226,7 @@ mux_with network stream records = record {
   quota = quota_of records;
   offsets = all_of local_in records;
   services = services_of records;
+  others = others_of records;
 }
 
 -- ---- a description

@@ -5,9 +5,10 @@ use Rattle.input_lines.specs.Fields.{record_of}
 use Rattle.input_lines.specs.Numbers.{is_word, numeral_of, in_range}
 use Rattle.mux_model.specs.Sound.{farthest}
 use Rattle.mux_model.specs.declared.mux.MuxService.{MuxService}
+use Rattle.mux_model.specs.declared.mux.RemoteService.{RemoteService}
 use Rattle.mux_config.specs.declared.rows.Numbers.{Numbers}
 use Rattle.mux_config.specs.declared.record.Record.{Record}
-use Rattle.mux_config.specs.declared.record.Record.TheVariants.{Network, Stream, Delivery, Service, Part, Start, Quota, Local, End}
+use Rattle.mux_config.specs.declared.record.Record.TheVariants.{Network, Stream, Delivery, Service, Part, Start, Quota, Local, Elsewhere, Remote, End}
 use Rattle.mux_config.specs.declared.record.RecordFound.{RecordFound}
 use Rattle.mux_config.specs.declared.record.RecordFound.TheVariants.{NoRecord, OutOfRange, Is}
 use Rattle.si_text.specs.Coding.{coded_size}
@@ -128,16 +129,66 @@ start_in moment = start_with (moment_in moment)
 abbrev pub quota_in : List ℕ → RecordFound
 quota_in quota = spelled quota (λ n. within (in_range 1 10000 n) (Quota n))
 
+-- `other,STREAM,ORIGINAL`
+abbrev pub are_ids : ℕ → ℕ → Bool
+are_ids stream original = in_range 0 65535 stream && in_range 0 65535 original
+
+abbrev pub other_in : List ℕ → List ℕ → RecordFound
+other_in stream original = spelled stream (λ s. spelled original (λ o. within (are_ids s o) (Elsewhere s o None)))
+
+-- another stream with what its cable fields say
+abbrev pub other_by : ℕ → ℕ → RecordFound → RecordFound
+other_by stream original (Is (Delivery cable)) = within (are_ids stream original) (Elsewhere stream original (Some cable))
+other_by stream original found = found
+
+-- `other,STREAM,ORIGINAL,FREQUENCY,MODULATION,SYMBOLRATE,OUTER,INNER`
+abbrev pub cabled_in : List ℕ → List ℕ → List ℕ → List ℕ → List ℕ → List ℕ → List ℕ → RecordFound
+cabled_in stream original frequency modulation rate outer inner =
+    spelled stream (λ s. spelled original (λ o. other_by s o (cable_in frequency modulation rate outer inner)))
+
+abbrev pub is_remote_in_range : RemoteService → Bool
+is_remote_in_range s =
+    (in_range 1 65535 s.service && (in_range 1 16 s.feed && in_range 0 255 s.kind))
+    && (in_range 0 100 (coded_size s.provider) && in_range 1 100 (coded_size s.name))
+
+abbrev pub remote_with : ℕ → ℕ → RemoteService → RecordFound
+remote_with stream original s = within (are_ids stream original && is_remote_in_range s) (Remote stream original s)
+
+abbrev pub remote_by : ℕ → ℕ → ℕ → List ℕ → List ℕ → RemoteService
+remote_by id feed kind provider name = record { service = id; feed = feed; kind = kind; provider = provider; name = name }
+
+-- `remote,STREAM,ORIGINAL,ID,FEED,TYPE,PROVIDER,NAME`
+abbrev pub remote_in : List ℕ → List ℕ → List ℕ → List ℕ → List ℕ → List ℕ → List ℕ → RecordFound
+remote_in stream original id feed kind provider name =
+    spelled stream (λ s. spelled original (λ o. spelled id (λ i. spelled feed (λ f. spelled kind (λ k.
+    remote_with s o (remote_by i f k provider name))))))
+
+-- a line of eight fields
+abbrev pub eight_in : List (List ℕ) → RecordFound
+eight_in (word ∷ a ∷ b ∷ c ∷ d ∷ e ∷ f ∷ g ∷ []) =
+    if is_word (codes "service") word then service_in a b c d e f g
+    else if is_word (codes "other") word then cabled_in a b c d e f g
+    else if is_word (codes "remote") word then remote_in a b c d e f g
+    else NoRecord
+eight_in fields = NoRecord
+
+-- a line of three fields
+abbrev pub three_in : List ℕ → List ℕ → List ℕ → RecordFound
+three_in word a b =
+    if is_word (codes "network") word then network_in a b
+    else if is_word (codes "stream") word then stream_in a b
+    else if is_word (codes "other") word then other_in a b
+    else NoRecord
+
 -- what the fields of a line say, by the word in front and how many they are
 abbrev pub found_in : List (List ℕ) → RecordFound
 found_in (word ∷ []) = if is_word (codes "end") word then Is End else NoRecord
 found_in (word ∷ a ∷ []) = if is_word (codes "start") word then start_in a else (if is_word (codes "quota") word then quota_in a else NoRecord)
-found_in (word ∷ a ∷ b ∷ []) = if is_word (codes "network") word then network_in a b else (if is_word (codes "stream") word then stream_in a b else NoRecord)
+found_in (word ∷ a ∷ b ∷ []) = three_in word a b
 found_in (word ∷ a ∷ b ∷ c ∷ d ∷ []) = if is_word (codes "component") word then part_in a b c d else NoRecord
 found_in (word ∷ a ∷ b ∷ c ∷ d ∷ e ∷ []) = if is_word (codes "cable") word then cable_in a b c d e else NoRecord
 found_in (word ∷ a ∷ b ∷ c ∷ d ∷ e ∷ f ∷ []) = if is_word (codes "offset") word then offset_in a b c d e f else NoRecord
-found_in (word ∷ a ∷ b ∷ c ∷ d ∷ e ∷ f ∷ g ∷ []) = if is_word (codes "service") word then service_in a b c d e f g else NoRecord
-found_in fields = NoRecord
+found_in fields = eight_in fields
 
 -- what a line says; one that is no line has no fields
 abbrev pub found_fields : Option (List (List ℕ)) → RecordFound

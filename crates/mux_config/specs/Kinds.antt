@@ -1,11 +1,16 @@
 -- Kinds of records, as the code names them.
 use Rattle.std.specs.Prelude.{Bool, List, Option, Some, None}
+use Rattle.std.specs.Option.{is_some}
 use Rattle.mux_model.specs.declared.mux.MuxService.{MuxService}
+use Rattle.mux_model.specs.declared.mux.RemoteService.{RemoteService}
+use Rattle.mux_model.specs.declared.mux.Other.{Other}
+use Rattle.mux_model.specs.Order.{placed}
+use Rattle.mux_model.specs.Sound.{comes_before, has_lower_id}
 use Rattle.mux_config.specs.declared.record.Numbered.{Numbered}
 use Rattle.mux_config.specs.declared.kinds.Kind.{Kind}
-use Rattle.mux_config.specs.declared.kinds.Kind.TheVariants.{Networks, Streams, Deliveries, Starts, Quotas, Regions, Ids, Pmts, Pids, Holders}
+use Rattle.mux_config.specs.declared.kinds.Kind.TheVariants.{Networks, Streams, Deliveries, Starts, Quotas, Regions, Ids, Pairs, Pmts, Pids, Holders, Services, Parts, Offsets, Others, Remotes}
 use Rattle.mux_config.specs.declared.record.Record.{Record}
-use Rattle.mux_config.specs.Descriptions.{is_network, is_stream, is_delivery, is_start, is_quota, has_id, has_pmt, has_pid, has_region, holds, insert, with_parts}
+use Rattle.mux_config.specs.Descriptions.{is_network, is_stream, is_delivery, is_start, is_quota, has_any_id, has_ids, has_pmt, has_pid, has_region, holds, insert, local_in, other_in, part_in, remote_in, service_in, with_parts, with_remotes}
 
 abbrev pub is_of : Kind → Record → Bool
 is_of Networks = is_network
@@ -14,12 +19,28 @@ is_of Deliveries = is_delivery
 is_of Starts = is_start
 is_of Quotas = is_quota
 is_of (Regions offset) = has_region offset
-is_of (Ids id) = has_id id
+is_of (Ids id) = has_any_id id
+is_of (Pairs stream original) = has_ids stream original
 is_of (Pmts pid) = has_pmt pid
 is_of (Pids pid) = has_pid pid
 is_of (Holders id pid) = holds id pid
+is_of Services = λ (r : Record). is_some (service_in r)
+is_of (Parts id) = λ (r : Record). is_some (part_in id r)
+is_of Offsets = λ (r : Record). is_some (local_in r)
+is_of Others = λ (r : Record). is_some (other_in r)
+is_of Remotes = λ (r : Record). is_some (remote_in r)
 
 -- a service, where there is one, at its place, with its components among the records
 abbrev pub put_service : List Numbered → List MuxService → Option MuxService → List MuxService
 put_service records done None = done
 put_service records done (Some s) = insert (with_parts records s) done
+
+-- another stream, where there is one, at its place, with its services among the records
+abbrev pub put_other : List Numbered → List Other → Option Other → List Other
+put_other records done None = done
+put_other records done (Some o) = placed comes_before (with_remotes records o) done
+
+-- a service of another stream, where there is one, at its place
+abbrev pub put_remote : List RemoteService → Option RemoteService → List RemoteService
+put_remote done None = done
+put_remote done (Some s) = placed has_lower_id s done

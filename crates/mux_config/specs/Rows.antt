@@ -86,6 +86,7 @@ row_sound = record {
     (differ 256 257 refl, (differ 256 258 refl, (differ 256 258 refl, tt))),
     ((differ 32 257 refl, (differ 32 258 refl, (differ 32 258 refl, tt))), tt),
   );
+  others = record { few = lit≤ tt; each = tt; ascend = tt; apart = tt; few_services = lit≤ tt; once = ((differ 101 102 refl, tt), (tt, tt)) };
 }
 
 -- services in another order, and one that stands twice

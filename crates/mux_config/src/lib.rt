@@ -1,5 +1,5 @@
-//! The description of a multiplex: its network, its stream, its services and the offsets of local
-//! time (EN 300 468, 5.2.1, 5.2.3 and 5.2.6).
+//! The description of a multiplex: its network, its stream, its services, the offsets of local time
+//! and the other streams of the network (EN 300 468, 5.2.1, 5.2.3 and 5.2.6).
 //!
 //! [`read_mux`] gives the multiplex that the lines describe, which is sound, or exactly their first
 //! fault; lines after `end` are left unread. That holds however the source cuts its text. A source
@@ -23,6 +23,6 @@ mod whole;
 pub use fault::{MuxFault, Word};
 pub use input_lines::{LineFields, fields};
 pub use laws::{described_texts_are_kept, whole_descriptions_are_sound};
-pub use mux_model::{Mux, MuxService, MuxServices};
+pub use mux_model::{Mux, MuxService, MuxServices, Other, Others, RemoteService, RemoteServices};
 pub use read::read_mux;
 pub use stop::MuxStop;

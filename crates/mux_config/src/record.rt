@@ -1,12 +1,13 @@
 // The records of a description.
 use guide_model::{Cable, Component, Offset};
-use mux_model::MuxService;
+use mux_model::{MuxService, RemoteService};
 use si_text::Txt;
 use si_time::Moment;
 
 /// What a line of the description says: the network's id and name; the stream's id and its original network; the cable
 /// delivery; a service, still without components; a component of a service; the moment at which the desk starts; the
-/// quota; how far the clocks of a region are from UTC; the end.
+/// quota; how far the clocks of a region are from UTC; another stream's id, its original network and its cable
+/// delivery; a service of the other stream with this id and original network; the end.
 #[derive(Drop)]
 pub enum Record {
     Network(u16, Txt),
@@ -17,6 +18,8 @@ pub enum Record {
     Start(Moment),
     Quota(u32),
     Local(Offset),
+    Elsewhere(u16, u16, Option<Cable>),
+    Remote(u16, u16, RemoteService),
     End,
 }
 

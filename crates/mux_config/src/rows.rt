@@ -1,15 +1,14 @@
 // What the fields of a line say.
-ghost use Rattle.std.specs.Prelude.{◌≡◌, ◌<◌, ◌∷◌, [], true, false, IfOk, IfSome, IfNone, Some, option_map, if◌then◌else◌, codes};
+ghost use Rattle.std.specs.Prelude.{◌≡◌, ◌<◌, ◌∷◌, [], true, false, IfOk, IfSome, IfNone, Some, option_map};
 ghost use Rattle.si_text.specs.Coding.{coded_size};
-ghost use Rattle.input_lines.specs.Numbers.{in_range, is_word as is_service_word};
-ghost use Rattle.mux_config.specs.declared.record.RecordFound.TheVariants.{NoRecord};
+ghost use Rattle.input_lines.specs.Numbers.{in_range};
 ghost use Rattle.mux_model.specs.Sound.{Between, farthest};
-ghost use Rattle.mux_config.specs.Fields.{network_in, stream_in, cable_in, delivery_with, numbers_in, service_with, service_of as numbers_service, bare_service, is_letter as is_small_letter, is_language as is_a_language, language_of, part_in, is_capital, country_of, side_of, offset_with, offset_in, start_in, quota_in, found_in};
+ghost use Rattle.mux_config.specs.Fields.{network_in, stream_in, cable_in, delivery_with, are_ids, other_in, other_by, cabled_in, remote_with, remote_by, remote_in, eight_in, three_in, numbers_in, service_with, service_of as numbers_service, bare_service, is_letter as is_small_letter, is_language as is_a_language, language_of, part_in, is_capital, country_of, side_of, offset_with, offset_in, start_in, quota_in, found_in};
 
 use crate::record::{Record, RecordFound};
 use guide_model::{Cable, Component, Components, Offset};
 use input_lines::{is_word, numeral};
-use mux_model::MuxService;
+use mux_model::{MuxService, RemoteService};
 use si_text::{Txt, coded_len};
 use si_time::{Moment, read_moment};
 use std::alloc::{AllocError, Global};
@@ -431,15 +430,163 @@ fn quota(quota: &Txt) -> RecordFound
     }
 }
 
-// The record of two fields behind its word.
+// The ids of a stream, where both are in their range.
+fn ids(stream: u32, original: u32) -> Option<(u16, u16)>
+    ensures some { IfSome result (λ both. (are_ids stream original ≡ true) × (both ≡ (stream, original))) }
+    ensures none { IfNone result (are_ids stream original ≡ false) }
+{
+    let stream = short(0, 65_535, stream)?;
+    let original = short(0, 65_535, original)?;
+    Some((stream, original))
+}
+
+// `other,STREAM,ORIGINAL`
+fn other(stream: &Txt, original: &Txt) -> RecordFound
+    ensures { result ≡ other_in stream.now original.now }
+{
+    let Some(stream) = numeral(stream.as_str()) else {
+        return RecordFound::NoRecord;
+    };
+    let Some(original) = numeral(original.as_str()) else {
+        return RecordFound::NoRecord;
+    };
+    match ids(stream, original) {
+        Some((stream, original)) => { RecordFound::Is(Record::Elsewhere(stream, original, None)) }
+        None => RecordFound::OutOfRange,
+    }
+}
+
+// Another stream with what its cable fields say.
+fn with_delivery(stream: u32, original: u32, found: RecordFound) -> RecordFound
+    ensures { result ≡ other_by stream original found }
+{
+    let RecordFound::Is(Record::Delivery(cable)) = found else {
+        return found;
+    };
+    match ids(stream, original) {
+        Some((stream, original)) => {
+            RecordFound::Is(Record::Elsewhere(stream, original, Some(cable)))
+        }
+        None => RecordFound::OutOfRange,
+    }
+}
+
+// `other,STREAM,ORIGINAL,FREQUENCY,MODULATION,SYMBOLRATE,OUTER,INNER`
+fn cabled(
+    stream: &Txt,
+    original: &Txt,
+    frequency: &Txt,
+    modulation: &Txt,
+    rate: &Txt,
+    outer: &Txt,
+    inner: &Txt,
+) -> RecordFound
+    ensures { result ≡ cabled_in stream.now original.now frequency.now modulation.now rate.now outer.now inner.now }
+{
+    let Some(stream) = numeral(stream.as_str()) else {
+        return RecordFound::NoRecord;
+    };
+    let Some(original) = numeral(original.as_str()) else {
+        return RecordFound::NoRecord;
+    };
+    with_delivery(
+        stream,
+        original,
+        cable(frequency, modulation, rate, outer, inner),
+    )
+}
+
+// The numbers of a service of another stream, as they are spelled.
+#[derive(Clone, Copy)]
+struct RemoteNumbers {
+    stream: u32,
+    original: u32,
+    service: u32,
+    feed: u32,
+    kind: u32,
+}
+
+// The service of another stream of these numbers.
+fn remote_of(numbers: RemoteNumbers, provider: &Txt, name: &Txt) -> Result<RecordFound, AllocError>
+    ensures { IfOk result (λ found. found ≡ remote_with numbers.stream numbers.original (remote_by numbers.service numbers.feed numbers.kind provider.now name.now)) }
+{
+    let Some((stream, original)) = ids(numbers.stream, numbers.original) else {
+        return Ok(RecordFound::OutOfRange);
+    };
+    let Some(service) = short(1, 65_535, numbers.service) else {
+        return Ok(RecordFound::OutOfRange);
+    };
+    let Some(feed) = byte(1, 16, numbers.feed) else {
+        return Ok(RecordFound::OutOfRange);
+    };
+    let Some(kind) = byte(0, 255, numbers.kind) else {
+        return Ok(RecordFound::OutOfRange);
+    };
+    if !fits(0, provider) {
+        return Ok(RecordFound::OutOfRange);
+    }
+    if !fits(1, name) {
+        return Ok(RecordFound::OutOfRange);
+    }
+    let service = RemoteService {
+        service,
+        feed,
+        kind,
+        provider: provider.copy()?,
+        name: name.copy()?,
+    };
+    Ok(RecordFound::Is(Record::Remote(stream, original, service)))
+}
+
+// `remote,STREAM,ORIGINAL,ID,FEED,TYPE,PROVIDER,NAME`
+fn remote(
+    stream: &Txt,
+    original: &Txt,
+    id: &Txt,
+    feed: &Txt,
+    kind: &Txt,
+    provider: &Txt,
+    name: &Txt,
+) -> Result<RecordFound, AllocError>
+    ensures { IfOk result (λ found. found ≡ remote_in stream.now original.now id.now feed.now kind.now provider.now name.now) }
+{
+    let Some(stream) = numeral(stream.as_str()) else {
+        return Ok(RecordFound::NoRecord);
+    };
+    let Some(original) = numeral(original.as_str()) else {
+        return Ok(RecordFound::NoRecord);
+    };
+    let Some(service) = numeral(id.as_str()) else {
+        return Ok(RecordFound::NoRecord);
+    };
+    let Some(feed) = numeral(feed.as_str()) else {
+        return Ok(RecordFound::NoRecord);
+    };
+    let Some(kind) = numeral(kind.as_str()) else {
+        return Ok(RecordFound::NoRecord);
+    };
+    let numbers = RemoteNumbers {
+        stream,
+        original,
+        service,
+        feed,
+        kind,
+    };
+    remote_of(numbers, provider, name)
+}
+
+// The record of two fields after its word.
 fn record_of_two(word: &Txt, a: &Txt, b: &Txt) -> Result<RecordFound, AllocError>
-    ensures { IfOk result (λ found. found ≡ found_in (word.now ∷ a.now ∷ b.now ∷ [])) }
+    ensures { IfOk result (λ found. found ≡ three_in word.now a.now b.now) }
 {
     if is_word(word.as_str(), "network") {
         return network(a, b);
     }
     if is_word(word.as_str(), "stream") {
         return Ok(stream(a, b));
+    }
+    if is_word(word.as_str(), "other") {
+        return Ok(other(a, b));
     }
     Ok(RecordFound::NoRecord)
 }
@@ -457,23 +604,38 @@ fn record_of_one(word: &Txt, a: &Txt) -> RecordFound
     RecordFound::NoRecord
 }
 
-// The record of eight fields, five of which are these numbers.
-fn record_of_eight(
+// The service of numbers that are spelled.
+fn service(
     alloc: Global,
-    word: &Txt,
     numbers: Option<Numbers>,
     provider: &Txt,
     name: &Txt,
 ) -> Result<RecordFound, AllocError>
-    ensures { IfOk result (λ found. found ≡ (if is_service_word (codes "service") word.now then numbers_service numbers provider.now name.now else NoRecord)) }
+    ensures { IfOk result (λ found. found ≡ numbers_service numbers provider.now name.now) }
 {
-    if !is_word(word.as_str(), "service") {
-        return Ok(RecordFound::NoRecord);
-    }
     match numbers {
         Some(numbers) => service_of(alloc, numbers, provider, name),
         None => Ok(RecordFound::NoRecord),
     }
+}
+
+// The record of seven fields after its word.
+fn record_of_seven(alloc: Global, fields: &[Txt]) -> Result<RecordFound, AllocError>
+    ensures { IfOk result (λ found. found ≡ eight_in fields.now) }
+{
+    let [word, a, b, c, d, e, f, g] = fields else {
+        return Ok(RecordFound::NoRecord);
+    };
+    if is_word(word.as_str(), "service") {
+        return service(alloc, service_numbers(a, b, c, d, e), f, g);
+    }
+    if is_word(word.as_str(), "other") {
+        return Ok(cabled(a, b, c, d, e, f, g));
+    }
+    if is_word(word.as_str(), "remote") {
+        return remote(a, b, c, d, e, f, g);
+    }
+    Ok(RecordFound::NoRecord)
 }
 
 /// What the fields of a line say.
@@ -511,10 +673,6 @@ pub(crate) fn found_in(alloc: Global, fields: &[Txt]) -> Result<RecordFound, All
                 Ok(RecordFound::NoRecord)
             }
         }
-        [word, id, feed, kind, pmt, pcr, provider, name] => {
-            let numbers = service_numbers(id, feed, kind, pmt, pcr);
-            record_of_eight(alloc, word, numbers, provider, name)
-        }
-        _ => Ok(RecordFound::NoRecord),
+        _ => record_of_seven(alloc, fields),
     }
 }

@@ -1,9 +1,13 @@
 // The multiplex that records make.
-ghost use Rattle.std.specs.Prelude.{◌≡◌, ◌≤◌, ◌∷◌, ◌++◌, [], length, nat_lt, position, take, drop, IfOk, OnOk};
+ghost use Rattle.std.specs.Prelude.{◌≡◌, ◌≤◌, ◌==◌, ◌&&◌, ◌||◌, ◌∷◌, ◌++◌, [], length, nat_lt, option_copied, position, take, drop, IfOk, OnOk};
 ghost use Rattle.std.specs.Option.{unwrap_or};
 ghost use Rattle.mux_model.specs.declared.mux.MuxService.{MuxService};
-ghost use Rattle.mux_config.specs.Descriptions.{all_of, cable_of as the_cable, ended, first, insert as inserted, is_network, is_stream, local_in, network_in, part_in, quota_of as the_quota, said, service_in, services_of as the_services, start_of as the_start, stream_in, with_parts as with_its_parts};
-ghost use Rattle.mux_config.specs.Kinds.{put_service};
+ghost use Rattle.mux_model.specs.declared.mux.Other.{Other};
+ghost use Rattle.mux_model.specs.declared.mux.RemoteService.{RemoteService};
+ghost use Rattle.mux_config.specs.Descriptions.{all_of, cable_of as the_cable, ended, first, insert as inserted, is_network, is_stream, local_in, network_in, part_in, quota_of as the_quota, said, service_in, services_of as the_services, start_of as the_start, stream_in, with_parts as with_its_parts, others_of as the_others, remote_of as the_remote, other_in, with_remotes as with_its_remotes};
+ghost use Rattle.mux_model.specs.Order.{all_placed, placed};
+ghost use Rattle.mux_model.specs.Sound.{comes_before, has_lower_id};
+ghost use Rattle.mux_config.specs.Kinds.{put_other, put_remote, put_service};
 ghost use Rattle.mux_config.specs.Reads.{Makes};
 ghost use Rattle.std.specs.List.{cons_option};
 
@@ -12,8 +16,8 @@ use crate::kinds::{Kind, first_of};
 use crate::record::{Numbered, Record};
 use crate::stop::MuxStop;
 use guide_model::{Cable, Component, Components, Offset, Offsets};
-use mux_model::{Mux, MuxService, MuxServices};
-use si_base::Items;
+use mux_model::{Mux, MuxService, MuxServices, Other, Others, RemoteService, RemoteServices};
+use si_base::{Copies, Items};
 use si_text::Txt;
 use si_time::Moment;
 use std::alloc::{AllocError, Global};
@@ -115,7 +119,7 @@ fn take_part(parts: &mut Components, service: u16, says: &Record) -> Result<(), 
 }
 
 // The offset of a record, where it is one.
-pub(crate) fn offset_of(says: &Record) -> Option<Offset>
+fn offset_of(says: &Record) -> Option<Offset>
     ensures { result ≡ local_in says.now }
 {
     match says {
@@ -223,6 +227,131 @@ fn take_service(
     Ok(())
 }
 
+// The service of a record, where it is one of this other stream.
+fn remote_of(stream: u16, original: u16, says: &Record) -> Option<&RemoteService>
+    ensures { option_copied result ≡ the_remote stream original says.now }
+{
+    match says {
+        Record::Remote(id, network, service) => {
+            if *id == stream && *network == original {
+                Some(service)
+            } else {
+                None
+            }
+        }
+        _ => None,
+    }
+}
+
+// The place of a service among services that ascend.
+fn remote_place(services: &[RemoteService], service: &RemoteService) -> usize
+    ensures bound { result ≤ length services.now }
+    ensures place { placed has_lower_id service.now services.now ≡ take result services.now ++ service.now ∷ drop result services.now }
+{
+    match first_remote_above(services, service.service) {
+        Some(at) => at,
+        None => services.len(),
+    }
+}
+
+// The first service with a higher id.
+fn first_remote_above(services: &[RemoteService], id: u16) -> Option<usize>
+    ensures { result ≡ position (λ (t : RemoteService). nat_lt id t.service) services.now }
+{
+    services.iter().position(
+        |t: &RemoteService| -> bool
+            ensures { result ≡ nat_lt id t.now.service }
+        { id < t.service },
+    )
+}
+
+// Puts the service of a record at its place, where it is one of this other stream.
+fn take_remote(
+    services: &mut Vec<RemoteService>,
+    stream: u16,
+    original: u16,
+    says: &Record,
+) -> Result<(), AllocError>
+    ensures { OnOk result (services.new.items ≡ put_remote services.old.items (the_remote stream original says.now)) }
+{
+    if let Some(service) = remote_of(stream, original, says) {
+        let at = remote_place(services, service);
+        services.insert(at, service.copy()?)?;
+    }
+    Ok(())
+}
+
+// The services of another stream, in ascending order.
+fn remotes_of(
+    alloc: Global,
+    records: &[Numbered],
+    stream: u16,
+    original: u16,
+) -> Result<RemoteServices, AllocError>
+    ensures { IfOk result (λ services. services ≡ all_placed has_lower_id (all_of (the_remote stream original) records.now) []) }
+{
+    let mut services = Vec::new(alloc);
+    'records: for i in 0..records.len() {
+        take_remote(&mut services, stream, original, &records[i].says)?;
+    }
+    Ok(Items::of(services))
+}
+
+// The place of a stream among streams that ascend.
+fn other_place(others: &[Other], other: &Other) -> usize
+    ensures bound { result ≤ length others.now }
+    ensures place { placed comes_before other.now others.now ≡ take result others.now ++ other.now ∷ drop result others.now }
+{
+    match first_other_above(others, other.stream, other.original) {
+        Some(at) => at,
+        None => others.len(),
+    }
+}
+
+// The first stream that comes after the one with these ids.
+fn first_other_above(others: &[Other], stream: u16, original: u16) -> Option<usize>
+    ensures { result ≡ position (λ (o : Other). nat_lt stream o.stream || (stream == o.stream && nat_lt original o.original)) others.now }
+{
+    others.iter().position(
+        |o: &Other| -> bool
+            ensures { result ≡ (nat_lt stream o.now.stream || (stream == o.now.stream && nat_lt original o.now.original)) }
+        { stream < o.stream || (stream == o.stream && original < o.original) },
+    )
+}
+
+// Puts the other stream of a record, where it is one, at its place, with its services.
+fn take_other(
+    alloc: Global,
+    records: &[Numbered],
+    others: &mut Vec<Other>,
+    says: &Record,
+) -> Result<(), AllocError>
+    ensures { OnOk result (others.new.items ≡ put_other records.now others.old.items (other_in says.now)) }
+{
+    if let Record::Elsewhere(stream, original, cable) = says {
+        let other = Other {
+            stream: *stream,
+            original: *original,
+            cable: *cable,
+            services: remotes_of(alloc, records, *stream, *original)?,
+        };
+        let at = other_place(others, &other);
+        others.insert(at, other)?;
+    }
+    Ok(())
+}
+
+// The other streams, in ascending order, each with its services.
+fn others_of(alloc: Global, records: &[Numbered]) -> Result<Others, AllocError>
+    ensures { IfOk result (λ others. others ≡ the_others records.now) }
+{
+    let mut others = Vec::new(alloc);
+    'records: for i in 0..records.len() {
+        take_other(alloc, records, &mut others, &records[i].says)?;
+    }
+    Ok(Items::of(others))
+}
+
 /// The multiplex that these records make, or what is missing.
 pub(crate) fn multiplex(alloc: Global, records: &[Numbered]) -> Result<Mux, MuxStop>
     ensures { Makes (ended records.now) result }
@@ -238,6 +367,7 @@ pub(crate) fn multiplex(alloc: Global, records: &[Numbered]) -> Result<Mux, MuxS
         return Err(MuxStop::Fault(MuxFault::Missing(Word::Service)));
     }
     let offsets = offsets_of(alloc, records)?;
+    let others = others_of(alloc, records)?;
     Ok(Mux {
         network,
         network_name,
@@ -248,5 +378,6 @@ pub(crate) fn multiplex(alloc: Global, records: &[Numbered]) -> Result<Mux, MuxS
         quota: quota_of(records),
         offsets,
         services,
+        others,
     })
 }

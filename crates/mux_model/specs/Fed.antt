@@ -1,11 +1,13 @@
 -- What feeds edit of a service, of whatever stream: the feed that owns it, and its first names.
-use Rattle.std.specs.Prelude.{ℕ, ◌<◌, ◌≤◌, ◌==◌, List, [], ◌∷◌, find, map, option_map, unwrap_or}
+use Rattle.std.specs.Prelude.{ℕ, ◌<◌, ◌≤◌, ◌==◌, nat_lt, Bool, List, [], ◌∷◌, find, map, option_map, unwrap_or}
 use Rattle.std.specs.List.{AllByRecursion}
 use Rattle.si_text.specs.Coding.{coded_size}
 use Rattle.si_text.specs.Decoding.{IsKept}
 use Rattle.mux_model.specs.declared.mux.MuxService.{MuxService}
+use Rattle.mux_model.specs.declared.mux.RemoteService.{RemoteService}
 use Rattle.mux_model.specs.declared.mux.Mux.{Mux}
-use Rattle.mux_model.specs.Sound.{Between}
+use Rattle.mux_model.specs.Order.{all_placed}
+use Rattle.mux_model.specs.Sound.{Between, remote_services}
 
 pub record FedService : Type 0 where
   pub service : ℕ
@@ -16,9 +18,16 @@ pub record FedService : Type 0 where
 abbrev pub fed_of : MuxService → FedService
 fed_of s = record { service = s.service; feed = s.feed; provider = s.provider; name = s.name }
 
--- the services that feeds edit, by ascending id
+abbrev pub fed_of_remote : RemoteService → FedService
+fed_of_remote s = record { service = s.service; feed = s.feed; provider = s.provider; name = s.name }
+
+-- one comes before another by its id
+abbrev pub has_lower_fed_id : FedService → FedService → Bool
+has_lower_fed_id s t = nat_lt s.service t.service
+
+-- the services that feeds edit, by ascending id: the multiplex's own, and between them those of other streams
 abbrev pub fed_services : Mux → List FedService
-fed_services mux = map fed_of mux.services
+fed_services mux = all_placed has_lower_fed_id (map fed_of_remote (remote_services mux.others)) (map fed_of mux.services)
 
 -- their ids
 abbrev pub fed_ids : Mux → List ℕ

@@ -39,4 +39,5 @@ row_sound = record {
   ascend = (tt, tt);
   pmts_once = (tt, tt);
   apart = (tt, tt);
+  others = record { few = lit≤ tt; each = tt; ascend = tt; apart = tt; few_services = lit≤ tt; once = (tt, tt) };
 }

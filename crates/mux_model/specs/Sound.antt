@@ -1,13 +1,16 @@
 -- A sound multiplex: every value in its range, and nothing that has to be single stands twice. What the types of the fields
 -- bound already (16 bits of an id, 8 of a type) is not said again.
-use Rattle.std.specs.Prelude.{◌≡◌, ◌≢◌, ℕ, ◌*◌, ◌<◌, ◌≤◌, Bool, false, ◌==◌, ◌&&◌, bytes_eq, if◌then◌else◌, List, [], ◌∷◌, length, Option, Some, None, map}
+use Rattle.std.specs.Prelude.{◌≡◌, ◌≢◌, ℕ, ◌*◌, ◌<◌, ◌≤◌, Bool, false, ◌==◌, ◌&&◌, ◌||◌, nat_lt, bytes_eq, if◌then◌else◌, List, [], ◌∷◌, ◌++◌, length, Option, Some, None, map}
 use Rattle.std.specs.List.{AllByRecursion, flat_map}
 use Rattle.guide_model.specs.declared.offset.Offset.{Offset}
 use Rattle.guide_model.specs.declared.stream.Cable.{Cable}
 use Rattle.guide_model.specs.declared.stream.Component.{Component}
 use Rattle.si_text.specs.Coding.{coded_size}
 use Rattle.mux_model.specs.declared.mux.MuxService.{MuxService}
+use Rattle.mux_model.specs.declared.mux.RemoteService.{RemoteService}
+use Rattle.mux_model.specs.declared.mux.Other.{Other}
 use Rattle.mux_model.specs.declared.mux.Mux.{Mux}
+use Rattle.mux_model.specs.Order.{DoCome}
 
 abbrev pub Between : ℕ → ℕ → ℕ → Type 0
 Between low high n = (low ≤ n) × (n ≤ high)
@@ -88,6 +91,48 @@ pub record AreSoundOffsets (offsets : List Offset) : Type 0 where
   pub each : AllByRecursion IsSoundOffset offsets
   pub once : AreOfRegions offsets
 
+-- ---- other streams of the network (EN 300 468, 5.2.1)
+
+pub record IsSoundRemote (s : RemoteService) : Type 0 where
+  pub service : Between 1 65535 s.service
+  pub feed : Between 1 16 s.feed
+  pub provider : coded_size s.provider ≤ 100
+  pub name : Between 1 100 (coded_size s.name)
+
+-- one service comes before another by its id
+abbrev pub has_lower_id : RemoteService → RemoteService → Bool
+has_lower_id s t = nat_lt s.service t.service
+
+pub record IsSoundOther (o : Other) : Type 0 where
+  pub cable : HasSoundCable o.cable
+  pub services : AllByRecursion IsSoundRemote o.services
+  pub ascend : DoCome has_lower_id o.services
+
+-- one stream comes before another by transport_stream_id, and then by original_network_id
+abbrev pub comes_before : Other → Other → Bool
+comes_before o p = nat_lt o.stream p.stream || (o.stream == p.stream && nat_lt o.original p.original)
+
+-- it has these ids
+abbrev pub has_stream_ids : ℕ → ℕ → Other → Bool
+has_stream_ids stream original o = stream == o.stream && original == o.original
+
+-- the services of other streams
+abbrev pub remote_services : List Other → List RemoteService
+remote_services others = flat_map (λ (o : Other). o.services) others
+
+-- the ids of a multiplex's own services, and then those of the other streams'
+abbrev pub service_ids : Mux → List ℕ
+service_ids mux = map (λ (s : MuxService). s.service) mux.services ++ map (λ (s : RemoteService). s.service) (remote_services mux.others)
+
+-- at most 15 other streams with at most 64 services in all, none of them the multiplex's own, and no service_id twice
+pub record AreSoundOthers (mux : Mux) : Type 0 where
+  pub few : length mux.others ≤ 15
+  pub each : AllByRecursion IsSoundOther mux.others
+  pub ascend : DoCome comes_before mux.others
+  pub apart : AllByRecursion (λ (o : Other). has_stream_ids mux.stream mux.original o ≡ false) mux.others
+  pub few_services : length (remote_services mux.others) ≤ 64
+  pub once : AreDifferent (service_ids mux)
+
 pub record IsSound (mux : Mux) : Type 0 where
   pub network_name : Between 1 100 (coded_size mux.network_name)
   pub cable : HasSoundCable mux.cable
@@ -101,6 +146,7 @@ pub record IsSound (mux : Mux) : Type 0 where
   -- no component has the PID of a PMT
   pub apart :
       AllByRecursion (λ pmt. AllByRecursion (λ pid. pmt ≢ pid) (all_component_pids mux.services)) (pmt_pids mux.services)
+  pub others : AreSoundOthers mux
 
 -- a sound multiplex, of which the ids are of 16 bits
 pub record IsSoundWithIds (mux : Mux) : Type 0 where

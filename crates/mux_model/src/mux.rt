@@ -1,4 +1,4 @@
-// A multiplex and its services.
+// A multiplex, its services and the other streams of its network.
 ghost use Rattle.std.specs.Prelude.{◌≡◌, IfOk};
 
 use guide_model::{Cable, Components, Offsets};
@@ -24,10 +24,37 @@ pub struct MuxService {
 /// Services, in ascending order of their ids.
 pub type MuxServices = Items<MuxService>;
 
+/// A service of another stream: its service_id, the number of the feed that edits it, its
+/// service_type (EN 300 468, 6.2.33) and its first names.
+#[derive(Drop)]
+pub struct RemoteService {
+    pub service: u16,
+    pub feed: u8,
+    pub kind: u8,
+    pub provider: Txt,
+    pub name: Txt,
+}
+
+/// Services of another stream, in ascending order of their ids.
+pub type RemoteServices = Items<RemoteService>;
+
+/// Another stream of the network (EN 300 468, 5.2.1): its transport_stream_id, its
+/// original_network_id, its cable delivery where it is given, and its services.
+#[derive(Drop)]
+pub struct Other {
+    pub stream: u16,
+    pub original: u16,
+    pub cable: Option<Cable>,
+    pub services: RemoteServices,
+}
+
+/// Other streams, in ascending order of transport_stream_id and then original_network_id.
+pub type Others = Items<Other>;
+
 /// A multiplex: network_id and network name, transport_stream_id, original_network_id, its cable
 /// delivery where it is given, the moment at which its desk starts, the number of packets between
 /// two repeats of its frequent tables, how far the clocks of regions are from UTC (EN 300 468,
-/// 5.2.6), and its services.
+/// 5.2.6), its services, and the other streams of the network.
 #[derive(Drop)]
 pub struct Mux {
     pub network: u16,
@@ -39,6 +66,7 @@ pub struct Mux {
     pub quota: u32,
     pub offsets: Offsets,
     pub services: MuxServices,
+    pub others: Others,
 }
 
 impl Copies for MuxService {
@@ -52,6 +80,29 @@ impl Copies for MuxService {
             provider: self.provider.copy()?,
             name: self.name.copy()?,
             components: self.components.copy()?,
+        })
+    }
+}
+
+impl Copies for RemoteService {
+    fn copy(&self) -> Result<RemoteService, AllocError> {
+        Ok(RemoteService {
+            service: self.service,
+            feed: self.feed,
+            kind: self.kind,
+            provider: self.provider.copy()?,
+            name: self.name.copy()?,
+        })
+    }
+}
+
+impl Copies for Other {
+    fn copy(&self) -> Result<Other, AllocError> {
+        Ok(Other {
+            stream: self.stream,
+            original: self.original,
+            cable: self.cable,
+            services: self.services.copy()?,
         })
     }
 }
@@ -71,6 +122,7 @@ impl Mux {
             quota: self.quota,
             offsets: self.offsets.copy()?,
             services: self.services.copy()?,
+            others: self.others.copy()?,
         })
     }
 }

@@ -10,7 +10,7 @@ use Rattle.guide_model.specs.declared.guide.Guide.{Guide}
 use Rattle.guide_model.specs.declared.guide.ServiceGuide.{ServiceGuide}
 use Rattle.mux_model.specs.declared.mux.MuxService.{MuxService}
 use Rattle.mux_model.specs.declared.mux.Mux.{Mux}
-use Rattle.mux_model.specs.Sound.{IsSoundService, DoAscend}
+use Rattle.mux_model.specs.Sound.{IsSound, IsSoundService, DoAscend}
 use Rattle.guide_limits.specs.Events.{midnight, block_of}
 use Rattle.guide_limits.specs.Sound.{AreAscending}
 use Rattle.guide_limits.specs.Limits.{IsServiceWithin, AreWithin, IsGuideWithin}
@@ -22,7 +22,7 @@ use Rattle.section_codec.specs.declared.table.SubTable.{SubTable}
 use Rattle.section_codec.specs.declared.table.Tier3.TheVariants.{Fast, Near, Far}
 use Rattle.section_codec.specs.Tables.{is_eit, tier_of, tier_rank}
 use Rattle.section_codec.specs.Section.{longest_body}
-use Rattle.section_codec.specs.SubTables.{Lacks, KeysDiffer, IsFit, AreTiered}
+use Rattle.section_codec.specs.SubTables.{AreFit, Lacks, KeysDiffer, IsFit, AreTiered}
 use Rattle.eit_segments.specs.Schedule.{CanBePlaced, last_used}
 use Rattle.eit_segments.proofs.Few.{events_can_be_placed}
 use Rattle.eit_segments.proofs.Order.{used_less}
@@ -39,7 +39,7 @@ use Rattle.publication.specs.Network.{nit_of, nit_key, nit_table}
 use Rattle.publication.specs.Parts.{own_guide}
 use Rattle.publication.specs.Sdt.{sdt_services, service_size, section_body, numbered}
 use Rattle.publication.specs.Tables.{sdt_key, sdt_table, present_tables, all_near_tables, all_far_tables, tables_of}
-use Rattle.publication.specs.Laws.{PublicationsAreFit}
+use Rattle.publication.specs.Laws.{HasSmallOwnEntries, PublicationsAreFit}
 use Rattle.pat_pmt.specs.Pat.{pat_body}
 use Rattle.pat_pmt.specs.Pmt.{pmt_body}
 use Rattle.nit_sdt.specs.Nit.{nit_body}
@@ -292,16 +292,17 @@ IsSmall s = AreSmallEntries s.events × CanBePlaced (map at_of s.events)
 none_within : AreWithin []
 none_within = record { apart = tt; few = omega arith; each = tt; blocks = λ block. omega arith }
 
-pub publication_fit : PublicationsAreFit
-publication_fit mux guide sound within small =
+pub own_fit : (mux : Mux) (guide : Guide) → IsSound mux → IsGuideWithin guide → HasSmallOwnEntries mux guide → AreFit (tables_of mux guide)
+own_fit mux guide sound within small =
     let ss = own_guide mux guide in
     let ascend : AreAscending (map (λ (s : ServiceGuide). s.service) ss) = own_ascend mux guide sound.ascend in
     let moment = guide.moment.0 in
     let day = midnight moment in
     let any = each_unit ss in
     let services : AllByRecursion IsSmall ss =
-    of_any IsSmall (λ id. (tt, events_can_be_placed [] none_within tt)) mux guide
-    (all_two IsServiceWithin (λ (s : ServiceGuide). AreSmallEntries s.events) IsSmall (λ s w t. (t, events_can_be_placed s.events w.events t)) guide.services within.services small) in
+    all_two (λ (s : ServiceGuide). AreWithin s.events) (λ (s : ServiceGuide). AreSmallEntries s.events) IsSmall (λ s w t. (t, events_can_be_placed s.events w t)) ss
+    (of_any (λ (s : ServiceGuide). AreWithin s.events) (λ id. none_within) mux guide (all_map IsServiceWithin (λ (s : ServiceGuide). AreWithin s.events) (λ s w. w.events) guide.services within.services))
+    small in
     let ps = present_tables mux guide in
     let ns = all_near_tables mux guide in
     let fs = all_far_tables mux guide in
@@ -367,3 +368,6 @@ publication_fit mux guide sound within small =
           (tiered_append 1 ns fs (most 1 ns rank_ns) (least 2 1 (omega arith) fs rank_fs)
           (tiered_same 1 ns rank_ns) (tiered_same 2 fs rank_fs)));
     }
+
+pub publication_fit : PublicationsAreFit
+publication_fit mux guide sound within small = own_fit mux guide sound within (of_any (λ (s : ServiceGuide). AreSmallEntries s.events) (λ id. tt) mux guide small)

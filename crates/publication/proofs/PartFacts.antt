@@ -1,10 +1,9 @@
 -- The parts of a guide that its services have.
-use Rattle.std.proofs.Common.{◌≡◌, ℕ, ◌<◌, ◌==◌, ◌||◌, Bool, true, false, List, [], ◌∷◌, Bor, map, get_or, refl, sym, ap, ap₂, ◌∙◌, subst, eq-eqb, eqb-true, arith}
+use Rattle.std.proofs.Common.{◌≡◌, ℕ, ◌<◌, ◌==◌, ◌||◌, Bool, true, false, List, [], ◌∷◌, Bor, map, get_or, refl, sym, ap, ap₂, ◌∙◌, subst, eq-eqb, eqb-true}
 use Rattle.std.specs.Prelude.{cond, ◌+◌, length, drop, Option, Some, None, is_some, unwrap_or, option_map, IfSome, slice_get}
 use Rattle.std.specs.List.{AllByRecursion, list_any}
 use Rattle.std.specs.Option.{option_copied}
 use Rattle.std.proofs.Math.Bool.{or-true}
-use Rattle.std.proofs.lemmas.Bool.Decides.{nat_tests}
 use Rattle.std.proofs.lemmas.List.{drop_more}
 use Rattle.std.proofs.lemmas.Bool.{false≢true, ne_eqb}
 use Rattle.std.proofs.lemmas.List.Elements.{All-from_recursion}
@@ -14,9 +13,10 @@ use Rattle.guide_model.specs.declared.guide.Guide.{Guide}
 use Rattle.guide_model.specs.declared.guide.ServiceGuide.{ServiceGuide}
 use Rattle.mux_model.specs.declared.mux.MuxService.{MuxService}
 use Rattle.mux_model.specs.declared.mux.Mux.{Mux}
-use Rattle.mux_model.specs.Sound.{DoAscend}
-use Rattle.mux_model.specs.Fed.{FedService, fed_of, fed_ids}
-use Rattle.mux_model.proofs.FedFacts.{any_fed}
+use Rattle.mux_model.specs.declared.mux.RemoteService.{RemoteService}
+use Rattle.mux_model.specs.Sound.{DoAscend, remote_services}
+use Rattle.mux_model.specs.Fed.{fed_ids}
+use Rattle.mux_model.proofs.FedFacts.{any_either}
 use Rattle.guide_limits.specs.Sound.{AreAscending}
 use Rattle.publication.specs.Parts.{part_in, no_part, part_of, own_guide}
 use Rattle.publication.specs.Tables.{HasServicesOf}
@@ -118,7 +118,7 @@ among_themselves (s ∷ ss) = (
 
 own_fed : (mux : Mux) → AllByRecursion (IsFed mux) mux.services
 own_fed mux =
-    all_map (λ (s : MuxService). list_any (λ (t : MuxService). t.service == s.service) mux.services ≡ true) (IsFed mux) (λ s e. sym (any_fed s.service mux.services) ∙ e)
+    all_map (λ (s : MuxService). list_any (λ (t : MuxService). t.service == s.service) mux.services ≡ true) (IsFed mux) (λ s e. sym (any_either s.service mux) ∙ ap (λ (b : Bool). b || list_any (λ (t : RemoteService). t.service == s.service) (remote_services mux.others)) e)
     mux.services (among_themselves mux.services)
 
 abbrev HasPart : Guide → MuxService → Type 0
@@ -173,35 +173,3 @@ own_ascend mux guide up = subst AreAscending (sym (own_ids guide mux.services)) 
     ascends : (ss : List MuxService) → DoAscend ss → AreAscending (map (λ (s : MuxService). s.service) ss)
     ascends [] up = tt
     ascends (s ∷ ss) up = (all_to_map (λ (n : ℕ). s.service < n) (λ (t : MuxService). t.service) ss up.0, ascends ss up.1)
-
--- ---- a guide that has only own services
-
--- the parts of services with other ids than the first
-others_found : (p : ServiceGuide) (ps : List ServiceGuide) (ss : List MuxService) → AllByRecursion (λ (s : MuxService). p.service < s.service) ss
-    → map (λ (s : MuxService). found s.service (p ∷ ps)) ss ≡ map (λ (s : MuxService). found s.service ps) ss
-others_found p ps [] above = refl
-others_found p ps (s ∷ ss) above =
-    ap₂ (λ (x : ServiceGuide) (xs : List ServiceGuide). x ∷ xs)
-    (ap (λ (b : Bool). unwrap_or (cond b (Some p) (part_in s.service ps)) (no_part s.service)) (differ p.service s.service above.0)) (others_found p ps ss above.1)
-  where
-    differ : (a b : ℕ) → a < b → (a == b) ≡ false
-    differ a b lt = grind (arith, nat_tests)
-
-all_found : (ss : List MuxService) (parts : List ServiceGuide) → DoAscend ss → ids parts ≡ map (λ (s : MuxService). s.service) ss → map (λ (s : MuxService). found s.service parts) ss ≡ parts
-all_found [] [] up same = refl
-all_found [] (p ∷ ps) up same = cc
-all_found (s ∷ ss) [] up same = cc
-all_found (s ∷ ss) (p ∷ ps) up same =
-    let first : p.service ≡ s.service = cc in
-    let rest : ids ps ≡ map (λ (t : MuxService). t.service) ss = cc in
-    ap₂ (λ (x : ServiceGuide) (xs : List ServiceGuide). x ∷ xs)
-    (ap (λ (b : Bool). unwrap_or (cond b (Some p) (part_in s.service ps)) (no_part s.service)) (eq-eqb p.service s.service first))
-    (others_found p ps ss (subst (λ (n : ℕ). AllByRecursion (λ (t : MuxService). n < t.service) ss) (sym first) up.0) ∙ all_found ss ps up.1 rest)
-
--- the own parts of a guide are all that it has, where feeds edit only own services
-pub own_whole : (mux : Mux) (guide : Guide) → DoAscend mux.services → HasServicesOf mux guide → own_guide mux guide ≡ guide.services
-own_whole mux guide up have = all_found mux.services guide.services up (have ∙ fed_own mux.services)
-  where
-    fed_own : (ss : List MuxService) → map (λ (f : FedService). f.service) (map fed_of ss) ≡ map (λ (s : MuxService). s.service) ss
-    fed_own [] = refl
-    fed_own (s ∷ ss) = ap (λ (ns : List ℕ). s.service ∷ ns) (fed_own ss)

@@ -11,14 +11,15 @@ use Rattle.guide_limits.specs.Limits.{IsServiceWithin}
 use Rattle.section_codec.specs.SubTables.{AreFit}
 use Rattle.eit_tables.specs.Present.{present_table}
 use Rattle.eit_tables.specs.Schedule.{near_tables, far_tables}
-use Rattle.eit_tables.specs.Laws.{AreSmallEntries, HasSmallEntries}
+use Rattle.eit_tables.specs.Laws.{AreSmallEntries}
 use Rattle.eit_tables.proofs.ListFacts.{flat_next, all_next}
 use Rattle.publication.specs.Parts.{no_part, part_of, own_guide}
+use Rattle.publication.specs.Laws.{HasSmallOwnEntries}
 use Rattle.publication.specs.Tables.{mux_tables, tables_of}
 use Rattle.publication.proofs.ListFacts.{map_behind}
-use Rattle.publication.proofs.PartFacts.{if_copied, if_found, never_missing, own_at, own_whole}
+use Rattle.publication.proofs.PartFacts.{if_copied, if_found, never_missing, own_at}
 use Rattle.publication.proofs.TableFacts.{joined_are, built_are, built_so, built_fit}
-use Rattle.publication.proofs.FitFacts.{publication_fit}
+use Rattle.publication.proofs.FitFacts.{own_fit}
 use Rattle.publication.proofs.tables.build.Goals as goal
 
 pub loop-service-init : goal.loop-service-init
@@ -84,8 +85,7 @@ returns-clause-small c =
     let n = c.loop-service.service-index in
     let own = own_guide mux guide in
     let all : take n own ≡ own = take_all n own (omega (arith, length-map mux.services (λ (t : MuxService). part_of guide t.service), c.loop-service-test.false, ap length c.as_slice-service-items.ensures)) in
-    built_so c.joined.result _
-    (subst (AllByRecursion (λ (s : ServiceGuide). AreSmallEntries s.events)) (all ∙ own_whole mux guide c.requires.sound.ascend c.requires.services) c.loop-service.invariant.small)
+    built_so c.joined.result _ (subst (AllByRecursion (λ (s : ServiceGuide). AreSmallEntries s.events)) all c.loop-service.invariant.small)
 
 pub returns-clause-fit : goal.returns-clause-fit
 returns-clause-fit c =
@@ -96,6 +96,5 @@ returns-clause-fit c =
     let done = c.loop-service.invariant in
     let last : length own ≤ n = omega (arith, length-map mux.services (λ (t : MuxService). part_of guide t.service), c.loop-service-test.false, ap length c.as_slice-service-items.ensures) in
     let are = joined_are mux guide n c.loop-service.list c.loop-service.near c.loop-service.far last done.list done.near done.far in
-    let small : HasSmallEntries guide =
-    subst (AllByRecursion (λ (s : ServiceGuide). AreSmallEntries s.events)) (take_all n own last ∙ own_whole mux guide c.requires.sound.ascend c.requires.services) done.small in
-    built_fit c.joined.result _ c.joined.ensures (subst AreFit (sym are) (publication_fit mux guide c.requires.sound c.requires.within small))
+    let small : HasSmallOwnEntries mux guide = subst (AllByRecursion (λ (s : ServiceGuide). AreSmallEntries s.events)) (take_all n own last) done.small in
+    built_fit c.joined.result _ c.joined.ensures (subst AreFit (sym are) (own_fit mux guide c.requires.sound c.requires.within small))
