@@ -16,7 +16,7 @@ use Rattle.section_codec.proofs.NamingFacts.{listed_range}
 use Rattle.ts_packets.specs.declared.pid_counter.PidCounter.{PidCounter}
 use Rattle.input_lines.specs.Fields.{record_of, fields_compute}
 use Rattle.input_lines.specs.Lines.{record_lines}
-use Rattle.input_lines.specs.Ahead.{Ahead, Row, Tail, Came, and_then, on_line}
+use Rattle.input_lines.specs.Ahead.{Ahead, Row, Tail, Found, Came, Stopped, NoCommand, and_then, on_line}
 use Rattle.journal_model.specs.declared.step.Step.{Step}
 use Rattle.script_lines.specs.Script.{read_command}
 use Rattle.script_lines.proofs.NumberBack.{number_back, numeral_back, digits_of, decimal_some, value_back}
@@ -44,13 +44,13 @@ abbrev pub in_rows : List Row → Tail → Ahead
 in_rows rows tail = record { rows = rows; tail = tail }
 
 -- a part on one line
-pub part_first : (n : ℕ) (fields : List (List ℕ)) (part : Part) (rest : List ℕ) (tail : Tail) → IsRow fields → begins_step fields ≡ false → part_of fields ≡ Some part
-    → first_part (ahead_of n (line_text fields ++ rest) tail) ≡ Came (n, part) (ahead_of (n + 1) rest tail)
-part_first n fields part rest tail row other is =
+pub part_first : (may : Bool) (n : ℕ) (fields : List (List ℕ)) (part : Part) (rest : List ℕ) (tail : Tail) → IsRow fields → begins_step fields ≡ false → part_of fields ≡ Some part
+    → first_part may (ahead_of n (line_text fields ++ rest) tail) ≡ Came (n, part) (ahead_of (n + 1) rest tail)
+part_first may n fields part rest tail row other is =
     let more = ahead_of (n + 1) rest tail in
-    ap (λ (rows : List Row). first_part (in_rows rows tail)) (row_first fields n rest row)
-    ∙ ap (λ (o : Option (List (List ℕ))). and_then (on_line n o more) (λ fs behind. part_on n fs behind)) (row_fields fields row)
-    ∙ ap (λ (b : Bool). if b then step_part n (read_command n fields more) else on_line n (option_map (λ p. let r : NumberedPart = (n, p) in r) (part_of fields)) more) other
+    ap (λ (rows : List Row). first_part may (in_rows rows tail)) (row_first fields n rest row)
+    ∙ ap (λ (o : Option (List (List ℕ))). and_then (on_line n o more) (λ fs behind. part_on may n fs behind)) (row_fields fields row)
+    ∙ ap (λ (b : Bool). if b then (if may then step_part n (read_command n fields more) else Stopped (NoCommand n)) else on_line n (option_map (λ p. let r : NumberedPart = (n, p) in r) (part_of fields)) more) other
     ∙ ap (λ (o : Option Part). on_line n (option_map (λ p. let r : NumberedPart = (n, p) in r) o) more) is
 
 zero_begins : (s : Step) → begins_step (command_row 0 s) ≡ true
@@ -58,7 +58,7 @@ zero_begins s = ap is_zero (numeral_back 0 (omega arith))
 
 -- a step, with the items of a day
 pub step_first : (n : ℕ) (s : Step) (rest : List ℕ) (tail : Tail) → IsReadableCommand 0 s
-    → first_part (ahead_of n (step_text (0, s) ++ rest) tail) ≡ Came (n, step s) (ahead_of (n + command_lines s) rest tail)
+    → first_part true (ahead_of n (step_text (0, s) ++ rest) tail) ≡ Came (n, step s) (ahead_of (n + command_lines s) rest tail)
 step_first n s rest tail h =
     let command = command_row 0 s in
     let items = step_items s in
@@ -71,9 +71,9 @@ step_first n s rest tail h =
     ap (rows_from n) (append_assoc (line_text command) (flat_map item_text items) rest)
     ∙ row_first command n (flat_map item_text items ++ rest) is_row
     ∙ ap (λ (l : List Row). (n, row_line command) ∷ l) (items_first items (n + 1) rest rows ∙ ap (λ k. numbered (n + 1) items ++ rows_from k rest) count) in
-    ap (λ (l : List Row). first_part (in_rows l tail)) lines
-    ∙ ap (λ (o : Option (List (List ℕ))). and_then (on_line n o (in_rows behind tail)) (λ fs more. part_on n fs more)) (row_fields command is_row)
-    ∙ ap (λ (b : Bool). if b then step_part n (read_command n command (in_rows behind tail)) else on_line n (option_map (λ p. let r : NumberedPart = (n, p) in r) (part_of command)) (in_rows behind tail)) (zero_begins s)
+    ap (λ (l : List Row). first_part true (in_rows l tail)) lines
+    ∙ ap (λ (o : Option (List (List ℕ))). and_then (on_line n o (in_rows behind tail)) (λ fs more. part_on true n fs more)) (row_fields command is_row)
+    ∙ ap (λ (b : Bool). if b then (let f : Found NumberedPart = step_part n (read_command n command (in_rows behind tail)) in f) else on_line n (option_map (λ p. let r : NumberedPart = (n, p) in r) (part_of command)) (in_rows behind tail)) (zero_begins s)
     ∙ ap (step_part n) (command_back 0 n s (rows_from at rest) tail h.caller h.shaped h.within h.typed rows (n + 1))
 
 end_lines : (rest : List ℕ) → shown_lines (codes "end\n" ++ rest) ≡ codes "end" ∷ shown_lines rest
@@ -88,11 +88,11 @@ end_part : part_of (codes "end" ∷ []) ≡ Some End
 unfolding part_of
 end_part = refl
 
-pub end_first : (n : ℕ) (rest : List ℕ) (tail : Tail) → first_part (ahead_of n (codes "end\n" ++ rest) tail) ≡ Came (n, End) (ahead_of (n + 1) rest tail)
-end_first n rest tail =
+pub end_first : (may : Bool) (n : ℕ) (rest : List ℕ) (tail : Tail) → first_part may (ahead_of n (codes "end\n" ++ rest) tail) ≡ Came (n, End) (ahead_of (n + 1) rest tail)
+end_first may n rest tail =
     let more = ahead_of (n + 1) rest tail in
-    ap (λ (l : List (List ℕ)). first_part (in_rows (record_lines n l) tail)) (end_lines rest)
-    ∙ ap (λ (o : Option (List (List ℕ))). and_then (on_line n o more) (λ fs behind. part_on n fs behind)) end_record
+    ap (λ (l : List (List ℕ)). first_part may (in_rows (record_lines n l) tail)) (end_lines rest)
+    ∙ ap (λ (o : Option (List (List ℕ))). and_then (on_line n o more) (λ fs behind. part_on may n fs behind)) end_record
     ∙ ap (λ (o : Option Part). on_line n (option_map (λ p. let r : NumberedPart = (n, p) in r) o) more) end_part
 
 -- ---- the count
@@ -169,10 +169,10 @@ version_is_row key version h ext stream network lt =
       );
     }
 
-pub version_first : (n : ℕ) (key : Key) (version : ℕ) (rest : List ℕ) (tail : Tail) → is_listed key ≡ true → key.ext ≤ 65535 → key.stream ≤ 65535 → key.network ≤ 65535 → version < 32
-    → first_part (ahead_of n (line_text (version_fields key version) ++ rest) tail) ≡ Came (n, Version key version) (ahead_of (n + 1) rest tail)
-version_first n key version rest tail h ext stream network lt =
-    part_first n (version_fields key version) (Version key version) rest tail (version_is_row key version h ext stream network lt) refl
+pub version_first : (may : Bool) (n : ℕ) (key : Key) (version : ℕ) (rest : List ℕ) (tail : Tail) → is_listed key ≡ true → key.ext ≤ 65535 → key.stream ≤ 65535 → key.network ≤ 65535 → version < 32
+    → first_part may (ahead_of n (line_text (version_fields key version) ++ rest) tail) ≡ Came (n, Version key version) (ahead_of (n + 1) rest tail)
+version_first may n key version rest tail h ext stream network lt =
+    part_first may n (version_fields key version) (Version key version) rest tail (version_is_row key version h ext stream network lt) refl
     (version_back key version h ext stream network lt)
 
 -- ---- sections
@@ -232,10 +232,10 @@ section_is_row section h = record {
   );
 }
 
-pub section_first : (n : ℕ) (section : NumberedBody) (rest : List ℕ) (tail : Tail) → IsSectionWritten section
-    → first_part (ahead_of n (line_text (section_fields section) ++ rest) tail) ≡ Came (n, Section section) (ahead_of (n + 1) rest tail)
-section_first n section rest tail h =
-    part_first n (section_fields section) (Section section) rest tail (section_is_row section h) refl (section_back section h)
+pub section_first : (may : Bool) (n : ℕ) (section : NumberedBody) (rest : List ℕ) (tail : Tail) → IsSectionWritten section
+    → first_part may (ahead_of n (line_text (section_fields section) ++ rest) tail) ≡ Came (n, Section section) (ahead_of (n + 1) rest tail)
+section_first may n section rest tail h =
+    part_first may n (section_fields section) (Section section) rest tail (section_is_row section h) refl (section_back section h)
 
 -- ---- counters
 
@@ -256,7 +256,7 @@ counter_is_row counter h = record {
   );
 }
 
-pub counter_first : (n : ℕ) (counter : PidCounter) (rest : List ℕ) (tail : Tail) → IsCounterWritten counter
-    → first_part (ahead_of n (line_text (counter_fields counter) ++ rest) tail) ≡ Came (n, Counter counter) (ahead_of (n + 1) rest tail)
-counter_first n counter rest tail h =
-    part_first n (counter_fields counter) (Counter counter) rest tail (counter_is_row counter h) refl (counter_back counter h)
+pub counter_first : (may : Bool) (n : ℕ) (counter : PidCounter) (rest : List ℕ) (tail : Tail) → IsCounterWritten counter
+    → first_part may (ahead_of n (line_text (counter_fields counter) ++ rest) tail) ≡ Came (n, Counter counter) (ahead_of (n + 1) rest tail)
+counter_first may n counter rest tail h =
+    part_first may n (counter_fields counter) (Counter counter) rest tail (counter_is_row counter h) refl (counter_back counter h)

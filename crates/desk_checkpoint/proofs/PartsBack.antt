@@ -26,7 +26,7 @@ use Rattle.command_text.specs.Back.{IsReadableCommand, ahead_of, command_lines}
 use Rattle.desk_checkpoint.specs.declared.part.Part.{Part}
 use Rattle.desk_checkpoint.specs.declared.part.Part.TheVariants.{Step as step, Version, Section, Counter, End}
 use Rattle.desk_checkpoint.specs.Fields.{version_fields}
-use Rattle.desk_checkpoint.specs.Checkpoints.{Checkpoint, and_current, comes_behind, is_end, is_nil, whole, with_part}
+use Rattle.desk_checkpoint.specs.Checkpoints.{Checkpoint, and_current, comes_behind, is_end, is_nil, steps_may_come, whole, with_part}
 use Rattle.desk_checkpoint.specs.Reads.{first_part, read_on}
 use Rattle.desk_checkpoint.specs.Text.{counter_text, key_text, section_text, step_text, steps_text}
 use Rattle.desk_checkpoint.specs.Laws.{IsSectionWritten, IsKeyWritten, IsCounterWritten}
@@ -58,14 +58,14 @@ ends_behind a b c s t f g n rest tail =
     ap (λ (l : List ℕ). read_on a (ahead_of n l tail)) (append_assoc s t rest) ∙ one.1 ∙ g one.0 rest tail
 
 reads_part : (cp next : Checkpoint) (text : List ℕ) (part : Part)
-    → ((n : ℕ) (rest : List ℕ) (tail : Tail) → (m : ℕ) × (first_part (ahead_of n (text ++ rest) tail) ≡ Came (n, part) (ahead_of m rest tail)))
+    → ((n : ℕ) (rest : List ℕ) (tail : Tail) → (m : ℕ) × (first_part (steps_may_come cp) (ahead_of n (text ++ rest) tail) ≡ Came (n, part) (ahead_of m rest tail)))
     → with_part cp part ≡ Some next → is_end part ≡ false → Reads cp text next
 reads_part cp next text part first is more n rest tail =
     let one = first n rest tail in
     (one.0, read_part cp next (ahead_of n (text ++ rest) tail) (ahead_of one.0 rest tail) (n, part) one.1 is more)
 
 pub ends_here : (cp next : Checkpoint) → whole cp ≡ Some next → Ends cp (codes "end\n") next
-ends_here cp next is n rest tail = read_end cp next (ahead_of n (codes "end\n" ++ rest) tail) (ahead_of (n + 1) rest tail) (n, End) (end_first n rest tail) is refl
+ends_here cp next is n rest tail = read_end cp next (ahead_of n (codes "end\n" ++ rest) tail) (ahead_of (n + 1) rest tail) (n, End) (end_first (steps_may_come cp) n rest tail) is refl
 
 -- ---- a checkpoint so far
 
@@ -159,7 +159,7 @@ sections_read count desk front key version before number (s ∷ ss) from ascend 
     let next = ascend_next s ss ascend in
     subst (λ (l : List NumberedBody). Reads start (flat_map section_text (s ∷ ss)) (so_far count desk front (Some (begun key version l)) end [] 0)) (append_assoc before (s ∷ []) ss)
     (reads_both start middle (so_far count desk front (Some (begun key version (first ++ ss))) end [] 0) (section_text s) (flat_map section_text ss)
-    (reads_part start middle (section_text s) (Section s) (λ n rest tail. (n + 1, section_first n s rest tail written.0))
+    (reads_part start middle (section_text s) (Section s) (λ n rest tail. (n + 1, section_first (steps_may_come start) n s rest tail written.0))
     (ap (λ (b : Bool). let o : Option Checkpoint = if b then Some middle else None in o) (le-leb number s.number from)) refl)
     (sections_read count desk front key version first (s.number + 1) ss next.0 next.1 written.1))
 
@@ -178,7 +178,7 @@ key_read count desk front all current number entry has written comes is =
     let middle = so_far count desk all (Some (begun key version [])) 0 [] 0 in
     reads_both start middle (so_far count desk all (Some (kept_of entry)) (number_behind 0 entry.1.content) [] 0) (line_text (version_fields key version)) (flat_map section_text entry.1.content)
     (reads_part start middle (line_text (version_fields key version)) (Version key version)
-    (λ n rest tail. (n + 1, version_first n key version rest tail written.listed written.ext written.stream written.network written.version))
+    (λ n rest tail. (n + 1, version_first (steps_may_come start) n key version rest tail written.listed written.ext written.stream written.network written.version))
     (version_with count desk front all current number key version has comes is) refl)
     (sections_read count desk all key version [] 0 entry.1.content (from_none entry.1.content) written.ascend written.sections)
   where
@@ -297,7 +297,7 @@ counters_read count desk front all current number before pid (c ∷ cs) has writ
       is = more.is;
       reads = subst (λ (l : List PidCounter). Reads start (flat_map counter_text (c ∷ cs)) (so_far count desk more.front more.current more.number l more.pid)) (append_assoc before (c ∷ []) cs)
           (reads_both start middle (so_far count desk more.front more.current more.number (first ++ cs) more.pid) (counter_text c) (flat_map counter_text cs)
-          (reads_part start middle (counter_text c) (Counter c) (λ n rest tail. (n + 1, counter_first n c rest tail written.0))
+          (reads_part start middle (counter_text c) (Counter c) (λ n rest tail. (n + 1, counter_first (steps_may_come start) n c rest tail written.0))
           (counter_with count desk front all current number before pid c has from is) refl)
           more.reads);
     }

@@ -8,14 +8,14 @@ use Rattle.input_lines.specs.declared.stop.EditStop.{EditStop}
 use Rattle.input_lines.specs.declared.stop.EditStop.TheVariants as edits
 use Rattle.input_lines.specs.Ahead.{Ahead, Found, Stop, NoCommand, TooLong, ahead}
 use Rattle.input_lines.specs.Reads.{Gives, Takes}
-use Rattle.desk_checkpoint.specs.Checkpoints.{Checkpoint}
+use Rattle.desk_checkpoint.specs.Checkpoints.{Checkpoint, steps_may_come}
 use Rattle.desk_checkpoint.specs.Reads.{NumberedPart, first_part, read_on}
 use Rattle.desk_checkpoint.specs.Starts.{GivesRest, HasRestCause}
 use Rattle.desk_checkpoint.proofs.ReadFacts.{read_stopped}
 
 -- no part came
 pub rest_stop : {S : Type 0} (left : S → Option (List ℕ)) (now new : Reading S) (cp after : Checkpoint) (stop : EditStop) (rest : List ℕ)
-    → Gives {T = NumberedPart} left first_part now new rest (Err stop) → GivesRest (read_on cp (ahead now rest)) after (Err stop)
+    → Gives {T = NumberedPart} left (first_part (steps_may_come cp)) now new rest (Err stop) → GivesRest (read_on cp (ahead now rest)) after (Err stop)
 rest_stop left now new cp after (edits.NoCommand n) rest g = read_stopped cp (ahead now rest) (NoCommand n) g
 rest_stop left now new cp after (edits.Read Overlong) rest g = read_stopped cp (ahead now rest) TooLong g
 rest_stop left now new cp after (edits.Read Failed) rest g = tt

@@ -63,11 +63,15 @@ published_by count other = count
 
 -- ---- one part more
 
+-- a step may come: neither a key nor a counter did
+abbrev pub steps_may_come : Checkpoint → Bool
+steps_may_come cp = is_none cp.current && is_nil cp.counters
+
 -- steps come first, and the desk takes each
 abbrev pub with_step : Checkpoint → Step → Option Checkpoint
 with_step cp s =
     let outcome = outcome_of cp.desk.mux cp.desk.entries s in
-    if is_none cp.current && is_nil cp.counters && is_taken outcome then Some (record cp { desk = and_entry cp.desk 0 s outcome }) else None
+    if steps_may_come cp && is_taken outcome then Some (record cp { desk = and_entry cp.desk 0 s outcome }) else None
 
 abbrev is_less : Ordering → Bool
 is_less Less = true

@@ -1,5 +1,5 @@
 -- The checkpoint that the lines ahead are.
-use Rattle.std.specs.Prelude.{◌≡◌, ℕ, zero, suc, List, drop, length, Option, Some, None, Ok, Err, Result, option_and_then, option_map, if◌then◌else◌}
+use Rattle.std.specs.Prelude.{◌≡◌, ℕ, Bool, zero, suc, List, drop, length, Option, Some, None, Ok, Err, Result, option_and_then, option_map, if◌then◌else◌}
 use Rattle.si_causes.specs.declared.stop.ReadStop.TheVariants.{Failed, TooLong as Overlong}
 use Rattle.input_lines.specs.Fields.{record_of}
 use Rattle.input_lines.specs.Ahead.{Ahead, Found, Came, Row, Stopped, Stop, NoCommand, TooLong, and_then, first_row, missing_at, on_line}
@@ -9,7 +9,7 @@ use Rattle.script_lines.specs.Script.{read_command}
 use Rattle.desk_checkpoint.specs.declared.part.Part.{Part}
 use Rattle.desk_checkpoint.specs.declared.part.Part.TheVariants.{Step as step}
 use Rattle.desk_checkpoint.specs.Fields.{begins_step, count_of, part_of}
-use Rattle.desk_checkpoint.specs.Checkpoints.{Checkpoint, counted, is_end, with_part}
+use Rattle.desk_checkpoint.specs.Checkpoints.{Checkpoint, counted, is_end, steps_may_come, with_part}
 
 -- ---- parts
 
@@ -21,16 +21,16 @@ NumberedPart = ℕ × Part
 abbrev pub step_part : ℕ → Found Command → Found NumberedPart
 step_part n found = and_then found (λ command behind. Came (n, step command.1) behind)
 
--- the part whose line has number n and these fields: a step, which may have more lines, or another
-abbrev pub part_on : ℕ → List (List ℕ) → Ahead → Found NumberedPart
-part_on n fields behind =
-    if begins_step fields then step_part n (read_command n fields behind)
+-- the part whose line has number n and these fields: a step, which may have more lines, where one may come; or another
+abbrev pub part_on : Bool → ℕ → List (List ℕ) → Ahead → Found NumberedPart
+part_on step_may n fields behind =
+    if begins_step fields then (if step_may then step_part n (read_command n fields behind) else Stopped (NoCommand n))
     else on_line n (option_map (λ part. (n, part)) (part_of fields)) behind
 
 -- the part that begins with the first line ahead; a line has to come
-abbrev pub first_part : Ahead → Found NumberedPart
-first_part lines =
-    and_then (first_row missing_at lines) (λ row behind. and_then (on_line row.0 (record_of row.1) behind) (λ fields more. part_on row.0 fields more))
+abbrev pub first_part : Bool → Ahead → Found NumberedPart
+first_part step_may lines =
+    and_then (first_row missing_at lines) (λ row behind. and_then (on_line row.0 (record_of row.1) behind) (λ fields more. part_on step_may row.0 fields more))
 
 -- ---- a checkpoint
 
@@ -46,7 +46,7 @@ on_part next cp (Came part behind) = and_part next part (with_part cp part.1) be
 -- what is read behind these parts of a checkpoint, so many at most
 abbrev pub upto : ℕ → Checkpoint → Ahead → Result Checkpoint Stop
 upto zero cp lines = Err (missing_at lines.tail)
-upto (suc n) cp lines = on_part (upto n) cp (first_part lines)
+upto (suc n) cp lines = on_part (upto n) cp (first_part (steps_may_come cp) lines)
 
 -- the parts are no more than the lines
 abbrev pub read_on : Checkpoint → Ahead → Result Checkpoint Stop

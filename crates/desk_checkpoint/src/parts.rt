@@ -35,18 +35,22 @@ fn said_on(alloc: Global, at: u64, fields: &[Txt]) -> Result<(u64, Part), EditSt
     }
 }
 
-// The part of line `at`.
+// The part of line `at`; a step only where one may come.
 fn part_on<S: Source>(
     alloc: Global,
+    step_may: bool,
     at: u64,
     fields: &LineFields,
     lines: &mut LineReader<S>,
 ) -> Result<(u64, Part), EditStop>
-    ensures reads { ReadOf S.left S.faults S.same (part_on at fields.now) lines.old lines.new result }
+    ensures reads { ReadOf S.left S.faults S.same (part_on step_may at fields.now) lines.old lines.new result }
     ensures fit { IfOk result (λ part. IsFitPart part.1) }
 {
     if !begins_step(fields.as_slice()) {
         return said_on(alloc, at, fields.as_slice());
+    }
+    if !step_may {
+        return Err(EditStop::NoCommand(at));
     }
     match read_command(alloc, at, fields, lines) {
         Ok(command) => Ok((at, Part::Step(command.1))),
@@ -54,12 +58,13 @@ fn part_on<S: Source>(
     }
 }
 
-/// The next part, with the number of its line.
+/// The next part, with the number of its line; a step only where one may come.
 pub(crate) fn next_part<S: Source>(
     alloc: Global,
+    step_may: bool,
     lines: &mut LineReader<S>,
 ) -> Result<(u64, Part), EditStop>
-    ensures reads { ReadOf S.left S.faults S.same first_part lines.old lines.new result }
+    ensures reads { ReadOf S.left S.faults S.same (first_part step_may) lines.old lines.new result }
     ensures falls { OnOk result (room lines.new < room lines.old) }
     ensures fit { IfOk result (λ part. IsFitPart part.1) }
 {
@@ -69,7 +74,7 @@ pub(crate) fn next_part<S: Source>(
         Err(stop) => return Err(EditStop::Read(stop)),
     };
     match fields_on(alloc, at, lines.line()) {
-        Ok(fields) => part_on(alloc, at, &fields, lines),
+        Ok(fields) => part_on(alloc, step_may, at, &fields, lines),
         Err(stop) => Err(stop),
     }
 }

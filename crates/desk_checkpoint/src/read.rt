@@ -30,7 +30,7 @@ fn read_on<S: Source>(
     ensures same { S.same lines.old.source lines.new.source }
 {
     'parts: loop {
-        let (at, part) = match next_part(alloc, lines) {
+        let (at, part) = match next_part(alloc, reading.steps_may_come(), lines) {
             Ok(found) => found,
             Err(stop) => return Err(stop),
         };

@@ -8,7 +8,7 @@ ghost use Rattle.journal_air.specs.Air.{mux_form};
 ghost use Rattle.journal_model.specs.Steps.{IsStepWithin};
 ghost use Rattle.checkpoint_laws.specs.Going.{is_taken};
 ghost use Rattle.desk_checkpoint.specs.Parts.{IsFitPart};
-ghost use Rattle.desk_checkpoint.specs.Checkpoints.{and_current, comes_behind, counted, is_nil, is_none, published_by, whole, with_counter, with_part, with_section, with_step, with_version};
+ghost use Rattle.desk_checkpoint.specs.Checkpoints.{and_current, comes_behind, counted, is_nil, is_none, published_by, steps_may_come, whole, with_counter, with_part, with_section, with_step, with_version};
 ghost use Rattle.desk_checkpoint.specs.Answers.{Answers};
 ghost use Rattle.desk_checkpoint.specs.Starts.{IsStart, StartsFrom};
 
@@ -107,6 +107,13 @@ fn and_section(mut key: KeyVersion, section: NumberedBody) -> Result<KeyVersion,
 }
 
 impl Reading {
+    /// Whether a step may come: neither a key nor a counter did.
+    pub(crate) fn steps_may_come(&self) -> bool
+        ensures { result ≡ steps_may_come self.now }
+    {
+        self.current.is_none() && self.counters.is_empty()
+    }
+
     /// Nothing was read of the checkpoint but how many publications there were.
     pub(crate) fn open(alloc: Global, mux: Mux, count: u64) -> Result<Reading, AllocError>
         requires sound { IsSound mux }
