@@ -3,7 +3,7 @@ use Rattle.std.proofs.Common.{◌≡◌, ◌≤◌, ◌⊎◌, inl, inr, ℕ, su
 use mathlib.Core.List.{IsPrefix}
 use Rattle.si_lists.proofs.Lists.{two_fronts}
 use Rattle.guide_board.specs.declared.post.Post.{Post}
-use Rattle.guide_board.specs.Posts.{services_in}
+use Rattle.guide_board.specs.Posts.{OneBegins, services_in}
 
 -- posts that are no more than those that they begin
 none_more : (posts more : List Post) → length (posts ++ more) ≤ length posts → more ≡ []
@@ -24,6 +24,14 @@ fewer_begin few many posts one other fewer = go (two_fronts few one.0 many other
     go (inl (e, is, rest)) =
         let none : e ≡ [] = none_more many e (subst (λ (ps : List Post). length ps ≤ length many) is fewer) in
         ([], append-nil few ∙ (is ∙ (ap (λ (more : List Post). many ++ more) none ∙ append-nil many)))
+
+-- of two beginnings of the same posts one begins the other
+pub one_begins : (some others posts : List Post) → IsPrefix some posts → IsPrefix others posts → OneBegins some others
+one_begins some others posts one other = go (two_fronts some one.0 others other.0 (one.1 ∙ sym other.1))
+  where
+    go : ((e : List Post) × (some ≡ others ++ e) × (other.0 ≡ e ++ one.0)) ⊎ ((e : List Post) × (others ≡ some ++ e) × (one.0 ≡ e ++ other.0)) → OneBegins some others
+    go (inl (e, is, rest)) = inr (e, sym is)
+    go (inr (e, is, rest)) = inl (e, sym is)
 
 -- more posts leave the opening one
 services_stay : (posts more : List Post) (n : ℕ) → length posts ≡ suc n → services_in (posts ++ more) ≡ services_in posts

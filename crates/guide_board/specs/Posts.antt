@@ -1,7 +1,8 @@
 -- What contracts see of a board: the posts that were made, the opening one first, and what a post says of a service.
-use Rattle.std.specs.Prelude.{◌≡◌, ◌==◌, ℕ, Bool, List, [], ◌∷◌, ◌++◌, slice_get, map, find, Option, Some, None, option_map, option_and_then}
+use Rattle.std.specs.Prelude.{◌≡◌, ◌==◌, ◌⊎◌, ℕ, Bool, List, [], ◌∷◌, ◌++◌, slice_get, map, find, Option, Some, None, option_map, option_and_then}
 use Rattle.std.specs.Prelude.{Result, MatchResult}
 use Rattle.std.specs.List.{All, list_any}
+use mathlib.Core.List.{IsPrefix}
 pub use Rattle.logbook.specs.Pages.{Book}
 use Rattle.guide_model.specs.declared.event.Event.{Event}
 use Rattle.guide_model.specs.declared.guide.Guide.{Guide}
@@ -25,6 +26,10 @@ post number guide = record { number = number; guide = guide }
 -- after one more post
 abbrev pub with_post : Sight → ℕ → Guide → Sight
 with_post sight number guide = record { board = sight.board; posts = sight.posts ++ post number guide ∷ [] }
+
+-- of two lists of posts one begins the other
+abbrev pub OneBegins : List Post → List Post → Type 0
+OneBegins posts others = IsPrefix posts others ⊎ IsPrefix others posts
 
 -- ---- what can be posted
 

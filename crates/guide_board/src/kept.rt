@@ -44,6 +44,14 @@ impl Kept {
         })
     }
 
+    /// The history up to the newest post.
+    pub fn history(&self) -> &History
+        ensures board { result.now.book ≡ self.now.board }
+        ensures posts { result.now.log ≡ self.now.posts }
+    {
+        &self.history
+    }
+
     /// Keeps the newer of the two posts. It takes no memory.
     pub fn take_in(&mut self, note: &Note)
         requires board { note.now.board ≡ self.old.board }

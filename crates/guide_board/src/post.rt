@@ -1,7 +1,7 @@
 // The history of posts, which exists in proofs alone. What runs is the word that counts it.
 ghost use Rattle.std.specs.Prelude.{◌≡◌, ◌+◌, ◌<◌, ◌^◌, suc, ◌∷◌, ◌++◌, [], length, IsTrue};
 ghost use Rattle.guide_board.specs.History.{word_of};
-ghost use Rattle.guide_board.specs.Posts.{post};
+ghost use Rattle.guide_board.specs.Posts.{OneBegins, post};
 
 use guide_model::Guide;
 use logbook::{Gain, Opening, Plain, Play, Rule, Seen, Start, Word};
@@ -113,4 +113,13 @@ pub(crate) fn add(count: &Count, history: &mut History, later: u64, posting: &Po
         &mut pen,
     );
     found == later
+}
+
+/// Of the posts that two beginnings of a history have, one list begins the other. It does nothing when it runs.
+pub(crate) fn agree(one: &History, other: &History)
+    requires book { other.now.book ≡ one.now.book }
+    ensures { OneBegins one.now.log other.now.log }
+{
+    let mut both = one.again();
+    both.learn(other);
 }

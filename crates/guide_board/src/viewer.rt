@@ -2,12 +2,13 @@
 ghost use Rattle.std.specs.Prelude.{◌≡◌, is_ok};
 ghost use mathlib.Core.List.{IsPrefix};
 ghost use Rattle.left_right.specs.Sides.{view};
-ghost use Rattle.guide_board.specs.Posts.{AnswersNewest, serves, services_in};
+ghost use Rattle.guide_board.specs.Posts.{AnswersNewest, OneBegins, serves, services_in};
 ghost use Rattle.guide_board.specs.Books.{ShowsAs};
 
 use crate::kept::Kept;
 use crate::lines::{NoService, NowNext};
 use crate::note::{Books, Both, Known, Naming, Note, Taking};
+use crate::post::{History, agree};
 use crate::told::Told;
 use crate::writer::Desk;
 use left_right::reader::Reader;
@@ -88,6 +89,23 @@ impl Viewer {
     {
         self.read();
         self.kept.answer(service)
+    }
+
+    /// The history up to the newest post that it read or learnt.
+    pub(crate) fn history(&self) -> &History
+        ensures board { result.now.book ≡ self.now.board }
+        ensures posts { result.now.log ≡ self.now.posts }
+    {
+        self.kept.history()
+    }
+
+    /// Of the posts of two viewers of a board one list begins the other, whether they learnt anything or not. It does nothing
+    /// when it runs.
+    pub fn agree(&self, other: &Viewer)
+        requires board { other.now.board ≡ self.now.board }
+        ensures { OneBegins self.now.posts other.now.posts }
+    {
+        agree(self.history(), other.history());
     }
 
     /// Afterwards the viewer has seen what was posted before the `tell`. It waits for nobody and takes no memory.

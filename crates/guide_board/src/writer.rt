@@ -2,14 +2,14 @@
 ghost use Rattle.std.specs.Prelude.{◌≡◌, ◌∷◌, [], IfOk, IfErr, OnOk, OnErr, length};
 ghost use Rattle.std.specs.List.{All};
 ghost use Rattle.left_right.specs.Sides.{view};
-ghost use Rattle.guide_board.specs.Posts.{IsInOrder, post, with_post, services_of, services_in};
+ghost use Rattle.guide_board.specs.Posts.{IsInOrder, OneBegins, post, with_post, services_of, services_in};
 ghost use Rattle.guide_board.specs.Books.{ShowsAs};
 ghost use Rattle.guide_board.specs.History.{word_of};
 
 use crate::kept::Kept;
 use crate::lines::lines;
 use crate::note::{Books, Known, Naming, Note, Sheet};
-use crate::post::{Count, Posting, add, begin};
+use crate::post::{Count, Posting, add, agree, begin};
 use crate::told::Told;
 use crate::viewer::{Viewer, Viewers};
 use left_right::writer::Writer;
@@ -217,6 +217,15 @@ impl BoardWriter {
         Ok(Told {
             note: self.last.again()?,
         })
+    }
+
+    /// Of the posts of the writer and those of a viewer of its board one list begins the other, whether the viewer learnt anything
+    /// or not. It does nothing when it runs.
+    pub fn agree(&self, viewer: &Viewer)
+        requires board { viewer.now.board ≡ self.now.board }
+        ensures { OneBegins self.now.posts viewer.now.posts }
+    {
+        agree(&self.last.history, viewer.history());
     }
 
     /// Ends the writer. The viewers go on.

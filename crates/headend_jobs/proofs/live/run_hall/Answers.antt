@@ -1,4 +1,4 @@
-use Rattle.std.proofs.Common.{◌≡◌, ◌∙◌, ◌+◌, ap, sym, subst, length, arith}
+use Rattle.std.proofs.Common.{◌≡◌, ◌∙◌, ◌+◌, [], ◌∷◌, ap, sym, subst, length, arith}
 use Rattle.std.specs.Prelude.{None, Ok}
 use Rattle.mux_model.specs.declared.mux.Mux.{Mux}
 use Rattle.mux_model.specs.Sound.{IsSound}
@@ -6,6 +6,7 @@ use Rattle.turn_lock.specs.Knowledge.{Lock}
 use Rattle.headend_jobs.specs.declared.jobs.PlayerJob.{PlayerJob}
 use Rattle.headend_jobs.specs.declared.jobs.ControlJob.{ControlJob}
 use Rattle.desk_hall.specs.Turn.{View}
+use Rattle.headend_jobs.specs.Posting.{opening_of}
 use Rattle.headend_jobs.specs.Back.{lines_back}
 use Rattle.headend_jobs.specs.Live.{LiveDid, first_stop, jobs_back}
 use Rattle.headend_jobs.proofs.HandedBack.{jobs_len}
@@ -28,6 +29,10 @@ split-own-requires-clause-span g c =
 
 pub run_jobs-requires-clause-sound : goal.run_jobs-requires-clause-sound
 run_jobs-requires-clause-sound g c κs within = subst IsSound (sym c.in_ok-copy.ensures) c.requires.sound
+
+pub run_jobs-requires-clause-opening : goal.run_jobs-requires-clause-opening
+run_jobs-requires-clause-opening g c κs within =
+    subst (λ (m : Mux). c.args.board.now.posts ≡ opening_of m ∷ []) (sym c.in_ok-copy.ensures) c.requires.opening
 
 pub run_jobs-requires-clause-feeds : goal.run_jobs-requires-clause-feeds
 run_jobs-requires-clause-feeds g c κs within =
