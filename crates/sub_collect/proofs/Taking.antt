@@ -1,16 +1,16 @@
 -- What is kept of a key, once a section more is taken.
-use Rattle.std.proofs.Common.{◌≡◌, ℕ, ◌<◌, List, [], ◌∷◌, ◌++◌, Bool, true, false, ◌&&◌, ◌==◌, refl, sym, ap, ap₂, ◌∙◌, subst, eqb-true}
+use Rattle.std.proofs.Common.{◌≡◌, ℕ, ◌<◌, List, [], ◌∷◌, ◌++◌, Bool, true, false, ◌&&◌, ◌==◌, refl, sym, ap, ap₂, ◌∙◌, subst, eqb-true, eq-eqb}
 use Rattle.std.specs.Prelude.{if◌then◌else◌, Option, Some, None, is_some, option_map}
 use Rattle.std.specs.Option.{option_or}
 use Rattle.std.proofs.lemmas.Slice.Eq.{bytes_eq-Decides}
-use Rattle.std.proofs.lemmas.Bool.{and_parts}
+use Rattle.std.proofs.lemmas.Bool.{and_parts, and_from}
 use Rattle.section_codec.specs.declared.table.Key.{Key}
 use Rattle.section_codec.specs.Contents.{Content}
 use Rattle.section_codec.specs.Tables.{is_eit}
 use Rattle.section_codec.specs.Segments.{segment_of}
 use Rattle.sub_collect.specs.Runs.{Counted, all_of_version, latest_section, latest_with, segment_last_of, run_of, whole, completed}
 use Rattle.sub_collect.specs.Completions.{done_at, completion_at, completion, repeats, shown_after}
-use Rattle.sub_collect.specs.Collectors.{KeptRun, KeyHeard, body_in, body_of, last_in, StandsForRun, IsKeptOf, AreOfKey}
+use Rattle.sub_collect.specs.Collectors.{KeptRun, KeyHeard, body_in, body_of, last_in, StandsForRun, IsKeptOf, AreOfKey, IsHeldIn}
 use Rattle.sub_collect.specs.Slots.{held_with, told_with, needed_by, is_body, same_last, whole_by, latest_with_done}
 use Rattle.sub_collect.specs.declared.completed.Completed.{Completed}
 use Rattle.sub_collect.proofs.Runs.{run_of-push, latest-run, latest-push, all-latest, no-latest}
@@ -162,3 +162,48 @@ repeat-test a b c d o body e =
     let p = and_parts (a == b && same_last c d) (is_body o body) e in
     let q = and_parts (a == b) (same_last c d) p.0 in
     (eqb-true a b q.0, same_last-same c d q.1, is_body-same o body p.1)
+
+same_last-equal : (a b : Option ℕ) → a ≡ b → same_last a b ≡ true
+same_last-equal None None e = refl
+same_last-equal None (Some b) e = cc
+same_last-equal (Some a) None e = cc
+same_last-equal (Some a) (Some b) e = eq-eqb a b cc
+
+is_body-equal : (o : Option (List ℕ)) (body : List ℕ) → o ≡ Some body → is_body o body ≡ true
+is_body-equal None body e = cc
+is_body-equal (Some held) body e = (bytes_eq-Decides held body).1 cc
+
+pub repeat-passes : (a b : ℕ) (c d : Option ℕ) (o : Option (List ℕ)) (body : List ℕ) → a ≡ b → c ≡ d → o ≡ Some body → (a == b && same_last c d && is_body o body) ≡ true
+repeat-passes a b c d o body last told held =
+    and_from (a == b && same_last c d) (is_body o body) (and_from (a == b) (same_last c d) (eq-eqb a b last) (same_last-equal c d told)) (is_body-equal o body held)
+
+-- what a run holds, by what is kept of it
+module _ (run : List Counted) (s : Counted) (kept : KeptRun) (stands : StandsForRun run kept) where
+  pub held-in : s.version ≡ kept.version → kept.last ≡ s.last → last_in kept.lasts (segment_of s.number) ≡ segment_last_of s → body_in s.number kept.held ≡ Some s.body → IsHeldIn run s
+  held-in version last told held = record {
+    version = ap (option_map (λ (t : Counted). t.version)) some.1 ∙ ap Some (all-latest kept.version run some.0 stands.version some.1 ∙ sym version);
+    last = ap (option_map (λ (t : Counted). t.last)) some.1 ∙ ap Some (sym (stands.last some.0 some.1) ∙ last);
+    told = sym (stands.lasts (segment_of s.number)) ∙ told;
+    body = sym (stands.held s.number) ∙ held;
+  }
+    where
+      some : (t : Counted) × (latest_section run ≡ Some t)
+      some = run-some run s.number s.body (sym (stands.held s.number) ∙ held)
+
+  pub in-held : IsHeldIn run s → (s.version ≡ kept.version) × (kept.last ≡ s.last) × (last_in kept.lasts (segment_of s.number) ≡ segment_last_of s) × (body_in s.number kept.held ≡ Some s.body)
+  in-held is = (
+    sym (value some.0.version s.version (sym (ap (option_map (λ (t : Counted). t.version)) some.1) ∙ is.version)) ∙ all-latest kept.version run some.0 stands.version some.1,
+    stands.last some.0 some.1 ∙ value some.0.last s.last (sym (ap (option_map (λ (t : Counted). t.last)) some.1) ∙ is.last),
+    stands.lasts (segment_of s.number) ∙ is.told,
+    stands.held s.number ∙ is.body,
+  )
+    where
+      some : (t : Counted) × (latest_section run ≡ Some t)
+      some = run-some run s.number s.body is.body
+
+      value : (a b : ℕ) → Some a ≡ Some b → a ≡ b
+      value a b e = cc
+
+-- an empty run holds none
+pub none-held : (s : Counted) → IsHeldIn [] s → Prim.⊥
+none-held s is = let e : None ≡ Some s.version = is.version in let z : Prim.⊥ = cc in z

@@ -4,7 +4,8 @@ use Rattle.std.specs.Option.{option_or}
 use Rattle.std.specs.List.{AllByRecursion}
 use Rattle.section_codec.specs.declared.table.Key.{Key}
 use Rattle.section_codec.specs.KeyOrder.{is_key}
-use Rattle.sub_collect.specs.Runs.{Counted, all_of_version, run_of, latest_section, latest_with, last_told}
+use Rattle.section_codec.specs.Segments.{segment_of}
+use Rattle.sub_collect.specs.Runs.{Counted, all_of_version, run_of, latest_section, latest_with, segment_last_of, last_told}
 use Rattle.sub_collect.specs.KeyCounts.{HaveFewKeys}
 use Rattle.sub_collect.specs.Completions.{IsOfKey, of_key, completion, shown_after}
 use Rattle.sub_collect.specs.Marks.{Taken, Taken.Took, since_mark, latest_over, shown_over, all_took, sections_taken}
@@ -97,6 +98,14 @@ forgotten_if here None = None
 forgotten_if here (Some kept) = Some (if here then forgotten kept else kept)
 
 -- ---- a section that is held already
+
+-- A run holds this section: its latest section has the version_number and the last_section_number, the latest of the same segment
+-- tells the same last number of it, and the latest with the same number has the body.
+pub record IsHeldIn (run : List Counted) (s : Counted) : Type 0 where
+  pub version : option_map (λ (latest : Counted). latest.version) (latest_section run) ≡ Some s.version
+  pub last : option_map (λ (latest : Counted). latest.last) (latest_section run) ≡ Some s.last
+  pub told : last_told run (segment_of s.number) ≡ segment_last_of s
+  pub body : body_of (latest_with s.number run) ≡ Some s.body
 
 -- These are sections of a key, of which all make this completion the latest.
 pub record AreOfKey (k : Key) (heard : List Counted) (latest : Option Completed) : Type 0 where

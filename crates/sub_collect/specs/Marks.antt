@@ -3,7 +3,7 @@ use Rattle.std.specs.Prelude.{ℕ, List, [], ◌∷◌, ◌++◌, ◌==◌, if�
 use Rattle.std.specs.List.{cons_option}
 use Rattle.section_codec.specs.declared.table.Key.{Key}
 use Rattle.section_codec.specs.Contents.{Content}
-use Rattle.sub_collect.specs.Runs.{Counted}
+use Rattle.sub_collect.specs.Runs.{Counted, run_of}
 use Rattle.sub_collect.specs.Completions.{is_of, completion, latest_done, shown_after}
 use Rattle.sub_collect.specs.declared.completed.Completed.{Completed}
 
@@ -24,6 +24,10 @@ since_from k since (x ∷ xs) = since_from k (since_with k since x) xs
 -- the sections of a key since the last mark of its PID: their run is that of the key
 abbrev pub since_mark : Key → List Taken → List Counted
 since_mark k past = since_from k [] past
+
+-- the run of a key
+abbrev pub run_over : Key → List Taken → List Counted
+run_over k past = run_of (since_mark k past)
 
 -- the completion of a key at one more section of it, or none
 abbrev pub completion_with : Key → List Counted → Taken → Option Completed

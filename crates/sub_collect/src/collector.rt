@@ -5,11 +5,11 @@ ghost use Rattle.std.specs.Ordering.{is_gt};
 ghost use Rattle.std.specs.Map.{keys_of};
 ghost use Rattle.section_codec.specs.declared.table.Key.{Key};
 ghost use Rattle.section_codec.specs.KeyOrder.{is_key, key_cmp};
-ghost use Rattle.sub_collect.specs.Runs.{Counted, counted};
+ghost use Rattle.sub_collect.specs.Runs.{Counted, counted, run_of};
 ghost use Rattle.sub_collect.specs.Completions.{completion, shown_after};
-ghost use Rattle.sub_collect.specs.Marks.{Taken, Taken.Took, Taken.Forgot, latest_over, shown_over, sections_taken};
+ghost use Rattle.sub_collect.specs.Marks.{Taken, Taken.Took, Taken.Forgot, latest_over, shown_over, run_over, sections_taken};
 ghost use Rattle.sub_collect.specs.KeyCounts.{key_count, HaveTooManyKeys};
-ghost use Rattle.sub_collect.specs.Collectors.{CollectorStandsFor, CollectorStandsOver, EachStandsFor, IsKeptOf, AreOfKey, IsRepeated, IsRepeatedOf, kept_in, forgotten, forgotten_if};
+ghost use Rattle.sub_collect.specs.Collectors.{CollectorStandsFor, CollectorStandsOver, EachStandsFor, IsKeptOf, AreOfKey, IsHeldIn, IsRepeated, IsRepeatedOf, kept_in, forgotten, forgotten_if};
 ghost use Rattle.sub_collect.specs.KeyWalk.{HasNoKeyAfter, IsNextKey, BeginsAfter};
 ghost use Rattle.sub_collect.specs.Slots.{kept_by, shown, latest_with_done};
 ghost use Rattle.sub_collect.specs.declared.completed.Completed.{Completed};
@@ -148,11 +148,13 @@ impl Collector {
         }
     }
 
-    /// Whether a section of a key is held already: the run of the key has its version_number, its last_section_number
-    /// and its body under its number. To count it once more shows nothing, and the collector stands for it too. It takes no
-    /// memory.
+    /// Whether a section of a key is held already: the run of the key has its version_number, its last_section_number,
+    /// the last number of its segment that it tells, and its body under its number. To count it once more shows nothing,
+    /// and the collector stands for it too. It takes no memory.
     pub fn repeats(&self, key: Key, header: &LongHeader, body: &[u8]) -> bool
-        ensures { result ≡ true → IsRepeated self.now (counted key header.now body.now) }
+        ensures held { (past : List Taken) → CollectorStandsOver past self.now
+            → IsTrue result ↔ IsHeldIn (run_over key past) (counted key header.now body.now) }
+        ensures repeated { result ≡ true → IsRepeated self.now (counted key header.now body.now) }
     {
         match self.slots.get(&key) {
             Some(slot) => slot.repeats(key, header, body),
@@ -285,7 +287,11 @@ impl KeySlot {
 
     // Whether a section of the key is held already.
     fn repeats(&self, key: Key, header: &LongHeader, body: &[u8]) -> bool
-        ensures { result ≡ true → IsRepeatedOf (kept_by self.now) (counted key header.now body.now) }
+        ensures held { (heard : List Counted) (latest : Option Completed)
+            → IsKeptOf heard latest (kept_by self.now)
+            → IsTrue result ↔ IsHeldIn (run_of heard) (counted key header.now body.now) }
+        ensures repeated { result ≡ true
+            → IsRepeatedOf (kept_by self.now) (counted key header.now body.now) }
     {
         self.run.version == header.version && self.run.repeats(key, header, body)
     }

@@ -4,8 +4,9 @@
 //! one version now hold all that is needed, with a version or content that is new (`shown`). It
 //! refuses the section that would bring key 65,537 (`too_many`), and an error changes nothing
 //! (`unchanged`). `latest` gives the last completion of a key, and `keys` how many keys there are.
-//! Where `repeats` is true the section would change nothing and show nothing. Completions of a key
-//! do not depend on other keys (`completions_by_key`). A version that was carried whole completes
+//! `repeats` is true exactly where the run of the key holds the section already (`held`): to count
+//! it would change nothing and show nothing (`repeated`). Completions of a key do not depend on
+//! other keys (`completions_by_key`). A version that was carried whole completes
 //! (`whole_versions_complete`, `runs_complete_their_content`), and is shown once
 //! (`contents_are_shown_once`). For event information the needed sections go by segments. `forget`
 //! drops the sections of a PID, and no completion; each completion is made of sections taken since

@@ -30,7 +30,7 @@ returns-then-self-header-clause-stands c = λ heard before is are.
 
 pub returns-then-repeats-clause-shown : goal.returns-then-repeats-clause-shown
 returns-then-repeats-clause-shown c = λ heard before is are.
-    let again = c.repeats.ensures c.if-repeats.true in
+    let again = c.repeats.ensures.repeated c.if-repeats.true in
     let s = counted c.args.key c.args.header.now c.args.body in
     let same = ap (λ (b : List ℕ). counted c.args.key c.args.header.now b) c.as_slice.ensures in
     ap (option_map (λ (d : Completed). d.version))
@@ -38,7 +38,7 @@ returns-then-repeats-clause-shown c = λ heard before is are.
 
 pub returns-then-repeats-clause-stands : goal.returns-then-repeats-clause-stands
 returns-then-repeats-clause-stands c = λ heard before is are.
-    let again = c.repeats.ensures c.if-repeats.true in
+    let again = c.repeats.ensures.repeated c.if-repeats.true in
     let same = ap (λ (b : List ℕ). counted c.args.key c.args.header.now b) c.as_slice.ensures in
     subst (λ (t : Counted). IsKeptOf (heard ++ t ∷ []) (option_or (completion (heard ++ t ∷ [])) before) (kept_by c.args.self.now)) same (again.stands heard before is are)
 
