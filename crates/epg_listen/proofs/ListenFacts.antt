@@ -26,7 +26,7 @@ use Rattle.epg_report.specs.Texts.{fault_line, fault_text}
 use Rattle.epg_report.specs.Told.{ReportTaken, Reported}
 use Rattle.epg_listen.specs.Lines.{packet_lines, heard_text, heard_guide}
 use Rattle.epg_listen.proofs.LineFacts.{text_push}
-use Rattle.epg_listen.specs.Leaves.{Recording, packet_stop_text, packet_stop_status, IsKeyTooMany, LeavesHeard, IsOfListen, HearsThrough}
+use Rattle.epg_listen.specs.Leaves.{Recording, packet_stop_text, packet_stop_status, IsKeyTooMany, WereTaken, LeavesHeard, IsOfListen, HearsThrough}
 use Rattle.epg_listen.specs.Hearing.{HasHeard, ReportsLines, EndsHeard, HasReadCause, IsNoReadStop, IsTooManyAt}
 
 -- ---- packets
@@ -131,6 +131,23 @@ left_behind (Some xs) (Some ys) held more rest e gave =
     let same : held ++ xs ≡ rest = cc in
     (ys, refl, sym same ∙ ap (λ l. held ++ l) gave ∙ sym (append_assoc held more ys))
 
+-- where no more is left than what stands behind these packets, they were taken
+told_behind : (after : Option (List ℕ)) (held rest : List ℕ) → prepend_known held after ≡ Some rest → (behind : List ℕ) × (after ≡ Some behind) × (rest ≡ held ++ behind)
+told_behind None held rest tells = cc
+told_behind (Some ys) held rest tells = (let same : held ++ ys ≡ rest = cc in (ys, refl, sym same))
+
+pub were_taken : {S : Type 0} (left : S → Option (List ℕ)) (now : PacketReading S) (bytes done rest : List ℕ) (heard : List (List ℕ)) (n : ℕ) → HasParted bytes done heard n rest
+    → bytes_left left now ≡ Some rest → WereTaken bytes (left now.source) (length heard)
+were_taken left now bytes done rest heard n parted tells =
+    let last = told_behind (left now.source) now.held rest tells in
+    record {
+      taken = done ++ now.held;
+      behind = last.0;
+      bytes_are = parted.parted ∙ ap (λ l. done ++ l) last.2 ∙ sym (append_assoc done now.held last.0);
+      left_is = last.1;
+      long = omega (arith, parted.size, length-append done now.held);
+    }
+
 pub heard_stop : {S : Type 0} (strict : Bool) (left : S → Option (List ℕ)) (before after : PacketReading S) (s : PacketStop) (bytes done rest : List ℕ) (heard : List (List ℕ)) (stands : List (List ℕ) → Type 0) (old new : Option (List ℕ))
     → bytes_left left before ≡ Some rest → HasParted bytes done heard (packets_to_come before) rest → before.number ≡ length heard → GivesPacket left before after (packets_in (packets_to_come before) rest) (Err s)
     → TakesPacket left before after (Err s) → Counts before after (Err s) → Appends old new (heard_text strict heard) → HaveFewKeys (counted_heard heard) → HasHeard strict bytes (left after.source) stands old new (Err (stop.Read s))
@@ -171,19 +188,20 @@ too_many_behind all y x heard p n e t number few many =
 -- the lines of a packet were not all written, or there was no memory for them, or none came, for it brings a key too many
 pub heard_line : (strict : Bool) (s : ListenStop) (bytes : List ℕ) (left : Option (List ℕ)) (stands : List (List ℕ) → Type 0) (y x : Recording) (heard : List (List ℕ)) (p : List ℕ) (n : ℕ) (a b c : Option (List ℕ))
     → recording bytes ≡ (heard ++ y.0, y.1) → y ≡ and_packet p x → n ≡ length heard → Appends a b (heard_text strict heard)
-    → ReportsLines b c (packet_lines strict n heard p) (Err s) → HaveFewKeys (counted_heard heard) → IsTooManyAt n (heard ++ p ∷ []) (Err s) → HasHeard strict bytes left stands a c (Err s)
-heard_line strict (stop.Read s) bytes left stands y x heard p n a b c e t number done reports few many = absurd reports
-heard_line strict (stop.TooMany k) bytes left stands y x heard p n a b c e t number done reports few many =
+    → ReportsLines b c (packet_lines strict n heard p) (Err s) → HaveFewKeys (counted_heard heard) → IsTooManyAt n (heard ++ p ∷ []) (Err s) → WereTaken bytes left (length (heard ++ p ∷ []))
+    → HasHeard strict bytes left stands a c (Err s)
+heard_line strict (stop.Read s) bytes left stands y x heard p n a b c e t number done reports few many came = absurd reports
+heard_line strict (stop.TooMany k) bytes left stands y x heard p n a b c e t number done reports few many came =
     let at : k ≡ length heard = many.0 ∙ number in (
       too_many_behind (recording bytes) y x heard p k e t at few many.1,
       subst (λ (w : Option (List ℕ)). Appends a w (heard_text strict (take k (recording bytes).0))) reports
           (text_is strict a b (take k (recording bytes).0) heard (ap (λ m. take m (recording bytes).0) at ∙ front_heard (recording bytes) y heard e) done),
     )
-heard_line strict stop.Memory bytes left stands y x heard p n a b c e t number done reports few many = tt
-heard_line strict stop.Report bytes left stands y x heard p n a b c e t number done reports few many =
+heard_line strict stop.Memory bytes left stands y x heard p n a b c e t number done reports few many came = tt
+heard_line strict stop.Report bytes left stands y x heard p n a b c e t number done reports few many came =
     let lines = ap (λ k. packet_lines strict k heard p) number in
     let text = ap (λ l. heard_text strict heard ++ l) lines ∙ sym (text_push strict heard p) ∙ ap (heard_text strict) (sym (front_heard (recording bytes) x (heard ++ p ∷ []) (more_heard (recording bytes) y x heard p e t))) in
-    (length (heard ++ p ∷ []), subst (AppendsFront a c) text (front_behind a b c (heard_text strict heard) (packet_lines strict n heard p) done reports))
+    (length (heard ++ p ∷ []), came, subst (AppendsFront a c) text (front_behind a b c (heard_text strict heard) (packet_lines strict n heard p) done reports))
 
 -- ---- the run is over
 
@@ -209,7 +227,7 @@ leaves_heard strict (Ok u) bytes left stands old mid new f g h other le has ends
 leaves_heard strict (Err stop.Memory) bytes left stands old mid new f g h status le has ends = subst (LeavesHeard strict bytes left (record { old = old; new = new; faults_old = f; faults_new = h })) (sym ends) tt
 leaves_heard strict (Err stop.Report) bytes left stands old mid new f g h status le has ends =
     let told : ReportTaken = record { old = old; new = new; faults_old = f; faults_new = h } in
-    subst (LeavesHeard strict bytes left told) (sym ends.0) (inl (has.0, subst (λ (w : Option (List ℕ)). AppendsFront old w (heard_text strict (take has.0 (recording bytes).0))) ends.1 has.1))
+    subst (LeavesHeard strict bytes left told) (sym ends.0) (inl (has.0, has.1, subst (λ (w : Option (List ℕ)). AppendsFront old w (heard_text strict (take has.0 (recording bytes).0))) ends.1 has.2))
 leaves_heard strict (Err (stop.Read s)) bytes left stands old mid new f g h status le has (inl memory) = subst (LeavesHeard strict bytes left (record { old = old; new = new; faults_old = f; faults_new = h })) (sym memory) tt
 leaves_heard strict (Err (stop.Read (packet.Broken n))) bytes left stands old mid new f g h status le has (inr (is, reported)) =
     subst (LeavesHeard strict bytes left (record { old = old; new = new; faults_old = f; faults_new = h })) (sym is) (has.0, has.1, record { few = has.3; report_is = behind old mid new f g h (heard_text strict (recording bytes).0) (fault_line (packet_stop_text (packet.Broken n))) le has.2 reported })

@@ -15,7 +15,7 @@ use Rattle.epg_report.specs.declared.status.Origin.TheVariants.{Input}
 use Rattle.epg_report.specs.Texts.{fault_line, fault_text}
 use Rattle.epg_report.specs.Told.{ReportTaken, Reported}
 use Rattle.epg_listen.specs.Lines.{heard_text, heard_guide}
-use Rattle.epg_listen.specs.Leaves.{packet_stop_status, IsKeyTooMany, WasTaken}
+use Rattle.epg_listen.specs.Leaves.{packet_stop_status, IsKeyTooMany, WasTaken, WereTaken}
 
 -- what reporting some lines leaves
 abbrev pub ReportsLines : Option (List ℕ) → Option (List ℕ) → List ℕ → Result (Unit {0}) ListenStop → Type 0
@@ -37,7 +37,7 @@ HasHeard strict bytes left stands old new (Err (stop.Read (packet.Broken n))) = 
 HasHeard strict bytes left stands old new (Err (stop.Read packet.TooLong)) = ((recording bytes).1 ≡ PastLimit) × Appends old new (heard_text strict (recording bytes).0) × HaveFewKeys (counted_heard (recording bytes).0)
 HasHeard strict bytes left stands old new (Err (stop.Read packet.Failed)) = (taken : List ℕ) × WasTaken bytes left taken × Appends old new (heard_text strict (recording taken).0) × HaveFewKeys (counted_heard (recording taken).0)
 HasHeard strict bytes left stands old new (Err (stop.TooMany n)) = IsKeyTooMany (recording bytes).0 n × Appends old new (heard_text strict (take n (recording bytes).0))
-HasHeard strict bytes left stands old new (Err stop.Report) = (k : ℕ) × AppendsFront old new (heard_text strict (take k (recording bytes).0))
+HasHeard strict bytes left stands old new (Err stop.Report) = (k : ℕ) × WereTaken bytes left k × AppendsFront old new (heard_text strict (take k (recording bytes).0))
 HasHeard strict bytes left stands old new (Err stop.Memory) = Unit {0}
 
 -- a stop by a failed read, and one by a failed write, have their causes

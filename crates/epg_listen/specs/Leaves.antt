@@ -1,6 +1,6 @@
 -- What a run of `listen` leaves, for each status, and all that it promises: with `--strict` where `strict` is true, and without it where it
 -- is false. The lines of packets are their completions, with `--strict` also their breaks.
-use Rattle.std.specs.Prelude.{◌≡◌, ℕ, ◌+◌, ◌/◌, ◌<◌, ◌⊎◌, ◌++◌, List, Bool, false, true, length, take, Option, Some}
+use Rattle.std.specs.Prelude.{◌≡◌, ℕ, ◌+◌, ◌*◌, ◌/◌, ◌<◌, ◌≤◌, ◌⊎◌, ◌++◌, List, Bool, false, true, length, take, Option, Some}
 use Rattle.std.specs.Io.KnownBytes.{Appends, IsAtEnd}
 use Rattle.si_causes.specs.Causes.{Rose, AppendsFront}
 use Rattle.packet_reader.specs.Recordings.{RecordingEnd, RecordingEnd.AtEnd, RecordingEnd.Broken, RecordingEnd.PastLimit, recording}
@@ -74,12 +74,20 @@ pub record HeardTaken (strict : Bool) (bytes : List ℕ) (left : Option (List �
   pub few : HasRoom (recording taken)
   pub report_is : Reported report (heard_text strict (recording taken).0 ++ fault_line (packet_stop_text packet.Failed))
 
--- With a fault of the report no fault of the recording was met: the report has a proper front of the lines of the first k packets, or, where
--- the recording was heard to its end, of all lines and the guide.
-abbrev pub HeardUnreported : Bool → Recording → ReportTaken → Type 0
-HeardUnreported strict recording report =
-    ((k : ℕ) × AppendsFront report.old report.new (heard_text strict (take k recording.0)))
-    ⊎ ((recording.1 ≡ AtEnd) × AppendsFront report.old report.new (report_of strict recording.0))
+-- These bytes were taken from the input, and the others are left; k packets are among those taken.
+pub record WereTaken (bytes : List ℕ) (left : Option (List ℕ)) (k : ℕ) : Type 0 where
+  pub taken : List ℕ
+  pub behind : List ℕ
+  pub bytes_are : bytes ≡ taken ++ behind
+  pub left_is : left ≡ Some behind
+  pub long : 188 * k ≤ length taken
+
+-- With a fault of the report no fault of the recording was met: the report has a proper front of the lines of the first k packets, which were
+-- taken; or, where the recording was heard to its end, of all lines and the guide.
+abbrev pub HeardUnreported : Bool → List ℕ → Option (List ℕ) → ReportTaken → Type 0
+HeardUnreported strict bytes left report =
+    ((k : ℕ) × WereTaken bytes left k × AppendsFront report.old report.new (heard_text strict (take k (recording bytes).0)))
+    ⊎ (((recording bytes).1 ≡ AtEnd) × AppendsFront report.old report.new (report_of strict (recording bytes).0))
 
 -- What a run of `listen` leaves with each status, of the bytes of a recording, and of what is left of them. No other status comes.
 abbrev pub LeavesHeard : Bool → List ℕ → Option (List ℕ) → ReportTaken → Status → Type 0
@@ -88,7 +96,7 @@ LeavesHeard strict bytes left report (BadStream n) = ((recording bytes).1 ≡ Br
 LeavesHeard strict bytes left report (TooLong Input) = ((recording bytes).1 ≡ PastLimit) × HeardAll strict (recording bytes) (packet_stop_text packet.TooLong) report
 LeavesHeard strict bytes left report (TooMany n) = HeardFront strict (recording bytes) n report
 LeavesHeard strict bytes left report (ReadFault Input) = HeardTaken strict bytes left report
-LeavesHeard strict bytes left report (WriteFault Report) = HeardUnreported strict (recording bytes) report
+LeavesHeard strict bytes left report (WriteFault Report) = HeardUnreported strict bytes left report
 LeavesHeard strict bytes left report Memory = Unit {0}
 LeavesHeard strict bytes left report status = ⊥
 

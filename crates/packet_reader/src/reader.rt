@@ -97,8 +97,8 @@ impl<S: Source> PacketReader<S> {
     ///
     /// `Broken` comes exactly where the next piece does not begin with 0x47, or is shorter than 188 bytes: nothing is taken then, and [`PacketReader::broken_piece`] gives it; `TooLong` exactly where the
     /// source gave a byte behind its 4,294,967,295th packet. `Failed` comes only where a read of the source failed in this call. After
-    /// any of them, and after the end, each later call answers the same. The source is read only where no whole packet is held. It
-    /// takes no memory.
+    /// any of them, and after the end, each later call answers the same. Where the reader holds 188 bytes or more, the source is
+    /// not read. It takes no memory.
     pub fn next(&mut self) -> Result<Option<u64>, PacketStop>
         ensures packets { self.old.stop ≡ None → (bytes : List ℕ) → bytes_left S.left self.old ≡ Some bytes
             → GivesPacket S.left self.old self.new (packets_in (packets_to_come self.old) bytes) result }

@@ -6,7 +6,7 @@ use Rattle.packet_reader.specs.Reading.{packets_to_come}
 use Rattle.si_causes.proofs.CauseFacts.{Appends-nothing}
 use Rattle.epg_listen.specs.Lines.{packet_lines}
 use Rattle.epg_listen.specs.Hearing.{ReportsLines, IsTooManyAt}
-use Rattle.epg_listen.proofs.ListenFacts.{HasParted, start_parted, parted_recording, more_parted, given_packet, reported_more, heard_line, heard_end, heard_stop, no_read_cause}
+use Rattle.epg_listen.proofs.ListenFacts.{HasParted, start_parted, parted_recording, more_parted, given_packet, reported_more, heard_line, were_taken, heard_end, heard_stop, no_read_cause}
 use Rattle.epg_listen.proofs.LineFacts.{text_none}
 use Rattle.epg_listen.proofs.listen.hear_all.Goals as goal
 
@@ -55,13 +55,17 @@ returns-in-Err-hear_packet-clause-heard g c = λ bytes tells.
     let packet = c.next.new.self.packet in
     let t = i.told bytes tells in
     let given = given_packet g.S.Source.left c.loop-number.packets c.next.new.self (packets_in (packets_to_come c.loop-number.packets) t.2) c.in-Ok-Some.number ((rw c.in-Ok-Some.field-0-is at c.in-Ok-Some.ensures.packets) i.going t.2 t.3) in
+    let takes = (rw c.in-Ok-Some.field-0-is at c.in-Ok-Some.ensures.takes) i.going t.2 t.3 in
     let number : c.in-Ok-Some.number ≡ length t.0 = counts.0 ∙ t.6 in
+    let fewer : packets_to_come c.loop-number.packets ≡ suc (packets_to_come c.next.new.self) = omega (arith, counts.0, counts.1, counts.2) in
+    let parted = more_parted bytes t.1 t.2 t.0 (packets_to_come c.next.new.self) packet takes.0 (subst (λ n. HasParted bytes t.1 t.0 n t.2) fewer t.4) takes.2 counts.3 counts.4 in
     heard_line g.L.Listener.strict c.in-Err-hear_packet.stop bytes (g.S.Source.left c.next.new.self.source) (g.L.Listener.stands c.hear_packet.new.listener) (packets_in (packets_to_come c.loop-number.packets) t.2) (packets_in (packets_to_come c.next.new.self) given.0) t.0 packet c.in-Ok-Some.number
     (g.R.Sink.written c.args.report.now) (g.R.Sink.written c.loop-number.report) (g.R.Sink.written c.hear_packet.new.report) (parted_recording bytes t.1 t.2 t.0 (packets_to_come c.loop-number.packets) t.4) given.2 number t.7
     (subst (λ (p : List ℕ). ReportsLines (g.R.Sink.written c.loop-number.report) (g.R.Sink.written c.hear_packet.new.report) (packet_lines g.L.Listener.strict c.in-Ok-Some.number t.0 p) (Err c.in-Err-hear_packet.stop))
     c.packet.ensures (c.in-Err-hear_packet.ensures.reports t.0 t.5))
     (g.met.L.Listener.few c.loop-number.listener t.0 t.5)
     (subst (λ (p : List ℕ). IsTooManyAt c.in-Ok-Some.number (t.0 ++ p ∷ []) (Err c.in-Err-hear_packet.stop)) c.packet.ensures (c.in-Err-hear_packet.ensures.too_many t.0 t.5))
+    (were_taken g.S.Source.left c.next.new.self bytes (t.1 ++ packet) takes.0 (t.0 ++ packet ∷ []) (packets_to_come c.next.new.self) parted takes.1)
 
 pub returns-in-Ok-None-clause-heard : goal.returns-in-Ok-None-clause-heard
 returns-in-Ok-None-clause-heard g c = λ bytes tells.
