@@ -1,18 +1,19 @@
 -- What is kept of the keys that the airings of a legal journal carried can be written.
-use Rattle.std.proofs.Common.{◌≡◌, Bool, true, false, ℕ, ◌<◌, ◌≤◌, List, [], ◌∷◌, length, refl, sym, ap, subst, subst₂, arith}
-use Rattle.std.specs.Prelude.{if◌then◌else◌, Some}
+use Rattle.std.proofs.Common.{◌≡◌, Bool, true, false, ℕ, ◌+◌, ◌<◌, ◌≤◌, List, [], ◌∷◌, length, refl, sym, ap, subst, subst₂, arith}
+use Rattle.std.specs.Prelude.{if◌then◌else◌, Option, Some, option_map, unwrap_or}
 use Rattle.std.specs.List.{AllByRecursion}
 use Rattle.std.proofs.lemmas.Bool.Decides.{nat_tests}
 use Rattle.std.proofs.lemmas.List.Elements.{recursion_from_All}
 use Rattle.si_lists.proofs.Lists.{all_at, all_map, all_two, each_unit}
 use Rattle.guide_model.specs.declared.guide.Guide.{Guide}
 use Rattle.mux_model.specs.declared.mux.Mux.{Mux}
-use Rattle.mux_model.specs.Sound.{IsSoundWithIds, IsSoundService}
+use Rattle.mux_model.specs.Sound.{HasStreamIds, IsSoundWithIds, IsSoundService}
 use Rattle.section_codec.specs.declared.table.Key.{Key}
 use Rattle.section_codec.specs.declared.table.NumberedBody.{NumberedBody}
 use Rattle.section_codec.specs.declared.table.SubTable.{SubTable}
 use Rattle.section_codec.specs.Contents.{Content, Ascend, last_number}
-use Rattle.section_codec.specs.Keys.{is_listed}
+use Rattle.section_codec.specs.declared.table.Naming.{Naming}
+use Rattle.section_codec.specs.Keys.{is_listed, is_named}
 use Rattle.section_codec.specs.KeyOrder.{is_key}
 use Rattle.section_codec.proofs.NamingFacts.{pmt_listed, events_listed}
 use Rattle.section_codec.specs.Section.{longest_body}
@@ -25,8 +26,9 @@ use Rattle.version_book.specs.Book.{GivenVersion, given_entry, given_entries}
 use Rattle.version_book.specs.Laws.{WasCarried}
 use Rattle.version_book.proofs.KeptEntries.{kept_was_carried}
 use Rattle.air_hearing.specs.Counting.{IsReadable, CanBeHeard}
-use Rattle.publication.specs.Parts.{own_guide}
+use Rattle.publication.specs.Parts.{own_guide, remote_guide}
 use Rattle.publication.specs.Tables.{tables_of}
+use Rattle.publication.proofs.CountedFacts.{remotes_named}
 use Rattle.publication.proofs.FitFacts.{each_pmt, each_sub_table}
 use Rattle.journal_model.specs.declared.step.Entry.{Entry}
 use Rattle.desk_core.specs.Journal.{Legal}
@@ -46,12 +48,21 @@ record IsListedTable (t : SubTable) : Type 0 where
   stream : t.key.stream ≤ 65535
   network : t.key.network ≤ 65535
 
+id_small : (n : ℕ) → n < 65536 → n ≤ 65535
+id_small n less = omega (arith, less)
+
+-- the schedules of services of other streams
+remote_listed : (table ext stream network : ℕ) → 0x60 ≤ table → table < 0x70 → is_listed (record { pid = 0x0012; table = table; ext = ext; stream = stream; network = network }) ≡ true
+remote_listed table ext stream network above below =
+    ap (λ (naming : Option Naming). unwrap_or (option_map (λ n. is_named n (record { pid = 0x0012; table = table; ext = ext; stream = stream; network = network })) naming) false)
+    (remotes_named table above below)
+
 listed_tables : (mux : Mux) (guide : Guide) → IsSoundWithIds mux → AllByRecursion IsListedTable (tables_of mux guide)
 listed_tables mux guide sound =
     let none : 0 ≤ 65535 = omega arith in
     let stream : mux.stream ≤ 65535 = omega (arith, sound.stream) in
     let network : mux.original ≤ 65535 = omega (arith, sound.original) in
-    each_sub_table IsListedTable (λ s. Unit {0}) mux guide (each_unit (own_guide mux guide))
+    each_sub_table IsListedTable (λ s. Unit {0}) (λ o s. Unit {0}) HasStreamIds mux guide (each_unit (own_guide mux guide)) sound.others
     (record { listed = refl; stream = none; network = none })
     (each_pmt IsListedTable IsSoundService
     (λ s is. record { listed = pmt_listed s.pmt_pid s.service is.pmt_pid.0 is.pmt_pid.1; stream = none; network = none }) mux.services sound.sound.services)
@@ -59,6 +70,16 @@ listed_tables mux guide sound =
     (record { listed = refl; stream = none; network = network })
     (λ s q. record { listed = refl; stream = stream; network = network })
     (λ s table q above below. record { listed = events_listed table s.service mux.stream mux.original above below; stream = stream; network = network })
+    (record {
+      sdt = λ o ids. record { listed = refl; stream = none; network = id_small o.original ids.original };
+      parts = λ o ids. each_unit (remote_guide guide o);
+      present = λ o s ids q. record { listed = refl; stream = id_small o.stream ids.stream; network = id_small o.original ids.original };
+      schedule = λ o s table ids q above below. record {
+        listed = remote_listed (table + 0x10) s.service o.stream o.original (omega (arith, above)) (omega (arith, below));
+        stream = id_small o.stream ids.stream;
+        network = id_small o.original ids.original;
+      };
+    })
 
 -- ---- what is carried
 

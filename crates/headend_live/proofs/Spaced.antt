@@ -1,28 +1,26 @@
 -- What a run puts on air is spaced.
-use Rattle.std.proofs.Common.{◌≡◌, ◌+◌, ◌-◌, ◌⊎◌, inl, inr, [], ◌∷◌, ◌++◌, true, min, map, refl, arith}
+use Rattle.std.proofs.Common.{◌≡◌, ◌⊎◌, inl, inr, [], ◌∷◌, ◌++◌, true, refl, arith}
 use Rattle.std.specs.Prelude.{ℕ, List, Option, Ok, Err, Result}
-use Rattle.std.specs.List.{AllByRecursion, range_with_len}
-use Rattle.si_lists.proofs.Lists.{all_append, all_map, all_to_map, each_flat, each_unit}
+use Rattle.std.specs.List.{AllByRecursion}
+use Rattle.si_lists.proofs.Lists.{each_unit}
 use Rattle.guide_model.specs.declared.guide.Guide.{Guide}
 use Rattle.guide_model.specs.declared.guide.ServiceGuide.{ServiceGuide}
-use Rattle.guide_limits.specs.Events.{midnight}
 use Rattle.section_codec.specs.declared.table.SubTable.{SubTable}
 use Rattle.cycle_plan.specs.Sections.{is_fast}
 use Rattle.si_time.specs.declared.moment.Moment.{Moment}
+use Rattle.mux_model.specs.declared.mux.Other.{Other}
 use Rattle.mux_model.specs.declared.mux.Mux.{Mux}
 use Rattle.mux_model.specs.Sound.{IsSound}
 use Rattle.journal_model.specs.declared.step.Entry.{Entry}
 use Rattle.carousel_player.specs.Spaced.{SentSpaced}
 use Rattle.carousel_player.specs.Spacing.{RunsBeginAlone, CanBeSpaced}
 use Rattle.carousel_player.proofs.SentSpaced.{IsFitAs, AreFitAs, cycles_sent_spaced, whole_sent_spaced, cut_sent_spaced}
-use Rattle.eit_tables.specs.Schedule.{last_table_of, schedule_table, near_tables, far_tables}
-use Rattle.eit_tables.specs.Present.{present_table}
 use Rattle.eit_tables.proofs.EntryFacts.{typed_small}
-use Rattle.publication.specs.Parts.{own_guide}
-use Rattle.publication.specs.Programs.{pat_table, pmt_table, pmt_tables}
+use Rattle.publication.specs.Parts.{own_guide, remote_guide}
+use Rattle.publication.specs.Programs.{pat_table, pmt_tables}
 use Rattle.publication.specs.Network.{nit_table}
-use Rattle.publication.specs.Tables.{sdt_table, present_tables, all_near_tables, all_far_tables, tables_of}
-use Rattle.publication.proofs.FitFacts.{publication_fit}
+use Rattle.publication.specs.Tables.{sdt_table, present_tables, near_part, far_part, tables_of}
+use Rattle.publication.proofs.FitFacts.{any_pmt, each_sub_table, publication_fit}
 use Rattle.desk_core.specs.Journal.{Legal}
 use Rattle.desk_core.specs.Publications.{publication, swaps}
 use Rattle.desk_core.proofs.WithinFacts.{publications_within}
@@ -38,26 +36,26 @@ use Rattle.journal_air.proofs.Published.{published_typed}
 abbrev IsApart : SubTable → Type 0
 IsApart t = (is_fast t.tier ≡ true) ⊎ (t.key.pid ≡ 0 → Prim.⊥)
 
-each_apart : {X : Type 0} (f : X → SubTable) → ((x : X) → IsApart (f x)) → (xs : List X) → AllByRecursion IsApart (map f xs)
-each_apart f each xs = all_to_map IsApart f xs (all_map (λ (x : _). Unit {0}) (λ (x : _). IsApart (f x)) (λ x t. each x) xs (each_unit xs))
-
--- a publication has the PAT first, and all that is not Fast is on the PID of the EIT
+-- a publication has the PAT first, and all that is not Fast is on the PIDs of SDT and EIT
 pub runs_begin_alone : (mux : Mux) (guide : Guide) → RunsBeginAlone (tables_of mux guide)
 runs_begin_alone mux guide =
-    let moment = guide.moment.0 in
-    let day = midnight moment in
-    let schedule : (s : ServiceGuide) (table : ℕ) → IsApart (schedule_table mux day s table) = λ s table. inr (λ (e : 18 ≡ 0). omega arith) in
-    let near : AllByRecursion IsApart (all_near_tables mux guide) = each_flat IsApart (near_tables mux day) (λ s. each_apart (schedule_table mux day s) (schedule s) (range_with_len 0x50 (1 + min 0x51 (last_table_of day s.events) - 0x50))) (own_guide mux guide) in
-    let far : AllByRecursion IsApart (all_far_tables mux guide) = each_flat IsApart (far_tables mux day) (λ s. each_apart (schedule_table mux day s) (schedule s) (range_with_len 0x52 (1 + last_table_of day s.events - 0x52))) (own_guide mux guide) in
-    let eit = all_append IsApart (present_tables mux guide) (all_near_tables mux guide ++ all_far_tables mux guide) (each_apart (present_table mux moment) (λ s. inl refl) (own_guide mux guide))
-    (all_append IsApart (all_near_tables mux guide) (all_far_tables mux guide) near far) in
+    let apart : AllByRecursion IsApart (tables_of mux guide) =
+    each_sub_table IsApart (λ (s : ServiceGuide). Unit {0}) (λ (o : Other) (s : ServiceGuide). Unit {0}) (λ (o : Other). Unit {0}) mux guide (each_unit (own_guide mux guide)) (each_unit mux.others)
+    (inl refl) (any_pmt IsApart mux (λ s. inl refl)) (inl refl) (inl refl)
+    (λ s q. inl refl)
+    (λ s table q above below. inr (λ (e : 18 ≡ 0). omega arith))
+    (record {
+      sdt = λ o r. inr (λ (e : 17 ≡ 0). omega arith);
+      parts = λ o r. each_unit (remote_guide guide o);
+      present = λ o s r q. inr (λ (e : 18 ≡ 0). omega arith);
+      schedule = λ o s table r q above below. inr (λ (e : 18 ≡ 0). omega arith);
+    }) in
     record {
       first = pat_table mux;
-      others = pmt_tables mux ++ (nit_table mux ∷ sdt_table mux guide ∷ (present_tables mux guide ++ (all_near_tables mux guide ++ all_far_tables mux guide)));
+      others = pmt_tables mux ++ (nit_table mux ∷ sdt_table mux guide ∷ (present_tables mux guide ++ (near_part mux guide ++ far_part mux guide)));
       are = refl;
       leads = refl;
-      apart = all_append IsApart (pmt_tables mux) (nit_table mux ∷ sdt_table mux guide ∷ (present_tables mux guide ++ (all_near_tables mux guide ++ all_far_tables mux guide)))
-          (each_apart pmt_table (λ s. inl refl) mux.services) (inl refl, (inl refl, eit));
+      apart = apart.1;
     }
 
 -- the airings of a journal can be spaced, in cycles of the form of its multiplex

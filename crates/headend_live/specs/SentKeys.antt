@@ -8,8 +8,8 @@ use Rattle.heard_completions.specs.Dones.{counted_heard}
 use Rattle.air_coherence.specs.Coherence.{SentCoherent}
 
 -- What was sent, from before to now, is coherent, and of whichever of its packets are heard, from one place on and before another, the sections
--- that count have at most 1,155 keys: no receiver meets its limit.
+-- that count have at most 2,258 keys: no receiver meets its limit.
 pub record SentKeys (airings : List AiredTables) (before now : Option (List ℕ)) : Type 0 where
   pub sent : SentCoherent airings before now
   pub few : (join end : ℕ) → end ≤ length (whole_packets (take sent.size (air_bytes sent.cycles)))
-      → key_count (counted_heard (slice_range (whole_packets (take sent.size (air_bytes sent.cycles))) join end)) ≤ 1155
+      → key_count (counted_heard (slice_range (whole_packets (take sent.size (air_bytes sent.cycles))) join end)) ≤ 2258

@@ -14,20 +14,23 @@ use Rattle.si_time.specs.declared.moment.Moment.{Moment}
 use Rattle.guide_model.specs.declared.guide.Guide.{Guide}
 use Rattle.guide_model.specs.declared.guide.ServiceGuide.{ServiceGuide}
 use Rattle.mux_model.specs.declared.mux.MuxService.{MuxService}
+use Rattle.mux_model.specs.declared.mux.RemoteService.{RemoteService}
+use Rattle.mux_model.specs.declared.mux.Other.{Other}
 use Rattle.mux_model.specs.declared.mux.Mux.{Mux}
+use Rattle.mux_model.specs.Sound.{remote_services}
 use Rattle.section_codec.specs.declared.table.Key.{Key}
 use Rattle.section_codec.specs.declared.table.SubTable.{SubTable}
 use Rattle.section_codec.specs.KeyOrder.{is_key}
 use Rattle.section_codec.proofs.KeyOrderFacts.{is_key-itself}
-use Rattle.eit_tables.specs.Eit.{eit_key}
+use Rattle.eit_tables.specs.Eit.{bearer_key, eit_key}
 use Rattle.sub_collect.proofs.KeyCounts.{key_laws}
 use Rattle.version_book.specs.Airings.{AiredTables}
 use Rattle.air_hearing.specs.Sending.{carried_keys}
-use Rattle.publication.specs.Tables.{sdt_key, tables_of}
+use Rattle.publication.specs.Tables.{sdt_key, other_sdt_key, bearer_of, tables_of}
 use Rattle.publication.specs.Programs.{pat_key, pmt_key}
 use Rattle.publication.specs.Network.{nit_key}
 use Rattle.publication.proofs.FitFacts.{each_pmt, each_sub_table}
-use Rattle.publication.proofs.PartFacts.{by_ids}
+use Rattle.publication.proofs.PartFacts.{by_ids, by_remote_ids}
 use Rattle.journal_model.specs.declared.step.Entry.{Entry}
 use Rattle.desk_core.specs.Publications.{publication, swaps}
 use Rattle.journal_air.specs.Air.{airing_at, airings}
@@ -46,8 +49,21 @@ event_keys mux service = eit_key mux 0x4E service ∷ map (λ table. eit_key mux
 abbrev all_events : Mux → List Key
 all_events mux = flat_map (event_keys mux) (service_ids mux)
 
+-- those of a service of another stream, and all of that stream
+abbrev remote_keys : Other → ℕ → List Key
+remote_keys o service = bearer_key (bearer_of o) 0x4F service ∷ map (λ table. bearer_key (bearer_of o) table service) (range_with_len 0x60 16)
+
+abbrev remote_ids : Other → List ℕ
+remote_ids o = map (λ (s : RemoteService). s.service) o.services
+
+abbrev other_keys : Other → List Key
+other_keys o = other_sdt_key o ∷ flat_map (remote_keys o) (remote_ids o)
+
+abbrev all_others : Mux → List Key
+all_others mux = flat_map other_keys mux.others
+
 abbrev behind_pmts : Mux → List Key
-behind_pmts mux = nit_key mux ∷ sdt_key mux ∷ all_events mux
+behind_pmts mux = nit_key mux ∷ sdt_key mux ∷ (all_events mux ++ all_others mux)
 
 abbrev behind_pat : Mux → List Key
 behind_pat mux = map pmt_key mux.services ++ behind_pmts mux
@@ -62,13 +78,32 @@ event_size mux (n ∷ ns) =
     let parts = length-append (event_keys mux n) (flat_map (event_keys mux) ns) in
     omega (arith, rest, parts)
 
-mux_size : (mux : Mux) → length mux.services ≤ 64 → length (mux_keys mux) ≤ 1155
-mux_size mux few =
+remote_size : (o : Other) (ns : List ℕ) → length (flat_map (remote_keys o) ns) ≡ 17 * length ns
+remote_size o [] = refl
+remote_size o (n ∷ ns) =
+    let rest = remote_size o ns in
+    let parts = length-append (remote_keys o n) (flat_map (remote_keys o) ns) in
+    omega (arith, rest, parts)
+
+others_size : (os : List Other) → length (flat_map other_keys os) ≡ length os + 17 * length (remote_services os)
+others_size [] = refl
+others_size (o ∷ os) =
+    let rest = others_size os in
+    let here = remote_size o (remote_ids o) in
+    let ids = length-map o.services (λ (s : RemoteService). s.service) in
+    let keys = length-append (other_keys o) (flat_map other_keys os) in
+    let services = length-append o.services (remote_services os) in
+    omega (arith, rest, here, ids, keys, services)
+
+mux_size : (mux : Mux) → length mux.services ≤ 64 → length mux.others ≤ 15 → length (remote_services mux.others) ≤ 64 → length (mux_keys mux) ≤ 2258
+mux_size mux few few_others few_remotes =
     let events = event_size mux (service_ids mux) in
+    let others = others_size mux.others in
     let ids = length-map mux.services (λ (s : MuxService). s.service) in
     let pmts = length-map mux.services pmt_key in
-    let parts = length-append (map pmt_key mux.services) (nit_key mux ∷ sdt_key mux ∷ flat_map (event_keys mux) (service_ids mux)) in
-    omega (arith, few, events, ids, pmts, parts)
+    let parts = length-append (map pmt_key mux.services) (behind_pmts mux) in
+    let later = length-append (all_events mux) (all_others mux) in
+    omega (arith, few, few_others, few_remotes, events, others, ids, pmts, parts, later)
 
 -- ---- keys among others
 
@@ -128,25 +163,72 @@ IsOfMux mux t = is_member is_key (mux_keys mux) t.key ≡ true
 of_others : (mux : Mux) (k : Key) → is_member is_key (behind_pmts mux) k ≡ true → is_member is_key (mux_keys mux) k ≡ true
 of_others mux k e = behind_one (pat_key mux) (behind_pat mux) k (in_second (map pmt_key mux.services) (behind_pmts mux) k e)
 
+of_stream : (mux : Mux) (k : Key) → is_member is_key (all_others mux) k ≡ true → is_member is_key (mux_keys mux) k ≡ true
+of_stream mux k e =
+    of_others mux k
+    (behind_one (nit_key mux) (sdt_key mux ∷ (all_events mux ++ all_others mux)) k
+    (behind_one (sdt_key mux) (all_events mux ++ all_others mux) k (in_second (all_events mux) (all_others mux) k e)))
+
 of_events : (mux : Mux) (k : Key) (n : ℕ) → list_any (λ m. n == m) (service_ids mux) ≡ true → is_member is_key (event_keys mux n) k ≡ true → is_member is_key (mux_keys mux) k ≡ true
 of_events mux k n is e =
     of_others mux k
-    (behind_one (nit_key mux) (sdt_key mux ∷ all_events mux) k (behind_one (sdt_key mux) (all_events mux) k (in_flat (event_keys mux) k n (service_ids mux) is e)))
+    (behind_one (nit_key mux) (sdt_key mux ∷ (all_events mux ++ all_others mux)) k
+    (behind_one (sdt_key mux) (all_events mux ++ all_others mux) k (in_first (all_events mux) (all_others mux) k (in_flat (event_keys mux) k n (service_ids mux) is e))))
+
+-- ---- other streams
+
+-- the keys of this stream are among these
+abbrev AreAmong : List Key → Other → Type 0
+AreAmong ks o = (k : Key) → is_member is_key (other_keys o) k ≡ true → is_member is_key ks k ≡ true
+
+others_among : (os : List Other) → AllByRecursion (AreAmong (flat_map other_keys os)) os
+others_among [] = tt
+others_among (o ∷ os) = (
+  (λ k e. in_first (other_keys o) (flat_map other_keys os) k e),
+  all_map (AreAmong (flat_map other_keys os)) (AreAmong (flat_map other_keys (o ∷ os))) (λ p among k e. in_second (other_keys o) (flat_map other_keys os) k (among k e)) os (others_among os),
+)
+
+-- each of their services has one of their ids
+remotes_own : (ss : List RemoteService) → AllByRecursion (λ (s : RemoteService). list_any (λ m. s.service == m) (map (λ (t : RemoteService). t.service) ss) ≡ true) ss
+remotes_own [] = tt
+remotes_own (s ∷ ss) = (
+  ap (λ b. b || list_any (λ m. s.service == m) (map (λ (t : RemoteService). t.service) ss)) (eq-eqb s.service s.service refl),
+  all_map (λ (t : RemoteService). list_any (λ m. t.service == m) (map (λ (u : RemoteService). u.service) ss) ≡ true)
+      (λ (t : RemoteService). list_any (λ m. t.service == m) (map (λ (u : RemoteService). u.service) (s ∷ ss)) ≡ true)
+      (λ t e. ap (λ b. (t.service == s.service) || b) e ∙ or-true (t.service == s.service)) ss (remotes_own ss),
+)
+
+of_remotes : (mux : Mux) (o : Other) (k : Key) (n : ℕ) → AreAmong (all_others mux) o → list_any (λ m. n == m) (remote_ids o) ≡ true → is_member is_key (remote_keys o n) k ≡ true → is_member is_key (mux_keys mux) k ≡ true
+of_remotes mux o k n among is e = of_stream mux k (among k (behind_one (other_sdt_key o) (flat_map (remote_keys o) (remote_ids o)) k (in_flat (remote_keys o) k n (remote_ids o) is e)))
 
 pub published_keys : (mux : Mux) (guide : Guide) → AllByRecursion (IsOfMux mux) (tables_of mux guide)
 published_keys mux guide =
     let pmts = map pmt_key mux.services in
-    each_sub_table (IsOfMux mux) (λ (g : ServiceGuide). list_any (λ m. g.service == m) (service_ids mux) ≡ true) mux guide
+    each_sub_table (IsOfMux mux) (λ (g : ServiceGuide). list_any (λ m. g.service == m) (service_ids mux) ≡ true)
+    (λ (o : Other) (g : ServiceGuide). list_any (λ m. g.service == m) (remote_ids o) ≡ true) (AreAmong (all_others mux)) mux guide
     (by_ids (λ (n : ℕ). list_any (λ m. n == m) (service_ids mux) ≡ true) (λ (s : MuxService). list_any (λ m. s.service == m) (service_ids mux) ≡ true) (λ s e. e) mux guide (own_ids mux.services))
+    (others_among mux.others)
     (at_front (pat_key mux) (behind_pat mux))
     (each_pmt (IsOfMux mux) (λ (s : MuxService). is_member is_key pmts (pmt_key s) ≡ true)
     (λ s e. behind_one (pat_key mux) (behind_pat mux) (pmt_key s) (in_first pmts (behind_pmts mux) (pmt_key s) e)) mux.services (own_keys mux.services))
-    (of_others mux (nit_key mux) (at_front (nit_key mux) (sdt_key mux ∷ all_events mux)))
-    (of_others mux (sdt_key mux) (behind_one (nit_key mux) (sdt_key mux ∷ all_events mux) (sdt_key mux) (at_front (sdt_key mux) (all_events mux))))
+    (of_others mux (nit_key mux) (at_front (nit_key mux) (sdt_key mux ∷ (all_events mux ++ all_others mux))))
+    (of_others mux (sdt_key mux) (behind_one (nit_key mux) (sdt_key mux ∷ (all_events mux ++ all_others mux)) (sdt_key mux) (at_front (sdt_key mux) (all_events mux ++ all_others mux))))
     (λ g e. of_events mux (eit_key mux 0x4E g.service) g.service e (at_front (eit_key mux 0x4E g.service) (map (λ table. eit_key mux table g.service) (range_with_len 0x50 16))))
     (λ g table e above below. of_events mux (eit_key mux table g.service) g.service e
     (behind_one (eit_key mux 0x4E g.service) (map (λ t. eit_key mux t g.service) (range_with_len 0x50 16)) (eit_key mux table g.service)
     (in_range (λ t. eit_key mux t g.service) 0x50 16 table above (omega (arith, below)))))
+    (record {
+      sdt = λ o among. of_stream mux (other_sdt_key o) (among (other_sdt_key o) (at_front (other_sdt_key o) (flat_map (remote_keys o) (remote_ids o))));
+      parts = λ o among.
+          by_remote_ids (λ (n : ℕ). list_any (λ m. n == m) (remote_ids o) ≡ true) (λ (s : RemoteService). list_any (λ m. s.service == m) (remote_ids o) ≡ true) (λ s e. e) guide o (remotes_own o.services);
+      present = λ o g among e.
+          of_remotes mux o (bearer_key (bearer_of o) 0x4F g.service) g.service among e
+          (at_front (bearer_key (bearer_of o) 0x4F g.service) (map (λ table. bearer_key (bearer_of o) table g.service) (range_with_len 0x60 16)));
+      schedule = λ o g table among e above below.
+          of_remotes mux o (bearer_key (bearer_of o) (table + 0x10) g.service) g.service among e
+          (behind_one (bearer_key (bearer_of o) 0x4F g.service) (map (λ t. bearer_key (bearer_of o) t g.service) (range_with_len 0x60 16)) (bearer_key (bearer_of o) (table + 0x10) g.service)
+          (in_range (λ t. bearer_key (bearer_of o) t g.service) 0x60 16 (table + 0x10) (omega (arith, above)) (omega (arith, below))));
+    })
 
 -- ---- all airings
 
@@ -162,5 +244,5 @@ airings_few mux journal sound =
     (λ a e. all_to_map (λ (k : Key). is_member is_key (mux_keys mux) k ≡ true) (λ (t : SubTable). t.key) a.tables e) (airings mux journal) each in
     let within = distinct_count-within key_laws (carried_keys (airings mux journal)) (mux_keys mux) (is_member-within key_laws (mux_keys mux) (carried_keys (airings mux journal)) among) in
     let most = distinct_count-le is_key (mux_keys mux) in
-    let size = mux_size mux sound.count.1 in
+    let size = mux_size mux sound.count.1 sound.others.few sound.others.few_services in
     omega (arith, within, most, size)

@@ -31,7 +31,8 @@ AiringsAreCounted =
     (mux : Mux) (journal : List Entry) → IsSound mux
     → AllByRecursion (λ (a : AiredTables). AllByRecursion (λ (t : SubTable). is_counted t.key.pid t.key.table ≡ true) a.tables) (airings mux journal)
 
--- All airings of a journal together carry at most 1,155 keys: PAT, NIT and SDT, and of each of at most 64 services its PMT, present and following,
--- and sixteen tables of its schedule.
+-- All airings of a journal together carry at most 2,258 keys: PAT, NIT and SDT, and of each of at most 64 services its PMT, present and following,
+-- and sixteen tables of its schedule; of at most 15 other streams their SDTs, and of each of at most 64 services of these present and following,
+-- and sixteen tables.
 abbrev pub AiringsHaveFewKeys : Type 0
-AiringsHaveFewKeys = (mux : Mux) (journal : List Entry) → IsSound mux → distinct_count is_key (carried_keys (airings mux journal)) ≤ 1155
+AiringsHaveFewKeys = (mux : Mux) (journal : List Entry) → IsSound mux → distinct_count is_key (carried_keys (airings mux journal)) ≤ 2258

@@ -7,7 +7,7 @@ pub fn airings_can_be_heard()
     ensures counted { AiringsAreCounted }
 {}
 
-/// All airings of a journal together carry at most 1,155 keys.
+/// All airings of a journal together carry at most 2,258 keys.
 pub fn airings_have_few_keys()
     ensures { AiringsHaveFewKeys }
 {}

@@ -14,7 +14,7 @@ use Rattle.mux_model.specs.declared.mux.RemoteService.{RemoteService}
 use Rattle.mux_model.specs.declared.mux.Other.{Other}
 use Rattle.mux_model.specs.declared.mux.Mux.{Mux}
 use Rattle.mux_model.specs.Order.{DoCome, all_placed, placed}
-use Rattle.mux_model.specs.Sound.{AreDifferent, AreSoundOthers, HasSoundCable, IsSoundOther, IsSoundRemote, comes_before, has_lower_id, has_stream_ids, remote_services, service_ids}
+use Rattle.mux_model.specs.Sound.{AreDifferent, AreSoundOthers, HasSoundCable, HasStreamIds, IsSoundOther, IsSoundRemote, comes_before, has_lower_id, has_stream_ids, remote_services, service_ids}
 use Rattle.mux_model.proofs.Placing.{all_in_place, all_with, come_with, length_placed, placed_more}
 use Rattle.mux_config.specs.declared.record.Record.{Record}
 use Rattle.mux_config.specs.declared.record.Record.TheVariants.{Stream, Service, Elsewhere, Remote}
@@ -207,6 +207,19 @@ fine_remotes rs a b each = all_in_place IsFineRemote has_lower_id (all_of (remot
 fine_cables : (rs : List Numbered) → AllByRecursion (λ (r : Numbered). IsFine r.says) rs → AllByRecursion (λ (o : Other). HasSoundCable o.cable) (others_in rs)
 fine_cables rs each =
     all_in_place (λ (o : Other). HasSoundCable o.cable) comes_before (all_of other_in rs) [] (said_all other_in (λ (o : Other). HasSoundCable o.cable) IsFine cable_said rs each) tt
+
+ids_said : (r : Record) (o : Other) → IsFine r → other_in r ≡ Some o → HasStreamIds o
+ids_said (Elsewhere stream original cable) o h e =
+    let new : Other = record { stream = stream; original = original; cable = cable; services = [] } in
+    let same : new ≡ o = cc e in
+    subst HasStreamIds same (record { stream = h.0.0; original = h.0.1 })
+ids_said other o h e = cc e
+
+-- the ids of the other streams have 16 bits
+pub fine_ids : (rs : List Numbered) → AllByRecursion (λ (r : Numbered). IsFine r.says) rs → AllByRecursion HasStreamIds (others_of rs)
+fine_ids rs each =
+    all_through HasStreamIds HasStreamIds (with_remotes rs) (λ o h. record { stream = h.stream; original = h.original }) (others_in rs)
+    (all_in_place HasStreamIds comes_before (all_of other_in rs) [] (said_all other_in HasStreamIds IsFine ids_said rs each) tt)
 
 sound_each : (rs : List Numbered) → AllByRecursion (λ (r : Numbered). IsFine r.says) rs → AreFineOthers rs → AllByRecursion IsSoundOther (others_of rs)
 sound_each rs each f =

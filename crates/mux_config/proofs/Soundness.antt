@@ -22,7 +22,7 @@ use Rattle.mux_config.proofs.FineRecords.{AreFine, AreFineOthers, IsAlone, IsApa
 use Rattle.mux_model.specs.Sound.{AreDifferent, Between, DoAscend, HasSoundCable, IsSoundCable, IsSoundComponent, IsSoundOffset, IsSoundService, AreOfRegions, is_region, all_component_pids, component_pids, pmt_pids, IsSoundWithIds, remote_services}
 use Rattle.mux_config.proofs.RecordFacts.{all_kept, all_more, differs, first_not, none_pass, or_false_left, or_false_right, or_none_left, or_none_right, said_all}
 use Rattle.mux_config.proofs.Ordering.{sorted_more}
-use Rattle.mux_config.proofs.FineOthers.{first_alone, kept_names, others_kept, others_more, others_none, remotes_more, sound_others, stream_alone}
+use Rattle.mux_config.proofs.FineOthers.{fine_ids, first_alone, kept_names, others_kept, others_more, others_none, remotes_more, sound_others, stream_alone}
 
 -- ---- lists
 
@@ -411,6 +411,7 @@ fine_mux rs network stream f named ids alone some =
         network = named.0;
         stream = ids.0;
         original = ids.1;
+        others = fine_ids rs f.each;
       };
       network_name = named.1.1;
       services = all_to_map (λ (s : MuxService). IsKept s.provider × IsKept s.name) (with_parts rs) ts (all_map IsFineService (λ (s : MuxService). IsKept s.provider × IsKept s.name) (λ s h. h.1) ts served);

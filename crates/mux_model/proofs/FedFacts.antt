@@ -6,7 +6,7 @@ use Rattle.std.proofs.lemmas.Bool.{cases_Bool, eqb-true}
 use Rattle.std.proofs.lemmas.Bool.Decides.{nat_tests}
 use Rattle.std.proofs.lemmas.Grind.{flat_map-append}
 use Rattle.std.proofs.lemmas.List.{append-nil, take-append-drop, take_all, take_more}
-use Rattle.si_lists.proofs.Lists.{all_behind, all_flat, all_map, all_of_map, all_through, all_to_map, all_two, each_unit}
+use Rattle.si_lists.proofs.Lists.{all_behind, all_front, all_flat, all_map, all_of_map, all_through, all_to_map, all_two, each_unit}
 use Rattle.si_text.specs.Decoding.{IsKept}
 use Rattle.mux_model.specs.declared.mux.MuxService.{MuxService}
 use Rattle.mux_model.specs.declared.mux.RemoteService.{RemoteService}
@@ -88,9 +88,10 @@ all_ascend (s ∷ new) done d once apart =
     (all_two (λ (t : FedService). s.service ≢ t.service) (IsNew done) (IsNew (placed has_lower_fed_id s done)) (λ t differ h. all_with (λ (u : FedService). t.service ≢ u.service) has_lower_fed_id s done (λ e. differ (sym e)) h)
     new (all_of_map (λ m. s.service ≢ m) (λ (t : FedService). t.service) new once.0) apart.1)
 
-behind_different : (xs ys : List ℕ) → AreDifferent (xs ++ ys) → AreDifferent ys
-behind_different [] ys h = h
-behind_different (x ∷ xs) ys h = behind_different xs ys h.1
+-- numbers that differ in one list do so in its parts
+pub different_parts : (xs ys : List ℕ) → AreDifferent (xs ++ ys) → AreDifferent xs × AreDifferent ys
+different_parts [] ys h = (tt, h)
+different_parts (x ∷ xs) ys h = (let rest = different_parts xs ys h.1 in ((all_front (λ m. x ≢ m) xs ys h.0, rest.0), rest.1))
 
 across_different : (xs ys : List ℕ) → AreDifferent (xs ++ ys) → AllByRecursion (λ y. AllByRecursion (λ x. y ≢ x) xs) ys
 across_different [] ys h = each_unit ys
@@ -111,7 +112,7 @@ fed_ascend mux sound =
     let apart = all_of_map (λ n. AllByRecursion (λ x. n ≢ x) own) (λ (s : RemoteService). s.service) remote (across_different own ids sound.others.once) in
     of_tests (fed_services mux)
     (all_ascend (map fed_of_remote remote) (map fed_of mux.services) (to_tests (map fed_of mux.services) (own_ascend mux.services sound.ascend))
-    (subst AreDifferent (sym (remote_ids remote)) (behind_different own ids sound.others.once))
+    (subst AreDifferent (sym (remote_ids remote)) (different_parts own ids sound.others.once).1)
     (all_through (λ (s : RemoteService). AllByRecursion (λ x. s.service ≢ x) own) (IsNew (map fed_of mux.services)) fed_of_remote
     (λ s h. all_to_map (λ (t : FedService). s.service ≢ t.service) fed_of mux.services (all_of_map (λ x. s.service ≢ x) (λ (t : MuxService). t.service) mux.services h)) remote apart))
 

@@ -148,9 +148,15 @@ pub record IsSound (mux : Mux) : Type 0 where
       AllByRecursion (λ pmt. AllByRecursion (λ pid. pmt ≢ pid) (all_component_pids mux.services)) (pmt_pids mux.services)
   pub others : AreSoundOthers mux
 
+-- the ids of another stream are of 16 bits
+pub record HasStreamIds (o : Other) : Type 0 where
+  pub stream : o.stream < 65536
+  pub original : o.original < 65536
+
 -- a sound multiplex, of which the ids are of 16 bits
 pub record IsSoundWithIds (mux : Mux) : Type 0 where
   pub sound : IsSound mux
   pub network : mux.network < 65536
   pub stream : mux.stream < 65536
   pub original : mux.original < 65536
+  pub others : AllByRecursion HasStreamIds mux.others

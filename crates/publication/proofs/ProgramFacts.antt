@@ -1,15 +1,17 @@
 -- The tables of programs and of the network have fields that fit and bodies of at most 1,012 bytes.
-use Rattle.std.proofs.Common.{◌≡◌, ℕ, ◌*◌, ◌≤◌, List, [], ◌∷◌, length, map, Option, Some, None, IfSome, refl, arith, sum_by, length-append}
+use Rattle.std.proofs.Common.{◌≡◌, ℕ, ◌+◌, ◌*◌, ◌≤◌, List, [], ◌∷◌, length, map, Option, Some, None, IfSome, refl, arith, sum_by, length-append}
 use Rattle.std.specs.List.{All, AllByRecursion, flat_map}
 use Rattle.std.proofs.lemmas.List.{length-map}
+use Rattle.std.proofs.lemmas.List.Sums.{sum_by-cons}
 use Rattle.std.proofs.lemmas.List.Elements.{All-from_recursion}
-use Rattle.si_lists.proofs.Lists.{all_map}
+use Rattle.si_lists.proofs.Lists.{all_map, all_to_map, all_two}
 use Rattle.si_text.specs.Decoding.{shown_bytes}
 use Rattle.guide_model.specs.declared.stream.Cable.{Cable}
 use Rattle.guide_model.specs.declared.stream.Component.{Component}
 use Rattle.mux_model.specs.declared.mux.MuxService.{MuxService}
+use Rattle.mux_model.specs.declared.mux.Other.{Other}
 use Rattle.mux_model.specs.declared.mux.Mux.{Mux}
-use Rattle.mux_model.specs.Sound.{IsSound, IsSoundService, IsSoundComponent, HasSoundCable, HasSoundLanguage}
+use Rattle.mux_model.specs.Sound.{IsSound, IsSoundOther, remote_services, IsSoundService, IsSoundComponent, HasSoundCable, HasSoundLanguage}
 use Rattle.desc_event.proofs.Pieces.{length-coded_text}
 use Rattle.desc_service.specs.CableDelivery.{FitsCable}
 use Rattle.desc_service.proofs.Entries.{length-languages_body}
@@ -20,7 +22,7 @@ use Rattle.nit_sdt.proofs.Networks.{cable_small, nit-has_its_size}
 use Rattle.nit_sdt.specs.Nit.{FitsStream, nit_body, stream_size}
 use Rattle.nit_sdt.specs.Bodies.{CanBeWritten}
 use Rattle.publication.specs.Programs.{program_entry, pat_of, pmt_of}
-use Rattle.publication.specs.Network.{kind_of, nit_of}
+use Rattle.publication.specs.Network.{kind_of, remote_kind, stream_of, other_stream, nit_of}
 
 -- ---- PAT
 
@@ -86,14 +88,40 @@ cable_fits (Some c) sound = record {
 pub name_fits : (mux : Mux) → IsSound mux → length (shown_bytes (nit_of mux).name) ≤ 255
 name_fits mux sound = omega (arith, length-coded_text mux.network_name, sound.network_name.1)
 
+-- none of the other streams has more than 64 services
+pub services_few : (others : List Other) → length (remote_services others) ≤ 64 → AllByRecursion (λ (o : Other). length o.services ≤ 64) others
+services_few [] few = tt
+services_few (o ∷ os) few =
+    let parts = length-append o.services (remote_services os) in
+    (omega (arith, parts, few), services_few os (omega (arith, parts, few)))
+
+others_fit : (others : List Other) → AllByRecursion IsSoundOther others → AllByRecursion (λ (o : Other). length o.services ≤ 64) others → AllByRecursion FitsStream (map other_stream others)
+others_fit others sound few =
+    all_to_map FitsStream other_stream others
+    (all_two IsSoundOther (λ (o : Other). length o.services ≤ 64) (λ (o : Other). FitsStream (other_stream o))
+    (λ o is small. record { cable = cable_fits o.cable is.cable; services = omega (arith, length-map o.services remote_kind, small) }) others sound few)
+
 pub streams_fit : (mux : Mux) → IsSound mux → All FitsStream (nit_of mux).streams
 streams_fit mux sound = All-from_recursion FitsStream (nit_of mux).streams (
   record { cable = cable_fits mux.cable sound.cable; services = omega (arith, length-map mux.services kind_of, sound.count.1) },
-  tt,
+  others_fit mux.others sound.others.each (services_few mux.others sound.others.few_services),
 )
 
-pub streams_short : (mux : Mux) → IsSound mux → sum_by stream_size (nit_of mux).streams ≤ 213
-streams_short mux sound = omega (arith, cable_small mux.cable, length-map mux.services kind_of, sound.count.1)
+others_short : (others : List Other) → sum_by stream_size (map other_stream others) ≤ 21 * length others + 3 * length (remote_services others)
+others_short [] = omega arith
+others_short (o ∷ os) =
+    let here : sum_by stream_size (map other_stream (o ∷ os)) ≡ stream_size (other_stream o) + sum_by stream_size (map other_stream os) = sum_by-cons stream_size (other_stream o) (map other_stream os) in
+    let services : length (remote_services (o ∷ os)) ≡ length o.services + length (remote_services os) = length-append o.services (remote_services os) in
+    let kinds : length (map remote_kind o.services) ≡ length o.services = length-map o.services remote_kind in
+    let rest : sum_by stream_size (map other_stream os) ≤ 21 * length os + 3 * length (remote_services os) = others_short os in
+    let one : stream_size (other_stream o) ≤ 21 + 3 * length o.services = omega (arith, cable_small o.cable, kinds) in
+    omega (arith, here, services, rest, one)
+
+-- at most 213 bytes of this stream, 21 of each other one, and 3 of each of their services
+pub streams_short : (mux : Mux) → IsSound mux → sum_by stream_size (nit_of mux).streams ≤ 720
+streams_short mux sound =
+    let all : sum_by stream_size (nit_of mux).streams ≡ stream_size (stream_of mux) + sum_by stream_size (map other_stream mux.others) = sum_by-cons stream_size (stream_of mux) (map other_stream mux.others) in
+    omega (arith, all, cable_small mux.cable, length-map mux.services kind_of, sound.count.1, others_short mux.others, sound.others.few, sound.others.few_services)
 
 pub nit_fits : (mux : Mux) → IsSound mux → CanBeWritten (nit_of mux)
 nit_fits mux sound = record { name = name_fits mux sound; streams = streams_fit mux sound; within = omega (arith, streams_short mux sound) }

@@ -1,16 +1,19 @@
 -- Receivers take the sub-tables of a publication as they are meant.
-use Rattle.std.proofs.Common.{◌≡◌, ℕ, ◌<◌, ◌≤◌, Bool, true, false, List, [], ◌∷◌, length, Option, Some, None, refl, sym, ap, ap₂, ◌∙◌, arith, le-leb}
+use Rattle.std.proofs.Common.{◌≡◌, ℕ, ◌+◌, ◌<◌, ◌≤◌, Bool, true, false, List, [], ◌∷◌, length, Option, Some, None, refl, sym, ap, ap₂, ◌∙◌, arith, le-leb}
 use Rattle.std.specs.Prelude.{if◌then◌else◌, option_and_then}
 use Rattle.std.specs.List.{AllByRecursion}
 use Rattle.std.proofs.lemmas.Bool.{false≢true}
 use Rattle.std.proofs.lemmas.Bool.Decides.{nat_tests}
+use Rattle.std.proofs.lemmas.List.{length-map}
 use Rattle.si_lists.proofs.Lists.{all_map, all_two}
 use Rattle.si_base.specs.Fields.{two_at}
 use Rattle.guide_model.specs.declared.guide.Guide.{Guide}
 use Rattle.guide_model.specs.declared.guide.ServiceGuide.{ServiceGuide}
 use Rattle.mux_model.specs.declared.mux.MuxService.{MuxService}
+use Rattle.mux_model.specs.declared.mux.RemoteService.{RemoteService}
+use Rattle.mux_model.specs.declared.mux.Other.{Other}
 use Rattle.mux_model.specs.declared.mux.Mux.{Mux}
-use Rattle.mux_model.specs.Sound.{IsSound, IsSoundService}
+use Rattle.mux_model.specs.Sound.{IsSound, IsSoundService, IsSoundRemote, IsSoundOther, HasStreamIds}
 use Rattle.guide_limits.specs.Events.{midnight}
 use Rattle.guide_limits.specs.Limits.{IsServiceWithin}
 use Rattle.section_codec.specs.declared.section.LongHeader.{LongHeader}
@@ -18,11 +21,12 @@ use Rattle.section_codec.specs.declared.table.Key.{Key}
 use Rattle.section_codec.specs.declared.table.NumberedBody.{NumberedBody}
 use Rattle.section_codec.specs.declared.table.SubTable.{SubTable}
 use Rattle.section_codec.specs.declared.table.Tier3.{Tier3}
+use Rattle.section_codec.specs.declared.table.Tier3.TheVariants.{Fast, Near}
 use Rattle.section_codec.specs.Tables.{is_eit, is_pat, is_pmt, is_nit, is_sdt, is_events, naming_of}
 use Rattle.section_codec.specs.Contents.{last_number}
 use Rattle.section_codec.specs.Keys.{named_by, key_in}
 use Rattle.section_codec.specs.declared.table.Naming.{Naming}
-use Rattle.section_codec.specs.declared.table.Naming.TheVariants.{Stream}
+use Rattle.section_codec.specs.declared.table.Naming.TheVariants.{Network, Stream}
 use Rattle.section_codec.proofs.NamingFacts.{pmts_named}
 use Rattle.section_codec.specs.Segments.{segment_last_in}
 use Rattle.section_codec.proofs.ContentFacts.{last_number-from}
@@ -31,9 +35,9 @@ use Rattle.sub_collect.proofs.Segmented.{by_segments}
 use Rattle.eit_codec.specs.declared.eit.Eit.{Eit}
 use Rattle.eit_codec.specs.Eit.{IsTyped, IsEit}
 use Rattle.eit_codec.proofs.ReadBodies.{read_bodies}
-use Rattle.eit_tables.specs.Eit.{own, eit_key}
-use Rattle.eit_tables.specs.Present.{present_table}
-use Rattle.eit_tables.specs.Schedule.{schedule_table}
+use Rattle.eit_tables.specs.Eit.{Bearer, own, bearer_key}
+use Rattle.eit_tables.specs.Present.{present_of}
+use Rattle.eit_tables.specs.Schedule.{schedule_of}
 use Rattle.eit_tables.specs.Laws.{AreSmallEntries, AreEit, Names}
 use Rattle.eit_tables.proofs.EntryFacts.{typed_small}
 use Rattle.eit_tables.proofs.EitFacts.{present_fit, schedule_fit, events_name, events_read}
@@ -46,14 +50,14 @@ use Rattle.nit_sdt.specs.Bodies.{is_nit_body, is_sdt_body}
 use Rattle.nit_sdt.proofs.Bodies.{written_nits}
 use Rattle.publication.specs.Sections.{single_table}
 use Rattle.publication.specs.Programs.{pat_of, pat_key, pat_table, pmt_of, pmt_key, pmt_table}
-use Rattle.publication.specs.Network.{nit_of, nit_key, nit_table}
-use Rattle.publication.specs.Parts.{own_guide}
+use Rattle.publication.specs.Network.{kind_of, remote_kind, own_kinds, remote_kinds, nit_of, nit_key, nit_table}
+use Rattle.publication.specs.Parts.{own_guide, remote_guide}
 use Rattle.publication.specs.Sdt.{sdt_sections}
-use Rattle.publication.specs.Tables.{sdt_key, sdt_table}
-use Rattle.publication.specs.Laws.{IsReadEit, IsSdtBody, AreSdt, TellsKey, TellsItself, PublicationsTellThemselves}
-use Rattle.publication.proofs.PartFacts.{of_own, by_ids}
+use Rattle.publication.specs.Tables.{bearer_of}
+use Rattle.publication.specs.Laws.{HasPartsOf, IsReadEit, IsSdtBody, AreSdt, TellsKey, TellsItself, PublicationsTellThemselves}
+use Rattle.publication.proofs.PartFacts.{of_own, of_remote, others_have, by_ids, by_remote_ids}
 use Rattle.publication.proofs.SdtFacts.{sdt_fit}
-use Rattle.publication.proofs.ProgramFacts.{pmt_fits, nit_fits}
+use Rattle.publication.proofs.ProgramFacts.{services_few, pmt_fits, nit_fits}
 use Rattle.publication.proofs.FitFacts.{each_pmt, each_sub_table}
 
 -- ---- keys
@@ -125,55 +129,60 @@ nit_tells mux sound network =
 
 -- ---- the SDT
 
-sdt_keyed : (mux : Mux) (s : NumberedBody) → IsSdtBody mux.original s → TellsKey (sdt_key mux) s
-sdt_keyed mux s is header table ext =
-    key_by_fields 0x0011 header 0x42 mux.stream s.body table ext
-    ∙ ap (λ (b : Bool). if b then Some (key_of_fields 0x0011 0x42 mux.stream 0 (two_at 0 s.body)) else None) (le-leb 2 (length s.body) is.least)
-    ∙ ap (λ (n : ℕ). Some (key_of_fields 0x0011 0x42 mux.stream 0 n)) is.network
+-- the key of an SDT, by its table_id and the ids of its stream
+abbrev sdt_named : ℕ → ℕ → ℕ → Key
+sdt_named table stream original = key_of_fields 0x0011 table stream 0 original
 
-sdt_tells : (mux : Mux) (guide : Guide) → mux.stream < 65536 → AreSdt mux.original (sdt_sections mux guide) → TellsItself (sdt_table mux guide)
-sdt_tells mux guide stream are =
-    let ss = sdt_sections mux guide in
+sdt_keyed : (table stream original : ℕ) → naming_of 0x0011 table ≡ Some Network → (s : NumberedBody) → IsSdtBody original s → TellsKey (sdt_named table stream original) s
+sdt_keyed table stream original named s is header is_table is_ext =
+    key_by_fields 0x0011 header table stream s.body is_table is_ext
+    ∙ ap (key_named 0x0011 table stream s.body) named
+    ∙ ap (λ (b : Bool). if b then Some (sdt_named table stream (two_at 0 s.body)) else None) (le-leb 2 (length s.body) is.least)
+    ∙ ap (λ (n : ℕ). Some (sdt_named table stream n)) is.network
+
+sdt_tells : (table stream original : ℕ) (tier : Tier3) (sections : List NumberedBody) → naming_of 0x0011 table ≡ Some Network → table < 0x4E → is_eit table ≡ false → stream < 65536 → AreSdt original sections
+    → TellsItself (record { key = sdt_named table stream original; tier = tier; sections = sections })
+sdt_tells table stream original tier ss named few other id are =
     record {
-      table = omega arith;
-      ext = stream;
+      table = omega (arith, few);
+      ext = id;
       last = omega (arith, last_number-from 0 ss are.numbers are.some, are.few);
-      numbered = from_zero (sdt_key mux) ss refl are.some are.numbers;
-      keyed = all_map (IsSdtBody mux.original) (TellsKey (sdt_key mux)) (sdt_keyed mux) ss are.bodies;
-      read = never refl;
+      numbered = from_zero (sdt_named table stream original) ss other are.some are.numbers;
+      keyed = all_map (IsSdtBody original) (TellsKey (sdt_named table stream original)) (sdt_keyed table stream original named) ss are.bodies;
+      read = never other;
       pat = never refl;
       pmt = never refl;
       nit = never refl;
-      sdt = λ e. all_map (IsSdtBody mux.original) (λ (s : NumberedBody). is_sdt_body s.body ≡ true) (λ s is. is.body) ss are.bodies;
+      sdt = λ e. all_map (IsSdtBody original) (λ (s : NumberedBody). is_sdt_body s.body ≡ true) (λ s is. is.body) ss are.bodies;
     }
 
 -- ---- event information
 
-abbrev eit_table : Mux → ℕ → ℕ → Tier3 → List NumberedBody → SubTable
-eit_table mux table service tier sections = record { key = eit_key mux table service; tier = tier; sections = sections }
+abbrev eit_table : Bearer → ℕ → ℕ → Tier3 → List NumberedBody → SubTable
+eit_table b table service tier sections = record { key = bearer_key b table service; tier = tier; sections = sections }
 
-eit_keyed : (mux : Mux) (table service : ℕ) → is_events 0x0012 table ≡ true → (s : NumberedBody) → 6 ≤ length s.body → Names (own mux) s.body → TellsKey (eit_key mux table service) s
-eit_keyed mux table service events s least names header is_table is_ext =
+eit_keyed : (bearer : Bearer) (table service : ℕ) → is_events 0x0012 table ≡ true → (s : NumberedBody) → 6 ≤ length s.body → Names bearer s.body → TellsKey (bearer_key bearer table service) s
+eit_keyed bearer table service events s least names header is_table is_ext =
     let key = key_of_fields 0x0012 table service in
     key_by_fields 0x0012 header table service s.body is_table is_ext
     ∙ ap (λ (b : Bool). key_named 0x0012 table service s.body (if b then Some Stream else None)) events
     ∙ ap (λ (b : Bool). if b then Some (key (two_at 0 s.body) (two_at 2 s.body)) else None) (le-leb 4 (length s.body) (omega (arith, least)))
-    ∙ ap (λ (n : ℕ). Some (key n (two_at 2 s.body))) names.0 ∙ ap (λ (n : ℕ). Some (key mux.stream n)) names.1
+    ∙ ap (λ (n : ℕ). Some (key n (two_at 2 s.body))) names.0 ∙ ap (λ (n : ℕ). Some (key bearer.stream n)) names.1
 
-eit_tells : (mux : Mux) (table service : ℕ) (tier : Tier3) (sections : List NumberedBody) → is_events 0x0012 table ≡ true → is_eit table ≡ true → table < 256 → service < 65536
-    → AreEit sections → AllByRecursion (λ (s : NumberedBody). Names (own mux) s.body) sections → AllByRecursion (λ (s : NumberedBody). (eit : Eit) × IsEit s.body eit) sections
-    → TellsItself (eit_table mux table service tier sections)
-eit_tells mux table service tier sections events eit few id are names read =
+eit_tells : (bearer : Bearer) (table service : ℕ) (tier : Tier3) (sections : List NumberedBody) → is_events 0x0012 table ≡ true → is_eit table ≡ true → table < 256 → service < 65536
+    → AreEit sections → AllByRecursion (λ (s : NumberedBody). Names bearer s.body) sections → AllByRecursion (λ (s : NumberedBody). (eit : Eit) × IsEit s.body eit) sections
+    → TellsItself (eit_table bearer table service tier sections)
+eit_tells bearer table service tier sections events eit few id are names read =
     let sized = λ (s : NumberedBody). (6 ≤ length s.body) × (length s.body ≤ 4084) in
-    let named = λ (s : NumberedBody). Names (own mux) s.body in
+    let named = λ (s : NumberedBody). Names bearer s.body in
     let told = λ (s : NumberedBody). (n : ℕ) × (segment_last_in s.number s.body ≡ Some n) × (n ≤ last_number sections) in
     let is_read = λ (s : NumberedBody). (e : Eit) × IsEit s.body e in
     record {
       table = few;
       ext = id;
       last = are.below;
-      numbered = by_segments (eit_key mux table service) sections eit are.by_segments;
-      keyed = all_two sized named (TellsKey (eit_key mux table service)) (λ s size name. eit_keyed mux table service events s size.0 name) sections are.bodies names;
+      numbered = by_segments (bearer_key bearer table service) sections eit are.by_segments;
+      keyed = all_two sized named (TellsKey (bearer_key bearer table service)) (λ s size name. eit_keyed bearer table service events s size.0 name) sections are.bodies names;
       read = λ e. all_two is_read told (IsReadEit (last_number sections)) (λ s r t. record { body = read_bodies s.body r.0 r.1; told = t }) sections read are.told;
       pat = never refl;
       pmt = never refl;
@@ -185,6 +194,9 @@ eit_tells mux table service tier sections events eit few id are names read =
 
 id_fits : (s : MuxService) → IsSoundService s → s.service < 65536
 id_fits s sound = omega (arith, sound.service.1)
+
+remote_id_fits : (s : RemoteService) → IsSoundRemote s → s.service < 65536
+remote_id_fits s sound = omega (arith, sound.service.1)
 
 -- what is asked of a service
 record IsTold (s : ServiceGuide) : Type 0 where
@@ -199,31 +211,80 @@ services_told [] within small typed ids = tt
 services_told (s ∷ ss) within small typed ids =
     (record { within = within.0; small = small.0; typed = typed.0; id = ids.0 }, services_told ss within.1 small.1 typed.1 ids.1)
 
+-- what is asked of another stream: ids of 16 bits, few services, and parts of the guide
+record IsToldOther (guide : Guide) (o : Other) : Type 0 where
+  stream : o.stream < 65536
+  original : o.original < 65536
+  few : length o.services ≤ 64
+  parts : AllByRecursion IsTold (remote_guide guide o)
+
+present_tells : (b : Bearer) → b.stream < 65536 → b.original < 65536 → is_events 0x0012 b.present ≡ true → is_eit b.present ≡ true → b.present < 256 → (moment : ℕ) (s : ServiceGuide) → IsTold s → TellsItself (present_of b moment s)
+present_tells b stream original events eit few moment s told =
+    let are = present_fit b moment s told.small in
+    let names = events_name b moment s 0x50 stream original in
+    let read = events_read b moment s 0x50 stream original told.within told.typed in
+    let t = present_of b moment s in
+    eit_tells b b.present s.service t.tier t.sections events eit few told.id are names.0 read.0
+
+schedule_tells : (b : Bearer) → b.stream < 65536 → b.original < 65536 → (day : ℕ) (s : ServiceGuide) (table : ℕ) → 0x50 ≤ b.sent table → b.sent table < 0x70 → IsTold s → TellsItself (schedule_of b day s table)
+schedule_tells b stream original day s table above below told =
+    let are = schedule_fit b day s table told.within told.small in
+    let names = events_name b day s table stream original in
+    let read = events_read b day s table stream original told.within told.typed in
+    let t = schedule_of b day s table in
+    let events : is_events 0x0012 (b.sent table) ≡ true = grind (arith, nat_tests) in
+    let eit : is_eit (b.sent table) ≡ true = grind (arith, nat_tests) in
+    eit_tells b (b.sent table) s.service t.tier t.sections events eit (omega (arith, below)) told.id are names.1 read.1
+
+-- another stream that is sound, has few services and parts of the guide
+record IsReadyOther (guide : Guide) (o : Other) : Type 0 where
+  ids : HasStreamIds o
+  sound : IsSoundOther o
+  few : length o.services ≤ 64
+  have : HasPartsOf guide o
+
+others_ready : (guide : Guide) (os : List Other) → AllByRecursion HasStreamIds os → AllByRecursion IsSoundOther os → AllByRecursion (λ (o : Other). length o.services ≤ 64) os → AllByRecursion (HasPartsOf guide) os
+    → AllByRecursion (IsReadyOther guide) os
+others_ready guide [] ids sound few have = tt
+others_ready guide (o ∷ os) ids sound few have =
+    (record { ids = ids.0; sound = sound.0; few = few.0; have = have.0 }, others_ready guide os ids.1 sound.1 few.1 have.1)
+
+other_told : (guide : Guide) → AllByRecursion IsServiceWithin guide.services → AllByRecursion (λ (s : ServiceGuide). AreSmallEntries s.events) guide.services
+    → AllByRecursion (λ (s : ServiceGuide). AllByRecursion IsTyped s.events) guide.services → (o : Other) → IsReadyOther guide o → IsToldOther guide o
+other_told guide within small typed o ready = record {
+  stream = ready.ids.stream;
+  original = ready.ids.original;
+  few = ready.few;
+  parts = services_told (remote_guide guide o) (of_remote IsServiceWithin guide o ready.have within)
+      (of_remote (λ (s : ServiceGuide). AreSmallEntries s.events) guide o ready.have small)
+      (of_remote (λ (s : ServiceGuide). AllByRecursion IsTyped s.events) guide o ready.have typed)
+      (by_remote_ids (λ (n : ℕ). n < 65536) IsSoundRemote remote_id_fits guide o ready.sound.services);
+}
+
 pub publication_tells : PublicationsTellThemselves
 publication_tells mux guide sound services within typed =
     let moment = guide.moment.0 in
     let day = midnight moment in
+    let small = typed_small guide within typed in
     let told =
     services_told (own_guide mux guide) (of_own IsServiceWithin mux guide services within.services)
-    (of_own (λ (s : ServiceGuide). AreSmallEntries s.events) mux guide services (typed_small guide within typed))
+    (of_own (λ (s : ServiceGuide). AreSmallEntries s.events) mux guide services small)
     (of_own (λ (s : ServiceGuide). AllByRecursion IsTyped s.events) mux guide services typed)
     (by_ids (λ (n : ℕ). n < 65536) IsSoundService id_fits mux guide sound.sound.services) in
-    each_sub_table TellsItself IsTold mux guide told
+    each_sub_table TellsItself IsTold (λ (o : Other). IsTold) (IsToldOther guide) mux guide told
+    (all_map (IsReadyOther guide) (IsToldOther guide) (other_told guide within.services small typed) mux.others
+    (others_ready guide mux.others sound.others sound.sound.others.each (services_few mux.others sound.sound.others.few_services) (others_have mux guide services)))
     (pat_tells mux sound.stream)
     (each_pmt TellsItself IsSoundService pmt_tells mux.services sound.sound.services)
     (nit_tells mux sound.sound sound.network)
-    (sdt_tells mux guide sound.stream (sdt_fit mux guide sound.sound sound.original within))
-    (λ s q.
-    let are = present_fit (own mux) moment s q.small in
-    let names = events_name (own mux) moment s 0x50 sound.stream sound.original in
-    let read = events_read (own mux) moment s 0x50 sound.stream sound.original q.within q.typed in
-    let t = present_table mux moment s in
-    eit_tells mux 0x4E s.service t.tier t.sections refl refl (omega arith) q.id are names.0 read.0)
-    (λ s table q above below.
-    let are = schedule_fit (own mux) day s table q.within q.small in
-    let names = events_name (own mux) day s table sound.stream sound.original in
-    let read = events_read (own mux) day s table sound.stream sound.original q.within q.typed in
-    let t = schedule_table mux day s table in
-    let events : is_events 0x0012 table ≡ true = grind (arith, nat_tests) in
-    let eit : is_eit table ≡ true = grind (arith, nat_tests) in
-    eit_tells mux table s.service t.tier t.sections events eit (omega (arith, below)) q.id are names.1 read.1)
+    (sdt_tells 0x42 mux.stream mux.original Fast (sdt_sections mux.original guide (own_kinds mux)) refl (omega arith) refl sound.stream
+    (sdt_fit mux.original guide (own_kinds mux) sound.original (omega (arith, length-map mux.services kind_of, sound.sound.count.1)) within))
+    (λ s q. present_tells (own mux) sound.stream sound.original refl refl (omega arith) moment s q)
+    (λ s table q above below. schedule_tells (own mux) sound.stream sound.original day s table above (omega (arith, below)) q)
+    (record {
+      sdt = λ o r. sdt_tells 0x46 o.stream o.original Near (sdt_sections o.original guide (remote_kinds o)) refl (omega arith) refl r.stream
+          (sdt_fit o.original guide (remote_kinds o) r.original (omega (arith, length-map o.services remote_kind, r.few)) within);
+      parts = λ o r. r.parts;
+      present = λ o s r q. present_tells (bearer_of o) r.stream r.original refl refl (omega arith) moment s q;
+      schedule = λ o s table r q above below. schedule_tells (bearer_of o) r.stream r.original day s table (omega (arith, above)) (omega (arith, below)) q;
+    })

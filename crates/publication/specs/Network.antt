@@ -1,7 +1,9 @@
 -- The network information table of a multiplex (EN 300 468, 5.2.1).
-use Rattle.std.specs.Prelude.{[], ◌∷◌, map}
+use Rattle.std.specs.Prelude.{List, ◌∷◌, map}
 use Rattle.si_text.specs.declared.shown.Shown.TheVariants.{Text}
 use Rattle.mux_model.specs.declared.mux.MuxService.{MuxService}
+use Rattle.mux_model.specs.declared.mux.RemoteService.{RemoteService}
+use Rattle.mux_model.specs.declared.mux.Other.{Other}
 use Rattle.mux_model.specs.declared.mux.Mux.{Mux}
 use Rattle.section_codec.specs.declared.table.Key.{Key}
 use Rattle.section_codec.specs.declared.table.SubTable.{SubTable}
@@ -15,13 +17,37 @@ use Rattle.publication.specs.Sections.{single_table}
 abbrev pub kind_of : MuxService → ServiceKind
 kind_of s = record { service = s.service; kind = s.kind }
 
+abbrev pub remote_kind : RemoteService → ServiceKind
+remote_kind s = record { service = s.service; kind = s.kind }
+
+-- the own services, and those of another stream
+abbrev pub own_kinds : Mux → List ServiceKind
+own_kinds mux = map kind_of mux.services
+
+abbrev pub remote_kinds : Other → List ServiceKind
+remote_kinds other = map remote_kind other.services
+
 -- the transport stream of the multiplex: how it is sent by cable, where that is told, and its services
 abbrev pub stream_of : Mux → NitStream
-stream_of mux = record { stream = mux.stream; original = mux.original; cable = mux.cable; services = map kind_of mux.services }
+stream_of mux = record {
+  stream = mux.stream;
+  original = mux.original;
+  cable = mux.cable;
+  services = own_kinds mux;
+}
 
--- the name of the network, and this one stream
+-- another stream, by the same
+abbrev pub other_stream : Other → NitStream
+other_stream other = record {
+  stream = other.stream;
+  original = other.original;
+  cable = other.cable;
+  services = remote_kinds other;
+}
+
+-- the name of the network, this stream, and then the others
 abbrev pub nit_of : Mux → Nit
-nit_of mux = record { name = Text mux.network_name; streams = stream_of mux ∷ [] }
+nit_of mux = record { name = Text mux.network_name; streams = stream_of mux ∷ map other_stream mux.others }
 
 -- what names the NIT of the actual network: PID 0x0010, table_id 0x40 and network_id
 abbrev pub nit_key : Mux → Key

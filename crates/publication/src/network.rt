@@ -1,12 +1,12 @@
 // The network information table.
 ghost use Rattle.std.specs.Prelude.{◌≡◌, map, IfOk};
 ghost use Rattle.mux_model.specs.Sound.{IsSound};
-ghost use Rattle.publication.specs.Network.{kind_of, nit_of, nit_table, stream_of};
+ghost use Rattle.publication.specs.Network.{kind_of, remote_kind, remote_kinds, nit_of, nit_table, other_stream, stream_of};
 
 use crate::programs::NIT_PID;
 use crate::sections::single_table;
 use desc_service::{ServiceKind, ServiceKinds};
-use mux_model::{Mux, MuxService};
+use mux_model::{Mux, MuxService, Other};
 use nit_sdt::{Nit, NitStream, NitStreams, write_nit};
 use section_codec::{Key, SubTable};
 use si_text::Shown;
@@ -15,12 +15,26 @@ use std::alloc::{AllocError, Global};
 /// The table_id of the network information table of the actual network (EN 300 468, 5.1.3).
 const NIT: u8 = 0x40;
 
-// The ids and the types of these services.
-fn kinds(alloc: Global, services: &[MuxService]) -> Result<ServiceKinds, AllocError>
+/// The ids and the types of these services.
+pub(crate) fn kinds(alloc: Global, services: &[MuxService]) -> Result<ServiceKinds, AllocError>
     ensures { IfOk result (λ kinds. kinds ≡ map kind_of services.now) }
 {
     let mut kinds = ServiceKinds::new(alloc);
     for service in services {
+        kinds.push(ServiceKind {
+            service: service.service,
+            kind: service.kind,
+        })?;
+    }
+    Ok(kinds)
+}
+
+/// The ids and the types of the services of another stream.
+pub(crate) fn remote_kinds(alloc: Global, other: &Other) -> Result<ServiceKinds, AllocError>
+    ensures { IfOk result (λ kinds. kinds ≡ remote_kinds other.now) }
+{
+    let mut kinds = ServiceKinds::new(alloc);
+    for service in other.services.as_slice() {
         kinds.push(ServiceKind {
             service: service.service,
             kind: service.kind,
@@ -41,12 +55,27 @@ fn stream(alloc: Global, mux: &Mux) -> Result<NitStream, AllocError>
     })
 }
 
-// The name of the network and its stream.
+// Another stream.
+fn other_stream(alloc: Global, other: &Other) -> Result<NitStream, AllocError>
+    ensures { IfOk result (λ stream. stream ≡ other_stream other.now) }
+{
+    Ok(NitStream {
+        stream: other.stream,
+        original: other.original,
+        cable: other.cable,
+        services: remote_kinds(alloc, other)?,
+    })
+}
+
+// The name of the network, this stream and the others.
 fn network(alloc: Global, mux: &Mux) -> Result<Nit, AllocError>
     ensures { IfOk result (λ nit. nit ≡ nit_of mux.now) }
 {
     let mut streams = NitStreams::new(alloc);
     streams.push(stream(alloc, mux)?)?;
+    for other in mux.others.as_slice() {
+        streams.push(other_stream(alloc, other)?)?;
+    }
     Ok(Nit {
         name: Shown::Text(mux.network_name.copy()?),
         streams,

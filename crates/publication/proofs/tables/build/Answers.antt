@@ -8,24 +8,29 @@ use Rattle.guide_model.specs.declared.guide.ServiceGuide.{ServiceGuide}
 use Rattle.mux_model.specs.declared.mux.MuxService.{MuxService}
 use Rattle.guide_limits.specs.Events.{midnight}
 use Rattle.guide_limits.specs.Limits.{IsServiceWithin}
+use Rattle.section_codec.specs.declared.table.SubTable.{SubTable}
 use Rattle.section_codec.specs.SubTables.{AreFit}
 use Rattle.eit_tables.specs.Present.{present_table}
 use Rattle.eit_tables.specs.Schedule.{near_tables, far_tables}
 use Rattle.eit_tables.specs.Laws.{AreSmallEntries}
 use Rattle.eit_tables.proofs.ListFacts.{flat_next, all_next}
 use Rattle.publication.specs.Parts.{no_part, part_of, own_guide}
-use Rattle.publication.specs.Laws.{HasSmallOwnEntries}
+use Rattle.publication.specs.Laws.{HaveSmallEntries, HasSmallSentEntries}
 use Rattle.publication.specs.Tables.{mux_tables, tables_of}
-use Rattle.publication.proofs.ListFacts.{map_behind}
+use Rattle.publication.proofs.ListFacts.{flat_behind, map_behind}
 use Rattle.publication.proofs.PartFacts.{if_copied, if_found, never_missing, own_at}
-use Rattle.publication.proofs.TableFacts.{joined_are, built_are, built_so, built_fit}
-use Rattle.publication.proofs.FitFacts.{own_fit}
+use Rattle.publication.proofs.TableFacts.{other_near, joined_are, built_are, built_so, built_fit}
+use Rattle.publication.proofs.FitFacts.{sent_fit}
 use Rattle.publication.proofs.tables.build.Goals as goal
+
+-- before the first own service
+near_first : {first list : List SubTable} → list ≡ first → list ≡ first ++ []
+near_first {first} is = is ∙ sym (append-nil first)
 
 pub loop-service-init : goal.loop-service-init
 loop-service-init c = record {
   list = c.in_ok-list.ensures ∙ sym (append-nil (mux_tables c.args.mux.now c.args.guide.now.guide));
-  near = c.new-near.ensures;
+  near = near_first c.in_ok-others.ensures.near;
   far = c.new-far.ensures;
   small = tt;
 }
@@ -62,7 +67,7 @@ loop-service-preserved c =
       list = map_behind (present_table mux guide.moment.0) ss i s lt at (mux_tables mux guide)
           c.loop-service.list c.put_service.new.list c.loop-service.invariant.list
           (put.present ∙ ap (λ (m : Moment). c.loop-service.list ++ present_table mux m.0 s ∷ []) now);
-      near = flat_next ss i s lt at (near_tables mux (midnight guide.moment.0)) c.loop-service.near c.put_service.new.near c.loop-service.invariant.near
+      near = flat_behind (near_tables mux (midnight guide.moment.0)) ss i s lt at (other_near mux guide) c.loop-service.near c.put_service.new.near c.loop-service.invariant.near
           (put.near ∙ ap (λ (m : Moment). c.loop-service.near ++ near_tables mux (midnight m.0) s) now);
       far = flat_next ss i s lt at (far_tables mux (midnight guide.moment.0)) c.loop-service.far c.put_service.new.far c.loop-service.invariant.far
           (put.far ∙ ap (λ (m : Moment). c.loop-service.far ++ far_tables mux (midnight m.0) s) now);
@@ -75,8 +80,8 @@ returns-clause-tables c =
     let guide = c.args.guide.now.guide in
     let done = c.loop-service.invariant in
     built_are c.joined.result _ (tables_of mux guide) c.joined.ensures
-    (joined_are mux guide c.loop-service.service-index c.loop-service.list c.loop-service.near c.loop-service.far
-    (omega (arith, length-map mux.services (λ (t : MuxService). part_of guide t.service), c.loop-service-test.false, ap length c.as_slice-service-items.ensures)) done.list done.near done.far)
+    (joined_are mux guide c.loop-service.service-index c.loop-service.list c.loop-service.near c.loop-service.far _
+    (omega (arith, length-map mux.services (λ (t : MuxService). part_of guide t.service), c.loop-service-test.false, ap length c.as_slice-service-items.ensures)) done.list done.near done.far c.in_ok-others.ensures.far)
 
 pub returns-clause-small : goal.returns-clause-small
 returns-clause-small c =
@@ -85,7 +90,7 @@ returns-clause-small c =
     let n = c.loop-service.service-index in
     let own = own_guide mux guide in
     let all : take n own ≡ own = take_all n own (omega (arith, length-map mux.services (λ (t : MuxService). part_of guide t.service), c.loop-service-test.false, ap length c.as_slice-service-items.ensures)) in
-    built_so c.joined.result _ (subst (AllByRecursion (λ (s : ServiceGuide). AreSmallEntries s.events)) all c.loop-service.invariant.small)
+    built_so c.joined.result _ (record { own = subst HaveSmallEntries all c.loop-service.invariant.small; remote = c.in_ok-others.ensures.small })
 
 pub returns-clause-fit : goal.returns-clause-fit
 returns-clause-fit c =
@@ -95,6 +100,6 @@ returns-clause-fit c =
     let own = own_guide mux guide in
     let done = c.loop-service.invariant in
     let last : length own ≤ n = omega (arith, length-map mux.services (λ (t : MuxService). part_of guide t.service), c.loop-service-test.false, ap length c.as_slice-service-items.ensures) in
-    let are = joined_are mux guide n c.loop-service.list c.loop-service.near c.loop-service.far last done.list done.near done.far in
-    let small : HasSmallOwnEntries mux guide = subst (AllByRecursion (λ (s : ServiceGuide). AreSmallEntries s.events)) (take_all n own last) done.small in
-    built_fit c.joined.result _ c.joined.ensures (subst AreFit (sym are) (own_fit mux guide c.requires.sound c.requires.within small))
+    let are = joined_are mux guide n c.loop-service.list c.loop-service.near c.loop-service.far _ last done.list done.near done.far c.in_ok-others.ensures.far in
+    let small : HasSmallSentEntries mux guide = record { own = subst HaveSmallEntries (take_all n own last) done.small; remote = c.in_ok-others.ensures.small } in
+    built_fit c.joined.result _ c.joined.ensures (subst AreFit (sym are) (sent_fit mux guide c.requires.sound c.requires.within small))
