@@ -1,12 +1,13 @@
 -- What is heard of what stays on air.
-use Rattle.std.proofs.Common.{◌≡◌, ℕ, List, [], ◌∷◌, ◌++◌, Bool, true, false, Option, Some, None, map, refl, sym, ap, ◌∙◌, subst}
+use Rattle.std.proofs.Common.{◌≡◌, ℕ, List, [], ◌∷◌, ◌++◌, Bool, true, false, Option, Some, None, map, refl, sym, ◌∙◌, subst}
 use Rattle.std.specs.Prelude.{filter, slice_range, option_map, if◌then◌else◌, IsSome}
-use Rattle.std.specs.List.{AllByRecursion}
+use Rattle.std.specs.List.{AllByRecursion, Contains}
+use Rattle.std.specs.List.Sorted.{IsStrictlySortedBy}
 use Rattle.si_lists.proofs.Lists.{all_map}
 use Rattle.section_codec.specs.declared.table.Key.{Key}
 use Rattle.section_codec.specs.declared.table.SubTable.{SubTable}
 use Rattle.section_codec.specs.Contents.{Content}
-use Rattle.section_codec.specs.KeyOrder.{is_key, in_order}
+use Rattle.section_codec.specs.KeyOrder.{is_key, key_cmp, in_order}
 use Rattle.section_codec.proofs.KeyOrderFacts.{is_key-same}
 use Rattle.version_book.specs.Airings.{AiredTables, content_at, content_in as content_among}
 use Rattle.ts_packets.specs.Bytes.{bytes_of_packet}
@@ -21,11 +22,11 @@ use Rattle.air_model.specs.Repeating.{IsRepeatingAirOf}
 use Rattle.air_hearing.specs.Counting.{CanBeHeard}
 use Rattle.air_coherence.specs.Coherence.{IsAiredIn}
 use Rattle.air_coherence.proofs.Coherent.{coherent_in}
-use Rattle.air_exact.specs.Exact.{StaysOnAir, IsOnlyKey, HaveNoKey, IsCarried}
+use Rattle.air_exact.specs.Exact.{StaysOnAir, IsOnlyKey, AreOnlyKeys, IsCarried}
 use Rattle.air_exact.specs.Laws.{OnAirIsHeard}
 use Rattle.air_exact.proofs.Contents.{contents_heard}
 use Rattle.air_exact.proofs.Shown.{all_shown}
-use Rattle.air_exact.proofs.Latest.{only_is_latest, none_pass}
+use Rattle.air_exact.proofs.Latest.{IsShown, only_is_latest, ordered_are}
 use Rattle.air_exact.proofs.Clock.{clock_heard}
 use Rattle.air_exact.proofs.Offsets.{offsets_are_heard}
 
@@ -64,43 +65,51 @@ module _ (airings : List AiredTables) (before : List Aired) (x : Aired) (after :
       all_shown (IsAiredIn join end (before ++ x ∷ after)) (counted_heard packets)
       (λ k. coherent_in airings (before ++ x ∷ after) is can join end k (is_counted k.pid k.table) refl)
 
-  -- the only key that passes a test is the latest
-  latest_key : (test : Key → Bool) (k : Key) → IsOnlyKey test k airings → IsCarried test k x.airing → last_of (filter test (keys_shown (counted_heard packets))) ≡ Some k
-  latest_key test k only carried =
+  -- what holds of each key of the airings holds of each that is shown
+  each_key : (Q : Key → Type 0) → AllByRecursion (λ (a : AiredTables). AllByRecursion (λ (t : SubTable). Q t.key) a.tables) airings
+      → AllByRecursion (λ (d : Completed). Q d.key) (dones [] (counted_heard packets))
+  each_key Q each = all_map (IsAiredIn join end (before ++ x ∷ after)) (λ (d : Completed). Q d.key) one (dones [] (counted_heard packets)) each_aired
+    where
+      HoldOf : List AiredTables → Type 0
+      HoldOf = AllByRecursion (λ (a : AiredTables). AllByRecursion (λ (t : SubTable). Q t.key) a.tables)
+
+      one : (d : Completed) → IsAiredIn join end (before ++ x ∷ after) d → Q d.key
+      one d aired =
+          let all = subst (λ (ys : List Aired). HoldOf (airings_of ys)) aired.cut (subst HoldOf (sym is.airings_are) each) in
+          key_carried Q d.key aired.cycle.airing.tables
+          (element_at (λ (a : AiredTables). AllByRecursion (λ (t : SubTable). Q t.key) a.tables) aired.before aired.cycle aired.after all) d.sections aired.content
+
+  -- each key that this cycle carries is shown
+  key_shown : (test : Key → Bool) (k : Key) → IsCarried test k x.airing → IsShown (dones [] (counted_heard packets)) k
+  key_shown test k carried =
       let some = some_content (content_at k x.airing) carried.some in
       let heard = contents_heard airings before x after is can join end stays k carried.counted some.0 some.1 in
       let last = some_done (latest_of k (counted_heard packets)) some.0 heard in
-      only_is_latest test k (dones [] (counted_heard packets))
-      (all_map (IsAiredIn join end (before ++ x ∷ after)) (λ (d : Completed). test d.key ≡ true → d.key ≡ k) one (dones [] (counted_heard packets)) each_aired)
-      carried.passes last.0 (sym (latest-is_shown k (counted_heard packets)) ∙ last.1)
-    where
-      one : (d : Completed) → IsAiredIn join end (before ++ x ∷ after) d → test d.key ≡ true → d.key ≡ k
-      one d aired =
-          let all = subst (λ (ys : List Aired). IsOnlyKey test k (airings_of ys)) aired.cut (subst (IsOnlyKey test k) (sym is.airings_are) only) in
-          key_carried (λ (q : Key). test q ≡ true → q ≡ k) d.key aired.cycle.airing.tables
-          (element_at (λ (a : AiredTables). AllByRecursion (λ (t : SubTable). test t.key ≡ true → t.key ≡ k) a.tables) aired.before aired.cycle aired.after all) d.sections aired.content
+      (last.0, sym (latest-is_shown k (counted_heard packets)) ∙ last.1)
 
-  -- where no key of the airings passes a test, none that is shown does
-  none_shown : (test : Key → Bool) → HaveNoKey test airings → filter test (keys_shown (counted_heard packets)) ≡ []
-  none_shown test none =
-      none_pass test (dones [] (counted_heard packets))
-      (all_map (IsAiredIn join end (before ++ x ∷ after)) (λ (d : Completed). test d.key ≡ false) one (dones [] (counted_heard packets)) each_aired)
-    where
-      one : (d : Completed) → IsAiredIn join end (before ++ x ∷ after) d → test d.key ≡ false
-      one d aired =
-          let all = subst (λ (ys : List Aired). HaveNoKey test (airings_of ys)) aired.cut (subst (HaveNoKey test) (sym is.airings_are) none) in
-          key_carried (λ (q : Key). test q ≡ false) d.key aired.cycle.airing.tables
-          (element_at (λ (a : AiredTables). AllByRecursion (λ (t : SubTable). test t.key ≡ false) a.tables) aired.before aired.cycle aired.after all) d.sections aired.content
+  -- the only key that passes a test is the latest
+  latest_key : (test : Key → Bool) (k : Key) → IsOnlyKey test k airings → IsCarried test k x.airing → last_of (filter test (keys_shown (counted_heard packets))) ≡ Some k
+  latest_key test k only carried =
+      let last = key_shown test k carried in
+      only_is_latest test k (dones [] (counted_heard packets)) (each_key (λ (q : Key). test q ≡ true → q ≡ k) only) carried.passes last.0 last.1
+
+  -- the keys that pass a test are shown in their order
+  keys_in_order : (test : Key → Bool) (ks : List Key) → AreOnlyKeys test ks airings → IsStrictlySortedBy key_cmp ks → AllByRecursion (λ (k : Key). IsCarried test k x.airing) ks
+      → in_order (filter test (keys_shown (counted_heard packets))) ≡ ks
+  keys_in_order test ks only up carried =
+      ordered_are test ks (dones [] (counted_heard packets)) up (each_key (λ (q : Key). test q ≡ true → Contains ks q) only)
+      (all_map (λ (k : Key). IsCarried test k x.airing) (λ (k : Key). test k ≡ true) (λ k one. one.passes) ks carried)
+      (all_map (λ (k : Key). IsCarried test k x.airing) (IsShown (dones [] (counted_heard packets))) (key_shown test) ks carried)
 
 pub on_air_heard : OnAirIsHeard
-on_air_heard airings before x after is can join end stays within pat nit sdt once offsets =
+on_air_heard airings before x after is can join end stays within pat nit sdt others once offsets =
     let clock = clock_heard airings before x after is can join end stays.joined stays.whole within in
     record {
       content = λ k c counted content. contents_heard airings before x after is can join end stays k counted c content;
       pat_is = latest_key airings before x after is can join end stays is_pat_key pat once.pats once.pat_is;
       nit_is = latest_key airings before x after is can join end stays is_nit_key nit once.nits once.nit_is;
       sdt_is = latest_key airings before x after is can join end stays (is_sdt_key sdt.ext) sdt once.sdts once.sdt_is;
-      others = ap in_order (none_shown airings before x after is can join end stays is_other_sdt_key once.others);
+      others_are = keys_in_order airings before x after is can join end stays is_other_sdt_key others once.others_only once.others_ascend once.others_are;
       clock = subst IsSome (sym clock.1) refl;
       offsets = offsets_are_heard airings before x after is can join end stays.joined stays.whole within offsets;
     }

@@ -1,9 +1,11 @@
 -- Whether a receiver has what is on air (EN 300 468, 5.1.1).
-use Rattle.std.specs.Prelude.{◌≡◌, ℕ, ◌+◌, ◌≤◌, List, [], ◌∷◌, ◌++◌, length, Bool, true, false, Some, IsSome}
-use Rattle.std.specs.List.{AllByRecursion}
+use Rattle.std.specs.Prelude.{◌≡◌, ℕ, ◌+◌, ◌≤◌, List, ◌∷◌, ◌++◌, length, Bool, true, Some, IsSome}
+use Rattle.std.specs.List.{AllByRecursion, Contains}
+use Rattle.std.specs.List.Sorted.{IsStrictlySortedBy}
 use Rattle.section_codec.specs.declared.table.Key.{Key}
 use Rattle.section_codec.specs.declared.table.SubTable.{SubTable}
 use Rattle.section_codec.specs.Contents.{Content}
+use Rattle.section_codec.specs.KeyOrder.{key_cmp}
 use Rattle.version_book.specs.Airings.{AiredTables, content_at}
 use Rattle.section_codec.specs.Tables.{is_counted}
 use Rattle.guide_receiver.specs.Latest.{is_pat_key, is_nit_key, is_sdt_key, is_other_sdt_key}
@@ -28,31 +30,34 @@ pub record IsCarried (test : Key → Bool) (k : Key) (a : AiredTables) : Type 0 
   pub counted : is_counted k.pid k.table ≡ true
   pub some : IsSome (content_at k a)
 
--- no key of these airings passes the test
-abbrev pub HaveNoKey : (Key → Bool) → List AiredTables → Type 0
-HaveNoKey test airings = AllByRecursion (λ (a : AiredTables). AllByRecursion (λ (t : SubTable). test t.key ≡ false) a.tables) airings
+-- each key of these airings that passes the test is one of these
+abbrev pub AreOnlyKeys : (Key → Bool) → List Key → List AiredTables → Type 0
+AreOnlyKeys test ks airings =
+    AllByRecursion (λ (a : AiredTables). AllByRecursion (λ (t : SubTable). test t.key ≡ true → Contains ks t.key) a.tables) airings
 
--- Of the tables that come once these airings have no others than these, and this airing has them. None has an SDT of another stream.
-pub record HaveOneEach (airings : List AiredTables) (a : AiredTables) (pat nit sdt : Key) : Type 0 where
+-- Of the tables that come once, and of the SDTs of other streams, these airings have no others than these, and this airing has them.
+pub record HaveOneEach (airings : List AiredTables) (a : AiredTables) (pat nit sdt : Key) (others : List Key) : Type 0 where
   pub pats : IsOnlyKey is_pat_key pat airings
   pub nits : IsOnlyKey is_nit_key nit airings
   pub sdts : IsOnlyKey (is_sdt_key sdt.ext) sdt airings
-  pub others : HaveNoKey is_other_sdt_key airings
+  pub others_only : AreOnlyKeys is_other_sdt_key others airings
+  pub others_ascend : IsStrictlySortedBy key_cmp others
   pub pat_is : IsCarried is_pat_key pat a
   pub nit_is : IsCarried is_nit_key nit a
   pub sdt_is : IsCarried (is_sdt_key sdt.ext) sdt a
+  pub others_are : AllByRecursion (λ (k : Key). IsCarried is_other_sdt_key k a) others
 
 -- these airings tell the offsets of this one
 abbrev pub TellOffsetsOf : AiredTables → List AiredTables → Type 0
 TellOffsetsOf a airings = AllByRecursion (λ (b : AiredTables). b.form.offsets ≡ a.form.offsets) airings
 
 -- What was heard is what this airing sends: the contents of its sub-tables, whatever else was heard; of the tables that come once their keys,
--- and no SDT of another stream; a moment, and its offsets.
-pub record HasOnAir (a : AiredTables) (pat nit sdt : Key) (V : View) : Type 0 where
+-- and those of the SDTs of other streams; a moment, and its offsets.
+pub record HasOnAir (a : AiredTables) (pat nit sdt : Key) (others : List Key) (V : View) : Type 0 where
   pub content : (k : Key) (c : Content) → is_counted k.pid k.table ≡ true → content_at k a ≡ Some c → V.content k ≡ Some c
   pub pat_is : V.pat ≡ Some pat
   pub nit_is : V.nit ≡ Some nit
   pub sdt_is : V.sdt sdt.ext ≡ Some sdt
-  pub others : V.others ≡ []
+  pub others_are : V.others ≡ others
   pub clock : IsSome V.clock
   pub offsets : V.offsets ≡ a.form.offsets

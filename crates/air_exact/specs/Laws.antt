@@ -22,11 +22,11 @@ ContentsAreHeard =
     → (join end : ℕ) → StaysOnAir join end before x after → (k : Key) → is_counted k.pid k.table ≡ true → (c : Content) → content_at k x.airing ≡ Some c
     → content_in (counted_heard (map bytes_of_packet (slice_range (air (before ++ x ∷ after)) join end))) k ≡ Some c
 
--- So a receiver has what is on air, where of the tables that come once all airings have the same, describe no other stream, and tell the same
--- offsets: the contents, the keys, no SDT of another stream, a moment, and the offsets.
+-- So a receiver has what is on air, where of the tables that come once all airings have the same, describe the same other streams, and tell
+-- the same offsets: the contents, the keys, those of the SDTs of these streams, a moment, and the offsets.
 abbrev pub OnAirIsHeard : Type 0
 OnAirIsHeard =
     (airings : List AiredTables) (before : List Aired) (x : Aired) (after : List Aired) → IsRepeatingAirOf airings (before ++ x ∷ after) → AllByRecursion CanBeHeard airings
-    → (join end : ℕ) → StaysOnAir join end before x after → x.airing.moment < 65536 * 86400 → (pat nit sdt : Key) → HaveOneEach airings x.airing pat nit sdt
-    → TellOffsetsOf x.airing airings
-    → HasOnAir x.airing pat nit sdt (view_of (map bytes_of_packet (slice_range (air (before ++ x ∷ after)) join end)))
+    → (join end : ℕ) → StaysOnAir join end before x after → x.airing.moment < 65536 * 86400 → (pat nit sdt : Key) (others : List Key)
+    → HaveOneEach airings x.airing pat nit sdt others → TellOffsetsOf x.airing airings
+    → HasOnAir x.airing pat nit sdt others (view_of (map bytes_of_packet (slice_range (air (before ++ x ∷ after)) join end)))

@@ -7,7 +7,7 @@ pub fn contents_on_air_are_heard()
     ensures { ContentsAreHeard }
 {}
 
-/// Where besides all airings have one PAT, one NIT, and one SDT of its transport_stream_id, and no SDT of another stream, what is heard has
+/// Where besides all airings have one PAT, one NIT, one SDT of its transport_stream_id, and the same SDTs of other streams, what is heard has
 /// these keys, and a moment. So a receiver has all that is on air.
 pub fn what_is_on_air_is_heard()
     ensures { OnAirIsHeard }

@@ -44,11 +44,12 @@ ThinnedContentsAreHeard =
     → (k : Key) → is_counted k.pid k.table ≡ true → (c : Content) → content_at k x.airing ≡ Some c
     → content_over (taken_of (bytes_that_came fates)) k ≡ Some c
 
--- So a receiver has what is on air, where of the tables that come once all airings have the same, describe no other stream, and tell the same
--- offsets: the contents, the keys, no SDT of another stream, a moment, and the offsets.
+-- So a receiver has what is on air, where of the tables that come once all airings have the same, describe the same other streams, and tell
+-- the same offsets: the contents, the keys, those of the SDTs of these streams, a moment, and the offsets.
 abbrev pub ThinnedOnAirIsHeard : Type 0
 ThinnedOnAirIsHeard =
     (airings : List AiredTables) (before : List Aired) (x : Aired) (after : List Aired) → IsRepeatingAirOf airings (before ++ x ∷ after) → AllByRecursion CanBeHeard airings
     → (fates : List Fate) → IsThinnedAir (before ++ x ∷ after) fates → CameWhole fates before x after
-    → x.airing.moment < 65536 * 86400 → (pat nit sdt : Key) → HaveOneEach airings x.airing pat nit sdt
-    → TellOffsetsOf x.airing airings → HasOnAir x.airing pat nit sdt (strict_view (bytes_that_came fates))
+    → x.airing.moment < 65536 * 86400 → (pat nit sdt : Key) (others : List Key)
+    → HaveOneEach airings x.airing pat nit sdt others → TellOffsetsOf x.airing airings
+    → HasOnAir x.airing pat nit sdt others (strict_view (bytes_that_came fates))
