@@ -6,14 +6,13 @@ use Rattle.std.proofs.lemmas.List.{map-append}
 use Rattle.std.proofs.lemmas.List.Elements.{All-from_recursion, All-take, All-drop}
 use Rattle.guide_model.specs.declared.event.Event.{Event}
 use Rattle.guide_model.specs.declared.screen.ScreenEvent.{ScreenEvent}
-use Rattle.mux_model.specs.declared.mux.Mux.{Mux}
 use Rattle.eit_codec.specs.declared.eit.EitHead.{EitHead}
 use Rattle.eit_codec.specs.declared.eit.Eit.{Eit}
 use Rattle.eit_codec.specs.Eit.{IsCodable, IsTyped, eit_body, shown_event}
 use Rattle.eit_codec.proofs.ReadBack.{eit-reads_back}
 use Rattle.eit_segments.specs.declared.piece.Piece.{Piece}
 use Rattle.eit_segments.specs.Schedule.{section_events}
-use Rattle.eit_tables.specs.Eit.{own, eit_head}
+use Rattle.eit_tables.specs.Eit.{Bearer, eit_head}
 use Rattle.eit_tables.specs.Present.{event_at as events_at_place, present_event, following_event, present_sections}
 use Rattle.eit_tables.specs.Schedule.{schedule_section}
 use Rattle.guide_screen.specs.Reading.{eit_in, events_in}
@@ -21,15 +20,15 @@ use Rattle.guide_screen.specs.Screen.{first_of, event_at}
 use Rattle.guide_screen.proofs.Saying.{bodies_say}
 use Rattle.publication_screen.specs.Screen.{first_shown}
 
--- the ids of the multiplex have 16 bits
-pub record HasIds (mux : Mux) : Type 0 where
-  pub stream : mux.stream < 65536
-  pub original : mux.original < 65536
+-- the ids of the stream have 16 bits
+pub record HasIds (b : Bearer) : Type 0 where
+  pub stream : b.stream < 65536
+  pub original : b.original < 65536
 
-body_said : (mux : Mux) → HasIds mux → (segment_last last_table status : ℕ) → status < 8 → (part : List Event) → All IsCodable part → All IsTyped part
-    → eit_in (eit_body (eit_head (own mux) segment_last last_table) status part) ≡ Some (record { head = eit_head (own mux) segment_last last_table; events = map shown_event part })
-body_said mux ids segment_last last_table status small part codable typed =
-    let h : EitHead = eit_head (own mux) segment_last last_table in
+body_said : (b : Bearer) → HasIds b → (segment_last last_table status : ℕ) → status < 8 → (part : List Event) → All IsCodable part → All IsTyped part
+    → eit_in (eit_body (eit_head b segment_last last_table) status part) ≡ Some (record { head = eit_head b segment_last last_table; events = map shown_event part })
+body_said b ids segment_last last_table status small part codable typed =
+    let h : EitHead = eit_head b segment_last last_table in
     let eit : Eit = record { head = h; events = map shown_event part } in
     bodies_say.eit (eit_body h status part) eit (eit-reads_back h status part (record { stream = ids.stream; original = ids.original }) small codable typed)
 
@@ -43,18 +42,18 @@ at_place : (P : Event → Type 0) (place : Option ℕ) (es : List Event) → All
 at_place P None es all = All-from_recursion P [] tt
 at_place P (Some i) es all = All-take P 1 (drop i es) (All-drop P i es all)
 
-module _ (mux : Mux) (ids : HasIds mux) (es : List Event) (codable : All IsCodable es) (typed : All IsTyped es) where
+module _ (b : Bearer) (ids : HasIds b) (es : List Event) (codable : All IsCodable es) (typed : All IsTyped es) where
   abbrev event_of : Option Eit → Option ScreenEvent
   event_of o = option_and_then (λ (eit : Eit). first_of eit.events) o
 
-  pub now_said : (moment : ℕ) → event_at 0 (present_sections (own mux) moment es) ≡ first_shown (present_event moment es)
+  pub now_said : (moment : ℕ) → event_at 0 (present_sections b moment es) ≡ first_shown (present_event moment es)
   now_said moment =
-      ap event_of (body_said mux ids 1 0x4E 4 (omega arith) (present_event moment es) (at_place IsCodable _ es codable) (at_place IsTyped _ es typed))
+      ap event_of (body_said b ids 1 b.present 4 (omega arith) (present_event moment es) (at_place IsCodable _ es codable) (at_place IsTyped _ es typed))
       ∙ first_said (present_event moment es)
 
-  pub next_said : (moment : ℕ) → event_at 1 (present_sections (own mux) moment es) ≡ first_shown (following_event moment es)
+  pub next_said : (moment : ℕ) → event_at 1 (present_sections b moment es) ≡ first_shown (following_event moment es)
   next_said moment =
-      ap event_of (body_said mux ids 1 0x4E 1 (omega arith) (following_event moment es) (at_place IsCodable _ es codable) (at_place IsTyped _ es typed))
+      ap event_of (body_said b ids 1 b.present 1 (omega arith) (following_event moment es) (at_place IsCodable _ es codable) (at_place IsTyped _ es typed))
       ∙ first_said (following_event moment es)
 
   -- ---- sections of a schedule
@@ -62,9 +61,9 @@ module _ (mux : Mux) (ids : HasIds mux) (es : List Event) (codable : All IsCodab
   part_of : (P : Event → Type 0) (p : Piece) → All P es → All P (section_events p es)
   part_of P p all = All-take P (p.to - p.from) (drop p.from es) (All-drop P p.from es all)
 
-  pub pieces_said : (last : ℕ) (ps : List Piece) → events_in (map (schedule_section (own mux) es last) ps) ≡ map shown_event (flat_map (λ (p : Piece). section_events p es) ps)
+  pub pieces_said : (last : ℕ) (ps : List Piece) → events_in (map (schedule_section b es last) ps) ≡ map shown_event (flat_map (λ (p : Piece). section_events p es) ps)
   pieces_said last [] = refl
   pieces_said last (p ∷ ps) =
-      let said = body_said mux ids p.segment_last last 0 (omega arith) (section_events p es) (part_of IsCodable p codable) (part_of IsTyped p typed) in
+      let said = body_said b ids p.segment_last last 0 (omega arith) (section_events p es) (part_of IsCodable p codable) (part_of IsTyped p typed) in
       ap₂ (λ (o : Option Eit) (l : List ScreenEvent). unwrap_or (option_map (λ (eit : Eit). eit.events) o) [] ++ l) said (pieces_said last ps)
       ∙ sym (map-append shown_event (section_events p es) (flat_map (λ (q : Piece). section_events q es) ps))

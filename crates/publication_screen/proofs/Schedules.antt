@@ -10,7 +10,6 @@ use Rattle.si_lists.proofs.Parts.{lt_or}
 use Rattle.guide_model.specs.declared.event.Event.{Event}
 use Rattle.guide_model.specs.declared.guide.ServiceGuide.{ServiceGuide}
 use Rattle.guide_model.specs.declared.screen.ScreenEvent.{ScreenEvent}
-use Rattle.mux_model.specs.declared.mux.Mux.{Mux}
 use Rattle.guide_limits.specs.Events.{block_of}
 use Rattle.guide_limits.specs.Limits.{IsServiceWithin}
 use Rattle.section_codec.specs.declared.table.Key.{Key}
@@ -25,13 +24,12 @@ use Rattle.eit_segments.specs.declared.piece.Piece.{Piece}
 use Rattle.eit_segments.specs.Schedule.{CanBePlaced, FitSegments, block_runs, last_used, sections_from, segment_sections, table_sections, sections_in_table, section_events}
 use Rattle.eit_segments.specs.Laws.{at_of}
 use Rattle.eit_segments.proofs.Order.{runs_few, used_less}
-use Rattle.eit_tables.specs.Eit.{own, eit_key, eit_head}
-use Rattle.eit_tables.specs.Schedule.{last_table_of, schedule_section, schedule_table, near_tables, far_tables}
+use Rattle.eit_tables.specs.Eit.{Bearer, bearer_key, eit_head}
+use Rattle.eit_tables.specs.Schedule.{last_table_of, schedule_section, schedule_of as table_sent, schedules_of, remote_tables}
 use Rattle.guide_screen.specs.View.{sections, table_at}
 use Rattle.guide_screen.specs.Reading.{events_in}
 use Rattle.guide_screen.specs.Needs.{last_beside, last_table, tables_to}
 use Rattle.guide_screen.specs.Screen.{events_at, schedule_of}
-use Rattle.publication.specs.Tables.{sdt_key}
 use Rattle.publication_screen.specs.Screen.{is_scheduled}
 use Rattle.publication_screen.proofs.Events.{HasIds, pieces_said}
 use Rattle.publication_screen.proofs.Scheduled.{pieces_scheduled, all_tables}
@@ -75,11 +73,22 @@ begins table first ats fit = go (last_used first 32 ats + 1) (let some : 0 < las
     go (suc n) some =
         from_runs table last (8 * 0 + (length (block_runs (first + 0) ats) - 1)) _ (block_runs (first + 0) ats) (flat_map of (range_with_len 1 n)) (runs_few (first + 0) ats fit).0
 
--- a table of the schedule of a service is held
-abbrev pub HasTable : Mux → ℕ → ServiceGuide → (Key → Option Content) → ℕ → Type 0
-HasTable mux day g content table = content (eit_key mux table g.service) ≡ Some (schedule_table mux day g table).sections
+-- ---- of a stream
 
-module _ (mux : Mux) (ids : HasIds mux) (day : ℕ) (g : ServiceGuide) where
+-- the SDT of a stream, as a screen looks its event information up by it
+abbrev pub stream_key : Bearer → Key
+stream_key b = record { pid = 0x0011; table = 0x42; ext = b.stream; stream = 0; network = b.original }
+
+-- the tables of its schedules are sent under their own table_id, or all of them so many higher
+pub record AreSentAt (b : Bearer) : Type 0 where
+  pub more : ℕ
+  pub sent : (table : ℕ) → b.sent table ≡ table + more
+
+-- a table of the schedule of a service is held
+abbrev pub HasTable : Bearer → ℕ → ServiceGuide → (Key → Option Content) → ℕ → Type 0
+HasTable b day g content table = content (bearer_key b (b.sent table) g.service) ≡ Some (table_sent b day g table).sections
+
+module _ (b : Bearer) (ids : HasIds b) (at : AreSentAt b) (day : ℕ) (g : ServiceGuide) where
   abbrev ats : List EventAt
   ats = map at_of g.events
 
@@ -92,39 +101,39 @@ module _ (mux : Mux) (ids : HasIds mux) (day : ℕ) (g : ServiceGuide) where
   pub last_high : end ≤ 0x5F
   last_high = (let less = used_less (block_of day) 512 ats (omega arith) in omega (arith, less))
 
-  pub last_said : FitSegments ats → last_table 0x5F (schedule_table mux day g 0x50).sections ≡ end
+  pub last_said : FitSegments ats → last_table (b.sent 0x5F) (table_sent b day g 0x50).sections ≡ b.sent end
   last_said fit =
-      let b = begins 0x50 (block_of day + 32 * (0x50 - 0x50)) ats fit in
-      ap (λ (ps : List Piece). last_table 0x5F (map (schedule_section (own mux) g.events end) ps)) b.are ∙ go b.piece b.rest b.zeroth
+      let first = begins 0x50 (block_of day + 32 * (0x50 - 0x50)) ats fit in
+      ap (λ (ps : List Piece). last_table (b.sent 0x5F) (map (schedule_section b g.events (b.sent end)) ps)) first.are ∙ go first.piece first.rest first.zeroth
     where
-      go : (p : Piece) (rest : List Piece) → p.number ≡ 0 → last_table 0x5F (map (schedule_section (own mux) g.events end) (p ∷ rest)) ≡ end
+      go : (p : Piece) (rest : List Piece) → p.number ≡ 0 → last_table (b.sent 0x5F) (map (schedule_section b g.events (b.sent end)) (p ∷ rest)) ≡ b.sent end
       go p rest e =
-          let body : List ℕ = (schedule_section (own mux) g.events end p).body in
-          let others : List NumberedBody = map (schedule_section (own mux) g.events end) rest in
-          ap (λ (n : ℕ). let s : NumberedBody = record { number = n; body = body } in last_table 0x5F (s ∷ others)) e
-          ∙ ap (last_beside 0x5F) (numbers_told (eit_head (own mux) p.segment_last end) (flat_map (written_bytes 0) (section_events p g.events)))
-          ∙ smaller end last_high
+          let body : List ℕ = (schedule_section b g.events (b.sent end) p).body in
+          let others : List NumberedBody = map (schedule_section b g.events (b.sent end)) rest in
+          ap (λ (n : ℕ). let s : NumberedBody = record { number = n; body = body } in last_table (b.sent 0x5F) (s ∷ others)) e
+          ∙ ap (last_beside (b.sent 0x5F)) (numbers_told (eit_head b p.segment_last (b.sent end)) (flat_map (written_bytes 0) (section_events p g.events)))
+          ∙ smaller (b.sent end) (b.sent 0x5F) (omega (arith, last_high, at.sent end, at.sent 0x5F))
         where
-          smaller : (n : ℕ) → n ≤ 0x5F → min 0x5F n ≡ n
-          smaller n le = grind (arith, le)
+          smaller : (n most : ℕ) → n ≤ most → min most n ≡ n
+          smaller n most le = grind (arith, le)
 
   -- ---- table by table
 
   module _ (content : Key → Option Content) where
     abbrev Has : ℕ → Type 0
-    Has table = HasTable mux day g content table
+    Has table = HasTable b day g content table
 
     abbrev joined : List ℕ → List Piece
     joined tables = flat_map (λ (table : ℕ). sections_in_table day table ats) tables
 
     tables_said : All IsCodable g.events → All IsTyped g.events → (tables : List ℕ) → AllByRecursion Has tables
-        → flat_map (events_at content (sdt_key mux) g.service) tables ≡ map shown_event (flat_map (λ (p : Piece). section_events p g.events) (joined tables))
+        → flat_map (events_at content (stream_key b) g.service) (map b.sent tables) ≡ map shown_event (flat_map (λ (p : Piece). section_events p g.events) (joined tables))
     tables_said codable typed [] all = refl
     tables_said codable typed (table ∷ tables) all =
         let here : List Piece = sections_in_table day table ats in
         let events : List Piece → List Event = λ ps. flat_map (λ (p : Piece). section_events p g.events) ps in
         ap₂ (λ (o : Option Content) (l : List ScreenEvent). events_in (sections o) ++ l) all.0 (tables_said codable typed tables all.1)
-        ∙ ap (λ (l : List ScreenEvent). l ++ map shown_event (events (joined tables))) (pieces_said mux ids g.events codable typed end here)
+        ∙ ap (λ (l : List ScreenEvent). l ++ map shown_event (events (joined tables))) (pieces_said b ids g.events codable typed (b.sent end) here)
         ∙ sym (map-append shown_event (events here) (events (joined tables)))
         ∙ ap (map shown_event) (sym (flat_map-append (λ (p : Piece). section_events p g.events) here (joined tables)))
 
@@ -133,18 +142,30 @@ module _ (mux : Mux) (ids : HasIds mux) (day : ℕ) (g : ServiceGuide) where
     same_range n (suc k) =
         ap (λ (l : List ℕ). n ∷ l) (ap (λ (m : ℕ). numbers_from m k) (let e : 1 + n ≡ n + 1 = omega arith in e) ∙ same_range (n + 1) k)
 
+    -- the table_ids under which they are sent
+    sent_from : (n k : ℕ) → numbers_from (b.sent n) k ≡ map b.sent (numbers_from n k)
+    sent_from n zero = refl
+    sent_from n (suc k) =
+        ap (λ (l : List ℕ). b.sent n ∷ l)
+        (ap (λ (m : ℕ). numbers_from m k) (let e : 1 + b.sent n ≡ b.sent (1 + n) = omega (arith, at.sent n, at.sent (1 + n)) in e) ∙ sent_from (1 + n) k)
+
+    pub all_sent : tables_to (b.sent 0x50) (b.sent end) ≡ map b.sent (tables_to 0x50 end)
+    all_sent =
+        ap (numbers_from (b.sent 0x50)) (let e : 1 + b.sent end - b.sent 0x50 ≡ 1 + end - 0x50 = omega (arith, at.sent 0x50, at.sent end) in e)
+        ∙ sent_from 0x50 (1 + end - 0x50)
+
     abbrev Held : SubTable → Type 0
     Held t = content t.key ≡ Some t.sections
 
     -- the tables of the first eight days, and the others
-    pub has_tables : AllByRecursion Held (near_tables mux day g) → AllByRecursion Held (far_tables mux day g) → AllByRecursion Has (tables_to 0x50 end)
+    pub has_tables : AllByRecursion Held (schedules_of b day g 0x50 (1 + min 0x51 end)) → AllByRecursion Held (schedules_of b day g 0x52 (1 + end)) → AllByRecursion Has (tables_to 0x50 end)
     has_tables near far = go (lt_or 0x50 end)
       where
         near_are : AllByRecursion Has (range_with_len 0x50 ((1 + min 0x51 end) - 0x50))
-        near_are = all_of_map Held (schedule_table mux day g) (range_with_len 0x50 ((1 + min 0x51 end) - 0x50)) near
+        near_are = all_of_map Held (table_sent b day g) (range_with_len 0x50 ((1 + min 0x51 end) - 0x50)) near
 
         far_are : AllByRecursion Has (range_with_len 0x52 ((1 + end) - 0x52))
-        far_are = all_of_map Held (schedule_table mux day g) (range_with_len 0x52 ((1 + end) - 0x52)) far
+        far_are = all_of_map Held (table_sent b day g) (range_with_len 0x52 ((1 + end) - 0x52)) far
 
         go : (0x50 < end) ⊎ (end ≤ 0x50) → AllByRecursion Has (tables_to 0x50 end)
         go (inl more) =
@@ -159,15 +180,21 @@ module _ (mux : Mux) (ids : HasIds mux) (day : ℕ) (g : ServiceGuide) where
             let size : 1 + end - 0x50 ≡ suc zero = omega (arith, only, last_low) in
             subst (λ (n : ℕ). AllByRecursion Has (numbers_from 0x50 n)) (sym size) (first.0, tt)
 
+    -- or all of them
+    pub has_all : AllByRecursion Held (remote_tables b day g) → AllByRecursion Has (tables_to 0x50 end)
+    has_all all =
+        subst (AllByRecursion Has) (sym (same_range 0x50 ((1 + end) - 0x50))) (all_of_map Held (table_sent b day g) (range_with_len 0x50 ((1 + end) - 0x50)) all)
+
     -- the table that tells the last one
-    pub last_is : FitSegments ats → Has 0x50 → last_table 0x5F (table_at content (sdt_key mux) g.service 0x50) ≡ end
-    last_is fit has = ap (λ (o : Option Content). last_table 0x5F (sections o)) has ∙ last_said fit
+    pub last_is : FitSegments ats → Has 0x50 → last_table (b.sent 0x5F) (table_at content (stream_key b) g.service (b.sent 0x50)) ≡ b.sent end
+    last_is fit has = ap (λ (o : Option Content). last_table (b.sent 0x5F) (sections o)) has ∙ last_said fit
 
     pub schedule_said : All IsCodable g.events → All IsTyped g.events → IsServiceWithin g → CanBePlaced ats → day % 86400 ≡ 0
-        → AllByRecursion Has (tables_to 0x50 end) → last_table 0x5F (table_at content (sdt_key mux) g.service 0x50) ≡ end
-        → schedule_of content (sdt_key mux) g.service 0x50 0x5F ≡ map shown_event (filter (is_scheduled day) g.events)
+        → AllByRecursion Has (tables_to 0x50 end) → last_table (b.sent 0x5F) (table_at content (stream_key b) g.service (b.sent 0x50)) ≡ b.sent end
+        → schedule_of content (stream_key b) g.service (b.sent 0x50) (b.sent 0x5F) ≡ map shown_event (filter (is_scheduled day) g.events)
     schedule_said codable typed within placed zeroth all last =
-        ap (λ (n : ℕ). flat_map (events_at content (sdt_key mux) g.service) (tables_to 0x50 n)) last
+        ap (λ (n : ℕ). flat_map (events_at content (stream_key b) g.service) (tables_to (b.sent 0x50) n)) last
+        ∙ ap (flat_map (events_at content (stream_key b) g.service)) all_sent
         ∙ tables_said codable typed (tables_to 0x50 end) all
         ∙ ap (λ (ps : List Piece). map shown_event (flat_map (λ (p : Piece). section_events p g.events) ps)) (all_tables day ats)
         ∙ ap (map shown_event) (pieces_scheduled day g.events zeroth within.events.apart placed)

@@ -1,10 +1,9 @@
 -- A view that has a publication shows its screen.
-use Rattle.std.proofs.Common.{◌≡◌, ℕ, ◌+◌, ◌-◌, ◌%◌, ◌≤◌, List, [], ◌∷◌, ◌++◌, Bool, true, false, ◌==◌, ◌&&◌, Option, Some, None, map, refl, sym, ap, ap₂, ◌∙◌}
+use Rattle.std.proofs.Common.{◌≡◌, ℕ, ◌+◌, ◌-◌, ◌≤◌, List, [], ◌∷◌, ◌++◌, Bool, true, false, ◌==◌, ◌&&◌, Option, Some, None, map, refl, sym, ap, ap₂, ◌∙◌}
 use Rattle.std.proofs.Common.{subst, arith, append-nil}
-use Rattle.std.specs.Prelude.{suc, flat_map, filter, if◌then◌else◌, is_some, option_map, unwrap_or}
-use Rattle.std.specs.List.{All, AllByRecursion}
+use Rattle.std.specs.Prelude.{suc, flat_map, if◌then◌else◌, is_some, option_map, unwrap_or}
+use Rattle.std.specs.List.{AllByRecursion}
 use Rattle.std.proofs.lemmas.Bool.Decides.{nat_tests}
-use Rattle.std.proofs.lemmas.List.Elements.{All-from_recursion}
 use Rattle.si_lists.proofs.Lists.{all_append, all_front, all_behind, all_of_map}
 use Rattle.si_text.specs.declared.shown.Shown.{Shown}
 use Rattle.si_text.specs.declared.shown.Shown.TheVariants.{Text}
@@ -16,30 +15,28 @@ use Rattle.guide_model.specs.declared.screen.ScreenService.{ScreenService}
 use Rattle.guide_model.specs.declared.screen.ScreenOther.{ScreenOther}
 use Rattle.guide_model.specs.declared.screen.Screen.{Screen}
 use Rattle.mux_model.specs.declared.mux.MuxService.{MuxService}
+use Rattle.mux_model.specs.declared.mux.Other.{Other}
+use Rattle.mux_model.specs.declared.mux.RemoteService.{RemoteService}
 use Rattle.guide_model.specs.declared.offset.Offset.{Offset}
 use Rattle.mux_model.specs.declared.mux.Mux.{Mux}
-use Rattle.mux_model.specs.Sound.{IsSoundService, IsSoundWithIds}
+use Rattle.mux_model.specs.Sound.{IsSoundService, IsSoundOther, HasStreamIds, IsSoundWithIds}
 use Rattle.guide_limits.specs.Events.{midnight}
-use Rattle.guide_limits.specs.Limits.{IsServiceWithin, IsGuideWithin}
+use Rattle.guide_limits.specs.Limits.{IsGuideWithin}
 use Rattle.section_codec.specs.declared.table.Key.{Key}
 use Rattle.section_codec.specs.declared.table.SubTable.{SubTable}
 use Rattle.section_codec.specs.Contents.{Content, numbers_from}
 use Rattle.pat_pmt.specs.declared.pat.PatEntry.{PatEntry}
 use Rattle.pat_pmt.specs.declared.pmt.Pmt.{Pmt}
 use Rattle.nit_sdt.specs.declared.nit.Nit.{Nit}
+use Rattle.nit_sdt.specs.declared.nit.NitStream.{NitStream}
 use Rattle.nit_sdt.specs.declared.sdt.SdtService.{SdtService}
 use Rattle.nit_sdt.specs.Nit.{nit_body, NitReadsBack}
 use Rattle.nit_sdt.specs.Sdt.{SdtReadsBack}
-use Rattle.eit_codec.specs.Eit.{IsCodable, IsTyped, shown_event}
-use Rattle.eit_segments.specs.Schedule.{CanBePlaced}
-use Rattle.eit_segments.specs.Laws.{at_of}
-use Rattle.eit_segments.proofs.Few.{events_can_be_placed}
 use Rattle.eit_tables.specs.Eit.{own, eit_key}
-use Rattle.eit_tables.specs.Laws.{HasTypedEvents, AreSmallEntries}
-use Rattle.eit_tables.specs.Present.{present_table, present_sections, present_event, following_event}
-use Rattle.eit_tables.specs.Schedule.{last_table_of, near_tables, far_tables}
+use Rattle.eit_tables.specs.Laws.{HasTypedEvents}
+use Rattle.eit_tables.specs.Present.{present_of, present_table}
+use Rattle.eit_tables.specs.Schedule.{last_table_of, near_tables, far_tables, remote_tables}
 use Rattle.eit_tables.proofs.EntryFacts.{typed_small}
-use Rattle.eit_tables.proofs.EventFacts.{all_codable}
 use Rattle.guide_screen.specs.declared.need.Need.{Need}
 use Rattle.guide_screen.specs.declared.need.Need.TheVariants.{Pat, Nit as NeedNit, Sdt, Clock, Pmt as NeedPmt}
 use Rattle.guide_screen.specs.declared.need.Heard.TheVariants.{Whole}
@@ -47,22 +44,22 @@ use Rattle.guide_screen.specs.View.{View, sections, sections_at, sdt_behind, sdt
 use Rattle.guide_screen.specs.Reading.{programs_in, services_in, streams_in, nit_in, pmt_in, value_in}
 use Rattle.guide_screen.specs.Needs.{Want, by_service, last_table, needs, programs_of, schedule_tables, services_of, tables_to, unless, unmet_of, want_pmt, want_service, want_services, want_table, wants}
 use Rattle.guide_screen.specs.Screen.{cable_in, event_at, heard_by, heard_of, network_name, other_streams, pid_in, pmt_of, pmt_pid, schedule_of, screen, screen_service}
-use Rattle.publication.specs.Network.{nit_key, nit_of, nit_table}
+use Rattle.publication.specs.Network.{kind_of, own_kinds, other_stream as stream_sent, nit_key, nit_of, nit_table}
 use Rattle.publication.specs.Programs.{network_entry, program_entry, pat_of, pat_key, pat_table, pmt_tables}
 use Rattle.publication.specs.Programs as programs
-use Rattle.publication.specs.Parts.{part_of, own_guide}
-use Rattle.publication.specs.Sdt.{sdt_service, own_service, sdt_services}
-use Rattle.publication.specs.Tables.{HasServicesOf, sdt_key, sdt_table, present_tables, all_near_tables, all_far_tables}
-use Rattle.publication.proofs.PartFacts.{part_id, of_parts}
-use Rattle.publication_screen.specs.Screen.{first_shown, is_scheduled, service_shown, services_shown, screen_of}
+use Rattle.publication.specs.Laws.{HasPartsOf}
+use Rattle.publication.specs.Parts.{part_of, own_guide, remote_guide}
+use Rattle.publication.specs.Sdt.{sdt_service, named_service, sdt_services}
+use Rattle.publication.specs.Tables.{HasServicesOf, sdt_key, sdt_table, present_tables, all_near_tables, all_far_tables, other_sdt_key, other_sdt_table, other_sdt_tables, bearer_of, remote_presents, remote_schedules, all_remote_presents, all_remote_schedules, near_part, far_part}
+use Rattle.publication.proofs.PartFacts.{part_id, of_parts, of_remote, others_have as others_have_parts}
+use Rattle.publication_screen.specs.Screen.{now_shown, next_shown, service_shown, services_shown, screen_of}
 use Rattle.publication_screen.specs.Shown.{HasPublication, HasKeptNames}
 use Rattle.publication_screen.specs.Laws.{PublicationIsShown}
-use Rattle.publication_screen.proofs.Own.{pat_said, pmt_said, pids_said, nit_said, sdt_said, services_in_order}
-use Rattle.publication_screen.proofs.Events.{HasIds, now_said, next_said}
-use Rattle.publication_screen.proofs.Schedules.{HasTable, has_tables, last_is, schedule_said}
-
-abbrev Held : (Key → Option Content) → SubTable → Type 0
-Held content t = content t.key ≡ Some t.sections
+use Rattle.publication_screen.proofs.Own.{IsNamed, pat_said, pmt_said, pids_said, nit_said, sdt_said, own_in_order}
+use Rattle.publication_screen.proofs.Events.{HasIds}
+use Rattle.publication_screen.proofs.Schedules.{AreSentAt, HasTable, has_tables}
+use Rattle.publication_screen.proofs.Held.{Held, CanBeShown, parts_can_be_shown, HasEvents, present_is, now_is, next_is, last_told, events_are}
+use Rattle.publication_screen.proofs.Others.{HasOther, others_are}
 
 of_flat : {X Y : Type 0} (P : Y → Type 0) (f : X → List Y) (xs : List X) → AllByRecursion P (flat_map f xs) → AllByRecursion (λ (x : X). AllByRecursion P (f x)) xs
 of_flat P f [] all = tt
@@ -70,18 +67,18 @@ of_flat P f (x ∷ xs) all = (all_front P (f x) (flat_map f xs) all, of_flat P f
 
 -- ---- what is held of each service
 
--- its PMT, its present and following events, and its schedule
+-- its PMT, and its event information
 record HasService (mux : Mux) (moment : ℕ) (content : Key → Option Content) (s : MuxService) (g : ServiceGuide) : Type 0 where
   same : g.service ≡ s.service
   sound : IsSoundService s
-  within : IsServiceWithin g
-  typed : AllByRecursion IsTyped g.events
-  placed : CanBePlaced (map at_of g.events)
   pmt : Held content (programs.pmt_table s)
-  present : Held content (present_table mux moment g)
-  tables : AllByRecursion (HasTable mux (midnight moment) g content) (tables_to 0x50 (last_table_of (midnight moment) g.events))
+  events : HasEvents (own mux) moment content g
 
-module _ (mux : Mux) (ids : HasIds mux) (guide : Guide) (moment : ℕ) (content : Key → Option Content) where
+-- tables of own services keep their table_id
+as_they_are : (mux : Mux) → AreSentAt (own mux)
+as_they_are mux = record { more = 0; sent = λ table. omega arith }
+
+module _ (mux : Mux) (ids : HasIds (own mux)) (guide : Guide) (moment : ℕ) (content : Key → Option Content) where
   -- an own service, with the part that the guide has of it
   abbrev HasOwn : MuxService → Type 0
   HasOwn s = HasService mux moment content s (part_of guide s.service)
@@ -92,32 +89,24 @@ module _ (mux : Mux) (ids : HasIds mux) (guide : Guide) (moment : ℕ) (content 
   abbrev AreHeld : List SubTable → Type 0
   AreHeld ts = AllByRecursion (Held content) ts
 
-  all_services : (ss : List MuxService) → AllByRecursion IsSoundService ss → Parts IsServiceWithin ss → Parts (λ (g : ServiceGuide). AllByRecursion IsTyped g.events) ss
-      → Parts (λ (g : ServiceGuide). AreSmallEntries g.events) ss → AllByRecursion (λ (s : MuxService). Held content (programs.pmt_table s)) ss
+  all_services : (ss : List MuxService) → AllByRecursion IsSoundService ss → Parts CanBeShown ss → AllByRecursion (λ (s : MuxService). Held content (programs.pmt_table s)) ss
       → Parts (λ (g : ServiceGuide). Held content (present_table mux moment g)) ss → Parts (λ (g : ServiceGuide). AreHeld (near_tables mux (midnight moment) g)) ss
       → Parts (λ (g : ServiceGuide). AreHeld (far_tables mux (midnight moment) g)) ss → AllByRecursion HasOwn ss
-  all_services [] sound within typed small pmts presents near far = tt
-  all_services (s ∷ ss) sound within typed small pmts presents near far =
+  all_services [] sound can pmts presents near far = tt
+  all_services (s ∷ ss) sound can pmts presents near far =
       let g = part_of guide s.service in
-      let one : HasOwn s = record {
-        same = part_id guide s.service;
-        sound = sound.0;
-        within = within.0;
-        typed = typed.0;
-        placed = events_can_be_placed g.events within.0.events small.0;
-        pmt = pmts.0;
+      let events : HasEvents (own mux) moment content g = record {
+        can = can.0;
         present = presents.0;
-        tables = has_tables mux ids (midnight moment) g content near.0 far.0;
+        tables = has_tables (own mux) ids (as_they_are mux) (midnight moment) g content near.0 far.0;
       } in
-      (one, all_services ss sound.1 within.1 typed.1 small.1 pmts.1 presents.1 near.1 far.1)
+      let one : HasOwn s = record { same = part_id guide s.service; sound = sound.0; pmt = pmts.0; events = events } in
+      (one, all_services ss sound.1 can.1 pmts.1 presents.1 near.1 far.1)
 
   -- ---- one service
 
   abbrev sdt : Key
   sdt = sdt_key mux
-
-  zeroth : (moment : ℕ) → midnight moment % 86400 ≡ 0
-  zeroth moment = omega arith
 
   module _ (s : MuxService) (g : ServiceGuide) (has : HasService mux moment content s g) where
     abbrev made : Option ℕ → Option Pmt → Option ScreenEvent → Option ScreenEvent → List ScreenEvent → ScreenService
@@ -134,70 +123,42 @@ module _ (mux : Mux) (ids : HasIds mux) (guide : Guide) (moment : ℕ) (content 
       events = events;
     }
 
-    codable : All IsCodable g.events
-    codable = all_codable g.events has.within.events.each
-
-    types : All IsTyped g.events
-    types = All-from_recursion IsTyped g.events has.typed
-
     pmt_is : pmt_of content s.service (Some s.pmt_pid) ≡ Some (programs.pmt_of s)
     pmt_is = ap (λ (o : Option Content). value_in pmt_in 0 (sections o)) has.pmt ∙ pmt_said s has.sound
 
-    present_is : content (eit_key mux 0x4E s.service) ≡ Some (present_sections (own mux) moment g.events)
-    present_is = ap (λ (n : ℕ). content (eit_key mux 0x4E n)) (sym has.same) ∙ has.present
-
-    now_is : event_at 0 (table_at content sdt s.service 0x4E) ≡ first_shown (present_event moment g.events)
-    now_is = ap (λ (o : Option Content). event_at 0 (sections o)) present_is ∙ now_said mux ids g.events codable types moment
-
-    next_is : event_at 1 (table_at content sdt s.service 0x4E) ≡ first_shown (following_event moment g.events)
-    next_is = ap (λ (o : Option Content). event_at 1 (sections o)) present_is ∙ next_said mux ids g.events codable types moment
-
-    abbrev last : ℕ
-    last = last_table_of (midnight moment) g.events
-
-    -- the first table is one of them
-    first_table : HasTable mux (midnight moment) g content 0x50
-    first_table =
-        (subst (λ (n : ℕ). AllByRecursion (HasTable mux (midnight moment) g content) (numbers_from 0x50 n))
-        (let size : 1 + last - 0x50 ≡ suc (1 + last - 0x51) = omega arith in size) has.tables).0
-
-    last_own : last_table 0x5F (table_at content sdt g.service 0x50) ≡ last
-    last_own = last_is mux ids (midnight moment) g content has.placed.fit first_table
-
-    events_are : schedule_of content sdt s.service 0x50 0x5F ≡ map shown_event (filter (is_scheduled (midnight moment)) g.events)
-    events_are =
-        ap (λ (n : ℕ). schedule_of content sdt n 0x50 0x5F) (sym has.same)
-        ∙ schedule_said mux ids (midnight moment) g content codable types has.within has.placed (zeroth moment) has.tables last_own
-
-    service_is : (es : List PatEntry) → pmt_pid es s.service ≡ Some s.pmt_pid → screen_service content es sdt (sdt_service s g) ≡ service_shown moment s g
+    service_is : (es : List PatEntry) → pmt_pid es s.service ≡ Some s.pmt_pid → screen_service content es sdt (sdt_service (kind_of s) g) ≡ service_shown moment s g
     service_is es pid =
         let now = event_at 0 (table_at content sdt s.service 0x4E) in
         let next = event_at 1 (table_at content sdt s.service 0x4E) in
         let events = schedule_of content sdt s.service 0x50 0x5F in
         ap (λ (o : Option ℕ). made o (pmt_of content s.service o) now next events) pid
         ∙ ap (λ (o : Option Pmt). made (Some s.pmt_pid) o now next events) pmt_is
-        ∙ ap (λ (o : Option ScreenEvent). made (Some s.pmt_pid) (Some (programs.pmt_of s)) o next events) now_is
-        ∙ ap (λ (o : Option ScreenEvent). made (Some s.pmt_pid) (Some (programs.pmt_of s)) (first_shown (present_event moment g.events)) o events) next_is
-        ∙ ap (λ (l : List ScreenEvent). made (Some s.pmt_pid) (Some (programs.pmt_of s)) (first_shown (present_event moment g.events)) (first_shown (following_event moment g.events)) l) events_are
+        ∙ ap (λ (o : Option ScreenEvent). made (Some s.pmt_pid) (Some (programs.pmt_of s)) o next events)
+        (now_is (own mux) ids (as_they_are mux) moment content s.service g has.same has.events)
+        ∙ ap (λ (o : Option ScreenEvent). made (Some s.pmt_pid) (Some (programs.pmt_of s)) (now_shown moment g) o events)
+        (next_is (own mux) ids (as_they_are mux) moment content s.service g has.same has.events)
+        ∙ ap (λ (l : List ScreenEvent). made (Some s.pmt_pid) (Some (programs.pmt_of s)) (now_shown moment g) (next_shown moment g) l)
+        (events_are (own mux) ids (as_they_are mux) moment content s.service g has.same has.events)
 
     -- its wants are met
     abbrev Met : Want → Type 0
     Met w = is_some (content w.key) ≡ true
 
-    tables_met : (ts : List ℕ) → AllByRecursion (HasTable mux (midnight moment) g content) ts → AllByRecursion Met (map (want_table sdt s.service) ts)
+    tables_met : (ts : List ℕ) → AllByRecursion (HasTable (own mux) (midnight moment) g content) ts → AllByRecursion Met (map (want_table sdt s.service) ts)
     tables_met [] all = tt
     tables_met (t ∷ ts) all = (ap is_some (ap (λ (n : ℕ). content (eit_key mux t n)) (sym has.same) ∙ all.0), tables_met ts all.1)
 
     schedule_met : AllByRecursion Met (map (want_table sdt s.service) (schedule_tables content sdt s.service))
     schedule_met =
-        let told : last_table 0x5F (table_at content sdt s.service 0x50) ≡ last = ap (λ (n : ℕ). last_table 0x5F (table_at content sdt n 0x50)) (sym has.same) ∙ last_own in
+        let last : ℕ = last_table_of (midnight moment) g.events in
+        let told : last_table 0x5F (table_at content sdt s.service 0x50) ≡ last = last_told (own mux) ids (as_they_are mux) moment content s.service g has.same has.events in
         subst (λ (n : ℕ). AllByRecursion Met (map (want_table sdt s.service) (0x50 ∷ tables_to 0x51 n))) (sym told)
         (tables_met (0x50 ∷ tables_to 0x51 last)
-        (subst (λ (n : ℕ). AllByRecursion (HasTable mux (midnight moment) g content) (numbers_from 0x50 n))
-        (let size : 1 + last - 0x50 ≡ suc (1 + last - 0x51) = omega arith in size) has.tables))
+        (subst (λ (n : ℕ). AllByRecursion (HasTable (own mux) (midnight moment) g content) (numbers_from 0x50 n))
+        (let size : 1 + last - 0x50 ≡ suc (1 + last - 0x51) = omega arith in size) has.events.tables))
 
-    service_met : AllByRecursion Met (want_service content sdt (sdt_service s g))
-    service_met = (ap is_some present_is, schedule_met)
+    service_met : AllByRecursion Met (want_service content sdt (sdt_service (kind_of s) g))
+    service_met = (ap is_some (present_is (own mux) ids (as_they_are mux) moment content s.service g has.same has.events), schedule_met)
 
     pmt_met : AllByRecursion Met (want_pmt (program_entry s))
     pmt_met = go (s.service == 0)
@@ -209,7 +170,7 @@ module _ (mux : Mux) (ids : HasIds mux) (guide : Guide) (moment : ℕ) (content 
   -- ---- all services
 
   services_are : (es : List PatEntry) (ss : List MuxService) → AllByRecursion HasOwn ss → AllByRecursion (λ (s : MuxService). pmt_pid es s.service ≡ Some s.pmt_pid) ss
-      → map (screen_service content es sdt) (map (own_service guide) ss) ≡ map (λ (s : MuxService). service_shown moment s (part_of guide s.service)) ss
+      → map (screen_service content es sdt) (sdt_services guide (map kind_of ss)) ≡ map (λ (s : MuxService). service_shown moment s (part_of guide s.service)) ss
   services_are es [] has pids = refl
   services_are es (s ∷ ss) has pids =
       ap₂ (λ (x : ScreenService) (l : List ScreenService). x ∷ l) (service_is s (part_of guide s.service) has.0 es pids.0) (services_are es ss has.1 pids.1)
@@ -221,10 +182,10 @@ module _ (mux : Mux) (ids : HasIds mux) (guide : Guide) (moment : ℕ) (content 
       (pmts_met ss has.1)
 
   services_met : (ss : List MuxService) → AllByRecursion HasOwn ss
-      → AllByRecursion (λ (w : Want). is_some (content w.key) ≡ true) (flat_map (want_service content sdt) (map (own_service guide) ss))
+      → AllByRecursion (λ (w : Want). is_some (content w.key) ≡ true) (flat_map (want_service content sdt) (sdt_services guide (map kind_of ss)))
   services_met [] has = tt
   services_met (s ∷ ss) has =
-      all_append (λ (w : Want). is_some (content w.key) ≡ true) (want_service content sdt (own_service guide s)) (flat_map (want_service content sdt) (map (own_service guide) ss))
+      all_append (λ (w : Want). is_some (content w.key) ≡ true) (want_service content sdt (named_service guide (kind_of s))) (flat_map (want_service content sdt) (sdt_services guide (map kind_of ss)))
       (service_met s (part_of guide s.service) has.0) (services_met ss has.1)
 
 none_unmet : (content : Key → Option Content) (ws : List Want) → AllByRecursion (λ (w : Want). is_some (content w.key) ≡ true) ws → unmet_of content ws ≡ []
@@ -255,42 +216,100 @@ module _ (nit_back : NitReadsBack) (sdt_back : SdtReadsBack) (mux : Mux) (guide 
   abbrev moment : ℕ
   moment = guide.moment.0
 
-  ids : HasIds mux
+  ids : HasIds (own mux)
   ids = record { stream = sound.stream; original = sound.original }
 
+  abbrev IsHeld : List SubTable → Type 0
+  IsHeld ts = AllByRecursion (Held V.content) ts
+
   abbrev events : List SubTable
-  events = present_tables mux guide ++ (all_near_tables mux guide ++ all_far_tables mux guide)
+  events = present_tables mux guide ++ (near_part mux guide ++ far_part mux guide)
 
   pat_has : Held V.content (pat_table mux)
   pat_has = has.contents.0
 
-  pmts_have : AllByRecursion (Held V.content) (pmt_tables mux)
+  pmts_have : IsHeld (pmt_tables mux)
   pmts_have = all_front (Held V.content) (pmt_tables mux) (nit_table mux ∷ sdt_table mux guide ∷ events) has.contents.1
 
-  others_have : AllByRecursion (Held V.content) (nit_table mux ∷ sdt_table mux guide ∷ events)
-  others_have = all_behind (Held V.content) (pmt_tables mux) (nit_table mux ∷ sdt_table mux guide ∷ events) has.contents.1
+  tables_have : IsHeld (nit_table mux ∷ sdt_table mux guide ∷ events)
+  tables_have = all_behind (Held V.content) (pmt_tables mux) (nit_table mux ∷ sdt_table mux guide ∷ events) has.contents.1
 
-  schedules_have : AllByRecursion (Held V.content) (all_near_tables mux guide ++ all_far_tables mux guide)
-  schedules_have = all_behind (Held V.content) (present_tables mux guide) (all_near_tables mux guide ++ all_far_tables mux guide) others_have.1.1
+  presents_have : IsHeld (present_tables mux guide)
+  presents_have = all_front (Held V.content) (present_tables mux guide) (near_part mux guide ++ far_part mux guide) tables_have.1.1
 
-  -- what holds of each part of the guide, and of each table of the parts
-  of_guide : (P : ServiceGuide → Type 0) → AllByRecursion P guide.services → AllByRecursion (λ (s : MuxService). P (part_of guide s.service)) mux.services
-  of_guide P all = of_parts P mux guide same all
+  rest_have : IsHeld (near_part mux guide ++ far_part mux guide)
+  rest_have = all_behind (Held V.content) (present_tables mux guide) (near_part mux guide ++ far_part mux guide) tables_have.1.1
+
+  near_have : IsHeld (near_part mux guide)
+  near_have = all_front (Held V.content) (near_part mux guide) (far_part mux guide) rest_have
+
+  far_have : IsHeld (far_part mux guide)
+  far_have = all_behind (Held V.content) (near_part mux guide) (far_part mux guide) rest_have
+
+  events_have : IsHeld (all_remote_presents mux guide ++ all_near_tables mux guide)
+  events_have = all_behind (Held V.content) (other_sdt_tables mux guide) (all_remote_presents mux guide ++ all_near_tables mux guide) near_have
+
+  -- what holds of each part of the guide
+  parts_shown : AllByRecursion CanBeShown guide.services
+  parts_shown = parts_can_be_shown guide.services within.services kept.services typed (typed_small guide within typed)
+
+  own_shown : AllByRecursion (λ (s : MuxService). CanBeShown (part_of guide s.service)) mux.services
+  own_shown = of_parts CanBeShown mux guide same parts_shown
 
   of_tables : (P : ServiceGuide → Type 0) → AllByRecursion P (own_guide mux guide) → AllByRecursion (λ (s : MuxService). P (part_of guide s.service)) mux.services
   of_tables P all = all_of_map P (λ (s : MuxService). part_of guide s.service) mux.services all
 
   services_have : AllByRecursion (HasOwn mux ids guide moment V.content) mux.services
   services_have =
-      all_services mux ids guide moment V.content mux.services sound.sound.services (of_guide IsServiceWithin within.services)
-      (of_guide (λ (g : ServiceGuide). AllByRecursion IsTyped g.events) typed) (of_guide (λ (g : ServiceGuide). AreSmallEntries g.events) (typed_small guide within typed))
+      all_services mux ids guide moment V.content mux.services sound.sound.services own_shown
       (all_of_map (Held V.content) programs.pmt_table mux.services pmts_have)
-      (of_tables (λ (g : ServiceGuide). Held V.content (present_table mux moment g)) (all_of_map (Held V.content) (present_table mux moment) (own_guide mux guide)
-      (all_front (Held V.content) (present_tables mux guide) (all_near_tables mux guide ++ all_far_tables mux guide) others_have.1.1)))
-      (of_tables (λ (g : ServiceGuide). AllByRecursion (Held V.content) (near_tables mux (midnight moment) g)) (of_flat (Held V.content) (near_tables mux (midnight moment)) (own_guide mux guide)
-      (all_front (Held V.content) (all_near_tables mux guide) (all_far_tables mux guide) schedules_have)))
-      (of_tables (λ (g : ServiceGuide). AllByRecursion (Held V.content) (far_tables mux (midnight moment) g)) (of_flat (Held V.content) (far_tables mux (midnight moment)) (own_guide mux guide)
-      (all_behind (Held V.content) (all_near_tables mux guide) (all_far_tables mux guide) schedules_have)))
+      (of_tables (λ (g : ServiceGuide). Held V.content (present_table mux moment g)) (all_of_map (Held V.content) (present_table mux moment) (own_guide mux guide) presents_have))
+      (of_tables (λ (g : ServiceGuide). IsHeld (near_tables mux (midnight moment) g)) (of_flat (Held V.content) (near_tables mux (midnight moment)) (own_guide mux guide)
+      (all_behind (Held V.content) (all_remote_presents mux guide) (all_near_tables mux guide) events_have)))
+      (of_tables (λ (g : ServiceGuide). IsHeld (far_tables mux (midnight moment) g)) (of_flat (Held V.content) (far_tables mux (midnight moment)) (own_guide mux guide)
+      (all_front (Held V.content) (all_far_tables mux guide) (all_remote_schedules mux guide) far_have)))
+
+  services_named : (ss : List MuxService) → AllByRecursion IsSoundService ss → AllByRecursion (λ (s : MuxService). CanBeShown (part_of guide s.service)) ss
+      → AllByRecursion (IsNamed guide) (map kind_of ss)
+  services_named [] sound can = tt
+  services_named (s ∷ ss) sound can = (record { service = omega (arith, sound.0.service.1); within = can.0.within; kept = can.0.kept }, services_named ss sound.1 can.1)
+
+  -- ---- other streams
+
+  of_remotes : (P : ServiceGuide → Type 0) (o : Other) → AllByRecursion P (remote_guide guide o) → AllByRecursion (λ (s : RemoteService). P (part_of guide s.service)) o.services
+  of_remotes P o all = all_of_map P (λ (s : RemoteService). part_of guide s.service) o.services all
+
+  one_other : (o : Other) → HasStreamIds o → IsSoundOther o → HasPartsOf guide o → Held V.content (other_sdt_table guide o) → IsHeld (remote_presents guide o) → IsHeld (remote_schedules guide o)
+      → HasOther guide V.content o
+  one_other o wide sound parts sdt presents schedules = record {
+    ids = wide;
+    sound = sound;
+    can = of_remotes CanBeShown o (of_remote CanBeShown guide o parts parts_shown);
+    sdt = sdt;
+    presents = of_remotes (λ (g : ServiceGuide). Held V.content (present_of (bearer_of o) moment g)) o
+        (all_of_map (Held V.content) (present_of (bearer_of o) moment) (remote_guide guide o) presents);
+    tables = of_remotes (λ (g : ServiceGuide). IsHeld (remote_tables (bearer_of o) (midnight moment) g)) o
+        (of_flat (Held V.content) (remote_tables (bearer_of o) (midnight moment)) (remote_guide guide o) schedules);
+  }
+
+  each_other : (os : List Other) → AllByRecursion HasStreamIds os → AllByRecursion IsSoundOther os → AllByRecursion (HasPartsOf guide) os → IsHeld (map (other_sdt_table guide) os)
+      → IsHeld (flat_map (remote_presents guide) os) → IsHeld (flat_map (remote_schedules guide) os) → AllByRecursion (HasOther guide V.content) os
+  each_other [] wide sound parts sdts presents schedules = tt
+  each_other (o ∷ os) wide sound parts sdts presents schedules = (
+    one_other o wide.0 sound.0 parts.0 sdts.0 (all_front (Held V.content) (remote_presents guide o) (flat_map (remote_presents guide) os) presents)
+        (all_front (Held V.content) (remote_schedules guide o) (flat_map (remote_schedules guide) os) schedules),
+    each_other os wide.1 sound.1 parts.1 sdts.1 (all_behind (Held V.content) (remote_presents guide o) (flat_map (remote_presents guide) os) presents)
+        (all_behind (Held V.content) (remote_schedules guide o) (flat_map (remote_schedules guide) os) schedules),
+  )
+
+  others_have : AllByRecursion (HasOther guide V.content) mux.others
+  others_have =
+      each_other mux.others sound.others sound.sound.others.each (others_have_parts mux guide same)
+      (all_front (Held V.content) (other_sdt_tables mux guide) (all_remote_presents mux guide ++ all_near_tables mux guide) near_have)
+      (all_front (Held V.content) (all_remote_presents mux guide) (all_near_tables mux guide) events_have)
+      (all_behind (Held V.content) (all_far_tables mux guide) (all_remote_schedules mux guide) far_have)
+
+  -- ---- what is needed
 
   sdt_is : sdt_of V ≡ Some (sdt_key mux)
   sdt_is = ap (λ (o : Option Key). sdt_behind V o) has.pat ∙ has.sdt
@@ -300,19 +319,19 @@ module _ (nit_back : NitReadsBack) (sdt_back : SdtReadsBack) (mux : Mux) (guide 
       ap (λ (o : Option Key). programs_in (sections_at V.content o)) has.pat ∙ ap (λ (o : Option Content). programs_in (sections o)) pat_has
       ∙ ap (λ (o : Option (List PatEntry)). unwrap_or o [] ++ []) (pat_said mux sound.sound) ∙ append-nil (pat_of mux)
 
-  services_sorted : services_of V ≡ sdt_services mux guide
+  services_sorted : services_of V ≡ sdt_services guide (own_kinds mux)
   services_sorted =
       ap (λ (o : Option Key). by_service (services_in (sections_at V.content o))) sdt_is
-      ∙ ap (λ (o : Option Content). by_service (services_in (sections o))) others_have.1.0
-      ∙ ap by_service (sdt_said sdt_back mux guide sound same within kept.services)
-      ∙ services_in_order mux guide sound.sound.ascend
+      ∙ ap (λ (o : Option Content). by_service (services_in (sections o))) tables_have.1.0
+      ∙ ap by_service (sdt_said sdt_back mux.original guide (own_kinds mux) sound.original within (services_named mux.services sound.sound.services own_shown))
+      ∙ own_in_order mux guide sound.sound.ascend
 
   all_met : AllByRecursion (λ (w : Want). is_some (V.content w.key) ≡ true) (wants V)
   all_met =
       subst (λ (es : List PatEntry). AllByRecursion (λ (w : Want). is_some (V.content w.key) ≡ true) (flat_map want_pmt es ++ want_services V.content (sdt_of V) (services_of V))) (sym programs_are)
       (subst (λ (o : Option Key). AllByRecursion (λ (w : Want). is_some (V.content w.key) ≡ true) (flat_map want_pmt (pat_of mux) ++ want_services V.content o (services_of V))) (sym sdt_is)
       (subst (λ (ss : List SdtService). AllByRecursion (λ (w : Want). is_some (V.content w.key) ≡ true) (flat_map want_pmt (pat_of mux) ++ flat_map (want_service V.content (sdt_key mux)) ss)) (sym services_sorted)
-      (all_append (λ (w : Want). is_some (V.content w.key) ≡ true) (flat_map want_pmt (pat_of mux)) (flat_map (want_service V.content (sdt_key mux)) (sdt_services mux guide))
+      (all_append (λ (w : Want). is_some (V.content w.key) ≡ true) (flat_map want_pmt (pat_of mux)) (flat_map (want_service V.content (sdt_key mux)) (sdt_services guide (own_kinds mux)))
       (pmts_met mux ids guide moment V.content mux.services services_have) (services_met mux ids guide moment V.content mux.services services_have))))
 
   abbrev needs_by : Option Key → Option Key → Option Key → Option ℕ → List Need → List Need
@@ -333,14 +352,18 @@ module _ (nit_back : NitReadsBack) (sdt_back : SdtReadsBack) (mux : Mux) (guide 
 
   name_is : network_name (sections (V.content (nit_key mux))) ≡ Text mux.network_name
   name_is =
-      ap (λ (o : Option Content). network_name (sections o)) others_have.0
+      ap (λ (o : Option Content). network_name (sections o)) tables_have.0
       ∙ ap (λ (o : Option Nit). unwrap_or (option_map (λ (nit : Nit). nit.name) o) (Text [])) nit_is
+
+  streams_are : streams_in (sections (V.content (nit_key mux))) ≡ (nit_of mux).streams
+  streams_are =
+      ap (λ (o : Option Content). streams_in (sections o)) tables_have.0
+      ∙ ap (λ (o : Option Nit). unwrap_or (option_map (λ (nit : Nit). nit.streams) o) [] ++ []) nit_is ∙ append-nil (nit_of mux).streams
 
   cable_is : cable_in mux.stream mux.original (streams_in (sections (V.content (nit_key mux)))) ≡ mux.cable
   cable_is =
-      ap (λ (o : Option Content). cable_in mux.stream mux.original (streams_in (sections o))) others_have.0
-      ∙ ap (λ (o : Option Nit). cable_in mux.stream mux.original (unwrap_or (option_map (λ (nit : Nit). nit.streams) o) [] ++ [])) nit_is
-      ∙ ap (λ (b : Bool). if b then mux.cable else None) (own mux.stream mux.original)
+      ap (cable_in mux.stream mux.original) streams_are
+      ∙ ap (λ (b : Bool). if b then mux.cable else cable_in mux.stream mux.original (map stream_sent mux.others)) (own mux.stream mux.original)
     where
       own : (a b : ℕ) → (a == a && b == b) ≡ true
       own a b = grind (arith, nat_tests)
@@ -369,12 +392,14 @@ module _ (nit_back : NitReadsBack) (sdt_back : SdtReadsBack) (mux : Mux) (guide 
   screen_is =
       let c = sections (V.content (nit_key mux)) in
       let services = map (screen_service V.content (programs_of V) (sdt_key mux)) (services_of V) in
-      let others = λ (ks : List Key). other_streams V.content (streams_in c) mux.stream mux.original ks in
-      ap (λ (os : List Offset). screen_with os (network_name c) (cable_in mux.stream mux.original (streams_in c)) services (others V.others)) has.offsets_are
-      ∙ ap (λ (x : Shown). screen_with mux.offsets x (cable_in mux.stream mux.original (streams_in c)) services (others V.others)) name_is
-      ∙ ap (λ (x : Option Cable). screen_with mux.offsets (Text mux.network_name) x services (others V.others)) cable_is
-      ∙ ap (λ (l : List ScreenService). screen_with mux.offsets (Text mux.network_name) mux.cable l (others V.others)) services_are_shown
-      ∙ ap (λ (ks : List Key). screen_with mux.offsets (Text mux.network_name) mux.cable (services_shown mux guide) (others ks)) has.others_are
+      let others = λ (es : List NitStream) (ks : List Key). other_streams V.content es mux.stream mux.original ks in
+      ap (λ (os : List Offset). screen_with os (network_name c) (cable_in mux.stream mux.original (streams_in c)) services (others (streams_in c) V.others)) has.offsets_are
+      ∙ ap (λ (x : Shown). screen_with mux.offsets x (cable_in mux.stream mux.original (streams_in c)) services (others (streams_in c) V.others)) name_is
+      ∙ ap (λ (x : Option Cable). screen_with mux.offsets (Text mux.network_name) x services (others (streams_in c) V.others)) cable_is
+      ∙ ap (λ (l : List ScreenService). screen_with mux.offsets (Text mux.network_name) mux.cable l (others (streams_in c) V.others)) services_are_shown
+      ∙ ap (λ (ks : List Key). screen_with mux.offsets (Text mux.network_name) mux.cable (services_shown mux guide) (others (streams_in c) ks)) has.others_are
+      ∙ ap (λ (es : List NitStream). screen_with mux.offsets (Text mux.network_name) mux.cable (services_shown mux guide) (others es (map other_sdt_key mux.others))) streams_are
+      ∙ ap (screen_with mux.offsets (Text mux.network_name) mux.cable (services_shown mux guide)) (others_are sdt_back mux sound guide within V.content others_have)
 
   pub shown : heard_of V ≡ Whole (screen_of mux guide clock)
   shown =

@@ -3,8 +3,8 @@ ghost use Rattle.publication_screen.specs.Laws.{PublicationIsShown};
 
 use nit_sdt::written_networks_read_back;
 
-/// Where a view has all tables of a publication, whatever else it has, the key of its PAT, of its NIT and of its SDT, no SDT of another stream,
-/// and a moment, nothing is wanting, and the screen is that of the guide.
+/// Where a view has all tables of a publication, whatever else it has, the key of its PAT, of its NIT, of its SDT and of the SDTs of the other
+/// streams, and a moment, nothing is wanting, and the screen is that of the guide.
 pub fn publications_are_shown()
     ensures { PublicationIsShown }
 {
