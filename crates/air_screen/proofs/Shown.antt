@@ -1,9 +1,10 @@
 -- What is published is shown.
 use Rattle.std.proofs.Common.{◌≡◌, ℕ, ◌<◌, List, [], ◌∷◌, ◌++◌, true, false, Option, Some, None, length, map, refl, sym, ap, ◌∙◌, subst, append_assoc, eq-eqb}
 use Rattle.std.specs.Prelude.{◌*◌, slice_range, IsSome}
-use Rattle.std.specs.List.{AllByRecursion}
-use Rattle.si_lists.proofs.Lists.{all_map, all_two, all_behind}
+use Rattle.std.specs.List.{AllByRecursion, Contains}
+use Rattle.si_lists.proofs.Lists.{all_map, all_of_map, all_through, all_two, all_front, all_behind}
 use Rattle.guide_model.specs.declared.guide.Guide.{Guide}
+use Rattle.mux_model.specs.declared.mux.Other.{Other}
 use Rattle.mux_model.specs.declared.mux.Mux.{Mux}
 use Rattle.mux_model.specs.Sound.{IsSoundWithIds}
 use Rattle.section_codec.specs.declared.table.Key.{Key}
@@ -23,17 +24,17 @@ use Rattle.air_model.specs.Air.{Aired, air, airings_of}
 use Rattle.air_model.specs.Repeating.{IsRepeatingAirOf}
 use Rattle.air_hearing.specs.Counting.{CanBeHeard}
 use Rattle.air_joins.specs.Joining.{HasPacketIn}
-use Rattle.air_exact.specs.Exact.{StaysOnAir, HaveOneEach, TellOffsetsOf, HasOnAir}
+use Rattle.air_exact.specs.Exact.{StaysOnAir, IsCarried, HaveOneEach, TellOffsetsOf, HasOnAir}
 use Rattle.air_exact.proofs.Views.{element_at, on_air_heard}
 use Rattle.publication.specs.Network.{nit_key, nit_table}
 use Rattle.publication.specs.Programs.{pat_key, pat_table, pmt_tables}
-use Rattle.publication.specs.Tables.{sdt_key, sdt_table, present_tables, all_near_tables, all_far_tables, tables_of}
+use Rattle.publication.specs.Tables.{sdt_key, sdt_table, present_tables, all_near_tables, other_sdt_key, other_sdt_table, other_sdt_tables, all_remote_presents, near_part, far_part, tables_of}
 use Rattle.publication_screen.specs.Shown.{HasPublication}
 use Rattle.publication.proofs.CountedFacts.{published_counted}
 use Rattle.publication_screen.proofs.Whole.{publication_is_shown}
 use Rattle.air_screen.specs.Published.{CanBePublished, ArePublished, HaveOffsetsOf, number_at, StaysPublished, AreShown}
 use Rattle.air_screen.specs.Laws.{PublishedIsShown}
-use Rattle.air_screen.proofs.Keys.{only_pat, only_nit, only_sdt, no_other}
+use Rattle.air_screen.proofs.Keys.{other_keys, only_pat, only_nit, only_sdt, only_others, others_ascend}
 use Rattle.air_exact.proofs.Contents.{can_at}
 
 -- ---- the publication of an airing
@@ -104,29 +105,47 @@ module _ (nit_back : NitReadsBack) (sdt_back : SdtReadsBack) (mux : Mux) (guides
   abbrev Found : SubTable → Type 0
   Found t = content_in t.key x.airing.tables ≡ Some t.sections
 
-  others_found : AllByRecursion Found (nit_table mux ∷ sdt_table mux guide ∷ (present_tables mux guide ++ (all_near_tables mux guide ++ all_far_tables mux guide)))
-  others_found =
-      all_behind Found (pmt_tables mux) (nit_table mux ∷ sdt_table mux guide ∷ (present_tables mux guide ++ (all_near_tables mux guide ++ all_far_tables mux guide))) found.1
+  abbrev events : List SubTable
+  events = present_tables mux guide ++ (near_part mux guide ++ far_part mux guide)
 
-  pub once : HaveOneEach airings x.airing (pat_key mux) (nit_key mux) (sdt_key mux)
+  tables_found : AllByRecursion Found (nit_table mux ∷ sdt_table mux guide ∷ events)
+  tables_found = all_behind Found (pmt_tables mux) (nit_table mux ∷ sdt_table mux guide ∷ events) found.1
+
+  -- those of the other streams among them
+  others_found : AllByRecursion Found (map (other_sdt_table guide) mux.others)
+  others_found =
+      all_front Found (other_sdt_tables mux guide) (all_remote_presents mux guide ++ all_near_tables mux guide)
+      (all_front Found (near_part mux guide) (far_part mux guide) (all_behind Found (present_tables mux guide) (near_part mux guide ++ far_part mux guide) tables_found.1.1))
+
+  other_carried : (o : Other) → Found (other_sdt_table guide o) → IsCarried is_other_sdt_key (other_sdt_key o) x.airing
+  other_carried o e = record { passes = refl; counted = refl; some = some_of (other_sdt_key o) (other_sdt_table guide o).sections e }
+
+  others_carried : AllByRecursion (λ (k : Key). IsCarried is_other_sdt_key k x.airing) (other_keys mux)
+  others_carried =
+      all_through (λ (o : Other). Found (other_sdt_table guide o)) (λ (k : Key). IsCarried is_other_sdt_key k x.airing) other_sdt_key other_carried mux.others
+      (all_of_map Found (other_sdt_table guide) mux.others others_found)
+
+  pub once : HaveOneEach airings x.airing (pat_key mux) (nit_key mux) (sdt_key mux) (other_keys mux)
   once = record {
     pats = each_published (AllByRecursion (λ (t : SubTable). is_pat_key t.key ≡ true → t.key ≡ pat_key mux)) mux guides (λ n. only_pat mux (guides n) sound.sound) numbers airings are;
     nits = each_published (AllByRecursion (λ (t : SubTable). is_nit_key t.key ≡ true → t.key ≡ nit_key mux)) mux guides (λ n. only_nit mux (guides n) sound.sound) numbers airings are;
     sdts = each_published (AllByRecursion (λ (t : SubTable). is_sdt_key mux.stream t.key ≡ true → t.key ≡ sdt_key mux)) mux guides (λ n. only_sdt mux (guides n) sound.sound) numbers airings are;
-    others = each_published (AllByRecursion (λ (t : SubTable). is_other_sdt_key t.key ≡ false)) mux guides (λ n. no_other mux (guides n) sound.sound) numbers airings are;
+    others_only = each_published (AllByRecursion (λ (t : SubTable). is_other_sdt_key t.key ≡ true → Contains (other_keys mux) t.key)) mux guides (λ n. only_others mux (guides n) sound.sound) numbers airings are;
+    others_ascend = others_ascend mux sound.sound;
     pat_is = record { passes = refl; counted = refl; some = some_of (pat_key mux) (pat_table mux).sections found.0 };
-    nit_is = record { passes = refl; counted = refl; some = some_of (nit_key mux) (nit_table mux).sections others_found.0 };
-    sdt_is = record { passes = eq-eqb mux.stream mux.stream refl; counted = refl; some = some_of (sdt_key mux) (sdt_table mux guide).sections others_found.1.0 };
+    nit_is = record { passes = refl; counted = refl; some = some_of (nit_key mux) (nit_table mux).sections tables_found.0 };
+    sdt_is = record { passes = eq-eqb mux.stream mux.stream refl; counted = refl; some = some_of (sdt_key mux) (sdt_table mux guide).sections tables_found.1.0 };
+    others_are = others_carried;
   }
 
-  pub has_publication : (clock : ℕ) (V : View) → HasOnAir x.airing (pat_key mux) (nit_key mux) (sdt_key mux) V → V.clock ≡ Some clock → HasPublication mux guide clock V
+  pub has_publication : (clock : ℕ) (V : View) → HasOnAir x.airing (pat_key mux) (nit_key mux) (sdt_key mux) (other_keys mux) V → V.clock ≡ Some clock → HasPublication mux guide clock V
   has_publication clock V on told = record {
     contents = all_two (λ (t : SubTable). is_counted t.key.pid t.key.table ≡ true) Found (λ (t : SubTable). V.content t.key ≡ Some t.sections)
         (λ t counted found. on.content t.key t.sections counted found) (tables_of mux guide) (published_counted mux guide sound.sound) found;
     pat = on.pat_is;
     nit = on.nit_is;
     sdt = on.sdt_is;
-    others_are = on.others;
+    others_are = on.others_are;
     clock_is = told;
     offsets_are = on.offsets ∙ own_offsets;
   }
@@ -135,7 +154,7 @@ module _ (nit_back : NitReadsBack) (sdt_back : SdtReadsBack) (mux : Mux) (guides
       → AreShown mux guide (map bytes_of_packet (slice_range (air (before ++ x ∷ after)) join end))
   shown_of moment join end stays =
       let packets : List (List ℕ) = map bytes_of_packet (slice_range (air (before ++ x ∷ after)) join end) in
-      let on = on_air_heard airings before x after is can join end (stays_on_air join end stays) moment (pat_key mux) (nit_key mux) (sdt_key mux) once tells in
+      let on = on_air_heard airings before x after is can join end (stays_on_air join end stays) moment (pat_key mux) (nit_key mux) (sdt_key mux) (other_keys mux) once tells in
       let at = some_clock (clock_of (heard_all [] packets)) on.clock in
       let p = can_publish (number_at numbers (length before)) in
       record {

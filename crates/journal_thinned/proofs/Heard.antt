@@ -22,6 +22,7 @@ use Rattle.publication.specs.Programs.{pat_key}
 use Rattle.publication.specs.Tables.{sdt_key, tables_of}
 use Rattle.publication_screen.proofs.Whole.{publication_is_shown}
 use Rattle.air_screen.specs.Published.{ArePublished, HaveOffsetsOf, number_at}
+use Rattle.air_screen.proofs.Keys.{other_keys}
 use Rattle.air_screen.proofs.Shown.{tables_at, some_clock, once, has_publication}
 use Rattle.air_thinned.specs.Thinned.{Fate, bytes_that_came, SomeCame, IsThinnedAir, CameWhole}
 use Rattle.air_thinned.proofs.Coherent.{thinned_coherent}
@@ -72,7 +73,7 @@ module _ (mux : Mux) (journal : List Entry) (is : IsAsRead mux journal) (legal :
       let here : IsRepeatingAirOf (airings_of cycles) (before ++ x ∷ after) = subst (IsRepeatingAirOf (airings_of cycles)) cut repeating in
       let own_thin : IsThinnedAir (before ++ x ∷ after) fates = subst (λ (l : List Aired). IsThinnedAir l fates) cut thin in
       let whole : CameWhole fates before x after = record { whole = came.whole; same = same } in
-      let on = thinned_on_air (airings_of cycles) before x after here all fates own_thin whole moment (pat_key mux) (nit_key mux) (sdt_key mux)
+      let on = thinned_on_air (airings_of cycles) before x after here all fates own_thin whole moment (pat_key mux) (nit_key mux) (sdt_key mux) (other_keys mux)
       (once nit_back sdt_back mux guide_numbers numbers (airings_of cycles) is.sound (can_publish mux journal is legal) published_all tell all before x after here)
       (tells_of before x after cut) in
       let packets : List (List ℕ) = bytes_that_came fates in
