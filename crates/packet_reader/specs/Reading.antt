@@ -70,6 +70,11 @@ abbrev pub HasCause : {T : Type 0} → ℕ → ℕ → Result T PacketStop → T
 HasCause before now (Err stop.Failed) = Rose before now
 HasCause before now result = Unit {0}
 
+-- a call met no fault, but where it answers `Failed`: the count is as it was
+abbrev pub IsQuietUnlessFailed : {T : Type 0} → ℕ → ℕ → Result T PacketStop → Type 0
+IsQuietUnlessFailed before now (Err stop.Failed) = Unit {0}
+IsQuietUnlessFailed before now result = now ≡ before
+
 -- the source gave some bytes, and they stand behind those that were held
 abbrev pub Gathers : Option (List ℕ) → Option (List ℕ) → List ℕ → List ℕ → Type 0
 Gathers left_old left_new held_old held_new = (more : List ℕ) × (held_new ≡ held_old ++ more) × Consumes left_old left_new more

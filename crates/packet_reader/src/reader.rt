@@ -1,9 +1,9 @@
 // A reader of packets.
 ghost use Rattle.std.specs.Prelude.{◌≡◌, ◌≤◌, ◌<◌, ◌↔◌, true, [], ℕ, List, Option, None, Some, Ok, Err, IfOk, OnOk, OnErr, IfSome, IsNone, length, take};
 ghost use Rattle.std.specs.Io.KnownBytes.{IsAtEnd};
-ghost use Rattle.si_causes.specs.Causes.{HasCause as Faulted};
+ghost use Rattle.si_causes.specs.Causes.{HasCause as Faulted, IsQuiet};
 ghost use Rattle.packet_reader.specs.Recordings.{is_packet, packets_in};
-ghost use Rattle.packet_reader.specs.Reading.{GivesPacket, TakesPacket, KeepsPiece, Counts, HasCause, Gathers, fresh, packets_to_come, bytes_left};
+ghost use Rattle.packet_reader.specs.Reading.{GivesPacket, TakesPacket, KeepsPiece, Counts, HasCause, IsQuietUnlessFailed, Gathers, fresh, packets_to_come, bytes_left};
 
 use crate::stop::PacketStop;
 use si_causes::{Failed, ReadBuffer, Source};
@@ -60,6 +60,7 @@ fn gather<S: Source>(source: &mut S, held: &mut ReadBuffer<BUFFER>) -> Result<()
     ensures short { OnErr result (length held.new < 188) }
     ensures lazy { 188 ≤ length held.old → source.new ≡ source.old }
     ensures cause { Faulted (S.faults source.old) (S.faults source.new) result }
+    ensures quiet { IsQuiet (S.faults source.old) (S.faults source.new) result }
     ensures same { S.same source.old source.new }
 {
     while held.bytes().len() < PACKET {
@@ -96,9 +97,9 @@ impl<S: Source> PacketReader<S> {
     /// Goes on to the next packet and gives its number, from 0 on, or `None` exactly at the end.
     ///
     /// `Broken` comes exactly where the next piece does not begin with 0x47, or is shorter than 188 bytes: nothing is taken then, and [`PacketReader::broken_piece`] gives it; `TooLong` exactly where the
-    /// source gave a byte behind its 4,294,967,295th packet. `Failed` comes only where a read of the source failed in this call. After
-    /// any of them, and after the end, each later call answers the same. Where the reader holds 188 bytes or more, the source is
-    /// not read. It takes no memory.
+    /// source gave a byte behind its 4,294,967,295th packet. `Failed` comes only where a read of the source failed in this call; any
+    /// other answer leaves the source's count of faults as it was. After any of these stops, and after the end, each later call answers
+    /// the same. Where the reader holds 188 bytes or more, the source is not read. It takes no memory.
     pub fn next(&mut self) -> Result<Option<u64>, PacketStop>
         ensures packets { self.old.stop ≡ None → (bytes : List ℕ) → bytes_left S.left self.old ≡ Some bytes
             → GivesPacket S.left self.old self.new (packets_in (packets_to_come self.old) bytes) result }
@@ -112,6 +113,7 @@ impl<S: Source> PacketReader<S> {
         ensures sticky { IfSome self.old.stop (λ stop. (result ≡ Err stop) × (self.new ≡ self.old)) }
         ensures lazy { 188 ≤ length self.old.held → self.new.source ≡ self.old.source }
         ensures later { S.faults self.old.source ≤ S.faults self.new.source }
+        ensures quiet { IsQuietUnlessFailed (S.faults self.old.source) (S.faults self.new.source) result }
         ensures same { S.same self.old.source self.new.source }
     {
         if let Some(stop) = self.stop {

@@ -15,7 +15,7 @@ start left faults old empty le = record {
   same = append-nil old.held;
   no_end = refl;
   line = empty;
-  later = omega arith;
+  quiet = refl;
 }
 
 -- what is at hand in all, up to its first LF
@@ -37,7 +37,7 @@ ended left faults old mid before more held line s l h e = (
 -- no LF, and the next piece
 pub grown : {S : Type 0} (left : S → Option (List ℕ)) (faults : S → ℕ) (old mid : Hand S) (before more piece line : List ℕ) (source : S) (taken limit : ℕ) → Split left faults old mid before more
     → line ≡ take 16386 (mid.line ++ first_line mid.held) → has_end mid.held ≡ false → Consumes (left mid.source) (left source) piece
-    → taken ≡ mid.taken + length piece → taken ≤ old.limit → faults mid.source ≤ faults source
+    → taken ≡ mid.taken + length piece → taken ≤ old.limit → faults source ≡ faults mid.source
     → Split left faults old (hand source piece line taken limit) (before ++ mid.held) (more ++ piece)
 grown left faults old mid before more piece line source taken limit s l e c t w f = record {
   consumed = Consumes-trans (left old.source) (left mid.source) (left source) more piece s.consumed c;
@@ -47,7 +47,7 @@ grown left faults old mid before more piece line source taken limit s l e c t w 
   no_end = has_end_append before mid.held s.no_end ∙ e;
   line = l ∙ ap (λ x. take 16386 (x ++ first_line mid.held)) s.line ∙ take_take_append 16386 before (first_line mid.held)
       ∙ ap (λ x. take 16386 (before ++ x)) (first_line_whole mid.held e);
-  later = omega (arith, s.later, f);
+  quiet = f ∙ s.quiet;
 }
 
 -- no LF, and nothing more

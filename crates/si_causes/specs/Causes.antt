@@ -1,4 +1,4 @@
--- What a call on the outside tells: its faults are counted, and a failed call has raised its count.
+-- What a call on the outside tells: its faults are counted, a failed call has raised its count, and a read that succeeds has met none.
 use Rattle.std.specs.Prelude.{◌≡◌, ℕ, ◌-◌, ◌^◌, ◌<◌, ◌≤◌, ◌⊎◌, List, length, take, Result, OnErr, IfOk, Option}
 use Rattle.std.specs.Io.KnownBytes.{Appends}
 
@@ -10,6 +10,10 @@ Rose before now = (before < now) ⊎ (now ≡ 2 ^ 64 - 1)
 pub record HasCause {T E : Type 0} (before now : ℕ) (result : Result T E) : Type 0 where
   pub later : before ≤ now
   pub failed : OnErr result (Rose before now)
+
+-- a call that succeeds met no fault: the count is as it was
+abbrev pub IsQuiet : {T E : Type 0} → ℕ → ℕ → Result T E → Type 0
+IsQuiet before now result = IfOk result (λ value. now ≡ before)
 
 -- a write of a piece that is not empty takes at least one byte of it
 abbrev pub TakesSome : {E : Type 0} → Result ℕ E → List ℕ → Type 0

@@ -19,7 +19,7 @@ pub record Hand (S : Type 0) : Type 0 where
 abbrev pub hand : {S : Type 0} → S → List ℕ → List ℕ → ℕ → ℕ → Hand S
 hand source held line taken limit = record { source = source; held = held; line = line; taken = taken; limit = limit }
 
--- The source gave `more`; before the first LF of all that is at hand stands `before`, and behind it what is held.
+-- The source gave `more` and met no fault; before the first LF of all that is at hand stands `before`, and behind it what is held.
 pub record Split {S : Type 0} (left : S → Option (List ℕ)) (faults : S → ℕ) (old new : Hand S) (before more : List ℕ) : Type 0 where
   pub consumed : Consumes (left old.source) (left new.source) more
   pub taken : new.taken ≡ old.taken + length more
@@ -27,7 +27,7 @@ pub record Split {S : Type 0} (left : S → Option (List ℕ)) (faults : S → �
   pub same : old.held ++ more ≡ before ++ new.held
   pub no_end : has_end before ≡ false
   pub line : new.line ≡ take 16386 before
-  pub later : faults old.source ≤ faults new.source
+  pub quiet : faults new.source ≡ faults old.source
 
 -- the line is the first of all that was at hand, and what is held is what stands behind it
 pub record Gathered {S : Type 0} (left : S → Option (List ℕ)) (old new : Hand S) (more : List ℕ) : Type 0 where

@@ -97,6 +97,11 @@ abbrev pub NextCame : {S : Type 0} → (S → Option (List ℕ)) → (S → ℕ)
 NextCame left faults old new (Ok found) = LineOrEnd left old new found
 NextCame left faults old new (Err stop) = StopCame left faults old new stop
 
+-- a call met no fault, but where it answers `Failed`: the count is as it was
+abbrev pub IsQuietUnlessFailed : {T : Type 0} → ℕ → ℕ → Result T ReadStop → Type 0
+IsQuietUnlessFailed before now (Err Failed) = Unit {0}
+IsQuietUnlessFailed before now result = now ≡ before
+
 -- What a call gives of the lines that were left of a told text: the first of them with its number, and then the
 -- others are left; or the stop. A read that failed gives nothing of them.
 abbrev pub GivesLine : {S : Type 0} → (S → Option (List ℕ)) → Reading S → Reading S → List (List ℕ) × TextEnd → Result (Option ℕ) ReadStop → Type 0

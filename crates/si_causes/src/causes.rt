@@ -3,7 +3,7 @@ ghost use Rattle.std.specs.Prelude.{◌≡◌, ◌+◌, ◌≤◌, ◌<◌, [], 
 ghost use Rattle.std.proofs.Common.{◌∙◌};
 ghost use Rattle.std.specs.Io.{ReadsAtMost};
 ghost use Rattle.std.specs.Io.KnownBytes.{ReadConsumes, WriteAppends, Appends};
-ghost use Rattle.si_causes.specs.Causes.{HasCause, TakesSome, AppendsFront};
+ghost use Rattle.si_causes.specs.Causes.{HasCause, IsQuiet, TakesSome, AppendsFront};
 
 /// A fault of the outside.
 #[derive(Clone, Copy, PartialEq, Eq)]
@@ -26,11 +26,12 @@ pub trait Source: Drop {
 
     /// Reads some of the next bytes into the front of `into`, and says how many. 0 for an `into` that is not
     /// empty is the end. `Failed` comes only where the count of faults rose in the call (or stands at its last
-    /// value, 2^64 - 1), and then no byte was taken.
+    /// value, 2^64 - 1), and then no byte was taken. A read that succeeds leaves the count as it was.
     fn read(&mut self, into: &mut [u8]) -> Result<usize, Failed>
         ensures bound { ReadsAtMost result into.new }
         ensures bytes { ReadConsumes (left self.old) (left self.new) result into.new }
         ensures cause { HasCause (faults self.old) (faults self.new) result }
+        ensures quiet { IsQuiet (faults self.old) (faults self.new) result }
         ensures same { same self.old self.new };
 
     ghost same_at_once: { (a : Self) → same a a };

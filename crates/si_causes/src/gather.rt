@@ -2,9 +2,10 @@
 ghost use Rattle.std.specs.Prelude.{◌≡◌, ◌≤◌, ◌<◌, ◌+◌, ◌++◌, [], ℕ, true, ◌==◌, length, position, take};
 ghost use Rattle.std.specs.Prelude.{IfOk, IfSome, OnErr};
 ghost use Rattle.std.specs.Io.KnownBytes.{Consumes, IsAtEnd, Keeps};
-ghost use Rattle.si_causes.specs.Causes.{HasCause};
+ghost use Rattle.si_causes.specs.Causes.{HasCause, IsQuiet};
 ghost use Rattle.si_causes.specs.Gathering.{Gathers, hand};
 ghost use Rattle.si_causes.specs.Lines.{first_line, after_line, has_end};
+ghost use Rattle.si_causes.specs.Reading.{IsQuietUnlessFailed};
 
 use crate::causes::{Failed, Source};
 use crate::line::Line;
@@ -66,6 +67,7 @@ fn read_piece<S: Source>(source: &mut S, held: &mut LineBuffer, room: u64) -> Re
     ensures end { IfOk result (λ n. n ≡ 0 → IsAtEnd (S.left source.new)) }
     ensures err { OnErr result ((held.new ≡ []) × Keeps (S.left source.old) (S.left source.new)) }
     ensures cause { HasCause (S.faults source.old) (S.faults source.new) result }
+    ensures quiet { IsQuiet (S.faults source.old) (S.faults source.new) result }
     ensures same { S.same source.old source.new }
 {
     held.refill(source, room)
@@ -84,6 +86,7 @@ pub(crate) fn gather<S: Source>(
     ensures gathers { Gathers S.left S.faults (hand source.old held.old line.old taken.old limit)
         (hand source.new held.new line.new taken.new limit) result }
     ensures later { S.faults source.old ≤ S.faults source.new }
+    ensures quiet { IsQuietUnlessFailed (S.faults source.old) (S.faults source.new) result }
     ensures lazy { has_end held.old ≡ true → source.new ≡ source.old }
     ensures same { S.same source.old source.new }
 {

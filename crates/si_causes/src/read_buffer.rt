@@ -1,7 +1,7 @@
 // Bytes that were read and not yet used.
 ghost use Rattle.std.specs.Prelude.{◌≡◌, ◌≤◌, ◌<◌, [], ◌+◌, ◌-◌, length, slice_range, drop, take, IfOk, OnErr};
 ghost use Rattle.std.specs.Io.KnownBytes.{Consumes, IsAtEnd, Keeps};
-ghost use Rattle.si_causes.specs.Causes.{HasCause};
+ghost use Rattle.si_causes.specs.Causes.{HasCause, IsQuiet};
 ghost use Rattle.si_causes.specs.Refilling.{ReadOn};
 
 use crate::causes::{Failed, Source};
@@ -58,7 +58,8 @@ impl<const SIZE: usize> ReadBuffer<SIZE> {
 
     /// Moves the bytes that it holds to the front, reads at most `most` bytes behind them by one read of the source,
     /// and says how many; 0 is the end of the source. It needs fewer than `SIZE` bytes, and a `most` of at least 1.
-    /// `Failed` comes only where the read failed, and leaves the bytes as they were. It takes no memory.
+    /// `Failed` comes only where the read failed, and leaves the bytes as they were; otherwise the source's count of
+    /// faults is as it was. It takes no memory.
     pub fn refill<S: Source>(&mut self, source: &mut S, most: u64) -> Result<usize, Failed>
         requires room { length self.old < SIZE }
         requires some { 1 ≤ most }
@@ -67,6 +68,7 @@ impl<const SIZE: usize> ReadBuffer<SIZE> {
         ensures end { IfOk result (λ n. n ≡ 0 → IsAtEnd (S.left source.new)) }
         ensures err { OnErr result ((self.new ≡ self.old) × Keeps (S.left source.old) (S.left source.new)) }
         ensures cause { HasCause (S.faults source.old) (S.faults source.new) result }
+        ensures quiet { IsQuiet (S.faults source.old) (S.faults source.new) result }
         ensures same { S.same source.old source.new }
     {
         let held = self.end - self.start;
@@ -100,6 +102,7 @@ fn read_on<S: Source>(
     ensures kept { OnErr result (take (end - start) buffer.new ≡ slice_range buffer.old start end) }
     ensures err { OnErr result (Keeps (S.left source.old) (S.left source.new)) }
     ensures cause { HasCause (S.faults source.old) (S.faults source.new) result }
+    ensures quiet { IsQuiet (S.faults source.old) (S.faults source.new) result }
     ensures same { S.same source.old source.new }
 {
     to_front(buffer, start, end);
@@ -132,6 +135,7 @@ fn read_behind<S: Source>(
     ensures end { IfOk result (λ n. n ≡ 0 → IsAtEnd (S.left source.new)) }
     ensures err { OnErr result (Keeps (S.left source.old) (S.left source.new)) }
     ensures cause { HasCause (S.faults source.old) (S.faults source.new) result }
+    ensures quiet { IsQuiet (S.faults source.old) (S.faults source.new) result }
     ensures same { S.same source.old source.new }
 {
     let (_, rest) = buffer.split_at_mut(front);
@@ -148,6 +152,7 @@ fn read_front<S: Source>(source: &mut S, buffer: &mut [u8], most: usize) -> Resu
     ensures end { IfOk result (λ n. n ≡ 0 → IsAtEnd (S.left source.new)) }
     ensures err { OnErr result (Keeps (S.left source.old) (S.left source.new)) }
     ensures cause { HasCause (S.faults source.old) (S.faults source.new) result }
+    ensures quiet { IsQuiet (S.faults source.old) (S.faults source.new) result }
     ensures same { S.same source.old source.new }
 {
     let (front, _) = buffer.split_at_mut(most);

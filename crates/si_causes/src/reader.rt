@@ -2,7 +2,7 @@
 ghost use Rattle.std.specs.Prelude.{◌≡◌, ◌-◌, ◌^◌, ◌<◌, ◌≤◌, true, false, [], ℕ, List, Option, None, Some, Ok, Err, IfOk, IfSome};
 ghost use Rattle.std.specs.Io.KnownBytes.{IsAtEnd};
 ghost use Rattle.si_causes.specs.Lines.{has_end};
-ghost use Rattle.si_causes.specs.Reading.{NextCame, GivesLine, Falls, fresh, fresh_to, room, text_left};
+ghost use Rattle.si_causes.specs.Reading.{NextCame, GivesLine, IsQuietUnlessFailed, Falls, fresh, fresh_to, room, text_left};
 ghost use Rattle.si_causes.specs.Text.{lines_left};
 
 use crate::causes::Source;
@@ -91,8 +91,9 @@ impl<S: Source> LineReader<S> {
     /// Goes on to the next line and gives its number, from 1 on, or `None` exactly at the end.
     ///
     /// `TooLong` comes exactly where the source gave a byte behind its limit before the line was whole.
-    /// `Failed` comes only where a read of the source failed in this call. After either each later call answers the
-    /// same. The source is read only where the bytes that it gave hold no further whole line. It takes no memory.
+    /// `Failed` comes only where a read of the source failed in this call; any other answer leaves the source's count of
+    /// faults as it was. After either stop each later call answers the same. The source is read only where the bytes
+    /// that it gave hold no further whole line. It takes no memory.
     pub fn next(&mut self) -> Result<Option<u64>, ReadStop>
         ensures lines { self.old.stop ≡ None → (text : List ℕ) → text_left S.left self.old ≡ Some text
             → GivesLine S.left self.old self.new (lines_left (room self.old) text) result }
@@ -104,6 +105,7 @@ impl<S: Source> LineReader<S> {
         ensures sticky { IfSome self.old.stop (λ stop. (result ≡ Err stop) × (self.new ≡ self.old)) }
         ensures lazy { has_end self.old.held ≡ true → self.new.source ≡ self.old.source }
         ensures later { S.faults self.old.source ≤ S.faults self.new.source }
+        ensures quiet { IsQuietUnlessFailed (S.faults self.old.source) (S.faults self.new.source) result }
         ensures same { S.same self.old.source self.new.source }
         ensures limit { self.new.limit ≡ self.old.limit }
     {

@@ -37,7 +37,7 @@ returns-in-Err-clause-gathers g c =
         i.1,
         Consumes-kept (g.S.Source.left c.args.source.now) (g.S.Source.left c.loop-limit.source) (g.S.Source.left c.read_piece.new.source) i.1 s.consumed c.in-Err.ensures.err.1,
         ap has_end s.same ∙ has_end_append i.0 c.loop-limit.held s.no_end ∙ none,
-        Rose-from (g.S.Source.faults c.args.source.now) (g.S.Source.faults c.loop-limit.source) (g.S.Source.faults c.read_piece.new.source) s.later c.in-Err.ensures.cause.failed,
+        Rose-from (g.S.Source.faults c.args.source.now) (g.S.Source.faults c.loop-limit.source) (g.S.Source.faults c.read_piece.new.source) (omega (arith, s.quiet)) c.in-Err.ensures.cause.failed,
       ),
     )
 
@@ -48,7 +48,7 @@ returns-then-is_empty-clause-gathers g c =
     let zero : length c.read_piece.new.held ≡ 0 = omega (arith, c.in-Ok.ensures.ok.0, c.if-count-eq0.true) in
     let s = grown g.S.Source.left g.S.Source.faults (hand c.args.source.now c.args.held.now c.args.line.now c.args.taken.now c.args.limit) (hand c.loop-limit.source c.loop-limit.held c.loop-limit.line c.loop-limit.taken c.args.limit)
     i.0 i.1 c.read_piece.new.held c.take_line.new.line c.read_piece.new.source c.loop-limit.taken c.args.limit i.2
-    c.take_line.ensures.line none c.in-Ok.ensures.ok.2 (omega arith) i.2.within c.in-Ok.ensures.cause.later in
+    c.take_line.ensures.line none c.in-Ok.ensures.ok.2 (omega arith) i.2.within c.in-Ok.ensures.quiet in
     let e = at_end g.S.Source.left g.S.Source.faults _ _ _ _ s (no_length c.read_piece.new.held zero) in
     let empty = take_nothing 16386 (i.0 ++ c.loop-limit.held) (lit< tt) (sym s.line ∙ c.is_empty.ensures.0 c.if-is_empty.true) in
     (i.1 ++ c.read_piece.new.held, e.0, (e.2 ∙ empty, c.in-Ok.ensures.end c.if-count-eq0.true))
@@ -60,7 +60,7 @@ returns-else-is_empty-clause-gathers g c =
     let zero : length c.read_piece.new.held ≡ 0 = omega (arith, c.in-Ok.ensures.ok.0, c.if-count-eq0.true) in
     let s = grown g.S.Source.left g.S.Source.faults (hand c.args.source.now c.args.held.now c.args.line.now c.args.taken.now c.args.limit) (hand c.loop-limit.source c.loop-limit.held c.loop-limit.line c.loop-limit.taken c.args.limit)
     i.0 i.1 c.read_piece.new.held c.take_line.new.line c.read_piece.new.source c.loop-limit.taken c.args.limit i.2
-    c.take_line.ensures.line none c.in-Ok.ensures.ok.2 (omega arith) i.2.within c.in-Ok.ensures.cause.later in
+    c.take_line.ensures.line none c.in-Ok.ensures.ok.2 (omega arith) i.2.within c.in-Ok.ensures.quiet in
     let e = at_end g.S.Source.left g.S.Source.faults _ _ _ _ s (no_length c.read_piece.new.held zero) in (
       i.1 ++ c.read_piece.new.held,
       e.0,
@@ -97,7 +97,7 @@ loop-limit-preserved g c =
         i.1 ++ c.read_piece.new.held,
         grown g.S.Source.left g.S.Source.faults (hand c.args.source.now c.args.held.now c.args.line.now c.args.taken.now c.args.limit) (hand c.loop-limit.source c.loop-limit.held c.loop-limit.line c.loop-limit.taken c.args.limit)
             i.0 i.1 c.read_piece.new.held c.take_line.new.line c.read_piece.new.source (c.loop-limit.taken + c.in-Ok.count) c.args.limit i.2
-            c.take_line.ensures.line none c.in-Ok.ensures.ok.2 (omega (arith, c.in-Ok.ensures.ok.0)) within c.in-Ok.ensures.cause.later,
+            c.take_line.ensures.line none c.in-Ok.ensures.ok.2 (omega (arith, c.in-Ok.ensures.ok.0)) within c.in-Ok.ensures.quiet,
       ),
       λ h. absurd (false-true (sym none ∙ ap has_end (c.loop-limit.invariant.1 h).1 ∙ h)),
       g.met.S.Source.same_later c.args.source.now c.loop-limit.source c.read_piece.new.source c.loop-limit.invariant.2 c.in-Ok.ensures.same,
