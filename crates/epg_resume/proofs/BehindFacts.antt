@@ -31,12 +31,13 @@ use Rattle.epg_play.specs.declared.stop.PlayStop.TheVariants.{NoMux as Undescrib
 use Rattle.epg_play.specs.Leaves.{status_for}
 use Rattle.epg_play.specs.Played.{AiredTo, course, desk_after}
 use Rattle.epg_play.specs.Script.{Stop, Ended, NoCommand, Disagreed, TooLong, Unread}
-use Rattle.epg_play.proofs.TypedFacts.{AreTypedCommands, played_typed}
+use Rattle.epg_play.proofs.TypedFacts.{AreTypedCommands, first-typed, played_typed}
 use Rattle.epg_resume.specs.declared.played.Course.{Course}
 use Rattle.epg_resume.specs.declared.played.Played.{Played}
 use Rattle.epg_resume.specs.Checkpointed.{HasRun, IsCheckpoint}
 use Rattle.epg_resume.specs.Courses.{CourseBehind, DeskDid, Finished, HandedBy, course_text, made_entries, met_by, played_text}
 use Rattle.epg_resume.specs.Behind.{CutOn, IsReport, LeavesBehind, StoppedOn, WentOn, before_fault, played_behind}
+use Rattle.epg_resume.proofs.SentBehind.{whole_sent_behind}
 use Rattle.epg_resume.proofs.GoingOn.{IsBase, air_on, course_same, cut_on, desk_with, is_air_on, legal_on, made_same, read_on, run_on, text_on, within_on}
 
 -- ---- reports
@@ -104,7 +105,14 @@ module _ (fold : Bool) (mux : Mux) (shift : ℕ) (journal short : List Entry) (e
       record {
         ended = ended;
         legal = legal;
-        air_is = record { cycles = cycles; is_air = is; made = sent.made; bytes = bytes; heard = airs_heard mux whole (earlier ++ cycles) read legal is };
+        air_is = record {
+          cycles = cycles;
+          is_air = is;
+          made = sent.made;
+          bytes = bytes;
+          heard = airs_heard mux whole (earlier ++ cycles) read legal is;
+          sent = whole_sent_behind mux whole earlier read legal cycles is sent.made;
+        };
         text_is = text fold handed;
         goes_on = λ few. run_on mux shift journal short base earlier cycles rest.0 run typed_all (within_on mux shift journal short base behind.end.desk rest.0 did on.within) is few;
       }
@@ -129,7 +137,8 @@ module _ (fold : Bool) (mux : Mux) (shift : ℕ) (journal short : List Entry) (e
   cut on k did aired reported = record {
     k = k;
     legal = legal_on mux shift journal short base (take k rest.0);
-    air_is = cut_on mux shift journal short base earlier behind.end.desk took (take k rest.0) airings_are did aired;
+    air_is = cut_on mux shift journal short base earlier behind.end.desk took (take k rest.0) airings_are did aired
+        (read_on mux shift journal short base earlier (take k rest.0) run (first-typed k rest.0 typed_all));
     report_is = subst (λ (es : List Entry). Reported report (before_fault fold es ++ fault_lines (WriteFault Air))) (made_are on (take k rest.0) did) reported;
   }
 

@@ -35,6 +35,7 @@ use Rattle.epg_play.specs.Script.{commands_of, first_difference, stop_of, up_to}
 use Rattle.epg_play.proofs.TypedFacts.{AreTypedCommands, after_typed, after_window}
 use Rattle.epg_resume.specs.Checkpointed.{HasRun, IsCheckpoint}
 use Rattle.epg_resume.specs.Behind.{AirOn, CutAirOn, played_behind}
+use Rattle.epg_resume.proofs.SentBehind.{cut_sent_behind, whole_sent_behind}
 
 abbrev pub desk_with : Mux → List Entry → DeskState
 desk_with mux entries = record { mux = mux; entries = entries }
@@ -93,8 +94,16 @@ module _ (mux : Mux) (shift : ℕ) (journal short : List Entry) (base : IsBase m
   pub air_on : (earlier : List Aired) (end : DeskState) (player : Playing) (took : ReportTaken) (commands : List Command) → airings_of earlier ≡ airings mux journal
       → end ≡ desk_after (desk_with mux short) commands → HasAired earlier end player took.old took.new → IsAsRead mux (journal ++ more commands) → AirOn mux journal (more commands) earlier took
   air_on earlier end player took commands before did (cycles, sent, bytes) read =
+      let whole = journal ++ more commands in
       let is = is_air_on earlier cycles end player commands before did sent in
-      record { cycles = cycles; is_air = is; made = sent.made; bytes = bytes; heard = airs_heard mux (journal ++ more commands) (earlier ++ cycles) read (legal_on commands) is }
+      record {
+        cycles = cycles;
+        is_air = is;
+        made = sent.made;
+        bytes = bytes;
+        heard = airs_heard mux whole (earlier ++ cycles) read (legal_on commands) is;
+        sent = whole_sent_behind mux whole earlier read (legal_on commands) cycles is sent.made;
+      }
 
   -- the last entry of a journal that goes on is among the new ones, where it is a swap
   last_new : (front : List Entry) (last : Entry) (entries : List Entry) → short ++ entries ≡ front ++ last ∷ [] → last.step ≡ Swap → (own : List Entry) × (entries ≡ own ++ last ∷ [])
@@ -107,9 +116,12 @@ module _ (mux : Mux) (shift : ℕ) (journal short : List Entry) (base : IsBase m
       by (inl (x ∷ y ∷ k, f, s)) = (let none : [] ≡ y ∷ (k ++ entries) = cc in cc none)
 
   pub cut_on : (earlier : List Aired) (end : DeskState) (took : ReportTaken) (commands : List Command) → airings_of earlier ≡ airings mux journal
-      → end ≡ desk_after (desk_with mux short) commands → HasAiredFront earlier end took.old took.new → CutAirOn mux journal (more commands) earlier took
-  cut_on earlier end took commands before did f =
+      → end ≡ desk_after (desk_with mux short) commands → HasAiredFront earlier end took.old took.new → IsAsRead mux (journal ++ more commands) → CutAirOn mux journal (more commands) earlier took
+  cut_on earlier end took commands before did f read =
       let own = last_new f.front f.last (new commands) (sym (ap (λ (d : DeskState). d.entries) did) ∙ f.entries) f.is_swap in
+      let is = subst (λ (l : List AiredTables). IsAirOf l (earlier ++ (f.whole ++ f.cut ∷ [])))
+      (ap (λ (l : List AiredTables). l ++ airings end.mux end.entries) before
+      ∙ ap (λ (d : DeskState). airings mux journal ++ airings d.mux d.entries) did ∙ sym (base.airs commands)) f.is_air in
       record {
         front = all_raised shift own.0;
         last = raised_entry shift f.last;
@@ -117,13 +129,12 @@ module _ (mux : Mux) (shift : ℕ) (journal short : List Entry) (base : IsBase m
         is_swap = f.is_swap;
         whole = f.whole;
         cut = f.cut;
-        is_air = subst (λ (l : List AiredTables). IsAirOf l (earlier ++ (f.whole ++ f.cut ∷ [])))
-            (ap (λ (l : List AiredTables). l ++ airings end.mux end.entries) before
-            ∙ ap (λ (d : DeskState). airings mux journal ++ airings d.mux d.entries) did ∙ sym (base.airs commands)) f.is_air;
+        is_air = is;
         made = f.made;
         taken = f.taken;
         proper = f.proper;
         bytes = f.bytes;
+        sent = cut_sent_behind mux (journal ++ more commands) earlier read (legal_on commands) f.whole f.cut f.taken is f.made f.proper;
       }
 
   -- ---- folded again

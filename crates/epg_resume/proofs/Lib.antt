@@ -1,3 +1,4 @@
+pub mod SentBehind
 pub mod GoingOn
 pub mod Bases
 pub mod BehindFacts

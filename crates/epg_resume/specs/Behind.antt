@@ -1,5 +1,5 @@
 -- What a run leaves that goes on behind a journal and an air of it.
-use Rattle.std.specs.Prelude.{◌≡◌, ◌<◌, ◌^◌, ℕ, List, [], ◌∷◌, ◌++◌, length, map, take, Bool, true, false}
+use Rattle.std.specs.Prelude.{◌≡◌, ◌<◌, ◌^◌, ℕ, List, [], ◌∷◌, ◌++◌, length, map, take, Bool, true, false, Some}
 use Rattle.std.specs.Io.KnownBytes.{Appends}
 use Rattle.si_causes.specs.Causes.{AppendsFront}
 use Rattle.input_lines.specs.Ahead.{Ahead}
@@ -16,6 +16,7 @@ use Rattle.journal_text.specs.Entries.{journal_text}
 use Rattle.journal_air.specs.Air.{airings}
 use Rattle.journal_screen.specs.Heard.{IsHeardAs}
 use Rattle.headend_jobs.specs.OnAir.{cycle_bytes}
+use Rattle.headend_live.specs.SentAir.{SentAir}
 use Rattle.epg_report.specs.declared.status.Status.{Status}
 use Rattle.epg_report.specs.declared.status.Status.TheVariants.{BadScript, Disagrees, Done, Memory, OpenFault, ReadFault, TooLong as PastLimit, WriteFault}
 use Rattle.epg_report.specs.declared.status.Origin.TheVariants.{Input, Recording}
@@ -29,6 +30,12 @@ use Rattle.epg_resume.specs.Checkpointed.{HasRun, IsCheckpoint}
 abbrev pub played_behind : Mux → List Entry → Ahead → List Command × Stop
 played_behind mux journal lines = played_items mux journal (items_ahead false lines)
 
+-- Behind earlier cycles the air took these bytes. Where the earlier cycles are made as those of a player are, all bytes together are an air
+-- of the journal or the first bytes of one, and that is coherent, exact and spaced. Without earlier cycles they are the bytes taken alone.
+abbrev pub IsSentBehind : Mux → List Entry → List Aired → List ℕ → Type 0
+IsSentBehind mux journal earlier taken =
+    AreMade [] earlier → SentAir mux journal (Some []) (Some (air_bytes earlier ++ taken))
+
 -- Behind earlier cycles the air took cycles that make with them an air of the journal with more entries; neighbours of one PID share
 -- packets. So who hears both parts hears one airing at a time, and is shown the guide of what stays on air.
 pub record AirOn (mux : Mux) (journal more : List Entry) (earlier : List Aired) (air_took : ReportTaken) : Type 0 where
@@ -37,6 +44,7 @@ pub record AirOn (mux : Mux) (journal more : List Entry) (earlier : List Aired) 
   pub made : AreMade earlier cycles
   pub bytes : Appends air_took.old air_took.new (air_bytes cycles)
   pub heard : IsHeardAs mux (journal ++ more) (map bytes_of_packet (air (earlier ++ cycles)))
+  pub sent : IsSentBehind mux (journal ++ more) earlier (air_bytes cycles)
 
 -- The last entry is a swap, and of such cycles the air took all but the last, and a proper front of that.
 pub record CutAirOn (mux : Mux) (journal more : List Entry) (earlier : List Aired) (air_took : ReportTaken) : Type 0 where
@@ -51,6 +59,7 @@ pub record CutAirOn (mux : Mux) (journal more : List Entry) (earlier : List Aire
   pub taken : ℕ
   pub proper : taken < length (cycle_bytes cut)
   pub bytes : Appends air_took.old air_took.new (air_bytes whole ++ take taken (cycle_bytes cut))
+  pub sent : IsSentBehind mux (journal ++ more) earlier (air_bytes whole ++ take taken (cycle_bytes cut))
 
 -- the whole report of more entries, behind which these are all cycles: their text, or with `--fold` the checkpoint of all
 abbrev pub IsReport : Bool → Mux → List Entry → List Entry → List Aired → List ℕ → Type 0

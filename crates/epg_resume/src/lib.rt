@@ -9,8 +9,10 @@
 //! Tested in `headend_rows`: scripts cut after each swap, joined again and compared with the whole;
 //! refused checkpoints; files that cannot be opened or read.
 //!
-//! Not promised: how far apart sections are, how a cut cycle is heard, and what is left after
-//! Memory.
+//! What was sent is coherent, exact and spaced, as with `play`, also where a cycle was cut: with
+//! `--fold` the air of the run, and with `--resume` it and the air before it in a row.
+//!
+//! Not promised: how long the headend was silent between two airs, and what is left after Memory.
 #![tactic(auto)]
 
 mod begin;
