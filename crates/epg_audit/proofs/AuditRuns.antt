@@ -38,25 +38,25 @@ same_met other is = refl
 
 -- ---- what is left
 
-leaves_met : (path : List ℕ) (nulls : Bool) (files : Files) (text : List ℕ) (left : Option (List ℕ)) (report : ReportTaken) (met : Status) → IsMetByAudit met → IsFound path nulls files text left met → Reported report (fault_lines met)
-    → LeavesAudit path nulls files text left report met
-leaves_met path nulls files text left report Done is found took = absurd is
-leaves_met path nulls files text left report (WriteFault Air) is found took = absurd is
-leaves_met path nulls files text left report (WriteFault Report) is found took = absurd is
-leaves_met path nulls files text left report Memory is found took = tt
-leaves_met path nulls files text left report other is found took = (found, took)
+leaves_met : (path : List ℕ) (nulls : Bool) (files : Files) (opener : OpenerAsked) (text : List ℕ) (left : Option (List ℕ)) (report : ReportTaken) (met : Status) → IsMetByAudit met → IsFound path nulls files opener text left met → Reported report (fault_lines met)
+    → LeavesAudit path nulls files opener text left report met
+leaves_met path nulls files opener text left report Done is found took = absurd is
+leaves_met path nulls files opener text left report (WriteFault Air) is found took = absurd is
+leaves_met path nulls files opener text left report (WriteFault Report) is found took = absurd is
+leaves_met path nulls files opener text left report Memory is found took = tt
+leaves_met path nulls files opener text left report other is found took = (found, took)
 
-leaves_of : (path : List ℕ) (nulls : Bool) (files : Files) (text : List ℕ) (left : Option (List ℕ)) (report : ReportTaken) (audited : Result AirCount Status) (status : Status) → IfErr audited IsMetByAudit
-    → FindsIn path nulls files text left audited → Finished audited report status → LeavesAudit path nulls files text left report status
-leaves_of path nulls files text left report audited status is found (inl memory) = subst (LeavesAudit path nulls files text left report) (sym memory) tt
-leaves_of path nulls files text left report (Ok count) status is found (inr (inl (took, same))) =
-    subst (LeavesAudit path nulls files text left report) (sym same) (count, found, subst (Appends report.old report.new) (append-nil (air_line count)) took)
-leaves_of path nulls files text left report (Ok count) status is found (inr (inr (rose, took, same))) =
-    subst (LeavesAudit path nulls files text left report) (sym same) (count, found, subst (AppendsFront report.old report.new) (append-nil (air_line count)) took)
-leaves_of path nulls files text left report (Err met) status is found (inr (inl (took, same))) =
-    subst (LeavesAudit path nulls files text left report) (sym same) (leaves_met path nulls files text left report met is found (inl took))
-leaves_of path nulls files text left report (Err met) status is found (inr (inr (rose, took, same))) =
-    subst (LeavesAudit path nulls files text left report) (sym (same ∙ same_met met is)) (leaves_met path nulls files text left report met is found (inr (rose, took)))
+leaves_of : (path : List ℕ) (nulls : Bool) (files : Files) (opener : OpenerAsked) (text : List ℕ) (left : Option (List ℕ)) (report : ReportTaken) (audited : Result AirCount Status) (status : Status) → IfErr audited IsMetByAudit
+    → FindsIn path nulls files opener text left audited → Finished audited report status → LeavesAudit path nulls files opener text left report status
+leaves_of path nulls files opener text left report audited status is found (inl memory) = subst (LeavesAudit path nulls files opener text left report) (sym memory) tt
+leaves_of path nulls files opener text left report (Ok count) status is found (inr (inl (took, same))) =
+    subst (LeavesAudit path nulls files opener text left report) (sym same) (count, found, subst (Appends report.old report.new) (append-nil (air_line count)) took)
+leaves_of path nulls files opener text left report (Ok count) status is found (inr (inr (rose, took, same))) =
+    subst (LeavesAudit path nulls files opener text left report) (sym same) (count, found, subst (AppendsFront report.old report.new) (append-nil (air_line count)) took)
+leaves_of path nulls files opener text left report (Err met) status is found (inr (inl (took, same))) =
+    subst (LeavesAudit path nulls files opener text left report) (sym same) (leaves_met path nulls files opener text left report met is found (inl took))
+leaves_of path nulls files opener text left report (Err met) status is found (inr (inr (rose, took, same))) =
+    subst (LeavesAudit path nulls files opener text left report) (sym (same ∙ same_met met is)) (leaves_met path nulls files opener text left report met is found (inr (rose, took)))
 
 -- ---- statuses
 
@@ -107,7 +107,7 @@ ended_of left report (Err met) status is end (inr (inr (rose, took, same))) e = 
 script_aired : (text : List ℕ) (mux : Mux) → (script_in text).mux ≡ Some mux → script_airings (script_in text) ≡ airings_for (Some mux) (whole_journal (script_in text))
 script_aired text mux e = ap (λ (o : Option Mux). airings_for o (whole_journal (script_in text))) e
 
-module _ (path : List ℕ) (nulls : Bool) (files : Files) (text : List ℕ) (left : Option (List ℕ)) (report : ReportTaken) where
+module _ (path : List ℕ) (nulls : Bool) (files : Files) (opener : OpenerAsked) (text : List ℕ) (left : Option (List ℕ)) (report : ReportTaken) where
   abbrev aired : List AiredTables
   aired = script_airings (script_in text)
 
@@ -120,7 +120,7 @@ module _ (path : List ℕ) (nulls : Bool) (files : Files) (text : List ℕ) (lef
   at_fault : (status : Status) → AtPath path files (IsAtFault nulls (script_in text) status) → AtPath path files (λ bytes. IsFaulty nulls aired bytes status)
   at_fault status at = record { bytes = at.bytes; file = at.file; is = at.is.faulty }
 
-  decided : (status : Status) → LeavesAudit path nulls files text left report status → (script_in text).stop ≡ Ended → (status ≡ ReadFault Input → ⊥) → (status ≡ ReadFault Recording → ⊥) → ((n : ℕ) → status ≡ OpenFault n → ⊥)
+  decided : (status : Status) → LeavesAudit path nulls files opener text left report status → (script_in text).stop ≡ Ended → (status ≡ ReadFault Input → ⊥) → (status ≡ ReadFault Recording → ⊥) → ((n : ℕ) → status ≡ OpenFault n → ⊥)
       → (status ≡ WriteFault Report → ⊥) → Decided status
   decided Done (count, accepted, took) ended no_input no_reading no_opening no_report =
       inr (record { bytes = accepted.bytes; file = accepted.file; is = subst (λ (l : List AiredTables). IsRecordedAir nulls l accepted.bytes) (sym (script_aired text accepted.mux accepted.described)) accepted.air })
@@ -179,21 +179,21 @@ module _ (path : List ℕ) (nulls : Bool) (files : Files) (text : List ℕ) (lef
 -- ---- the run
 
 pub audit_run : (path : List ℕ) (nulls : Bool) (opener : OpenerAsked) (input : SourceGave) (report : ReportTaken) (audited : Result AirCount Status) (status : Status) → IfErr audited IsMetByAudit
-    → ((text : List ℕ) → input.old ≡ Some text → (files : Files) → opener.files ≡ Some files → FindsIn path nulls files text input.new audited) → OnOk audited (IsAtEnd input.new)
+    → ((text : List ℕ) → input.old ≡ Some text → (files : Files) → opener.files ≡ Some files → FindsIn path nulls files opener text input.new audited) → OnOk audited (IsAtEnd input.new)
     → IfErr audited (HasMetCause input.faults_old input.faults_new opener) → HasAskedFor path opener.tried_old opener.tried_new (met_by audited) → Finished audited report status
     → AuditRun path nulls opener input report status
 audit_run path nulls opener input report audited status is finds end cause asked finished =
-    let leaves = λ (text : List ℕ) (tells : input.old ≡ Some text) (files : Files) (has : opener.files ≡ Some files). leaves_of path nulls files text input.new report audited status is (finds text tells files has) finished in
+    let leaves = λ (text : List ℕ) (tells : input.old ≡ Some text) (files : Files) (has : opener.files ≡ Some files). leaves_of path nulls files opener text input.new report audited status is (finds text tells files has) finished in
     let causes = caused input.faults_old input.faults_new opener report audited status is cause finished in
     let rose = report_caused report audited status is finished in
     let decide = λ (text : List ℕ) (tells : input.old ≡ Some text) (files : Files) (has : opener.files ≡ Some files) (ended : (script_in text).stop ≡ Ended) (none : IsUnhindered opener input report).
-    decided path nulls files text input.new report status (leaves text tells files has) ended (λ e. none.no_input (subst (HasMetCause input.faults_old input.faults_new opener) e causes))
+    decided path nulls files opener text input.new report status (leaves text tells files has) ended (λ e. none.no_input (subst (HasMetCause input.faults_old input.faults_new opener) e causes))
     (λ e. none.no_reading (subst (HasMetCause input.faults_old input.faults_new opener) e causes)) (λ n e. none.no_opening (subst (HasMetCause input.faults_old input.faults_new opener) e causes)) (λ e. none.no_report (rose e)) in
     record {
       leaves = leaves;
       decides = decide;
       accepts = λ text tells files has ended none air.
-          accepts path nulls files text input.new report status (decide text tells files has ended none) air (λ e. none.no_reading (subst (HasMetCause input.faults_old input.faults_new opener) e causes));
+          accepts path nulls files opener text input.new report status (decide text tells files has ended none) air (λ e. none.no_reading (subst (HasMetCause input.faults_old input.faults_new opener) e causes));
       known = of_audit report audited status is finished;
       asked_for = asked_of path opener.tried_old opener.tried_new report audited status is asked finished;
       end = ended_of input.new report audited status is end finished;

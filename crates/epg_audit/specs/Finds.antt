@@ -1,7 +1,7 @@
 -- What an audit finds of the text of its input and of the file of its recording.
-use Rattle.std.specs.Prelude.{◌≡◌, ◌⊎◌, ℕ, Bool, List, ◌++◌, map, Option, Some, IfSome, IsSome, Ok, Err, Result}
+use Rattle.std.specs.Prelude.{◌≡◌, ◌⊎◌, ℕ, Bool, List, ◌++◌, map, Option, Some, None, IfSome, IsSome, Ok, Err, Result}
 use Rattle.si_causes.specs.Causes.{Rose}
-use Rattle.si_causes.specs.Opening.{Files, file_at}
+use Rattle.si_causes.specs.Opening.{Files, Tries, file_at}
 use Rattle.mux_model.specs.declared.mux.Mux.{Mux}
 use Rattle.journal_model.specs.declared.step.Entry.{Entry}
 use Rattle.ts_packets.specs.WholePackets.{whole_packets}
@@ -31,18 +31,24 @@ pub record IsAccepted (path : List ℕ) (nulls : Bool) (files : Files) (script :
   pub heard : IsHeardAs mux (whole_journal script) (seen nulls (whole_packets bytes))
   pub counts : IsCounted nulls bytes (airings mux (whole_journal script)) count
 
+-- The opener was asked for the path where a multiplex is described, and for none where the description ended the run.
+abbrev pub AskedOnceDescribed : Option Mux → List ℕ → OpenerAsked → Type 0
+AskedOnceDescribed None path opener = opener.tried_new ≡ opener.tried_old
+AskedOnceDescribed (Some mux) path opener = Tries opener.tried_old opener.tried_new path
+
 -- The script stops so; and where a multiplex is described, the recording begins with an air of what its commands put on air.
-pub record StopsBehind (path : List ℕ) (nulls : Bool) (files : Files) (script : Script) (stop : Stop) : Type 0 where
+pub record StopsBehind (path : List ℕ) (nulls : Bool) (files : Files) (opener : OpenerAsked) (script : Script) (stop : Stop) : Type 0 where
   pub stopped : script.stop ≡ stop
   pub begins : IfSome script.mux (λ mux. AtPath path files (BeginsWithAir nulls (script_airings script)))
+  pub asked : AskedOnceDescribed script.mux path opener
 
 -- A read of the input failed: the script of the lines that were whole in the bytes taken.
-pub record StopsUnread (path : List ℕ) (nulls : Bool) (files : Files) (text : List ℕ) (left : Option (List ℕ)) : Type 0 where
+pub record StopsUnread (path : List ℕ) (nulls : Bool) (files : Files) (opener : OpenerAsked) (text : List ℕ) (left : Option (List ℕ)) : Type 0 where
   pub taken : List ℕ
   pub behind : List ℕ
   pub text_is : text ≡ taken ++ behind
   pub left_is : left ≡ Some behind
-  pub stops : StopsBehind path nulls files (script_taken taken) Unread
+  pub stops : StopsBehind path nulls files opener (script_taken taken) Unread
 
 -- The recording is at fault, before what the commands of a script put on air has ended, or behind it where the script is whole: so whatever
 -- airings follow, or none do.
@@ -51,29 +57,29 @@ pub record IsAtFault (nulls : Bool) (script : Script) (status : Status) (bytes :
   pub first : (script.stop ≡ Ended) ⊎ ((others : List AiredTables) → CanBeSent others → IsFaulty nulls (script_airings script ++ others) bytes status)
 
 -- What is at fault, by the status: the script, or the recording, or a file that was not opened or read.
-abbrev pub IsFound : List ℕ → Bool → Files → List ℕ → Option (List ℕ) → Status → Type 0
-IsFound path nulls files text left (BadMux fault) = StopsBehind path nulls files (script_in text) (NoMux fault)
-IsFound path nulls files text left (BadScript n) = StopsBehind path nulls files (script_in text) (NoCommand n)
-IsFound path nulls files text left (Disagrees n kept found) = StopsBehind path nulls files (script_in text) (Disagreed n kept found)
-IsFound path nulls files text left (PastLimit Input) = StopsBehind path nulls files (script_in text) TooLong
-IsFound path nulls files text left (ReadFault Input) = StopsUnread path nulls files text left
-IsFound path nulls files text left (OpenFault n) = (n ≡ 0) × IsSome (script_in text).mux
-IsFound path nulls files text left (ReadFault Recording) = IsSome (script_in text).mux
-IsFound path nulls files text left (PastLimit Recording) = AtPath path files (IsAtFault nulls (script_in text) (PastLimit Recording))
-IsFound path nulls files text left (BadStream n) = AtPath path files (IsAtFault nulls (script_in text) (BadStream n))
-IsFound path nulls files text left (NotAir n rule) = AtPath path files (IsAtFault nulls (script_in text) (NotAir n rule))
-IsFound path nulls files text left (Short n) = AtPath path files (IsAtFault nulls (script_in text) (Short n))
-IsFound path nulls files text left Memory = Unit {0}
-IsFound path nulls files text left status = ⊥
+abbrev pub IsFound : List ℕ → Bool → Files → OpenerAsked → List ℕ → Option (List ℕ) → Status → Type 0
+IsFound path nulls files opener text left (BadMux fault) = StopsBehind path nulls files opener (script_in text) (NoMux fault)
+IsFound path nulls files opener text left (BadScript n) = StopsBehind path nulls files opener (script_in text) (NoCommand n)
+IsFound path nulls files opener text left (Disagrees n kept found) = StopsBehind path nulls files opener (script_in text) (Disagreed n kept found)
+IsFound path nulls files opener text left (PastLimit Input) = StopsBehind path nulls files opener (script_in text) TooLong
+IsFound path nulls files opener text left (ReadFault Input) = StopsUnread path nulls files opener text left
+IsFound path nulls files opener text left (OpenFault n) = (n ≡ 0) × IsSome (script_in text).mux
+IsFound path nulls files opener text left (ReadFault Recording) = IsSome (script_in text).mux
+IsFound path nulls files opener text left (PastLimit Recording) = AtPath path files (IsAtFault nulls (script_in text) (PastLimit Recording))
+IsFound path nulls files opener text left (BadStream n) = AtPath path files (IsAtFault nulls (script_in text) (BadStream n))
+IsFound path nulls files opener text left (NotAir n rule) = AtPath path files (IsAtFault nulls (script_in text) (NotAir n rule))
+IsFound path nulls files opener text left (Short n) = AtPath path files (IsAtFault nulls (script_in text) (Short n))
+IsFound path nulls files opener text left Memory = Unit {0}
+IsFound path nulls files opener text left status = ⊥
 
-abbrev pub FindsIn : List ℕ → Bool → Files → List ℕ → Option (List ℕ) → Result AirCount Status → Type 0
-FindsIn path nulls files text left (Ok count) = IsAccepted path nulls files (script_in text) count
-FindsIn path nulls files text left (Err status) = IsFound path nulls files text left status
+abbrev pub FindsIn : List ℕ → Bool → Files → OpenerAsked → List ℕ → Option (List ℕ) → Result AirCount Status → Type 0
+FindsIn path nulls files opener text left (Ok count) = IsAccepted path nulls files (script_in text) count
+FindsIn path nulls files opener text left (Err status) = IsFound path nulls files opener text left status
 
 -- where the source and the opener tell what they have
 abbrev pub Finds : {S : Type 0} → List ℕ → Bool → OpenerAsked → (S → Option (List ℕ)) → S → S → Result AirCount Status → Type 0
 Finds path nulls opener left old new result =
-    (text : List ℕ) → left old ≡ Some text → (files : Files) → opener.files ≡ Some files → FindsIn path nulls files text (left new) result
+    (text : List ℕ) → left old ≡ Some text → (files : Files) → opener.files ≡ Some files → FindsIn path nulls files opener text (left new) result
 
 -- a fault of the outside has its cause
 abbrev pub HasMetCause : ℕ → ℕ → OpenerAsked → Status → Type 0

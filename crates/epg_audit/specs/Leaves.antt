@@ -17,12 +17,12 @@ use Rattle.epg_audit.specs.Finds.{HasMetCause, IsAccepted, IsFound, IsMetByAudit
 use Rattle.epg_audit.specs.Recorded.{IsFaulty, IsRecordedAir, script_airings}
 
 -- What a run of `audit` leaves with each status. With Done the report is the one line of the air, and with a fault its line alone.
-abbrev pub LeavesAudit : List ℕ → Bool → Files → List ℕ → Option (List ℕ) → ReportTaken → Status → Type 0
-LeavesAudit path nulls files text left report Done = (count : AirCount) × IsAccepted path nulls files (script_in text) count × Appends report.old report.new (air_line count)
-LeavesAudit path nulls files text left report (WriteFault Report) =
+abbrev pub LeavesAudit : List ℕ → Bool → Files → OpenerAsked → List ℕ → Option (List ℕ) → ReportTaken → Status → Type 0
+LeavesAudit path nulls files opener text left report Done = (count : AirCount) × IsAccepted path nulls files (script_in text) count × Appends report.old report.new (air_line count)
+LeavesAudit path nulls files opener text left report (WriteFault Report) =
     (count : AirCount) × IsAccepted path nulls files (script_in text) count × AppendsFront report.old report.new (air_line count)
-LeavesAudit path nulls files text left report Memory = Unit {0}
-LeavesAudit path nulls files text left report status = IsFound path nulls files text left status × Reported report (fault_lines status)
+LeavesAudit path nulls files opener text left report Memory = Unit {0}
+LeavesAudit path nulls files opener text left report status = IsFound path nulls files opener text left status × Reported report (fault_lines status)
 
 -- the statuses of `audit`
 abbrev pub IsOfAudit : Status → Type 0
@@ -44,8 +44,9 @@ pub record IsUnhindered (opener : OpenerAsked) (input : SourceGave) (report : Re
 
 -- A run of `audit` over the file of this path, in which null packets may stand or not: what its opener was asked, what its input gave, what its report took, and its status.
 pub record AuditRun (path : List ℕ) (nulls : Bool) (opener : OpenerAsked) (input : SourceGave) (report : ReportTaken) (status : Status) : Type 0 where
-  -- what is left with each status: what was found of the script and of the recording, and the report
-  pub leaves : (text : List ℕ) → input.old ≡ Some text → (files : Files) → opener.files ≡ Some files → LeavesAudit path nulls files text input.new report status
+  -- what is left with each status: what was found of the script and of the recording, and the report; the opener was asked for no path where the
+  -- description ended the run
+  pub leaves : (text : List ℕ) → input.old ≡ Some text → (files : Files) → opener.files ≡ Some files → LeavesAudit path nulls files opener text input.new report status
   -- where nothing fails and the script is whole, the recording decides the status, but for want of memory
   pub decides : (text : List ℕ) → input.old ≡ Some text → (files : Files) → opener.files ≡ Some files → (script_in text).stop ≡ Ended → IsUnhindered opener input report
       → (status ≡ Memory) ⊎ AtPath path files (DecidedBy nulls (script_airings (script_in text)) status)

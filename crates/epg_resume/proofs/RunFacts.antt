@@ -4,7 +4,7 @@ use Rattle.std.specs.Prelude.{Option, Some, None, Ok, Err, Result}
 use Rattle.std.specs.Io.KnownBytes.{Appends, IsAtEnd}
 use Rattle.si_causes.proofs.CauseFacts.{Appends-nothing}
 use Rattle.si_causes.specs.Causes.{AppendsFront, Rose}
-use Rattle.si_causes.specs.Opening.{Files, file_at}
+use Rattle.si_causes.specs.Opening.{Files, Tries, file_at}
 use Rattle.si_causes.specs.declared.stop.ReadStop.TheVariants.{Failed, TooLong as Overlong}
 use Rattle.input_lines.specs.Ahead.{Ahead, Came, End, Found, NoCommand as NoLine, Stop as LineStop, Stopped, TooLong as PastEnd, Unread as Broken}
 use Rattle.air_model.specs.Air.{Aired}
@@ -39,9 +39,9 @@ use Rattle.epg_resume.specs.declared.played.Course.{Course}
 use Rattle.epg_resume.specs.declared.played.Played.{Played}
 use Rattle.epg_resume.specs.Beginning.{BeginsAt, IsNew, IsNotBegun, IsOfResume}
 use Rattle.epg_resume.specs.Checkpointed.{HasRun, IsCheckpoint, checkpoint_limit, checkpoint_of}
-use Rattle.epg_resume.specs.Courses.{BeganAt, CourseBehind, DeskDid, Finished, IsMetByResume, IsMetByScript, NotPlayed, PlayedNew, PlayedResumed, met_by, played_text}
+use Rattle.epg_resume.specs.Courses.{BeganAt, BegunFrom, CourseBehind, DeskDid, Finished, IsMetByResume, IsMetByScript, NotPlayed, PlayedNew, PlayedResumed, met_by, played_text}
 use Rattle.epg_resume.specs.Behind.{LeavesBehind}
-use Rattle.epg_resume.specs.Leaves.{Begins, FoldRun, Nothing, ResumeRun, Resumes, Tells, course_on}
+use Rattle.epg_resume.specs.Leaves.{Begins, FoldRun, Nothing, NothingAsked, ResumeRun, Resumes, Tells, course_on}
 use Rattle.epg_resume.specs.Over.{LeavesBy, LeavesOver}
 use Rattle.epg_resume.proofs.Bases.{begun_aired, folded_base, new_base, nothing_folded}
 use Rattle.epg_resume.proofs.BehindFacts.{leaves_behind}
@@ -104,34 +104,35 @@ idle_reported fold course met report none took = subst (λ (c : Option Course). 
 nothing_of : (air report : ReportTaken) (status : Status) → air.new ≡ air.old → Reported report (fault_lines status) → Nothing air report status
 nothing_of air report status same took = (subst (λ (w : Option (List ℕ)). Appends air.old w []) (sym same) (Appends-nothing air.old), took)
 
-module _ (fold : Bool) (air report : ReportTaken) (played : Played) (B B2 : Mux → Ahead → Status → Type 0)
+-- Where nothing was played, the line of the fault is all that is reported: what is left then is `Left`.
+module _ (fold : Bool) (report : ReportTaken) (played : Played) (Idle Left : Status → Type 0) (B B2 : Mux → Ahead → Status → Type 0)
+    (idle : (met : Status) → Idle met → (played.course ≡ None) × (Reported report (fault_lines met) → Left met))
     (behind : (mux : Mux) (lines : Ahead) (status : Status) → AreDescribed mux lines → B mux lines played.met → Finished fold played report status → B2 mux lines status) where
-  abbrev Idle : Status → Type 0
-  Idle met = NotPlayed air.old air.new played
+  -- the status is the one that was met
+  same_over : (text : List ℕ) (left : Option (List ℕ)) → Finished fold played report played.met
+      → Appends report.old report.new (played_text fold played.course played.met ++ fault_lines played.met)
+      ⊎ (Rose report.faults_old report.faults_new × AppendsFront report.old report.new (played_text fold played.course played.met ++ fault_lines played.met))
+      → LeavesOver Idle B text left played.met → LeavesOver Left B2 text left played.met
+  same_over text left finished took over =
+      over_same Idle Left B B2 text left played.met (λ mux lines is b. behind mux lines played.met is b finished)
+      (λ i. (idle played.met i).1 (idle_reported fold played.course played.met report (idle played.met i).0 took)) over
 
-  same_over : (text : List ℕ) (left : Option (List ℕ)) → Finished fold played report played.met → (NotPlayed air.old air.new played → Nothing air report played.met) → LeavesOver Idle B text left played.met
-      → LeavesOver (Nothing air report) B2 text left played.met
-  same_over text left finished idle over =
-      over_same Idle (Nothing air report) B B2 text left played.met (λ mux lines is b. behind mux lines played.met is b finished) idle over
-
-  pub ended_over : (text : List ℕ) (left : Option (List ℕ)) (status : Status) → LeavesOver Idle B text left played.met → Finished fold played report status → LeavesOver (Nothing air report) B2 text left status
-  ended_over text left status over (inl memory) = subst (LeavesOver (Nothing air report) B2 text left) (sym memory) tt
+  pub ended_over : (text : List ℕ) (left : Option (List ℕ)) (status : Status) → LeavesOver Idle B text left played.met → Finished fold played report status → LeavesOver Left B2 text left status
+  ended_over text left status over (inl memory) = subst (LeavesOver Left B2 text left) (sym memory) tt
   ended_over text left status over (inr e) = by (or_cases played.met) e.reported
     where
-      by : (played.met ≡ Done) ⊎ (or_report played.met ≡ played.met) → ReportEnds played.met (played_text fold played.course played.met) report status → LeavesOver (Nothing air report) B2 text left status
+      by : (played.met ≡ Done) ⊎ (or_report played.met ≡ played.met) → ReportEnds played.met (played_text fold played.course played.met) report status → LeavesOver Left B2 text left status
       by own (inl (took, is)) =
-          subst (LeavesOver (Nothing air report) B2 text left) (sym is)
-          (same_over text left (inr (record { reported = inl (took, refl); handed = e.handed }))
-          (λ idle. nothing_of air report played.met idle.air (idle_reported fold played.course played.met report idle.no_course (inl took))) over)
+          subst (LeavesOver Left B2 text left) (sym is)
+          (same_over text left (inr (record { reported = inl (took, refl); handed = e.handed })) (inl took) over)
       by (inl done) (inr (rose, front, is)) =
-          subst (LeavesOver (Nothing air report) B2 text left) (sym (is ∙ ap or_report done))
-          (over_done Idle (Nothing air report) B B2 text left
+          subst (LeavesOver Left B2 text left) (sym (is ∙ ap or_report done))
+          (over_done Idle Left B B2 text left
           (λ mux lines d b. behind mux lines (WriteFault Report) d (subst (B mux lines) (sym done) b) (inr (record { reported = inr (rose, front, sym (ap or_report done)); handed = e.handed })))
           (subst (LeavesOver Idle B text left) done over))
       by (inr own) (inr (rose, front, is)) =
-          subst (LeavesOver (Nothing air report) B2 text left) (sym (is ∙ own))
-          (same_over text left (inr (record { reported = inr (rose, front, sym own); handed = e.handed }))
-          (λ idle. nothing_of air report played.met idle.air (idle_reported fold played.course played.met report idle.no_course (inr (rose, front)))) over)
+          subst (LeavesOver Left B2 text left) (sym (is ∙ own))
+          (same_over text left (inr (record { reported = inr (rose, front, sym own); handed = e.handed })) (inr (rose, front)) over)
 
 -- ---- a head-end that did nothing yet
 
@@ -201,7 +202,9 @@ pub fold_run : (input : SourceGave) (air report : ReportTaken) (played : Played)
     → Finished true played report status → FoldRun input air report status
 fold_run input air report played status over known end input_rose air_rose finished =
     let leaves = λ (text : List ℕ) (tells : input.old ≡ Some text).
-    ended_over true air report played (λ mux lines met. CourseBehind (IsNew mux) air.old air.new played lines) (λ mux. LeavesBehind true mux [] [] air report)
+    ended_over true report played (λ met. NotPlayed air.old air.new played) (Nothing air report)
+    (λ mux lines met. CourseBehind (IsNew mux) air.old air.new played lines) (λ mux. LeavesBehind true mux [] [] air report)
+    (λ met idle. (idle.no_course, nothing_of air report met idle.air))
     (λ mux lines s is c f. new_behind true air report played mux lines s is c f) text input.new status (over text tells) finished in
     let is_known : IsOfPlay status = known_by true played report status finished IsOfPlay tt tt (script_known played.met known) in
     let input_cause : status ≡ ReadFault Input → Rose input.faults_old input.faults_new = λ e. input_rose (met_is true played report status finished (ReadFault Input) (λ no. cc no) (λ no. cc no) e) in
@@ -244,17 +247,18 @@ module _ (path : List ℕ) (files : Files) (fold : Bool) (air report : ReportTak
       let no = same_checkpoint path files mux at.bytes bytes (Err stop) read.0 at.file file at.is read.1 in
       cc no
 
-  not_begun : (met : Status) → BeginsAt path files mux (Err met) → IsNotBegun met → Nothing air report met → Resumes path files fold air report mux lines met
-  not_begun (OpenFault n) at is nothing = record { begins = (at, nothing); goes_on = λ journal earlier bytes file le run cp. tt }
-  not_begun (BadCheckpoint n) at is nothing = record { begins = (at, nothing); goes_on = λ journal earlier bytes file le run cp. absurd (refused (NoLine n) at journal earlier bytes file le run cp) }
-  not_begun (PastLimit Recording) at is nothing = record { begins = (at, nothing); goes_on = λ journal earlier bytes file le run cp. absurd (refused PastEnd at journal earlier bytes file le run cp) }
-  not_begun (PastLimit Input) at is nothing = absurd is
-  not_begun (PastLimit (Feed f)) at is nothing = absurd is
-  not_begun (ReadFault Recording) at is nothing = record { begins = nothing; goes_on = λ journal earlier bytes file le run cp. tt }
-  not_begun (ReadFault Input) at is nothing = absurd is
-  not_begun (ReadFault (Feed f)) at is nothing = absurd is
-  not_begun Memory at is nothing = record { begins = tt; goes_on = λ journal earlier bytes file le run cp. tt }
-  not_begun other at is nothing = absurd is
+  not_begun : (opener : OpenerAsked) → Tries opener.tried_old opener.tried_new path → (met : Status) → BeginsAt path files mux (Err met) → IsNotBegun met → Nothing air report met
+      → Resumes path files fold opener air report mux lines met
+  not_begun opener tried (OpenFault n) at is nothing = record { asked = tried; begins = (at, nothing); goes_on = λ journal earlier bytes file le run cp. tt }
+  not_begun opener tried (BadCheckpoint n) at is nothing = record { asked = tried; begins = (at, nothing); goes_on = λ journal earlier bytes file le run cp. absurd (refused (NoLine n) at journal earlier bytes file le run cp) }
+  not_begun opener tried (PastLimit Recording) at is nothing = record { asked = tried; begins = (at, nothing); goes_on = λ journal earlier bytes file le run cp. absurd (refused PastEnd at journal earlier bytes file le run cp) }
+  not_begun opener tried (PastLimit Input) at is nothing = absurd is
+  not_begun opener tried (PastLimit (Feed f)) at is nothing = absurd is
+  not_begun opener tried (ReadFault Recording) at is nothing = record { asked = tried; begins = nothing; goes_on = λ journal earlier bytes file le run cp. tt }
+  not_begun opener tried (ReadFault Input) at is nothing = absurd is
+  not_begun opener tried (ReadFault (Feed f)) at is nothing = absurd is
+  not_begun opener tried Memory at is nothing = record { asked = tried; begins = tt; goes_on = λ journal earlier bytes file le run cp. tt }
+  not_begun opener tried other at is nothing = absurd is
 
   -- what was met tells why no more was played
   abbrev OnFile : Status → Type 0
@@ -311,22 +315,21 @@ module _ (path : List ℕ) (files : Files) (fold : Bool) (air report : ReportTak
       leaves_behind fold mux (shift_of (publishes journal)) journal (folded mux journal) earlier (folded_base mux journal sound legal) run air report lines (BeganAt path files mux) played c from.desk from.shift
       (begun_aired earlier c.start air.old none from.player form) status finished
 
-  resumed_behind : (played : Played) (status : Status)
-      → (BeginsAt path files mux (Err played.met) × IsNotBegun played.met × NotPlayed air.old air.new played) ⊎ CourseBehind (BeganAt path files mux) air.old air.new played lines
-      → Finished fold played report status → Resumes path files fold air report mux lines status
-  resumed_behind played status (inr c) finished = record { begins = course_begins played c status finished; goes_on = course_goes_on played c status finished }
-  resumed_behind played status (inl (at, known, idle)) (inl memory) =
-      subst (Resumes path files fold air report mux lines) (sym memory) (record { begins = tt; goes_on = λ journal earlier bytes file le run cp. tt })
-  resumed_behind played status (inl (at, known, idle)) (inr e) = by (or_cases played.met) e.reported
+  resumed_behind : (opener : OpenerAsked) → Tries opener.tried_old opener.tried_new path → (played : Played) (status : Status) → BegunFrom path files air.old air.new played mux lines played.met
+      → Finished fold played report status → Resumes path files fold opener air report mux lines status
+  resumed_behind opener tried played status (inr c) finished = record { asked = tried; begins = course_begins played c status finished; goes_on = course_goes_on played c status finished }
+  resumed_behind opener tried played status (inl (at, known, idle)) (inl memory) =
+      subst (Resumes path files fold opener air report mux lines) (sym memory) (record { asked = tried; begins = tt; goes_on = λ journal earlier bytes file le run cp. tt })
+  resumed_behind opener tried played status (inl (at, known, idle)) (inr e) = by (or_cases played.met) e.reported
     where
-      there : Reported report (fault_lines played.met) → Resumes path files fold air report mux lines played.met
-      there took = not_begun played.met at known (nothing_of air report played.met idle.air took)
+      there : Reported report (fault_lines played.met) → Resumes path files fold opener air report mux lines played.met
+      there took = not_begun opener tried played.met at known (nothing_of air report played.met idle.air took)
 
-      by : (played.met ≡ Done) ⊎ (or_report played.met ≡ played.met) → ReportEnds played.met (played_text fold played.course played.met) report status → Resumes path files fold air report mux lines status
+      by : (played.met ≡ Done) ⊎ (or_report played.met ≡ played.met) → ReportEnds played.met (played_text fold played.course played.met) report status → Resumes path files fold opener air report mux lines status
       by (inl done) ends = absurd (not_done played.met known done)
-      by (inr own) (inl (took, is)) = subst (Resumes path files fold air report mux lines) (sym is) (there (idle_reported fold played.course played.met report idle.no_course (inl took)))
+      by (inr own) (inl (took, is)) = subst (Resumes path files fold opener air report mux lines) (sym is) (there (idle_reported fold played.course played.met report idle.no_course (inl took)))
       by (inr own) (inr (rose, front, is)) =
-          subst (Resumes path files fold air report mux lines) (sym (is ∙ own)) (there (idle_reported fold played.course played.met report idle.no_course (inr (rose, front))))
+          subst (Resumes path files fold opener air report mux lines) (sym (is ∙ own)) (there (idle_reported fold played.course played.met report idle.no_course (inr (rose, front))))
 
   -- where nothing fails and the file holds a checkpoint, the script on it decides
   on_checkpoint : (bytes : List ℕ) (cp : Checkpoint) (status : Status) → file_at path files ≡ Some bytes → checkpoint_of mux bytes ≡ Ok cp → OnFile status → Tells (course_on cp lines).1 status
@@ -354,20 +357,21 @@ module _ (path : List ℕ) (files : Files) (fold : Bool) (air report : ReportTak
   decides bytes cp Memory file is begins known no_input no_opening no_reading no_air no_report = tt
   decides bytes cp other file is begins known no_input no_opening no_reading no_air no_report = on_checkpoint bytes cp other file is begins
 
-by_found : (path : List ℕ) (files : Files) (fold : Bool) (air report : ReportTaken) (found : Found Description) (mux : Mux) (lines : Ahead) (status : Status) → found ≡ Came (Ok mux) lines
-    → LeavesBy (Nothing air report) (Resumes path files fold air report) found status → Begins path files (Nothing air report) mux lines status
-by_found path files fold air report found mux lines status e leave = (let r = subst (λ (f : Found Description). LeavesBy (Nothing air report) (Resumes path files fold air report) f status) e leave in r.begins)
+by_found : (path : List ℕ) (files : Files) (fold : Bool) (opener : OpenerAsked) (air report : ReportTaken) (found : Found Description) (mux : Mux) (lines : Ahead) (status : Status) → found ≡ Came (Ok mux) lines
+    → LeavesBy (NothingAsked opener air report) (Resumes path files fold opener air report) found status → Begins path files (Nothing air report) mux lines status
+by_found path files fold opener air report found mux lines status e leave =
+    (let r = subst (λ (f : Found Description). LeavesBy (NothingAsked opener air report) (Resumes path files fold opener air report) f status) e leave in r.begins)
 
-resume_completes : (path : List ℕ) (files : Files) (fold : Bool) (air report : ReportTaken) (text : List ℕ) (left : Option (List ℕ)) (mux : Mux) (lines : Ahead) (bytes : List ℕ) (cp : Checkpoint) (status : Status)
-    → LeavesOver (Nothing air report) (Resumes path files fold air report) text left status → described text ≡ Came (Ok mux) lines → file_at path files ≡ Some bytes → checkpoint_of mux bytes ≡ Ok cp → IsOfResume status
+resume_completes : (path : List ℕ) (files : Files) (fold : Bool) (opener : OpenerAsked) (air report : ReportTaken) (text : List ℕ) (left : Option (List ℕ)) (mux : Mux) (lines : Ahead) (bytes : List ℕ) (cp : Checkpoint) (status : Status)
+    → LeavesOver (NothingAsked opener air report) (Resumes path files fold opener air report) text left status → described text ≡ Came (Ok mux) lines → file_at path files ≡ Some bytes → checkpoint_of mux bytes ≡ Ok cp → IsOfResume status
     → (status ≡ ReadFault Input → ⊥) → ((n : ℕ) → status ≡ OpenFault n → ⊥) → (status ≡ ReadFault Recording → ⊥) → (status ≡ WriteFault Air → ⊥) → (status ≡ WriteFault Report → ⊥)
     → Completes (course_on cp lines).1 status
-resume_completes path files fold air report text left mux lines bytes cp (ReadFault Input) over is file reads known no_input no_opening no_reading no_air no_report = absurd (no_input refl)
-resume_completes path files fold air report text left mux lines bytes cp (ReadFault (Feed f)) over is file reads known no_input no_opening no_reading no_air no_report = absurd known
-resume_completes path files fold air report text left mux lines bytes cp (ReadFault Recording) over is file reads known no_input no_opening no_reading no_air no_report = absurd (no_reading refl)
-resume_completes path files fold air report text left mux lines bytes cp Memory over is file reads known no_input no_opening no_reading no_air no_report = tt
-resume_completes path files fold air report text left mux lines bytes cp other over is file reads known no_input no_opening no_reading no_air no_report =
-    decides path files fold air report mux lines bytes cp other file reads (by_found path files fold air report (described text) mux lines other is over) known no_input no_opening no_reading no_air no_report
+resume_completes path files fold opener air report text left mux lines bytes cp (ReadFault Input) over is file reads known no_input no_opening no_reading no_air no_report = absurd (no_input refl)
+resume_completes path files fold opener air report text left mux lines bytes cp (ReadFault (Feed f)) over is file reads known no_input no_opening no_reading no_air no_report = absurd known
+resume_completes path files fold opener air report text left mux lines bytes cp (ReadFault Recording) over is file reads known no_input no_opening no_reading no_air no_report = absurd (no_reading refl)
+resume_completes path files fold opener air report text left mux lines bytes cp Memory over is file reads known no_input no_opening no_reading no_air no_report = tt
+resume_completes path files fold opener air report text left mux lines bytes cp other over is file reads known no_input no_opening no_reading no_air no_report =
+    decides path files fold air report mux lines bytes cp other file reads (by_found path files fold opener air report (described text) mux lines other is over) known no_input no_opening no_reading no_air no_report
 
 resume_no_report : (met : Status) → IsMetByResume met → met ≡ WriteFault Report → ⊥
 resume_no_report met is e = subst IsMetByResume e is
@@ -391,17 +395,19 @@ resume_asked path old new fold played report status asked finished = by (finishe
     by (inr (inr (done, is, rose))) = asked_report path old new played.met status done is asked
 
 pub resume_run : (path : List ℕ) (fold : Bool) (opener : OpenerAsked) (input : SourceGave) (air report : ReportTaken) (played : Played) (status : Status)
-    → ((text : List ℕ) → input.old ≡ Some text → (files : Files) → opener.files ≡ Some files → PlayedResumed path files text input.new air.old air.new played)
+    → ((text : List ℕ) → input.old ≡ Some text → (files : Files) → opener.files ≡ Some files
+    → PlayedResumed path files text input.new opener.tried_old opener.tried_new air.old air.new played)
     → IsMetByResume played.met → HasAskedFor path opener.tried_old opener.tried_new played.met → (played.met ≡ Done → IsAtEnd input.new)
     → (played.met ≡ ReadFault Input → Rose input.faults_old input.faults_new) → ((n : ℕ) → played.met ≡ OpenFault n → Rose opener.faults_old opener.faults_new)
     → (played.met ≡ ReadFault Recording → Rose opener.read_old opener.read_new) → (played.met ≡ WriteFault Air → Rose air.faults_old air.faults_new)
     → Finished fold played report status → ResumeRun path fold opener input air report status
 resume_run path fold opener input air report played status over known asked end input_rose open_rose read_rose air_rose finished =
     let leaves = λ (text : List ℕ) (tells : input.old ≡ Some text) (files : Files) (has : opener.files ≡ Some files).
-    ended_over fold air report played
-    (λ mux lines met. (BeginsAt path files mux (Err met) × IsNotBegun met × NotPlayed air.old air.new played) ⊎ CourseBehind (BeganAt path files mux) air.old air.new played lines)
-    (Resumes path files fold air report)
-    (λ mux lines s is b f. resumed_behind path files fold air report mux lines played s b f) text input.new status (over text tells files has) finished in
+    ended_over fold report played (λ met. (opener.tried_new ≡ opener.tried_old) × NotPlayed air.old air.new played) (NothingAsked opener air report)
+    (λ mux lines met. Tries opener.tried_old opener.tried_new path × BegunFrom path files air.old air.new played mux lines met)
+    (Resumes path files fold opener air report)
+    (λ met idle. (idle.1.no_course, λ took. (idle.0, nothing_of air report met idle.1.air took)))
+    (λ mux lines s is b f. resumed_behind path files fold air report mux lines opener b.0 played s b.1 f) text input.new status (over text tells files has) finished in
     let is_known : IsOfResume status = known_by fold played report status finished IsOfResume tt tt (resume_known played.met known) in
     let met = met_is fold played report status finished in
     let input_cause : status ≡ ReadFault Input → Rose input.faults_old input.faults_new = λ e. input_rose (met (ReadFault Input) (λ no. cc no) (λ no. cc no) e) in
@@ -412,7 +418,7 @@ resume_run path fold opener input air report played status over known asked end 
     record {
       leaves = leaves;
       completes = λ text tells files has free mux lines is bytes file cp reads.
-          resume_completes path files fold air report text input.new mux lines bytes cp status (leaves text tells files has) is file reads is_known (λ e. free.no_input (input_cause e))
+          resume_completes path files fold opener air report text input.new mux lines bytes cp status (leaves text tells files has) is file reads is_known (λ e. free.no_input (input_cause e))
           (λ n e. free.no_opening (open_cause n e)) (λ e. free.no_reading (read_cause e)) (λ e. free.no_air (air_cause e)) (λ e. free.no_report (report_cause e));
       known = is_known;
       asked_for = resume_asked path opener.tried_old opener.tried_new fold played report status asked finished;

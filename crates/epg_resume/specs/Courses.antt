@@ -2,7 +2,7 @@
 use Rattle.std.specs.Prelude.{◌≡◌, ◌⊎◌, ◌<◌, ◌^◌, ℕ, List, [], drop, length, take, Bool, true, false, ◌&&◌, if◌then◌else◌, Option, Some, None, IfSome, Ok, Err, Result}
 use Rattle.std.specs.List.{AllByRecursion}
 use Rattle.si_causes.specs.declared.stop.ReadStop.TheVariants.{Failed, TooLong as Overlong}
-use Rattle.si_causes.specs.Opening.{Files}
+use Rattle.si_causes.specs.Opening.{Files, Tries}
 use Rattle.si_causes.specs.Reading.{Reading, text_left}
 use Rattle.input_lines.specs.Ahead.{Ahead, ahead}
 use Rattle.air_model.specs.Air.{Aired}
@@ -95,11 +95,16 @@ pub record BeganAt (path : List ℕ) (files : Files) (mux : Mux) (start : Start)
   pub begins : BeginsAt path files mux (Ok start)
   pub is : IsStart mux start
 
--- and what was played of a text, from there on
-abbrev pub PlayedResumed : List ℕ → Files → List ℕ → Option (List ℕ) → Option (List ℕ) → Option (List ℕ) → Played → Type 0
-PlayedResumed path files text left before now played =
-    LeavesOver (λ met. NotPlayed before now played)
-    (λ mux lines met. (BeginsAt path files mux (Err met) × IsNotBegun met × NotPlayed before now played) ⊎ CourseBehind (BeganAt path files mux) before now played lines)
+-- nothing was begun from it, or what is ahead was played from there on
+abbrev pub BegunFrom : List ℕ → Files → Option (List ℕ) → Option (List ℕ) → Played → Mux → Ahead → Status → Type 0
+BegunFrom path files before now played mux lines met =
+    (BeginsAt path files mux (Err met) × IsNotBegun met × NotPlayed before now played) ⊎ CourseBehind (BeganAt path files mux) before now played lines
+
+-- and what was played of a text, from there on: an opener was asked for the path once a multiplex was described
+abbrev pub PlayedResumed : List ℕ → Files → List ℕ → Option (List ℕ) → Option (List (List ℕ)) → Option (List (List ℕ)) → Option (List ℕ) → Option (List ℕ) → Played → Type 0
+PlayedResumed path files text left tried_before tried_now before now played =
+    LeavesOver (λ met. (tried_now ≡ tried_before) × NotPlayed before now played)
+    (λ mux lines met. Tries tried_before tried_now path × BegunFrom path files before now played mux lines met)
     text left played.met
 
 -- the statuses that a run of a script may have met before it reports

@@ -2,7 +2,7 @@
 use Rattle.std.specs.Prelude.{◌≡◌, ◌≤◌, ℕ, List, [], length, Bool, true, Option, Some, None, Ok, Err}
 use Rattle.std.specs.Io.KnownBytes.{Appends, IsAtEnd}
 use Rattle.si_causes.specs.Causes.{Rose}
-use Rattle.si_causes.specs.Opening.{Files, file_at}
+use Rattle.si_causes.specs.Opening.{Files, Tries, file_at}
 use Rattle.input_lines.specs.Ahead.{Ahead, Came, NoCommand as NoLine, TooLong as Overlong}
 use Rattle.air_model.specs.Air.{Aired}
 use Rattle.mux_model.specs.declared.mux.Mux.{Mux}
@@ -72,8 +72,14 @@ Begins path files Idle mux lines (BadCheckpoint n) = AtPath path files (λ bytes
 Begins path files Idle mux lines status =
     AtPath path files (λ bytes. (cp : Checkpoint) × (checkpoint_of mux bytes ≡ Ok cp) × Tells (course_on cp lines).1 status)
 
+-- The description ended the run: the opener was asked for no path, and no step is done.
+abbrev pub NothingAsked : OpenerAsked → ReportTaken → ReportTaken → Status → Type 0
+NothingAsked opener air report status = (opener.tried_new ≡ opener.tried_old) × Nothing air report status
+
 -- What a run leaves behind the description of its multiplex that goes on from the file at this path.
-pub record Resumes (path : List ℕ) (files : Files) (fold : Bool) (air report : ReportTaken) (mux : Mux) (lines : Ahead) (status : Status) : Type 0 where
+pub record Resumes (path : List ℕ) (files : Files) (fold : Bool) (opener : OpenerAsked) (air report : ReportTaken) (mux : Mux) (lines : Ahead) (status : Status) : Type 0 where
+  -- the opener was asked for the path
+  pub asked : Tries opener.tried_old opener.tried_new path
   -- whatever the file holds
   pub begins : Begins path files (Nothing air report) mux lines status
   -- where it holds the checkpoint of a journal and of an air of it, the run goes on behind them, and the checkpoint is never refused
@@ -93,7 +99,7 @@ pub record IsUnhindered (opener : OpenerAsked) (input : SourceGave) (air report 
 pub record ResumeRun (path : List ℕ) (fold : Bool) (opener : OpenerAsked) (input : SourceGave) (air report : ReportTaken) (status : Status) : Type 0 where
   -- what is left with each status
   pub leaves : (text : List ℕ) → input.old ≡ Some text → (files : Files) → opener.files ≡ Some files
-      → LeavesOver (Nothing air report) (Resumes path files fold air report) text input.new status
+      → LeavesOver (NothingAsked opener air report) (Resumes path files fold opener air report) text input.new status
   -- where nothing fails and the file holds a checkpoint, the script on it decides the status, but for want of memory
   pub completes : (text : List ℕ) → input.old ≡ Some text → (files : Files) → opener.files ≡ Some files → IsUnhindered opener input air report
       → (mux : Mux) (lines : Ahead) → described text ≡ Came (Ok mux) lines → (bytes : List ℕ) → file_at path files ≡ Some bytes

@@ -113,6 +113,7 @@ fn play_from<O: Opener, S: Source, A: Sink>(
     ensures played { (text : List ℕ) → S.left lines.old.source ≡ Some text
         → (files : Files) → O.files opener.old ≡ Some files
         → PlayedResumed path.now files text (S.left lines.new.source)
+        (O.tried opener.old) (O.tried opener.new)
         (A.written air.old) (A.written air.new) result }
     ensures course { IfSome result.course (IsCourse result.met) }
     ensures said { CanBeSaid result.met }

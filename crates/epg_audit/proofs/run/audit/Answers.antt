@@ -18,9 +18,11 @@ use Rattle.epg_audit.proofs.run.audit.Goals as goal
 
 pub returns-in-Err-clause-finds : goal.returns-in-Err-clause-finds
 returns-in-Err-clause-finds g c = λ text tells files has.
-    subst (IsFound c.args.path.now c.args.nulls files text (g.S.Source.left c.read_mux.new.lines.source)) (sym (c.status_of.ensures ∙ ap status_for c.mux_stop_of.ensures))
-    (mux_found c.args.path.now c.args.nulls files text (g.S.Source.left c.read_mux.new.lines.source) c.in-Err.stop
-    (undescribed g.S.Source.left g.S.Source.faults g.S.Source.same c.args.lines.now c.read_mux.new.lines c.args.lines.now.source text c.in-Err.stop c.requires.unread tells c.in-Err.ensures.read))
+    let opener = asked g.O.Opener.files g.O.Opener.tried g.O.Opener.faults g.O.Opener.read_faults c.args.opener.now c.args.opener.now in
+    subst (IsFound c.args.path.now c.args.nulls files opener text (g.S.Source.left c.read_mux.new.lines.source)) (sym (c.status_of.ensures ∙ ap status_for c.mux_stop_of.ensures))
+    (mux_found c.args.path.now c.args.nulls files opener text (g.S.Source.left c.read_mux.new.lines.source) c.in-Err.stop
+    (undescribed g.S.Source.left g.S.Source.faults g.S.Source.same c.args.lines.now c.read_mux.new.lines c.args.lines.now.source text c.in-Err.stop c.requires.unread tells c.in-Err.ensures.read)
+    refl)
 
 pub returns-in_default-clause-finds : goal.returns-in_default-clause-finds
 returns-in_default-clause-finds g c = λ text tells files has.
@@ -35,8 +37,10 @@ returns-clause-finds g c = λ text tells files has.
     let start = c.in-Ok-open-2.packets in
     let read = first_read g.S.Source.left g.S.Source.faults g.S.Source.same c.args.lines.now mid c.args.lines.now.source text c.in-Ok.mux c.requires.unread tells c.in-Ok.ensures.read in
     let file = given_file files c.args.path.now (g.O.From.Source.left c.in-Ok-open.source) (subst (λ (o : Option Files). GivesFile o c.args.path.now (g.O.From.Source.left c.in-Ok-open.source)) has c.in-Ok-open.ensures.content) in
-    audited_finds g.S.Source.left g.O.From.Source.left c.args.lines.now.source mid c.audit_recording-audited.new.lines start c.args.path.now c.args.nulls files text file.0 c.in-Ok.mux tells read.0 read.1 file.2
-    (ap (bytes_left g.O.From.Source.left) c.in-Ok-open-2.ensures ∙ prepend_known-nil (g.O.From.Source.left c.in-Ok-open.source) ∙ file.1) c.audit_recording-audited.result c.audit_recording-audited.ensures.audited
+    let opener = asked g.O.Opener.files g.O.Opener.tried g.O.Opener.faults g.O.Opener.read_faults c.args.opener.now c.close-2.new.self in
+    let tried = subst (λ (t : Option (List (List ℕ))). Tries (g.O.Opener.tried c.args.opener.now) t c.args.path.now) (sym c.close-2.ensures.tried) c.in-Ok-open.ensures.tried in
+    audited_finds g.S.Source.left g.O.From.Source.left c.args.lines.now.source mid c.audit_recording-audited.new.lines start c.args.path.now c.args.nulls files opener text file.0 c.in-Ok.mux tells read.0 read.1 file.2
+    (ap (bytes_left g.O.From.Source.left) c.in-Ok-open-2.ensures ∙ prepend_known-nil (g.O.From.Source.left c.in-Ok-open.source) ∙ file.1) tried c.audit_recording-audited.result c.audit_recording-audited.ensures.audited
 
 pub returns-clause-cause : goal.returns-clause-cause
 returns-clause-cause g c =

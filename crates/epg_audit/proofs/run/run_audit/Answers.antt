@@ -15,7 +15,7 @@ returns g c =
     let old : c.in-Ok.lines.source.now ≡ c.args.input.now = ap (λ r. r.source.now) c.in-Ok.ensures in
     record {
       run = audit_run c.args.path.now c.args.nulls opener _ report audited.result c.finish.result audited.ensures.known
-          (λ text tells files has. subst (λ s. FindsIn c.args.path.now c.args.nulls files text (g.S.Source.left s) audited.result) (sym same) (audited.ensures.finds text (ap g.S.Source.left old ∙ tells) files has))
+          (λ text tells files has. subst (λ s. FindsIn c.args.path.now c.args.nulls files opener text (g.S.Source.left s) audited.result) (sym same) (audited.ensures.finds text (ap g.S.Source.left old ∙ tells) files has))
           (subst (λ s. OnOk audited.result (IsAtEnd (g.S.Source.left s))) (sym same) audited.ensures.end)
           (subst (λ s. IfErr audited.result (HasMetCause (g.S.Source.faults c.args.input.now) (g.S.Source.faults s) opener)) (sym same)
           (subst (λ s. IfErr audited.result (HasMetCause (g.S.Source.faults s) (g.S.Source.faults audited.new.lines.source.now) opener)) old audited.ensures.cause))

@@ -18,7 +18,7 @@ returns g c =
     let old : c.in-Ok.lines.source.now ≡ c.args.input.now = ap (λ r. r.source.now) c.in-Ok.ensures in
     record {
       run = resume_run c.args.path.now c.args.fold opener _ air report played.result c.finish.result
-          (λ text tells files has. subst (λ s. PlayedResumed c.args.path.now files text (g.S.Source.left s) air.old air.new played.result) (sym same)
+          (λ text tells files has. subst (λ s. PlayedResumed c.args.path.now files text (g.S.Source.left s) opener.tried_old opener.tried_new air.old air.new played.result) (sym same)
           (played.ensures.played text (ap g.S.Source.left old ∙ tells) files has))
           played.ensures.known played.ensures.asked
           (subst (λ s. played.result.met ≡ Done → IsAtEnd (g.S.Source.left s)) (sym same) played.ensures.end)
