@@ -1,3 +1,2 @@
-mod PrintFacts
 mod CommandFacts
 mod PlayFacts

@@ -1,3 +1,2 @@
 pub mod Spelled
 pub mod Plays
-pub mod Prints

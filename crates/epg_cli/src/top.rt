@@ -15,7 +15,6 @@ ghost use Rattle.epg_soak.specs.SoakRun.{SoakRan};
 ghost use Rattle.epg_audit.specs.Leaves.{AuditRan};
 ghost use Rattle.headend_live.specs.declared.watched.LivePlan.{LivePlan};
 ghost use Rattle.epg_cli.specs.Plays.{PlayEnds};
-ghost use Rattle.epg_cli.specs.Prints.{PrintedScript};
 ghost use Rattle.epg_cli.specs.Spelled.{IsUsage, IsPlay, IsFold, IsResume, IsListen, IsStrictListen, SpellsListen, IsLive, IsSoak, IsAudit, SpellsAudit, SpellsSoak};
 
 use command_words::{Command, PlayWords, WordsStop, parse_words};
@@ -121,11 +120,6 @@ pub fn run<W: Threads + Wait + Sync, O: Opener, S: Source + Send, A: Sink + Send
         O.files O.tried O.faults O.read_faults opener.old opener.new
         S.left S.faults input.old input.new
         A.written A.faults air.old air.new R.written R.faults report.old report.new result }
-    // The journal that the report of `live` has is a script: behind its description `play` plays it
-    // to this journal again.
-    ensures live_again { (paths : List (List ℕ)) (plan : LivePlan)
-        → IsLive words.now paths plan → PrintedScript O.files opener.old
-        S.left input.old R.written R.faults report.old report.new result }
     ensures soak { (number : ℕ) → IsSoak words.now number → SoakRan number
         A.written A.faults air.old air.new R.written R.faults report.old report.new result }
     ensures audit { (path : List ℕ) (nulls : Bool) → IsAudit words.now path nulls

@@ -1,6 +1,7 @@
 -- What a run leaves, from what it met and how its report ended: what it sent is heard as it should be, and its monitor shows what is on air at its end.
-use Rattle.std.proofs.Common.{◌≡◌, inl, inr, ℕ, true, false, List, refl, sym, ap, ◌∙◌, subst, map, drop}
+use Rattle.std.proofs.Common.{◌≡◌, ◌≤◌, inl, inr, ℕ, true, false, List, length, refl, sym, ap, ◌∙◌, subst, map, drop}
 use Rattle.std.specs.Prelude.{Option, Some, None, IfSome, IsSome, Ok, Err, Result}
+use Rattle.std.specs.List.{AllByRecursion}
 use Rattle.headend_live.specs.declared.watched.LivePlan.{LivePlan}
 use Rattle.si_causes.specs.Opening.{Files}
 use Rattle.mux_model.specs.declared.mux.Mux.{Mux}
@@ -24,6 +25,7 @@ use Rattle.headend_jobs.specs.declared.send.SendStop.TheVariants as send
 use Rattle.headend_jobs.specs.Live.{AirDid, AirOf, LastMade, and_stop, control_stop, halts, run_stop, sent_stop}
 use Rattle.headend_live.specs.Watched.{guide_of_air}
 use Rattle.headend_live.proofs.Sent.{air_sent}
+use Rattle.journal_text.specs.Back.{IsOfLines, IsWritten}
 use Rattle.headend_jobs.specs.Whole.{final_commands}
 use Rattle.epg_report.specs.declared.status.Status.{Status}
 use Rattle.epg_report.specs.declared.status.Status.TheVariants.{Done, Memory}
@@ -36,7 +38,8 @@ use Rattle.epg_report.specs.Ends.{ReportEnds, or_report}
 use Rattle.epg_live.specs.Ends.{HasMet, HasMetAsking, run_text}
 use Rattle.epg_live.specs.Leaves.{LeavesLive}
 use Rattle.epg_live.proofs.StopFacts.{and_none, done_none, no_control}
-use Rattle.epg_live.proofs.TypedFacts.{run_typed}
+use Rattle.epg_live.proofs.ReportFacts.{is_script, none_is_script}
+use Rattle.epg_live.proofs.TypedFacts.{run_of_lines, run_typed}
 
 -- ---- a run that nothing stopped
 
@@ -81,6 +84,12 @@ module _ (mux : Mux) (plan : LivePlan) (text : List ℕ) (left : Option (List �
         steps = typed.1;
       }
 
+  -- it was read from lines, where it was written
+  of_lines : length paths ≤ 255 → AllByRecursion IsWritten journal → AllByRecursion IsOfLines journal
+  of_lines few written =
+      run_of_lines mux plan.cycles text left behind paths files journal ran.player ran.control_stop ran.feed_stops ran.final (halts ran.player ran.control_stop fed) ran.sent
+      ran.journal_is ran.last as_read.sound.sound few written
+
   pub ran_shown : status ≡ Done → (sent : List ℕ) → before ≡ Some sent → IsShownLast plan.join mux journal before now observed.guide
   ran_shown done sent knows =
       let none = done_none (run_stop ran.sent ran.control_stop fed) (sym ran.status_is ∙ done) in
@@ -117,26 +126,33 @@ none_done : (plan : LivePlan) (text : List ℕ) (left before now : Option (List 
 none_done plan text left before now journal observed met none done = subst (λ (s : Status). EndsBefore plan text left s) done none.why
 
 pub leaves : (paths : List (List ℕ)) (plan : LivePlan) (text : List ℕ) (files : Files) (opener : OpenerAsked) (input : SourceGave) (air report : ReportTaken) (journal : List Entry) (observed : Observed) (met status : Status)
+    → length paths ≤ 255 → AllByRecursion IsWritten journal
     → HasMetAsking paths plan text files input.new (read_faults input.faults_old opener.read_old) (read_faults input.faults_new opener.read_new) opener.tried_old opener.tried_new air.old air.new journal observed met → ReportEnds met (run_text journal observed) report status
     → LeavesLive paths plan text files opener input air report status
-leaves paths plan text files opener input air report journal observed met status (inl memory) ends = inl (by_memory (run_text journal observed) report met status memory ends)
-leaves paths plan text files opener input air report journal observed met status (inr (inl (none, tried))) ends = inr (record {
+leaves paths plan text files opener input air report journal observed met status few written (inl memory) ends = inl (by_memory (run_text journal observed) report met status memory ends)
+leaves paths plan text files opener input air report journal observed met status few written (inr (inl (none, tried))) ends = inr (record {
   journal = journal;
   observed = observed;
   met = met;
   ran = inr (inl (none, tried));
   reported = ends;
+  of_lines = subst (AllByRecursion IsOfLines) (sym none.journal_is) tt;
+  again = none_is_script text journal none.journal_is;
   sent = inl none.sent;
   shown = λ done sent knows. absurd (none_done plan text input.new air.old air.new journal observed met none done);
 })
-leaves paths plan text files opener input air report journal observed met status (inr (inr ((mux, behind, whole, ran), tried))) ends =
-    let read = as_read mux plan text input.new behind paths files (read_faults input.faults_old opener.read_old) (read_faults input.faults_new opener.read_new) air.old air.new journal observed met whole ran in
+leaves paths plan text files opener input air report journal observed met status few written (inr (inr ((mux, behind, whole, ran), tried))) ends =
+    let before = read_faults input.faults_old opener.read_old in
+    let now = read_faults input.faults_new opener.read_new in
+    let read = as_read mux plan text input.new behind paths files before now air.old air.new journal observed met whole ran in
     inr (record {
       journal = journal;
       observed = observed;
       met = met;
       ran = inr (inr ((mux, behind, whole, ran), tried));
       reported = ends;
+      of_lines = of_lines mux plan text input.new behind paths files before now air.old air.new journal observed met whole ran few written;
+      again = is_script text mux behind journal whole ran.journal_is.legal;
       sent = inr (mux, behind, whole, air_sent mux journal air.old air.new ran.sent read ran.journal_is.legal ran.air_is);
-      shown = λ done sent knows. (mux, behind, whole, ran_shown mux plan text input.new behind paths files (read_faults input.faults_old opener.read_old) (read_faults input.faults_new opener.read_new) air.old air.new journal observed met whole ran done sent knows);
+      shown = λ done sent knows. (mux, behind, whole, ran_shown mux plan text input.new behind paths files before now air.old air.new journal observed met whole ran done sent knows);
     })

@@ -5,7 +5,9 @@ mod DescribedFacts
 mod MetFacts
 pub mod DecidedFacts
 mod ControlFacts
+mod ShapeFacts
 mod TypedFacts
+mod ReportFacts
 pub mod LeavesFacts
 pub mod LiveRunFacts
 pub mod ViewFacts

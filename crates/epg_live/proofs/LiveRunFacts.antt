@@ -1,10 +1,12 @@
 -- A run of `live`, from what it leaves and how it ended.
-use Rattle.std.proofs.Common.{◌≡◌, ◌⊎◌, ◌∙◌, ℕ, List, inl, inr, ap, sym, subst}
+use Rattle.std.proofs.Common.{◌≡◌, ◌≤◌, ◌⊎◌, ◌∙◌, ℕ, List, length, inl, inr, ap, sym, subst}
 use Rattle.std.specs.Prelude.{Option, Some}
+use Rattle.std.specs.List.{AllByRecursion}
 use Rattle.std.specs.Io.KnownBytes.{IsAtEnd}
 use Rattle.headend_live.specs.declared.watched.LivePlan.{LivePlan}
 use Rattle.si_causes.specs.Causes.{Rose}
 use Rattle.si_causes.specs.Opening.{Files}
+use Rattle.journal_text.specs.Back.{IsWritten}
 use Rattle.epg_report.specs.declared.status.Status.{Status}
 use Rattle.epg_report.specs.declared.status.Status.TheVariants.{Done, OpenFault, WriteFault, Memory}
 use Rattle.epg_report.specs.declared.status.Outlet.TheVariants.{Report}
@@ -49,12 +51,12 @@ live_run paths plan opener input air report status leaves known asked_for end ca
 
 -- from what it met, and how its report ended
 pub live_ends : (paths : List (List ℕ)) (plan : LivePlan) (opener : OpenerAsked) (input : SourceGave) (air report : ReportTaken) (run : LiveResult) (status : Status)
-    → LiveMet paths plan opener input air run → (status ≡ Memory) ⊎ ReportEnds run.met (run_text (entries_of run.desk) run.observed) report status
-    → LiveRun paths plan opener input air report status
-live_ends paths plan opener input air report run status m ends =
+    → length paths ≤ 255 → LiveMet paths plan opener input air run → (status ≡ Memory) ⊎ ReportEnds run.met (run_text (entries_of run.desk) run.observed) report status
+    → (status ≡ Memory) ⊎ AllByRecursion IsWritten (entries_of run.desk) → LiveRun paths plan opener input air report status
+live_ends paths plan opener input air report run status few m ends written =
     let text = run_text (entries_of run.desk) run.observed in
     live_run paths plan opener input air report status
-    (λ said tells files known. left said files (m.met said tells files known) ends)
+    (λ said tells files known. left said files (m.met said tells files known) ends written)
     (ends_of_live run.met text report status m.known ends)
     (ends_asked paths opener.tried_old opener.tried_new run.met text report status m.known m.asked_for ends)
     (λ e. m.end (ends_done run.met text report status m.known ends e))
@@ -64,9 +66,10 @@ live_ends paths plan opener input air report run status m ends =
   where
     left : (said : List ℕ) (files : Files) → HasMetAsking paths plan said files input.new (read_faults input.faults_old opener.read_old) (read_faults input.faults_new opener.read_new) opener.tried_old opener.tried_new air.old air.new (entries_of run.desk) run.observed run.met
         → (status ≡ Memory) ⊎ ReportEnds run.met (run_text (entries_of run.desk) run.observed) report status
-        → LeavesLive paths plan said files opener input air report status
-    left said files has (inl memory) = inl memory
-    left said files has (inr ends) = leaves paths plan said files opener input air report (entries_of run.desk) run.observed run.met status has ends
+        → (status ≡ Memory) ⊎ AllByRecursion IsWritten (entries_of run.desk) → LeavesLive paths plan said files opener input air report status
+    left said files has (inl memory) written = inl memory
+    left said files has (inr ends) (inl memory) = inl memory
+    left said files has (inr ends) (inr written) = leaves paths plan said files opener input air report (entries_of run.desk) run.observed run.met status few written has ends
 
 -- no path was asked for
 pub none_asked : (paths : List (List ℕ)) (tried : Option (List (List ℕ))) → HasAsked paths tried tried Memory

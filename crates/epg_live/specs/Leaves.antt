@@ -1,10 +1,12 @@
 -- What a run of `live` leaves, for each status.
 use Rattle.std.specs.Prelude.{◌≡◌, ◌⊎◌, ℕ, List, Option, Some, Ok}
+use Rattle.std.specs.List.{AllByRecursion}
 use Rattle.headend_live.specs.declared.watched.LivePlan.{LivePlan}
 use Rattle.si_causes.specs.Opening.{Files}
 use Rattle.mux_model.specs.declared.mux.Mux.{Mux}
 use Rattle.input_lines.specs.Ahead.{Ahead, Came}
 use Rattle.journal_model.specs.declared.step.Entry.{Entry}
+use Rattle.journal_text.specs.Back.{IsOfLines}
 use Rattle.guide_screen.specs.declared.need.Heard.{Heard}
 use Rattle.journal_screen.specs.Last.{IsShownLast}
 use Rattle.headend_live.specs.SentAir.{SentAir}
@@ -16,6 +18,7 @@ use Rattle.mux_config.specs.Texts.{described}
 use Rattle.epg_report.specs.Ends.{ReportEnds}
 use Rattle.epg_live.specs.Runs.{read_faults}
 use Rattle.epg_live.specs.Ends.{HasMetAsking, run_text}
+use Rattle.epg_live.specs.Reports.{IsScript}
 
 -- What was sent is an air of this journal, over the multiplex that the text describes, or the first bytes of one; or nothing was sent.
 abbrev pub JournalIsSent : List ℕ → List Entry → Option (List ℕ) → Option (List ℕ) → Type 0
@@ -39,6 +42,10 @@ pub record LeftLive (paths : List (List ℕ)) (plan : LivePlan) (text : List ℕ
       opener.tried_old opener.tried_new air.old air.new journal observed met
   -- the report is the text of the journal, of the completions, of the views and of the guide, and a fault line, if there is one
   pub reported : ReportEnds met (run_text journal observed) report status
+  -- and tells which journal it is (`LiveReportsTellJournals`): the edits of that were read from lines
+  pub of_lines : AllByRecursion IsOfLines journal
+  -- its text is a script: after the description `play` plays it to this journal again
+  pub again : IsScript text journal
   -- whoever joins that air at any packet, and loses none: each completion is of one airing, and once a cycle was heard whole the guide is that
   -- of its publication, as long as that stays on air; and sections of tier Fast and Near repeat within their bounds
   pub sent : JournalIsSent text journal air.old air.new

@@ -4,6 +4,7 @@ pub mod Views
 pub mod Runs
 pub mod Decided
 pub mod Ends
+pub mod Reports
 pub mod Leaves
 pub mod LiveRun
 pub mod Met

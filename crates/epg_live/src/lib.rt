@@ -8,17 +8,20 @@
 //! what the packets sent give, from a chosen one on; the guide and the views' lines come only where
 //! nothing stopped. The status names the first stop in the order air, control, feeds. Where nothing
 //! fails the texts decide it (`completes`, `whole`). The paths are opened in order, each once
-//! (`asked_for`), and each fault has its cause.
+//! (`asked_for`), and each fault has its cause. Two runs with one report have one journal
+//! (`live_reports_tell_journals`), and that is a script which prints it again (`again`).
 //!
 //! Not promised: that the threads overlap in time, what is left with Memory, and that a feed whose
 //! read failed has done all lines that were whole.
 #![tactic(auto)]
 
 mod feeds;
+mod laws;
 mod reporting;
 mod run;
 mod top;
 
+pub use laws::live_reports_tell_journals;
 pub use reporting::{LiveResult, Observed};
 pub use run::run_files;
 pub use top::run_live_files;

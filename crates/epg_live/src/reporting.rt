@@ -1,5 +1,7 @@
 // The report of a run.
 ghost use Rattle.std.specs.Prelude.{◌≡◌, ◌⊎◌, ◌++◌, IfOk, OnOk};
+ghost use Rattle.std.specs.List.{AllByRecursion};
+ghost use Rattle.journal_text.specs.Back.{IsWritten};
 ghost use Rattle.guide_text.specs.Fields.{optional};
 ghost use Rattle.guide_text.specs.Guides.{guide_text};
 ghost use Rattle.epg_report.specs.Texts.{CanBeSaid, fault_lines};
@@ -131,7 +133,8 @@ fn put_observed(alloc: Global, out: &mut Vec<u8>, observed: &Observed) -> Result
 // The whole report.
 fn report_of(alloc: Global, run: &LiveResult) -> Result<Vec<u8>, AllocError>
     requires { CanBeSaid run.now.met }
-    ensures { IfOk result (λ text. text.items ≡ run_text (entries_of run.now.desk) run.now.observed ++ fault_lines run.now.met) }
+    ensures text { IfOk result (λ text. text.items ≡ run_text (entries_of run.now.desk) run.now.observed ++ fault_lines run.now.met) }
+    ensures written { OnOk result (AllByRecursion IsWritten (entries_of run.now.desk)) }
 {
     let mut text = match &run.desk {
         Some(desk) => journal_of(alloc, desk)?,
@@ -146,6 +149,7 @@ fn report_of(alloc: Global, run: &LiveResult) -> Result<Vec<u8>, AllocError>
 pub(crate) fn finish<R: Sink>(alloc: Global, run: &LiveResult, report: &mut R) -> Status
     requires { CanBeSaid run.now.met }
     ensures ends { (result ≡ Status.Memory) ⊎ ReportEnds run.now.met (run_text (entries_of run.now.desk) run.now.observed) (told R.written R.faults report.old report.new) result }
+    ensures written { (result ≡ Status.Memory) ⊎ AllByRecursion IsWritten (entries_of run.now.desk) }
 {
     let Ok(text) = report_of(alloc, run) else {
         return out_of_memory(report);

@@ -1,5 +1,7 @@
 // The text of a desk's journal.
-ghost use Rattle.std.specs.Prelude.{◌≡◌, IfOk};
+ghost use Rattle.std.specs.Prelude.{◌≡◌, IfOk, OnOk};
+ghost use Rattle.std.specs.List.{AllByRecursion};
+ghost use Rattle.journal_text.specs.Back.{IsWritten};
 ghost use Rattle.journal_text.specs.Entries.{journal_text};
 ghost use Rattle.journal_model.specs.Steps.{AreInWindow};
 
@@ -11,7 +13,8 @@ use std::alloc::{AllocError, Global};
 // The text of these entries.
 fn text_of(alloc: Global, entries: &[Entry]) -> Result<Vec<u8>, AllocError>
     requires { AreInWindow entries.now }
-    ensures { IfOk result (λ text. text.items ≡ journal_text entries.now) }
+    ensures text { IfOk result (λ text. text.items ≡ journal_text entries.now) }
+    ensures written { OnOk result (AllByRecursion IsWritten entries.now) }
 {
     let mut text = Vec::new(alloc);
     for entry in entries {
@@ -20,9 +23,10 @@ fn text_of(alloc: Global, entries: &[Entry]) -> Result<Vec<u8>, AllocError>
     Ok(text)
 }
 
-/// The text of a desk's journal.
+/// The text of a desk's journal, whose numbers have the 64 bits with which they are written.
 pub fn journal_of(alloc: Global, desk: &Desk) -> Result<Vec<u8>, AllocError>
-    ensures { IfOk result (λ text. text.items ≡ journal_text desk.now.entries) }
+    ensures text { IfOk result (λ text. text.items ≡ journal_text desk.now.entries) }
+    ensures written { OnOk result (AllByRecursion IsWritten desk.now.entries) }
 {
     let _ = desk.mux();
     text_of(alloc, desk.entries())

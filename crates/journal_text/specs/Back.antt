@@ -71,6 +71,15 @@ pub record IsWritableOutcome (outcome : Outcome) : Type 0 where
   pub numbers : AllByRecursion (λ n. n < 2 ^ 64) (outcome_numbers outcome)
   pub window : IsInWindow outcome
 
+-- the ids and numbers of an outcome have 64 bits
+abbrev pub HasWideNumbers : Outcome → Type 0
+HasWideNumbers outcome =
+    AllByRecursion (λ n. n < 2 ^ 64) (outcome_ids outcome) × AllByRecursion (λ n. n < 2 ^ 64) (outcome_numbers outcome)
+
+-- so have those of an entry that was written, and its caller's number has
+abbrev pub IsWritten : Entry → Type 0
+IsWritten entry = (entry.who < 2 ^ 64) × HasWideNumbers entry.outcome
+
 -- An entry whose edit was read from lines: the edit has its shapes, whatever length its lines have in the journal; the step
 -- and the outcome have numbers as their types have them, and moments that can be written.
 pub record IsOfLines (entry : Entry) : Type 0 where

@@ -1,8 +1,10 @@
 // The text of an outcome.
-ghost use Rattle.std.specs.Prelude.{◌≡◌, ◌*◌, ◌<◌, ◌++◌, ◌∷◌, IfOk, OnOk, OnErr, decimal};
+ghost use Rattle.std.specs.Prelude.{◌≡◌, ◌*◌, ◌<◌, ◌^◌, ◌++◌, ◌∷◌, IfOk, OnOk, OnErr, decimal};
+ghost use Rattle.std.specs.List.{AllByRecursion};
 ghost use Rattle.si_time.specs.Moments.{moment_text};
 ghost use Rattle.journal_model.specs.Steps.{IsInWindow};
-ghost use Rattle.script_lines.specs.Outcomes.{field_fields, day_fault_fields, reply_fields};
+ghost use Rattle.script_lines.specs.Outcomes.{field_fields, field_numbers, day_fault_fields, fault_ids, fault_numbers, reply_fields, reply_ids, reply_numbers};
+ghost use Rattle.journal_text.specs.Back.{HasWideNumbers};
 ghost use Rattle.journal_text.specs.Entries.{outcome_text, with_commas};
 
 use journal_model::{DayFault, Field, Outcome, Reply};
@@ -22,7 +24,8 @@ fn put_moment(out: &mut Vec<u8>, at: Moment) -> Result<(), AllocError>
 
 // Appends a word, a comma and a number.
 fn put_counted(alloc: Global, out: &mut Vec<u8>, word: &[u8], n: u64) -> Result<(), AllocError>
-    ensures { OnOk result (out.new.items ≡ out.old.items ++ (word.now ++ 44 ∷ decimal n)) }
+    ensures text { OnOk result (out.new.items ≡ out.old.items ++ (word.now ++ 44 ∷ decimal n)) }
+    ensures wide { n < 2 ^ 64 }
 {
     out.extend_from_slice(word)?;
     out.extend_from_slice(b",")?;
@@ -30,7 +33,8 @@ fn put_counted(alloc: Global, out: &mut Vec<u8>, word: &[u8], n: u64) -> Result<
 }
 
 fn put_field(alloc: Global, out: &mut Vec<u8>, field: Field) -> Result<(), AllocError>
-    ensures { OnOk result (out.new.items ≡ out.old.items ++ with_commas (field_fields field)) }
+    ensures text { OnOk result (out.new.items ≡ out.old.items ++ with_commas (field_fields field)) }
+    ensures numbers { OnOk result (AllByRecursion (λ n. n < 2 ^ 64) (field_numbers field)) }
 {
     let word = field_word(field).as_bytes();
     match field {
@@ -41,7 +45,9 @@ fn put_field(alloc: Global, out: &mut Vec<u8>, field: Field) -> Result<(), Alloc
 }
 
 fn put_day_fault(alloc: Global, out: &mut Vec<u8>, fault: DayFault) -> Result<(), AllocError>
-    ensures { OnOk result (out.new.items ≡ out.old.items ++ with_commas (day_fault_fields fault)) }
+    ensures text { OnOk result (out.new.items ≡ out.old.items ++ with_commas (day_fault_fields fault)) }
+    ensures ids { OnOk result (AllByRecursion (λ n. n < 2 ^ 64) (fault_ids fault)) }
+    ensures numbers { OnOk result (AllByRecursion (λ n. n < 2 ^ 64) (fault_numbers fault)) }
 {
     match fault {
         DayFault::Range(field) => {
@@ -53,7 +59,9 @@ fn put_day_fault(alloc: Global, out: &mut Vec<u8>, fault: DayFault) -> Result<()
 }
 
 fn put_reply(alloc: Global, out: &mut Vec<u8>, reply: Reply) -> Result<(), AllocError>
-    ensures { OnOk result (out.new.items ≡ out.old.items ++ with_commas (reply_fields reply)) }
+    ensures text { OnOk result (out.new.items ≡ out.old.items ++ with_commas (reply_fields reply)) }
+    ensures ids { OnOk result (AllByRecursion (λ n. n < 2 ^ 64) (reply_ids reply)) }
+    ensures numbers { OnOk result (AllByRecursion (λ n. n < 2 ^ 64) (reply_numbers reply)) }
 {
     match reply {
         Reply::Done => out.extend_from_slice(b"done"),
@@ -75,7 +83,8 @@ pub(crate) fn put_outcome(
     outcome: Outcome,
 ) -> Result<(), AllocError>
     requires { IsInWindow outcome }
-    ensures { OnOk result (out.new.items ≡ out.old.items ++ outcome_text outcome) }
+    ensures text { OnOk result (out.new.items ≡ out.old.items ++ outcome_text outcome) }
+    ensures wide { OnOk result (HasWideNumbers outcome) }
 {
     match outcome {
         Outcome::Edited(reply) => put_reply(alloc, out, reply),

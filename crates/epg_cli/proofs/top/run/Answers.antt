@@ -16,7 +16,6 @@ use Rattle.epg_soak.proofs.SoakFacts.{soak_memory}
 use Rattle.epg_audit.specs.Leaves.{AuditRun}
 use Rattle.epg_audit.proofs.AuditRuns.{audit_memory}
 use Rattle.epg_resume.proofs.RunFacts.{fold_memory, resume_memory}
-use Rattle.epg_cli.proofs.PrintFacts.{prints}
 use Rattle.epg_cli.proofs.CommandFacts.{play_audit, listen_audit, live_audit, soak_audit, play_sends, live_sends, soak_sends, none_sends, audit_others, audit_is, audit_usage, audit_cause, audit_open, play_listen, play_live, listen_live, play_soak, listen_soak, live_soak, live_others, some_none, live_is, soak_is, listen_usage, live_usage, soak_usage, listen_open, soak_open, listen_cause, soak_cause, memory_usage, memory_read, play_is, play_opens, listen_is}
 use Rattle.epg_cli.proofs.top.run.Goals as goal
 
@@ -36,7 +35,6 @@ returns-in-Ok-Play g c =
       listen = λ spelled. absurd (play_listen command words.fold resume false spells spelled);
       strict_listen = λ spelled. absurd (play_listen command words.fold resume true spells spelled);
       live = λ paths plan spelled. absurd (play_live command words.fold resume paths plan spells spelled);
-      live_again = λ paths plan spelled. absurd (play_live command words.fold resume paths plan spells spelled);
       soak = λ number spelled. absurd (play_soak command words.fold resume number spells spelled);
       audit = λ path nulls spelled. absurd (play_audit command words.fold resume path nulls spells spelled);
       air_kept = λ spelled. absurd (play_sends command words.fold resume spells spelled);
@@ -65,7 +63,6 @@ returns-in-Ok-Listen g c =
       listen = λ spelled. listen_is (λ s. ListenRun s input report c.run_listen_words.result) command strict false spells spelled run;
       strict_listen = λ spelled. listen_is (λ s. ListenRun s input report c.run_listen_words.result) command strict true spells spelled run;
       live = λ paths plan spelled. absurd (listen_live command strict paths plan spells spelled);
-      live_again = λ paths plan spelled. absurd (listen_live command strict paths plan spells spelled);
       soak = λ number spelled. absurd (listen_soak command strict number spells spelled);
       audit = λ path nulls spelled. absurd (listen_audit command strict path nulls spells spelled);
       air_kept = λ spelled. refl;
@@ -99,8 +96,6 @@ returns-in-Ok-Live g c =
       strict_listen = λ spelled. absurd (listen_live command true read (plan_of words) spelled spells);
       live = λ paths plan spelled.
           live_is (λ ps p. LiveRun ps p opener input air report c.run_live_files.result) command read paths (plan_of words) plan spells spelled run;
-      live_again = λ paths plan spelled text tells files known.
-          prints read (plan_of words) text files opener input air report c.run_live_files.result (run.leaves text tells files known);
       soak = λ number spelled. absurd (live_soak command read (plan_of words) number spells spelled);
       audit = λ path nulls spelled. absurd (live_audit command read (plan_of words) path nulls spells spelled);
       air_kept = λ spelled. absurd (live_sends command read (plan_of words) spells spelled);
@@ -138,7 +133,6 @@ returns-in-Ok-Soak g c =
       listen = λ spelled. absurd (listen_soak command false read spelled spells);
       strict_listen = λ spelled. absurd (listen_soak command true read spelled spells);
       live = λ paths plan spelled. absurd (live_soak command paths plan read spelled spells);
-      live_again = λ paths plan spelled. absurd (live_soak command paths plan read spelled spells);
       soak = λ number spelled. soak_is (λ n. SoakRun n air report c.run_soak.result) command read number spells spelled run;
       audit = λ path nulls spelled. absurd (soak_audit command read path nulls spells spelled);
       air_kept = λ spelled. absurd (soak_sends command read spells spelled);
@@ -171,7 +165,6 @@ returns-in-Ok-Audit g c =
       listen = λ spelled. absurd (listen_audit command false read said spelled spells);
       strict_listen = λ spelled. absurd (listen_audit command true read said spelled spells);
       live = λ paths plan spelled. absurd (live_audit command paths plan read said spelled spells);
-      live_again = λ paths plan spelled. absurd (live_audit command paths plan read said spelled spells);
       soak = λ number spelled. absurd (soak_audit command number read said spelled spells);
       audit = λ path nulls spelled. audit_is (λ p n. AuditRun p n opener input report c.run_audit.result) command read path said nulls spells spelled run;
       air_kept = λ spelled. refl;
@@ -201,7 +194,6 @@ returns-in-Err-Memory g c =
       listen = λ spelled. listen_memory false input report c.out_of_memory.result is;
       strict_listen = λ spelled. listen_memory true input report c.out_of_memory.result is;
       live = λ paths plan spelled. live_memory paths plan opener input air report c.out_of_memory.result is (none_asked paths tried);
-      live_again = λ paths plan spelled text tells files known. inl is;
       soak = λ number spelled. soak_memory number air report c.out_of_memory.result is;
       audit = λ path nulls spelled. audit_memory path nulls opener input report c.out_of_memory.result is refl;
       air_kept = λ spelled. refl;
@@ -231,7 +223,6 @@ returns-in-Err-Usage g c =
       listen = λ spelled. absurd (some_none command (Listen false) spelled none);
       strict_listen = λ spelled. absurd (some_none command (Listen true) spelled none);
       live = λ paths plan spelled. absurd (some_none command (Live paths plan.cycles plan.join plan.views) spelled none);
-      live_again = λ paths plan spelled. absurd (some_none command (Live paths plan.cycles plan.join plan.views) spelled none);
       soak = λ number spelled. absurd (some_none command (Soak number) spelled none);
       audit = λ path nulls spelled. absurd (some_none command (Audit path nulls) spelled none);
       air_kept = λ spelled. absurd (none_sends command none spelled);

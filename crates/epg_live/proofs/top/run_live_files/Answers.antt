@@ -1,3 +1,6 @@
+use Rattle.std.proofs.Common.{◌≤◌, sym, subst, arith}
+use Rattle.std.specs.Prelude.{ℕ, string_bytes}
+use Rattle.std.proofs.lemmas.List.{length-map}
 use Rattle.command_words.specs.Commands.{texts}
 use Rattle.epg_report.specs.Told.{asked, gave, told}
 use Rattle.epg_live.specs.Views.{plan_of}
@@ -13,5 +16,7 @@ returns g c = record {
       (asked g.O.Opener.files g.O.Opener.tried g.O.Opener.faults g.O.Opener.read_faults c.args.opener.now c.run_files.new.opener)
       (gave g.S.Source.left g.S.Source.faults c.args.input.now c.run_files.new.input)
       (told g.A.Sink.written g.A.Sink.faults c.args.air.now c.run_files.new.air)
-      (told g.R.Sink.written g.R.Sink.faults c.args.report.now c.finish.new.report) c.in-Ok.ran c.finish.result c.in-Ok.ensures.run c.finish.ensures.ends;
+      (told g.R.Sink.written g.R.Sink.faults c.args.report.now c.finish.new.report) c.in-Ok.ran c.finish.result
+      (subst (λ (n : ℕ). n ≤ 255) (sym (length-map c.args.words.now.feeds.items string_bytes)) (omega (arith, c.requires.few)))
+      c.in-Ok.ensures.run c.finish.ensures.ends c.finish.ensures.written;
 }
