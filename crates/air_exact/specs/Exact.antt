@@ -30,10 +30,14 @@ pub record IsCarried (test : Key → Bool) (k : Key) (a : AiredTables) : Type 0 
   pub counted : is_counted k.pid k.table ≡ true
   pub some : IsSome (content_at k a)
 
+-- where the key of a sub-table passes the test, it is one of these
+abbrev pub IsOneOf : (Key → Bool) → List Key → SubTable → Type 0
+IsOneOf test ks t = test t.key ≡ true → Contains ks t.key
+
 -- each key of these airings that passes the test is one of these
 abbrev pub AreOnlyKeys : (Key → Bool) → List Key → List AiredTables → Type 0
 AreOnlyKeys test ks airings =
-    AllByRecursion (λ (a : AiredTables). AllByRecursion (λ (t : SubTable). test t.key ≡ true → Contains ks t.key) a.tables) airings
+    AllByRecursion (λ (a : AiredTables). AllByRecursion (IsOneOf test ks) a.tables) airings
 
 -- Of the tables that come once, and of the SDTs of other streams, these airings have no others than these, and this airing has them.
 pub record HaveOneEach (airings : List AiredTables) (a : AiredTables) (pat nit sdt : Key) (others : List Key) : Type 0 where

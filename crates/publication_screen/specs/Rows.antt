@@ -59,7 +59,13 @@ no_others = refl
 
 -- stream 3 of network 4 has a service, stream 5 of network 4 has none
 abbrev film : RemoteService
-film = record { service = 90; feed = 2; kind = 25; provider = codes "Second"; name = codes "Second" }
+film = record {
+  service = 90;
+  feed = 2;
+  kind = 25;
+  provider = codes "Second";
+  name = codes "Second";
+}
 
 abbrev third : Other
 third = record { stream = 3; original = 4; cable = None; services = film ∷ [] }
@@ -83,7 +89,12 @@ wide = record {
 
 -- the service of the other stream has an event that is over and one that comes, and none that is on; it stands before the own service
 abbrev remote_part : ServiceGuide
-remote_part = record { service = 90; provider = codes "Far"; name = codes "Far Films"; events = event 7 127800 ∷ event 8 133200 ∷ [] }
+remote_part = record {
+  service = 90;
+  provider = codes "Far";
+  name = codes "Far Films";
+  events = event 7 127800 ∷ event 8 133200 ∷ [];
+}
 
 abbrev both : Guide
 both = record { moment = record { 0 = 129600 }; services = remote_part ∷ own_part ∷ [] }
