@@ -1,0 +1,79 @@
+#!/usr/bin/env python3
+"""Prints a script of `play`: a multiplex with 15 other streams, 64 services on them and 8 of its own, events of all, a publish and a swap.
+usage: describe.py [NUMBER]    another number gives other names, events and places"""
+import csv
+import datetime
+import random
+import sys
+
+START = datetime.datetime(2026, 11, 30, 12, 10)
+MIDNIGHT = datetime.datetime(2026, 11, 30)
+WORDS = ("Harbour", "Fjord", "Evening", "News", "Ferry", "Night", "Übersee", "Café", "Ship", "Hour", "Weather", "Film", "Zwölf", "Naïve", "Quay")
+LANGUAGES = ("eng", "deu", "fra", "nor")
+
+
+def moment(at):
+    return at.strftime("%Y-%m-%dT%H:%M:%SZ")
+
+
+def words(chance, most):
+    return " ".join(chance.choice(WORDS) for _ in range(chance.randint(1, most)))
+
+
+def description(chance):
+    """The lines of the multiplex, and the id and the feed of each service."""
+    lines = [["network", 40, "Harbour Cable"], ["stream", 1, 1], ["cable", 3460000, 3, 69000, 2, 15], ["start", moment(START)]]
+    services = [(101 + i, 1 + i % 2) for i in range(8)]
+    for i, (service, feed) in enumerate(services):
+        lines.append(["service", service, feed, chance.choice((1, 2, 25)), 256 + i, 512 + i, "Harbour", words(chance, 3)])
+    streams = [(2 + i, chance.choice((1, 8))) for i in range(15)]
+    chance.shuffle(streams)
+    for i, pair in enumerate(streams):
+        cable = [] if i % 4 == 3 else [3140000 + 80000 * i, 3 + i % 3, 68750 + i, 2, 15]
+        lines.append(["other", *pair, *cable])
+    # the last stream stays without a service
+    for service in chance.sample(range(201, 65536), 64):
+        feed = chance.randint(1, 16)
+        services.append((service, feed))
+        lines.append(["remote", *chance.choice(streams[:-1]), service, feed, chance.choice((1, 2, 22, 25)), words(chance, 2), words(chance, 4)])
+    return lines + [["end"]], services
+
+
+def event(chance, service, feed, number, at, minutes):
+    genres = " ".join(f"{chance.randint(1, 11)}.{chance.randint(0, 15)}.{chance.randint(0, 255)}" for _ in range(chance.randint(0, 3)))
+    rating = ["GBR", chance.randint(1, 15)] if chance.random() < 0.4 else ["", ""]
+    extended = words(chance, 120) if chance.random() < 0.3 else ""
+    short = words(chance, 8) if chance.random() < 0.6 else ""
+    return ["feed", feed, "put", service, number, moment(at), f"{minutes // 60:02}:{minutes % 60:02}:00", chance.choice(LANGUAGES),
+            words(chance, 5), short, extended, *rating, genres]
+
+
+def events(chance, service, feed):
+    """One that runs over midnight; some that begin an hour before the start; more on later days. Of one service in ten there is none."""
+    out = []
+    if chance.random() < 0.1:
+        return out
+
+    def put(at, minutes):
+        out.append(event(chance, service, feed, len(out) + 1, at, minutes))
+        return at + datetime.timedelta(minutes=minutes + chance.choice((0, 0, 0, 45, 240)))
+
+    put(MIDNIGHT - datetime.timedelta(minutes=30), 90)
+    at = START - datetime.timedelta(minutes=chance.randint(0, 60))
+    for day in (0, 1, 3, 4, 7, 8, 20, 63):
+        for _ in range(chance.randint(0 if day else 2, 6)):
+            at = put(at, chance.choice((15, 30, 60, 90, 180)))
+        at = max(at, MIDNIGHT + datetime.timedelta(days=day + 1, hours=chance.randint(0, 12)))
+    return out
+
+
+def main():
+    chance = random.Random(int(sys.argv[1]) if len(sys.argv) > 1 else 1)
+    lines, services = description(chance)
+    for service, feed in services:
+        lines += events(chance, service, feed)
+    csv.writer(sys.stdout, lineterminator="\n").writerows(lines + [["publish"], ["swap"]])
+
+
+if __name__ == "__main__":
+    main()
