@@ -130,6 +130,18 @@ class OnAir(Case):
         local = [line.split("\t")[:-1] for line in self.guide().splitlines() if line.startswith("local\t")]
         self.assertEqual(local, [line.replace("offset", "local").strip().split(",") for line in (mainland, azores)])
 
+    def test_other_streams_come_at_a_stop_and_a_start(self) -> None:
+        other = "other,2,1\nremote,2,1,201,1,1,Acme,Far\n"
+        for lines, edits in (("", show(101, 5, "Harbour")), (other, name(201, "Elsewhere") + show(201, 6, "Fjord"))):
+            run = self.begin(description=DESCRIPTION.replace("end\n", f"{lines}end\n"))
+            self.assertTrue(run.put_on_air("1.txt", edits), run.log())
+            time.sleep(0.5)
+            self.assertEqual(run.end(), 0, run.log())
+        self.assertEqual(breaks(self.air.read_bytes()), [])
+        guide = self.guide()
+        self.assertIn("\nother\t2\t1\t\t\t\t\t\nremote\t201\t1\tAcme\tElsewhere\nnow\t6\t", guide)
+        self.assertEqual([line.split("\t")[5] for line in guide.splitlines() if line.startswith("now")], ["Harbour", "Fjord"])
+
     def test_a_kill_gives_no_version_to_two_contents(self) -> None:
         run = self.begin()
         self.assertTrue(run.put_on_air("1.txt", name(101, "First")), run.log())
