@@ -1,17 +1,14 @@
 -- Whether what is completed of an air is of one airing (ISO/IEC 13818-1, 2.4.4; EN 300 468, 5.1.1).
-use Rattle.std.specs.Prelude.{◌≡◌, ℕ, ◌≤◌, List, [], ◌∷◌, ◌++◌, length, take, slice_range, Option, Some}
+use Rattle.std.specs.Prelude.{◌≡◌, ℕ, ◌≤◌, List, [], ◌∷◌, ◌++◌, length, slice_range, Some}
 use Rattle.std.specs.List.{AllByRecursion}
-use Rattle.std.specs.Io.KnownBytes.{Appends}
 use Rattle.section_codec.specs.declared.table.Key.{Key}
-use Rattle.version_book.specs.Airings.{AiredTables, content_at}
+use Rattle.version_book.specs.Airings.{content_at}
 use Rattle.sub_collect.specs.Completions.{of_key, completions}
 use Rattle.sub_collect.specs.declared.completed.Completed.{Completed}
 use Rattle.heard_completions.specs.Dones.{counted_heard}
-use Rattle.air_model.specs.Air.{Aired, IsAirOf, air, airings_of, air_bytes}
-use Rattle.air_model.specs.Making.{AreMade}
+use Rattle.air_model.specs.Air.{Aired, air, airings_of}
 use Rattle.air_joins.specs.Versions.{version_behind}
 use Rattle.air_joins.specs.Joining.{HasPacketIn}
-use Rattle.ts_packets.specs.WholePackets.{whole_packets}
 
 -- what is completed of a key, at each of its sections that count
 abbrev pub completed_of : Key → List (List ℕ) → List Completed
@@ -35,15 +32,3 @@ IsCoherentIn join end xs packets = (k : Key) → AllByRecursion (IsAiredIn join 
 -- so wherever it joins, and wherever it ends
 abbrev pub IsCoherent : List Aired → List (List ℕ) → Type 0
 IsCoherent xs packets = (join end : ℕ) → end ≤ length packets → IsCoherentIn join end xs packets
-
--- What was sent, from before to now, are the first bytes of an air of the first of these airings, in which neighbours of one PID share
--- packets, and its whole packets are coherent.
-pub record SentCoherent (airings : List AiredTables) (before now : Option (List ℕ)) : Type 0 where
-  pub cycles : List Aired
-  pub others : List AiredTables
-  pub airings_are : airings ≡ airings_of cycles ++ others
-  pub is_air : IsAirOf (airings_of cycles) cycles
-  pub made : AreMade [] cycles
-  pub size : ℕ
-  pub bytes : Appends before now (take size (air_bytes cycles))
-  pub coherent : IsCoherent cycles (whole_packets (take size (air_bytes cycles)))

@@ -1,3 +1,4 @@
 pub mod Coherence
+pub mod Sent
 pub mod Laws
 pub mod Rows

@@ -5,4 +5,3 @@ pub mod Plays
 pub mod Stretches
 pub mod DenseStarts
 pub mod Spaced
-pub mod SentSpaced

@@ -1,7 +1,6 @@
 pub mod Laying
 pub mod Packing
 pub mod Spacing
-pub mod Spaced
 pub mod Sending
 pub mod Playing
 pub mod Rows

@@ -1,31 +1,29 @@
--- What a run puts on air has few keys.
-use Rattle.std.proofs.Common.{◌≡◌, ℕ, ◌≤◌, List, [], ◌∷◌, ◌++◌, Bool, true, false, ◌||◌, length, take, map, refl, sym, ap, ◌∙◌, subst, arith}
+-- What was sent of a journal has few keys.
+use Rattle.std.proofs.Common.{◌≡◌, ℕ, ◌≤◌, List, [], ◌∷◌, ◌++◌, Bool, true, false, ◌||◌, map, refl, sym, ap, ◌∙◌, subst, arith}
 use Rattle.std.specs.Prelude.{Option, slice_range}
 use Rattle.std.specs.List.{AllByRecursion}
 use Rattle.std.specs.Set.{is_member, distinct_count}
 use Rattle.std.proofs.lemmas.List.Folds.{list_any-append}
 use Rattle.si_lists.proofs.Distinct.{distinct_count-within}
-use Rattle.si_lists.proofs.Lists.{all_front}
 use Rattle.section_codec.specs.declared.table.Key.{Key}
 use Rattle.section_codec.specs.declared.table.SubTable.{SubTable}
 use Rattle.section_codec.specs.KeyOrder.{is_key}
 use Rattle.mux_model.specs.declared.mux.Mux.{Mux}
 use Rattle.mux_model.specs.Sound.{IsSound}
 use Rattle.version_book.specs.Airings.{AiredTables}
-use Rattle.ts_packets.specs.WholePackets.{whole_packets}
 use Rattle.sub_collect.specs.KeyCounts.{section_keys}
 use Rattle.sub_collect.proofs.KeyCounts.{key_laws}
 use Rattle.heard_completions.specs.Dones.{counted_heard}
-use Rattle.air_model.specs.Air.{airings_of, air_bytes}
-use Rattle.air_model.proofs.Repeating.{airs_repeat}
+use Rattle.air_model.specs.Air.{airings_of}
 use Rattle.air_hearing.specs.Counting.{CanBeHeard}
 use Rattle.air_hearing.specs.Sending.{carried_keys}
-use Rattle.air_coherence.specs.Coherence.{SentCoherent}
+use Rattle.air_coherence.specs.Sent.{SentOf, packets_sent}
 use Rattle.air_coherence.proofs.Carried.{heard_keys_carried}
+use Rattle.air_coherence.proofs.Sent.{each_sent, sent_repeats}
 use Rattle.journal_model.specs.declared.step.Entry.{Entry}
 use Rattle.journal_air.specs.Air.{airings}
 use Rattle.journal_air.proofs.KeyFacts.{airings_few}
-use Rattle.headend_live.specs.SentKeys.{SentKeys}
+use Rattle.headend_live.specs.HeardKeys.{HaveFewKeys}
 
 -- the keys of the first of some airings are among those of all
 carried_first : (first others : List AiredTables) (k : Key) → is_member is_key (carried_keys first) k ≡ true → is_member is_key (carried_keys (first ++ others)) k ≡ true
@@ -41,18 +39,14 @@ carried_first (a ∷ first) others k there =
     go true e rest = refl
     go false e rest = rest e
 
-pub sent_keys : (mux : Mux) (journal : List Entry) (before now : Option (List ℕ)) → IsSound mux → AllByRecursion CanBeHeard (airings mux journal)
-    → SentCoherent (airings mux journal) before now → SentKeys (airings mux journal) before now
-sent_keys mux journal before now sound can sent = record {
-  sent = sent;
-  few = λ join end le.
-      let all : List AiredTables = airings mux journal in
-      let first : List AiredTables = airings_of sent.cycles in
-      let heard = counted_heard (slice_range (whole_packets (take sent.size (air_bytes sent.cycles))) join end) in
-      let each = all_front CanBeHeard first sent.others (subst (AllByRecursion CanBeHeard) sent.airings_are can) in
-      let among = heard_keys_carried first sent.cycles (airs_repeat first sent.cycles sent.is_air) each sent.size join end le in
-      let within = distinct_count-within key_laws (section_keys heard) (carried_keys all)
-      (λ k there. subst (λ (all : List AiredTables). is_member is_key (carried_keys all) k ≡ true) (sym sent.airings_are) (carried_first first sent.others k (among k there))) in
-      let few = airings_few mux journal sound in
-      omega (arith, within, few);
-}
+pub sent_keys : (mux : Mux) (journal : List Entry) → IsSound mux → AllByRecursion CanBeHeard (airings mux journal)
+    → (before now : Option (List ℕ)) (sent : SentOf (airings mux journal) before now) → HaveFewKeys (packets_sent sent)
+sent_keys mux journal sound can before now sent join end le =
+    let all : List AiredTables = airings mux journal in
+    let first : List AiredTables = airings_of sent.cycles in
+    let heard = counted_heard (slice_range (packets_sent sent) join end) in
+    let among = heard_keys_carried first sent.cycles (sent_repeats all before now sent) (each_sent all before now sent CanBeHeard can) sent.size join end le in
+    let within = distinct_count-within key_laws (section_keys heard) (carried_keys all)
+    (λ k there. subst (λ (all : List AiredTables). is_member is_key (carried_keys all) k ≡ true) (sym sent.airings_are) (carried_first first sent.others k (among k there))) in
+    let few = airings_few mux journal sound in
+    omega (arith, within, few)

@@ -1,6 +1,6 @@
--- What a run puts on air is spaced.
+-- What was sent of a journal is spaced.
 use Rattle.std.proofs.Common.{◌≡◌, ◌⊎◌, inl, inr, [], ◌∷◌, ◌++◌, true, refl, arith}
-use Rattle.std.specs.Prelude.{ℕ, List, Option, Ok, Err, Result}
+use Rattle.std.specs.Prelude.{ℕ, List, Option}
 use Rattle.std.specs.List.{AllByRecursion}
 use Rattle.si_lists.proofs.Lists.{each_unit}
 use Rattle.guide_model.specs.declared.guide.Guide.{Guide}
@@ -12,9 +12,12 @@ use Rattle.mux_model.specs.declared.mux.Other.{Other}
 use Rattle.mux_model.specs.declared.mux.Mux.{Mux}
 use Rattle.mux_model.specs.Sound.{IsSound}
 use Rattle.journal_model.specs.declared.step.Entry.{Entry}
-use Rattle.carousel_player.specs.Spaced.{SentSpaced}
-use Rattle.carousel_player.specs.Spacing.{RunsBeginAlone, CanBeSpaced}
-use Rattle.carousel_player.proofs.SentSpaced.{IsFitAs, AreFitAs, cycles_sent_spaced, whole_sent_spaced, cut_sent_spaced}
+use Rattle.version_book.specs.Airings.{CycleForm, AiredTables}
+use Rattle.air_model.specs.Air.{Aired, airings_of}
+use Rattle.air_coherence.specs.Sent.{SentOf}
+use Rattle.air_coherence.proofs.Sent.{each_sent}
+use Rattle.carousel_player.specs.Spacing.{RunsBeginAlone, CanBeSpaced, IsSpacedAir}
+use Rattle.carousel_player.proofs.Spaced.{made_airs_are_spaced}
 use Rattle.eit_tables.proofs.EntryFacts.{typed_small}
 use Rattle.publication.specs.Parts.{own_guide, remote_guide}
 use Rattle.publication.specs.Programs.{pat_table, pmt_tables}
@@ -24,11 +27,8 @@ use Rattle.publication.proofs.FitFacts.{any_pmt, each_sub_table, publication_fit
 use Rattle.desk_core.specs.Journal.{Legal}
 use Rattle.desk_core.specs.Publications.{publication, swaps}
 use Rattle.desk_core.proofs.WithinFacts.{publications_within}
-use Rattle.headend_jobs.specs.declared.send.SendStop.{SendStop}
-use Rattle.headend_jobs.specs.declared.send.SendStop.TheVariants.{Air, Memory}
 use Rattle.journal_air.specs.Air.{airing_at, airings, mux_form}
 use Rattle.journal_air.specs.Laws.{HasTypedEdits}
-use Rattle.headend_jobs.specs.Live.{AirDid}
 use Rattle.journal_air.proofs.CarryFacts.{each_airing, offsets_told}
 use Rattle.journal_air.proofs.Published.{published_typed}
 
@@ -58,6 +58,13 @@ runs_begin_alone mux guide =
       apart = apart.1;
     }
 
+-- an airing that can be spaced, in a cycle of this form
+abbrev pub IsFitAs : CycleForm → AiredTables → Type 0
+IsFitAs form a = CanBeSpaced a × (a.form ≡ form)
+
+abbrev pub AreFitAs : CycleForm → List AiredTables → Type 0
+AreFitAs form airings = AllByRecursion (IsFitAs form) airings
+
 -- the airings of a journal can be spaced, in cycles of the form of its multiplex
 pub airings_fit : (mux : Mux) (journal : List Entry) → IsSound mux → HasTypedEdits journal → Legal mux journal → AreFitAs (mux_form mux) (airings mux journal)
 airings_fit mux journal sound typed legal = each_airing (IsFitAs (mux_form mux)) mux journal one (swaps journal)
@@ -68,9 +75,11 @@ airings_fit mux journal sound typed legal = each_airing (IsFitAs (mux_form mux))
         let within = publications_within mux journal n sound legal in
         (record { fit = publication_fit mux guide sound within (typed_small guide within (published_typed mux journal n typed within)); alone = runs_begin_alone mux guide; quota = sound.quota.0; offsets = offsets_told mux.offsets sound.offsets }, refl)
 
-pub air_spaced : (mux : Mux) (journal : List Entry) (before now : Option (List ℕ)) (sent : Result (Unit {0}) SendStop) → AreFitAs (mux_form mux) (airings mux journal)
-    → AirDid mux journal before now sent → SentSpaced (airings mux journal) before now
-air_spaced mux journal before now (Ok u) fit did = whole_sent_spaced (mux_form mux) (airings mux journal) fit before now did.cycles did.is_air did.made did.bytes
-air_spaced mux journal before now (Err Air) fit did = cut_sent_spaced (mux_form mux) (airings mux journal) fit before now did.whole did.cut did.taken did.is_air did.made did.bytes
-air_spaced mux journal before now (Err Memory) fit did =
-    cycles_sent_spaced (mux_form mux) (airings mux journal) fit before now did.left did.cycles did.airings_are did.is_air did.made did.bytes
+each_cycle : (P : AiredTables → Type 0) (xs : List Aired) → AllByRecursion P (airings_of xs) → AllByRecursion (λ (x : Aired). P x.airing) xs
+each_cycle P [] all = tt
+each_cycle P (x ∷ xs) all = (all.0, each_cycle P xs all.1)
+
+pub sent_spaced : (form : CycleForm) (airings : List AiredTables) → AreFitAs form airings → (before now : Option (List ℕ)) (sent : SentOf airings before now)
+    → IsSpacedAir sent.cycles
+sent_spaced form airings fit before now sent =
+    made_airs_are_spaced form sent.cycles sent.made (each_cycle (IsFitAs form) sent.cycles (each_sent airings before now sent (IsFitAs form) fit))

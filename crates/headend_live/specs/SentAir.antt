@@ -1,15 +1,33 @@
 -- What holds of the air of a run, by whom it is heard.
 use Rattle.std.specs.Prelude.{ℕ, List, Option}
+use Rattle.version_book.specs.Airings.{AiredTables}
+use Rattle.air_model.specs.Air.{Aired}
 use Rattle.mux_model.specs.declared.mux.Mux.{Mux}
 use Rattle.journal_model.specs.declared.step.Entry.{Entry}
-use Rattle.carousel_player.specs.Spaced.{SentSpaced}
+use Rattle.carousel_player.specs.Spacing.{IsSpacedAir}
+use Rattle.air_coherence.specs.Coherence.{IsCoherent}
+use Rattle.air_coherence.specs.Sent.{SentOf, packets_sent}
 use Rattle.journal_air.specs.Air.{airings}
-use Rattle.journal_screen.specs.Shown.{SentExact}
+use Rattle.journal_screen.specs.Shown.{IsExact}
+use Rattle.headend_live.specs.HeardKeys.{HaveFewKeys}
 
--- What was sent for a journal, from before to now: an air of it, or the first bytes of one.
+-- Of each air of which what was sent are the first bytes: this holds of its cycles, and of the whole
+-- packets that were sent.
+abbrev pub OfEachAir : List AiredTables → Option (List ℕ) → Option (List ℕ)
+    → (List Aired → List (List ℕ) → Type 0) → Type 0
+OfEachAir airings before now P =
+    (air : SentOf airings before now) → P air.cycles (packets_sent air)
+
+-- What was sent for a journal, from before to now.
 pub record SentAir (mux : Mux) (journal : List Entry) (before now : Option (List ℕ)) : Type 0 where
-  -- It is coherent and exact: of any part of its packets no content is ever completed from two airings of that journal (`sent`), and once a
-  -- cycle was heard whole, the guide that is heard is that of its publication, as long as that stays on air.
-  pub exact : SentExact mux journal before now
+  -- It is an air of the journal, or the first bytes of one.
+  pub sent : SentOf (airings mux journal) before now
+  -- It is coherent: of any part of its packets no content is ever completed from two airings.
+  pub coherent : OfEachAir (airings mux journal) before now IsCoherent
+  -- It is exact: once a cycle was heard whole, the guide that is heard is that of its publication,
+  -- as long as that stays on air.
+  pub exact : OfEachAir (airings mux journal) before now (IsExact mux journal)
   -- It is spaced: sections of tier Fast and Near repeat within their bounds.
-  pub spaced : SentSpaced (airings mux journal) before now
+  pub spaced : OfEachAir (airings mux journal) before now (λ cycles packets. IsSpacedAir cycles)
+  -- No receiver hears more keys than it keeps.
+  pub few : OfEachAir (airings mux journal) before now (λ cycles packets. HaveFewKeys packets)

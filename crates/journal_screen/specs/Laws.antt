@@ -8,11 +8,11 @@ use Rattle.desk_core.specs.Journal.{Legal}
 use Rattle.ts_packets.specs.WholePackets.{whole_packets}
 use Rattle.air_model.specs.Air.{Aired, IsAirOf, airings_of, air_bytes}
 use Rattle.air_model.specs.Repeating.{IsRepeatingAirOf}
-use Rattle.air_coherence.specs.Coherence.{SentCoherent}
+use Rattle.air_coherence.specs.Sent.{SentOf, packets_sent}
 use Rattle.guide_screen.specs.declared.need.Heard.{Heard}
 use Rattle.guide_receiver.specs.Guides.{guide_of}
 use Rattle.journal_air.specs.Air.{airings}
-use Rattle.journal_screen.specs.Shown.{IsAsRead, IsExact, SentExact}
+use Rattle.journal_screen.specs.Shown.{IsAsRead, IsExact}
 use Rattle.journal_screen.specs.Last.{EndsPublished, IsShownLast}
 
 -- The air of a legal journal, or of its first airings, is exact, and so are its first bytes alone.
@@ -22,11 +22,11 @@ JournalsAreShown =
     → airings mux journal ≡ airings_of cycles ++ others → IsRepeatingAirOf (airings_of cycles) cycles
     → (n : ℕ) → IsExact mux journal cycles (whole_packets (take n (air_bytes cycles)))
 
--- So what was sent of it, where that is coherent, is exact.
+-- So is what was sent of it.
 abbrev pub SentIsShown : Type 0
 SentIsShown =
     (mux : Mux) (journal : List Entry) → IsAsRead mux journal → Legal mux journal → (before now : Option (List ℕ))
-    → SentCoherent (airings mux journal) before now → SentExact mux journal before now
+    → (sent : SentOf (airings mux journal) before now) → IsExact mux journal sent.cycles (packets_sent sent)
 
 -- And where a journal ends with a publish and two swaps, its air ends with the screen of all accepted edits.
 abbrev pub JournalsEndShown : Type 0

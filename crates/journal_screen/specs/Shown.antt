@@ -1,5 +1,5 @@
 -- What is shown of the air of a journal (EN 300 468, 5.2).
-use Rattle.std.specs.Prelude.{◌≡◌, ℕ, ◌≤◌, List, ◌∷◌, ◌++◌, length, take, map, slice_range, Option}
+use Rattle.std.specs.Prelude.{◌≡◌, ℕ, ◌≤◌, List, ◌∷◌, ◌++◌, length, map, slice_range}
 use Rattle.std.specs.List.{AllByRecursion}
 use Rattle.si_text.specs.Decoding.{IsKept}
 use Rattle.si_time.specs.declared.moment.Moment.{Moment}
@@ -9,11 +9,8 @@ use Rattle.mux_model.specs.Sound.{IsSoundWithIds}
 use Rattle.journal_model.specs.declared.step.Entry.{Entry}
 use Rattle.journal_model.specs.Steps.{IsStepInWindow}
 use Rattle.desk_core.specs.Publications.{publication, swaps}
-use Rattle.ts_packets.specs.WholePackets.{whole_packets}
-use Rattle.air_model.specs.Air.{Aired, air_bytes}
-use Rattle.air_coherence.specs.Coherence.{SentCoherent}
+use Rattle.air_model.specs.Air.{Aired}
 use Rattle.air_screen.specs.Published.{number_at, StaysPublished, AreShown}
-use Rattle.journal_air.specs.Air.{airings}
 use Rattle.journal_air.specs.Laws.{HasTypedEdits}
 
 -- A multiplex and a journal as lines give them.
@@ -42,10 +39,3 @@ IsExactIn mux journal join end cycles packets =
 -- so wherever it joins, and wherever it ends
 abbrev pub IsExact : Mux → List Entry → List Aired → List (List ℕ) → Type 0
 IsExact mux journal cycles packets = (join end : ℕ) → end ≤ length packets → IsExactIn mux journal join end cycles packets
-
--- What was sent, from before to now, is coherent and exact.
-pub record SentExact (mux : Mux) (journal : List Entry) (before now : Option (List ℕ)) : Type 0 where
-  -- the first bytes of an air of this journal, or of its first airings: whatever is completed of a part of it is the content of one airing
-  pub sent : SentCoherent (airings mux journal) before now
-  -- once a cycle was heard whole, the guide is that of its publication, as long as that stays on air
-  pub exact : IsExact mux journal sent.cycles (whole_packets (take sent.size (air_bytes sent.cycles)))

@@ -11,10 +11,12 @@ use Rattle.headend_jobs.specs.Live.{run_stop}
 use Rattle.headend_live.specs.Watched.{HeardOfAir, watched_stop}
 use Rattle.journal_air.proofs.CarryFacts.{airings_heard}
 use Rattle.journal_screen.proofs.Shown.{sent_shown}
-use Rattle.headend_live.proofs.Coherent.{air_coherent}
+use Rattle.air_coherence.proofs.Sent.{sent_coherent}
+use Rattle.journal_air.specs.Air.{airings, mux_form}
 use Rattle.headend_live.proofs.Keys.{sent_keys}
-use Rattle.headend_live.proofs.Spaced.{air_spaced, airings_fit}
-use Rattle.headend_live.proofs.Viewed.{no_stop, stop_twice, viewed_end, views_asked, views_ready}
+use Rattle.headend_live.proofs.Sent.{did_all, did_sent}
+use Rattle.headend_live.proofs.Spaced.{sent_spaced, airings_fit}
+use Rattle.headend_live.proofs.Viewed.{all_sent, no_stop, stop_twice, viewed_end, views_asked, views_ready}
 use Rattle.headend_live.proofs.Watching.{heard_of_air, heard_whole, or_wanting}
 use Rattle.headend_live.proofs.watched.run_live.Goals as goal
 
@@ -63,43 +65,58 @@ returns-in-Ok-clause-ran g c =
       unviewed = c.shown_views-views.ensures.none;
     }
 
+pub returns-in-Ok-clause-sent : goal.returns-in-Ok-clause-sent
+returns-in-Ok-clause-sent g c =
+    let ran = c.run_and_hear-end in
+    let end = c.in-Ok.end in
+    let did = rw c.in-Ok.is at ran.ensures.did in
+    did_sent c.args.mux end.desk.entries (g.A.Sink.written c.args.air.now) (g.A.Sink.written ran.new.air) end.sent did.2.air
+
+pub returns-in-Ok-clause-whole : goal.returns-in-Ok-clause-whole
+returns-in-Ok-clause-whole g c =
+    let ran = c.run_and_hear-end in
+    let end = c.in-Ok.end in
+    let did = rw c.in-Ok.is at ran.ensures.did in
+    λ none.
+    let stop = rw c.in-Ok.is at ran.ensures.stop in
+    let stopped_none = no_stop c.guide_and_stop-guide.ensures.stop.0 _ (sym c.guide_and_stop-guide.ensures.stop.2 ∙ none) in
+    let run_none = no_stop c.views_and_stop-views.ensures.stop.0 end.stop (sym c.views_and_stop-views.ensures.stop.1 ∙ stopped_none) in
+    did_all c.args.mux end.desk.entries (g.A.Sink.written c.args.air.now) (g.A.Sink.written ran.new.air) end.sent (all_sent end.sent _ (sym stop ∙ run_none)) did.2.air
+
 pub returns-in-Ok-clause-coherent : goal.returns-in-Ok-clause-coherent
 returns-in-Ok-clause-coherent g c =
     let ran = c.run_and_hear-end in
     let end = c.in-Ok.end in
     let did = rw c.in-Ok.is at ran.ensures.did in
-    λ sound typed.
-    air_coherent c.args.mux end.desk.entries (g.A.Sink.written c.args.air.now) (g.A.Sink.written ran.new.air) end.sent
-    (airings_heard c.args.mux end.desk.entries sound typed did.2.journal_did.legal) did.2.air
+    λ sound typed sent.
+    sent_coherent (airings c.args.mux end.desk.entries) (g.A.Sink.written c.args.air.now) (g.A.Sink.written ran.new.air) sent
+    (airings_heard c.args.mux end.desk.entries sound typed did.2.journal_did.legal)
 
 pub returns-in-Ok-clause-spaced : goal.returns-in-Ok-clause-spaced
 returns-in-Ok-clause-spaced g c =
     let ran = c.run_and_hear-end in
     let end = c.in-Ok.end in
     let did = rw c.in-Ok.is at ran.ensures.did in
-    λ typed.
-    air_spaced c.args.mux end.desk.entries (g.A.Sink.written c.args.air.now) (g.A.Sink.written ran.new.air) end.sent
-    (airings_fit c.args.mux end.desk.entries c.requires.sound typed did.2.journal_did.legal) did.2.air
+    λ typed sent.
+    sent_spaced (mux_form c.args.mux) (airings c.args.mux end.desk.entries)
+    (airings_fit c.args.mux end.desk.entries c.requires.sound typed did.2.journal_did.legal) (g.A.Sink.written c.args.air.now) (g.A.Sink.written ran.new.air) sent
 
 pub returns-in-Ok-clause-exact : goal.returns-in-Ok-clause-exact
 returns-in-Ok-clause-exact g c =
     let ran = c.run_and_hear-end in
     let end = c.in-Ok.end in
     let did = rw c.in-Ok.is at ran.ensures.did in
-    λ read.
-    sent_shown c.args.mux end.desk.entries read did.2.journal_did.legal (g.A.Sink.written c.args.air.now) (g.A.Sink.written ran.new.air)
-    (air_coherent c.args.mux end.desk.entries (g.A.Sink.written c.args.air.now) (g.A.Sink.written ran.new.air) end.sent
-    (airings_heard c.args.mux end.desk.entries read.sound read.edits did.2.journal_did.legal) did.2.air)
+    λ read sent.
+    sent_shown c.args.mux end.desk.entries read did.2.journal_did.legal (g.A.Sink.written c.args.air.now) (g.A.Sink.written ran.new.air) sent
 
 pub returns-in-Ok-clause-keys : goal.returns-in-Ok-clause-keys
 returns-in-Ok-clause-keys g c =
     let ran = c.run_and_hear-end in
     let end = c.in-Ok.end in
     let did = rw c.in-Ok.is at ran.ensures.did in
-    λ sound typed.
-    let can = airings_heard c.args.mux end.desk.entries sound typed did.2.journal_did.legal in
-    sent_keys c.args.mux end.desk.entries (g.A.Sink.written c.args.air.now) (g.A.Sink.written ran.new.air) sound.sound can
-    (air_coherent c.args.mux end.desk.entries (g.A.Sink.written c.args.air.now) (g.A.Sink.written ran.new.air) end.sent can did.2.air)
+    λ sound typed sent.
+    sent_keys c.args.mux end.desk.entries sound.sound
+    (airings_heard c.args.mux end.desk.entries sound typed did.2.journal_did.legal) (g.A.Sink.written c.args.air.now) (g.A.Sink.written ran.new.air) sent
 
 pub run_and_hear-end-requires-clause-views : goal.run_and_hear-end-requires-clause-views
 run_and_hear-end-requires-clause-views g c κs within =
