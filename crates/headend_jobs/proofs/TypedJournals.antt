@@ -29,27 +29,29 @@ IsReadStep Swap = Unit {0}
 abbrev pub AreReadCommands : List Command → Type 0
 AreReadCommands commands = AllByRecursion (λ (c : Command). IsReadStep c.1) commands
 
-accepted_typed : (s : Step) (outcome : Outcome) → IsReadStep s → IfSome (accepted_by s outcome) IsTypedEdit
-accepted_typed (edit feed e) (Edited reply) typed = go (is_done reply)
-  where
-    go : (done : Bool) → IfSome (if done then Some e else None) IsTypedEdit
-    go true = typed
-    go false = tt
-accepted_typed (edit feed e) Ticked typed = tt
-accepted_typed (edit feed e) (Late at) typed = tt
-accepted_typed (edit feed e) (Published n) typed = tt
-accepted_typed (edit feed e) (Swapped n at) typed = tt
-accepted_typed (Tick at) outcome typed = tt
-accepted_typed Publish outcome typed = tt
-accepted_typed Swap outcome typed = tt
+-- Steps whose edits are typed make a journal whose accepted edits are.
+module _ (P : Step → Type 0) (is_typed : (feed : ℕ) (e : Edit) → P (edit feed e) → IsTypedEdit e) where
+  accepted_typed : (s : Step) (outcome : Outcome) → P s → IfSome (accepted_by s outcome) IsTypedEdit
+  accepted_typed (edit feed e) (Edited reply) typed = go (is_done reply)
+    where
+      go : (done : Bool) → IfSome (if done then Some e else None) IsTypedEdit
+      go true = is_typed feed e typed
+      go false = tt
+  accepted_typed (edit feed e) Ticked typed = tt
+  accepted_typed (edit feed e) (Late at) typed = tt
+  accepted_typed (edit feed e) (Published n) typed = tt
+  accepted_typed (edit feed e) (Swapped n at) typed = tt
+  accepted_typed (Tick at) outcome typed = tt
+  accepted_typed Publish outcome typed = tt
+  accepted_typed Swap outcome typed = tt
 
-entries_typed : (journal : List Entry) → AllByRecursion (λ (e : Entry). IsReadStep e.step) journal → HasTypedEdits journal
-entries_typed [] all = tt
-entries_typed (e ∷ es) all = go (accepted_by e.step e.outcome) (accepted_typed e.step e.outcome all.0) (entries_typed es all.1)
-  where
-    go : (o : Option Edit) → IfSome o IsTypedEdit → AllByRecursion IsTypedEdit (accepted es) → AllByRecursion IsTypedEdit (cons_option o (accepted es))
-    go None one rest = rest
-    go (Some e) one rest = (one, rest)
+  pub entries_typed : (journal : List Entry) → AllByRecursion (λ (e : Entry). P e.step) journal → HasTypedEdits journal
+  entries_typed [] all = tt
+  entries_typed (e ∷ es) all = go (accepted_by e.step e.outcome) (accepted_typed e.step e.outcome all.0) (entries_typed es all.1)
+    where
+      go : (o : Option Edit) → IfSome o IsTypedEdit → AllByRecursion IsTypedEdit (accepted es) → AllByRecursion IsTypedEdit (cons_option o (accepted es))
+      go None one rest = rest
+      go (Some e) one rest = (one, rest)
 
 commands_typed : (entries : List Entry) → AreReadCommands (map command_of entries) → AllByRecursion (λ (e : Entry). IsReadStep e.step) entries
 commands_typed [] all = tt
@@ -75,4 +77,4 @@ journal_window journal each =
     all_map (λ (e : Entry). IsReadStep e.step) (λ (e : Entry). IsStepInWindow e.step) (λ e. step_window e.step) journal (of_all (λ k e. IsReadStep e.step) journal each)
 
 pub journal_typed : (journal : List Entry) → ((k : ℕ) → CallerIsRead journal k) → HasTypedEdits journal
-journal_typed journal each = entries_typed journal (of_all (λ k e. IsReadStep e.step) journal each)
+journal_typed journal each = entries_typed IsReadStep (λ feed e typed. typed) journal (of_all (λ k e. IsReadStep e.step) journal each)
