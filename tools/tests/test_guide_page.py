@@ -1,6 +1,7 @@
 """Tests of tools/page: what stands on the page, and what it does in a browser."""
 import contextlib
 import io
+import itertools
 import json
 import re
 import subprocess
@@ -96,7 +97,9 @@ class Shown(unittest.TestCase):
         reports = stored_reports()
         self.assertGreaterEqual(len(reports), 5)
         for name, lines in reports.items():
-            page, words = Page(page_of(lines)), Counter(line.split("\t")[0] for line in lines)
+            # the page has no row and no event of other streams, which stand last
+            own = itertools.takewhile(lambda line: not line.startswith("other\t"), lines)
+            page, words = Page(page_of(lines)), Counter(line.split("\t")[0] for line in own)
             found = (page.classes["row"] - 1, page.classes["button.e"], page.classes["button.now"])
             self.assertEqual(found, (words["service"], words["event"], words["now"]), name)
 
