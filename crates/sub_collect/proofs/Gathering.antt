@@ -15,7 +15,7 @@ one front n body None = refl
 one front n body (Some parts) = ap (λ (l : Content). Some l) (sym (append_assoc front (record { number = n; body = body } ∷ []) parts))
 
 -- the numbers from a place on
-from_place : (ns : List ℕ) (i d : ℕ) → i < length ns → drop i ns ≡ get_or ns i d ∷ drop (i + 1) ns
+pub from_place : (ns : List ℕ) (i d : ℕ) → i < length ns → drop i ns ≡ get_or ns i d ∷ drop (i + 1) ns
 from_place [] i d lt = absurd (omega arith)
 from_place (n ∷ ns) zero d lt = refl
 from_place (n ∷ ns) (suc i) d lt =

@@ -16,3 +16,4 @@ pub mod KeyCounts
 pub mod OneContent
 pub mod Segmented
 pub mod Shown
+pub mod PartsHeld

@@ -1,14 +1,14 @@
 -- Marks.
-use Rattle.std.proofs.Common.{◌≡◌, ℕ, List, [], ◌∷◌, ◌++◌, Bool, true, false, Option, Some, None, refl, sym, ap, ap₂, ◌∙◌, subst, append_assoc, append-nil}
-use Rattle.std.specs.Prelude.{◌==◌, if◌then◌else◌, cond}
+use Rattle.std.proofs.Common.{◌≡◌, List, [], ◌∷◌, ◌++◌, Bool, true, false, Option, Some, None, refl, sym, ap, ap₂, ◌∙◌, subst, append_assoc, append-nil}
+use Rattle.std.specs.Prelude.{if◌then◌else◌, cond}
 use Rattle.std.specs.List.{AllByRecursion, cons_option}
 use Rattle.std.proofs.lemmas.List.{map-append}
 use Rattle.section_codec.specs.declared.table.Key.{Key}
 use Rattle.sub_collect.specs.Runs.{Counted}
 use Rattle.sub_collect.specs.Completions.{is_of, of_key, completion, completions, latest_done, shown_after}
 use Rattle.sub_collect.specs.declared.completed.Completed.{Completed}
-use Rattle.sub_collect.specs.Marks.{Taken, Taken.Took, Taken.Forgot, since_with, since_from, since_mark, completion_with, completions_from, all_took}
-use Rattle.sub_collect.specs.MarkLaws.{MarkFree, ShownMarkFree, MarkForgets, IsSinceMark, CompletedSinceMark}
+use Rattle.sub_collect.specs.Marks.{Taken, Taken.Took, Taken.Forgot, Taken.ForgotAll, since_with, since_from, since_mark, completion_with, completions_from, all_took}
+use Rattle.sub_collect.specs.MarkLaws.{MarkFree, ShownMarkFree, MarkForgets, MarkOfAllStartsAfresh, IsSinceMark, CompletedSinceMark}
 
 -- ---- sections alone
 
@@ -60,6 +60,9 @@ mark_forgets k pid past = (
   ap latest_done (completions-append k [] past (Forgot pid ∷ []) ∙ append-nil (completions_from k [] past)),
 )
 
+pub starts_afresh : MarkOfAllStartsAfresh
+starts_afresh k past more = (since-append k [] past (ForgotAll ∷ more), completions-append k [] past (ForgotAll ∷ more))
+
 -- ---- since one mark
 
 since_all : (k : Key) (past xs : List Taken) → AllByRecursion (IsSinceMark k (past ++ xs)) (completions_from k (since_mark k past) xs)
@@ -76,6 +79,7 @@ since_all k past (x ∷ xs) =
         go true e = e
         go false e = cc
     made (Forgot pid) d e = cc
+    made ForgotAll d e = cc
 
     here : (o : Option Completed) → completion_with k (since_mark k past) x ≡ o → AllByRecursion (IsSinceMark k (past ++ x ∷ xs)) (completions_from k (since_with k (since_mark k past) x) xs)
         → AllByRecursion (IsSinceMark k (past ++ x ∷ xs)) (cons_option o (completions_from k (since_with k (since_mark k past) x) xs))

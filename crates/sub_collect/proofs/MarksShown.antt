@@ -14,7 +14,7 @@ use Rattle.sub_collect.specs.Collectors.{AreOfKey}
 use Rattle.sub_collect.specs.Laws.{is_done_of}
 use Rattle.sub_collect.specs.declared.completed.Completed.{Completed}
 use Rattle.sub_collect.proofs.Done.{completion-push, done_key, repeats-same}
-use Rattle.sub_collect.specs.Marks.{Taken, Taken.Took, Taken.Forgot, since_with, since_from, since_mark, completion_with, completions_from, completions_over, latest_over, shown_over, shown_with, dones_over, all_took, section_in, sections_taken}
+use Rattle.sub_collect.specs.Marks.{Taken, Taken.Took, Taken.Forgot, Taken.ForgotAll, since_with, since_from, since_mark, completion_with, completions_from, completions_over, latest_over, shown_over, shown_with, dones_over, all_took, section_in, sections_taken}
 use Rattle.sub_collect.specs.MarkLaws.{LatestOverIsShown}
 use Rattle.sub_collect.proofs.Marking.{since-append, completions-append, shown_mark_free}
 
@@ -58,6 +58,7 @@ completion-key k since s d same e = done_key s (completed (since ++ s ∷ [])) d
 
 with-key : (k : Key) (since : List Counted) (x : Taken) (d : Completed) → completion_with k since x ≡ Some d → d.key ≡ k
 with-key k since (Forgot pid) d e = cc
+with-key k since ForgotAll d e = cc
 with-key k since (Took s) d e = go (is_of k s) refl e
   where
     go : (b : Bool) → is_of k s ≡ b → (if b then completion (since ++ s ∷ []) else None) ≡ Some d → d.key ≡ k
@@ -134,6 +135,7 @@ own-filter k (Some d) ds = go (is_key d.key k)
 
 own-latest : (k : Key) (past : List Taken) (x : Taken) → option_or (own_shown k (shown_with past x)) (latest_over k past) ≡ latest_over k (past ++ x ∷ [])
 own-latest k past (Forgot pid) = sym (latest-more k past (Forgot pid))
+own-latest k past ForgotAll = sym (latest-more k past ForgotAll)
 own-latest k past (Took s) = go (is_of k s) refl ∙ sym (latest-more k past (Took s))
   where
     other : is_of k s ≡ false → (o : Option Completed) → shown_over past s ≡ o → own_shown k o ≡ None
@@ -200,6 +202,7 @@ all_from P past (x ∷ xs) each =
         → (rest : AllByRecursion P (dones_over (past ++ x ∷ []) xs)) → AllByRecursion P (cons_option o (dones_over (past ++ x ∷ []) xs))
     one x each None e rest = rest
     one (Forgot pid) each (Some d) e rest = cc
+    one ForgotAll each (Some d) e rest = cc
     one (Took s) each (Some d) e rest =
         (made_at P s.key past s xs (each s.key) (is_key-itself s.key) d (shown-made past s d e), rest)
 
@@ -227,6 +230,7 @@ since-one_key k since (x ∷ xs) all = since-one_key k (since_with k since x) xs
         go : (b : Bool) → AllByRecursion (IsOfKey k) (if b then [] else since)
         go true = tt
         go false = all
+    with_one ForgotAll = tt
 
 -- the completion that they make is the latest of all
 since-whole : (k : Key) (since : List Counted) (latest : Option Completed) (xs : List Taken) → ((d : Completed) → completion since ≡ Some d → latest ≡ Some d)
@@ -250,6 +254,7 @@ since-whole k since latest (x ∷ xs) holds d e =
         go : (b : Bool) → completion (if b then [] else since) ≡ Some d → option_or None latest ≡ Some d
         go true g = cc
         go false g = holds d g
+    with_one ForgotAll d f = cc
 
 -- so they are sections of the key, and their completion is the latest
 pub are_of_key : (k : Key) (past : List Taken) → AreOfKey k (since_mark k past) (latest_over k past)
@@ -288,6 +293,9 @@ sections-took past s = filter_map-append section_in past (Took s ∷ [])
 pub sections-forgot : (past : List Taken) (pid : ℕ) → sections_taken (past ++ Forgot pid ∷ []) ≡ sections_taken past
 sections-forgot past pid = filter_map-append section_in past (Forgot pid ∷ []) ∙ append-nil (sections_taken past)
 
+pub sections-all_forgot : (past : List Taken) → sections_taken (past ++ ForgotAll ∷ []) ≡ sections_taken past
+sections-all_forgot past = filter_map-append section_in past (ForgotAll ∷ []) ∙ append-nil (sections_taken past)
+
 pub sections-free : (ss : List Counted) → sections_taken (all_took ss) ≡ ss
 sections-free [] = refl
 sections-free (s ∷ ss) = ap (λ (l : List Counted). s ∷ l) (sections-free ss)
@@ -303,6 +311,7 @@ none-latest k past none = ((nothing [] past none refl).0, ap latest_done (nothin
         go : (b : Bool) → (if b then [] else since) ≡ []
         go true = refl
         go false = f
+    nothing since (ForgotAll ∷ xs) e f = nothing [] xs e refl
     nothing since (Took s ∷ xs) e f = go (is_of k s) e (λ h. nothing since xs h f)
       where
         go : (b : Bool) → cond b (s ∷ of_key k (sections_taken xs)) (of_key k (sections_taken xs)) ≡ []

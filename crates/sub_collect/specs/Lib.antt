@@ -2,9 +2,11 @@ pub mod Runs
 pub mod KeyCounts
 pub mod Completions
 pub mod Marks
+pub mod Parts
 pub mod Collectors
 pub mod KeyWalk
 pub mod Slots
+pub mod PartSlots
 pub mod Laws
 pub mod MarkLaws
 pub mod Rows

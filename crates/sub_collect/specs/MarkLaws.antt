@@ -5,7 +5,7 @@ use Rattle.section_codec.specs.declared.table.Key.{Key}
 use Rattle.sub_collect.specs.Runs.{Counted}
 use Rattle.sub_collect.specs.Completions.{of_key, completion, latest_done, latest_of, shown_at}
 use Rattle.sub_collect.specs.Laws.{is_done_of}
-use Rattle.sub_collect.specs.Marks.{Taken, Taken.Forgot, since_mark, completions_over, latest_over, shown_over, dones_over, all_took}
+use Rattle.sub_collect.specs.Marks.{Taken, Taken.Forgot, Taken.ForgotAll, since_mark, completions_over, latest_over, shown_over, dones_over, all_took}
 use Rattle.sub_collect.specs.declared.completed.Completed.{Completed}
 
 -- Without marks the sections of a key are all its sections, its latest completion is that of all,
@@ -20,6 +20,13 @@ ShownMarkFree = (ss : List Counted) (s : Counted) → shown_over (all_took ss) s
 abbrev pub MarkForgets : Type 0
 MarkForgets = (k : Key) (pid : ℕ) (past : List Taken)
     → (since_mark k (past ++ Forgot pid ∷ []) ≡ (if pid == k.pid then [] else since_mark k past)) × (latest_over k (past ++ Forgot pid ∷ []) ≡ latest_over k past)
+
+-- A mark of every PID starts afresh: of each key, what comes after it is heard as if nothing had come before, and the earlier completions
+-- stay.
+abbrev pub MarkOfAllStartsAfresh : Type 0
+MarkOfAllStartsAfresh = (k : Key) (past more : List Taken)
+    → (since_mark k (past ++ ForgotAll ∷ more) ≡ since_mark k more)
+    × (completions_over k (past ++ ForgotAll ∷ more) ≡ completions_over k past ++ completions_over k more)
 
 -- a completion that sections since one mark make
 pub record IsSinceMark (k : Key) (past : List Taken) (d : Completed) : Type 0 where

@@ -7,7 +7,7 @@ ghost use Rattle.section_codec.specs.declared.table.Key.{Key};
 ghost use Rattle.section_codec.specs.KeyOrder.{is_key, key_cmp};
 ghost use Rattle.sub_collect.specs.Runs.{Counted, counted, run_of};
 ghost use Rattle.sub_collect.specs.Completions.{completion, shown_after};
-ghost use Rattle.sub_collect.specs.Marks.{Taken, Taken.Took, Taken.Forgot, latest_over, shown_over, run_over, sections_taken};
+ghost use Rattle.sub_collect.specs.Marks.{Taken, Taken.Took, Taken.Forgot, Taken.ForgotAll, latest_over, shown_over, run_over, sections_taken};
 ghost use Rattle.sub_collect.specs.KeyCounts.{key_count, HaveTooManyKeys};
 ghost use Rattle.sub_collect.specs.Collectors.{CollectorStandsFor, CollectorStandsOver, EachStandsFor, IsKeptOf, AreOfKey, IsHeldIn, IsRepeated, IsRepeatedOf, kept_in, forgotten, forgotten_if};
 ghost use Rattle.sub_collect.specs.KeyWalk.{HasNoKeyAfter, IsNextKey, BeginsAfter};
@@ -40,7 +40,7 @@ const MOST_KEYS: usize = 65_536;
 #[derive(Drop)]
 pub struct Collector {
     alloc: Global,
-    slots: BTreeMap<Key, KeySlot>,
+    pub(crate) slots: BTreeMap<Key, KeySlot>,
 }
 
 impl Model for Collector {
@@ -187,6 +187,25 @@ impl Collector {
             self.forget_key(key);
             last = Some(key);
         }
+    }
+
+    /// Adds a mark of every PID: from here on no key has a section, until one is taken. The completions of all
+    /// keys stay, and they still count as keys that have a section. It takes no memory, and its time is that
+    /// of all keys.
+    pub fn forget_all(&mut self)
+        ensures kept { (k : Key) → kept_in k self.new ≡ option_map forgotten (kept_in k self.old) }
+        ensures stands { (past : List Taken) → CollectorStandsOver past self.old
+            → CollectorStandsOver (past ++ ForgotAll ∷ []) self.new }
+    {
+        self.slots.retain(
+            |_: &Key, slot: &mut KeySlot| -> bool
+                ensures stays { result ≡ true }
+                ensures forgets { kept_by slot.new ≡ forgotten (kept_by slot.old) }
+            {
+                slot.forget();
+                true
+            },
+        );
     }
 
     // The first key of a PID after the last one that was met, or of all its keys. It takes no memory.

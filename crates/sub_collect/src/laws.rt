@@ -1,6 +1,6 @@
 // Laws of completions.
 ghost use Rattle.sub_collect.specs.Laws.{KeysApart, LatestApart, LatestIsShown, LatestOneMore, DonesGoOn, DonesOneMore, FromZeroIsNumbered, BySegmentsIsNumbered, WholeCompletes, RunCompletes, RunCompletesNoOther, VersionBeginsRun, VersionKeepsRun, NewIsShown, SameIsQuiet};
-ghost use Rattle.sub_collect.specs.MarkLaws.{MarkFree, ShownMarkFree, MarkForgets, LatestOverIsShown, CompletedSinceMark};
+ghost use Rattle.sub_collect.specs.MarkLaws.{MarkFree, ShownMarkFree, MarkForgets, MarkOfAllStartsAfresh, LatestOverIsShown, CompletedSinceMark};
 
 /// The completions of a key depend on the sections of that key alone: those that are shown, and the latest
 /// one, which is the last one that was shown.
@@ -48,12 +48,13 @@ pub fn contents_are_shown_once()
 {}
 
 /// Laws of marks. Without marks nothing changes. A mark forgets the sections of its PID's keys, and nothing
-/// else. Each completion is made of sections since one mark, and the latest completion of a key is the last
-/// one that was shown.
+/// else. A mark of every PID forgets the sections of all keys, and no completion. Each completion is made of
+/// sections since one mark, and the latest completion of a key is the last one that was shown.
 pub fn marks_forget()
     ensures free { MarkFree }
     ensures shown_free { ShownMarkFree }
     ensures forgets { MarkForgets }
+    ensures afresh { MarkOfAllStartsAfresh }
     ensures since { CompletedSinceMark }
     ensures shown { LatestOverIsShown }
 {}

@@ -9,8 +9,10 @@
 //! other keys (`completions_by_key`). A version that was carried whole completes
 //! (`whole_versions_complete`, `runs_complete_their_content`), and is shown once
 //! (`contents_are_shown_once`). For event information the needed sections go by segments. `forget`
-//! drops the sections of a PID, and no completion; each completion is made of sections taken since
-//! then (`marks_forget`).
+//! drops the sections of a PID, and `forget_all` those of every PID, but no completion; each
+//! completion is made of sections taken since then (`marks_forget`). `part` gives what is held of a
+//! key though it may not be whole: the latest completion, or else what its run holds of the needed
+//! numbers; a whole run it gives whole (`whole_is_held`). `keys_in_order` gives the keys.
 //!
 //! Not promised: that a repeated section costs one comparison.
 #![tactic(auto)]
@@ -19,6 +21,7 @@ mod collector;
 mod completed;
 mod laws;
 mod needed;
+mod parts;
 mod run;
 
 pub use collector::{Collector, TakeStop};
@@ -27,3 +30,4 @@ pub use laws::{
     completions_by_key, completions_go_on, contents_are_shown_once, marks_forget,
     runs_complete_their_content, versions_part_runs, whole_versions_complete,
 };
+pub use parts::{Part, whole_is_held};

@@ -3,6 +3,7 @@ ghost use Rattle.std.specs.Prelude.{◌≡◌, ◌+◌, ◌-◌, ◌++◌, lengt
 ghost use Rattle.section_codec.specs.Contents.{numbers_from};
 ghost use Rattle.sub_collect.specs.Collectors.{last_in};
 ghost use Rattle.sub_collect.specs.Slots.{needed_by};
+ghost use Rattle.sub_collect.specs.PartSlots.{known_by};
 
 use std::alloc::{AllocError, Global};
 
@@ -28,6 +29,29 @@ pub fn needed_numbers(
         put_numbers(&mut numbers, 8 * segment, segment_last)?;
     }
     Ok(Some(numbers))
+}
+
+// The needed numbers that are known of a table with this last_section_number, with segments or without: of segments those of which the last
+// number is known.
+pub fn known_numbers(
+    alloc: Global,
+    segmented: bool,
+    lasts: &[Option<u8>; 32],
+    last: u8,
+) -> Result<Vec<u8>, AllocError>
+    ensures { IfOk result (λ known. known.items ≡ known_by segmented (last_in lasts.now) last) }
+{
+    let mut numbers = Vec::new(alloc);
+    if !segmented {
+        put_numbers(&mut numbers, 0, last)?;
+        return Ok(numbers);
+    }
+    for segment in 0..last / 8 + 1 {
+        if let Some(segment_last) = lasts[usize::from(segment)] {
+            put_numbers(&mut numbers, 8 * segment, segment_last)?;
+        }
+    }
+    Ok(numbers)
 }
 
 // Appends the numbers from a first one to a last one.
