@@ -5,3 +5,4 @@ mod Found
 mod Walking
 mod Taking
 mod Getting
+mod Counting

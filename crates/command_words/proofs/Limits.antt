@@ -99,7 +99,7 @@ cycles_all (View s ∷ settings) (here, all) = cycles_all settings all
 
 abbrev IsLineWithin : CommandLine → Type 0
 IsLineWithin (Play fold resume) = Unit {0}
-IsLineWithin (Listen strict) = Unit {0}
+IsLineWithin (Listen options) = Unit {0}
 IsLineWithin (Live feeds cycles join views) = (length feeds ≤ 16) × (cycles ≤ 1000) × (length views ≤ 8)
 IsLineWithin (Soak number) = Unit {0}
 IsLineWithin (Audit path nulls) = Unit {0}

@@ -5,9 +5,10 @@ use Rattle.command_words.specs.declared.command.Command.TheVariants as command
 use Rattle.command_words.specs.declared.command.LiveWords.{LiveWords}
 use Rattle.command_words.specs.declared.audit.AuditWords.{AuditWords}
 use Rattle.command_words.specs.declared.play.PlayWords.{PlayWords}
+use Rattle.command_words.specs.declared.listen.ListenWords.{ListenWords}
 use Rattle.command_words.specs.declared.setting.LiveOption.{LiveOption}
 use Rattle.command_words.specs.declared.setting.LiveOption.TheVariants as option
-use Rattle.command_words.specs.Grammar.{CommandLine, Play, Listen, Live, Soak, Audit, Setting, Feed, Cycles, Join, View}
+use Rattle.command_words.specs.Grammar.{CommandLine, ListenOptions, Play, Listen, Live, Soak, Audit, Setting, Feed, Cycles, Join, View}
 
 -- words as their bytes
 abbrev pub texts : {Y : Type 0} → List (String Y) → List (List ℕ)
@@ -32,10 +33,17 @@ said_play play = Play play.fold (option_map string_bytes play.resume)
 abbrev pub said_audit : AuditWords → CommandLine
 said_audit audit = Audit (string_bytes audit.path) audit.nulls
 
+-- the words of this `listen` say this
+abbrev pub options_said : ListenWords → ListenOptions
+options_said listen = record { resync = listen.resync; strict = listen.strict }
+
+abbrev pub said_listen : ListenWords → CommandLine
+said_listen listen = Listen (options_said listen)
+
 -- the words of this command say this
 abbrev pub said : Command → CommandLine
 said (command.Play play) = said_play play
-said (command.Listen strict) = Listen strict
+said (command.Listen listen) = said_listen listen
 said (command.Live live) = said_live live
 said (command.Soak number) = Soak number
 said (command.Audit audit) = said_audit audit
@@ -43,7 +51,7 @@ said (command.Audit audit) = said_audit audit
 -- the limits of a command: at most 16 feeds, 1,000 cycles, and 8 views; the number of a load has at most nine digits
 abbrev pub IsWithin : Command → Type 0
 IsWithin (command.Play play) = Unit {0}
-IsWithin (command.Listen strict) = Unit {0}
+IsWithin (command.Listen listen) = Unit {0}
 IsWithin (command.Live live) = (length live.feeds.items ≤ 16) × (live.cycles ≤ 1000) × (length live.views ≤ 8)
 IsWithin (command.Soak number) = number ≤ 999999999
 IsWithin (command.Audit audit) = Unit {0}

@@ -1,5 +1,5 @@
 -- The words of a command line, without the program's name, each as its bytes, and the command that they spell.
-use Rattle.std.specs.Prelude.{ℕ, ◌==◌, ◌||◌, ◌&&◌, nat_le, not, Bool, true, false, List, [], ◌∷◌, length, Option, Some, None, option_map, option_and_then, filter_map, codes, bytes_eq, if◌then◌else◌}
+use Rattle.std.specs.Prelude.{ℕ, ◌+◌, ◌==◌, ◌||◌, ◌&&◌, nat_le, not, Bool, true, false, List, [], ◌∷◌, length, Option, Some, None, option_map, option_and_then, count_by, filter_map, codes, bytes_eq, if◌then◌else◌}
 use Rattle.std.specs.List.{list_any, before_first, after_first}
 use Rattle.input_lines.specs.Numbers.{in_range, number_in}
 
@@ -93,11 +93,17 @@ view_of (View s) = Some s
 
 -- ---- commands
 
+-- how a recording is heard: whether sync is sought again where it is lost, and whether a PID is forgotten at each break of its continuity
+-- counters
+pub record ListenOptions : Type 0 where
+  pub resync : Bool
+  pub strict : Bool
+
 pub data CommandLine : Type 0 where
   -- whether the report is a checkpoint, and the path of the checkpoint from which it goes on
   Play : Bool → Option (List ℕ) → CommandLine
-  -- whether it forgets a PID at each break of its continuity counters
-  Listen : Bool → CommandLine
+  -- how it hears
+  Listen : ListenOptions → CommandLine
   -- the paths of its feeds, in order, the number of cycles, the first packet that its monitor hears, and the services of its views, in order
   Live : List (List ℕ) → ℕ → ℕ → List ℕ → CommandLine
   -- the number of its load
@@ -113,11 +119,20 @@ live_with feeds cycles joins views = None
 abbrev pub live_of : List Setting → Option CommandLine
 live_of settings = live_with (filter_map feed_of settings) (filter_map cycles_of settings) (filter_map join_of settings) (filter_map view_of settings)
 
--- `--strict` at most once, and no other word
+-- how often a word stands among these
+abbrev pub times : List ℕ → List (List ℕ) → ℕ
+times name words = count_by (λ word. bytes_eq word name) words
+
+-- the options of `listen` by how often each stands: each at most once, and no other word among so many
+abbrev pub listen_with : ℕ → ℕ → ℕ → Option CommandLine
+listen_with resync strict all =
+    if nat_le resync 1 && (nat_le strict 1 && (resync + strict == all))
+    then Some (Listen (record { resync = resync == 1; strict = strict == 1 }))
+    else None
+
+-- `--resync` and `--strict`, each at most once, in any order
 abbrev pub listen_of : List (List ℕ) → Option CommandLine
-listen_of [] = Some (Listen false)
-listen_of (word ∷ []) = if bytes_eq word (codes "--strict") then Some (Listen true) else None
-listen_of (word ∷ next ∷ words) = None
+listen_of words = listen_with (times (codes "--resync") words) (times (codes "--strict") words) (length words)
 
 -- one word, the number of a load
 abbrev pub soak_of : List (List ℕ) → Option CommandLine

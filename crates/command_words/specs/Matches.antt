@@ -37,7 +37,7 @@ values_or_none (Some values) = values
 -- the values that were found are those of this `live`
 abbrev pub Say : Found → CommandLine → Type 0
 Say found (Play fold resume) = ⊥
-Say found (Listen strict) = ⊥
+Say found (Listen options) = ⊥
 Say found (Soak number) = ⊥
 Say found (Audit path nulls) = ⊥
 Say found (Live feeds cycles join views) = (option_map raw_values (matched_of found (codes "feed")) ≡ Some feeds)

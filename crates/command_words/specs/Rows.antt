@@ -1,6 +1,6 @@
 -- Worked rows of the definitions.
 use Rattle.std.specs.Prelude.{◌≡◌, [], ◌∷◌, Some, None, true, false, codes, refl}
-use Rattle.command_words.specs.Grammar.{command_of, Play, Live, Soak, Audit}
+use Rattle.command_words.specs.Grammar.{command_of, Play, Listen, Live, Soak, Audit}
 
 two_feeds : command_of (codes "live" ∷ codes "--join=0" ∷ codes "--feed" ∷ codes "a" ∷ codes "--cycles" ∷ codes "3" ∷ codes "--feed=b" ∷ []) ≡ Some (Live (codes "a" ∷ codes "b" ∷ []) 3 0 [])
 two_feeds = refl
@@ -131,3 +131,16 @@ audit_nulls_alone = refl
 
 audit_without_path : command_of (codes "audit" ∷ codes "--air" ∷ codes "--nulls" ∷ []) ≡ None
 audit_without_path = refl
+
+-- the options of `listen`, in any order, each at most once
+listen : command_of (codes "listen" ∷ []) ≡ Some (Listen (record { resync = false; strict = false }))
+listen = refl
+
+listen_both : command_of (codes "listen" ∷ codes "--strict" ∷ codes "--resync" ∷ []) ≡ Some (Listen (record { resync = true; strict = true }))
+listen_both = refl
+
+listen_twice : command_of (codes "listen" ∷ codes "--strict" ∷ codes "--strict" ∷ []) ≡ None
+listen_twice = refl
+
+listen_other : command_of (codes "listen" ∷ codes "--strict" ∷ codes "week.ts" ∷ []) ≡ None
+listen_other = refl

@@ -5,6 +5,7 @@ ghost use Rattle.command_words.specs.Commands.{IsWithin, said, texts};
 ghost use Rattle.command_words.specs.Grammar.{audit_of, command_of, listen_of, live_of, play_of, settings_of, soak_of};
 
 use crate::audit::{AuditWords, audit_words};
+use crate::listen::{ListenWords, listen_words};
 use crate::matches::live_words;
 use crate::play::{PlayWords, play_words};
 use crate::uses::are_live;
@@ -29,8 +30,8 @@ pub struct LiveWords {
 #[derive(Drop)]
 pub enum Command {
     Play(PlayWords),
-    /// A recording, heard; with true it forgets a PID at each break of its continuity counters.
-    Listen(bool),
+    /// A recording, heard.
+    Listen(ListenWords),
     Live(LiveWords),
     /// A run of a load of its own making: the number of the load, 0 to 999,999,999.
     Soak(u64),
@@ -47,7 +48,7 @@ pub enum WordsStop {
 
 /// The command that words spell; the program's name is not among them.
 ///
-/// `listen` may have the one word `--strict`. `play` has, in any order, `--fold` and `--resume PATH`, each at most once. `soak` has one,
+/// `listen` has, in any order, `--resync` and `--strict`, each at most once. `play` has, in any order, `--fold` and `--resume PATH`, each at most once. `soak` has one,
 /// the number of its load, 0 to 999,999,999. `live` has, in any order, `--feed PATH` 1 to 16 times, `--cycles N` once,
 /// `--join J` once and `--view SERVICE`, 0 to 65,535, at most 8 times. `audit` has, in any order, `--air PATH` once and
 /// `--nulls` at most once. An option with a value is one word with `=`, or two words, of which the second does not begin with `-`.
@@ -92,19 +93,13 @@ fn play(alloc: Global, words: &[String]) -> Result<Command, WordsStop>
     }
 }
 
-// `listen`, which `--strict` may follow, and no other word.
+// The command of these options of `listen`.
 fn listen(words: &[String]) -> Option<Command>
     ensures value { option_map said result ≡ listen_of (texts words.now) }
     ensures within { IfSome result IsWithin }
 {
-    let Some((word, behind)) = words.split_first() else {
-        return Some(Command::Listen(false));
-    };
-    if behind.is_empty() && word.as_str() == "--strict" {
-        Some(Command::Listen(true))
-    } else {
-        None
-    }
+    let words = listen_words(words)?;
+    Some(Command::Listen(words))
 }
 
 // The command of the one word behind `soak`.

@@ -14,6 +14,7 @@
 mod audit;
 mod command;
 mod front;
+mod listen;
 mod matches;
 mod play;
 mod setting;
@@ -21,4 +22,5 @@ mod uses;
 
 pub use audit::AuditWords;
 pub use command::{Command, LiveWords, Paths, WordsStop, parse_words};
+pub use listen::ListenWords;
 pub use play::PlayWords;
