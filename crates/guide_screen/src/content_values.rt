@@ -26,8 +26,8 @@ fn part_in(content: &[NumberedBody], number: u8) -> Option<&[u8]>
     None
 }
 
-// What section 0 of a program map table says.
-pub(crate) fn pmt_told(alloc: Global, content: &[NumberedBody]) -> Result<Option<Pmt>, AllocError>
+/// What section 0 of a program map table says.
+pub fn pmt_told(alloc: Global, content: &[NumberedBody]) -> Result<Option<Pmt>, AllocError>
     ensures { IfOk result (λ pmt. pmt ≡ value_in pmt_in 0 content.now) }
 {
     match part_in(content, 0) {
@@ -36,8 +36,8 @@ pub(crate) fn pmt_told(alloc: Global, content: &[NumberedBody]) -> Result<Option
     }
 }
 
-// The name of the network, by section 0 of the network information table; empty where it says none.
-pub(crate) fn network_name(alloc: Global, content: &[NumberedBody]) -> Result<Shown, AllocError>
+/// The name of the network, by section 0 of the network information table; empty where it says none.
+pub fn network_name(alloc: Global, content: &[NumberedBody]) -> Result<Shown, AllocError>
     ensures { IfOk result (λ name. name ≡ network_name content.now) }
 {
     if let Some(body) = part_in(content, 0)
@@ -48,8 +48,8 @@ pub(crate) fn network_name(alloc: Global, content: &[NumberedBody]) -> Result<Sh
     Ok(Shown::Text(Txt::of_kept(alloc, "")?))
 }
 
-// The first event of the section with this number.
-pub(crate) fn event_at(
+/// The first event of the section with this number.
+pub fn event_at(
     alloc: Global,
     number: u8,
     content: &[NumberedBody],
@@ -97,11 +97,8 @@ fn append<T: Drop>(out: &mut Vec<T>, more: Option<Items<T>>) -> Result<(), Alloc
     }
 }
 
-// The programs of a program association table.
-pub(crate) fn programs_in(
-    alloc: Global,
-    content: &[NumberedBody],
-) -> Result<Vec<PatEntry>, AllocError>
+/// The programs of a program association table.
+pub fn programs_in(alloc: Global, content: &[NumberedBody]) -> Result<Vec<PatEntry>, AllocError>
     ensures { IfOk result (λ programs. programs.items ≡ programs_in content.now) }
 {
     let mut programs = Vec::new(alloc);
@@ -111,11 +108,8 @@ pub(crate) fn programs_in(
     Ok(programs)
 }
 
-// The streams of a network information table.
-pub(crate) fn streams_in(
-    alloc: Global,
-    content: &[NumberedBody],
-) -> Result<Vec<NitStream>, AllocError>
+/// The streams of a network information table.
+pub fn streams_in(alloc: Global, content: &[NumberedBody]) -> Result<Vec<NitStream>, AllocError>
     ensures { IfOk result (λ streams. streams.items ≡ streams_in content.now) }
 {
     let mut streams = Vec::new(alloc);
@@ -137,11 +131,8 @@ fn streams_of_body(alloc: Global, body: &[u8]) -> Result<Option<NitStreams>, All
     }
 }
 
-// The services of a service description table.
-pub(crate) fn services_in(
-    alloc: Global,
-    content: &[NumberedBody],
-) -> Result<Vec<SdtService>, AllocError>
+/// The services of a service description table.
+pub fn services_in(alloc: Global, content: &[NumberedBody]) -> Result<Vec<SdtService>, AllocError>
     ensures { IfOk result (λ services. services.items ≡ services_in content.now) }
 {
     let mut services = Vec::new(alloc);
@@ -163,8 +154,8 @@ fn services_of_body(alloc: Global, body: &[u8]) -> Result<Option<SdtServices>, A
     }
 }
 
-// Appends the events of a table; want of memory may leave a part of them.
-pub(crate) fn put_events(
+/// Appends the events of a table; want of memory may leave a part of them.
+pub fn put_events(
     alloc: Global,
     content: &[NumberedBody],
     out: &mut Vec<ScreenEvent>,

@@ -49,8 +49,8 @@ pub(crate) fn sections_at(contents: &Collector, key: Option<Key>) -> &[NumberedB
     }
 }
 
-// The key of the PMT of a program on its PID (EN 300 468, 5.1.3).
-pub(crate) fn pmt_key(pid: u16, program: u16) -> Key
+/// The key of the PMT of a program on its PID (EN 300 468, 5.1.3).
+pub fn pmt_key(pid: u16, program: u16) -> Key
     ensures { result ≡ pmt_key pid program }
 {
     Key {
@@ -62,8 +62,8 @@ pub(crate) fn pmt_key(pid: u16, program: u16) -> Key
     }
 }
 
-// The key of a table of events of a service, of the stream and the network of this SDT.
-pub(crate) fn eit_key(sdt: Key, table: u8, service: u16) -> Key
+/// The key of a table of events of a service, of the stream and the network of this SDT.
+pub fn eit_key(sdt: Key, table: u8, service: u16) -> Key
     ensures { result ≡ eit_key sdt table service }
 {
     Key {

@@ -21,7 +21,14 @@ mod schedule;
 mod screen;
 mod services;
 
-pub use contents::Latest;
+pub use content_values::{
+    event_at, network_name, pmt_told, programs_in, put_events, services_in, streams_in,
+};
+pub use contents::{Latest, eit_key, pmt_key};
 pub use heard::heard_guide;
 pub use laws::{bodies_say_what_is_read, screens_need_nothing};
 pub use need::{Heard, Need, Needs};
+pub use needs::{needs_of, tables_to};
+pub use others::{cable_in, is_other, other_stream};
+pub use screen::{clock_and_components, copied, pids_of, pmt_pid};
+pub use services::{programs_of, services_of};

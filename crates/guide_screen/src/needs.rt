@@ -26,8 +26,8 @@ pub(crate) fn put_unless(needs: &mut Vec<Need>, need: Need, met: bool) -> Result
     Ok(())
 }
 
-// The table_ids from a first one to a last one.
-pub(crate) fn tables_to(alloc: Global, first: u8, last: u8) -> Result<Vec<u8>, AllocError>
+/// The table_ids from a first one to a last one.
+pub fn tables_to(alloc: Global, first: u8, last: u8) -> Result<Vec<u8>, AllocError>
     ensures { IfOk result (λ tables. tables.items ≡ tables_to first last) }
 {
     let mut tables = Vec::new(alloc);
@@ -168,8 +168,8 @@ fn put_services(
     Ok(())
 }
 
-// The needs that are not met, in order, by the programs of the PAT and the services of the SDT.
-pub(crate) fn needs_of(
+/// The needs that are not met, in order, by the programs of the PAT and the services of the SDT.
+pub fn needs_of(
     alloc: Global,
     contents: &Collector,
     latest: &Latest,

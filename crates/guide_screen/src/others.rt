@@ -16,8 +16,8 @@ use si_base::Items;
 use std::alloc::{AllocError, Global};
 use sub_collect::Collector;
 
-// The cable of the first of these streams with these ids.
-pub(crate) fn cable_in(streams: &[NitStream], stream: u16, original: u16) -> Option<Cable>
+/// The cable of the first of these streams with these ids.
+pub fn cable_in(streams: &[NitStream], stream: u16, original: u16) -> Option<Cable>
     ensures { result ≡ cable_in stream original streams.now }
 {
     for entry in streams {
@@ -71,8 +71,8 @@ fn remote_services(
     Ok(Items::of(shown))
 }
 
-// What is shown of the stream that this SDT describes.
-fn other_stream(
+/// What is shown of the stream that this SDT describes.
+pub fn other_stream(
     alloc: Global,
     contents: &Collector,
     streams: &[NitStream],
@@ -89,8 +89,8 @@ fn other_stream(
     })
 }
 
-// Whether this SDT describes another stream than the one with these ids.
-fn is_other(stream: u16, original: u16, sdt: Key) -> bool
+/// Whether this SDT describes another stream than the one with these ids.
+pub fn is_other(stream: u16, original: u16, sdt: Key) -> bool
     ensures { result ≡ is_other stream original sdt }
 {
     !(sdt.ext == stream && sdt.network == original)

@@ -24,8 +24,8 @@ use std::alloc::{AllocError, Global};
 use std::collections::BTreeMap;
 use sub_collect::Collector;
 
-// Of each program the PID of its first entry.
-fn pids_of(alloc: Global, programs: &[PatEntry]) -> Result<BTreeMap<u16, u16>, AllocError>
+/// Of each program the PID of its first entry.
+pub fn pids_of(alloc: Global, programs: &[PatEntry]) -> Result<BTreeMap<u16, u16>, AllocError>
     ensures { IfOk result (λ pids. (program : ℕ) → get nat_cmp pids program ≡ pid_in program programs.now) }
 {
     let mut pids = BTreeMap::new(alloc);
@@ -38,8 +38,8 @@ fn pids_of(alloc: Global, programs: &[PatEntry]) -> Result<BTreeMap<u16, u16>, A
     Ok(pids)
 }
 
-// The PID of the PMT of a service; service 0 has none.
-fn pmt_pid(pids: &BTreeMap<u16, u16>, service: u16) -> Option<u16>
+/// The PID of the PMT of a service; service 0 has none.
+pub fn pmt_pid(pids: &BTreeMap<u16, u16>, service: u16) -> Option<u16>
     ensures { (programs : List PatEntry) → ((program : ℕ) → get nat_cmp pids.now program ≡ pid_in program programs)
         → result ≡ pmt_pid programs service }
 {
@@ -96,8 +96,8 @@ fn service_on(
     })
 }
 
-// The PCR PID and the components of a PMT; none of both without it.
-fn clock_and_components(alloc: Global, pmt: Option<Pmt>) -> (Option<u16>, Components)
+/// The PCR PID and the components of a PMT; none of both without it.
+pub fn clock_and_components(alloc: Global, pmt: Option<Pmt>) -> (Option<u16>, Components)
     ensures pcr_pid { result.0 ≡ option_map (λ p. p.pcr_pid) pmt }
     ensures components { result.1 ≡ unwrap_or (option_map (λ p. p.components) pmt) [] }
 {
@@ -136,8 +136,8 @@ pub(crate) struct Named {
     pub(crate) clock: Moment,
 }
 
-// A copy of offsets.
-fn copied(alloc: Global, offsets: &[Offset]) -> Result<Offsets, AllocError>
+/// A copy of offsets.
+pub fn copied(alloc: Global, offsets: &[Offset]) -> Result<Offsets, AllocError>
     ensures { IfOk result (λ copy. copy ≡ offsets.now) }
 {
     Ok(Items::of(Vec::from_slice(alloc, offsets)?))

@@ -18,8 +18,8 @@ use std::alloc::{AllocError, Global};
 use std::collections::BTreeMap;
 use sub_collect::Collector;
 
-// The programs of this PAT.
-pub(crate) fn programs_of(
+/// The programs of this PAT.
+pub fn programs_of(
     alloc: Global,
     contents: &Collector,
     pat: Option<Key>,
@@ -30,8 +30,8 @@ pub(crate) fn programs_of(
     programs_in(alloc, sections_at(contents, pat))
 }
 
-// The services of this SDT, by ascending service_id.
-pub(crate) fn services_of(
+/// The services of this SDT, by ascending service_id.
+pub fn services_of(
     alloc: Global,
     contents: &Collector,
     sdt: Option<Key>,

@@ -67,7 +67,7 @@ pub(crate) fn put_event(
 }
 
 /// Appends the line of an event, where there is one.
-pub(crate) fn put_some_event(
+pub fn put_some_event(
     alloc: Global,
     out: &mut Vec<u8>,
     word: &[u8],
@@ -82,7 +82,7 @@ pub(crate) fn put_some_event(
 }
 
 /// Appends the lines of events, which begin with this word.
-pub(crate) fn put_events(
+pub fn put_events(
     alloc: Global,
     out: &mut Vec<u8>,
     word: &[u8],

@@ -18,7 +18,7 @@ pub(crate) const WINDOW: u64 = 65_536 * 86_400;
 const HUNDRED_HOURS: u32 = 360_000;
 
 /// Appends a field.
-pub(crate) fn put_field(out: &mut Vec<u8>, field: &[u8]) -> Result<(), AllocError>
+pub fn put_field(out: &mut Vec<u8>, field: &[u8]) -> Result<(), AllocError>
     ensures { OnOk result (out.new.items ≡ out.old.items ++ 9 ∷ field.now) }
 {
     out.extend_from_slice(b"\t")?;
@@ -26,7 +26,7 @@ pub(crate) fn put_field(out: &mut Vec<u8>, field: &[u8]) -> Result<(), AllocErro
 }
 
 /// Appends a number.
-pub(crate) fn put_decimal(alloc: Global, out: &mut Vec<u8>, number: u64) -> Result<(), AllocError>
+pub fn put_decimal(alloc: Global, out: &mut Vec<u8>, number: u64) -> Result<(), AllocError>
     ensures { OnOk result (out.new.items ≡ out.old.items ++ 9 ∷ decimal number) }
 {
     out.extend_from_slice(b"\t")?;
@@ -34,11 +34,7 @@ pub(crate) fn put_decimal(alloc: Global, out: &mut Vec<u8>, number: u64) -> Resu
 }
 
 /// Appends a number, or an empty field.
-pub(crate) fn put_optional(
-    alloc: Global,
-    out: &mut Vec<u8>,
-    number: Option<u16>,
-) -> Result<(), AllocError>
+pub fn put_optional(alloc: Global, out: &mut Vec<u8>, number: Option<u16>) -> Result<(), AllocError>
     ensures { OnOk result (out.new.items ≡ out.old.items ++ 9 ∷ optional decimal number) }
 {
     match number {
@@ -57,7 +53,7 @@ fn put_hex(alloc: Global, out: &mut Vec<u8>, bytes: &[u8]) -> Result<(), AllocEr
 }
 
 /// Appends a text, or the bytes of what is no text.
-pub(crate) fn put_shown(alloc: Global, out: &mut Vec<u8>, shown: &Shown) -> Result<(), AllocError>
+pub fn put_shown(alloc: Global, out: &mut Vec<u8>, shown: &Shown) -> Result<(), AllocError>
     ensures { OnOk result (out.new.items ≡ out.old.items ++ 9 ∷ shown_text shown.now) }
 {
     match shown {

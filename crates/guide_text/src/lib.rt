@@ -17,4 +17,11 @@ mod others;
 mod screen;
 mod service;
 
+pub use event::{put_events, put_some_event};
+pub use field::{put_decimal, put_field, put_optional, put_shown};
 pub use guide::print_heard;
+pub use local::put_offsets;
+pub use need::put_needs;
+pub use others::put_others;
+pub use screen::{put_clock, put_some_cable};
+pub use service::put_components;

@@ -113,7 +113,7 @@ fn put_offset(
 }
 
 /// Appends the lines of regions at a moment.
-pub(crate) fn put_offsets(
+pub fn put_offsets(
     alloc: Global,
     out: &mut Vec<u8>,
     at: Moment,

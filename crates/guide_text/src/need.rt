@@ -35,7 +35,7 @@ fn put_need(alloc: Global, out: &mut Vec<u8>, need: Need) -> Result<(), AllocErr
 }
 
 /// Appends the lines of needs.
-pub(crate) fn put_needs(alloc: Global, out: &mut Vec<u8>, needs: &[Need]) -> Result<(), AllocError>
+pub fn put_needs(alloc: Global, out: &mut Vec<u8>, needs: &[Need]) -> Result<(), AllocError>
     ensures { OnOk result (out.new.items ≡ out.old.items ++ flat_map need_line needs.now) }
 {
     for need in needs {

@@ -68,7 +68,7 @@ fn put_other(alloc: Global, out: &mut Vec<u8>, other: &ScreenOther) -> Result<()
 }
 
 /// Appends the lines of other streams.
-pub(crate) fn put_others(
+pub fn put_others(
     alloc: Global,
     out: &mut Vec<u8>,
     others: &[ScreenOther],

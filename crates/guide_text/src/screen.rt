@@ -12,8 +12,8 @@ use guide_model::{Cable, Screen};
 use si_time::Moment;
 use std::alloc::{AllocError, Global};
 
-// Appends the line of the last moment that was heard.
-fn put_clock(out: &mut Vec<u8>, clock: Moment) -> Result<(), AllocError>
+/// Appends the line of the last moment that was heard.
+pub fn put_clock(out: &mut Vec<u8>, clock: Moment) -> Result<(), AllocError>
     ensures { OnOk result (out.new.items ≡ out.old.items ++ clock_line clock.0) }
 {
     out.extend_from_slice(b"clock")?;
@@ -50,8 +50,12 @@ fn put_cable(alloc: Global, out: &mut Vec<u8>, cable: Cable) -> Result<(), Alloc
     out.extend_from_slice(b"\n")
 }
 
-// Appends the line of how the stream is sent by cable, where it is told.
-fn put_some_cable(alloc: Global, out: &mut Vec<u8>, cable: Option<Cable>) -> Result<(), AllocError>
+/// Appends the line of how the stream is sent by cable, where it is told.
+pub fn put_some_cable(
+    alloc: Global,
+    out: &mut Vec<u8>,
+    cable: Option<Cable>,
+) -> Result<(), AllocError>
     ensures { OnOk result (out.new.items ≡ out.old.items ++ optional cable_line cable) }
 {
     match cable {

@@ -19,8 +19,8 @@ fn put_component(alloc: Global, out: &mut Vec<u8>, component: &Component) -> Res
     out.extend_from_slice(b"\n")
 }
 
-// Appends the lines of components.
-fn put_components(
+/// Appends the lines of components.
+pub fn put_components(
     alloc: Global,
     out: &mut Vec<u8>,
     components: &[Component],
