@@ -11,6 +11,7 @@ mod bytes;
 mod durations;
 mod ends;
 mod fields;
+mod finds;
 mod lines;
 mod loads;
 mod moments;
@@ -36,6 +37,7 @@ fn answer<T: Threads>(rt: &T, row: &mut Row, call: &str, arguments: &str) {
         "lines" => lines::put_each(row, arguments, false),
         "records" => lines::put_each(row, arguments, true),
         "packets" => recordings::put_each(row, arguments),
+        "found" => finds::put_each(row, arguments),
         "write_all" => sinks::put_sink(row, arguments),
         "open" => sinks::put_openings(row, arguments),
         "long_text" => sources::put_long(row, arguments),

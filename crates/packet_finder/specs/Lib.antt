@@ -1,0 +1,5 @@
+pub mod Pieces
+pub mod Finding
+pub mod Steps
+pub mod Laws
+mod Rows
