@@ -1,13 +1,11 @@
 -- Completions that sections show over marks, and what a receiver stands for without any.
-use Rattle.std.proofs.Common.{◌≡◌, ℕ, List, [], ◌∷◌, ◌++◌, Option, Some, None, refl, sym, ap, ap₂, ◌∙◌, subst, map, option_map, append-nil}
+use Rattle.std.proofs.Common.{◌≡◌, ℕ, List, [], ◌∷◌, ◌++◌, Option, Some, None, refl, sym, ap, ◌∙◌, subst, map, option_map, append-nil}
 use Rattle.std.specs.Prelude.{filter, option_to_list}
-use Rattle.std.specs.List.{cons_option}
 use Rattle.std.proofs.lemmas.List.{map-append}
 use Rattle.section_codec.specs.declared.table.Key.{Key}
 use Rattle.ts_demux.specs.Sections.{ended_by, heard_all}
 use Rattle.sub_collect.specs.Runs.{Counted}
-use Rattle.sub_collect.specs.Completions.{dones}
-use Rattle.sub_collect.specs.Marks.{Taken, Taken.Took, Taken.Forgot, all_took, dones_over, shown_over, shown_with, sections_taken}
+use Rattle.sub_collect.specs.Marks.{Taken, Taken.Took, Taken.Forgot, Taken.ForgotAll, all_took, dones_over, shown_over, sections_taken}
 use Rattle.sub_collect.specs.declared.completed.Completed.{Completed}
 use Rattle.sub_collect.proofs.Marking.{mark_free}
 use Rattle.sub_collect.proofs.MarksShown.{shown_over-key, dones_over-append, dones-free, sections-free}
@@ -46,6 +44,9 @@ keys-more_over past more =
 -- a mark shows none
 pub keys-forgot : (past : List Taken) (pid : ℕ) → keys_shown_over (past ++ Forgot pid ∷ []) ≡ keys_shown_over past
 keys-forgot past pid = keys-more_over past (Forgot pid ∷ []) ∙ (let e : keys_shown_over past ++ [] ≡ keys_shown_over past = append-nil (keys_shown_over past) in e)
+
+pub keys-all_forgot : (past : List Taken) → keys_shown_over (past ++ ForgotAll ∷ []) ≡ keys_shown_over past
+keys-all_forgot past = keys-more_over past (ForgotAll ∷ []) ∙ (let e : keys_shown_over past ++ [] ≡ keys_shown_over past = append-nil (keys_shown_over past) in e)
 
 -- ---- without marks
 

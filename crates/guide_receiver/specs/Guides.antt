@@ -1,5 +1,6 @@
 -- The heard guide of a packet list: what a receiver that heard just these packets has to show (EN 300 468, 5.2).
-use Rattle.std.specs.Prelude.{ℕ, List, [], filter}
+use Rattle.std.specs.Prelude.{ℕ, List, [], ◌++◌, filter}
+use Rattle.ts_demux.specs.declared.section.RawSection.{RawSection}
 use Rattle.ts_demux.specs.Sections.{heard_all}
 use Rattle.sub_collect.specs.Marks.{Taken, content_over}
 use Rattle.guide_screen.specs.View.{View}
@@ -23,17 +24,21 @@ view_of packets = record {
   offsets = offsets_heard (heard_all [] packets);
 }
 
--- The same of packets, and of their sections that count with the marks between them.
-abbrev pub view_over : List (List ℕ) → List Taken → View
-view_over packets taken = record {
+-- The same of what was heard earlier and of packets, and of all sections that count with the marks between them.
+abbrev pub view_after : List RawSection → List (List ℕ) → List Taken → View
+view_after earlier packets taken = record {
   content = content_over taken;
   pat = last_of (filter is_pat_key (keys_shown_over taken));
   nit = last_of (filter is_nit_key (keys_shown_over taken));
   sdt = λ ext. last_of (filter (is_sdt_key ext) (keys_shown_over taken));
   others = other_sdts (keys_shown_over taken);
-  clock = clock_of (heard_all [] packets);
-  offsets = offsets_heard (heard_all [] packets);
+  clock = clock_of (earlier ++ heard_all [] packets);
+  offsets = offsets_heard (earlier ++ heard_all [] packets);
 }
+
+-- The same of packets, and of their sections that count with the marks between them.
+abbrev pub view_over : List (List ℕ) → List Taken → View
+view_over packets taken = view_after [] packets taken
 
 abbrev pub guide_over : List (List ℕ) → List Taken → Heard
 guide_over packets taken = heard_of (view_over packets taken)

@@ -1,5 +1,5 @@
 -- A receiver, and the packets for which it stands.
-use Rattle.std.specs.Prelude.{ℕ, List, [], Option, Some, ◌≡◌}
+use Rattle.std.specs.Prelude.{ℕ, List, [], ◌++◌, Option, Some, ◌≡◌}
 use Rattle.ts_demux.specs.declared.section.RawSection.{RawSection}
 use Rattle.ts_demux.specs.Keeping.{PidState, DemuxStandsFor}
 use Rattle.ts_demux.specs.Sections.{ended_by, heard_all}
@@ -25,14 +25,18 @@ pub record Hearing : Type 0 where
 abbrev pub took_by : List (List ℕ) → List ℕ → List Taken
 took_by packets packet = all_took (counted_among (ended_by packets packet))
 
--- A receiver stands for these packets, each by its bytes, and for their sections that count, with the marks between
--- them.
-pub record ReceiverStandsOver (packets : List (List ℕ)) (taken : List Taken) (receiver : Hearing) : Type 0 where
+-- A receiver heard these sections before it started afresh, and it stands for the packets since, each by its bytes, and for
+-- all sections that count, with the marks between them.
+pub record ReceiverStandsAfter (earlier : List RawSection) (packets : List (List ℕ)) (taken : List Taken) (receiver : Hearing) : Type 0 where
   pub sections : DemuxStandsFor packets receiver.demux
   pub completions : CollectorStandsOver taken receiver.collector
   pub latest : AreLatest (keys_shown_over taken) receiver.latest
-  pub clock : IsClock (heard_all [] packets) receiver.clock
-  pub offsets : receiver.offsets ≡ offsets_heard (heard_all [] packets)
+  pub clock : IsClock (earlier ++ heard_all [] packets) receiver.clock
+  pub offsets : receiver.offsets ≡ offsets_heard (earlier ++ heard_all [] packets)
+
+-- It stands for these packets, each by its bytes, and for their sections that count, with the marks between them.
+abbrev pub ReceiverStandsOver : List (List ℕ) → List Taken → Hearing → Type 0
+ReceiverStandsOver packets taken receiver = ReceiverStandsAfter [] packets taken receiver
 
 -- It stands for these packets, without a mark.
 abbrev pub ReceiverStandsFor : List (List ℕ) → Hearing → Type 0

@@ -2,27 +2,31 @@
 ghost use Rattle.std.specs.Prelude.{◌≡◌, ◌≢◌, ◌↔◌, ◌++◌, ◌∷◌, [], List, ℕ, Option, Ok, Err, IfOk, OnOk, map, option_map, option_to_list, slice_index};
 ghost use Rattle.section_codec.specs.declared.table.Key.{Key};
 ghost use Rattle.ts_packets.specs.Bytes.{shape_in};
-ghost use Rattle.ts_demux.specs.Sections.{ended_by};
+ghost use Rattle.ts_demux.specs.declared.section.RawSection.{RawSection};
+ghost use Rattle.ts_demux.specs.Sections.{ended_by, heard_all};
 ghost use Rattle.ts_demux.specs.Breaks.{follows_in};
 ghost use Rattle.sub_collect.specs.KeyCounts.{HaveFewKeys, HaveTooManyKeys};
 ghost use Rattle.sub_collect.specs.declared.collector.TakeStop.{TakeStop};
-ghost use Rattle.sub_collect.specs.Marks.{Taken, Taken.Forgot, dones_over, all_took, sections_taken};
+ghost use Rattle.sub_collect.specs.Marks.{Taken, Taken.Forgot, Taken.ForgotAll, dones_over, all_took, sections_taken};
 ghost use Rattle.sub_collect.specs.Collectors.{CollectorStandsOver};
 ghost use Rattle.heard_completions.specs.declared.done.DoneKey.{DoneKey};
 ghost use Rattle.heard_completions.specs.Counting.{counted_in, counted_among};
 ghost use Rattle.guide_receiver.specs.Latest.{keys_shown_over, kept_keys, AreLatest};
-ghost use Rattle.guide_receiver.specs.Heard.{took_by, ReceiverStandsFor, ReceiverStandsOver};
+ghost use Rattle.guide_receiver.specs.Heard.{took_by, ReceiverStandsFor, ReceiverStandsAfter};
 ghost use Rattle.guide_receiver.specs.Known.{AreKnown};
 ghost use Rattle.heard_completions.specs.Dones.{counted_heard, done_key, dones_by};
-ghost use Rattle.guide_receiver.specs.Guides.{guide_of, guide_over};
+ghost use Rattle.guide_screen.specs.Holding.{Holds};
+ghost use Rattle.guide_screen.specs.Screen.{heard_of};
+ghost use Rattle.guide_receiver.specs.Guides.{guide_of, view_after};
 
 use crate::clock::clock_behind;
 use crate::known::KnownSections;
 use crate::latest_keys::LatestKeys;
 use crate::offsets::{keep_last, offsets_behind};
-use guide_model::Offsets;
+use guide_model::{Offset, Offsets};
 use guide_screen::{Heard, Latest, heard_guide};
 use heard_completions::{CountedSection, DoneKey, Dones};
+use section_codec::Key;
 use si_base::Items;
 use si_time::Moment;
 use std::alloc::{AllocError, Global};
@@ -91,15 +95,18 @@ impl Receiver {
     pub fn hear(&mut self, packet: &[u8; 188]) -> Result<Dones, HearStop>
         ensures sync { result ≡ Err HearStop.Sync ↔ (slice_index packet.now 0 ≢ 0x47) }
         ensures unchanged { result ≡ Err HearStop.Sync → self.new ≡ self.old }
-        ensures too_many_over { (packets : List (List ℕ)) (taken : List Taken)
-            → ReceiverStandsOver packets taken self.old → result ≡ Err HearStop.TooMany
+        ensures too_many_after { (earlier : List RawSection) (packets : List (List ℕ))
+            (taken : List Taken) → ReceiverStandsAfter earlier packets taken self.old
+            → result ≡ Err HearStop.TooMany
             → HaveTooManyKeys (sections_taken taken ++ counted_among (ended_by packets packet.now)) }
-        ensures dones_over { (packets : List (List ℕ)) (taken : List Taken)
-            → ReceiverStandsOver packets taken self.old → IfOk result (λ dones. dones
+        ensures dones_after { (earlier : List RawSection) (packets : List (List ℕ))
+            (taken : List Taken) → ReceiverStandsAfter earlier packets taken self.old
+            → IfOk result (λ dones. dones
             ≡ map done_key (dones_over taken (took_by packets packet.now))) }
-        ensures stands_over { (packets : List (List ℕ)) (taken : List Taken)
-            → ReceiverStandsOver packets taken self.old → OnOk result (ReceiverStandsOver
-            (packets ++ packet.now ∷ []) (taken ++ took_by packets packet.now) self.new) }
+        ensures stands_after { (earlier : List RawSection) (packets : List (List ℕ))
+            (taken : List Taken) → ReceiverStandsAfter earlier packets taken self.old
+            → OnOk result (ReceiverStandsAfter earlier (packets ++ packet.now ∷ [])
+            (taken ++ took_by packets packet.now) self.new) }
         ensures too_many { (past : List (List ℕ)) → ReceiverStandsFor past self.old
             → result ≡ Err HearStop.TooMany → HaveTooManyKeys (counted_heard (past ++ packet.now ∷ [])) }
         ensures few { (past : List (List ℕ)) → ReceiverStandsFor past self.old
@@ -142,19 +149,35 @@ impl Receiver {
     /// Adds a mark of a PID: from here on the keys of the PID have no section, until one is taken
     /// (`Collector::forget`). It takes no memory.
     pub fn forget(&mut self, pid: u16)
-        ensures { (packets : List (List ℕ)) (taken : List Taken)
-            → ReceiverStandsOver packets taken self.old
-            → ReceiverStandsOver packets (taken ++ Forgot pid ∷ []) self.new }
+        ensures { (earlier : List RawSection) (packets : List (List ℕ)) (taken : List Taken)
+            → ReceiverStandsAfter earlier packets taken self.old
+            → ReceiverStandsAfter earlier packets (taken ++ Forgot pid ∷ []) self.new }
     {
         self.known.next_round(self.alloc);
         self.collector.forget(pid);
     }
 
+    /// Starts afresh, as where a part of the stream could not be read: each PID is as before its first
+    /// packet, and no key has a section, until one is taken (`Collector::forget_all`). What stays are
+    /// the completions, the keys that were completed last, and the last moment and the last offsets
+    /// that were heard. It takes no memory, and its time is that of all keys.
+    pub fn restart(&mut self)
+        ensures { (earlier : List RawSection) (packets : List (List ℕ)) (taken : List Taken)
+            → ReceiverStandsAfter earlier packets taken self.old
+            → ReceiverStandsAfter (earlier ++ heard_all [] packets) []
+            (taken ++ ForgotAll ∷ []) self.new }
+    {
+        self.demux = Demux::open(self.alloc);
+        self.known = KnownSections::none(self.alloc);
+        self.collector.forget_all();
+    }
+
     /// Whether a load goes on with the last load of its PID, as `Demux::follows` says. It takes no memory.
     pub fn follows(&self, packet: &[u8; 188], shape: &Shape) -> Option<bool>
         requires { shape_in packet.now ≡ Ok shape.now }
-        ensures { (packets : List (List ℕ)) (taken : List Taken)
-            → ReceiverStandsOver packets taken self.now → result ≡ follows_in packets packet.now }
+        ensures { (earlier : List RawSection) (packets : List (List ℕ)) (taken : List Taken)
+            → ReceiverStandsAfter earlier packets taken self.now
+            → result ≡ follows_in packets packet.now }
     {
         self.demux.follows(packet, shape)
     }
@@ -162,21 +185,58 @@ impl Receiver {
     /// What the receiver has to show of the packets that it stands for: the needs that are not met, of which there is one at least, or
     /// else the whole screen (EN 300 468, 5.2). Its time is that of `heard_guide`.
     pub fn guide(&self) -> Result<Heard, AllocError>
-        ensures over { (packets : List (List ℕ)) (taken : List Taken)
-            → ReceiverStandsOver packets taken self.now
-            → IfOk result (λ heard. heard ≡ guide_over packets taken) }
+        ensures after { (earlier : List RawSection) (packets : List (List ℕ)) (taken : List Taken)
+            → ReceiverStandsAfter earlier packets taken self.now
+            → IfOk result (λ heard. heard ≡ heard_of (view_after earlier packets taken)) }
         ensures heard { (past : List (List ℕ)) → ReceiverStandsFor past self.now
             → IfOk result (λ heard. heard ≡ guide_of past) }
     {
-        let latest = Latest {
+        let latest = self.latest();
+        let others = self.others()?;
+        heard_guide(
+            self.alloc,
+            self.collector(),
+            latest,
+            self.offsets(),
+            &others,
+        )
+    }
+
+    /// The collector of its sections.
+    pub fn collector(&self) -> &Collector
+        ensures { result.now ≡ self.now.collector }
+    {
+        &self.collector
+    }
+
+    /// The keys of the PAT, the NIT and the SDT that it completed last, and the last moment that it
+    /// heard.
+    pub fn latest(&self) -> Latest
+        ensures { (earlier : List RawSection) (packets : List (List ℕ)) (taken : List Taken)
+            → ReceiverStandsAfter earlier packets taken self.now
+            → Holds self.now.collector result (view_after earlier packets taken) }
+    {
+        Latest {
             pat: self.latest.pat,
             nit: self.latest.nit,
             sdt: self.latest.sdt(),
             clock: self.clock,
-        };
-        let others = self.latest.others(self.alloc)?;
-        let offsets = self.offsets.as_slice();
-        heard_guide(self.alloc, &self.collector, latest, offsets, &others)
+        }
+    }
+
+    /// The keys of the SDTs of other streams that it completed, by transport_stream_id, and then
+    /// original_network_id.
+    pub fn others(&self) -> Result<Vec<Key>, AllocError>
+        ensures { IfOk result (λ others. others.items ≡ self.now.latest.others) }
+    {
+        self.latest.others(self.alloc)
+    }
+
+    /// The last offsets that it heard.
+    pub fn offsets(&self) -> &[Offset]
+        ensures { result.now ≡ self.now.offsets }
+    {
+        self.offsets.as_slice()
     }
 }
 

@@ -9,7 +9,7 @@ use Rattle.guide_screen.specs.Screen.{heard_of}
 use Rattle.guide_receiver.specs.Guides.{guide_over}
 use Rattle.guide_receiver.specs.Heard.{took_by}
 use Rattle.guide_receiver.proofs.Over.{took-push, dones-by, view-free}
-use Rattle.strict_receiver.specs.Strict.{marks_by, taken_by, taken_of}
+use Rattle.strict_receiver.specs.Strict.{marks_by, taken_of}
 use Rattle.strict_receiver.specs.Laws.{HasNoBreak, UnbrokenIsHeardAlike}
 use Rattle.strict_receiver.proofs.Losing.{taken-push}
 

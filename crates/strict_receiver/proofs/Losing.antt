@@ -86,10 +86,10 @@ taken-push past packet =
     ∙ sym (taken-append [] past (packet ∷ []) ∙ ap (λ (l : List Taken). taken_of past ++ l) (append-nil (taken_by past packet)))
 
 -- a mark shows nothing
-pub marks_show_none : (past : List (List ℕ)) (packet : List ℕ) → dones_over (taken_of past ++ marks_by past packet) (took_by past packet) ≡ dones_over (taken_of past) (taken_by past packet)
-marks_show_none past packet = sym (dones_over-append (taken_of past) (marks_by past packet) (took_by past packet) ∙ ap (λ (l : List Completed). l ++ dones_over (taken_of past ++ marks_by past packet) (took_by past packet)) (none (is_lost past packet)))
+pub marks_show_none : (taken : List Taken) (past : List (List ℕ)) (packet : List ℕ) → dones_over (taken ++ marks_by past packet) (took_by past packet) ≡ dones_over taken (taken_by past packet)
+marks_show_none taken past packet = sym (dones_over-append taken (marks_by past packet) (took_by past packet) ∙ ap (λ (l : List Completed). l ++ dones_over (taken ++ marks_by past packet) (took_by past packet)) (none (is_lost past packet)))
   where
-    none : (b : Bool) → dones_over (taken_of past) (if b then Forgot (pid_in packet) ∷ [] else []) ≡ []
+    none : (b : Bool) → dones_over taken (if b then Forgot (pid_in packet) ∷ [] else []) ≡ []
     none true = refl
     none false = refl
 
@@ -113,10 +113,10 @@ sections_from past (p ∷ ps) =
 pub sections_taken_of : (past : List (List ℕ)) → sections_taken (taken_of past) ≡ counted_heard past
 sections_taken_of past = sections_from [] past
 
-pub sections_with_marks : (past : List (List ℕ)) (packet : List ℕ) → sections_taken (taken_of past ++ marks_by past packet) ≡ counted_heard past
-sections_with_marks past packet =
-    filter_map-append section_in (taken_of past) (marks_by past packet)
-    ∙ ap₂ (λ (a b : List Counted). a ++ b) (sections_taken_of past) (marks_are_none past packet) ∙ append-nil (counted_heard past)
+pub sections_with_marks : (taken : List Taken) (past : List (List ℕ)) (packet : List ℕ) → sections_taken (taken ++ marks_by past packet) ≡ sections_taken taken
+sections_with_marks taken past packet =
+    filter_map-append section_in taken (marks_by past packet)
+    ∙ ap (λ (l : List Counted). sections_taken taken ++ l) (marks_are_none past packet) ∙ append-nil (sections_taken taken)
 
 -- ---- by the shape of the packet
 

@@ -1,5 +1,5 @@
 -- What holds of each completion of a packet list holds of each that one of its packets shows.
-use Rattle.std.proofs.Common.{◌≡◌, ℕ, List, ◌∷◌, ◌++◌, [], subst}
+use Rattle.std.proofs.Common.{ℕ, List, ◌∷◌, ◌++◌, [], subst}
 use Rattle.std.specs.List.{AllByRecursion}
 use Rattle.si_lists.proofs.Lists.{all_front}
 use Rattle.section_codec.specs.declared.table.Key.{Key}

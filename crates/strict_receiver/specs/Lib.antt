@@ -1,3 +1,4 @@
 pub mod Strict
+pub mod Earlier
 pub mod Standing
 pub mod Laws

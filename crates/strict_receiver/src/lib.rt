@@ -8,6 +8,10 @@
 //!
 //! [`Strict::hear`] takes one packet and gives the loss and the sub-tables that are now complete.
 //! [`Strict::guide`] gives the guide. `specs/Strict.antt` defines both for a list of packets.
+//!
+//! Where a part of a recording could not be read, [`Strict::restart`] starts afresh: what comes then is heard
+//! as a recording of its own, and the sub-tables that were completed stay. `specs/Earlier.antt` defines what is
+//! heard then. No sub-table is made of sections from before and after it (`recordings_are_heard_apart`).
 #![tactic(auto)]
 
 mod gaps;
@@ -15,5 +19,5 @@ mod laws;
 mod strict;
 
 pub use guide_receiver::{Dones, HearStop, Heard};
-pub use laws::unbroken_packets_are_heard_alike;
+pub use laws::{recordings_are_heard_apart, unbroken_packets_are_heard_alike};
 pub use strict::{Lost, Strict, StrictHeard};

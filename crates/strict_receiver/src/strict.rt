@@ -2,15 +2,16 @@
 ghost use Rattle.std.specs.Prelude.{◌≡◌, ◌≢◌, ◌↔◌, ◌<◌, ◌++◌, ◌∷◌, [], List, ℕ, Some, None, Ok, Err, IfOk, OnOk, option_map, if◌then◌else◌, slice_index};
 ghost use Rattle.ts_packets.specs.Bytes.{pid_in, shape_in};
 ghost use Rattle.ts_packets.specs.Counting.{Load};
+ghost use Rattle.ts_demux.specs.declared.section.RawSection.{RawSection};
 ghost use Rattle.ts_demux.specs.Arrivals.{Arrival.Came, arrival_on};
 ghost use Rattle.ts_demux.specs.Breaks.{is_lost};
 ghost use Rattle.sub_collect.specs.KeyCounts.{HaveTooManyKeys};
 ghost use Rattle.sub_collect.specs.Marks.{Taken, Taken.Forgot};
-ghost use Rattle.heard_completions.specs.Dones.{counted_heard};
-ghost use Rattle.guide_receiver.specs.Heard.{ReceiverStandsOver};
+ghost use Rattle.guide_receiver.specs.Heard.{ReceiverStandsAfter};
 ghost use Rattle.guide_receiver.specs.declared.receiver.HearStop.{HearStop};
-ghost use Rattle.strict_receiver.specs.Strict.{lost_by, strict_dones_by, strict_guide_of};
-ghost use Rattle.strict_receiver.specs.Standing.{StrictStandsFor};
+ghost use Rattle.strict_receiver.specs.Strict.{lost_by};
+ghost use Rattle.strict_receiver.specs.Earlier.{counted_after, strict_dones_after, strict_guide_after};
+ghost use Rattle.strict_receiver.specs.Standing.{StrictStandsFor, StrictStandsAfter};
 
 use crate::gaps::Gaps;
 use guide_receiver::{Dones, HearStop, Heard, Receiver};
@@ -32,8 +33,9 @@ pub struct StrictHeard {
     pub dones: Dones,
 }
 
-/// A receiver that forgets the sections of a PID at each break. It stands for the packets that it heard. It
-/// keeps what a `Receiver` keeps, and of each PID whether a gap came last.
+/// A receiver that forgets the sections of a PID at each break. It stands for the packets that it heard since
+/// it last started afresh, and for the recordings that it heard earlier. It keeps what a `Receiver` keeps, and
+/// of each PID whether a gap came last.
 #[derive(Drop)]
 pub struct Strict {
     receiver: Receiver,
@@ -67,15 +69,18 @@ impl Strict {
     pub fn hear(&mut self, packet: &[u8; 188]) -> Result<StrictHeard, HearStop>
         ensures sync { result ≡ Err HearStop.Sync ↔ (slice_index packet.now 0 ≢ 0x47) }
         ensures unchanged { result ≡ Err HearStop.Sync → self.new ≡ self.old }
-        ensures lost { (past : List (List ℕ)) → StrictStandsFor past self.old
+        ensures lost { (earlier : List (List (List ℕ))) (past : List (List ℕ))
+            → StrictStandsAfter earlier past self.old
             → IfOk result (λ heard. option_map (λ l. l.pid) heard.lost ≡ lost_by past packet.now) }
-        ensures dones { (past : List (List ℕ)) → StrictStandsFor past self.old
-            → IfOk result (λ heard. heard.dones ≡ strict_dones_by past packet.now) }
-        ensures stands { (past : List (List ℕ)) → StrictStandsFor past self.old
-            → OnOk result (StrictStandsFor (past ++ packet.now ∷ []) self.new) }
-        ensures too_many { (past : List (List ℕ)) → StrictStandsFor past self.old
-            → result ≡ Err HearStop.TooMany
-            → HaveTooManyKeys (counted_heard (past ++ packet.now ∷ [])) }
+        ensures dones { (earlier : List (List (List ℕ))) (past : List (List ℕ))
+            → StrictStandsAfter earlier past self.old
+            → IfOk result (λ heard. heard.dones ≡ strict_dones_after earlier past packet.now) }
+        ensures stands { (earlier : List (List (List ℕ))) (past : List (List ℕ))
+            → StrictStandsAfter earlier past self.old
+            → OnOk result (StrictStandsAfter earlier (past ++ packet.now ∷ []) self.new) }
+        ensures too_many { (earlier : List (List (List ℕ))) (past : List (List ℕ))
+            → StrictStandsAfter earlier past self.old → result ≡ Err HearStop.TooMany
+            → HaveTooManyKeys (counted_after earlier (past ++ packet.now ∷ [])) }
     {
         let Ok(shape) = read_packet(packet) else {
             return Err(HearStop::Sync);
@@ -95,20 +100,40 @@ impl Strict {
         }
     }
 
-    /// What the receiver has to show of the packets that it stands for: the needs that are not met, or else
-    /// the whole screen. Its time is that of `Receiver::guide`.
+    /// Starts afresh, as where a part of a recording could not be read: each PID is as before its first packet,
+    /// and no key has a section (`Receiver::restart`). So what comes then is heard as a recording of its own,
+    /// and the completions are kept. It takes no memory, and its time is that of all keys.
+    pub fn restart(&mut self)
+        ensures { (earlier : List (List (List ℕ))) (past : List (List ℕ))
+            → StrictStandsAfter earlier past self.old
+            → StrictStandsAfter (earlier ++ past ∷ []) [] self.new }
+    {
+        self.receiver.restart();
+        self.gaps = Gaps::none();
+    }
+
+    /// What the receiver has to show of what it stands for: the needs that are not met, or else the whole
+    /// screen. Its time is that of `Receiver::guide`.
     pub fn guide(&self) -> Result<Heard, AllocError>
-        ensures { (past : List (List ℕ)) → StrictStandsFor past self.now
-            → IfOk result (λ heard. heard ≡ strict_guide_of past) }
+        ensures { (earlier : List (List (List ℕ))) (past : List (List ℕ))
+            → StrictStandsAfter earlier past self.now
+            → IfOk result (λ heard. heard ≡ strict_guide_after earlier past) }
     {
         self.receiver.guide()
+    }
+
+    /// The receiver that hears the packets.
+    pub fn receiver(&self) -> &Receiver
+        ensures { result.now ≡ self.now.receiver }
+    {
+        &self.receiver
     }
 
     // Whether a packet is a break on its PID.
     fn is_lost(&self, packet: &[u8; 188], shape: &Shape) -> bool
         requires { shape_in packet.now ≡ Ok shape.now }
-        ensures { (past : List (List ℕ)) → StrictStandsFor past self.now
-            → result ≡ is_lost past packet.now }
+        ensures { (earlier : List (List (List ℕ))) (past : List (List ℕ))
+            → StrictStandsAfter earlier past self.now → result ≡ is_lost past packet.now }
     {
         match *shape {
             Shape::Pass => false,
@@ -120,7 +145,8 @@ impl Strict {
     // Whether a load is a break on its PID.
     fn load_breaks(&self, packet: &[u8; 188], shape: &Shape) -> bool
         requires { shape_in packet.now ≡ Ok shape.now }
-        ensures { (past : List (List ℕ)) (l : Load) → StrictStandsFor past self.now
+        ensures { (earlier : List (List (List ℕ))) (past : List (List ℕ)) (l : Load)
+            → StrictStandsAfter earlier past self.now
             → arrival_on (pid_in packet.now) packet.now ≡ Some (Came l)
             → result ≡ is_lost past packet.now }
     {
@@ -142,8 +168,9 @@ fn pid_of(packet: &[u8; 188]) -> u16
 
 // Adds a mark of a PID, where packets of it were lost.
 fn forget_where(receiver: &mut Receiver, pid: u16, lost: bool)
-    ensures { (packets : List (List ℕ)) (taken : List Taken)
-        → ReceiverStandsOver packets taken receiver.old → ReceiverStandsOver packets
+    ensures { (earlier : List RawSection) (packets : List (List ℕ)) (taken : List Taken)
+        → ReceiverStandsAfter earlier packets taken receiver.old
+        → ReceiverStandsAfter earlier packets
         (taken ++ (if lost then Forgot pid ∷ [] else [])) receiver.new }
 {
     if lost {

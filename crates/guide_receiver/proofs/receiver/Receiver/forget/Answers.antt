@@ -1,14 +1,13 @@
-use Rattle.std.proofs.Common.{◌++◌, ◌∷◌, [], List, subst, sym}
+use Rattle.std.proofs.Common.{List, subst, sym}
 use Rattle.section_codec.specs.declared.table.Key.{Key}
-use Rattle.sub_collect.specs.Marks.{Taken.Forgot}
-use Rattle.guide_receiver.specs.Heard.{ReceiverStandsOver}
+use Rattle.guide_receiver.specs.Heard.{ReceiverStandsAfter}
 use Rattle.guide_receiver.specs.Latest.{kept_keys, AreLatest}
 use Rattle.guide_receiver.proofs.Over.{keys-forgot}
 use Rattle.guide_receiver.proofs.receiver.Receiver.forget.Goals as goal
 
 pub returns : goal.returns
-returns c = λ packets taken stands.
-    let kept = subst (ReceiverStandsOver packets taken) (sym c.self.view_is) stands in
+returns c = λ earlier packets taken stands.
+    let kept = subst (ReceiverStandsAfter earlier packets taken) (sym c.self.view_is) stands in
     record {
       sections = kept.sections;
       completions = c.forget.ensures.stands taken kept.completions;
