@@ -1,0 +1,6 @@
+pub mod Parts
+pub mod Holding
+pub mod PartScreen
+pub mod Heads
+pub mod Laws
+mod Rows

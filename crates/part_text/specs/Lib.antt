@@ -1,0 +1,2 @@
+pub mod PartTexts
+mod Rows
