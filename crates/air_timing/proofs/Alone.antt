@@ -5,7 +5,7 @@ use Rattle.std.proofs.Math.Path.{fun_ext}
 use Rattle.std.proofs.lemmas.Bool.{eqb-true, eqb-false}
 use Rattle.std.proofs.lemmas.List.{get_or-set_same, get_or-set_other}
 use Rattle.cycle_plan.specs.Packing.{Packing, used_at_end}
-use Rattle.air_timing.specs.Pacing.{Timed, first_of, last_of, taken_at, nulls_before}
+use Rattle.air_timing.specs.Pacing.{Timed, first_of, last_of, taken_at}
 use Rattle.air_timing.specs.PaceView.{Seen, seen_of, place_of, numbers, alone, AreOf, Puts}
 use Rattle.air_timing.specs.declared.pace.Paced.{Paced}
 use Rattle.air_timing.specs.declared.pace.Spacing.{Spacing}
@@ -20,10 +20,10 @@ same_numbers t x s spacing a = sym (
     ∙ ap (λ (n : ℕ). numbers s.pid s.len s.table spacing.gap n) a.least
     )
 
-pub puts_alone : (t : Timed) (x : ℕ) (s : Paced) (spacing : Spacing) (old new : Seen) (n : ℕ) → AreOf t x s spacing → Puts (alone s spacing) 0 old new n → Puts t x old new n
-puts_alone t x s spacing old new n a h =
-    let r = subst (λ (u : Timed). Puts u 0 old new n) (same_numbers t x s spacing a) h in
-    record { place = r.place; nulls = r.nulls }
+pub puts_alone : (t : Timed) (x : ℕ) (s : Paced) (spacing : Spacing) (old new : Seen) (first last : ℕ) → AreOf t x s spacing → Puts (alone s spacing) 0 old new first last → Puts t x old new first last
+puts_alone t x s spacing old new first last a h =
+    let r = subst (λ (u : Timed). Puts u 0 old new first last) (same_numbers t x s spacing a) h in
+    record { place = r.place; first_is = r.first_is; last_is = r.last_is }
 
 pub last_alone : (t : Timed) (x : ℕ) (s : Paced) (spacing : Spacing) (old : Seen) → AreOf t x s spacing → last_of (alone s spacing) (place_of old) 0 ≡ last_of t (place_of old) x
 last_alone t x s spacing old a = ap (λ (u : Timed). last_of u (place_of old) 0) (same_numbers t x s spacing a)
@@ -48,30 +48,30 @@ with_section p s last used free = record {
   spacing = p.spacing;
 }
 
--- the last packet of a section, the bytes of its first and of its last packet, the packet in which its sub-table is free again, and the null
--- packets before it
-pub record Numbers (s : Paced) (old : Seen) (last before used free nulls : ℕ) : Type 0 where
+-- the first and the last packet of a section, their bytes before and with it, and the packet in which its sub-table is free again
+pub record Numbers (s : Paced) (old : Seen) (first last before used free : ℕ) : Type 0 where
   pub table : s.table < length old.free
+  pub first_is : first ≡ first_of (alone s old.spacing) (place_of old) 0
   pub last_is : last ≡ last_of (alone s old.spacing) (place_of old) 0
   pub before_is : before ≡ taken_at (alone s old.spacing) (place_of old) 0
   pub used_is : used ≡ used_at_end (before + s.len)
   pub free_is : free ≡ last + 1 + old.spacing.gap
-  pub nulls_are : nulls ≡ nulls_before (alone s old.spacing) (place_of old) 0
 
-put_inside : (s : Paced) (p : Inside) (last before used free nulls : ℕ) → Numbers s (seen_of p) last before used free nulls
-    → Puts (alone s p.spacing) 0 (seen_of p) (with_section p s last used free) nulls
-put_inside s p last before used free nulls h =
+put_inside : (s : Paced) (p : Inside) (first last before used free : ℕ) → Numbers s (seen_of p) first last before used free
+    → Puts (alone s p.spacing) 0 (seen_of p) (with_section p s last used free) first last
+put_inside s p first last before used free h =
     let u : used ≡ used_at_end (taken_at (alone s p.spacing) (place_of (seen_of p)) 0 + s.len) = h.used_is ∙ ap (λ (n : ℕ). used_at_end (n + s.len)) h.before_is in
     let f : free ≡ last_of (alone s p.spacing) (place_of (seen_of p)) 0 + 1 + p.spacing.gap = h.free_is ∙ ap (λ (n : ℕ). n + 1 + p.spacing.gap) h.last_is in
     record {
       place = ap₂ (λ (q : Packing) (free : ℕ → ℕ). record { packing = q; free = free })
           (ap₂ (λ (n m : ℕ). record { closed = n; pid = s.pid; used = m }) h.last_is u)
           (fun_ext (λ k. free_with p.free.items s.table free k h.table ∙ ap (λ (n : ℕ). if k == s.table then n else slice_index_or p.free.items k 0) f));
-      nulls = h.nulls_are;
+      first_is = h.first_is;
+      last_is = h.last_is;
     }
 
-pub put_is : (s : Paced) (p : Inside) (old : Seen) → seen_of p ≡ old → (last before used free nulls : ℕ) → Numbers s old last before used free nulls
-    → (t : Timed) (x : ℕ) → AreOf t x s old.spacing → Puts t x old (with_section p s last used free) nulls
-put_is s p old e last before used free nulls h t x a =
-    puts_alone t x s old.spacing old (with_section p s last used free) nulls a
-    (subst (λ (q : Seen). Numbers s q last before used free nulls → Puts (alone s q.spacing) 0 q (with_section p s last used free) nulls) e (put_inside s p last before used free nulls) h)
+pub put_is : (s : Paced) (p : Inside) (old : Seen) → seen_of p ≡ old → (first last before used free : ℕ) → Numbers s old first last before used free
+    → (t : Timed) (x : ℕ) → AreOf t x s old.spacing → Puts t x old (with_section p s last used free) first last
+put_is s p old e first last before used free h t x a =
+    puts_alone t x s old.spacing old (with_section p s last used free) first last a
+    (subst (λ (q : Seen). Numbers s q first last before used free → Puts (alone s q.spacing) 0 q (with_section p s last used free) first last) e (put_inside s p first last before used free) h)

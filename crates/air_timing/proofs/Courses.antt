@@ -5,26 +5,34 @@ use Rattle.std.proofs.lemmas.Bool.{eqb-true, eqb-false, eq-eqb, ne_eqb, ltb-true
 use Rattle.std.proofs.lemmas.List.{drop_all, drop_more}
 use Rattle.std.proofs.Math.Nat.{suc-mod, mod_self, mod-lt, mod-eq_of_lt, zero-mod}
 use Rattle.cycle_plan.specs.Cutting.{joined}
-use Rattle.air_timing.specs.Pacing.{Place, paced_one, paced_all, first_of, last_of}
+use Rattle.air_timing.specs.declared.timing.Timing.{Timing}
+use Rattle.air_timing.specs.Pacing.{Timed, Place, timing_of, timings, paced_one, paced_all, first_of, last_of}
 use Rattle.air_timing.specs.Frames.{Rest, bare, led_at, in_part, in_next, rest_from, fits, order_of}
 use Rattle.air_timing.specs.PaceView.{Seen, place_of, AreOf, Puts}
-use Rattle.air_timing.specs.Plan.{Planned, section_at, timed_of, framed_of, lead_at, closing, order_in, plan_of, steps, PlansAreLong, next_lead, end_with, order_from}
+use Rattle.air_timing.specs.Plan.{Planned, section_at, timed_of, framed_of, lead_at, closing, order_in, plan_of, PlansAreLong, next_lead, end_with, order_from}
 use Rattle.air_timing.specs.declared.pace.Paced.{Paced}
 use Rattle.air_timing.specs.declared.pace.Spacing.{Spacing}
 use Rattle.air_timing.specs.PlanView.{Course, planned, lead_of, body_left, end_of, order_with, left_of, goes_on, goes, is_last, is_over, leads_on, IsPlan, CanCount, IsCourse}
 
 -- ---- a section is sent
 
-abbrev left_with : Planned → ℕ → ℕ → Bool → List ℕ → Place → List ℕ → List (ℕ × ℕ)
-left_with f i e fresh xs p l = steps (timed_of f) p (l ++ order_with f i e (paced_all (timed_of f) p l) fresh xs)
+abbrev at : ℕ → ℕ → ℕ → Timing
+at x first last = record { section = x; first = first; last = last }
+
+-- what is put in has its timing
+put_at : (t : Timed) (x : ℕ) (old new : Seen) (first last : ℕ) → Puts t x old new first last → timing_of t (place_of old) x ≡ at x first last
+put_at t x old new first last puts = ap₂ (λ (n m : ℕ). at x n m) (sym puts.first_is) (sym puts.last_is)
+
+abbrev left_with : Planned → ℕ → ℕ → Bool → List ℕ → Place → List ℕ → List Timing
+left_with f i e fresh xs p l = timings (timed_of f) p (l ++ order_with f i e (paced_all (timed_of f) p l) fresh xs)
 
 -- of a lead,
-pub lead_sent : (f g : Planned) (i e led : ℕ) (fresh : Bool) (xs lead : List ℕ) (old new : Seen) (x n : ℕ) → g ≡ f → Puts (timed_of f) x old new n → led < length lead → x ≡ slice_index_or lead led 0
-    → left_with f i e fresh xs (place_of old) (drop led lead) ≡ (n, x) ∷ left_with g i e fresh xs (place_of new) (drop (led + 1) lead)
-lead_sent f g i e led fresh xs lead old new x n same puts l at =
-    ap (left_with f i e fresh xs (place_of old)) (drop_more lead led 0 l ∙ ap (λ (y : ℕ). y ∷ drop (led + 1) lead) (sym at))
-    ∙ ap₂ (λ (m : ℕ) (p : Place). (m, x) ∷ left_with f i e fresh xs p (drop (led + 1) lead)) (sym puts.nulls) (sym puts.place)
-    ∙ ap (λ (h : Planned). (n, x) ∷ left_with h i e fresh xs (place_of new) (drop (led + 1) lead)) (sym same)
+pub lead_sent : (f g : Planned) (i e led : ℕ) (fresh : Bool) (xs lead : List ℕ) (old new : Seen) (x first last : ℕ) → g ≡ f → Puts (timed_of f) x old new first last → led < length lead → x ≡ slice_index_or lead led 0
+    → left_with f i e fresh xs (place_of old) (drop led lead) ≡ at x first last ∷ left_with g i e fresh xs (place_of new) (drop (led + 1) lead)
+lead_sent f g i e led fresh xs lead old new x first last same puts l is =
+    ap (left_with f i e fresh xs (place_of old)) (drop_more lead led 0 l ∙ ap (λ (y : ℕ). y ∷ drop (led + 1) lead) (sym is))
+    ∙ ap₂ (λ (s : Timing) (p : Place). s ∷ left_with f i e fresh xs p (drop (led + 1) lead)) (put_at (timed_of f) x old new first last puts) (sym puts.place)
+    ∙ ap (λ (h : Planned). at x first last ∷ left_with h i e fresh xs (place_of new) (drop (led + 1) lead)) (sym same)
 
 -- and of the body
 body_goes : (f : Planned) (i e : ℕ) (p : Place) (fresh : Bool) (x : ℕ) (xs : List ℕ) → goes_on f e p fresh (x ∷ xs) ≡ true → order_with f i e p fresh (x ∷ xs) ≡ x ∷ order_from f i e (paced_one (timed_of f) p x) xs
@@ -36,24 +44,24 @@ body_goes f i e p false x xs h =
     (paced_one (timed_of f) (paced_all (timed_of f) p (lead_at f.leads (next_lead f.leads i))) x) xs
     )) h
 
-pub body_sent : (f g : Planned) (i e led sent : ℕ) (fresh : Bool) (body lead : List ℕ) (old new : Seen) (x n : ℕ) → g ≡ f → Puts (timed_of f) x old new n → length lead ≤ led → sent < length body → x ≡ slice_index_or body sent 0
+pub body_sent : (f g : Planned) (i e led sent : ℕ) (fresh : Bool) (body lead : List ℕ) (old new : Seen) (x first last : ℕ) → g ≡ f → Puts (timed_of f) x old new first last → length lead ≤ led → sent < length body → x ≡ slice_index_or body sent 0
     → goes_on f e (place_of old) fresh (drop sent body) ≡ true
-    → left_with f i e fresh (drop sent body) (place_of old) (drop led lead) ≡ (n, x) ∷ left_with g i e false (drop (sent + 1) body) (place_of new) (drop led lead)
-body_sent f g i e led sent fresh body lead old new x n same puts over l at on =
+    → left_with f i e fresh (drop sent body) (place_of old) (drop led lead) ≡ at x first last ∷ left_with g i e false (drop (sent + 1) body) (place_of new) (drop led lead)
+body_sent f g i e led sent fresh body lead old new x first last same puts over l is on =
     let none : drop led lead ≡ [] = drop_all led lead over in
-    let here : drop sent body ≡ x ∷ drop (sent + 1) body = drop_more body sent 0 l ∙ ap (λ (y : ℕ). y ∷ drop (sent + 1) body) (sym at) in
+    let here : drop sent body ≡ x ∷ drop (sent + 1) body = drop_more body sent 0 l ∙ ap (λ (y : ℕ). y ∷ drop (sent + 1) body) (sym is) in
     let going = subst (λ (ys : List ℕ). goes_on f e (place_of old) fresh ys ≡ true) here on in
     ap₂ (λ (l ys : List ℕ). left_with f i e fresh ys (place_of old) l) none here
-    ∙ ap (steps (timed_of f) (place_of old)) (body_goes f i e (place_of old) fresh x (drop (sent + 1) body) going)
-    ∙ ap₂ (λ (m : ℕ) (p : Place). (m, x) ∷ left_with f i e false (drop (sent + 1) body) p []) (sym puts.nulls) (sym puts.place)
-    ∙ ap₂ (λ (h : Planned) (l : List ℕ). (n, x) ∷ left_with h i e false (drop (sent + 1) body) (place_of new) l) (sym same) (sym none)
+    ∙ ap (timings (timed_of f) (place_of old)) (body_goes f i e (place_of old) fresh x (drop (sent + 1) body) going)
+    ∙ ap₂ (λ (s : Timing) (p : Place). s ∷ left_with f i e false (drop (sent + 1) body) p []) (put_at (timed_of f) x old new first last puts) (sym puts.place)
+    ∙ ap₂ (λ (h : Planned) (l : List ℕ). at x first last ∷ left_with h i e false (drop (sent + 1) body) (place_of new) l) (sym same) (sym none)
 
-length-steps : (f : Planned) (p : Place) (xs : List ℕ) → length (steps (timed_of f) p xs) ≡ length xs
-length-steps f p [] = refl
-length-steps f p (x ∷ xs) = ap suc (length-steps f (paced_one (timed_of f) p x) xs)
+length-timings : (f : Planned) (p : Place) (xs : List ℕ) → length (timings (timed_of f) p xs) ≡ length xs
+length-timings f p [] = refl
+length-timings f p (x ∷ xs) = ap suc (length-timings f (paced_one (timed_of f) p x) xs)
 
 pub plans_are_long : PlansAreLong
-plans_are_long f p = length-steps f p (order_in f p)
+plans_are_long f p = length-timings f p (order_in f p)
 
 -- ---- a next frame
 
@@ -70,14 +78,14 @@ pub lead_begun : (f : Planned) (i e : ℕ) (p : Place) (fresh : Bool) (xs : List
     → left_with f (next_lead f.leads i) (end_with f p (lead_at f.leads (next_lead f.leads i))) true xs p (lead_at f.leads (next_lead f.leads i)) ≡ left_with f i e fresh xs p []
 lead_begun f i e p fresh [] l stays more =
     let n = next_in f.leads i more in
-    ap (λ (k : ℕ). steps (timed_of f) p (lead_at f.leads k ++ closing f.leads k)) n
-    ∙ ap (steps (timed_of f) p) (sym (closing_more f.leads i l more)) ∙ ap (steps (timed_of f) p) (any fresh)
+    ap (λ (k : ℕ). timings (timed_of f) p (lead_at f.leads k ++ closing f.leads k)) n
+    ∙ ap (timings (timed_of f) p) (sym (closing_more f.leads i l more)) ∙ ap (timings (timed_of f) p) (any fresh)
   where
     any : (b : Bool) → closing f.leads i ≡ order_with f i e p b []
     any true = refl
     any false = refl
 lead_begun f i e p true (x ∷ xs) l stays more = cc
-lead_begun f i e p false (x ∷ xs) l stays more = sym (ap (λ (b : Bool). steps (timed_of f) p (if b then x ∷ order_from f i e (paced_one (timed_of f) p x) xs
+lead_begun f i e p false (x ∷ xs) l stays more = sym (ap (λ (b : Bool). timings (timed_of f) p (if b then x ∷ order_from f i e (paced_one (timed_of f) p x) xs
     else lead_at f.leads (next_lead f.leads i) ++ x ∷ (
     order_from f (next_lead f.leads i) (end_with f p (lead_at f.leads (next_lead f.leads i)))
     (paced_one (timed_of f) (paced_all (timed_of f) p (lead_at f.leads (next_lead f.leads i))) x) xs
@@ -86,7 +94,7 @@ lead_begun f i e p false (x ∷ xs) l stays more = sym (ap (λ (b : Bool). steps
 -- ---- the end
 
 pub nothing_left : (f : Planned) (i e : ℕ) (p : Place) (fresh : Bool) (xs : List ℕ) → is_last f i xs ≡ true → left_with f i e fresh xs p [] ≡ []
-nothing_left f i e p fresh [] h = ap (steps (timed_of f) p) (go fresh)
+nothing_left f i e p fresh [] h = ap (timings (timed_of f) p) (go fresh)
   where
     none : closing f.leads i ≡ []
     none = ap joined (drop_all (suc i) f.leads (let s = eqb-true (suc i) (length f.leads) h in omega arith))
@@ -98,7 +106,7 @@ nothing_left f i e p fresh (x ∷ xs) h = cc
 
 -- ---- counts
 
-pub counts_on : (closed more : ℕ) (left rest : List (ℕ × ℕ)) (s : ℕ × ℕ) → CanCount closed left → left ≡ s ∷ rest → more ≤ closed + 8589934592 → CanCount more rest
+pub counts_on : (closed more : ℕ) (left rest : List Timing) (s : Timing) → CanCount closed left → left ≡ s ∷ rest → more ≤ closed + 8589934592 → CanCount more rest
 counts_on closed more left rest s h e m =
     let l = ap length e in
     omega arith
@@ -163,7 +171,7 @@ module _ (f : Planned) (some : 0 < length f.leads) where
   begins_whole p =
       let lead = lead_at f.leads (0 % length f.leads) in
       let r = rest_from (framed_of f) 0 (end_with f p lead) (paced_all (timed_of f) p lead) f.body in
-      ap (steps (timed_of f) p) (
+      ap (timings (timed_of f) p) (
       ap (λ (i : ℕ). lead_at f.leads i ++ order_from f i (end_with f p (lead_at f.leads i)) (paced_all (timed_of f) p (lead_at f.leads i)) f.body) (sym (zero-mod (length f.leads)))
       ∙ ap (λ (l : List ℕ). lead ++ l) (frames_order 0 (end_with f p lead) (paced_all (timed_of f) p lead) f.body)
       ∙ sym (append_assoc lead r.part (order_of (framed_of f) r.frames))
@@ -218,8 +226,8 @@ begins c is off stays more i at = subst (λ (k : ℕ). Begins c (record { plan =
     counted = subst (CanCount c.seen.packing.closed) (sym same) is.count
 
 -- a pace that has sent a section of a course, and the course after it
-pub record IsSent (c : Course) (new : Seen) (x n : ℕ) : Type 0 where
-  pub puts : Puts (timed_of c.plan) x c.seen new n
+pub record IsSent (c : Course) (new : Seen) (x first last : ℕ) : Type 0 where
+  pub puts : Puts (timed_of c.plan) x c.seen new first last
   pub tables : length new.free ≡ length c.seen.free
   pub spacing : new.spacing ≡ c.plan.spacing
   pub most : new.packing.closed ≤ c.seen.packing.closed + 8589934592
@@ -240,44 +248,44 @@ plan_on f spacing tables more e is = record {
   span_is = is.span_is;
 }
 
-pub record Sends (c new : Course) (x n : ℕ) : Type 0 where
-  pub left : left_of c ≡ (n, x) ∷ left_of new
+pub record Sends (c new : Course) (x first last : ℕ) : Type 0 where
+  pub left : left_of c ≡ at x first last ∷ left_of new
   pub is : IsCourse new
 
 -- of a lead,
-pub sends_lead : (c : Course) (new : Seen) (x n end : ℕ) → IsCourse c → leads_on c ≡ true → x ≡ slice_index (lead_of c) c.led → end ≡ end_of c → IsSent c new x n
-    → Sends c (record { plan = replanned c.plan new.spacing; seen = new; lead = c.lead; led = c.led + 1; sent = c.sent; end = end; fresh = c.fresh }) x n
-sends_lead c new x n end is on at e sent =
+pub sends_lead : (c : Course) (new : Seen) (x first last end : ℕ) → IsCourse c → leads_on c ≡ true → x ≡ slice_index (lead_of c) c.led → end ≡ end_of c → IsSent c new x first last
+    → Sends c (record { plan = replanned c.plan new.spacing; seen = new; lead = c.lead; led = c.led + 1; sent = c.sent; end = end; fresh = c.fresh }) x first last
+sends_lead c new x first last end is on here e sent =
     let f = c.plan in
     let lead = lead_of c in
     let g = replanned f new.spacing in
-    let left : left_of c ≡ (n, x) ∷ left_with g c.lead (end_of c) c.fresh (body_left c) (place_of new) (drop (c.led + 1) lead) =
-    lead_sent f g c.lead (end_of c) c.led c.fresh (body_left c) lead c.seen new x n (same_plan f new.spacing sent.spacing) sent.puts (ltb-true c.led (length lead) on) at in
+    let left : left_of c ≡ at x first last ∷ left_with g c.lead (end_of c) c.fresh (body_left c) (place_of new) (drop (c.led + 1) lead) =
+    lead_sent f g c.lead (end_of c) c.led c.fresh (body_left c) lead c.seen new x first last (same_plan f new.spacing sent.spacing) sent.puts (ltb-true c.led (length lead) on) here in
     let again : end_of c ≡ (if c.led + 1 == 0 then end_with g (place_of new) lead else end) = sym (end_past (c.led + 1) (end_with g (place_of new) lead) end (omega arith) ∙ e) in
-    let whole = left ∙ ap (λ (m : ℕ). (n, x) ∷ left_with g c.lead m c.fresh (body_left c) (place_of new) (drop (c.led + 1) lead)) again in
+    let whole = left ∙ ap (λ (m : ℕ). at x first last ∷ left_with g c.lead m c.fresh (body_left c) (place_of new) (drop (c.led + 1) lead)) again in
     record {
       left = whole;
-      is = record { plan = plan_on f new.spacing (length c.seen.free) (length new.free) sent.tables is.plan; lead = is.lead; count = counts_on c.seen.packing.closed new.packing.closed (left_of c) _ (n, x) is.count whole sent.most };
+      is = record { plan = plan_on f new.spacing (length c.seen.free) (length new.free) sent.tables is.plan; lead = is.lead; count = counts_on c.seen.packing.closed new.packing.closed (left_of c) _ (at x first last) is.count whole sent.most };
     }
 
 -- and of the body
-pub sends_body : (c : Course) (new : Seen) (x n : ℕ) → IsCourse c → leads_on c ≡ false → goes c ≡ true → c.sent < length c.plan.body → x ≡ slice_index c.plan.body c.sent → IsSent c new x n
-    → Sends c (record { plan = replanned c.plan new.spacing; seen = new; lead = c.lead; led = c.led; sent = c.sent + 1; end = c.end; fresh = false }) x n
-sends_body c new x n is off on l at sent =
+pub sends_body : (c : Course) (new : Seen) (x first last : ℕ) → IsCourse c → leads_on c ≡ false → goes c ≡ true → c.sent < length c.plan.body → x ≡ slice_index c.plan.body c.sent → IsSent c new x first last
+    → Sends c (record { plan = replanned c.plan new.spacing; seen = new; lead = c.lead; led = c.led; sent = c.sent + 1; end = c.end; fresh = false }) x first last
+sends_body c new x first last is off on l here sent =
     let f = c.plan in
     let lead = lead_of c in
     let g = replanned f new.spacing in
     let led = is_led c is off in
     let some = is.plan.some c.lead is.lead in
     let most = led.most in
-    let left : left_of c ≡ (n, x) ∷ left_with g c.lead c.end false (drop (c.sent + 1) f.body) (place_of new) (drop c.led lead) =
+    let left : left_of c ≡ at x first last ∷ left_with g c.lead c.end false (drop (c.sent + 1) f.body) (place_of new) (drop c.led lead) =
     ap (λ (m : ℕ). left_with f c.lead m c.fresh (body_left c) (place_of c.seen) (drop c.led lead)) led.end_is
-    ∙ body_sent f g c.lead c.end c.led c.sent c.fresh f.body lead c.seen new x n (same_plan f new.spacing sent.spacing) sent.puts led.most l at on in
+    ∙ body_sent f g c.lead c.end c.led c.sent c.fresh f.body lead c.seen new x first last (same_plan f new.spacing sent.spacing) sent.puts led.most l here on in
     let again : c.end ≡ (if c.led == 0 then end_with g (place_of new) lead else c.end) = sym (end_past c.led (end_with g (place_of new) lead) c.end (omega arith)) in
-    let whole = left ∙ ap (λ (m : ℕ). (n, x) ∷ left_with g c.lead m false (drop (c.sent + 1) f.body) (place_of new) (drop c.led lead)) again in
+    let whole = left ∙ ap (λ (m : ℕ). at x first last ∷ left_with g c.lead m false (drop (c.sent + 1) f.body) (place_of new) (drop c.led lead)) again in
     record {
       left = whole;
-      is = record { plan = plan_on f new.spacing (length c.seen.free) (length new.free) sent.tables is.plan; lead = is.lead; count = counts_on c.seen.packing.closed new.packing.closed (left_of c) _ (n, x) is.count whole sent.most };
+      is = record { plan = plan_on f new.spacing (length c.seen.free) (length new.free) sent.tables is.plan; lead = is.lead; count = counts_on c.seen.packing.closed new.packing.closed (left_of c) _ (at x first last) is.count whole sent.most };
     }
 
 -- at the end nothing is left

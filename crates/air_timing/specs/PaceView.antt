@@ -1,7 +1,7 @@
 -- What contracts see of a pace.
 use Rattle.std.specs.Prelude.{◌≡◌, ℕ, ◌+◌, ◌<◌, ◌≤◌, List, slice_index_or}
 use Rattle.cycle_plan.specs.Packing.{Packing}
-use Rattle.air_timing.specs.Pacing.{Timed, Place, paced_one, nulls_before}
+use Rattle.air_timing.specs.Pacing.{Timed, Place, first_of, last_of, paced_one}
 use Rattle.air_timing.specs.declared.pace.Paced.{Paced}
 use Rattle.air_timing.specs.declared.pace.Spacing.{Spacing}
 use Rattle.air_timing.specs.declared.pace.Pace.TheInside.{Inside}
@@ -50,7 +50,8 @@ pub record AreOf (t : Timed) (x : ℕ) (s : Paced) (spacing : Spacing) : Type 0 
   pub gap : t.gap ≡ spacing.gap
   pub least : t.least ≡ spacing.least
 
--- A section was put in after n null packets.
-pub record Puts (t : Timed) (x : ℕ) (old new : Seen) (n : ℕ) : Type 0 where
+-- A section was put in, from its first packet to its last.
+pub record Puts (t : Timed) (x : ℕ) (old new : Seen) (first last : ℕ) : Type 0 where
   pub place : place_of new ≡ paced_one t (place_of old) x
-  pub nulls : n ≡ nulls_before t (place_of old) x
+  pub first_is : first ≡ first_of t (place_of old) x
+  pub last_is : last ≡ last_of t (place_of old) x

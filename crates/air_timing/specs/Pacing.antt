@@ -4,6 +4,7 @@ use Rattle.std.specs.Prelude.{◌≡◌, ℕ, ◌+◌, ◌-◌, ◌*◌, ◌<◌
 use Rattle.std.specs.List.{AllByRecursion}
 use Rattle.ts_packets.specs.Packets.{packets_of}
 use Rattle.cycle_plan.specs.Cutting.{packets_in}
+use Rattle.air_timing.specs.declared.timing.Timing.{Timing}
 use Rattle.cycle_plan.specs.Packing.{Packing, begun_at, need_of, begins_needing, taken_needing, packed_needing, packets_so_far}
 
 -- What is sent: of each section its PID, its bytes, and its sub-table as a number. `gap` whole
@@ -77,12 +78,7 @@ abbrev pub paced_all : Timed → Place → List ℕ → Place
 paced_all t p [] = p
 paced_all t p (x ∷ xs) = paced_all t (paced_one t p x) xs
 
--- a section, with its first and its last packet
-pub record Timing : Type 0 where
-  pub section : ℕ
-  pub first : ℕ
-  pub last : ℕ
-
+-- of a section
 abbrev pub timing_of : Timed → Place → ℕ → Timing
 timing_of t p x = record { section = x; first = first_of t p x; last = last_of t p x }
 

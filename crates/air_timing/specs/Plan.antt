@@ -1,10 +1,11 @@
--- The plan of a cycle in frames: its sections in the order in which they are sent, and the null
--- packets before each.
+-- The plan of a cycle in frames: its sections in the order in which they are sent, each with its
+-- first and its last packet.
 use Rattle.std.specs.Prelude.{◌≡◌, ℕ, suc, ◌+◌, ◌-◌, ◌%◌, List, [], ◌∷◌, ◌++◌, ◌==◌, if◌then◌else◌, length, drop, slice_index_or}
 use Rattle.cycle_plan.specs.Cutting.{joined}
 use Rattle.air_timing.specs.declared.pace.Paced.{Paced}
 use Rattle.air_timing.specs.declared.pace.Spacing.{Spacing}
-use Rattle.air_timing.specs.Pacing.{Timed, Place, paced_one, paced_all, nulls_before}
+use Rattle.air_timing.specs.declared.timing.Timing.{Timing}
+use Rattle.air_timing.specs.Pacing.{Timed, Place, timings, paced_one, paced_all}
 use Rattle.air_timing.specs.Frames.{Framed, Frame, start_of, fits, frames_of, order_of}
 
 -- What a cycle is planned by: its sections, each named by its place here; the leads of a round,
@@ -52,17 +53,13 @@ frames_in f p = frames_of (framed_of f) 0 p f.body
 abbrev pub order_in : Planned → Place → List ℕ
 order_in f p = order_of (framed_of f) (frames_in f p)
 
--- each section with the null packets before it
-abbrev pub steps : Timed → Place → List ℕ → List (ℕ × ℕ)
-steps t p [] = []
-steps t p (x ∷ xs) = (nulls_before t p x, x) ∷ steps t (paced_one t p x) xs
-
-abbrev pub plan_of : Planned → Place → List (ℕ × ℕ)
-plan_of f p = steps (timed_of f) p (order_in f p)
+-- each section with its packets
+abbrev pub plan_of : Planned → Place → List Timing
+plan_of f p = timings (timed_of f) p (order_in f p)
 
 -- ---- laws
 
--- a plan has as many steps as its order has sections
+-- a plan has as many timings as its order has sections
 abbrev pub PlansAreLong : Type 0
 PlansAreLong = (f : Planned) (p : Place) → length (plan_of f p) ≡ length (order_in f p)
 

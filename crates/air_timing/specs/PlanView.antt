@@ -1,9 +1,10 @@
 -- What contracts see of a frame plan.
 use Rattle.std.specs.Prelude.{ℕ, ◌+◌, ◌*◌, ◌<◌, ◌≤◌, List, [], ◌∷◌, ◌++◌, Bool, true, false, ◌||◌, ◌==◌, if◌then◌else◌, suc, nat_lt, length, drop, slice_index}
-use Rattle.air_timing.specs.Pacing.{Place, paced_one, paced_all}
+use Rattle.air_timing.specs.declared.timing.Timing.{Timing}
+use Rattle.air_timing.specs.Pacing.{Place, timings, paced_one, paced_all}
 use Rattle.air_timing.specs.Frames.{fits}
 use Rattle.air_timing.specs.PaceView.{Seen, place_of}
-use Rattle.air_timing.specs.Plan.{Planned, section_at, timed_of, framed_of, lead_at, closing, end_with, order_from, steps}
+use Rattle.air_timing.specs.Plan.{Planned, section_at, timed_of, framed_of, lead_at, closing, end_with, order_from}
 use Rattle.air_timing.specs.declared.pace.Paced.{Paced}
 use Rattle.air_timing.specs.declared.pace.Spacing.{Spacing}
 use Rattle.air_timing.specs.declared.plan.FramePlan.TheInside.{Inside}
@@ -59,10 +60,10 @@ order_with f i end p false xs = order_from f i end p xs
 order_with f i end p true [] = closing f.leads i
 order_with f i end p true (x ∷ xs) = x ∷ order_from f i end (paced_one (timed_of f) p x) xs
 
--- what is still to come of a cycle: each section with the null packets before it
-abbrev pub left_of : Course → List (ℕ × ℕ)
+-- what is still to come of a cycle: each section with its packets
+abbrev pub left_of : Course → List Timing
 left_of c =
-    steps (timed_of c.plan) (place_of c.seen) (
+    timings (timed_of c.plan) (place_of c.seen) (
     lead_left c
     ++ order_with c.plan c.lead (end_of c)
     (paced_all (timed_of c.plan) (place_of c.seen) (lead_left c)) c.fresh (body_left c)
@@ -101,9 +102,9 @@ pub record IsPlan (f : Planned) (tables : ℕ) : Type 0 where
   pub body_is : (k : ℕ) → k < length f.body → slice_index f.body k < length f.sections
   pub span_is : f.span < 4611686018427387904
 
--- The packets so far are so few that those of all steps to come can be counted: each step has less
--- than 2 ^ 33, with its null packets.
-abbrev pub CanCount : ℕ → List (ℕ × ℕ) → Type 0
+-- The packets so far are so few that those of all sections to come can be counted: each has less than
+-- 2 ^ 33, with the null packets before it.
+abbrev pub CanCount : ℕ → List Timing → Type 0
 CanCount closed left = closed + length left * 8589934592 < 4611686018427387904
 
 pub record IsCourse (c : Course) : Type 0 where

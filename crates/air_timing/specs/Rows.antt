@@ -1,10 +1,11 @@
 -- Worked timings, frames, rates and spans. The packets of the timings and frames are those of a
 -- walk that lays the bytes of these sections into packets one at a time; it has no arithmetic of
 -- packings.
-use Rattle.std.specs.Prelude.{◌≡◌, ℕ, zero, suc, List, [], ◌∷◌, Bool, true, false, Option, None, Some, slice_index, map, nat_le, refl}
+use Rattle.std.specs.Prelude.{◌≡◌, ℕ, zero, suc, List, [], ◌∷◌, ◌++◌, Bool, true, false, Option, None, Some, slice_index, map, nat_le, refl}
 use Rattle.air_timing.specs.declared.pace.Paced.{Paced}
 use Rattle.air_timing.specs.declared.span.Leads.{Leads}
-use Rattle.air_timing.specs.Pacing.{Timed, place_at, Timing, timings, nulls_in}
+use Rattle.air_timing.specs.declared.timing.Timing.{Timing}
+use Rattle.air_timing.specs.Pacing.{Timed, place_at, timings, nulls_in}
 use Rattle.air_timing.specs.Spreading.{spread}
 use Rattle.air_timing.specs.Frames.{Framed, frames_of, begin_of, order_of}
 use Rattle.air_timing.specs.Turns.{often_of, round_of, turn_of}
@@ -194,10 +195,11 @@ planned_row gap span body = record {
 
 -- with a gap of four packets the second PAT waits for one null packet
 row_plan : plan_of (planned_row 4 4 (3 ∷ 4 ∷ 5 ∷ 6 ∷ [])) (place_at 4)
-    ≡ (0, 0) ∷ (0, 1) ∷ (0, 3) ∷ (0, 4) ∷ (1, 0) ∷ (0, 2) ∷ (0, 5) ∷ (0, 6) ∷ []
+    ≡ (at 0 4 4 ∷ at 1 5 5 ∷ at 3 6 6 ∷ at 4 7 7 ∷ [])
+    ++ (at 0 9 9 ∷ at 2 10 10 ∷ at 5 11 11 ∷ at 6 12 12 ∷ [])
 row_plan = refl
 
 -- a body that ends in the first frame is followed by the other lead
 row_closed : plan_of (planned_row 4 40 (3 ∷ [])) (place_at 4)
-    ≡ (0, 0) ∷ (0, 1) ∷ (0, 3) ∷ (2, 0) ∷ (0, 2) ∷ []
+    ≡ at 0 4 4 ∷ at 1 5 5 ∷ at 3 6 6 ∷ at 0 9 9 ∷ at 2 10 10 ∷ []
 row_closed = refl

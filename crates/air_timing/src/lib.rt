@@ -14,8 +14,8 @@
 //! Spread sections are a permutation that keeps the order of each sub-table (`spread_keeps_order`).
 //! Each section of a Fast sub-table stands in a lead of a round (`each_has_turn`).
 //!
-//! `FramePlan` gives the sections of a cycle one after the other, each with the null packets before
-//! it (`specs/Plan.antt`), over a `Pace`, which knows where the air has come to. `gap_at`,
+//! `FramePlan` gives the sections of a cycle one after the other, each with its first and its last
+//! packet (`specs/Plan.antt`), over a `Pace`, which knows where the air has come to. `gap_at`,
 //! `half_second` and `span_at` are the packets of a bit rate, and `turn_of` the section of a
 //! sub-table in a lead.
 //!
@@ -26,13 +26,15 @@ mod laws;
 mod pace;
 mod plan;
 mod span;
+mod timing;
 mod turns;
 
 pub use laws::{
     each_has_turn, frames_are_near, frames_are_whole, gaps_are_kept, spans_are_right,
     spread_keeps_order, waits_are_short,
 };
-pub use pace::{Pace, Paced, Spacing};
+pub use pace::{Extent, Pace, Paced, Spacing};
 pub use plan::FramePlan;
 pub use span::{Leads, Span, gap_at, half_second, span_at};
+pub use timing::Timing;
 pub use turns::{often_of, round_of, turn_of};

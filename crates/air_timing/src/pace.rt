@@ -1,7 +1,7 @@
 // Where an air has come to, section by section.
 ghost use Rattle.std.specs.Prelude.{◌≡◌, ◌+◌, ◌^◌, ◌<◌, ◌≤◌, ℕ, IfOk, length, replicate, slice_index_or};
-ghost use Rattle.cycle_plan.specs.Packing.{begun_at, need_of, has_room_needing, taken_needing, used_at_end, packets_so_far};
-ghost use Rattle.air_timing.specs.Pacing.{Timed, begins_in, is_free_at, first_of, taken_at, last_of, nulls_before};
+ghost use Rattle.cycle_plan.specs.Packing.{begun_at, need_of, has_room_needing, taken_needing, used_at_end};
+ghost use Rattle.air_timing.specs.Pacing.{Timed, begins_in, is_free_at, first_of, taken_at, last_of};
 ghost use Rattle.air_timing.specs.PaceView.{AreOf, Puts, place_of, alone};
 
 use std::alloc::{AllocError, Global};
@@ -21,6 +21,13 @@ pub struct Paced {
 pub struct Spacing {
     pub gap: u32,
     pub least: u16,
+}
+
+/// The packets that have the first and the last byte of a section.
+#[derive(Clone, Copy)]
+pub struct Extent {
+    pub first: u64,
+    pub last: u64,
 }
 
 /// The packets that are closed, what the packet begun has, and of each sub-table the first packet
@@ -67,19 +74,19 @@ impl Pace {
         })
     }
 
-    /// Puts a section in, after as few null packets as the gap asks for, and gives their number. It
-    /// takes no memory, and constant time.
-    pub fn put(&mut self, section: Paced) -> u64
+    /// Puts a section in, after as few null packets as the gap asks for, and gives its first and its
+    /// last packet. It takes no memory, and constant time.
+    pub fn put(&mut self, section: Paced) -> Extent
         requires table { section.table < length self.old.free }
         requires len { section.len ≤ 4096 }
         requires closed { self.old.packing.closed < 2 ^ 62 }
         ensures puts { (t : Timed) (x : ℕ) → AreOf t x section self.old.spacing
-            → Puts t x self.old self.new result }
+            → Puts t x self.old self.new result.first result.last }
         ensures tables { length self.new.free ≡ length self.old.free }
         ensures spacing { self.new.spacing ≡ self.old.spacing }
         ensures most { self.new.packing.closed ≤ self.old.packing.closed + 2 ^ 33 }
     {
-        let nulls = self.nulls(section);
+        let first = self.first_packet(section);
         let last = self.last_packet(section);
         let used = used_at_end(self.before(section) + section.len);
         let free = last + 1 + u64::from(self.spacing.gap);
@@ -87,7 +94,7 @@ impl Pace {
         self.pid = section.pid;
         self.used = used;
         self.free[section.table as usize] = free;
-        nulls
+        Extent { first, last }
     }
 
     /// The packet in which a section would begin, were it put in next.
@@ -152,19 +159,6 @@ impl Pace {
         }
     }
 
-    // and the null packets before it.
-    fn nulls(&self, section: Paced) -> u64
-        requires table { section.table < length self.now.free }
-        requires closed { self.now.packing.closed < 2 ^ 62 }
-        ensures { result ≡ nulls_before (alone section self.now.spacing) (place_of self.now) 0 }
-    {
-        if self.is_free(section) {
-            0
-        } else {
-            self.free_from(section) - self.so_far()
-        }
-    }
-
     fn is_free(&self, section: Paced) -> bool
         requires table { section.table < length self.now.free }
         requires closed { self.now.packing.closed < 2 ^ 62 }
@@ -213,18 +207,6 @@ impl Pace {
     {
         let need = self.spacing.least.min(section.len);
         self.pid == section.pid && self.used < 184u16.saturating_sub(need)
-    }
-
-    fn so_far(&self) -> u64
-        requires { self.now.packing.closed < 2 ^ 62 }
-        ensures value { result ≡ packets_so_far self.now.packing }
-        ensures most { result ≤ self.now.packing.closed + 1 }
-    {
-        if self.used == 0 {
-            self.closed
-        } else {
-            self.closed + 1
-        }
     }
 }
 

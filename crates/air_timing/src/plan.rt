@@ -5,11 +5,12 @@ ghost use Rattle.air_timing.specs.Plan.{section_at, plan_of};
 ghost use Rattle.air_timing.specs.PlanView.{planned, lead_of, end_of, left_of, leads_on, goes, is_over, IsPlan, CanCount};
 
 use crate::pace::{Pace, Paced};
+use crate::timing::Timing;
 use si_base::Items;
 use std::marker::Model;
 
 /// What is still to come of one cycle in frames: its sections, each named by its place among those
-/// that were given, with the null packets before each.
+/// that were given, with its first and its last packet.
 #[derive(Drop)]
 pub struct FramePlan {
     sections: Vec<Paced>,
@@ -70,9 +71,9 @@ impl FramePlan {
         }
     }
 
-    /// The null packets before the next section of the cycle, and the section, or None exactly at
-    /// its end. It takes no memory, and constant time.
-    pub fn next(&mut self) -> Option<(u64, usize)>
+    /// The next section of the cycle with its first and its last packet, or None exactly at its end.
+    /// It takes no memory, and constant time.
+    pub fn next(&mut self) -> Option<Timing>
         ensures some { IfSome result (λ s. left_of self.old ≡ s ∷ left_of self.new) }
         ensures none { IfNone result ((left_of self.old ≡ []) × (left_of self.new ≡ [])) }
     {
@@ -104,30 +105,38 @@ impl FramePlan {
     }
 
     // The next section of the lead is sent.
-    fn send_lead(&mut self) -> (u64, usize)
+    fn send_lead(&mut self) -> Timing
         requires { leads_on self.old ≡ true }
         ensures { left_of self.old ≡ result ∷ left_of self.new }
     {
         let index = self.lead_section();
         let section = self.section(index);
         self.end = self.frame_end(section);
-        let nulls = self.pace.put(section);
+        let extent = self.pace.put(section);
         self.led += 1;
-        (nulls, index)
+        Timing {
+            section: index,
+            first: extent.first,
+            last: extent.last,
+        }
     }
 
     // The next section of the body is sent.
-    fn send_body(&mut self) -> (u64, usize)
+    fn send_body(&mut self) -> Timing
         requires lead { leads_on self.old ≡ false }
         requires goes { goes self.old ≡ true }
         ensures { left_of self.old ≡ result ∷ left_of self.new }
     {
         let index = self.body_section();
         let section = self.section(index);
-        let nulls = self.pace.put(section);
+        let extent = self.pace.put(section);
         self.sent += 1;
         self.fresh = false;
-        (nulls, index)
+        Timing {
+            section: index,
+            first: extent.first,
+            last: extent.last,
+        }
     }
 
     // whether a section of the lead at hand is to come

@@ -13,13 +13,13 @@ invariant_of-self c =
     let on = subst (λ (q : Course). goes q ≡ true) (sym c.self.view_is) c.requires.goes in
     let at = subst (λ (q : Course). x ≡ slice_index q.plan.body q.sent) (sym c.self.view_is) c.body_section-index.ensures.value in
     let section = subst (λ (q : Course). c.section-section.result ≡ section_at q.plan.sections x) (sym c.self.view_is) c.section-section.ensures.section in
-    let sent : IsSent p c.put-nulls.new.self x c.put-nulls.result = record {
-      puts = c.put-nulls.ensures.puts (timed_of p.plan) x (are_of p.plan x c.section-section.result section);
-      tables = c.put-nulls.ensures.tables;
-      spacing = c.put-nulls.ensures.spacing;
-      most = c.put-nulls.ensures.most;
+    let sent : IsSent p c.put-extent.new.self x c.put-extent.result.first c.put-extent.result.last = record {
+      puts = c.put-extent.ensures.puts (timed_of p.plan) x (are_of p.plan x c.section-section.result section);
+      tables = c.put-extent.ensures.tables;
+      spacing = c.put-extent.ensures.spacing;
+      most = c.put-extent.ensures.most;
     } in
-    let s = sends_body p c.put-nulls.new.self x c.put-nulls.result c.self.invariant off on (goes_sent p on) at sent in
+    let s = sends_body p c.put-extent.new.self x c.put-extent.result.first c.put-extent.result.last c.self.invariant off on (goes_sent p on) at sent in
     s.is
 
 pub returns : goal.returns
@@ -30,11 +30,11 @@ returns c =
     let on = subst (λ (q : Course). goes q ≡ true) (sym c.self.view_is) c.requires.goes in
     let at = subst (λ (q : Course). x ≡ slice_index q.plan.body q.sent) (sym c.self.view_is) c.body_section-index.ensures.value in
     let section = subst (λ (q : Course). c.section-section.result ≡ section_at q.plan.sections x) (sym c.self.view_is) c.section-section.ensures.section in
-    let sent : IsSent p c.put-nulls.new.self x c.put-nulls.result = record {
-      puts = c.put-nulls.ensures.puts (timed_of p.plan) x (are_of p.plan x c.section-section.result section);
-      tables = c.put-nulls.ensures.tables;
-      spacing = c.put-nulls.ensures.spacing;
-      most = c.put-nulls.ensures.most;
+    let sent : IsSent p c.put-extent.new.self x c.put-extent.result.first c.put-extent.result.last = record {
+      puts = c.put-extent.ensures.puts (timed_of p.plan) x (are_of p.plan x c.section-section.result section);
+      tables = c.put-extent.ensures.tables;
+      spacing = c.put-extent.ensures.spacing;
+      most = c.put-extent.ensures.most;
     } in
-    let s = sends_body p c.put-nulls.new.self x c.put-nulls.result c.self.invariant off on (goes_sent p on) at sent in
+    let s = sends_body p c.put-extent.new.self x c.put-extent.result.first c.put-extent.result.last c.self.invariant off on (goes_sent p on) at sent in
     sym (ap left_of c.self.view_is) ∙ s.left

@@ -12,13 +12,13 @@ invariant_of-self c =
     let on = subst (λ (q : Course). leads_on q ≡ true) (sym c.self.view_is) c.requires in
     let at = subst (λ (q : Course). x ≡ slice_index (lead_of q) q.led) (sym c.self.view_is) c.lead_section-index.ensures.value in
     let section = subst (λ (q : Course). c.section-section.result ≡ section_at q.plan.sections x) (sym c.self.view_is) c.section-section.ensures.section in
-    let sent : IsSent p c.put-nulls.new.self x c.put-nulls.result = record {
-      puts = c.put-nulls.ensures.puts (timed_of p.plan) x (are_of p.plan x c.section-section.result section);
-      tables = c.put-nulls.ensures.tables;
-      spacing = c.put-nulls.ensures.spacing;
-      most = c.put-nulls.ensures.most;
+    let sent : IsSent p c.put-extent.new.self x c.put-extent.result.first c.put-extent.result.last = record {
+      puts = c.put-extent.ensures.puts (timed_of p.plan) x (are_of p.plan x c.section-section.result section);
+      tables = c.put-extent.ensures.tables;
+      spacing = c.put-extent.ensures.spacing;
+      most = c.put-extent.ensures.most;
     } in
-    let s = sends_lead p c.put-nulls.new.self x c.put-nulls.result c.frame_end-self-inside.result c.self.invariant on at (c.frame_end-self-inside.ensures ∙ sym (ap end_of c.self.view_is)) sent in
+    let s = sends_lead p c.put-extent.new.self x c.put-extent.result.first c.put-extent.result.last c.frame_end-self-inside.result c.self.invariant on at (c.frame_end-self-inside.ensures ∙ sym (ap end_of c.self.view_is)) sent in
     s.is
 
 pub returns : goal.returns
@@ -28,11 +28,11 @@ returns c =
     let on = subst (λ (q : Course). leads_on q ≡ true) (sym c.self.view_is) c.requires in
     let at = subst (λ (q : Course). x ≡ slice_index (lead_of q) q.led) (sym c.self.view_is) c.lead_section-index.ensures.value in
     let section = subst (λ (q : Course). c.section-section.result ≡ section_at q.plan.sections x) (sym c.self.view_is) c.section-section.ensures.section in
-    let sent : IsSent p c.put-nulls.new.self x c.put-nulls.result = record {
-      puts = c.put-nulls.ensures.puts (timed_of p.plan) x (are_of p.plan x c.section-section.result section);
-      tables = c.put-nulls.ensures.tables;
-      spacing = c.put-nulls.ensures.spacing;
-      most = c.put-nulls.ensures.most;
+    let sent : IsSent p c.put-extent.new.self x c.put-extent.result.first c.put-extent.result.last = record {
+      puts = c.put-extent.ensures.puts (timed_of p.plan) x (are_of p.plan x c.section-section.result section);
+      tables = c.put-extent.ensures.tables;
+      spacing = c.put-extent.ensures.spacing;
+      most = c.put-extent.ensures.most;
     } in
-    let s = sends_lead p c.put-nulls.new.self x c.put-nulls.result c.frame_end-self-inside.result c.self.invariant on at (c.frame_end-self-inside.ensures ∙ sym (ap end_of c.self.view_is)) sent in
+    let s = sends_lead p c.put-extent.new.self x c.put-extent.result.first c.put-extent.result.last c.frame_end-self-inside.result c.self.invariant on at (c.frame_end-self-inside.ensures ∙ sym (ap end_of c.self.view_is)) sent in
     sym (ap left_of c.self.view_is) ∙ s.left

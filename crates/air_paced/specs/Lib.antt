@@ -1,0 +1,12 @@
+pub mod SubTables
+pub mod Leads
+pub mod Planning
+pub mod Clock
+pub mod Places
+pub mod Cycle
+pub mod OnAir
+pub mod Airs
+pub mod Apart
+pub mod Times
+pub mod Again
+pub mod Rows
