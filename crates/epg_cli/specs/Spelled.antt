@@ -2,7 +2,7 @@
 use Rattle.headend_live.specs.declared.watched.LivePlan.{LivePlan}
 use Rattle.std.specs.Prelude.{◌≡◌, ℕ, Bool, true, false, List, None, Some, String}
 use Rattle.command_words.specs.Commands.{texts}
-use Rattle.command_words.specs.Grammar.{Audit, Listen, Live, Play, Soak, command_of}
+use Rattle.command_words.specs.Grammar.{ListenOptions, Audit, Listen, Live, Play, Soak, command_of}
 
 abbrev pub IsUsage : {Y : Type 0} → List (String Y) → Type 0
 IsUsage words = command_of (texts words) ≡ None
@@ -19,17 +19,13 @@ IsFold words = command_of (texts words) ≡ Some (Play true None)
 abbrev pub IsResume : {Y : Type 0} → List (String Y) → List ℕ → Bool → Type 0
 IsResume words path fold = command_of (texts words) ≡ Some (Play fold (Some path))
 
--- `listen` without a word
-abbrev pub IsListen : {Y : Type 0} → List (String Y) → Type 0
-IsListen words = command_of (texts words) ≡ Some (Listen false)
+-- `listen`, which hears so
+abbrev pub IsListen : {Y : Type 0} → List (String Y) → ListenOptions → Type 0
+IsListen words how = command_of (texts words) ≡ Some (Listen how)
 
--- with `--strict`
-abbrev pub IsStrictListen : {Y : Type 0} → List (String Y) → Type 0
-IsStrictListen words = command_of (texts words) ≡ Some (Listen true)
-
--- with it or without
+-- however it hears
 abbrev pub SpellsListen : {Y : Type 0} → List (String Y) → Type 0
-SpellsListen words = (strict : Bool) × (command_of (texts words) ≡ Some (Listen strict))
+SpellsListen words = (how : ListenOptions) × IsListen words how
 
 -- over the files of these paths, with so many cycles, heard from a packet on, and these views
 abbrev pub IsLive : {Y : Type 0} → List (String Y) → List (List ℕ) → LivePlan → Type 0

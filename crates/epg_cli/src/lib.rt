@@ -2,7 +2,7 @@
 //!
 //! The promise of the program is on `run`. `Usage` comes exactly where the words spell no command,
 //! and nothing is then read, opened or sent. For each command one record says all of its run:
-//! `PlayRun`, `FoldRun`, `ResumeRun`, `ListenRun` (with and without `--strict`), `LiveRun`,
+//! `PlayRun`, `FoldRun`, `ResumeRun`, `ListenRun` (however it hears), `LiveRun`,
 //! `SoakRun` and `AuditRun`, each in the crate of its command. `listen` and `audit` send nothing;
 //! only `live`, `audit` and `play --resume` open files; `soak` reads no input (`air_kept`,
 //! `opener_kept`, `input_kept`). `cause`, `open_cause` and `report` hold for all words: each fault
@@ -13,7 +13,7 @@
 
 mod top;
 
-pub use epg_listen::{run_listen, run_strict_listen};
+pub use epg_listen::{run_listen, run_listen_as};
 pub use epg_live::live_reports_tell_journals;
 pub use epg_play::{
     journals_play_again, outcomes_are_compared, play_is_heard, reports_tell_journals, run_play,

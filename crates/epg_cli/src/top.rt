@@ -5,21 +5,21 @@ ghost use Rattle.si_causes.specs.Causes.{Rose};
 ghost use Rattle.epg_report.specs.Texts.{fault_line};
 ghost use Rattle.epg_report.specs.Told.{Reported, asked, gave, told};
 ghost use Rattle.command_words.specs.Commands.{said_play};
-ghost use Rattle.command_words.specs.Grammar.{Play};
+ghost use Rattle.command_words.specs.Grammar.{ListenOptions, Play};
 ghost use Rattle.epg_play.specs.Leaves.{PlayRan};
 ghost use Rattle.epg_resume.specs.Leaves.{FoldRan, ResumeRan};
-ghost use Rattle.epg_listen.specs.Leaves.{ListenRan, ListenRanAs, StrictRan};
+ghost use Rattle.epg_listen.specs.Leaves.{ListenRan};
 ghost use Rattle.epg_live.specs.LiveRun.{LiveRan};
 ghost use Rattle.epg_live.specs.Stops.{HasStatusCause};
 ghost use Rattle.epg_soak.specs.SoakRun.{SoakRan};
 ghost use Rattle.epg_audit.specs.Leaves.{AuditRan};
 ghost use Rattle.headend_live.specs.declared.watched.LivePlan.{LivePlan};
 ghost use Rattle.epg_cli.specs.Plays.{PlayEnds};
-ghost use Rattle.epg_cli.specs.Spelled.{IsUsage, IsPlay, IsFold, IsResume, IsListen, IsStrictListen, SpellsListen, IsLive, IsSoak, IsAudit, SpellsAudit, SpellsSoak};
+ghost use Rattle.epg_cli.specs.Spelled.{IsUsage, IsPlay, IsFold, IsResume, IsListen, SpellsListen, IsLive, IsSoak, IsAudit, SpellsAudit, SpellsSoak};
 
 use command_words::{Command, PlayWords, WordsStop, parse_words};
 use epg_audit::run_audit;
-use epg_listen::{run_listen, run_strict_listen};
+use epg_listen::run_listen_as;
 use epg_live::run_live_files;
 use epg_play::run_play;
 use epg_report::{Outlet, Status, out_of_memory};
@@ -67,23 +67,6 @@ fn run_play_words<O: Opener, S: Source, A: Sink, R: Sink>(
     }
 }
 
-// Hears the recording of the input, with `--strict` or without.
-fn run_listen_words<S: Source, R: Sink>(
-    alloc: Global,
-    strict: bool,
-    input: &mut S,
-    report: &mut R,
-) -> Status
-    ensures run { ListenRanAs strict S.left S.faults input.old input.new
-        R.written R.faults report.old report.new result }
-{
-    if strict {
-        run_strict_listen(alloc, input, report)
-    } else {
-        run_listen(alloc, input, report)
-    }
-}
-
 /// Does all that the program does: it takes the words of the command line without the program's name, what opens files, the input,
 /// the air, the report, and the gate that the jobs of `live` and `soak` pass. Which command the words spell is told by `command_of` of
 /// `command_words`.
@@ -111,9 +94,8 @@ pub fn run<W: Threads + Wait + Sync, O: Opener, S: Source + Send, A: Sink + Send
         → ResumeRan path fold O.files O.tried O.faults O.read_faults opener.old opener.new
         S.left S.faults input.old input.new
         A.written A.faults air.old air.new R.written R.faults report.old report.new result }
-    ensures listen { IsListen words.now → ListenRan S.left S.faults input.old input.new
-        R.written R.faults report.old report.new result }
-    ensures strict_listen { IsStrictListen words.now → StrictRan S.left S.faults input.old input.new
+    ensures listen { (how : ListenOptions) → IsListen words.now how
+        → ListenRan how S.left S.faults input.old input.new
         R.written R.faults report.old report.new result }
     ensures live { (paths : List (List ℕ)) (plan : LivePlan)
         → IsLive words.now paths plan → LiveRan paths plan
@@ -143,7 +125,7 @@ pub fn run<W: Threads + Wait + Sync, O: Opener, S: Source + Send, A: Sink + Send
 {
     match parse_words(alloc, words) {
         Ok(Command::Play(play)) => run_play_words(alloc, &play, opener, input, air, report),
-        Ok(Command::Listen(strict)) => run_listen_words(alloc, strict, input, report),
+        Ok(Command::Listen(listen)) => run_listen_as(alloc, listen, input, report),
         Ok(Command::Live(live)) => {
             run_live_files(rt, alloc, &live, opener, input, air, report, gate)
         }

@@ -1,12 +1,16 @@
--- The lines of packets, one after another.
-use Rattle.std.proofs.Common.{◌≡◌, ℕ, ◌+◌, ◌<◌, List, [], ◌∷◌, ◌++◌, length, take, map, get_or, refl, sym, ap, ◌∙◌, append-nil, append_assoc, true, false}
+-- The lines of pieces, one after another.
+use Rattle.std.proofs.Common.{◌≡◌, ℕ, ◌+◌, ◌<◌, List, [], ◌∷◌, ◌++◌, length, length-append, take, map, get_or, refl, sym, ap, ap₂, ◌∙◌, append-nil, append_assoc, arith, false}
 use Rattle.std.specs.Prelude.{Bool}
 use Rattle.std.proofs.lemmas.List.{map_more}
+use Rattle.packet_finder.specs.Pieces.{Piece, Piece.Packet, Piece.Junk}
+use Rattle.packet_finder.specs.Laws.{packets_of}
 use Rattle.heard_completions.specs.declared.done.DoneKey.{DoneKey}
 use Rattle.heard_completions.specs.Dones.{DoneAt, at_packet, dones_by, dones_behind}
 use Rattle.heard_completions.specs.Texts.{done_line, done_lines}
-use Rattle.heard_completions.proofs.Dones.{dones_push}
-use Rattle.epg_listen.specs.Lines.{packet_lines, strict_lines_behind, heard_text}
+use Rattle.guide_receiver.specs.Guides.{guide_of}
+use Rattle.guide_text.specs.Guides.{guide_text}
+use Rattle.epg_listen.specs.Lines.{History, nothing_heard, after, after_all, heard_of, piece_lines, number_after, lines_after, heard_text}
+use Rattle.epg_listen.specs.Laws.{PacketsAreReported}
 
 lines_append : (xs ys : List DoneAt) → done_lines (xs ++ ys) ≡ done_lines xs ++ done_lines ys
 lines_append [] ys = refl
@@ -21,21 +25,51 @@ lines_next n dones i d item text new lt is before more =
     ∙ ap (λ x. done_lines (map (at_packet n) (take i dones) ++ at_packet n x ∷ [])) is
     ∙ ap done_lines (sym (map_more (at_packet n) dones i d lt))
 
--- one packet more, after the past
-strict_push : (past heard : List (List ℕ)) (p : List ℕ) → strict_lines_behind past (heard ++ p ∷ []) ≡ strict_lines_behind past heard ++ packet_lines true (length (past ++ heard)) (past ++ heard) p
-strict_push past [] p =
-    append-nil (packet_lines true (length past) past p) ∙ ap (λ (l : List (List ℕ)). packet_lines true (length l) l p) (sym (append-nil past))
-strict_push past (q ∷ heard) p =
-    ap (λ t. packet_lines true (length past) past q ++ t) (strict_push (past ++ q ∷ []) heard p)
-    ∙ sym (append_assoc (packet_lines true (length past) past q) (strict_lines_behind (past ++ q ∷ []) heard) (packet_lines true (length ((past ++ q ∷ []) ++ heard)) ((past ++ q ∷ []) ++ heard) p))
-    ∙ ap (λ (l : List (List ℕ)). strict_lines_behind past (q ∷ heard) ++ packet_lines true (length l) l p) (append_assoc past (q ∷ []) heard)
+-- ---- one piece more
 
--- the report of one packet more
-pub text_push : (strict : Bool) (heard : List (List ℕ)) (p : List ℕ) → heard_text strict (heard ++ p ∷ []) ≡ heard_text strict heard ++ packet_lines strict (length heard) heard p
-text_push false heard p = ap done_lines (dones_push [] heard p) ∙ lines_append (dones_behind [] heard) (map (at_packet (length heard)) (dones_by heard p))
-text_push true heard p = strict_push [] heard p
+all_push : (strict : Bool) (h : History) (heard : List Piece) (p : Piece) → after_all strict h (heard ++ p ∷ []) ≡ after strict (after_all strict h heard) p
+all_push strict h [] p = refl
+all_push strict h (q ∷ heard) p = all_push strict (after strict h q) heard p
 
--- and none of no packets
-pub text_none : (strict : Bool) → heard_text strict [] ≡ []
-text_none false = refl
-text_none true = refl
+pub heard_push : (strict : Bool) (heard : List Piece) (p : Piece) → heard_of strict (heard ++ p ∷ []) ≡ after strict (heard_of strict heard) p
+heard_push strict heard p = all_push strict nothing_heard heard p
+
+next_number : (n : ℕ) (q : Piece) (heard : List Piece) → number_after n q + length (packets_of heard) ≡ n + length (packets_of (q ∷ heard))
+next_number n (Packet packet) heard = omega arith
+next_number n (Junk count) heard = refl
+
+lines_push : (strict : Bool) (n : ℕ) (h : History) (heard : List Piece) (p : Piece)
+    → lines_after strict n h (heard ++ p ∷ []) ≡ lines_after strict n h heard ++ piece_lines strict (n + length (packets_of heard)) (after_all strict h heard) p
+lines_push strict n h [] p =
+    let same : n ≡ n + 0 = omega arith in
+    append-nil (piece_lines strict n h p) ∙ ap (λ k. piece_lines strict k h p) same
+lines_push strict n h (q ∷ heard) p =
+    ap (λ t. piece_lines strict n h q ++ t) (lines_push strict (number_after n q) (after strict h q) heard p)
+    ∙ sym (append_assoc (piece_lines strict n h q) (lines_after strict (number_after n q) (after strict h q) heard) (piece_lines strict (number_after n q + length (packets_of heard)) (after_all strict (after strict h q) heard) p))
+    ∙ ap (λ k. lines_after strict n h (q ∷ heard) ++ piece_lines strict k (after_all strict (after strict h q) heard) p) (next_number n q heard)
+
+-- the report of one piece more
+pub text_push : (strict : Bool) (heard : List Piece) (p : Piece)
+    → heard_text strict (heard ++ p ∷ []) ≡ heard_text strict heard ++ piece_lines strict (length (packets_of heard)) (heard_of strict heard) p
+text_push strict heard p =
+    let same : 0 + length (packets_of heard) ≡ length (packets_of heard) = omega arith in
+    lines_push strict 0 nothing_heard heard p
+    ∙ ap (λ k. heard_text strict heard ++ piece_lines strict k (heard_of strict heard) p) same
+
+-- ---- packets, without `--strict`
+
+free_lines : (past packets : List (List ℕ)) → lines_after false (length past) (record { earlier = []; past = past }) (map Packet packets) ≡ done_lines (dones_behind past packets)
+free_lines past [] = refl
+free_lines past (p ∷ packets) =
+    let now : List DoneAt = map (at_packet (length past)) (dones_by past p) in
+    let size : length past + 1 ≡ length (past ++ p ∷ []) = omega (arith, length-append past (p ∷ [])) in
+    ap (λ t. done_lines now ++ t)
+    (ap (λ n. lines_after false n (record { earlier = []; past = past ++ p ∷ [] }) (map Packet packets)) size ∙ free_lines (past ++ p ∷ []) packets)
+    ∙ sym (lines_append now (dones_behind (past ++ p ∷ []) packets))
+
+free_past : (earlier : List (List (List ℕ))) (past packets : List (List ℕ)) → (after_all false (record { earlier = earlier; past = past }) (map Packet packets)).past ≡ past ++ packets
+free_past earlier past [] = sym (append-nil past)
+free_past earlier past (p ∷ packets) = free_past earlier (past ++ p ∷ []) packets ∙ append_assoc past (p ∷ []) packets
+
+pub packets_told : PacketsAreReported
+packets_told packets = ap₂ (λ (a b : List ℕ). a ++ b) (free_lines [] packets) (ap (λ (l : List (List ℕ)). guide_text (guide_of l)) (free_past [] [] packets))

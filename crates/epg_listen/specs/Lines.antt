@@ -1,10 +1,44 @@
--- What is reported of the packets of a recording: without `--strict` the completions that they show, with it also the breaks.
-use Rattle.std.specs.Prelude.{ℕ, ◌++◌, List, [], ◌∷◌, Bool, false, true, length, map, codes, Option, Some, None}
-use Rattle.heard_completions.specs.Dones.{at_packet, dones_by, dones_of}
+-- What is reported of the pieces of a recording: without `--strict` the completions that packets show, with it also the breaks; and where
+-- bytes were passed over, how many.
+use Rattle.std.specs.Prelude.{ℕ, ◌+◌, ◌++◌, List, [], ◌∷◌, Bool, false, true, map, codes, Option, Some, None}
+use Rattle.packet_finder.specs.Pieces.{Piece, Piece.Packet, Piece.Junk}
+use Rattle.sub_collect.specs.Runs.{Counted}
+use Rattle.heard_completions.specs.Dones.{at_packet, dones_by}
 use Rattle.heard_completions.specs.Texts.{field_text, done_lines}
 use Rattle.guide_receiver.specs.Guides.{guide_of}
-use Rattle.strict_receiver.specs.Strict.{lost_by, strict_dones_by, strict_guide_of}
+use Rattle.strict_receiver.specs.Strict.{lost_by}
+use Rattle.strict_receiver.specs.Earlier.{counted_after, strict_dones_after, strict_guide_after}
 use Rattle.guide_text.specs.Guides.{guide_text}
+
+-- ---- what was heard
+
+-- What was heard: the packets since bytes were passed over last, and the recordings that passed bytes ended earlier.
+pub record History : Type 0 where
+  pub earlier : List (List (List ℕ))
+  pub past : List (List ℕ)
+
+abbrev pub nothing_heard : History
+nothing_heard = record { earlier = []; past = [] }
+
+-- what was heard after one piece more: where bytes are passed over, a recording ends with `--strict`, and nothing changes without it
+abbrev pub after : Bool → History → Piece → History
+after strict h (Packet packet) = record { earlier = h.earlier; past = h.past ++ packet ∷ [] }
+after false h (Junk count) = h
+after true h (Junk count) = record { earlier = h.earlier ++ h.past ∷ []; past = [] }
+
+abbrev pub after_all : Bool → History → List Piece → History
+after_all strict h [] = h
+after_all strict h (piece ∷ pieces) = after_all strict (after strict h piece) pieces
+
+-- what was heard of these pieces
+abbrev pub heard_of : Bool → List Piece → History
+heard_of strict pieces = after_all strict nothing_heard pieces
+
+-- the sections of it that count
+abbrev pub counted_in : History → List Counted
+counted_in h = counted_after h.earlier h.past
+
+-- ---- the lines
 
 -- `lost`, and then the number of the packet and the PID of which packets were lost, each after a tab
 abbrev pub lost_line : ℕ → ℕ → List ℕ
@@ -14,22 +48,34 @@ abbrev pub lost_lines : ℕ → Option ℕ → List ℕ
 lost_lines number None = []
 lost_lines number (Some pid) = lost_line number pid
 
--- the lines of the packet with this number, after others: with `--strict` first the break that it is, then the completions that it shows
-abbrev pub packet_lines : Bool → ℕ → List (List ℕ) → List ℕ → List ℕ
-packet_lines false number past packet = done_lines (map (at_packet number) (dones_by past packet))
-packet_lines true number past packet = lost_lines number (lost_by past packet) ++ done_lines (map (at_packet number) (strict_dones_by past packet))
+-- `junk`, and then the number of the next packet and how many bytes were passed over, each after a tab
+abbrev pub junk_line : ℕ → ℕ → List ℕ
+junk_line number count = codes "junk" ++ field_text number ++ field_text count ++ codes "\n"
 
--- with `--strict` the lines of packets after others, packet by packet
-abbrev pub strict_lines_behind : List (List ℕ) → List (List ℕ) → List ℕ
-strict_lines_behind past [] = []
-strict_lines_behind past (packet ∷ packets) = packet_lines true (length past) past packet ++ strict_lines_behind (past ++ packet ∷ []) packets
+-- The lines of a piece, after what was heard and so many packets: of a packet the completions that it shows, with `--strict` first the break
+-- that it is.
+abbrev pub piece_lines : Bool → ℕ → History → Piece → List ℕ
+piece_lines strict number h (Junk count) = junk_line number count
+piece_lines false number h (Packet packet) = done_lines (map (at_packet number) (dones_by h.past packet))
+piece_lines true number h (Packet packet) =
+    lost_lines number (lost_by h.past packet) ++ done_lines (map (at_packet number) (strict_dones_after h.earlier h.past packet))
 
--- the lines of these packets
-abbrev pub heard_text : Bool → List (List ℕ) → List ℕ
-heard_text false packets = done_lines (dones_of packets)
-heard_text true packets = strict_lines_behind [] packets
+-- the number of the next packet after a piece
+abbrev pub number_after : ℕ → Piece → ℕ
+number_after number (Packet packet) = number + 1
+number_after number (Junk count) = number
 
--- the text of the guide that was heard of them
-abbrev pub heard_guide : Bool → List (List ℕ) → List ℕ
-heard_guide false packets = guide_text (guide_of packets)
-heard_guide true packets = guide_text (strict_guide_of packets)
+-- the lines of pieces after others, piece by piece
+abbrev pub lines_after : Bool → ℕ → History → List Piece → List ℕ
+lines_after strict number h [] = []
+lines_after strict number h (piece ∷ pieces) =
+    piece_lines strict number h piece ++ lines_after strict (number_after number piece) (after strict h piece) pieces
+
+-- the lines of these pieces
+abbrev pub heard_text : Bool → List Piece → List ℕ
+heard_text strict pieces = lines_after strict 0 nothing_heard pieces
+
+-- the text of the guide of what was heard
+abbrev pub heard_guide : Bool → History → List ℕ
+heard_guide false h = guide_text (guide_of h.past)
+heard_guide true h = guide_text (strict_guide_after h.earlier h.past)

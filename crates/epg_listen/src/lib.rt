@@ -1,10 +1,14 @@
-//! A run of `listen`: it hears the packets of a recording, and reports each table that is
+//! A run of `listen`: it hears the pieces of a recording, and reports each table that is
 //! completed, then the guide.
 //!
-//! The promise is on [`run_listen`], in the record `ListenRun`. [`run_strict_listen`] hears by a
-//! strict receiver and reports each break too, in the same record. With Done each piece of 188
-//! bytes is a packet, and the report has the completions of all packets and the text of their
-//! guide.
+//! The promise is on [`run_listen_as`], in the record `ListenRun`, by the options with which it hears;
+//! [`run_listen`] hears without options. The pieces of a recording are its packets, up to the first
+//! that is none. With `resync` they are what `packet_finder` finds in it, and a line `junk` stands
+//! where bytes were passed over. With `strict` a strict receiver hears them: each break is reported
+//! too, and where bytes were passed over it starts afresh. With Done the report has the lines of all
+//! pieces and the text of their guide. A recording with a byte, in which no packet is found, is
+//! broken. By [`packets_are_reported`] the report without options is the completions of all packets
+//! and the guide that was heard of them.
 //!
 //! Tested in `headend_rows`: a completion is reported before the next packet is read; recordings
 //! of other generators.
@@ -12,9 +16,13 @@
 //! Not promised: what is left after Memory, and that it comes only where memory runs out.
 #![tactic(auto)]
 
+mod laws;
 mod lines;
 mod listen;
 mod listener;
+mod piece_reader;
+mod resync;
 mod run;
 
-pub use run::{run_listen, run_strict_listen};
+pub use laws::packets_are_reported;
+pub use run::{run_listen, run_listen_as};

@@ -1,9 +1,9 @@
-// The lines of a packet and the text of a guide.
+// The lines of a piece and the text of a guide.
 ghost use Rattle.std.specs.Prelude.{◌≡◌, ◌++◌, IfOk, OnOk, map, option_map};
 ghost use Rattle.heard_completions.specs.Dones.{at_packet};
 ghost use Rattle.heard_completions.specs.Texts.{field_text, done_lines};
 ghost use Rattle.guide_text.specs.Guides.{guide_text};
-ghost use Rattle.epg_listen.specs.Lines.{lost_line, lost_lines};
+ghost use Rattle.epg_listen.specs.Lines.{junk_line, lost_line, lost_lines};
 
 use guide_receiver::{DoneKey, Heard, write_done};
 use guide_text::print_heard;
@@ -62,6 +62,17 @@ pub(crate) fn lost_and_lines_of(
     let mut text = lost_text(alloc, number, heard.lost)?;
     let lines = lines_of(alloc, number, heard.dones.as_slice())?;
     text.extend_from_slice(&lines)?;
+    Ok(text)
+}
+
+/// The line of so many bytes that were passed over before the packet with this number.
+pub(crate) fn junk_line_of(alloc: Global, number: u64, count: u64) -> Result<Vec<u8>, AllocError>
+    ensures { IfOk result (λ text. text.items ≡ junk_line number count) }
+{
+    let mut text = Vec::from_slice(alloc, b"junk")?;
+    put_field(alloc, &mut text, number)?;
+    put_field(alloc, &mut text, count)?;
+    text.extend_from_slice(b"\n")?;
     Ok(text)
 }
 

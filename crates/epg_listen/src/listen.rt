@@ -1,21 +1,28 @@
-// A recording, heard packet by packet.
-ghost use Rattle.std.specs.Prelude.{◌≡◌, ◌≤◌, ◌++◌, ◌∷◌, [], List, ℕ, None, Some, Ok, IfOk, OnOk, slice_index};
+// A recording, heard piece by piece.
+ghost use Rattle.std.specs.Prelude.{◌≡◌, ◌≤◌, ◌++◌, ◌∷◌, [], List, ℕ, Ok, IfOk, OnOk, length, slice_index};
 ghost use Rattle.std.specs.Io.KnownBytes.{IsAtEnd};
-ghost use Rattle.packet_reader.specs.Reading.{bytes_left};
+ghost use Rattle.packet_finder.specs.Pieces.{Piece, Piece.Packet, Piece.Junk};
+ghost use Rattle.packet_finder.specs.Laws.{packets_of};
+ghost use Rattle.packet_finder.specs.Finding.{piece_of};
+ghost use Rattle.packet_finder.specs.declared.found.Found.TheVariants as was;
 ghost use Rattle.epg_report.specs.Texts.{fault_line, fault_text};
 ghost use Rattle.epg_report.specs.Told.{told};
-ghost use Rattle.epg_listen.specs.Lines.{packet_lines};
+ghost use Rattle.epg_listen.specs.Lines.{History, nothing_heard, after, heard_of, piece_lines};
 ghost use Rattle.epg_listen.specs.Leaves.{packet_stop_status};
+ghost use Rattle.epg_listen.specs.Giving.{IsGivenPacket, IsNumbered};
 ghost use Rattle.epg_listen.specs.Hearing.{ReportsLines, HasHeard, HasReadCause, HasReportCause, IsNoReadStop, IsTooManyAt, IsOfRecording, EndsHeard, EndsBy};
 
+use crate::lines::junk_line_of;
 use crate::listener::Listener;
+use crate::piece_reader::PieceReader;
 use epg_report::{Origin, Outlet, Status, out_of_memory, put_fault_line};
 use guide_receiver::HearStop;
-use packet_reader::{PacketReader, PacketStop};
-use si_causes::{Sink, Source, write_all};
+use packet_finder::Found;
+use packet_reader::PacketStop;
+use si_causes::{Sink, write_all};
 use std::alloc::{AllocError, Global};
 
-/// Why a recording is not heard on: no further packet, a key too many in a packet, the report, or want of memory.
+/// Why a recording is not heard on: no further piece, a key too many in a packet, the report, or want of memory.
 #[derive(Clone, Copy, PartialEq, Eq)]
 pub(crate) enum ListenStop {
     Read(PacketStop),
@@ -33,10 +40,10 @@ fn hear_packet<L: Listener, R: Sink>(
     report: &mut R,
 ) -> Result<(), ListenStop>
     requires sync { slice_index packet.now 0 ≡ 0x47 }
-    ensures reports { (past : List (List ℕ)) → L.stands listener.old past
-        → ReportsLines (R.written report.old) (R.written report.new) (packet_lines L.strict number past packet.now) result }
-    ensures stands { (past : List (List ℕ)) → L.stands listener.old past → OnOk result (L.stands listener.new (past ++ packet.now ∷ [])) }
-    ensures too_many { (past : List (List ℕ)) → L.stands listener.old past → IsTooManyAt number (past ++ packet.now ∷ []) result }
+    ensures reports { (h : History) → L.stands listener.old h
+        → ReportsLines (R.written report.old) (R.written report.new) (piece_lines L.strict number h (Packet packet.now)) result }
+    ensures stands { (h : History) → L.stands listener.old h → OnOk result (L.stands listener.new (after L.strict h (Packet packet.now))) }
+    ensures too_many { (h : History) → L.stands listener.old h → IsTooManyAt (was.Packet number) (after L.strict h (Packet packet.now)) result }
     ensures cause { HasReportCause (R.faults report.old) (R.faults report.new) result }
     ensures no_read { IsNoReadStop result }
     ensures later { R.faults report.old ≤ R.faults report.new }
@@ -53,27 +60,76 @@ fn hear_packet<L: Listener, R: Sink>(
     }
 }
 
-/// Hears all packets of a recording; the lines of a packet are written before the next packet is read.
-pub(crate) fn hear_all<L: Listener, S: Source, R: Sink>(
+// Passes over so many bytes before the packet with this number, and reports them.
+fn pass_over<L: Listener, R: Sink>(
     alloc: Global,
-    packets: &mut PacketReader<S>,
+    listener: &mut L,
+    number: u64,
+    count: u64,
+    report: &mut R,
+) -> Result<(), ListenStop>
+    ensures reports { (h : History) → ReportsLines (R.written report.old) (R.written report.new) (piece_lines L.strict number h (Junk count)) result }
+    ensures stands { (h : History) → L.stands listener.old h → OnOk result (L.stands listener.new (after L.strict h (Junk count))) }
+    ensures too_many { (h : History) → IsTooManyAt (was.Junk count) h result }
+    ensures cause { HasReportCause (R.faults report.old) (R.faults report.new) result }
+    ensures no_read { IsNoReadStop result }
+    ensures later { R.faults report.old ≤ R.faults report.new }
+{
+    let Ok(text) = junk_line_of(alloc, number, count) else {
+        return Err(ListenStop::Memory);
+    };
+    listener.pass_over();
+    match write_all(report, &text) {
+        Ok(()) => Ok(()),
+        Err(_) => Err(ListenStop::Report),
+    }
+}
+
+// Hears the piece that was given last, and reports its lines.
+fn hear_piece<P: PieceReader, L: Listener, R: Sink>(
+    alloc: Global,
+    pieces: &P,
+    found: Found,
     listener: &mut L,
     report: &mut R,
 ) -> Result<(), ListenStop>
-    requires going { packets.old.stop ≡ None }
-    requires start { packets.old.number ≡ 0 }
-    requires unheard { L.stands listener.old [] }
-    ensures heard { (bytes : List ℕ) → bytes_left S.left packets.old ≡ Some bytes → HasHeard L.strict bytes (S.left packets.new.source) (L.stands listener.new) (R.written report.old) (R.written report.new) result }
-    ensures end { OnOk result (IsAtEnd (S.left packets.new.source)) }
-    ensures read_cause { HasReadCause (S.faults packets.old.source) (S.faults packets.new.source) result }
+    requires packet { IsGivenPacket (P.last pieces.now) found }
+    ensures reports { (bytes : List ℕ) (heard : List Piece) → P.gave pieces.now bytes (heard ++ piece_of (P.last pieces.now) found ∷ [])
+        → IsNumbered heard found → L.stands listener.old (heard_of L.strict heard)
+        → ReportsLines (R.written report.old) (R.written report.new) (piece_lines L.strict (length (packets_of heard)) (heard_of L.strict heard) (piece_of (P.last pieces.now) found)) result }
+    ensures stands { (h : History) → L.stands listener.old h → OnOk result (L.stands listener.new (after L.strict h (piece_of (P.last pieces.now) found))) }
+    ensures too_many { (h : History) → L.stands listener.old h → IsTooManyAt found (after L.strict h (piece_of (P.last pieces.now) found)) result }
+    ensures cause { HasReportCause (R.faults report.old) (R.faults report.new) result }
+    ensures no_read { IsNoReadStop result }
+    ensures later { R.faults report.old ≤ R.faults report.new }
+{
+    match found {
+        Found::Packet(number) => hear_packet(alloc, listener, number, pieces.last_packet(), report),
+        Found::Junk(count) => pass_over(alloc, listener, pieces.packet_count(), count, report),
+    }
+}
+
+/// Hears all pieces of a recording; the lines of a piece are written before the next piece is read.
+pub(crate) fn hear_all<P: PieceReader, L: Listener, R: Sink>(
+    alloc: Global,
+    pieces: &mut P,
+    listener: &mut L,
+    report: &mut R,
+) -> Result<(), ListenStop>
+    requires going { P.going pieces.old }
+    requires unheard { L.stands listener.old nothing_heard }
+    ensures heard { (bytes : List ℕ) → P.gave pieces.old bytes []
+        → HasHeard P.resync L.strict bytes (P.left pieces.new) (L.stands listener.new) (R.written report.old) (R.written report.new) result }
+    ensures end { OnOk result (IsAtEnd (P.left pieces.new)) }
+    ensures read_cause { HasReadCause (P.faults pieces.old) (P.faults pieces.new) result }
     ensures report_cause { HasReportCause (R.faults report.old) (R.faults report.new) result }
     ensures later { R.faults report.old ≤ R.faults report.new }
-    ensures same { S.same packets.old.source packets.new.source }
+    ensures same { P.same pieces.old pieces.new }
 {
     loop {
-        match packets.next() {
-            Ok(Some(number)) => {
-                if let Err(stop) = hear_packet(alloc, listener, number, packets.packet(), report) {
+        match pieces.next_piece() {
+            Ok(Some(found)) => {
+                if let Err(stop) = hear_piece(alloc, pieces, found, listener, report) {
                     return Err(stop);
                 }
             }

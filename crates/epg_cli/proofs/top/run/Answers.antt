@@ -1,6 +1,6 @@
 use Rattle.std.proofs.Common.{◌≡◌, refl, true, false, [], List, ℕ, subst, codes, inl, inr}
 use Rattle.std.specs.Prelude.{Some, None, option_map, string_bytes}
-use Rattle.command_words.specs.Commands.{texts}
+use Rattle.command_words.specs.Commands.{options_said, texts}
 use Rattle.epg_live.specs.Views.{plan_of}
 use Rattle.command_words.specs.Grammar.{command_of, Play, Listen, Live, Soak, Audit}
 use Rattle.epg_report.specs.Texts.{fault_line}
@@ -32,8 +32,7 @@ returns-in-Ok-Play g c =
       play = λ spelled. run.plain (play_is command (Play words.fold resume) (Play false None) spells spelled);
       fold = λ spelled. run.fold (play_is command (Play words.fold resume) (Play true None) spells spelled);
       resume = λ path fold spelled. run.resume path fold (play_is command (Play words.fold resume) (Play fold (Some path)) spells spelled);
-      listen = λ spelled. absurd (play_listen command words.fold resume false spells spelled);
-      strict_listen = λ spelled. absurd (play_listen command words.fold resume true spells spelled);
+      listen = λ how spelled. absurd (play_listen command words.fold resume how spells spelled);
       live = λ paths plan spelled. absurd (play_live command words.fold resume paths plan spells spelled);
       soak = λ number spelled. absurd (play_soak command words.fold resume number spells spelled);
       audit = λ path nulls spelled. absurd (play_audit command words.fold resume path nulls spells spelled);
@@ -49,29 +48,28 @@ returns-in-Ok-Play g c =
 pub returns-in-Ok-Listen : goal.returns-in-Ok-Listen
 returns-in-Ok-Listen g c =
     let command = command_of (texts c.args.words.now) in
-    let strict = c.in-Ok-Listen.strict in
-    let spells : command ≡ Some (Listen strict) = rw c.in-Ok-Listen.field-0-is at c.in-Ok-Listen.ensures.command in
-    let run = c.run_listen_words.ensures.run in
-    let input = gave g.S.Source.left g.S.Source.faults c.args.input.now c.run_listen_words.new.input in
-    let report = told g.R.Sink.written g.R.Sink.faults c.args.report.now c.run_listen_words.new.report in
+    let read = options_said c.in-Ok-Listen.listen in
+    let spells : command ≡ Some (Listen read) = rw c.in-Ok-Listen.field-0-is at c.in-Ok-Listen.ensures.command in
+    let run = c.run_listen_as.ensures.run in
+    let input = gave g.S.Source.left g.S.Source.faults c.args.input.now c.run_listen_as.new.input in
+    let report = told g.R.Sink.written g.R.Sink.faults c.args.report.now c.run_listen_as.new.report in
     record {
-      usage = (λ e. absurd (listen_usage c.run_listen_words.result run.known e), λ none. absurd (some_none command (Listen strict) spells none));
-      usage_leaves = λ e. absurd (listen_usage c.run_listen_words.result run.known e);
-      play = λ spelled. absurd (play_listen command false None strict spelled spells);
-      fold = λ spelled. absurd (play_listen command true None strict spelled spells);
-      resume = λ path fold spelled. absurd (play_listen command fold (Some path) strict spelled spells);
-      listen = λ spelled. listen_is (λ s. ListenRun s input report c.run_listen_words.result) command strict false spells spelled run;
-      strict_listen = λ spelled. listen_is (λ s. ListenRun s input report c.run_listen_words.result) command strict true spells spelled run;
-      live = λ paths plan spelled. absurd (listen_live command strict paths plan spells spelled);
-      soak = λ number spelled. absurd (listen_soak command strict number spells spelled);
-      audit = λ path nulls spelled. absurd (listen_audit command strict path nulls spells spelled);
+      usage = (λ e. absurd (listen_usage c.run_listen_as.result run.known e), λ none. absurd (some_none command (Listen read) spells none));
+      usage_leaves = λ e. absurd (listen_usage c.run_listen_as.result run.known e);
+      play = λ spelled. absurd (play_listen command false None read spelled spells);
+      fold = λ spelled. absurd (play_listen command true None read spelled spells);
+      resume = λ path fold spelled. absurd (play_listen command fold (Some path) read spelled spells);
+      listen = λ how spelled. listen_is (λ h. ListenRun h input report c.run_listen_as.result) command read how spells spelled run;
+      live = λ paths plan spelled. absurd (listen_live command read paths plan spells spelled);
+      soak = λ number spelled. absurd (listen_soak command read number spells spelled);
+      audit = λ path nulls spelled. absurd (listen_audit command read path nulls spells spelled);
       air_kept = λ spelled. refl;
       opener_kept = λ spelled. refl;
-      input_kept = λ spelled. absurd (listen_soak command strict spelled.0 spells spelled.1);
+      input_kept = λ spelled. absurd (listen_soak command read spelled.0 spells spelled.1);
       end = λ done. inr (run.end done);
-      cause = listen_cause (g.S.Source.faults c.args.input.now) (g.S.Source.faults c.run_listen_words.new.input) (g.O.Opener.read_faults c.args.opener.now) (g.O.Opener.read_faults c.args.opener.now)
-          (g.A.Sink.faults c.args.air.now) (g.A.Sink.faults c.args.air.now) c.run_listen_words.result run.known run.input_cause;
-      open_cause = λ feed e. absurd (listen_open c.run_listen_words.result feed run.known e);
+      cause = listen_cause (g.S.Source.faults c.args.input.now) (g.S.Source.faults c.run_listen_as.new.input) (g.O.Opener.read_faults c.args.opener.now) (g.O.Opener.read_faults c.args.opener.now)
+          (g.A.Sink.faults c.args.air.now) (g.A.Sink.faults c.args.air.now) c.run_listen_as.result run.known run.input_cause;
+      open_cause = λ feed e. absurd (listen_open c.run_listen_as.result feed run.known e);
       report = run.report_cause;
     }
 
@@ -92,8 +90,7 @@ returns-in-Ok-Live g c =
       play = λ spelled. absurd (play_live command false None read (plan_of words) spelled spells);
       fold = λ spelled. absurd (play_live command true None read (plan_of words) spelled spells);
       resume = λ path fold spelled. absurd (play_live command fold (Some path) read (plan_of words) spelled spells);
-      listen = λ spelled. absurd (listen_live command false read (plan_of words) spelled spells);
-      strict_listen = λ spelled. absurd (listen_live command true read (plan_of words) spelled spells);
+      listen = λ how spelled. absurd (listen_live command how read (plan_of words) spelled spells);
       live = λ paths plan spelled.
           live_is (λ ps p. LiveRun ps p opener input air report c.run_live_files.result) command read paths (plan_of words) plan spells spelled run;
       soak = λ number spelled. absurd (live_soak command read (plan_of words) number spells spelled);
@@ -130,8 +127,7 @@ returns-in-Ok-Soak g c =
       play = λ spelled. absurd (play_soak command false None read spelled spells);
       fold = λ spelled. absurd (play_soak command true None read spelled spells);
       resume = λ path fold spelled. absurd (play_soak command fold (Some path) read spelled spells);
-      listen = λ spelled. absurd (listen_soak command false read spelled spells);
-      strict_listen = λ spelled. absurd (listen_soak command true read spelled spells);
+      listen = λ how spelled. absurd (listen_soak command how read spelled spells);
       live = λ paths plan spelled. absurd (live_soak command paths plan read spelled spells);
       soak = λ number spelled. soak_is (λ n. SoakRun n air report c.run_soak.result) command read number spells spelled run;
       audit = λ path nulls spelled. absurd (soak_audit command read path nulls spells spelled);
@@ -162,8 +158,7 @@ returns-in-Ok-Audit g c =
       play = λ spelled. absurd (play_audit command false None read said spelled spells);
       fold = λ spelled. absurd (play_audit command true None read said spelled spells);
       resume = λ path fold spelled. absurd (play_audit command fold (Some path) read said spelled spells);
-      listen = λ spelled. absurd (listen_audit command false read said spelled spells);
-      strict_listen = λ spelled. absurd (listen_audit command true read said spelled spells);
+      listen = λ how spelled. absurd (listen_audit command how read said spelled spells);
       live = λ paths plan spelled. absurd (live_audit command paths plan read said spelled spells);
       soak = λ number spelled. absurd (soak_audit command number read said spelled spells);
       audit = λ path nulls spelled. audit_is (λ p n. AuditRun p n opener input report c.run_audit.result) command read path said nulls spells spelled run;
@@ -191,8 +186,7 @@ returns-in-Err-Memory g c =
       play = λ spelled. play_memory input air report c.out_of_memory.result is;
       fold = λ spelled. fold_memory input air report c.out_of_memory.result is;
       resume = λ path fold spelled. resume_memory path fold opener input air report c.out_of_memory.result is refl;
-      listen = λ spelled. listen_memory false input report c.out_of_memory.result is;
-      strict_listen = λ spelled. listen_memory true input report c.out_of_memory.result is;
+      listen = λ how spelled. listen_memory how input report c.out_of_memory.result is;
       live = λ paths plan spelled. live_memory paths plan opener input air report c.out_of_memory.result is (none_asked paths tried);
       soak = λ number spelled. soak_memory number air report c.out_of_memory.result is;
       audit = λ path nulls spelled. audit_memory path nulls opener input report c.out_of_memory.result is refl;
@@ -220,8 +214,7 @@ returns-in-Err-Usage g c =
       play = λ spelled. absurd (some_none command (Play false None) spelled none);
       fold = λ spelled. absurd (some_none command (Play true None) spelled none);
       resume = λ path fold spelled. absurd (some_none command (Play fold (Some path)) spelled none);
-      listen = λ spelled. absurd (some_none command (Listen false) spelled none);
-      strict_listen = λ spelled. absurd (some_none command (Listen true) spelled none);
+      listen = λ how spelled. absurd (some_none command (Listen how) spelled none);
       live = λ paths plan spelled. absurd (some_none command (Live paths plan.cycles plan.join plan.views) spelled none);
       soak = λ number spelled. absurd (some_none command (Soak number) spelled none);
       audit = λ path nulls spelled. absurd (some_none command (Audit path nulls) spelled none);

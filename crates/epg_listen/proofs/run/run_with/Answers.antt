@@ -1,20 +1,23 @@
-use Rattle.std.proofs.Common.{ℕ, ap, rules, subst}
-use Rattle.epg_listen.specs.Hearing.{HasReadCause}
-use Rattle.epg_listen.proofs.ListenFacts.{started}
-use Rattle.epg_listen.proofs.ListenRunFacts.{heard_run, listen_memory}
+use Rattle.std.proofs.Common.{sym, subst}
+use Rattle.std.specs.Prelude.{Bool}
+use Rattle.command_words.specs.Commands.{options_said}
+use Rattle.epg_report.specs.Told.{gave, told}
+use Rattle.epg_listen.specs.Hearing.{HasHeard, EndsHeard}
+use Rattle.epg_listen.proofs.ListenRunFacts.{heard_run}
 use Rattle.epg_listen.proofs.run.run_with.Goals as goal
 
 pub returns : goal.returns
 returns g c =
-    let heard = c.hear_all-heard in
-    let opened = c.in-Ok in
+    let words = c.args.words in
+    let heard = c.hear_input-heard in
+    let stands = g.L.Listener.stands heard.new.listener in
+    let written = g.R.Sink.written in
+    let faults = g.R.Sink.faults in
+    let same = sym c.requires.strict in
     record {
-      run = heard_run g.S.Source.left g.S.Source.faults c.args.input.now heard.new.packets.source.now _ (g.R.Sink.written c.args.report.now) (g.R.Sink.written heard.new.report) (g.R.Sink.written c.end_report.new.report)
-          (g.R.Sink.faults c.args.report.now) (g.R.Sink.faults heard.new.report) (g.R.Sink.faults c.end_report.new.report) g.L.Listener.strict (g.L.Listener.stands heard.new.listener) heard.result c.end_report.result (search rules)
-          (λ bytes tells. heard.ensures.heard bytes (started (λ s. g.S.Source.left s.now) opened.packets _ bytes opened.ensures tells)) heard.ensures.end
-          (subst (λ (n : ℕ). HasReadCause n (g.S.Source.faults heard.new.packets.source.now) heard.result) (ap (λ p. g.S.Source.faults p.source.now) opened.ensures) heard.ensures.read_cause)
-          heard.ensures.report_cause heard.ensures.later c.end_report.ensures.later c.end_report.ensures.ends;
+      run = heard_run (options_said words) (gave g.S.Source.left g.S.Source.faults c.args.input.now heard.new.input) (written c.args.report.now) (written heard.new.report) (written c.end_report.new.report)
+          (faults c.args.report.now) (faults heard.new.report) (faults c.end_report.new.report) stands heard.result c.end_report.result
+          (λ bytes tells. subst (λ (s : Bool). HasHeard words.resync s bytes (g.S.Source.left heard.new.input) stands (written c.args.report.now) (written heard.new.report) heard.result) same (heard.ensures.heard bytes tells))
+          heard.ensures.end heard.ensures.read_cause heard.ensures.report_cause heard.ensures.later c.end_report.ensures.later
+          (subst (λ (s : Bool). EndsHeard s stands heard.result (told written faults heard.new.report c.end_report.new.report) c.end_report.result) same c.end_report.ensures.ends);
     }
-
-pub returns-in_default : goal.returns-in_default
-returns-in_default g c = record { run = listen_memory g.L.Listener.strict _ _ c.out_of_memory.result c.out_of_memory.ensures.status }
