@@ -1,4 +1,4 @@
-"""Reads what `listen` prints: the tables that were completed, the guide, what it lacks, what was lost, and a fault.
+"""Reads what `listen` prints: the tables that were completed, the guide, what it lacks, what was lost or passed over, and a fault.
 
 docs/FORMATS.md has every line, under "Of `listen`". Lines with another first word are passed over and counted: those of other commands, and
 those that a newer program prints. A line with a word of `listen` that does not have the fields of that word is an error that names the line.
@@ -55,10 +55,10 @@ class Component(NamedTuple):
 
 @dataclass
 class Remote:
-    """A service of another stream."""
+    """A service of another stream; a type is None where no description of the service was heard."""
 
     id: int
-    type: int
+    type: Optional[int]
     provider: str
     name: str
     present: Optional[Event] = None
@@ -83,8 +83,10 @@ class Named(NamedTuple):
 
 
 class Stream(NamedTuple):
+    """A stream; its network is None where neither its SDT nor an event told it."""
+
     id: int
-    original_network_id: int
+    original_network_id: Optional[int]
 
 
 class Cable(NamedTuple):
@@ -145,6 +147,13 @@ class Loss(NamedTuple):
     pid: int
 
 
+class Junk(NamedTuple):
+    """Bytes that `listen --resync` passed over before a packet, or at the end of the recording."""
+
+    packet: int
+    bytes: int
+
+
 @dataclass
 class Heard:
     """All that a run of `listen` printed."""
@@ -159,6 +168,7 @@ class Heard:
     wanting: List[Tuple[str, ...]] = field(default_factory=list)
     completions: List[Completion] = field(default_factory=list)
     losses: List[Loss] = field(default_factory=list)
+    junk: List[Junk] = field(default_factory=list)
     fault: Optional[str] = None
     ended: bool = False
     passed_over: int = 0
@@ -171,6 +181,10 @@ class Heard:
 
 class HeardError(ValueError):
     """A line that `listen` does not print."""
+
+
+def number_or_none(text: str) -> Optional[int]:
+    return int(text) if text else None
 
 
 def read_moment(text: str) -> datetime:
@@ -227,7 +241,7 @@ class Reader:
     def __init__(self) -> None:
         self.heard = Heard()
         self._words: Dict[str, Callable[[List[str]], None]] = {
-            "done": self._done, "lost": self._lost, "clock": self._clock, "local": self._local, "network": self._network,
+            "done": self._done, "lost": self._lost, "junk": self._junk, "clock": self._clock, "local": self._local, "network": self._network,
             "stream": self._stream, "cable": self._cable, "service": self._service, "component": self._component, "other": self._other,
             "remote": self._remote, "now": self._now, "next": self._next, "event": self._event, "wanting": self._wanting, "end": self._end,
         }
@@ -250,6 +264,10 @@ class Reader:
         packet, pid = map(int, fields)
         self.heard.losses.append(Loss(packet, pid))
 
+    def _junk(self, fields: List[str]) -> None:
+        packet, count = map(int, fields)
+        self.heard.junk.append(Junk(packet, count))
+
     def _clock(self, fields: List[str]) -> None:
         (moment,) = fields
         self.heard.clock = read_moment(moment)
@@ -262,8 +280,8 @@ class Reader:
         self.heard.network = Named(int(number), name)
 
     def _stream(self, fields: List[str]) -> None:
-        number, original = map(int, fields)
-        self.heard.stream = Stream(number, original)
+        number, original = fields
+        self.heard.stream = Stream(int(number), number_or_none(original))
 
     def _cable(self, fields: List[str]) -> None:
         frequency, modulation, symbol_rate, outer, inner = map(int, fields)
@@ -271,8 +289,8 @@ class Reader:
 
     def _service(self, fields: List[str]) -> None:
         number, kind, provider, name, pmt, pcr = fields
-        pids = [int(pid) if pid else None for pid in (pmt, pcr)]
-        self.heard.services.append(Service(int(number), int(kind), provider, name, pmt_pid=pids[0], pcr_pid=pids[1]))
+        self.heard.services.append(Service(int(number), number_or_none(kind), provider, name, pmt_pid=number_or_none(pmt),
+                                           pcr_pid=number_or_none(pcr)))
 
     def _component(self, fields: List[str]) -> None:
         kind, pid, language = fields
@@ -384,4 +402,5 @@ def heard_json(heard: Heard) -> Dict[str, object]:
         "others": [other_json(other) for other in heard.others],
         "completions": [done._asdict() for done in heard.completions],
         "losses": [loss._asdict() for loss in heard.losses],
+        "junk": [junk._asdict() for junk in heard.junk],
     }

@@ -70,6 +70,8 @@ def table_name(table: int) -> str:
 def kind_of(service: Service) -> str:
     if service.type in TELEVISION:
         return "TV"
+    if service.type is None:
+        return ""
     return "radio" if service.type in RADIO else f"type {service.type}"
 
 
@@ -173,7 +175,8 @@ def facts(heard: Heard, rows: Sequence[Row], window: Window) -> List[str]:
     """What stands below the title, in a line."""
     found = []
     if heard.stream:
-        found.append(f"stream {heard.stream.id} of network {heard.stream.original_network_id}")
+        network = heard.stream.original_network_id
+        found.append(f"stream {heard.stream.id}" + (f" of network {network}" if network is not None else ""))
     found.append(plural(len(heard.services), "service"))
     found.append(plural(sum(len(row.placed) for row in rows), "event"))
     outside = sum(row.outside for row in rows)
@@ -290,6 +293,13 @@ def losses_markup(heard: Heard) -> str:
     return list_markup("PIDs with lost packets", ["PID", "breaks", "first in packet", "last in packet"], rows, True)
 
 
+def junk_markup(heard: Heard) -> str:
+    """A line for each stretch of bytes that was passed over; nothing where none was."""
+    if not heard.junk:
+        return ""
+    return list_markup("Bytes passed over", ["before packet", "bytes"], [list(junk) for junk in heard.junk], True)
+
+
 def colours_markup(rows: Sequence[Row]) -> str:
     groups = sorted({placed.event.genres[0].level_1 for row in rows for placed in row.placed if placed.event.genres})
     chips = "".join(f'<li class="e g{group}">{text(group_name(group))}</li>' for group in groups if group_name(group))
@@ -312,8 +322,8 @@ def page_markup(heard: Heard, window: Window, title: Optional[str] = None) -> st
     style = (HERE / "guide.css").read_text(encoding="utf-8")
     script = (HERE / "guide.js").read_text(encoding="utf-8")
     texts = embedded_json([event_texts(placed, window) for row in rows for placed in row.placed])
-    lists = [wanting_markup(heard), losses_markup(heard), services_markup(heard), others_markup(heard, window), local_times_markup(heard),
-             tables_markup(heard), colours_markup(rows)]
+    lists = [wanting_markup(heard), losses_markup(heard), junk_markup(heard), services_markup(heard), others_markup(heard, window),
+             local_times_markup(heard), tables_markup(heard), colours_markup(rows)]
     return "\n".join([
         '<!DOCTYPE html>', '<html lang="en">', '<head>', '<meta charset="utf-8">',
         f'<meta http-equiv="Content-Security-Policy" content="{escape(policy(script))}">',

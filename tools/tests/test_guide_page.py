@@ -176,6 +176,11 @@ class Shown(unittest.TestCase):
         at = cells.index("EIT present/following")
         self.assertEqual(cells[at:at + 6], ["EIT present/following", "18", "101", "5", "2", "0"])
 
+    def test_a_part_of_a_guide_and_bytes_passed_over(self) -> None:
+        status, text, _ = run(["junk\t3\t8", "wanting\tsdt", "stream\t1\t", "service\t101\t\t\t\t256\t", "end"])
+        self.assertEqual((status, "type None" in text, "network None" in text), (1, False, False))
+        self.assertIn("Bytes passed over: 1", Page(text).texts["summary"])
+
     def test_a_report_that_is_cut_off_or_none(self) -> None:
         status, text, printed = run(HEAD)
         self.assertEqual((status, "has no `end` line" in printed, "cut off before its end" in text), (1, True, True))

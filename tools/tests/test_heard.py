@@ -64,6 +64,14 @@ class Lines(unittest.TestCase):
         heard = read_heard(["wanting\tpat", "wanting\tpmt\t256\t101", "end"])
         self.assertEqual((heard.wanting, heard.is_whole), ([("pat",), ("pmt", "256", "101")], False))
 
+    def test_a_part_of_a_guide(self) -> None:
+        heard = read_heard(["junk\t0\t187", "wanting\tpat", "stream\t1\t", "service\t101\t\t\t\t256\t", "event\t" + EVENT, "end"])
+        self.assertEqual((heard.junk, heard.stream, heard.is_whole), ([(0, 187)], (1, None), False))
+        (service,) = heard.services
+        self.assertEqual((service.type, service.pmt_pid, service.pcr_pid, len(service.events)), (None, 256, None, 1))
+        made = json.loads(json.dumps(heard_json(heard)))
+        self.assertEqual((made["junk"], made["stream"]["original_network_id"]), ([{"packet": 0, "bytes": 187}], None))
+
     def test_a_fault_and_a_report_that_is_cut_off(self) -> None:
         self.assertEqual(read_heard([*LINES[:1], "fault: packet 7 is no packet"]).fault, "packet 7 is no packet")
         self.assertFalse(read_heard(LINES[:-1]).is_whole)
@@ -73,7 +81,7 @@ class Lines(unittest.TestCase):
         self.assertEqual((heard.passed_over, heard.is_whole), (3, True))
 
     def test_lines_that_listen_does_not_print(self) -> None:
-        for line in ("done\t1", "lost\t1\tx", "clock\t2026-11-31T00:00:00Z", "clock\t٢٠٢٦-11-30T00:00:00Z", "network\t1", "wanting", "end\t1",
+        for line in ("done\t1", "lost\t1\tx", "junk\t1", "clock\t2026-11-31T00:00:00Z", "clock\t٢٠٢٦-11-30T00:00:00Z", "network\t1", "wanting", "end\t1",
                      "local\tGBR\t0\tahead\t60", "local\tGBR\t0\twest\t0\t2027-03-28T01:00:00Z\t0\t", "local\tGBR\t0\tahead\t0\t\t0\t20:20",
                      "event\t" + EVENT, "component\t1\t2\teng", "service\t1\t1\tA\tB\t1", "remote\t1\t1\tA\tB", "other\t1\t1",
                      "other\t1\t1\t1\t\t\t\t"):
