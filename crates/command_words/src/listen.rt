@@ -3,9 +3,11 @@ ghost use Rattle.std.specs.Prelude.{◌≡◌, option_map};
 ghost use Rattle.command_words.specs.Commands.{said_listen, texts};
 ghost use Rattle.command_words.specs.Grammar.{listen_of, times};
 
-/// How `listen` hears a recording: whether it seeks the sync byte again where a recording is damaged, and whether it notices losses.
+/// How `listen` hears a recording: whether its guide shows also what it holds of tables that are not whole, whether it seeks the sync byte
+/// again where a recording is damaged, and whether it notices losses.
 #[derive(Clone, Copy, PartialEq, Eq)]
 pub struct ListenWords {
+    pub partial: bool,
     pub resync: bool,
     pub strict: bool,
 }
@@ -14,12 +16,14 @@ pub struct ListenWords {
 pub(crate) fn listen_words(words: &[String]) -> Option<ListenWords>
     ensures { option_map said_listen result ≡ listen_of (texts words.now) }
 {
+    let partial = times(words, "--partial");
     let resync = times(words, "--resync");
     let strict = times(words, "--strict");
-    if resync > 1 || strict > 1 || resync + strict != words.len() {
+    if partial > 1 || resync > 1 || strict > 1 || partial + resync + strict != words.len() {
         return None;
     }
     Some(ListenWords {
+        partial: partial == 1,
         resync: resync == 1,
         strict: strict == 1,
     })
