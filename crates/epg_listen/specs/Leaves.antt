@@ -1,5 +1,6 @@
 -- What a run of `listen` leaves, for each status, and all that it promises, by the options with which it hears. With `--resync` the pieces of
--- the recording are those that are found in it, and else its packets; with `--strict` their lines are also breaks.
+-- the recording are those that are found in it, and else its packets; with `--strict` their lines are also breaks; with `--partial` the guide
+-- shows what is held.
 use Rattle.std.specs.Prelude.{◌≡◌, ℕ, ◌/◌, ◌⊎◌, ◌++◌, List, [], ◌∷◌, Bool, false, length, Option, Some}
 use Rattle.std.specs.Io.KnownBytes.{Appends, IsAtEnd}
 use Rattle.si_causes.specs.Causes.{Rose, AppendsFront}
@@ -20,8 +21,8 @@ use Rattle.epg_listen.specs.Pieces.{pieces_in, pieces_taken}
 use Rattle.epg_listen.specs.Lines.{counted_in, heard_of, heard_text, heard_guide}
 
 -- the whole report of a recording of these pieces
-abbrev pub report_of : Bool → List Piece → List ℕ
-report_of strict pieces = heard_text strict pieces ++ heard_guide strict (heard_of strict pieces)
+abbrev pub report_of : ListenOptions → List Piece → List ℕ
+report_of how pieces = heard_text how.strict pieces ++ heard_guide how.partial how.strict (heard_of how.strict pieces)
 
 -- the status of a stop
 abbrev pub packet_stop_status : PacketStop → Status
@@ -49,10 +50,10 @@ pub record IsKeyTooMany (strict : Bool) (pieces : List Piece) (n : ℕ) : Type 0
   pub many : HaveTooManyKeys (counted_in (heard_of strict (front ++ Packet packet ∷ [])))
 
 -- with Done: the recording stops at its end, and the report is the lines of all its pieces and the guide
-pub record HeardWhole (strict : Bool) (recording : Findings) (report : ReportTaken) : Type 0 where
+pub record HeardWhole (how : ListenOptions) (recording : Findings) (report : ReportTaken) : Type 0 where
   pub ended : recording.1 ≡ AtEnd
-  pub few : HasRoom strict recording.0
-  pub report_is : Appends report.old report.new (report_of strict recording.0)
+  pub few : HasRoom how.strict recording.0
+  pub report_is : Appends report.old report.new (report_of how recording.0)
 
 -- with a fault after all pieces of the recording
 pub record HeardAll (strict : Bool) (recording : Findings) (fault : List ℕ) (report : ReportTaken) : Type 0 where
@@ -95,11 +96,11 @@ abbrev pub HeardUnreported : ListenOptions → List ℕ → Option (List ℕ) �
 HeardUnreported how bytes left report =
     ((front : List Piece) × WereTaken how.resync bytes left front × AppendsFront report.old report.new (heard_text how.strict front))
     ⊎ (((pieces_in how.resync bytes).1 ≡ AtEnd)
-    × AppendsFront report.old report.new (report_of how.strict (pieces_in how.resync bytes).0))
+    × AppendsFront report.old report.new (report_of how (pieces_in how.resync bytes).0))
 
 -- What a run of `listen` leaves with each status, of the bytes of a recording, and of what is left of them. No other status comes.
 abbrev pub LeavesHeard : ListenOptions → List ℕ → Option (List ℕ) → ReportTaken → Status → Type 0
-LeavesHeard how bytes left report Done = HeardWhole how.strict (pieces_in how.resync bytes) report
+LeavesHeard how bytes left report Done = HeardWhole how (pieces_in how.resync bytes) report
 LeavesHeard how bytes left report (BadStream n) =
     ((pieces_in how.resync bytes).1 ≡ Broken) × (n ≡ length (packets_of (pieces_in how.resync bytes).0))
     × HeardAll how.strict (pieces_in how.resync bytes) (packet_stop_text (packet.Broken n)) report
@@ -158,4 +159,4 @@ ListenRan how left read_faults input input_then taken report_faults report repor
 
 -- `listen` without a word
 abbrev pub without_options : ListenOptions
-without_options = record { resync = false; strict = false }
+without_options = record { partial = false; resync = false; strict = false }

@@ -1,14 +1,20 @@
--- What is reported of the pieces of a recording: without `--strict` the completions that packets show, with it also the breaks; and where
--- bytes were passed over, how many.
-use Rattle.std.specs.Prelude.{ℕ, ◌+◌, ◌++◌, List, [], ◌∷◌, Bool, false, true, map, codes, Option, Some, None}
+-- What is reported of the pieces of a recording: without `--strict` the completions that packets show, with it also the breaks; where bytes
+-- were passed over, how many; and then the guide of what was heard, with `--partial` of all that is held.
+use Rattle.std.specs.Prelude.{ℕ, ◌+◌, ◌++◌, List, [], ◌∷◌, Bool, false, true, if◌then◌else◌, map, codes, Option, Some, None}
 use Rattle.packet_finder.specs.Pieces.{Piece, Piece.Packet, Piece.Junk}
 use Rattle.sub_collect.specs.Runs.{Counted}
-use Rattle.heard_completions.specs.Dones.{at_packet, dones_by}
+use Rattle.sub_collect.specs.Marks.{Taken, all_took}
+use Rattle.heard_completions.specs.Dones.{at_packet, counted_heard, dones_by}
 use Rattle.heard_completions.specs.Texts.{field_text, done_lines}
-use Rattle.guide_receiver.specs.Guides.{guide_of}
+use Rattle.guide_screen.specs.View.{View}
+use Rattle.guide_screen.specs.Screen.{heard_of as shown_of}
+use Rattle.guide_parts.specs.Parts.{parts_over}
+use Rattle.guide_parts.specs.PartScreen.{part_guide}
+use Rattle.guide_receiver.specs.Guides.{view_of}
 use Rattle.strict_receiver.specs.Strict.{lost_by}
-use Rattle.strict_receiver.specs.Earlier.{counted_after, strict_dones_after, strict_guide_after}
+use Rattle.strict_receiver.specs.Earlier.{counted_after, strict_dones_after, strict_view_after, taken_after}
 use Rattle.guide_text.specs.Guides.{guide_text}
+use Rattle.part_text.specs.PartTexts.{part_text}
 
 -- ---- what was heard
 
@@ -75,7 +81,23 @@ lines_after strict number h (piece ∷ pieces) =
 abbrev pub heard_text : Bool → List Piece → List ℕ
 heard_text strict pieces = lines_after strict 0 nothing_heard pieces
 
--- the text of the guide of what was heard
-abbrev pub heard_guide : Bool → History → List ℕ
-heard_guide false h = guide_text (guide_of h.past)
-heard_guide true h = guide_text (strict_guide_after h.earlier h.past)
+-- ---- the guide
+
+-- what was heard whole
+abbrev pub view_heard : Bool → History → View
+view_heard false h = view_of h.past
+view_heard true h = strict_view_after h.earlier h.past
+
+-- the sections of it that count, with the marks between them
+abbrev pub taken_heard : Bool → History → List Taken
+taken_heard false h = all_took (counted_heard h.past)
+taken_heard true h = taken_after h.earlier h.past
+
+-- The text of the guide of what was heard whole, and of these sections and marks: with `--partial` what is wanting and all that is held, and
+-- else what is wanting or the whole screen.
+abbrev pub guide_shown : Bool → View → List Taken → List ℕ
+guide_shown partial V taken = if partial then part_text (part_guide (parts_over V taken)) else guide_text (shown_of V)
+
+-- the text of the guide of what was heard, with `--partial` and `--strict` or without
+abbrev pub heard_guide : Bool → Bool → History → List ℕ
+heard_guide partial strict h = guide_shown partial (view_heard strict h) (taken_heard strict h)

@@ -6,9 +6,11 @@
 //! that is none. With `resync` they are what `packet_finder` finds in it, and a line `junk` stands
 //! where bytes were passed over. With `strict` a strict receiver hears them: each break is reported
 //! too, and where bytes were passed over it starts afresh. With Done the report has the lines of all
-//! pieces and the text of their guide. A recording with a byte, in which no packet is found, is
-//! broken. By [`packets_are_reported`] the report without options is the completions of all packets
-//! and the guide that was heard of them.
+//! pieces and the text of their guide: the needs that are not met, or else the whole screen. With
+//! `partial` these needs come first, and then what the receiver holds of each table, whole or not
+//! (`guide_parts`). A recording with a byte, in which no packet is found, is broken. By
+//! [`packets_are_reported`] the report without options is the completions of all packets and the
+//! guide that was heard of them.
 //!
 //! Tested in `headend_rows`: a completion is reported before the next packet is read; recordings
 //! of other generators.
@@ -16,6 +18,7 @@
 //! Not promised: what is left after Memory, and that it comes only where memory runs out.
 #![tactic(auto)]
 
+mod guide;
 mod laws;
 mod lines;
 mod listen;

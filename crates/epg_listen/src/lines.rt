@@ -1,12 +1,10 @@
-// The lines of a piece and the text of a guide.
+// The lines of a piece.
 ghost use Rattle.std.specs.Prelude.{◌≡◌, ◌++◌, IfOk, OnOk, map, option_map};
 ghost use Rattle.heard_completions.specs.Dones.{at_packet};
 ghost use Rattle.heard_completions.specs.Texts.{field_text, done_lines};
-ghost use Rattle.guide_text.specs.Guides.{guide_text};
 ghost use Rattle.epg_listen.specs.Lines.{junk_line, lost_line, lost_lines};
 
-use guide_receiver::{DoneKey, Heard, write_done};
-use guide_text::print_heard;
+use guide_receiver::{DoneKey, write_done};
 use si_base::put_number;
 use std::alloc::{AllocError, Global};
 use strict_receiver::{Lost, StrictHeard};
@@ -73,14 +71,5 @@ pub(crate) fn junk_line_of(alloc: Global, number: u64, count: u64) -> Result<Vec
     put_field(alloc, &mut text, number)?;
     put_field(alloc, &mut text, count)?;
     text.extend_from_slice(b"\n")?;
-    Ok(text)
-}
-
-/// The text of a guide that was heard.
-pub(crate) fn guide_lines(alloc: Global, heard: &Heard) -> Result<Vec<u8>, AllocError>
-    ensures { IfOk result (λ text. text.items ≡ guide_text heard.now) }
-{
-    let mut text = Vec::new(alloc);
-    print_heard(alloc, heard, &mut text)?;
     Ok(text)
 }

@@ -174,11 +174,17 @@ fn report_fault<R: Sink>(alloc: Global, fault: Status, report: &mut R) -> Status
 
 // Reports the guide of what was heard.
 #[tactic(auto, using(crate::proofs::ListenFacts::guide_told, crate::proofs::ListenFacts::guide_front))]
-fn report_guide<L: Listener, R: Sink>(alloc: Global, listener: &L, report: &mut R) -> Status
-    ensures ends { EndsHeard L.strict (L.stands listener.now) (Ok tt) (told R.written R.faults report.old report.new) result }
+fn report_guide<L: Listener, R: Sink>(
+    alloc: Global,
+    partial: bool,
+    listener: &L,
+    report: &mut R,
+) -> Status
+    ensures ends { EndsHeard partial L.strict (L.stands listener.now) (Ok tt)
+        (told R.written R.faults report.old report.new) result }
     ensures later { R.faults report.old ≤ R.faults report.new }
 {
-    let Ok(text) = listener.guide_text(alloc) else {
+    let Ok(text) = listener.guide_text(alloc, partial) else {
         return out_of_memory(report);
     };
     match write_all(report, &text) {
@@ -191,14 +197,16 @@ fn report_guide<L: Listener, R: Sink>(alloc: Global, listener: &L, report: &mut 
 pub(crate) fn end_report<L: Listener, R: Sink>(
     alloc: Global,
     heard: Result<(), ListenStop>,
+    partial: bool,
     listener: &L,
     report: &mut R,
 ) -> Status
-    ensures ends { EndsHeard L.strict (L.stands listener.now) heard (told R.written R.faults report.old report.new) result }
+    ensures ends { EndsHeard partial L.strict (L.stands listener.now) heard
+        (told R.written R.faults report.old report.new) result }
     ensures later { R.faults report.old ≤ R.faults report.new }
 {
     match heard {
-        Ok(()) => report_guide(alloc, listener, report),
+        Ok(()) => report_guide(alloc, partial, listener, report),
         Err(ListenStop::Read(stop)) => report_fault(alloc, status_of(stop), report),
         Err(ListenStop::TooMany(number)) => report_fault(alloc, Status::TooMany(number), report),
         Err(ListenStop::Report) => Status::WriteFault(Outlet::Report),

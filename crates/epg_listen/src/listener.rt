@@ -1,5 +1,5 @@
 // What hears the pieces of a recording.
-ghost use Rattle.std.specs.Prelude.{◌≡◌, ◌≢◌, ◌++◌, ◌∷◌, [], Bool, false, true, List, ℕ, Err, IfOk, OnOk, slice_index};
+ghost use Rattle.std.specs.Prelude.{◌≡◌, ◌≢◌, [], Bool, false, true, List, ℕ, Err, IfOk, OnOk, slice_index};
 ghost use Rattle.std.proofs.Common.{subst, sym};
 ghost use Rattle.packet_finder.specs.Pieces.{Piece.Packet, Piece.Junk};
 ghost use Rattle.sub_collect.specs.KeyCounts.{HaveFewKeys, HaveTooManyKeys};
@@ -12,7 +12,8 @@ ghost use Rattle.guide_receiver.specs.declared.receiver.HearStop.{HearStop};
 ghost use Rattle.strict_receiver.specs.Standing.{StrictStandsAfter};
 ghost use Rattle.epg_listen.specs.Lines.{History, after, counted_in, piece_lines, heard_guide};
 
-use crate::lines::{guide_lines, lines_of, lost_and_lines_of};
+use crate::guide::guide_lines;
+use crate::lines::{lines_of, lost_and_lines_of};
 use guide_receiver::{HearStop, Receiver};
 use std::alloc::{AllocError, Global};
 use strict_receiver::Strict;
@@ -44,9 +45,11 @@ pub(crate) trait Listener {
     fn pass_over(&mut self)
         ensures { (h : History) (count : ℕ) → stands self.old h → stands self.new (after strict h (Junk count)) };
 
-    /// The text of the guide of what was heard.
-    fn guide_text(&self, alloc: Global) -> Result<Vec<u8>, AllocError>
-        ensures { (h : History) → stands self.now h → IfOk result (λ text. text.items ≡ heard_guide strict h) };
+    /// The text of the guide of what was heard: with `partial` what is wanting and all that is held, or
+    /// else what is wanting or the whole screen.
+    fn guide_text(&self, alloc: Global, partial: bool) -> Result<Vec<u8>, AllocError>
+        ensures { (h : History) → stands self.now h
+            → IfOk result (λ text. text.items ≡ heard_guide partial strict h) };
 
     /// What it stands for has at most 65,536 keys.
     ghost few: { (listener : Self) (h : History) → stands listener h → HaveFewKeys (counted_in h) };
@@ -75,9 +78,8 @@ impl Listener for Receiver {
 
     fn pass_over(&mut self) {}
 
-    fn guide_text(&self, alloc: Global) -> Result<Vec<u8>, AllocError> {
-        let heard = self.guide()?;
-        guide_lines(alloc, &heard)
+    fn guide_text(&self, alloc: Global, partial: bool) -> Result<Vec<u8>, AllocError> {
+        guide_lines(alloc, self, partial)
     }
 
     ghost few = { λ receiver h stands. subst (λ (e : List (List (List ℕ))). HaveFewKeys (counted_after e h.past)) (sym stands.0)
@@ -109,9 +111,8 @@ impl Listener for Strict {
         self.restart();
     }
 
-    fn guide_text(&self, alloc: Global) -> Result<Vec<u8>, AllocError> {
-        let heard = self.guide()?;
-        guide_lines(alloc, &heard)
+    fn guide_text(&self, alloc: Global, partial: bool) -> Result<Vec<u8>, AllocError> {
+        guide_lines(alloc, self.receiver(), partial)
     }
 
     ghost few = { λ receiver h stands. subst HaveFewKeys (sections_taken_after h.earlier h.past) stands.heard.completions.few };

@@ -26,6 +26,7 @@ pub fn run_listen<S: Source, R: Sink>(alloc: Global, input: &mut S, report: &mut
         R.written R.faults report.old report.new result }
 {
     let words = ListenWords {
+        partial: false,
         resync: false,
         strict: false,
     };
@@ -40,6 +41,9 @@ pub fn run_listen<S: Source, R: Sink>(alloc: Global, input: &mut S, report: &mut
 /// With `resync` the recording may be damaged, and its packets may be 188, 192 or 204 bytes apart. Where sync is lost, it passes over the
 /// bytes up to the next row of packets, and reports a line `junk`, the number of the next packet, and how many bytes; with `strict` it
 /// starts afresh there. It then answers `BadStream(0)` exactly where the recording has a byte and no packet is found.
+///
+/// With `partial` the guide has a line `wanting` for each need that is not met, and then what is held of each table: the content that was
+/// completed last, or else the sections of one version that came last, with `strict` those since the last loss on its PID.
 pub fn run_listen_as<S: Source, R: Sink>(
     alloc: Global,
     words: ListenWords,
@@ -72,7 +76,7 @@ fn run_with<L: Listener, S: Source, R: Sink>(
         R.written R.faults report.old report.new result }
 {
     let heard = hear_input(alloc, words.resync, listener, input, report);
-    end_report(alloc, heard, listener, report)
+    end_report(alloc, heard, words.partial, listener, report)
 }
 
 // Hears all pieces of the input: with `resync` those that are found in it, and else its packets.
