@@ -29,8 +29,8 @@ class Launcher(unittest.TestCase):
             pages.add(done.stdout)
         self.assertEqual(len(pages), 1)
         page = pages.pop()
-        for command in ("play", "--fold", "--resume FILE", "listen", "listen --strict", "listen --resync", "audit --air FILE",
-                        "live --feed FILE", "soak N"):
+        for command in ("play", "--fold", "--resume FILE", "listen", "listen --strict", "listen --resync", "listen --partial",
+                        "audit --air FILE", "live --feed FILE", "soak N"):
             self.assertIn(command, page)
         self.assertEqual(page.count("\n  ./lepnugan "), 3)
         self.assertEqual([path.name for path in self.top.iterdir()], ["lepnugan"])

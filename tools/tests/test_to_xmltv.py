@@ -107,6 +107,14 @@ class Documents(unittest.TestCase):
         self.assertIn(b"<!-- wanting pmt 256 101 -->", out)
         self.assertIn(b"Tatort", out)
 
+    def test_a_part_of_a_guide(self) -> None:
+        head = ["wanting\tsdt", "wanting\tclock", "stream\t1\t", "service\t101\t\t\t\t256\t"]
+        data = guide(event(word="now"), event(), event(2, start="2026-11-30T21:30:00Z"), head=head)
+        tv = ElementTree.fromstring(self.written(data, status=3))
+        self.assertEqual([[name.text for name in channel] for channel in tv.findall("channel")], [["101"]])
+        self.assertEqual([(found.get("channel"), found.get("start")) for found in tv.findall("programme")],
+                         [("101.1.0.dvb", "20261130200000 +0000"), ("101.1.0.dvb", "20261130213000 +0000")])
+
     def test_what_is_no_guide(self) -> None:
         rows = (
             (b"", "no line `end`"), (b"fault: packet 0\n", "fault: packet 0"), (guide(event()), "line 6 "), (guide(SERVICE, "event\t1"), "line 7 "),
