@@ -28,7 +28,7 @@ use Rattle.sub_collect.proofs.Marking.{since_free, completions_free, since-appen
 -- ---- packet by packet
 
 -- what stays of the sections of a key at an arrival on its PID
-abbrev since_at : Bool → List Counted → List Counted
+abbrev pub since_at : Bool → List Counted → List Counted
 since_at b since = if b then [] else since
 
 -- the completions of a key, arrival by arrival on its PID
@@ -94,10 +94,10 @@ marks-done k since past packet = go (is_lost past packet)
     go false = refl
 
 -- what a packet adds for a key
-abbrev since_now : Key → List Counted → List (List ℕ) → List ℕ → List Counted
+abbrev pub since_now : Key → List Counted → List (List ℕ) → List ℕ → List Counted
 since_now k since past packet = since_at (breaks (came_before k.pid past) (arrival_on k.pid packet)) since
 
-taken-since : (k : Key) (since : List Counted) (past : List (List ℕ)) (packet : List ℕ)
+pub taken-since : (k : Key) (since : List Counted) (past : List (List ℕ)) (packet : List ℕ)
     → since_from k since (taken_by past packet) ≡ since_now k since past packet ++ key_heard k (adds k.pid past (arrival_on k.pid packet))
 taken-since k since past packet =
     let ss : List Counted = counted_among (ended_by past packet) in
@@ -117,11 +117,11 @@ taken-done k since past packet =
     ∙ ap (completions (since_now k since past packet)) (counted_on k past packet)
 
 -- one arrival more
-before-push : (before : Before) (xs : List Arrival) (x : Arrival) → before_all before (xs ++ x ∷ []) ≡ seen_before x
+pub before-push : (before : Before) (xs : List Arrival) (x : Arrival) → before_all before (xs ++ x ∷ []) ≡ seen_before x
 before-push before [] x = refl
 before-push before (y ∷ xs) x = before-push (seen_before y) xs x
 
-abbrev kept_on : Key → List (List ℕ) → PidState
+abbrev pub kept_on : Key → List (List ℕ) → PidState
 kept_on k past = kept_behind nothing (arrivals_on k.pid past)
 
 by_arrivals : (k : Key) (since : List Counted) (past packets : List (List ℕ))
@@ -177,7 +177,7 @@ completions-more since (s ∷ ss) ts =
     cons_both (Some d) a b = refl
 
 -- at a break an arrival is heard as if nothing had come
-given_at_break : (before : Before) (kept : PidState) (x : Arrival) → Fits before kept → is_break before x ≡ true → (given_after kept x ≡ given_after nothing x) × (kept_after kept x ≡ kept_after nothing x)
+pub given_at_break : (before : Before) (kept : PidState) (x : Arrival) → Fits before kept → is_break before x ≡ true → (given_after kept x ≡ given_after nothing x) × (kept_after kept x ≡ kept_after nothing x)
 given_at_break before kept Arrival.Gap h e = (refl, refl)
 given_at_break Never kept (Arrival.Came l) h e = cc
 given_at_break AtGap kept (Arrival.Came l) h e =

@@ -1,0 +1,5 @@
+pub mod Known
+pub mod Held
+pub mod Window
+pub mod SinceParts
+pub mod Thinned

@@ -1,0 +1,3 @@
+pub mod Aired
+pub mod Laws
+mod Rows
