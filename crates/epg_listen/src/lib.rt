@@ -10,7 +10,8 @@
 //! `partial` these needs come first, and then what the receiver holds of each table, whole or not
 //! (`guide_parts`). A recording with a byte, in which no packet is found, is broken. By
 //! [`packets_are_reported`] the report without options is the completions of all packets and the
-//! guide that was heard of them.
+//! guide that was heard of them. By [`whole_guides_are_reported_alike`] a whole guide is the same with
+//! `partial`, if of events that the SDT says are not sent nothing is held but whole tables.
 //!
 //! Tested in `headend_rows`: a completion is reported before the next packet is read; recordings
 //! of other generators.
@@ -27,5 +28,5 @@ mod piece_reader;
 mod resync;
 mod run;
 
-pub use laws::packets_are_reported;
+pub use laws::{packets_are_reported, whole_guides_are_reported_alike};
 pub use run::{run_listen, run_listen_as};
