@@ -8,7 +8,10 @@ use std::sync::Wait;
 use std::thread::Threads;
 
 // The most runs of a row.
-const MOST: u64 = 256;
+const MOST: u64 = 1_024;
+
+// How many bytes a read and a write move at most, of each run in turn.
+const PIECES: [usize; 7] = [65_536, 1, 7, 187, 188, 189, 409];
 
 /// How a run is told: with its packets, or by exit status and report.
 #[derive(Clone, Copy, PartialEq, Eq)]
@@ -68,6 +71,21 @@ impl<'a, W: Threads + Wait + Sync> Room<'a, W> {
         let mut all = Buffer::open(self.alloc);
         self.put_each(ends, case, turns, form, whole.as_slice(), &mut all);
         ends.note(whole.lacks() || all.lacks());
+        let done = count_parts(self.alloc, all.text(), out);
+        out.note(done);
+    }
+
+    /// Appends what a case leaves with pieces of each size; runs that leave the same are counted.
+    pub fn put_sizes(&self, ends: &mut Ends, case: &Case, out: &mut Buffer) {
+        let mut all = Buffer::open(self.alloc);
+        for piece in PIECES {
+            if !all.as_slice().is_empty() {
+                all.say("; ");
+            }
+            let faults = Faults { piece, ..WHOLE };
+            self.put_run(ends, case, &faults, Form::Reported, &mut all);
+        }
+        ends.note(all.lacks());
         let done = count_parts(self.alloc, all.text(), out);
         out.note(done);
     }

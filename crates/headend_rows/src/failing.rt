@@ -86,6 +86,20 @@ fn calls_of(failing: &Failing, side: Side, report: usize) -> usize {
     }
 }
 
+// What a run meets where its report is not written.
+const NOT_TOLD: Status = Status::WriteFault(Outlet::Report);
+
+// How many bytes stand before the fault line of a report of `listen`.
+fn told_len(report: &str) -> usize {
+    let mut len = 0usize;
+    for line in report.lines() {
+        if !line.starts_with("fault: ") {
+            len = len.saturating_add(line.len()).saturating_add(1);
+        }
+    }
+    len
+}
+
 impl<'a, W: Threads + Wait + Sync> Room<'a, W> {
     // Whether the run in which a call fails leaves what is due.
     fn leaves(&self, ends: &mut Ends, failing: &Failing, faults: &Faults, due: &Due) -> bool {
@@ -170,12 +184,21 @@ impl<'a, W: Threads + Wait + Sync> Room<'a, W> {
         out.say(if is_due { "as due" } else { "not as due" })
     }
 
-    // Whether a case keeps this status, and tells a proper front of this report, where a write of the report fails, whichever it is.
-    fn keeps(&self, ends: &mut Ends, case: &Case, status: Status, report: &[u8]) -> bool {
-        for n in 0..report.len().div_ceil(5) {
-            let faults = Faults::of(Side::Report, 5, n as u64);
-            let kept = ends.run(self.rt, case, &faults) == status;
-            let told = report.get(..n.saturating_mul(5)).unwrap_or(report);
+    // Whether a case tells a proper front of this report where the write of a byte of it fails, whichever it is, and keeps this status, from
+    // this byte on: before it the failed write is what it meets.
+    fn keeps(
+        &self,
+        ends: &mut Ends,
+        case: &Case,
+        status: Status,
+        from: usize,
+        report: &[u8],
+    ) -> bool {
+        for n in 0..report.len() {
+            let faults = Faults::of(Side::Report, 1, n as u64);
+            let due = if n < from { NOT_TOLD } else { status };
+            let kept = ends.run(self.rt, case, &faults) == due;
+            let told = report.get(..n).unwrap_or(report);
             if !kept || ends.report() != told || !ends.air().is_empty() {
                 return false;
             }
@@ -183,13 +206,19 @@ impl<'a, W: Threads + Wait + Sync> Room<'a, W> {
         true
     }
 
-    // Appends the report of a case that meets a fault, and whether each run of it in which a write of the report fails keeps its status.
-    fn put_keeps(&self, ends: &mut Ends, case: &Case, out: &mut Buffer) {
+    /// Appends the report of a case, and whether of each run of it in which the write of a byte fails the bytes before it stay, and the
+    /// status of the fault that was met before.
+    pub fn put_keeps(&self, ends: &mut Ends, case: &Case, out: &mut Buffer) {
         let status = ends.run(self.rt, case, &WHOLE);
         let mut report = Buffer::open(self.alloc);
         report.put(ends.report());
         ends.note(report.lacks());
-        let keeps = self.keeps(ends, case, status, report.as_slice());
+        let from = if case.words == "play" {
+            0
+        } else {
+            told_len(report.text())
+        };
+        let keeps = self.keeps(ends, case, status, from, report.as_slice());
         put_whole(out, status.code(), report.text());
         out.say(if keeps { " stays" } else { " goes" })
     }

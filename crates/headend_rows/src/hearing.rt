@@ -1,6 +1,6 @@
 // Rows of `listen`.
 use crate::answers::{Form, Turns};
-use crate::reports::{put_lines, put_whole};
+use crate::reports::{put_kinds, put_lines, put_whole};
 use crate::run::{Case, Ends, File, Room, Side, WHOLE};
 use crate::texts::{cut, number, refuse};
 use row_lines::Buffer;
@@ -9,14 +9,18 @@ use std::marker::Sync;
 use std::sync::Wait;
 use std::thread::Threads;
 
-// What is shown of a run: the whole report; the guide, after how many completions and breaks; the CRC_32 of the lines of these too; or
-// the completions of one table, the breaks and the guide.
+// What is shown of a run: the whole report; the guide, after how many completions and breaks; the CRC_32 of the lines of these too; the
+// completions of one table, the breaks and the guide; or how many lines of each kind there are. Or what runs with pieces of each size
+// leave, or those in which a write fails.
 #[derive(Clone, Copy)]
 enum Shows<'b> {
     Whole,
     Guide,
     Lines,
     Table(&'b str),
+    Kinds,
+    Sizes,
+    Stays,
 }
 
 fn side_of(out: &mut Buffer, word: &str) -> Side {
@@ -38,11 +42,11 @@ fn is_lost(line: &str) -> bool {
     line.starts_with("lost\t")
 }
 
-// How many bytes the lines of completions and of breaks have.
+// How many bytes the lines of completions, of breaks and of bytes passed over have.
 fn heard_len(report: &str) -> usize {
     let mut len = 0usize;
     for line in report.lines() {
-        if is_done(line) || is_lost(line) {
+        if is_done(line) || is_lost(line) || line.starts_with("junk\t") {
             len = len.saturating_add(line.len()).saturating_add(1);
         }
     }
@@ -99,26 +103,15 @@ fn put_table(out: &mut Buffer, code: u8, report: &str, table: &str) {
 }
 
 impl<'a, W: Threads + Wait + Sync> Room<'a, W> {
-    // Appends what these words leave over a recording.
-    fn put_bytes(
-        &self,
-        ends: &mut Ends,
-        words: &str,
-        bytes: &[u8],
-        shows: Shows,
-        out: &mut Buffer,
-    ) {
-        let case = Case {
-            words,
-            input: bytes,
-            file: File::Absent,
-        };
-        let code = ends.run(self.rt, &case, &WHOLE).code();
+    // Appends what is shown of a run.
+    fn put_heard_of(&self, ends: &mut Ends, case: &Case, shows: Shows, out: &mut Buffer) {
+        let code = ends.run(self.rt, case, &WHOLE).code();
         match shows {
-            Shows::Whole => put_whole(out, code, ends.report_text()),
             Shows::Guide => put_guide(out, code, ends.report_text()),
             Shows::Lines => put_crc(out, code, ends.report_text()),
             Shows::Table(table) => put_table(out, code, ends.report_text(), table),
+            Shows::Kinds => put_kinds(out, code, ends.report_text()),
+            _ => put_whole(out, code, ends.report_text()),
         }
     }
 
@@ -127,17 +120,42 @@ impl<'a, W: Threads + Wait + Sync> Room<'a, W> {
         let mut bytes = Buffer::open(self.alloc);
         self.put_recording(ends, text, &mut bytes);
         ends.note(bytes.lacks());
-        self.put_bytes(ends, words, bytes.as_slice(), shows, out)
+        let case = Case {
+            words,
+            input: bytes.as_slice(),
+            file: File::Absent,
+        };
+        match shows {
+            Shows::Sizes => self.put_sizes(ends, &case, out),
+            Shows::Stays => self.put_keeps(ends, &case, out),
+            _ => self.put_heard_of(ends, &case, shows, out),
+        }
     }
 
-    // `KIND PIECE RECORDING`
-    fn tell_failing(&self, ends: &mut Ends, words: &str, row: &str, out: &mut Buffer) {
-        let (kind, row) = cut(row);
-        let (piece, row) = cut(row);
+    // Appends what these runs leave: `cut` up to so many first bytes, or `read` or `write` of pieces of so many bytes.
+    fn put_each_of(
+        &self,
+        ends: &mut Ends,
+        case: &Case,
+        kind: &str,
+        count: usize,
+        out: &mut Buffer,
+    ) {
+        if kind == "cut" {
+            return self.put_cut_off(ends, case, count, out);
+        }
         let turns = Turns {
             side: side_of(out, kind),
-            piece: number(out, piece),
+            piece: count,
         };
+        self.put_case(ends, case, Some(turns), Form::Reported, out)
+    }
+
+    // `KIND COUNT RECORDING`
+    fn tell_failing(&self, ends: &mut Ends, words: &str, row: &str, out: &mut Buffer) {
+        let (kind, row) = cut(row);
+        let (count, row) = cut(row);
+        let count = number(out, count);
         let mut bytes = Buffer::open(self.alloc);
         self.put_recording(ends, row, &mut bytes);
         ends.note(bytes.lacks());
@@ -146,7 +164,7 @@ impl<'a, W: Threads + Wait + Sync> Room<'a, W> {
             input: bytes.as_slice(),
             file: File::Absent,
         };
-        self.put_case(ends, &case, Some(turns), Form::Reported, out)
+        self.put_each_of(ends, &case, kind, count, out)
     }
 
     // Appends what a row gives whose runs have these words.
@@ -160,29 +178,25 @@ impl<'a, W: Threads + Wait + Sync> Room<'a, W> {
                 let (table, row) = cut(row);
                 self.put_shown(ends, words, row, Shows::Table(table), out)
             }
+            "kinds" => self.put_shown(ends, words, row, Shows::Kinds, out),
+            "sizes" => self.put_shown(ends, words, row, Shows::Sizes, out),
+            "stays" => self.put_shown(ends, words, row, Shows::Stays, out),
             "each" => self.tell_failing(ends, words, row, out),
             _ => out.say("no row"),
         }
     }
 
-    // Appends what `listen --strict` gives of the file of this path.
-    fn tell_file(&self, ends: &mut Ends, path: &str, out: &mut Buffer) {
-        let bytes = match path {
-            "lossy.packets" => self.lossy,
-            "others-bits.packets" => self.others_bits,
-            "others-psi.packets" => self.others_psi,
-            _ => return out.say("no such file"),
-        };
-        self.put_bytes(ends, "listen --strict", bytes, Shows::Lines, out)
-    }
-
-    /// Appends what a row gives: one that begins with `strict` is of `listen --strict`, and one that begins with `words` of its own words
-    /// over an empty recording.
+    /// Appends what a row gives: one that begins with `strict` is of `listen --strict`, one that begins with `listen` has its words before a
+    /// bar, and one that begins with `words` is of its own words over an empty recording.
     pub fn tell_listen(&self, ends: &mut Ends, row: &str, out: &mut Buffer) {
         match cut(row) {
             ("strict", row) => self.tell_heard(ends, "listen --strict", row, out),
             ("words", words) => self.tell_words(ends, words, out),
-            ("file", path) => self.tell_file(ends, path, out),
+            ("file", _) => self.put_shown(ends, "listen --strict", row, Shows::Lines, out),
+            ("listen", _) => match row.split_once(" | ") {
+                Some((words, row)) => self.tell_heard(ends, words, row, out),
+                None => refuse(out),
+            },
             _ => self.tell_heard(ends, "listen", row, out),
         }
     }

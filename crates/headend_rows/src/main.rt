@@ -7,13 +7,15 @@
 //! airs that are whole, short and changed, null packets with `--nulls` and without, and files that do
 //! not open. Rows of `listen` cover empty, short, broken and hostile recordings, parts of a cycle,
 //! each line of a guide, and with `--strict` losses, gaps, repeats and an independent recording with
-//! 91 breaks. Each read and each write fails in turn.
+//! 91 breaks; with `--resync` recordings that are damaged or cut, packets with bytes between, and
+//! reads of seven sizes. Each read and each write fails in turn.
 #![tactic(auto)]
 
 mod answers;
 mod audits;
 mod changes;
 mod cuts;
+mod damaged;
 mod failing;
 mod folds;
 mod hearing;
@@ -37,6 +39,7 @@ use std::{fs, io};
 fn main(rt: HostRuntime) -> io::Result<()> {
     let week = fs::read_to_string(&rt, "week.txt")?;
     let one_name = fs::read_to_string(&rt, "one-name.txt")?;
+    let named = fs::read_to_string(&rt, "named.txt")?;
     let lossy = fs::read(&rt, "lossy.packets")?;
     let others_bits = fs::read(&rt, "others-bits.packets")?;
     let others_psi = fs::read(&rt, "others-psi.packets")?;
@@ -45,6 +48,7 @@ fn main(rt: HostRuntime) -> io::Result<()> {
         alloc: rt.alloc(),
         week: week.as_str(),
         one_name: one_name.as_str(),
+        named: named.as_str(),
         lossy: &lossy,
         others_bits: &others_bits,
         others_psi: &others_psi,

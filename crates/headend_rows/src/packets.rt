@@ -1,5 +1,5 @@
 // Bytes and packets of recordings.
-use crate::texts::{byte, number};
+use crate::texts::{byte, cut, number};
 use row_lines::Buffer;
 use si_base::crc32;
 
@@ -12,6 +12,17 @@ pub fn put_spelled(bytes: &mut Buffer, text: &str) {
             bytes.push(value);
         }
     }
+}
+
+/// What a name stands for, by lines of names.
+pub fn spelling<'t>(named: &'t str, name: &str) -> Option<&'t str> {
+    for line in named.lines() {
+        let (first, words) = cut(line);
+        if first == name {
+            return Some(words);
+        }
+    }
+    None
 }
 
 /// Appends so many bytes of these, again and again.
@@ -69,6 +80,16 @@ fn is_among(number: usize, numbers: &str) -> bool {
 pub fn put_others(into: &mut Buffer, bytes: &[u8], numbers: &str) {
     for (i, packet) in bytes.chunks(188).enumerate() {
         if !is_among(i, numbers) {
+            into.put(packet);
+        }
+    }
+}
+
+/// Appends the packets of a recording that are on one of these PIDs, or all others.
+pub fn put_by_pid(into: &mut Buffer, bytes: &[u8], pids: &str, are_kept: bool) {
+    for packet in bytes.chunks(188) {
+        let pid = usize::from(pid_of(packet).unwrap_or(0));
+        if is_among(pid, pids) == are_kept {
             into.put(packet);
         }
     }

@@ -1,8 +1,10 @@
 // Recordings of rows.
 use crate::changes::change_all;
-use crate::packets::{put_again, put_fronts, put_kept, put_others, put_pmts, put_spelled};
+use crate::packets::{
+    put_again, put_by_pid, put_fronts, put_kept, put_others, put_pmts, put_spelled, spelling,
+};
 use crate::run::{Ends, Room};
-use crate::texts::{cut, number, pid};
+use crate::texts::{cut, number, pid, put_lines_of, refuse};
 use row_lines::Buffer;
 use std::alloc::Global;
 use std::marker::Sync;
@@ -18,11 +20,15 @@ fn put_name_script(count: &str, out: &mut Buffer) {
     }
 }
 
-// Appends the packets of a recording from one on, up to another.
-fn put_range(into: &mut Buffer, bytes: &[u8], range: &str) {
+// Appends what stands from one unit on up to another, or to the end where none is named: `FROM-TO`, or `FROM`.
+fn put_range(into: &mut Buffer, bytes: &[u8], unit: usize, range: &str) {
     let (from, to) = range.split_once('-').unwrap_or((range, ""));
-    let from = number(into, from).saturating_mul(188);
-    let to = number(into, to).saturating_mul(188);
+    let from = number(into, from).saturating_mul(unit);
+    let to = if to.is_empty() {
+        bytes.len()
+    } else {
+        number(into, to).saturating_mul(unit)
+    };
     into.put(bytes.get(from..to).unwrap_or(&[]));
 }
 
@@ -54,14 +60,56 @@ impl<'a, W: Threads + Wait + Sync> Room<'a, W> {
     // Appends the packets of an air from one on, up to another.
     fn put_part(&self, ends: &mut Ends, range: &str, text: &str, bytes: &mut Buffer) {
         self.play_text(ends, text);
-        put_range(bytes, ends.air(), range);
+        put_range(bytes, ends.air(), 188, range);
+    }
+
+    // Appends what a word spells: bytes, or a packet by its name, of which `NAME:FROM-TO` are some bytes; after a star how often it stands.
+    fn put_word(&self, word: &str, bytes: &mut Buffer) {
+        let (unit, count) = word.split_once('*').unwrap_or((word, "1"));
+        let (name, range) = unit.split_once(':').unwrap_or((unit, "0"));
+        let Some(words) = spelling(self.named, name) else {
+            return put_spelled(bytes, word);
+        };
+        let mut packet = Buffer::open(self.alloc);
+        put_spelled(&mut packet, words);
+        if packet.lacks() || packet.len() != 188 {
+            refuse(bytes);
+        }
+        for _ in 0..number(bytes, count) {
+            put_range(bytes, packet.as_slice(), 1, range);
+        }
+    }
+
+    // Appends what the words of a text spell, in which `[1..3|TEXT]` is a text three times.
+    fn put_words(&self, text: &str, bytes: &mut Buffer) {
+        let mut words = Buffer::open(self.alloc);
+        put_lines_of(self.alloc, text, &mut words);
+        if words.lacks() {
+            refuse(bytes);
+        }
+        for word in words.text().split_whitespace() {
+            self.put_word(word, bytes);
+        }
+    }
+
+    // `PATH`, or `PATH:FROM-TO`
+    fn put_packets(&self, text: &str, bytes: &mut Buffer) {
+        let (path, range) = text.split_once(':').unwrap_or((text, "0"));
+        let file = match path {
+            "lossy.packets" => self.lossy,
+            "others-bits.packets" => self.others_bits,
+            "others-psi.packets" => self.others_psi,
+            _ => return refuse(bytes),
+        };
+        put_range(bytes, file, 1, range);
     }
 
     // Appends a recording before packets are taken out.
     fn put_heard(&self, ends: &mut Ends, text: &str, bytes: &mut Buffer) {
         let (form, text) = cut(text);
         match form {
-            "hex" => put_spelled(bytes, text),
+            "hex" => self.put_words(text, bytes),
+            "file" => self.put_packets(text, bytes),
             "play" | "counted" => self.put_air(ends, text, bytes),
             "names" => self.put_names(ends, text, bytes),
             "pmts" => {
@@ -73,13 +121,16 @@ impl<'a, W: Threads + Wait + Sync> Room<'a, W> {
         }
     }
 
-    // `NUMBERS RECORDING`
-    fn put_without(&self, ends: &mut Ends, text: &str, bytes: &mut Buffer) {
+    // `NUMBERS RECORDING`, or `PIDS RECORDING`
+    fn put_chosen(&self, ends: &mut Ends, form: &str, text: &str, bytes: &mut Buffer) {
         let (numbers, text) = cut(text);
         let mut whole = Buffer::open(self.alloc);
         self.put_heard(ends, text, &mut whole);
         ends.note(whole.lacks());
-        put_others(bytes, whole.as_slice(), numbers);
+        match form {
+            "without" => put_others(bytes, whole.as_slice(), numbers),
+            _ => put_by_pid(bytes, whole.as_slice(), numbers, form == "on"),
+        }
     }
 
     // `PID NUMBERS RECORDING`
@@ -96,7 +147,9 @@ impl<'a, W: Threads + Wait + Sync> Room<'a, W> {
     /// Appends the recording of `listen` that this text says.
     pub fn put_recording(&self, ends: &mut Ends, text: &str, bytes: &mut Buffer) {
         match cut(text) {
-            ("without", rest) => self.put_without(ends, rest, bytes),
+            ("without", rest) => self.put_chosen(ends, "without", rest, bytes),
+            ("on", rest) => self.put_chosen(ends, "on", rest, bytes),
+            ("off", rest) => self.put_chosen(ends, "off", rest, bytes),
             ("kept", rest) => self.put_on_pid(ends, rest, bytes),
             _ => self.put_heard(ends, text, bytes),
         }

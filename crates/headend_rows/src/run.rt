@@ -7,13 +7,14 @@ use std::marker::Sync;
 use std::sync::Wait;
 use std::thread::Threads;
 
-/// Where rows run, and the texts of the files that they name.
+/// Where rows run, the texts of the files that they name, and the packets that have names.
 #[derive(Drop)]
 pub struct Room<'a, W> {
     pub rt: &'a W,
     pub alloc: Global,
     pub week: &'a str,
     pub one_name: &'a str,
+    pub named: &'a str,
     pub lossy: &'a [u8],
     pub others_bits: &'a [u8],
     pub others_psi: &'a [u8],
