@@ -1,0 +1,11 @@
+pub mod Turning
+pub mod Found
+pub mod Naming
+pub mod Sizes
+pub mod Chunks
+pub mod Leading
+pub mod Framing
+pub mod Airing
+pub mod Parts
+pub mod Opening
+pub mod Grouping

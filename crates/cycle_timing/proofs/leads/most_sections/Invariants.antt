@@ -1,0 +1,6 @@
+use Rattle.std.proofs.Common.{◌≡◌, take}
+use Rattle.air_paced.specs.Leads.{most_sections}
+use Rattle.cycle_timing.proofs.leads.most_sections.Given as goal
+
+abbrev pub invariant-loop-group : goal.invariant-loop-group
+invariant-loop-group l = l.most ≡ most_sections (take l.group-index l.groups)

@@ -1,0 +1,5 @@
+pub mod Turns
+pub mod Listing
+pub mod Tiers
+pub mod Plans
+pub mod Rows
