@@ -17,7 +17,7 @@ use Rattle.version_book.specs.Book.{aired, versions_of}
 use Rattle.section_codec.specs.declared.table.Tier3.{Tier3}
 use Rattle.cycle_plan.specs.Cycle.{cycle_of}
 use Rattle.cycle_plan.specs.Sections.{planned}
-use Rattle.air_model.specs.Air.{Sent, sent_section, sections_of, tdt, tot, times, leads, before_tdt, behind_tdt, sections_once, at_places, cycle_sections, CanBeTold}
+use Rattle.air_model.specs.Air.{Sent, sent_section, sections_of, tot, times, leads, before_tdt, behind_tdt, sections_once, at_places, cycle_sections, CanBeTold}
 use Rattle.cycle_laying.specs.declared.placed.Placed.{Placed}
 use Rattle.section_codec.specs.SubTables.{IsFit, header_of}
 use Rattle.cycle_laying.specs.Laying.{IsPlaced, sent_at, places_from, AreLaid, sections_under, cycle_under, order_under}
@@ -26,7 +26,8 @@ use Rattle.air_model.proofs.Dense.{eight}
 use Rattle.guide_model.specs.declared.offset.Offset.{Offset}
 use Rattle.time_tables.proofs.Loops.{length-tot_section}
 use Rattle.time_tables.proofs.Offsets.{length-offsets_body}
-use Rattle.cycle_laying.proofs.Weights.{weights_given, places_within}
+use Rattle.cycle_laying.proofs.Weights.{weights_given, each_cycle, places_within}
+use Rattle.air_model.proofs.Planned.{weights_each}
 
 -- a section that can be sent
 record IsSendable (s : Sent) : Type 0 where
@@ -85,22 +86,29 @@ pub laid_placed : (vs : List ℕ) (ts : List SubTable) (moment : ℕ) (form : Cy
 laid_placed vs ts moment form bytes placed h fit can =
     subst (AllByRecursion (IsPlaced (length bytes))) (sym h.placed_are) (placed_fit (length bytes) 0 (cycle_under vs ts (times form moment)) (omega (arith, ap length h.bytes_are)) (sendable_cycle vs ts moment form fit can))
 
+length-places : (start : ℕ) (ss : List Sent) → length (places_from start ss) ≡ length ss
+length-places start [] = refl
+length-places start (s ∷ ss) = ap suc (length-places (start + length s.bytes) ss)
+
 -- the order names no others
 pub laid_within : (vs : List ℕ) (ts : List SubTable) (moment : ℕ) (form : CycleForm) (bytes : List ℕ) (placed : List Placed) → AreLaid (cycle_under vs ts (times form moment)) bytes placed → length vs ≡ length ts
     → AllByRecursion (λ (at : ℕ). at < length placed) (order_under ts form)
 laid_within vs ts moment form bytes placed h each =
     subst (λ (n : ℕ). AllByRecursion (λ (at : ℕ). at < n) (order_under ts form)) (sym (ap length h.placed_are ∙ length-places 0 (cycle_under vs ts (times form moment)))) (places_within vs ts moment form each)
-  where
-    length-places : (start : ℕ) (ss : List Sent) → length (places_from start ss) ≡ length ss
-    length-places start [] = refl
-    length-places start (s ∷ ss) = ap suc (length-places (start + length s.bytes) ss)
+
+-- there are as many as in the airing, whatever came before it
+pub laid_count : (past : List AiredTables) (vs : List ℕ) (ts : List SubTable) (moment : ℕ) (form : CycleForm) (bytes : List ℕ) (placed : List Placed) → AreLaid (cycle_under vs ts (times form moment)) bytes placed
+    → length vs ≡ length ts → length placed ≡ length (sections_once past (aired ts moment form))
+laid_count past vs ts moment form bytes placed h each =
+    ap length h.placed_are ∙ length-places 0 (cycle_under vs ts (times form moment)) ∙ each_cycle vs ts moment form each
+    ∙ ap length (weights_given past moment form ts) ∙ weights_each past (aired ts moment form)
 
 versions_given : (f : SubTable → ℕ) (ts : List SubTable) → sections_under (map f ts) ts ≡ flat_map (λ (t : SubTable). sections_of (f t) t) ts
 versions_given f [] = refl
 versions_given f (t ∷ ts) = ap (λ (l : List Sent). sections_of (f t) t ++ l) (versions_given f ts)
 
 -- with the versions of the airing they are its sections
-sections_given : (past : List AiredTables) (moment : ℕ) (form : CycleForm) (ts : List SubTable) → cycle_under (versions_of past ts moment form) ts (times form moment) ≡ sections_once past (aired ts moment form)
+pub sections_given : (past : List AiredTables) (moment : ℕ) (form : CycleForm) (ts : List SubTable) → cycle_under (versions_of past ts moment form) ts (times form moment) ≡ sections_once past (aired ts moment form)
 sections_given past moment form ts =
     ap₂ (λ (x y : List Sent). x ++ (times form moment ++ y))
     (ap (λ (vs : List ℕ). sections_under vs (before_tdt ts)) (take-map version n ts) ∙ versions_given version (before_tdt ts))

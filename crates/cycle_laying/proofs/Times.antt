@@ -1,10 +1,9 @@
 -- What the sections that tell the time take.
-use Rattle.std.proofs.Common.{◌≡◌, ℕ, ◌+◌, ◌*◌, Bool, true, false, ◌==◌, List, [], ◌∷◌, length, sym, ap, ◌∙◌, arith, true≢false}
+use Rattle.std.proofs.Common.{◌≡◌, ℕ, ◌+◌, ◌*◌, false, ◌==◌, List, [], ◌∷◌, length, sym, ap, arith, true≢false}
 use Rattle.guide_model.specs.declared.offset.Offset.{Offset}
 use Rattle.section_codec.specs.declared.table.Tier3.{Tier3}
 use Rattle.section_codec.specs.declared.table.Tier3.TheVariants.{Fast}
 use Rattle.ts_packets.specs.Packets.{packets_of}
-use Rattle.time_tables.specs.LocalOffsets.{offsets_body}
 use Rattle.time_tables.specs.Tot.{tot_section}
 use Rattle.time_tables.proofs.Offsets.{length-offsets_body}
 use Rattle.time_tables.proofs.Loops.{length-tot_section}

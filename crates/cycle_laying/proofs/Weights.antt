@@ -21,7 +21,7 @@ use Rattle.ts_packets.specs.Packets.{packets_of}
 use Rattle.air_model.proofs.Dense.{eight}
 use Rattle.guide_model.specs.declared.offset.Offset.{Offset}
 use Rattle.time_tables.proofs.Loops.{length-tot_section}
-use Rattle.air_model.specs.Air.{Sent, sent_section, tdt, tot, times, leads, before_tdt, behind_tdt, weight, table_weights, weights_once}
+use Rattle.air_model.specs.Air.{sent_section, tot, times, leads, before_tdt, behind_tdt, weight, table_weights, weights_once}
 use Rattle.cycle_laying.specs.Laying.{sections_under, cycle_under}
 use Rattle.cycle_laying.specs.Planning.{weights_in, weights_of, tot_weight, time_weights, weights_under}
 
@@ -64,7 +64,7 @@ each_under (v ∷ vs) (t ∷ ts) e =
     let i = each_under vs ts (omega arith) in
     omega arith
 
-each_cycle : (vs : List ℕ) (ts : List SubTable) (moment : ℕ) (form : CycleForm) → length vs ≡ length ts → length (cycle_under vs ts (times form moment)) ≡ length (weights_under ts form.offsets)
+pub each_cycle : (vs : List ℕ) (ts : List SubTable) (moment : ℕ) (form : CycleForm) → length vs ≡ length ts → length (cycle_under vs ts (times form moment)) ≡ length (weights_under ts form.offsets)
 each_cycle vs ts moment form e =
     let n = prefix_len leads ts in
     let told = times form moment in

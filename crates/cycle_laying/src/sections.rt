@@ -4,11 +4,13 @@ ghost use Rattle.std.specs.List.{AllByRecursion};
 ghost use Rattle.section_codec.specs.SubTables.{AreFit};
 ghost use Rattle.version_book.specs.Airings.{AiredTables, CycleForm};
 ghost use Rattle.version_book.specs.Book.{BookStandsFor, aired};
-ghost use Rattle.air_model.specs.Air.{at_places, cycle_sections, CanBeTold};
+ghost use Rattle.air_model.specs.Air.{at_places, sections_once, cycle_sections, CanBeTold};
 ghost use Rattle.cycle_laying.specs.Laying.{IsPlaced, sent_at, HaveRoom, order_under, tot_size, room_for, places_for};
+ghost use Rattle.cycle_laying.specs.Telling.{AreInLine, Retells, laid_in, sent_retold};
 
 use crate::laying::{lay_cycle, room_for, tot_of};
 use crate::placed::Placed;
+use crate::telling::tell_section;
 use guide_model::Offset;
 use section_codec::{SubTable, Tables};
 use si_time::Moment;
@@ -38,7 +40,9 @@ impl LaidSections {
     /// and for a TOT of these offsets.
     pub fn take_room(&mut self, tables: &[SubTable], offsets: &[Offset]) -> Result<(), AllocError>
         requires { CanBeTold offsets.now }
-        ensures { OnOk result (HaveRoom tables.now offsets.now self.new.bytes self.new.placed) }
+        ensures room { OnOk result (HaveRoom tables.now offsets.now self.new.bytes self.new.placed) }
+        ensures no_byte { self.new.bytes.items ≡ [] }
+        ensures no_place { self.new.placed.items ≡ [] }
     {
         take_room(&mut self.bytes, &mut self.placed, tables, offsets)
     }
@@ -68,7 +72,14 @@ impl LaidSections {
         ensures placed { OnOk result (AllByRecursion (IsPlaced (length self.new.bytes.items)) self.new.placed.items) }
         ensures within { OnOk result ((quota : ℕ)
             → AllByRecursion (λ at. at < length self.new.placed.items) (order_under tables.now.list (record { quota = quota; offsets = offsets.now }))) }
+        ensures told { OnOk result ((past : List AiredTables) (quota at : ℕ) → BookStandsFor past book.old
+            → map (sent_retold at) (laid_in self.new.bytes.items self.new.placed.items)
+            ≡ sections_once past (aired tables.now.list at (record { quota = quota; offsets = offsets.now }))) }
+        ensures line { OnOk result (AreInLine self.new.bytes.items self.new.placed.items) }
+        ensures count { OnOk result ((past : List AiredTables) (quota : ℕ) → length self.new.placed.items
+            ≡ length (sections_once past (aired tables.now.list moment.0 (record { quota = quota; offsets = offsets.now })))) }
         ensures memory { OnErr result (book.new ≡ book.old) }
+        ensures kept { OnErr result (self.new ≡ self.old) }
     {
         let section = tot_of(alloc, moment, offsets)?;
         let versions = book.assign(tables)?;
@@ -81,6 +92,24 @@ impl LaidSections {
             &section,
         );
         Ok(())
+    }
+
+    /// Writes this moment over that of the section at a place, if that is a TDT or a TOT, and the
+    /// CRC of a TOT (EN 300 468, 5.2.5 and 5.2.6). Any other section stays. It needs a moment whose
+    /// day has 16 bits, and takes no memory.
+    pub fn tell(&mut self, at: usize, moment: Moment)
+        requires line { AreInLine self.old.bytes.items self.old.placed.items }
+        requires at { at < length self.old.placed.items }
+        requires moment { moment.0 < 65536 * 86400 }
+        ensures told { Retells moment.0 at (laid_in self.old.bytes.items self.old.placed.items)
+            (laid_in self.new.bytes.items self.new.placed.items) }
+        ensures line { AreInLine self.new.bytes.items self.new.placed.items }
+        ensures placed { self.new.placed ≡ self.old.placed }
+    {
+        let place = self.placed[at];
+        let (_, from) = self.bytes.as_mut_slice().split_at_mut(place.start);
+        let (section, _) = from.split_at_mut(place.len);
+        tell_section(section, moment);
     }
 }
 
