@@ -1,6 +1,6 @@
 -- What a player stands for, from call to call.
 use Rattle.std.proofs.Common.{◌≡◌, ℕ, suc, ◌<◌, List, [], ◌∷◌, ◌++◌, Result, Ok, Err, Option, length, refl, sym, ap, ap₂, ◌∙◌, subst, arith, map, take, append_assoc, append-nil, length-append}
-use Rattle.std.specs.Prelude.{flat_map, OnOk}
+use Rattle.std.specs.Prelude.{flat_map, OnOk, OnErr}
 use Rattle.std.specs.List.{AllByRecursion, All, prefix_len}
 use Rattle.std.specs.Io.KnownBytes.{Appends}
 use Rattle.std.proofs.KnownBytes.{Appends-trans}
@@ -25,7 +25,7 @@ use Rattle.air_model.specs.Making.{each_dense, counted}
 use Rattle.air_model.proofs.Counted.{counted-append, length-counted}
 use Rattle.air_model.proofs.Airs.{air-push, air_bytes-push, airings_of-push, no_null-dense, air_more-dense}
 use Rattle.section_codec.specs.SubTables.{IsFit}
-use Rattle.carousel_player.specs.Sending.{Sends}
+use Rattle.section_packing.specs.Sending.{Sends, SentAll, SentFront}
 use Rattle.carousel_player.specs.Playing.{Playing, AtEnd, Within, Begins, GaveUp}
 
 -- ---- a cycle begins
@@ -163,28 +163,31 @@ pub on_ok_both : {T E : Type 0} (r : Result T E) (A B C : Type 0) → OnOk r A �
 on_ok_both (Ok y) A B C a b f = f a b
 on_ok_both (Err e) A B C a b f = tt
 
+pub on_ok_of : {T E : Type 0} (r : Result T E) (A B : Type 0) → OnOk r A → (A → B) → OnOk r B
+on_ok_of (Ok y) A B a f = f a
+on_ok_of (Err e) A B a f = tt
+
+pub on_err_of : {T E : Type 0} (r : Result T E) (A B : Type 0) → OnErr r A → (A → B) → OnErr r B
+on_err_of (Ok y) A B a f = tt
+on_err_of (Err e) A B a f = f a
+
 -- all of the rest was handed out
-pub all_out : (xs : List Aired) (x : Aired) (rest : List Packet) (old new : Playing) (bytes : List ℕ) → Within xs x rest old → Sends old.left new.left old.counters new.counters bytes → new.book ≡ old.book → new.left ≡ []
-    → AtEnd (xs ++ x ∷ []) new × (bytes ≡ flat_map bytes_of_packet rest)
-all_out xs x rest old new bytes w s same none =
+pub sent_all : (xs : List Aired) (x : Aired) (rest : List Packet) (old new : Playing) (a c : Option (List ℕ)) → Within xs x rest old → SentAll old.left new.left old.counters new.counters a c → new.book ≡ old.book
+    → AtEnd (xs ++ x ∷ []) new × Appends a c (flat_map bytes_of_packet rest)
+sent_all xs x rest old new a c w sent same =
     let past = air xs ++ w.handed in
-    let front = counted past s.front in
-    let h = hands_out xs x rest old new bytes w s same in
-    let ended : counted (past ++ front) new.left ≡ [] = ap (counted (past ++ front)) none in
+    let front = counted past sent.sends.front in
+    let h = hands_out xs x rest old new sent.bytes w sent.sends same in
+    let ended : counted (past ++ front) new.left ≡ [] = ap (counted (past ++ front)) sent.none in
     let whole : rest ≡ front = h.parts ∙ ap (λ (l : List Packet). front ++ l) ended ∙ append-nil front in
-    (Within-end xs x new (subst (λ (l : List Packet). Within xs x l new) ended h.within), h.bytes_are ∙ ap (flat_map bytes_of_packet) (sym whole))
+    (Within-end xs x new (subst (λ (l : List Packet). Within xs x l new) ended h.within), subst (Appends a c) (h.bytes_are ∙ ap (flat_map bytes_of_packet) (sym whole)) sent.appends)
 
 -- the sink failed behind a front of the rest
-pub gave_up : (xs : List Aired) (x : Aired) (rest : List Packet) (old new : Playing) (bytes : List ℕ) (a c : Option (List ℕ)) → Within xs x rest old → Sends old.left new.left old.counters new.counters bytes → new.book ≡ old.book
-    → AppendsFront a c bytes → GaveUp xs x rest a c new
-gave_up xs x rest old new bytes a c w s same front =
+pub gave_up : (xs : List Aired) (x : Aired) (rest : List Packet) (old new : Playing) (a c : Option (List ℕ)) → Within xs x rest old → SentFront old.left new.left old.counters new.counters a c → new.book ≡ old.book → GaveUp xs x rest a c new
+gave_up xs x rest old new a c w sent same =
     let past = air xs ++ w.handed in
-    let h = hands_out xs x rest old new bytes w s same in
-    (counted past s.front, counted (past ++ counted past s.front) new.left, h.parts, h.within, subst (AppendsFront a c) h.bytes_are front)
-
-pub none_left : (left : List Packet) → length left ≡ 0 → left ≡ []
-none_left [] e = refl
-none_left (p ∷ left) e = absurd (omega arith)
+    let h = hands_out xs x rest old new sent.bytes w sent.sends same in
+    (counted past sent.sends.front, counted (past ++ counted past sent.sends.front) new.left, h.parts, h.within, subst (AppendsFront a c) h.bytes_are sent.front)
 
 -- ---- the air
 

@@ -1,6 +1,4 @@
 pub mod Laying
-pub mod Packing
 pub mod Spacing
-pub mod Sending
 pub mod Playing
 pub mod Rows

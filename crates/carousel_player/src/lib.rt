@@ -19,9 +19,8 @@
 
 mod cycle;
 mod laws;
-mod packing;
 mod player;
-mod sending;
+mod queue;
 
 pub use laws::made_airs_are_spaced;
 pub use player::Player;

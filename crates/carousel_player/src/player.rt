@@ -12,10 +12,10 @@ ghost use Rattle.air_model.specs.Air.{CanBeTold};
 ghost use Rattle.carousel_player.specs.Playing.{AtEnd, AreKeptOf, Within, Begins, GaveUp};
 
 use crate::cycle::Cycle;
-use crate::sending::{BATCH, fill};
 use guide_model::Offsets;
 use section_codec::Tables;
-use si_causes::{Failed, Sink, write_all};
+use section_packing::{BATCH, PacketQueue, send_all};
+use si_causes::{Failed, Sink};
 use si_time::Moment;
 use std::alloc::{AllocError, Global};
 use std::marker::Model;
@@ -185,11 +185,6 @@ impl Player {
         ensures same { A.same sink.old sink.new }
         ensures form { self.new.form ≡ self.old.form }
     {
-        'batches: while !self.cycle.is_ended() {
-            let count = fill(&mut self.cycle, &mut self.counters, &mut self.buffer);
-            let (due, _) = self.buffer.split_at(count);
-            write_all(sink, due)?;
-        }
-        Ok(())
+        send_all(&mut self.cycle, &mut self.counters, &mut self.buffer, sink)
     }
 }

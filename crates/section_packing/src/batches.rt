@@ -38,9 +38,12 @@ pub fn send_all<P: PacketQueue, A: Sink>(
     sink: &mut A,
 ) -> Result<(), Failed>
     requires { length buffer.old ≡ 64 * 188 }
-    ensures done { OnOk result (SentAll (P.packets queue.old) (P.packets queue.new) counters.old counters.new (A.written sink.old) (A.written sink.new)) }
-    ensures failed { OnErr result (SentFront (P.packets queue.old) (P.packets queue.new) counters.old counters.new (A.written sink.old) (A.written sink.new)) }
-    ensures idle { P.packets queue.old ≡ [] → IsOk result × (queue.new ≡ queue.old) × (counters.new ≡ counters.old) × (sink.new ≡ sink.old) }
+    ensures done { OnOk result (SentAll (P.packets queue.old) (P.packets queue.new)
+        counters.old counters.new (A.written sink.old) (A.written sink.new)) }
+    ensures failed { OnErr result (SentFront (P.packets queue.old) (P.packets queue.new)
+        counters.old counters.new (A.written sink.old) (A.written sink.new)) }
+    ensures idle { P.packets queue.old ≡ [] → IsOk result × (queue.new ≡ queue.old)
+        × (counters.new ≡ counters.old) × (sink.new ≡ sink.old) }
     ensures cause { HasCause (A.faults sink.old) (A.faults sink.new) result }
     ensures same { A.same sink.old sink.new }
 {
@@ -57,8 +60,10 @@ fn fill<P: PacketQueue>(queue: &mut P, counters: &mut Counters, buffer: &mut [u8
     requires { length buffer.old ≡ 64 * 188 }
     ensures within { result ≤ length buffer.new }
     ensures size { length buffer.new ≡ 64 * 188 }
-    ensures sends { Sends (P.packets queue.old) (P.packets queue.new) counters.old counters.new (take result buffer.new) }
-    ensures progress { 0 < length (P.packets queue.old) → length (P.packets queue.new) < length (P.packets queue.old) }
+    ensures sends { Sends (P.packets queue.old) (P.packets queue.new) counters.old counters.new
+        (take result buffer.new) }
+    ensures progress { 0 < length (P.packets queue.old)
+        → length (P.packets queue.new) < length (P.packets queue.old) }
 {
     let mut end = 0;
     while end < buffer.len() && !queue.is_ended() {

@@ -21,7 +21,8 @@ impl<Q: SectionQueue> PackedSections<Q> {
     /// Whether no packet is to come.
     pub fn is_ended(&self) -> bool
         requires { IsBegun self.now.from (Q.sections self.now.queue) }
-        ensures { result ≡ (length (packets_behind (Q.sections self.now.queue) self.now.from) == 0) }
+        ensures { result
+            ≡ (length (packets_behind (Q.sections self.now.queue) self.now.from) == 0) }
     {
         self.queue.pid().is_none()
     }
@@ -49,7 +50,8 @@ impl<Q: SectionQueue> PackedSections<Q> {
 // Puts what is next into a packet, as long as that is of its PID and the packet has room.
 fn fill_packet<Q: SectionQueue>(packer: &mut Packer, packed: &mut PackedSections<Q>)
     requires { CanTake packer.old (Q.sections packed.old.queue) packed.old.from }
-    ensures filled { IsFilled packer.old packer.new (Q.sections packed.old.queue) (Q.sections packed.new.queue) packed.old.from packed.new.from }
+    ensures filled { IsFilled packer.old packer.new (Q.sections packed.old.queue)
+        (Q.sections packed.new.queue) packed.old.from packed.new.from }
     ensures keeps { Q.keeps packed.old.queue packed.new.queue }
 {
     while take_next(packer, packed) {}
@@ -59,7 +61,8 @@ fn fill_packet<Q: SectionQueue>(packer: &mut Packer, packed: &mut PackedSections
 // whether the section has ended and another may follow it there.
 fn take_next<Q: SectionQueue>(packer: &mut Packer, packed: &mut PackedSections<Q>) -> bool
     requires { CanTake packer.old (Q.sections packed.old.queue) packed.old.from }
-    ensures takes { Takes result packer.old packer.new (Q.sections packed.old.queue) (Q.sections packed.new.queue) packed.old.from packed.new.from }
+    ensures takes { Takes result packer.old packer.new (Q.sections packed.old.queue)
+        (Q.sections packed.new.queue) packed.old.from packed.new.from }
     ensures keeps { Q.keeps packed.old.queue packed.new.queue }
 {
     let Some(pid) = packed.queue.pid() else {

@@ -1,5 +1,5 @@
 // Sections that are still to be sent.
-ghost use Rattle.std.specs.Prelude.{◌≡◌, ◌<◌, ℕ, List, length, drop};
+ghost use Rattle.std.specs.Prelude.{◌≡◌, ◌<◌, List, length, drop};
 ghost use Rattle.std.specs.List.{AllByRecursion};
 ghost use Rattle.air_model.specs.Air.{Sent};
 ghost use Rattle.section_packing.specs.Queue.{CanBeSent, first_pid, first_bytes};
