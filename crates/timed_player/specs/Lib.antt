@@ -1,0 +1,4 @@
+pub mod Clock
+pub mod Running
+pub mod Playing
+pub mod Player
