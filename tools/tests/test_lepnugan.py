@@ -62,6 +62,20 @@ class Launcher(unittest.TestCase):
         done = self.run_words("listen", "help")
         self.assertEqual((done.returncode, done.stdout), (3, "ran listen help\n"))
 
+    def test_unproved_words_are_those_of_a_try(self) -> None:
+        write_files(self.top, {
+            "bin/rt": "#!/bin/sh\necho \"$PWD: $*\"; cat; exit 3\n",
+            "crates/headend_main/src/main.rt": "",
+        })
+        (self.top / "bin" / "rt").chmod(0o755)
+        words = ["--unproved", "live", "--feed=one", "--feed", "two/../three", "--join=0", "/four"]
+        done = self.run_words(*words, path=str(self.top / "bin"))
+        here = Path.cwd()
+        tried = f"try -- live --feed={here}/one --feed {here}/three --join=0 /four"
+        self.assertEqual((done.returncode, done.stdout), (3, f"{self.top}/crates/headend_main: {tried}\n"))
+        self.assertEqual([line.split(":")[1] for line in done.stderr.splitlines()], [" NOT PROVED", " NOT PROVED"])
+        self.assertEqual(self.run_words("--unproved", "help").stdout, self.run_words("help").stdout)
+
 
 if __name__ == "__main__":
     unittest.main()
