@@ -83,13 +83,8 @@ pub fn guide(alloc: Global, moment: Moment) -> Result<PageGuide, AllocError>
 
 /// The moment of a time of the day.
 pub fn moment_of(row: &mut Row, time: &str) -> Moment {
-    match read_duration(time.as_bytes()) {
-        Some(seconds) => Moment(DAY + u64::from(seconds)),
-        None => {
-            row.refuse();
-            Moment(DAY)
-        }
-    }
+    let seconds = row.known(read_duration(time.as_bytes()), 0);
+    Moment(DAY + u64::from(seconds))
 }
 
 // Appends an event: its id, the time of the day at which it starts, and its seconds.

@@ -179,7 +179,6 @@ fn scene<W: Wait>(rt: &W, row: &mut Row) -> Result<(), AllocError> {
 
 /// What the viewer is answered, step by step.
 pub fn tell<W: Wait>(rt: &W, row: &mut Row) {
-    if scene(rt, row).is_err() {
-        row.lack_memory();
-    }
+    let done = scene(rt, row);
+    row.need(done.is_ok());
 }

@@ -78,7 +78,6 @@ fn watch<W: Threads + Wait + Sync>(rt: &W, row: &mut Row) -> Result<(), AllocErr
 
 /// What a viewer reads while so many posts are made.
 pub fn tell<W: Threads + Wait + Sync>(rt: &W, row: &mut Row) {
-    if watch(rt, row).is_err() {
-        row.lack_memory();
-    }
+    let done = watch(rt, row);
+    row.need(done.is_ok());
 }

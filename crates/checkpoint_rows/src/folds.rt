@@ -3,13 +3,13 @@ ghost use Rattle.std.specs.Prelude.{◌≡◌, ◌<◌, ◌≤◌, ◌^◌, [], 
 ghost use Rattle.journal_model.specs.Steps.{IsStepWithin};
 ghost use Rattle.mux_model.specs.Sound.{IsSound};
 
-use crate::starts::{mux_of, put_text};
+use crate::starts::mux_of;
 use carousel_player::Player;
 use desk_checkpoint::write_checkpoint;
 use desk_core::Desk;
 use journal_model::Step;
 use mux_model::Mux;
-use row_lines::Lines;
+use row_lines::{Buffer, Lines};
 use script_lines::{ScriptItem, next_item};
 use std::alloc::{AllocError, Global};
 
@@ -54,13 +54,14 @@ fn put_checkpoint(
     desk: &Desk,
     player: &Player,
     shift: u32,
-    out: &mut String,
+    out: &mut Buffer,
 ) -> Result<(), AllocError>
     requires { player.now.left ≡ [] }
 {
     let mut text = Vec::new(alloc);
     write_checkpoint(alloc, desk, u64::from(shift), player, &mut text)?;
-    put_text(out, &text)
+    out.put_slashes(&text);
+    Ok(())
 }
 
 // Appends the checkpoint of a desk that did the steps of a script.
@@ -70,7 +71,7 @@ fn tell_desk(
     player: &Player,
     shift: u32,
     lines: &mut Lines,
-    out: &mut String,
+    out: &mut Buffer,
 ) -> Result<(), AllocError>
     requires { player.now.left ≡ [] }
 {
@@ -97,7 +98,7 @@ fn tell_player(
     player: &Player,
     shift: u32,
     lines: &mut Lines,
-    out: &mut String,
+    out: &mut Buffer,
 ) -> Result<(), AllocError>
     requires { player.now.left ≡ [] }
 {
@@ -112,7 +113,7 @@ pub fn tell(
     services: u32,
     shift: u32,
     lines: &mut Lines,
-    out: &mut String,
+    out: &mut Buffer,
 ) -> Result<(), AllocError> {
     let player = player_for(alloc, services)?;
     tell_player(alloc, services, &player, shift, lines, out)

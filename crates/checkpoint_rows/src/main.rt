@@ -1,7 +1,7 @@
 //! Tests of checkpoints: what is read of a text, and what a desk and a player leave.
 //!
-//! A row is `call arguments`, and the program prints `call arguments = answer`. The head of `stdin`
-//! explains the calls and the notation.
+//! A row of `stdin` is `call arguments = answer` (`run_rows`). The notes at its head explain the
+//! calls and the notation.
 #![tactic(auto)]
 
 mod folds;
@@ -9,13 +9,10 @@ mod reads;
 mod rows;
 mod starts;
 
+use row_lines::run_rows;
+use rows::answer;
 use std::io;
 
 fn main(rt: HostRuntime) -> io::Result<()> {
-    for line in rt.lines(rt.alloc()) {
-        let line = line?;
-        let told = rows::told(rt.alloc(), line.as_str())?;
-        println!(rt; "{told}")?;
-    }
-    Ok(())
+    run_rows(&rt, answer)
 }

@@ -1,31 +1,32 @@
 // What is read of the text of a checkpoint.
 ghost use Rattle.std.specs.Prelude.{◌≡◌, ◌<◌, ◌^◌, [], None};
 
-use crate::starts::{mux_of, put_text};
+use crate::starts::mux_of;
 use desk_checkpoint::{CheckStop, Start, read_checkpoint, write_checkpoint};
-use row_lines::Lines;
+use row_lines::{Buffer, Lines};
 use si_causes::ReadStop;
 use std::alloc::{AllocError, Global};
 
-fn put_stop(out: &mut String, stop: CheckStop) -> Result<(), AllocError> {
+fn put_stop(out: &mut Buffer, stop: CheckStop) {
     match stop {
-        CheckStop::Line(line) => write!(out, "line {line}"),
-        CheckStop::Read(ReadStop::Failed) => out.push_str("not read"),
-        CheckStop::Read(ReadStop::TooLong) => out.push_str("too long"),
-        CheckStop::Memory => Err(AllocError),
+        CheckStop::Line(line) => out.say_number("line ", line),
+        CheckStop::Read(ReadStop::Failed) => out.say("not read"),
+        CheckStop::Read(ReadStop::TooLong) => out.say("too long"),
+        CheckStop::Memory => out.note(Err(AllocError)),
     }
 }
 
 // Appends the shift, and the checkpoint that the start leaves at once.
-fn put_start(alloc: Global, out: &mut String, start: &Start) -> Result<(), AllocError>
+fn put_start(alloc: Global, out: &mut Buffer, start: &Start) -> Result<(), AllocError>
     requires ended { start.now.player.left ≡ [] }
     requires shift { start.now.shift < 10 ^ 18 }
 {
     let mut text = Vec::new(alloc);
     write_checkpoint(alloc, &start.desk, start.shift, &start.player, &mut text)?;
-    let shift = start.shift;
-    write!(out, "shift {shift}, ")?;
-    put_text(out, &text)
+    out.say_number("shift ", start.shift);
+    out.say(", ");
+    out.put_slashes(&text);
+    Ok(())
 }
 
 /// Appends why a checkpoint of the multiplex with so many services is not read, or the shift, and the checkpoint that its start leaves at
@@ -34,12 +35,15 @@ pub fn tell(
     alloc: Global,
     services: u32,
     lines: &mut Lines,
-    out: &mut String,
+    out: &mut Buffer,
 ) -> Result<(), AllocError>
     requires { lines.old.stop ≡ None }
 {
     match read_checkpoint(alloc, mux_of(alloc, services)?, lines) {
         Ok(start) => put_start(alloc, out, &start),
-        Err(stop) => put_stop(out, stop),
+        Err(stop) => {
+            put_stop(out, stop);
+            Ok(())
+        }
     }
 }

@@ -1,4 +1,4 @@
-// The multiplexes of rows, and the text of what a head-end goes on from.
+// The multiplexes of rows.
 ghost use Rattle.mux_model.specs.Sound.{IsSound};
 ghost use Rattle.std.specs.Prelude.{IfOk};
 
@@ -28,16 +28,4 @@ pub fn mux_of(alloc: Global, services: u32) -> Result<Mux, AllocError>
         Ok(mux) => Ok(mux),
         Err(_) => Err(AllocError),
     }
-}
-
-/// Appends a text with a slash for each LF.
-pub fn put_text(out: &mut String, text: &[u8]) -> Result<(), AllocError> {
-    let Ok(text) = str::from_utf8(text) else {
-        return out.push_str("no text");
-    };
-    for character in text.chars() {
-        let shown = if character == '\n' { '/' } else { character };
-        out.push(shown)?;
-    }
-    Ok(())
 }

@@ -1,8 +1,7 @@
 //! Tests of cycles: `version_book`, `cycle_plan`, `carousel_player` and the counters of
 //! `ts_packets`.
 //!
-//! A line of `stdin` is a call with its arguments, and the program prints it with what it gives.
-//! `stdout` has the expected values, to be compared with the standards.
+//! A line of `stdin` is a call with its arguments and the answer that is wanted (`run_rows`).
 #![tactic(auto)]
 
 mod counters;
@@ -11,8 +10,7 @@ mod plans;
 mod playing;
 mod versions;
 
-use row_lines::Row;
-use std::alloc::{AllocError, Global};
+use row_lines::{Row, run_rows};
 use std::io;
 
 // Answers a row.
@@ -34,20 +32,6 @@ fn answer(row: &mut Row) {
     }
 }
 
-// A line as it is printed.
-fn told(alloc: Global, line: &str) -> Result<String, AllocError> {
-    if line.is_empty() || line.starts_with('#') {
-        return String::from_str(alloc, line);
-    }
-    let mut row = Row::open(alloc, line);
-    answer(&mut row);
-    row.finish(line)
-}
-
 fn main(rt: HostRuntime) -> io::Result<()> {
-    for line in rt.lines(rt.alloc()) {
-        let text = told(rt.alloc(), line?.as_str())?;
-        println!(rt; "{text}")?;
-    }
-    Ok(())
+    run_rows(&rt, answer)
 }

@@ -18,9 +18,7 @@ pub fn order(row: &mut Row) {
         (Tier3::Far, 4),
         (Tier3::Far, 4),
     ];
-    let Ok(quota) = u32::try_from(row.number()) else {
-        return row.refuse();
-    };
+    let quota = row.long();
     match plan(row.alloc(), &sections, quota) {
         Ok(mut order) => put_order(row, &mut order),
         Err(_) => row.lack_memory(),
@@ -39,9 +37,7 @@ fn put_order(row: &mut Row, order: &mut CyclePlan) {
 /// `spacing QUOTA FAST FAST FAST NEAR NEAR FAR FAR FAR FAR`: of sections with so many packets two cycles, one behind the other; how many
 /// packets a start of a Fast section is behind its last one at most, and of a Near section, each with its bound.
 pub fn spacing(row: &mut Row) {
-    let Ok(quota) = u32::try_from(row.number()) else {
-        return row.refuse();
-    };
+    let quota = row.long();
     let sections = [
         (Tier3::Fast, size(row)),
         (Tier3::Fast, size(row)),
@@ -69,8 +65,7 @@ pub fn spacing(row: &mut Row) {
 }
 
 fn size(row: &mut Row) -> u32 {
-    let word = row.word();
-    u32::from(row.small_in(word))
+    u32::from(row.octet())
 }
 
 // The packets of all sections so far, and in which of them each section began last; the largest distances of two starts of one section.

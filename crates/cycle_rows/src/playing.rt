@@ -33,8 +33,7 @@ pub fn play_local(row: &mut Row) {
 }
 
 fn regions(row: &mut Row) -> u8 {
-    let word = row.word();
-    let regions = row.small_in(word);
+    let regions = row.octet();
     if regions > 16 {
         row.refuse();
     }
@@ -178,9 +177,7 @@ fn swap(row: &mut Row, player: &mut Player, body: &[u8]) {
     let Ok(tables) = sdt(row.alloc(), body) else {
         return row.lack_memory();
     };
-    if player.swap(tables, 0, MOMENT).is_err() {
-        row.lack_memory();
-    }
+    row.need(player.swap(tables, 0, MOMENT).is_ok());
 }
 
 fn put_packets(row: &mut Row, player: &mut Player) {

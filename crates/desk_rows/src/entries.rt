@@ -7,20 +7,13 @@ use journal_text::{ScriptItem, next_item, write_entry};
 use row_lines::{Buffer, Lines};
 use std::alloc::Global;
 
-// Appends a text with a slash for LF.
-fn put_lines(out: &mut Buffer, text: &[u8]) {
-    for byte in text {
-        out.push(if *byte == b'\n' { b'/' } else { *byte });
-    }
-}
-
 fn put_entry(alloc: Global, entry: &Entry, out: &mut Buffer)
     requires { IsEntryInWindow entry.now }
 {
     let mut text = Vec::new(alloc);
     let done = write_entry(alloc, entry, &mut text);
     out.note(done);
-    put_lines(out, &text);
+    out.put_slashes(&text);
 }
 
 // The outcome that is the next item.

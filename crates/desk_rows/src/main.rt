@@ -1,8 +1,8 @@
 //! Tests of descriptions, edits, scripts and their answers: the calls from `mux_config` to
 //! `journal_text`.
 //!
-//! A row is `call arguments`, and the program prints `call arguments = answer`. The head of `stdin`
-//! explains the calls and the notation.
+//! A row of `stdin` is `call arguments = answer` (`run_rows`). The notes at its head explain the
+//! calls and the notation.
 #![tactic(auto)]
 
 mod books;
@@ -18,17 +18,10 @@ mod rows;
 mod scripts;
 mod words;
 
-use row_lines::Buffer;
+use row_lines::run_rows;
+use rows::answer;
 use std::io;
 
 fn main(rt: HostRuntime) -> io::Result<()> {
-    let mut told = Buffer::open(rt.alloc());
-    for line in rt.lines(rt.alloc()) {
-        let line = line?;
-        told.clear();
-        rows::put_told(rt.alloc(), line.as_str(), &mut told);
-        let answer = told.finished(false)?;
-        println!(rt; "{answer}")?;
-    }
-    Ok(())
+    run_rows(&rt, answer)
 }

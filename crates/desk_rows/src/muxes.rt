@@ -81,21 +81,6 @@ fn put_service(out: &mut Buffer, service: &MuxService) {
     put_components(out, service.components.as_slice());
 }
 
-// The services; of more than nine their number and the last.
-fn put_services(out: &mut Buffer, services: &[MuxService]) {
-    let count = services.len();
-    if let [.., last] = services
-        && 9 < count
-    {
-        out.say_number("; ", count as u64);
-        out.say(" services");
-        return put_service(out, last);
-    }
-    for service in services {
-        put_service(out, service);
-    }
-}
-
 // The network and the stream.
 fn put_stream(out: &mut Buffer, mux: &Mux) {
     out.say_number("network ", u64::from(mux.network));
@@ -121,21 +106,6 @@ fn put_offset(out: &mut Buffer, offset: &Offset) {
     out.say_number(" on ", u64::from(offset.next));
 }
 
-// The offsets; of more than nine their number and the last.
-fn put_offsets(out: &mut Buffer, offsets: &[Offset]) {
-    let count = offsets.len();
-    if let [.., last] = offsets
-        && 9 < count
-    {
-        out.say_number("; ", count as u64);
-        out.say(" offsets");
-        return put_offset(out, last);
-    }
-    for offset in offsets {
-        put_offset(out, offset);
-    }
-}
-
 fn put_remote(out: &mut Buffer, service: &RemoteService) {
     out.say_number("; remote ", u64::from(service.service));
     out.say_number(" of feed ", u64::from(service.feed));
@@ -145,42 +115,30 @@ fn put_remote(out: &mut Buffer, service: &RemoteService) {
     put_quoted(out, service.name.as_str());
 }
 
-// The services of another stream; of more than nine their number and the last.
-fn put_remotes(out: &mut Buffer, services: &[RemoteService]) {
-    let count = services.len();
-    if let [.., last] = services
-        && 9 < count
-    {
-        out.say_number("; ", count as u64);
-        out.say(" remote services");
-        return put_remote(out, last);
-    }
-    for service in services {
-        put_remote(out, service);
-    }
-}
-
 fn put_other(out: &mut Buffer, other: &Other) {
     out.say_number("; other ", u64::from(other.stream));
     out.say_number(" of ", u64::from(other.original));
     if let Some(cable) = &other.cable {
         put_cable(out, cable);
     }
-    put_remotes(out, other.services.as_slice());
+    let remotes = other.services.as_slice();
+    put_each(out, remotes, " remote services", put_remote);
 }
 
-// The other streams; of more than nine their number and the last.
-fn put_others(out: &mut Buffer, others: &[Other]) {
-    let count = others.len();
-    if let [.., last] = others
+// Each of these; of more than nine their number and the last.
+fn put_each<T, F: Fn(&mut Buffer, &T)>(out: &mut Buffer, items: &[T], name: &str, put: F)
+    requires { F.IsAlwaysCallable put }
+{
+    let count = items.len();
+    if let [.., last] = items
         && 9 < count
     {
         out.say_number("; ", count as u64);
-        out.say(" other streams");
-        return put_other(out, last);
+        out.say(name);
+        return put(out, last);
     }
-    for other in others {
-        put_other(out, other);
+    for item in items {
+        put(out, item);
     }
 }
 
@@ -188,9 +146,9 @@ fn put_mux(out: &mut Buffer, mux: &Mux) {
     put_stream(out, mux);
     put_moment(out, "; start ", mux.start);
     out.say_number("; quota ", u64::from(mux.quota));
-    put_offsets(out, mux.offsets.as_slice());
-    put_services(out, mux.services.as_slice());
-    put_others(out, mux.others.as_slice());
+    put_each(out, mux.offsets.as_slice(), " offsets", put_offset);
+    put_each(out, mux.services.as_slice(), " services", put_service);
+    put_each(out, mux.others.as_slice(), " other streams", put_other);
 }
 
 // The copy of a multiplex.

@@ -1,8 +1,7 @@
 // A row and its answer.
 use crate::{books, controls, desks, edits, entries, muxes, outcomes, publications, scripts};
-use input_lines::numeral;
-use row_lines::{Buffer, Cut, Lines, NEVER, parts_counted, reader, runs_counted, written_out};
-use std::alloc::{AllocError, Global};
+use row_lines::{Buffer, Cut, Lines, Row, numbered, put_in_short, reader, tell_in_pieces};
+use std::alloc::Global;
 
 // A description of two services, without its end.
 const TWO_SERVICES: &str =
@@ -32,15 +31,6 @@ fn tell_numbered(alloc: Global, call: &str, number: u32, lines: &mut Lines, out:
     }
 }
 
-// The number that a text begins with, and what stands after it and a space.
-fn numbered(text: &str) -> Option<(u32, &str)> {
-    let (number, text) = text.split_once(' ')?;
-    match number.parse::<u32>() {
-        Ok(number) => Some((number, text)),
-        Err(_) => None,
-    }
-}
-
 // Appends what a call gives for a text that comes so.
 fn tell_text(alloc: Global, call: &str, text: &str, cut: Cut, out: &mut Buffer) {
     match reader(alloc, text, cut) {
@@ -49,9 +39,18 @@ fn tell_text(alloc: Global, call: &str, text: &str, cut: Cut, out: &mut Buffer) 
     }
 }
 
+// The number that a text begins with, of a caller or a field, and what stands after it and a space.
+fn called(text: &str) -> Option<(u32, &str)> {
+    let (number, text) = text.split_once(' ').unwrap_or((text, ""));
+    match number.parse::<u32>() {
+        Ok(number) => Some((number, text)),
+        Err(_) => None,
+    }
+}
+
 // The same for a call with a number before its text.
 fn tell_behind(alloc: Global, call: &str, text: &str, cut: Cut, out: &mut Buffer) {
-    let Some((number, text)) = numbered(text) else {
+    let Some((number, text)) = called(text) else {
         return out.say("no row");
     };
     match reader(alloc, text, cut) {
@@ -69,32 +68,17 @@ fn tell(alloc: Global, call: &str, text: &str, cut: Cut, out: &mut Buffer) {
     }
 }
 
-fn whole(piece: u32) -> Cut {
-    Cut {
-        piece,
-        fails_at: NEVER,
-    }
-}
-
-// Appends what a call gives for a text in pieces of 1, 7 and 4,096 bytes to an empty answer.
-fn tell_in_pieces(alloc: Global, call: &str, text: &str, out: &mut Buffer) {
-    tell(alloc, call, text, whole(1), out);
-    let mut again = Buffer::open(alloc);
-    for piece in [7, 4_096] {
-        again.clear();
-        tell(alloc, call, text, whole(piece), &mut again);
-        if again.lacks() || again.as_slice() != out.as_slice() {
-            out.clear();
-            return out.say("pieces differ");
-        }
-    }
+// Appends what a call gives for a text in pieces.
+fn tell_whole(alloc: Global, call: &str, text: &str, out: &mut Buffer) {
+    tell_in_pieces(alloc, out, |cut: Cut, out: &mut Buffer| {
+        tell(alloc, call, text, cut, out);
+    });
 }
 
 // How the text of a row comes, and the row.
 fn cut_of(row: &str) -> Option<(Cut, &str)> {
-    let (piece, rest) = row.split_once(' ')?;
-    let (fails_at, rest) = rest.split_once(' ')?;
-    let (piece, fails_at) = (numeral(piece)?, numeral(fails_at)?);
+    let (piece, rest) = numbered(row)?;
+    let (fails_at, rest) = numbered(rest)?;
     Some((Cut { piece, fails_at }, rest))
 }
 
@@ -104,12 +88,11 @@ fn tell_more(alloc: Global, text: &str, out: &mut Buffer) {
     more.say(TWO_SERVICES);
     more.say(text);
     more.say("/end/");
-    tell_in_pieces(alloc, "mux", more.text(), out);
+    tell_whole(alloc, "mux", more.text(), out);
 }
 
-// Appends what a row whose notation is written out gives.
-fn tell_written(alloc: Global, row: &str, out: &mut Buffer) {
-    let (call, text) = row.split_once(' ').unwrap_or((row, ""));
+// Appends what a call gives for a text.
+fn tell_call(alloc: Global, call: &str, text: &str, out: &mut Buffer) {
     match call {
         "more" => tell_more(alloc, text, out),
         "cut" => match cut_of(text) {
@@ -119,36 +102,11 @@ fn tell_written(alloc: Global, row: &str, out: &mut Buffer) {
             }
             None => out.say("no row"),
         },
-        _ => tell_in_pieces(alloc, call, text, out),
+        _ => tell_whole(alloc, call, text, out),
     }
 }
 
-// Appends an answer in short.
-fn put_short(alloc: Global, told: &Buffer, out: &mut Buffer) -> Result<(), AllocError> {
-    let told = parts_counted(alloc, told.finished(false)?)?;
-    let told = runs_counted(alloc, told.as_str())?;
-    out.say(told.as_str());
-    Ok(())
-}
-
-// Appends what a row gives, in short.
-fn put_answer(alloc: Global, row: &str, out: &mut Buffer) -> Result<(), AllocError> {
-    let Some(row) = written_out(alloc, row)? else {
-        out.say("no row");
-        return Ok(());
-    };
-    let mut told = Buffer::open(alloc);
-    tell_written(alloc, row.as_str(), &mut told);
-    put_short(alloc, &told, out)
-}
-
-/// Appends the line with its answer; an empty line and one that begins with `#` as they are.
-pub fn put_told(alloc: Global, line: &str, out: &mut Buffer) {
-    out.say(line);
-    if line.is_empty() || line.starts_with('#') {
-        return;
-    }
-    out.say(" = ");
-    let done = put_answer(alloc, line, out);
-    out.note(done);
+/// Puts what a row gives.
+pub fn answer(row: &mut Row) {
+    put_in_short(row, tell_call);
 }

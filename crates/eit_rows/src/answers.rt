@@ -5,85 +5,66 @@ ghost use Rattle.eit_segments.specs.Schedule.{CanBePlaced};
 use crate::events::read_events;
 use crate::placeable::can_be_placed;
 use eit_segments::{EventAt, Piece, present_following, segments};
+use row_lines::Row;
 use si_time::{Moment, read_day, read_moment};
-use std::alloc::{AllocError, Global};
 
-// A section: its table in hex, its number, the last of its table and that of its segment, and the places of its events.
-fn put_piece(alloc: Global, out: &mut String, piece: &Piece) -> Result<(), AllocError> {
-    let between = if out.is_empty() { "" } else { " / " };
-    let text = format!(in alloc;
-        "{}{:02X} {} {} {} {}..{}",
-        between, piece.table, piece.number, piece.last, piece.segment_last, piece.from, piece.to
-    )?;
-    out.push_str(text.as_str())
+// A section: its table in hex, its number, the last of its table and that of its segment, and the
+// places of its events.
+fn put_piece(row: &mut Row, piece: &Piece) {
+    row.begin_part();
+    row.put_byte(" ", piece.table);
+    row.put_number(" ", u64::from(piece.number));
+    row.put_number(" ", u64::from(piece.last));
+    row.put_number(" ", u64::from(piece.segment_last));
+    row.put_number(" ", piece.from as u64);
+    row.put_number("..", piece.to as u64);
 }
 
 // The sections of a schedule.
-fn sections(alloc: Global, events: &[EventAt], day: Moment) -> Result<String, AllocError>
+fn put_sections(row: &mut Row, events: &[EventAt], day: Moment)
     requires day { day.0 % 86400 ≡ 0 }
     requires events { CanBePlaced events.now }
 {
-    let pieces = segments(alloc, events, day)?;
-    let mut out = String::new(alloc);
-    for piece in pieces.as_slice() {
-        put_piece(alloc, &mut out, piece)?;
+    match segments(row.alloc(), events, day) {
+        Ok(pieces) => {
+            for piece in pieces.as_slice() {
+                put_piece(row, piece);
+            }
+        }
+        Err(_) => row.lack_memory(),
     }
-    Ok(out)
 }
 
 // A place, or a dash.
-fn place(alloc: Global, place: Option<usize>) -> Result<String, AllocError> {
+fn put_place(row: &mut Row, name: &str, place: Option<usize>) {
+    row.put(name);
     match place {
-        Some(place) => place.to_string(alloc),
-        None => String::from_str(alloc, "-"),
+        Some(place) => row.put_number(" ", place as u64),
+        None => row.put(" -"),
     }
 }
 
 // The places of the present and the following event.
-fn both(alloc: Global, events: &[EventAt], at: Moment) -> Result<String, AllocError>
+fn put_both(row: &mut Row, events: &[EventAt], at: Moment)
     requires { CanBePlaced events.now }
 {
     let (present, following) = present_following(events, at);
-    let present = place(alloc, present)?;
-    let following = place(alloc, following)?;
-    format!(in alloc; "present {present} following {following}")
+    put_place(row, " present", present);
+    put_place(row, " following", following);
 }
 
-// What a call gives.
-fn answer_for(
-    alloc: Global,
-    call: &str,
-    when: &str,
-    events: &[EventAt],
-) -> Result<Option<String>, AllocError>
-    requires { CanBePlaced events.now }
-{
-    match call {
-        "segments" => match read_day(when.as_bytes()) {
-            Some(day) => Ok(Some(sections(alloc, events, day)?)),
-            None => Ok(None),
-        },
-        "present_following" => match read_moment(when.as_bytes()) {
-            Some(at) => Ok(Some(both(alloc, events, at)?)),
-            None => Ok(None),
-        },
-        _ => Ok(None),
-    }
-}
-
-/// What a row gives, or none where it is no row: `segments DAY | EVENTS`, `present_following MOMENT | EVENTS`.
-pub fn answer(alloc: Global, row: &str) -> Result<Option<String>, AllocError> {
-    let Some((head, text)) = row.split_once('|') else {
-        return Ok(None);
-    };
-    let Some((call, when)) = head.trim().split_once(' ') else {
-        return Ok(None);
-    };
-    let Some(events) = read_events(alloc, text)? else {
-        return Ok(None);
-    };
+/// What a row gives: `segments DAY | EVENTS` or `present_following MOMENT | EVENTS`.
+pub fn answer(row: &mut Row) {
+    let call = row.word();
+    let when = row.word().as_bytes();
+    row.pass("|");
+    let events = read_events(row);
     if !can_be_placed(&events) {
-        return Ok(None);
+        return row.refuse();
     }
-    answer_for(alloc, call, when, &events)
+    match (call, read_day(when), read_moment(when)) {
+        ("segments", Some(day), _) => put_sections(row, &events, day),
+        ("present_following", _, Some(at)) => put_both(row, &events, at),
+        _ => row.refuse(),
+    }
 }

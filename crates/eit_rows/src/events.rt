@@ -1,64 +1,52 @@
-// The events of a row: each its start, its duration and its size, and `*n` where so many stand one behind the other. They are
-// parted by a slash.
+// The events of a row: each its start, its duration and its size, and `*n` where so many stand one
+// after the other. They are parted by a slash.
 use eit_segments::EventAt;
+use row_lines::{MOST, Row};
 use si_time::{Moment, read_duration, read_moment};
-use std::alloc::{AllocError, Global};
 
-// The event that these words say.
-fn read_event(start: &str, duration: &str, size: &str) -> Option<EventAt> {
-    let start = read_moment(start.as_bytes())?;
-    let seconds = read_duration(duration.as_bytes())?;
-    let size = size.parse::<u32>().ok()?;
-    Some(EventAt {
-        start,
-        seconds,
-        size,
-    })
+// The event that begins with this word.
+fn event(row: &mut Row, start: &str) -> EventAt {
+    let seconds = read_duration(row.word().as_bytes());
+    let size = row.word().parse::<u32>().ok();
+    EventAt {
+        start: row.known(read_moment(start.as_bytes()), Moment(0)),
+        seconds: row.known(seconds, 0),
+        size: row.known(size, 0),
+    }
 }
 
-// Appends an event so many times, each behind the one before.
-fn put_times(events: &mut Vec<EventAt>, first: EventAt, times: u32) -> Result<(), AllocError> {
+// How often it stands. The word after it is read.
+fn times(row: &mut Row) -> u32 {
+    let word = row.word();
+    let Some(times) = word.strip_prefix('*') else {
+        let _ends = row.is_end(word);
+        return 1;
+    };
+    let behind = row.word();
+    let _ends = row.is_end(behind);
+    row.known(times.parse::<u32>().ok(), 0)
+}
+
+// Appends an event so many times, each after the one before.
+fn put_times(row: &mut Row, events: &mut Vec<EventAt>, first: EventAt, times: u32) {
     let mut event = first;
     for _ in 0..times {
-        events.push(event)?;
+        row.need(events.push(event).is_ok());
         event.start = Moment(event.start.0.wrapping_add(u64::from(event.seconds)));
     }
-    Ok(())
 }
 
-// How often the event of a part stands.
-fn times_of(word: Option<&str>) -> Option<u32> {
-    match word {
-        None => Some(1),
-        Some(word) => word.strip_prefix('*')?.parse::<u32>().ok(),
-    }
-}
-
-// Appends the events of a part.
-fn put_part(events: &mut Vec<EventAt>, part: &str) -> Result<bool, AllocError> {
-    let mut words = part.trim().split(' ');
-    let (Some(start), Some(duration), Some(size)) = (words.next(), words.next(), words.next())
-    else {
-        return Ok(false);
-    };
-    let (Some(event), Some(times)) = (read_event(start, duration, size), times_of(words.next()))
-    else {
-        return Ok(false);
-    };
-    put_times(events, event, times)?;
-    Ok(true)
-}
-
-/// The events that a text says, or none where it says no events.
-pub fn read_events(alloc: Global, text: &str) -> Result<Option<Vec<EventAt>>, AllocError> {
-    let mut events = Vec::new(alloc);
-    if text.trim().is_empty() {
-        return Ok(Some(events));
-    }
-    for part in text.split('/') {
-        if !put_part(&mut events, part)? {
-            return Ok(None);
+/// The events of a row.
+pub fn read_events(row: &mut Row) -> Vec<EventAt> {
+    let mut events = Vec::new(row.alloc());
+    for _ in 0..MOST {
+        let start = row.word();
+        if start.is_empty() {
+            break;
         }
+        let first = event(row, start);
+        let times = times(row);
+        put_times(row, &mut events, first, times);
     }
-    Ok(Some(events))
+    events
 }

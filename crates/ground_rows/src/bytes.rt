@@ -1,6 +1,6 @@
 // Sums of bytes, and bytes taken from their front.
 use crate::notation::{append, bytes, put_hex};
-use crate::row::{first_word, number_below};
+use crate::row::{number_below, number_in};
 use row_lines::Row;
 use si_base::{Reader, crc32};
 
@@ -10,8 +10,8 @@ pub fn put_crc(row: &mut Row, bytes: &[u8]) {
 }
 
 /// The CRC of so many mixed bytes.
-pub fn put_crc_of_mixed(row: &mut Row, arguments: &str) {
-    let count = number_below(row, 100_000, arguments);
+pub fn put_crc_of_mixed(row: &mut Row) {
+    let count = number_below(row, 100_000);
     let mixed = mixed(row, count);
     put_crc(row, &mixed);
 }
@@ -28,9 +28,12 @@ fn mixed(row: &mut Row, count: u64) -> Vec<u8> {
 }
 
 /// What is taken by calls that ask for these numbers of bytes, with commas between them.
-pub fn take(row: &mut Row, arguments: &str) {
-    let (counts, arguments) = first_word(row, arguments);
-    let bytes = bytes(row, arguments);
+pub fn take(row: &mut Row) {
+    let counts = row.word();
+    if row.call().is_empty() {
+        return row.refuse();
+    }
+    let bytes = bytes(row);
     let mut reader = Reader::open(&bytes);
     let mut is_first = true;
     for count in counts.split(',') {
@@ -38,7 +41,7 @@ pub fn take(row: &mut Row, arguments: &str) {
             row.put(",");
         }
         is_first = false;
-        let count = number_below(row, 100_000, count);
+        let count = number_in(row, 100_000, count);
         put_taken(row, &mut reader, count as usize);
     }
 }

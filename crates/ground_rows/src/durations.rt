@@ -18,14 +18,14 @@ pub fn put_of_bcd(row: &mut Row, bytes: &[u8]) {
 }
 
 /// The text of a duration.
-pub fn put_text(row: &mut Row, arguments: &str) {
-    let seconds = number_below(row, 360_000, arguments);
+pub fn put_text(row: &mut Row) {
+    let seconds = number_below(row, 360_000);
     row.put(" ");
     row.put(text_of(&write_duration(seconds as u32)));
 }
 
 /// A duration in BCD.
-pub fn put_bcd(row: &mut Row, arguments: &str) {
-    let seconds = number_below(row, 360_000, arguments);
+pub fn put_bcd(row: &mut Row) {
+    let seconds = number_below(row, 360_000);
     put_hex(row, &duration_bcd(seconds as u32));
 }

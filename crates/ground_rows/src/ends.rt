@@ -2,7 +2,7 @@
 // call with this number, from 0, fails; `-` is no call.
 ghost use Rattle.std.specs.Prelude.{◌<◌};
 
-use crate::row::{first_word, number_below};
+use crate::row::number_in;
 use row_lines::Row;
 use si_causes::{MemSink, MemSource};
 use std::alloc::{AllocError, Global};
@@ -14,22 +14,22 @@ pub const NEVER: u64 = 999_999_999;
 pub fn piece(row: &mut Row, text: &str) -> usize
     ensures { 0 < result }
 {
-    (number_below(row, 1_000_000, text) as usize).max(1)
+    (number_in(row, 1_000_000, text) as usize).max(1)
 }
 
-/// The call that fails.
-pub fn failing(row: &mut Row, text: &str) -> u64 {
+// The call that fails.
+fn failing(row: &mut Row, text: &str) -> u64 {
     match text {
         "-" => NEVER,
-        _ => number_below(row, NEVER, text),
+        _ => number_in(row, NEVER, text),
     }
 }
 
-/// The sizes of pieces, the call that fails, and the other arguments.
-pub fn ends<'a>(row: &mut Row, arguments: &'a str) -> (&'a str, u64, &'a str) {
-    let (pieces, arguments) = first_word(row, arguments);
-    let (fails, arguments) = first_word(row, arguments);
-    (pieces, failing(row, fails), arguments)
+/// The sizes of pieces, and the call that fails.
+pub fn ends<'a>(row: &mut Row<'a>) -> (&'a str, u64) {
+    let pieces = row.word();
+    let fails = row.word();
+    (pieces, failing(row, fails))
 }
 
 /// A source of these bytes.

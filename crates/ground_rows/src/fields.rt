@@ -1,6 +1,6 @@
 // Fields of lines, and numbers and words in them.
 use crate::notation::{bytes, put_written, text};
-use crate::row::{first_word, number_below, put_number_or_none};
+use crate::row::{number_below, put_number_or_none};
 use input_lines::{LineFields, fields, is_word, number, numeral};
 use row_lines::Row;
 
@@ -40,24 +40,18 @@ pub fn put_numeral(row: &mut Row, text: &str) {
 }
 
 /// The number in a range that a field spells: of the range and the field.
-pub fn put_number(row: &mut Row, arguments: &str) {
-    let (low, arguments) = bound(row, arguments);
-    let (high, arguments) = bound(row, arguments);
-    let bytes = bytes(row, arguments);
+pub fn put_number(row: &mut Row) {
+    let low = number_below(row, 1 << 32) as u32;
+    let high = number_below(row, 1 << 32) as u32;
+    let bytes = bytes(row);
     let text = text(row, &bytes);
     put_number_or_none(row, number(text, low, high).map(u64::from));
 }
 
-// The number in front of other arguments.
-fn bound<'a>(row: &mut Row, arguments: &'a str) -> (u32, &'a str) {
-    let (number, arguments) = first_word(row, arguments);
-    (number_below(row, 1 << 32, number) as u32, arguments)
-}
-
 /// Whether a field is a word: of the word and the field.
-pub fn put_is_word(row: &mut Row, arguments: &str) {
-    let (wanted, arguments) = first_word(row, arguments);
-    let bytes = bytes(row, arguments);
+pub fn put_is_word(row: &mut Row) {
+    let wanted = row.word();
+    let bytes = bytes(row);
     let text = text(row, &bytes);
     row.put(if is_word(text, wanted) { " yes" } else { " no" });
 }

@@ -68,9 +68,9 @@ fn open(
 }
 
 /// What is found in these bytes, which come in pieces of each of these sizes.
-pub fn put_each(row: &mut Row, arguments: &str) {
-    let (pieces, fails, arguments) = ends(row, arguments);
-    let recording = bytes(row, arguments);
+pub fn put_each(row: &mut Row) {
+    let (pieces, fails) = ends(row);
+    let recording = bytes(row);
     for size in pieces.split(',') {
         row.begin_part();
         let piece = piece(row, size);

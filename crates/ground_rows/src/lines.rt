@@ -100,9 +100,9 @@ fn put_read(row: &mut Row, bytes: &[u8], piece: usize, fails: u64, are_records: 
 }
 
 /// What is read of bytes that come in pieces of each of these sizes: their records, or their lines.
-pub fn put_each(row: &mut Row, arguments: &str, are_records: bool) {
-    let (pieces, fails, arguments) = ends(row, arguments);
-    let bytes = bytes(row, arguments);
+pub fn put_each(row: &mut Row, are_records: bool) {
+    let (pieces, fails) = ends(row);
+    let bytes = bytes(row);
     for size in pieces.split(',') {
         row.begin_part();
         let piece = piece(row, size);

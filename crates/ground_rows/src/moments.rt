@@ -19,33 +19,33 @@ pub fn put_of_bcd(row: &mut Row, bytes: &[u8]) {
     }
 }
 
-fn moment(row: &mut Row, arguments: &str) -> Moment
+fn moment(row: &mut Row) -> Moment
     ensures { result.0 < 65536 * 86400 }
 {
-    Moment(number_below(row, 65_536 * 86_400, arguments))
+    Moment(number_below(row, 65_536 * 86_400))
 }
 
 /// The text of a moment.
-pub fn put_text(row: &mut Row, arguments: &str) {
-    let at = moment(row, arguments);
+pub fn put_text(row: &mut Row) {
+    let at = moment(row);
     row.put(" ");
     row.put(text_of(&write_moment(at)));
 }
 
 /// A moment in BCD.
-pub fn put_bcd(row: &mut Row, arguments: &str) {
-    let at = moment(row, arguments);
+pub fn put_bcd(row: &mut Row) {
+    let at = moment(row);
     put_hex(row, &to_bcd(at));
 }
 
 /// The midnight before a moment.
-pub fn put_midnight(row: &mut Row, arguments: &str) {
-    let at = moment(row, arguments);
+pub fn put_midnight(row: &mut Row) {
+    let at = moment(row);
     row.put_number(" ", midnight(at).0);
 }
 
 /// The block of a moment.
-pub fn put_block(row: &mut Row, arguments: &str) {
-    let at = moment(row, arguments);
+pub fn put_block(row: &mut Row) {
+    let at = moment(row);
     row.put_number(" ", block_of(at));
 }

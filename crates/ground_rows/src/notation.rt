@@ -1,6 +1,6 @@
 // How bytes are written in a row: in parts with spaces between them. A part is bytes in two hexadecimal digits each, or
 // printable ASCII between back quotes; `*n` behind it says that it stands n times.
-use crate::row::number_below;
+use crate::row::number_in;
 use row_lines::Row;
 
 // The bytes of some parts, and where those of the last part begin.
@@ -10,8 +10,9 @@ struct Spelled {
     last: usize,
 }
 
-/// The bytes that are written so.
-pub fn bytes(row: &mut Row, text: &str) -> Vec<u8> {
+/// The bytes that all that is to come of a row spells.
+pub fn bytes(row: &mut Row) -> Vec<u8> {
+    let text = row.rest();
     let mut spelled = Spelled {
         bytes: Vec::new(row.alloc()),
         last: 0,
@@ -22,9 +23,7 @@ pub fn bytes(row: &mut Row, text: &str) -> Vec<u8> {
 
 /// Appends bytes to others.
 pub fn append(row: &mut Row, bytes: &mut Vec<u8>, more: &[u8]) {
-    if bytes.extend_from_slice(more).is_err() {
-        row.lack_memory();
-    }
+    row.need(bytes.extend_from_slice(more).is_ok());
 }
 
 // Every second piece of the text stands between back quotes.
@@ -59,7 +58,7 @@ fn read_word(row: &mut Row, word: &str, spelled: &mut Spelled) {
         spelled.last = spelled.bytes.len();
         read_digits(row, digits, &mut spelled.bytes);
     }
-    let times = number_below(row, 100_000, times);
+    let times = number_in(row, 100_000, times);
     repeat(row, times, spelled);
 }
 

@@ -3,7 +3,7 @@ ghost use Rattle.std.specs.Prelude.{◌<◌};
 
 use crate::ends::{ends, piece, source};
 use crate::notation::{append, bytes};
-use crate::row::{first_word, number_below};
+use crate::row::number_below;
 use packet_reader::{PacketReader, PacketStop};
 use row_lines::Row;
 use si_causes::{MemSource, Source};
@@ -103,11 +103,10 @@ fn packets(row: &mut Row, count: u64, behind: &[u8]) -> Vec<u8> {
 }
 
 /// What is heard of so many packets, with bytes behind them, that come in pieces of each of these sizes.
-pub fn put_each(row: &mut Row, arguments: &str) {
-    let (count, arguments) = first_word(row, arguments);
-    let count = number_below(row, 10_000, count);
-    let (pieces, fails, arguments) = ends(row, arguments);
-    let behind = bytes(row, arguments);
+pub fn put_each(row: &mut Row) {
+    let count = number_below(row, 10_000);
+    let (pieces, fails) = ends(row);
+    let behind = bytes(row);
     let recording = packets(row, count, &behind);
     for size in pieces.split(',') {
         row.begin_part();

@@ -3,8 +3,17 @@ ghost use Rattle.std.specs.Prelude.{◌<◌};
 
 use row_lines::Row;
 
+/// The next word as a number below a limit.
+pub fn number_below(row: &mut Row, limit: u64) -> u64
+    requires { 0 < limit }
+    ensures { result < limit }
+{
+    let word = row.word();
+    number_in(row, limit, word)
+}
+
 /// A number below a limit, in decimal digits; 0 where it is none.
-pub fn number_below(row: &mut Row, limit: u64, text: &str) -> u64
+pub fn number_in(row: &mut Row, limit: u64, text: &str) -> u64
     requires { 0 < limit }
     ensures { result < limit }
 {
@@ -13,17 +22,6 @@ pub fn number_below(row: &mut Row, limit: u64, text: &str) -> u64
         _ => {
             row.refuse();
             0
-        }
-    }
-}
-
-/// The first word of some arguments, and those behind it.
-pub fn first_word<'a>(row: &mut Row, arguments: &'a str) -> (&'a str, &'a str) {
-    match arguments.split_once(' ') {
-        Some(parts) => parts,
-        None => {
-            row.refuse();
-            (arguments, "")
         }
     }
 }

@@ -1,9 +1,8 @@
 // Ends in memory: a sink that fails, a source that never fails, and an opener of files.
 ghost use Rattle.std.specs.Prelude.{◌<◌};
 
-use crate::ends::{failing, piece, sink};
+use crate::ends::{ends, piece, sink};
 use crate::notation::{append, put_written};
-use crate::row::first_word;
 use row_lines::Row;
 use si_causes::{Failed, MemOpener, MemSink, NeverFails, Opener, Source, write_all};
 use std::alloc::{AllocError, Global};
@@ -20,9 +19,9 @@ fn put_writes(row: &mut Row, sink: &mut MemSink) {
 
 /// Whether each of two writes of six and three letters is whole to a sink that takes pieces of this size and of which a call fails, and
 /// what it took.
-pub fn put_sink(row: &mut Row, arguments: &str) {
-    let (size, fails) = first_word(row, arguments);
-    let (piece, fails) = (piece(row, size), failing(row, fails));
+pub fn put_sink(row: &mut Row) {
+    let (size, fails) = ends(row);
+    let piece = piece(row, size);
     match sink(row.alloc(), piece, fails) {
         Ok(mut sink) => put_writes(row, &mut sink),
         Err(_) => row.lack_memory(),
@@ -79,7 +78,8 @@ fn put_reads(row: &mut Row, opener: &mut MemOpener, path: &str) {
 }
 
 /// What two reads of each of these paths give.
-pub fn put_openings(row: &mut Row, paths: &str) {
+pub fn put_openings(row: &mut Row) {
+    let paths = row.word();
     let Ok(mut opener) = two_files_opener(row.alloc()) else {
         return row.lack_memory();
     };

@@ -4,7 +4,7 @@ ghost use Rattle.std.specs.Prelude.{◌≤◌, ◌<◌, None};
 use crate::ends::{NEVER, piece, source};
 use crate::lines::put_answer;
 use crate::notation::{bytes, put_written};
-use crate::row::{first_word, number_below};
+use crate::row::number_below;
 use row_lines::Row;
 use si_causes::{Failed, LineReader, MemSource, Source};
 use std::alloc::{AllocError, Global};
@@ -36,8 +36,8 @@ impl Source for Repeated {
 }
 
 /// What the first three calls answer of a text of so many bytes without a line's end.
-pub fn put_long(row: &mut Row, arguments: &str) {
-    let left = number_below(row, 100_000_000, arguments);
+pub fn put_long(row: &mut Row) {
+    let left = number_below(row, 100_000_000);
     match LineReader::open(row.alloc(), Repeated { left }) {
         Ok(mut lines) => {
             for _ in 0..3 {
@@ -92,11 +92,10 @@ fn calls(alloc: Global, bytes: &[u8], piece: usize, count: u64) -> Result<u64, A
 }
 
 /// How often a source is read for so many lines: of the size of the pieces, the number of lines, and the bytes.
-pub fn put_calls(row: &mut Row, arguments: &str) {
-    let (size, arguments) = first_word(row, arguments);
-    let (count, arguments) = first_word(row, arguments);
-    let (piece, count) = (piece(row, size), number_below(row, 1_000, count));
-    let bytes = bytes(row, arguments);
+pub fn put_calls(row: &mut Row) {
+    let size = row.word();
+    let (piece, count) = (piece(row, size), number_below(row, 1_000));
+    let bytes = bytes(row);
     match calls(row.alloc(), &bytes, piece, count) {
         Ok(calls) => row.put_number(" ", calls),
         Err(_) => row.lack_memory(),

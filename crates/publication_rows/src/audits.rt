@@ -4,7 +4,7 @@ ghost use Rattle.std.specs.Prelude.{◌≤◌, ◌<◌, ◌*◌};
 use crate::guides::{moment, offsets_at, tables_at};
 use air_audit::{Checker, Rule};
 use carousel_player::Player;
-use row_lines::{MOST, Row};
+use row_lines::{MOST, Row, packet_in};
 use si_time::Moment;
 use ts_packets::TsPacket;
 
@@ -90,22 +90,12 @@ fn opened(row: &mut Row, quota: u32, text: &str) -> Option<Checker>
 
 fn check_given(row: &mut Row, checker: &mut Checker) {
     for _ in 0..MOST {
-        let front = row.bytes();
-        let packet = filled(&front);
+        let packet = packet_in(row);
         check(row, checker, &packet);
         if !row.goes_on() {
             break;
         }
     }
-}
-
-// A packet by its front: fill stands behind it.
-fn filled(front: &[u8]) -> [u8; 188] {
-    let mut packet = [0xFF; 188];
-    for (into, byte) in packet.iter_mut().zip(front) {
-        *into = *byte;
-    }
-    packet
 }
 
 /// `audit QUOTA SWAPS PARTS MOMENT LINES`: what an auditor says of the packets that a player makes of so many swaps, in this order and
@@ -173,9 +163,7 @@ fn play_cycle(
         let Some(packet) = player.next_packet() else {
             break;
         };
-        if packets.push(packet).is_err() {
-            row.lack_memory();
-        }
+        row.need(packets.push(packet).is_ok());
     }
 }
 

@@ -4,7 +4,7 @@ ghost use Rattle.section_codec.specs.Section.{longest_body};
 ghost use Rattle.section_codec.specs.Tables.{has_short_form};
 
 use crate::guides::built;
-use row_lines::Row;
+use row_lines::{Row, put_made};
 use section_codec::{Key, LongHeader, NumberedBody, SubTable, Tier3, is_eit, write_long};
 
 // The longest body of a section of a table.
@@ -45,10 +45,10 @@ fn put_section(row: &mut Row, key: &Key, section: &NumberedBody, last: u8) {
     {
         return row.refuse();
     }
-    match write_long(row.alloc(), &header, section.body.as_slice()) {
-        Ok(bytes) => row.put_bytes(bytes.as_slice()),
-        Err(_) => row.lack_memory(),
-    }
+    put_made(
+        row,
+        write_long(row.alloc(), &header, section.body.as_slice()),
+    );
 }
 
 // Appends the sections of a table, a part each.

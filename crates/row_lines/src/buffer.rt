@@ -64,6 +64,11 @@ impl Buffer {
         self.lacks = self.lacks || done.is_err();
     }
 
+    /// Notes whether memory was wanting for another.
+    pub fn note_of(&mut self, other: &Buffer) {
+        self.lacks = self.lacks || other.lacks;
+    }
+
     /// Whether memory was wanting.
     pub fn lacks(&self) -> bool {
         self.lacks
@@ -92,6 +97,13 @@ impl Buffer {
     /// Appends a text.
     pub fn say(&mut self, text: &str) {
         self.put(text.as_bytes());
+    }
+
+    /// Appends bytes with a slash for each LF.
+    pub fn put_slashes(&mut self, bytes: &[u8]) {
+        for byte in bytes {
+            self.push(if *byte == b'\n' { b'/' } else { *byte });
+        }
     }
 
     /// Appends a text with LF for each slash.

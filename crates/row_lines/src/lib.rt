@@ -7,11 +7,15 @@
 mod buffer;
 mod line;
 mod lines;
+mod lists;
 mod notation;
+mod table;
 mod texts;
 
 pub use buffer::Buffer;
 pub use line::{MOST, Row, quoted, repeated};
-pub use lines::{Cut, Lines, NEVER, WHOLE, reader};
-pub use notation::{moment_text, parts_counted, runs_counted, text_of, written_out};
-pub use texts::{code, code_in, put_code, put_letters, put_shown, text};
+pub use lines::{Cut, Lines, NEVER, WHOLE, numbered, reader, tell_in_pieces};
+pub use lists::{each_part, each_word, packet_in, put_appended, put_made, put_read};
+pub use notation::{moment_text, parts_counted, put_in_short, runs_counted, text_of, written_out};
+pub use table::run_rows;
+pub use texts::{code, code_in, duration, moment, put_code, put_letters, put_shown, text};

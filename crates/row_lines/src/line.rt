@@ -41,22 +41,29 @@ impl<'a> Row<'a> {
         self.has_memory = false;
     }
 
-    fn note(&mut self, done: Result<(), AllocError>) {
-        if done.is_err() {
-            self.has_memory = false;
-        }
+    /// Notes that memory is wanting, unless this was done.
+    pub fn need(&mut self, is_done: bool) {
+        self.has_memory = self.has_memory && is_done;
     }
 
-    /// The line with its answer behind it.
-    pub fn finish(self, line: &str) -> Result<String, AllocError> {
+    /// The value, or another one where there is none, which is no row.
+    pub fn known<T: Copy>(&mut self, value: Option<T>, other: T) -> T {
+        if value.is_none() {
+            self.refuse();
+        }
+        value.unwrap_or(other)
+    }
+
+    /// The answer, or `no row`.
+    pub fn end(self) -> Result<String, AllocError> {
         if !self.has_memory {
             return Err(AllocError);
         }
         if !self.is_right || !self.rest.is_empty() {
-            return format!(in self.alloc; "{line} = no row");
+            return String::from_str(self.alloc, "no row");
         }
         let answer = self.answer.as_str();
-        format!(in self.alloc; "{line} ={answer}")
+        String::from_str(self.alloc, answer.strip_prefix(' ').unwrap_or(answer))
     }
 
     // ---- what is read
@@ -69,6 +76,19 @@ impl<'a> Row<'a> {
         word
     }
 
+    /// The next word, which is not passed over.
+    pub fn call(&self) -> &'a str {
+        let (word, _) = self.rest.split_once(' ').unwrap_or((self.rest, ""));
+        word
+    }
+
+    /// All that is still to come.
+    pub fn rest(&mut self) -> &'a str {
+        let rest = self.rest;
+        self.rest = "";
+        rest
+    }
+
     /// Passes over a word that has to come.
     pub fn pass(&mut self, word: &str) {
         if self.word() != word {
@@ -78,43 +98,48 @@ impl<'a> Row<'a> {
 
     /// A decimal number.
     pub fn number(&mut self) -> u64 {
-        match self.word().parse::<u64>() {
-            Ok(number) => number,
-            Err(_) => {
-                self.refuse();
-                0
-            }
-        }
+        let number = self.word().parse::<u64>().ok();
+        self.known(number, 0)
+    }
+
+    /// A decimal number below 256.
+    pub fn octet(&mut self) -> u8 {
+        let word = self.word();
+        self.small_in(word)
+    }
+
+    /// A decimal number below 2^32.
+    pub fn long(&mut self) -> u32 {
+        let number = self.word().parse::<u32>().ok();
+        self.known(number, 0)
+    }
+
+    /// A decimal number below 65,536.
+    pub fn short(&mut self) -> u16 {
+        let word = self.word();
+        self.short_in(word)
+    }
+
+    /// The decimal number below 65,536 that this text is.
+    pub fn short_in(&mut self, text: &str) -> u16 {
+        self.known(text.parse::<u16>().ok(), 0)
     }
 
     /// The decimal number below 256 that this text is.
     pub fn small_in(&mut self, text: &str) -> u8 {
-        match text.parse::<u8>() {
-            Ok(number) => number,
-            Err(_) => {
-                self.refuse();
-                0
-            }
-        }
+        self.known(text.parse::<u8>().ok(), 0)
     }
 
     /// A decimal number below 256 behind its name.
     pub fn small(&mut self, name: &str) -> u8 {
         self.pass(name);
-        let word = self.word();
-        self.small_in(word)
+        self.octet()
     }
 
     /// Two hex digits.
     pub fn byte(&mut self) -> u8 {
-        let word = self.word();
-        match byte_in(word) {
-            Some(byte) => byte,
-            None => {
-                self.refuse();
-                0
-            }
-        }
+        let byte = byte_in(self.word());
+        self.known(byte, 0)
     }
 
     /// Four hex digits.
@@ -163,6 +188,14 @@ impl<'a> Row<'a> {
         self.goes_on || word.is_empty() || word == "|"
     }
 
+    /// Passes over what ends a part.
+    pub fn pass_end(&mut self) {
+        let word = self.word();
+        if !self.is_end(word) {
+            self.refuse();
+        }
+    }
+
     /// Whether a further part follows.
     pub fn goes_on(&self) -> bool {
         self.goes_on
@@ -173,31 +206,31 @@ impl<'a> Row<'a> {
     /// Appends a text, which begins with a blank.
     pub fn put(&mut self, text: &str) {
         let done = self.answer.push_str(text);
-        self.note(done);
+        self.need(done.is_ok());
     }
 
     /// Appends a character.
     pub fn put_char(&mut self, character: char) {
         let done = self.answer.push(character);
-        self.note(done);
+        self.need(done.is_ok());
     }
 
     /// Appends a number behind a text.
     pub fn put_number(&mut self, text: &str, number: u64) {
         let done = write!(self.answer, "{text}{number}");
-        self.note(done);
+        self.need(done.is_ok());
     }
 
     /// Appends two hex digits behind a text.
     pub fn put_byte(&mut self, text: &str, byte: u8) {
         let done = write!(self.answer, "{text}{byte:02X}");
-        self.note(done);
+        self.need(done.is_ok());
     }
 
     /// Appends four hex digits behind a text.
     pub fn put_hex(&mut self, text: &str, number: u16) {
         let done = write!(self.answer, "{text}{number:04X}");
-        self.note(done);
+        self.need(done.is_ok());
     }
 
     /// Appends bytes, each behind a blank; one that stands five times or more in a row stands once, with a star and how often.

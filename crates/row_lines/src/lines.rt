@@ -1,5 +1,7 @@
 // Readers of texts that are cut into pieces.
+use crate::buffer::Buffer;
 use crate::notation::bytes_of;
+use input_lines::numeral;
 use si_causes::{LineReader, MemSource};
 use std::alloc::{AllocError, Global};
 
@@ -27,4 +29,33 @@ pub fn reader(alloc: Global, text: &str, cut: Cut) -> Result<Lines, AllocError> 
     let fails = vec![in alloc; u64::from(cut.fails_at); 1]?;
     let source = MemSource::open(bytes, (cut.piece as usize).max(1), fails);
     LineReader::open(alloc, source)
+}
+
+/// The number that a text begins with, and what stands after it and a space.
+pub fn numbered(text: &str) -> Option<(u32, &str)> {
+    let (number, text) = text.split_once(' ').unwrap_or((text, ""));
+    Some((numeral(number)?, text))
+}
+
+/// Appends what `tell` gives for a text in pieces of 1, 7 and 4,096 bytes to an empty answer, if it
+/// is the same.
+pub fn tell_in_pieces<F: Fn(Cut, &mut Buffer)>(alloc: Global, out: &mut Buffer, tell: F)
+    requires { F.IsAlwaysCallable tell }
+{
+    let mut again = Buffer::open(alloc);
+    for piece in [1, 7, 4_096] {
+        let cut = Cut {
+            piece,
+            fails_at: NEVER,
+        };
+        again.clear();
+        tell(cut, &mut again);
+        out.note_of(&again);
+        if piece == 1 {
+            out.put(again.as_slice());
+        } else if again.as_slice() != out.as_slice() {
+            out.clear();
+            return out.say("pieces differ");
+        }
+    }
 }

@@ -1,4 +1,6 @@
 // The notation of texts in rows, and of long answers.
+use crate::buffer::Buffer;
+use crate::line::Row;
 use input_lines::numeral;
 use si_time::{Moment, write_moment};
 use std::alloc::{AllocError, Global};
@@ -190,6 +192,40 @@ pub fn written_out(alloc: Global, text: &str) -> Result<Option<String>, AllocErr
     } else {
         None
     })
+}
+
+// What `tell` appends for a row whose notation is written out, in short; none where it cannot be.
+fn in_short<F: Fn(Global, &str, &str, &mut Buffer)>(
+    alloc: Global,
+    row: &str,
+    tell: F,
+) -> Result<Option<String>, AllocError>
+    requires { F.IsAlwaysCallable tell }
+{
+    let Some(row) = written_out(alloc, row)? else {
+        return Ok(None);
+    };
+    let (call, text) = row.as_str().split_once(' ').unwrap_or((row.as_str(), ""));
+    let mut told = Buffer::open(alloc);
+    tell(alloc, call, text, &mut told);
+    let told = parts_counted(alloc, told.finished(false)?)?;
+    Ok(Some(runs_counted(alloc, told.as_str())?))
+}
+
+/// Puts what `tell` appends for the call and the text of a row whose notation is written out, in
+/// short.
+pub fn put_in_short<F: Fn(Global, &str, &str, &mut Buffer)>(row: &mut Row, tell: F)
+    requires { F.IsAlwaysCallable tell }
+{
+    let line = row.rest();
+    match in_short(row.alloc(), line, tell) {
+        Ok(Some(told)) => {
+            row.put(" ");
+            row.put(told.as_str());
+        }
+        Ok(None) => row.refuse(),
+        Err(_) => row.lack_memory(),
+    }
 }
 
 /// The bytes of a text, in which a slash stands for LF.

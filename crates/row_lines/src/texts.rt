@@ -1,6 +1,7 @@
-// Codes and texts in the notation of rows.
+// Codes, texts and times in the notation of rows.
 use crate::line::{Row, quoted, repeated};
 use si_text::{Shown, Txt};
+use si_time::{Moment, read_duration, read_moment};
 use std::alloc::{AllocError, Global};
 
 /// A code of three letters.
@@ -18,6 +19,18 @@ pub fn code_in(row: &mut Row, word: &str) -> [u8; 3] {
             [0; 3]
         }
     }
+}
+
+/// A moment.
+pub fn moment(row: &mut Row) -> Moment {
+    let at = read_moment(row.word().as_bytes());
+    row.known(at, Moment(0))
+}
+
+/// A duration, in seconds.
+pub fn duration(row: &mut Row) -> u32 {
+    let seconds = read_duration(row.word().as_bytes());
+    row.known(seconds, 0)
 }
 
 /// A text in quotes without blanks; behind a star stands how often it comes.

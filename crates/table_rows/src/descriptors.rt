@@ -8,52 +8,33 @@ use desc_service::{
     write_iso_639_language, write_network_name, write_service, write_service_list,
 };
 use guide_model::Cable;
-use row_lines::{MOST, Row, code_in, put_code, put_shown, text};
+use row_lines::{Row, code_in, each_word, put_appended, put_code, put_read, put_shown, text};
 use si_base::Items;
 use si_text::Shown;
-use std::alloc::AllocError;
-
-// What was written, or want of memory.
-fn put_written(row: &mut Row, done: Result<(), AllocError>, out: &[u8]) {
-    match done {
-        Ok(()) => row.put_bytes(out),
-        Err(_) => row.lack_memory(),
-    }
-}
 
 /// `write_iso_639_language CODE ..`.
 pub fn write_languages(row: &mut Row) {
-    let mut languages = Vec::new(row.alloc());
-    for _ in 0..MOST {
-        let word = row.word();
-        if row.is_end(word) {
-            break;
-        }
-        if languages.push(code_in(row, word)).is_err() {
-            return row.lack_memory();
-        }
-    }
+    let languages = each_word(row, code_in);
     if languages.len() > 63 {
         return row.refuse();
     }
     let mut out = Vec::new(row.alloc());
     let done = write_iso_639_language(&languages, &mut out);
-    put_written(row, done, &out);
+    put_appended(row, done, &out);
 }
 
 /// `read_iso_639_language BYTES`.
 pub fn read_languages(row: &mut Row) {
     let body = row.bytes();
-    match read_iso_639_language(row.alloc(), &body) {
-        Ok(Some(languages)) => {
-            for language in languages.as_slice() {
-                put_code(row, language);
-            }
-            row.put(";");
-        }
-        Ok(None) => row.put(" none"),
-        Err(_) => row.lack_memory(),
+    let read = read_iso_639_language(row.alloc(), &body);
+    put_read(row, read, " none", put_languages);
+}
+
+fn put_languages(row: &mut Row, languages: &Items<[u8; 3]>) {
+    for language in languages.as_slice() {
+        put_code(row, language);
     }
+    row.put(";");
 }
 
 /// `write_network_name TEXT`.
@@ -67,49 +48,28 @@ pub fn write_name(row: &mut Row) {
     }
     let mut out = Vec::new(row.alloc());
     let done = write_network_name(&name, &mut out);
-    put_written(row, done, &out);
+    put_appended(row, done, &out);
 }
 
 /// `read_network_name BYTES`.
 pub fn read_name(row: &mut Row) {
     let body = row.bytes();
-    match read_network_name(row.alloc(), &body) {
-        Ok(Some(name)) => put_shown(row, &name),
-        Ok(None) => row.put(" none"),
-        Err(_) => row.lack_memory(),
-    }
+    let read = read_network_name(row.alloc(), &body);
+    put_read(row, read, " none", put_shown);
 }
 
 // A service and its type, as `101:1`.
 fn kind_in(row: &mut Row, word: &str) -> ServiceKind {
     let (service, kind) = word.split_once(':').unwrap_or((word, ""));
-    match (service.parse::<u16>(), kind.parse::<u8>()) {
-        (Ok(service), Ok(kind)) => ServiceKind { service, kind },
-        _ => {
-            row.refuse();
-            ServiceKind {
-                service: 0,
-                kind: 0,
-            }
-        }
+    ServiceKind {
+        service: row.short_in(service),
+        kind: row.small_in(kind),
     }
 }
 
 /// Services and their types up to the end of a part.
 pub fn kinds_in(row: &mut Row) -> ServiceKinds {
-    let mut services = Vec::new(row.alloc());
-    for _ in 0..MOST {
-        let word = row.word();
-        if row.is_end(word) {
-            break;
-        }
-        let kind = kind_in(row, word);
-        if services.push(kind).is_err() {
-            row.lack_memory();
-            break;
-        }
-    }
-    Items::of(services)
+    Items::of(each_word(row, kind_in))
 }
 
 /// `write_service_list SERVICE:TYPE ..`.
@@ -120,20 +80,19 @@ pub fn write_list(row: &mut Row) {
     }
     let mut out = Vec::new(row.alloc());
     let done = write_service_list(services.as_slice(), &mut out);
-    put_written(row, done, &out);
+    put_appended(row, done, &out);
 }
 
 /// `read_service_list BYTES`.
 pub fn read_list(row: &mut Row) {
     let body = row.bytes();
-    match read_service_list(row.alloc(), &body) {
-        Ok(Some(services)) => {
-            put_kinds(row, services.as_slice());
-            row.put(";");
-        }
-        Ok(None) => row.put(" none"),
-        Err(_) => row.lack_memory(),
-    }
+    let read = read_service_list(row.alloc(), &body);
+    put_read(row, read, " none", put_list);
+}
+
+fn put_list(row: &mut Row, services: &ServiceKinds) {
+    put_kinds(row, services.as_slice());
+    row.put(";");
 }
 
 /// Appends services and their types.
@@ -156,19 +115,12 @@ pub fn fits(cable: &Cable) -> bool
 
 /// The cable whose frequency is this word, and whose other numbers follow.
 pub fn cable_in(row: &mut Row, word: &str) -> Cable {
-    let frequency = match word.parse::<u32>() {
-        Ok(frequency) => frequency,
-        Err(_) => {
-            row.refuse();
-            0
-        }
-    };
     Cable {
-        frequency,
-        modulation: (row.number() % 256) as u8,
-        symbol_rate: (row.number() % 4_294_967_296) as u32,
-        fec_outer: (row.number() % 256) as u8,
-        fec_inner: (row.number() % 256) as u8,
+        frequency: row.known(word.parse::<u32>().ok(), 0),
+        modulation: row.octet(),
+        symbol_rate: row.long(),
+        fec_outer: row.octet(),
+        fec_inner: row.octet(),
     }
 }
 
@@ -181,17 +133,13 @@ pub fn write_cable(row: &mut Row) {
     }
     let mut out = Vec::new(row.alloc());
     let done = write_cable_delivery_system(&cable, &mut out);
-    put_written(row, done, &out);
+    put_appended(row, done, &out);
 }
 
 /// `read_cable_delivery_system BYTES`.
 pub fn read_cable(row: &mut Row) {
     let body = row.bytes();
-    match read_cable_delivery_system(&body) {
-        Ok(Some(cable)) => put_cable(row, &cable),
-        Ok(None) => row.put(" none"),
-        Err(_) => row.lack_memory(),
-    }
+    put_read(row, read_cable_delivery_system(&body), " none", put_cable);
 }
 
 /// Appends a cable.
@@ -205,8 +153,7 @@ pub fn put_cable(row: &mut Row, cable: &Cable) {
 
 /// `write_service TYPE | PROVIDER | NAME`.
 pub fn write_text(row: &mut Row) {
-    let word = row.word();
-    let kind = row.small_in(word);
+    let kind = row.octet();
     row.pass("|");
     let provider = text(row);
     row.pass("|");
@@ -227,21 +174,20 @@ fn put_text(row: &mut Row, service: &ServiceText) {
     }
     let mut out = Vec::new(row.alloc());
     let done = write_service(service, &mut out);
-    put_written(row, done, &out);
+    put_appended(row, done, &out);
 }
 
 /// `read_service BYTES`.
 pub fn read_text(row: &mut Row) {
     let body = row.bytes();
-    match read_service(row.alloc(), &body) {
-        Ok(Some(service)) => {
-            row.put_number(" ", u64::from(service.kind));
-            row.put(" |");
-            put_shown(row, &service.provider);
-            row.put(" |");
-            put_shown(row, &service.name);
-        }
-        Ok(None) => row.put(" none"),
-        Err(_) => row.lack_memory(),
-    }
+    let read = read_service(row.alloc(), &body);
+    put_read(row, read, " none", put_service);
+}
+
+fn put_service(row: &mut Row, service: &ServiceText) {
+    row.put_number(" ", u64::from(service.kind));
+    row.put(" |");
+    put_shown(row, &service.provider);
+    row.put(" |");
+    put_shown(row, &service.name);
 }

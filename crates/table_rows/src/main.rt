@@ -1,7 +1,6 @@
 //! Tests of tables other than events: `desc_service`, `pat_pmt`, `nit_sdt` and `time_tables`.
 //!
-//! A line of `stdin` is a call with its arguments, and the program prints it with what it gives.
-//! `stdout` has the expected values, to be compared with the standards.
+//! A line of `stdin` is a call with its arguments and the answer that is wanted (`run_rows`).
 #![tactic(auto)]
 
 mod descriptors;
@@ -12,8 +11,7 @@ mod programs;
 mod services;
 mod times;
 
-use row_lines::Row;
-use std::alloc::{AllocError, Global};
+use row_lines::{Row, run_rows};
 use std::io;
 
 // Answers a row.
@@ -49,20 +47,6 @@ fn answer(row: &mut Row) {
     }
 }
 
-// A line as it is printed.
-fn told(alloc: Global, line: &str) -> Result<String, AllocError> {
-    if line.is_empty() || line.starts_with('#') {
-        return String::from_str(alloc, line);
-    }
-    let mut row = Row::open(alloc, line);
-    answer(&mut row);
-    row.finish(line)
-}
-
 fn main(rt: HostRuntime) -> io::Result<()> {
-    for line in rt.lines(rt.alloc()) {
-        let text = told(rt.alloc(), line?.as_str())?;
-        println!(rt; "{text}")?;
-    }
-    Ok(())
+    run_rows(&rt, answer)
 }

@@ -4,18 +4,17 @@ ghost use Rattle.std.specs.List.{All};
 ghost use Rattle.nit_sdt.specs.Nit.{FitsStream, stream_size};
 
 use crate::descriptors::{cable_in, fits, kinds_in, put_cable, put_kinds};
-use crate::programs::put_body;
-use nit_sdt::{Nit, NitStream, NitStreams, read_nit, write_nit};
-use row_lines::{MOST, Row, put_shown, text};
+use nit_sdt::{Nit, NitStream, read_nit, write_nit};
+use row_lines::{Row, each_part, put_made, put_read, put_shown, text};
 use si_base::Items;
 use si_text::Shown;
 
 // A stream: its two ids, its cable or `-`, and its services, as `2 1 - 201:1`.
-fn stream_in(row: &mut Row) -> NitStream {
-    let stream = (row.number() % 65_536) as u16;
-    let original = (row.number() % 65_536) as u16;
+fn stream_in(row: &mut Row) -> Option<NitStream> {
+    let stream = row.short();
+    let original = row.short();
     let word = row.word();
-    NitStream {
+    Some(NitStream {
         stream,
         original,
         cable: if word == "-" {
@@ -24,24 +23,7 @@ fn stream_in(row: &mut Row) -> NitStream {
             Some(cable_in(row, word))
         },
         services: kinds_in(row),
-    }
-}
-
-fn streams_in(row: &mut Row) -> NitStreams {
-    let mut streams = Vec::new(row.alloc());
-    let word = row.word();
-    row.is_end(word);
-    for _ in 0..MOST {
-        if !row.goes_on() {
-            break;
-        }
-        let stream = stream_in(row);
-        if streams.push(stream).is_err() {
-            row.lack_memory();
-            break;
-        }
-    }
-    Items::of(streams)
+    })
 }
 
 // Whether its cable and its services fit their descriptors.
@@ -77,23 +59,19 @@ pub fn write_network(row: &mut Row) {
     };
     let nit = Nit {
         name: Shown::Text(name),
-        streams: streams_in(row),
+        streams: Items::of(each_part(row, stream_in)),
     };
     if nit.name.coded_len() > 255 || !fit(nit.streams.as_slice()) {
         return row.refuse();
     }
-    let body = write_nit(row.alloc(), &nit);
-    put_body(row, body);
+    put_made(row, write_nit(row.alloc(), &nit));
 }
 
 /// `read_nit BYTES`.
 pub fn read_network(row: &mut Row) {
     let body = row.bytes();
-    match read_nit(row.alloc(), &body) {
-        Ok(Some(nit)) => put_nit(row, &nit),
-        Ok(None) => row.put(" none"),
-        Err(_) => row.lack_memory(),
-    }
+    let read = read_nit(row.alloc(), &body);
+    put_read(row, read, " none", put_nit);
 }
 
 fn put_nit(row: &mut Row, nit: &Nit) {

@@ -3,24 +3,12 @@ ghost use Rattle.std.specs.Prelude.{◌<◌, IsTrue};
 ghost use Rattle.time_tables.specs.LocalOffsets.{FitsOffset};
 ghost use Rattle.time_tables.specs.Tot.{AreSent};
 
-use guide_model::{Offset, Offsets};
-use row_lines::{MOST, Row, code, moment_text, put_code, put_letters};
-use si_base::{Items, crc32};
-use si_time::{Moment, read_moment};
+use guide_model::Offset;
+use row_lines::{Row, code, each_part, moment, moment_text, put_code, put_letters, put_made};
+use si_base::crc32;
+use si_time::read_moment;
 use std::alloc::{AllocError, Global};
 use time_tables::{Tot, read_tot, write_tot};
-
-// A moment.
-fn moment(row: &mut Row) -> Moment {
-    let word = row.word();
-    match read_moment(word.as_bytes()) {
-        Some(at) => at,
-        None => {
-            row.refuse();
-            Moment(0)
-        }
-    }
-}
 
 fn side(row: &mut Row) -> bool {
     let word = row.word();
@@ -30,51 +18,18 @@ fn side(row: &mut Row) -> bool {
     word == "behind"
 }
 
-fn minutes(row: &mut Row) -> u16 {
-    (row.number() % 65_536) as u16
-}
-
-fn region(row: &mut Row) -> u8 {
-    let word = row.word();
-    row.small_in(word)
-}
-
 // An offset: country, region, `ahead` or `behind`, minutes, the change and the minutes from then on.
-fn offset(row: &mut Row) -> Offset {
+fn offset(row: &mut Row) -> Option<Offset> {
     let offset = Offset {
         country: code(row),
-        region: region(row),
+        region: row.octet(),
         behind: side(row),
-        minutes: minutes(row),
+        minutes: row.short(),
         change: moment(row),
-        next: minutes(row),
+        next: row.short(),
     };
-    end_part(row);
-    offset
-}
-
-// Passes over what ends a part.
-fn end_part(row: &mut Row) {
-    let word = row.word();
-    if !row.is_end(word) {
-        row.refuse();
-    }
-}
-
-fn offsets(row: &mut Row) -> Offsets {
-    let mut offsets = Vec::new(row.alloc());
-    end_part(row);
-    for _ in 0..MOST {
-        if !row.goes_on() {
-            break;
-        }
-        let offset = offset(row);
-        if offsets.push(offset).is_err() {
-            row.lack_memory();
-            break;
-        }
-    }
-    Items::of(offsets)
+    row.pass_end();
+    Some(offset)
 }
 
 // Whether each part fits its field.
@@ -108,14 +63,11 @@ pub fn write_offsets(row: &mut Row) {
     let Some(at) = read_moment(word.as_bytes()) else {
         return row.refuse();
     };
-    let offsets = offsets(row);
-    if !are_sent(offsets.as_slice()) {
+    let offsets = each_part(row, offset);
+    if !are_sent(&offsets) {
         return row.refuse();
     }
-    match write_tot(row.alloc(), at, offsets.as_slice()) {
-        Ok(section) => row.put_bytes(section.as_slice()),
-        Err(_) => row.lack_memory(),
-    }
+    put_made(row, write_tot(row.alloc(), at, &offsets));
 }
 
 /// `read_tot BYTES`: the moment and the offsets of a body.
@@ -183,7 +135,8 @@ fn change_byte(
         count(counts, read.as_ref());
         let mut row = Row::open(alloc, "");
         put_read(&mut row, read.as_ref());
-        told.push_str(row.finish("")?.as_str())?;
+        told.push_str(" = ")?;
+        told.push_str(row.end()?.as_str())?;
     }
     Ok(())
 }

@@ -3,9 +3,8 @@ ghost use Rattle.std.specs.Prelude.{IsTrue};
 ghost use Rattle.std.specs.List.{All};
 ghost use Rattle.nit_sdt.specs.Sdt.{FitsService};
 
-use crate::programs::put_body;
 use nit_sdt::{Sdt, SdtService, SdtServices, read_sdt, service_len, write_sdt};
-use row_lines::{MOST, Row, put_shown, text};
+use row_lines::{Row, each_part, put_made, put_read, put_shown, text};
 use si_base::Items;
 use si_text::{Shown, Txt};
 use std::alloc::AllocError;
@@ -16,7 +15,7 @@ const ROOM: usize = 1_009;
 // A service: its id, the flags of its schedule and of its present and following events, each its letter or `-`, its type, its provider
 // and its name, as `101 sp 1 "Acme" "News"`.
 fn service_in(row: &mut Row) -> Option<SdtService> {
-    let service = (row.number() % 65_536) as u16;
+    let service = row.short();
     let flags = row.word();
     let (schedule, present) = match flags {
         "sp" => (true, true),
@@ -28,9 +27,10 @@ fn service_in(row: &mut Row) -> Option<SdtService> {
             (false, false)
         }
     };
-    let kind = (row.number() % 256) as u8;
+    let kind = row.octet();
     let provider = text(row)?;
     let name = text(row)?;
+    row.pass_end();
     Some(SdtService {
         service,
         schedule,
@@ -39,25 +39,6 @@ fn service_in(row: &mut Row) -> Option<SdtService> {
         provider: Shown::Text(provider),
         name: Shown::Text(name),
     })
-}
-
-fn services_in(row: &mut Row) -> SdtServices {
-    let mut services = Vec::new(row.alloc());
-    for _ in 0..MOST {
-        let word = row.word();
-        row.is_end(word);
-        if !row.goes_on() {
-            break;
-        }
-        let Some(service) = service_in(row) else {
-            break;
-        };
-        if services.push(service).is_err() {
-            row.lack_memory();
-            break;
-        }
-    }
-    Items::of(services)
 }
 
 // Whether its texts fit their descriptor.
@@ -82,24 +63,20 @@ fn fit(services: &[SdtService]) -> bool
 /// `write_sdt ORIGINAL / SERVICE FLAGS TYPE PROVIDER NAME / ..`.
 pub fn write_services(row: &mut Row) {
     let sdt = Sdt {
-        original: (row.number() % 65_536) as u16,
-        services: services_in(row),
+        original: row.short(),
+        services: Items::of(each_part(row, service_in)),
     };
     if !fit(sdt.services.as_slice()) {
         return row.refuse();
     }
-    let body = write_sdt(row.alloc(), &sdt);
-    put_body(row, body);
+    put_made(row, write_sdt(row.alloc(), &sdt));
 }
 
 /// `read_sdt BYTES`.
 pub fn read_services(row: &mut Row) {
     let body = row.bytes();
-    match read_sdt(row.alloc(), &body) {
-        Ok(Some(sdt)) => put_sdt(row, &sdt),
-        Ok(None) => row.put(" none"),
-        Err(_) => row.lack_memory(),
-    }
+    let read = read_sdt(row.alloc(), &body);
+    put_read(row, read, " none", put_sdt);
 }
 
 fn put_sdt(row: &mut Row, sdt: &Sdt) {
@@ -134,7 +111,7 @@ pub fn put_len(row: &mut Row) {
 /// `part_sdt COUNT PROVIDER NAME`: the services 1 to COUNT, parted among sections of which each takes as many next ones as fit; how many
 /// are read of each body, and its size.
 pub fn part_services(row: &mut Row) {
-    let count = (row.number() % 65_536) as u16;
+    let count = row.short();
     let Some(provider) = text(row) else {
         return;
     };

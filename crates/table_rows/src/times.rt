@@ -5,8 +5,7 @@ use time_tables::{read_tdt, write_tdt};
 
 /// `write_tdt MOMENT`.
 pub fn write_time(row: &mut Row) {
-    let word = row.word();
-    match read_moment(word.as_bytes()) {
+    match read_moment(row.word().as_bytes()) {
         Some(at) => row.put_bytes(&write_tdt(at)),
         None => row.refuse(),
     }

@@ -6,7 +6,7 @@ ghost use Rattle.eit_codec.specs.Eit.{IsCodable};
 use crate::events::{event, is_codable, put_event};
 use eit_codec::{Eit, EitHead, read_eit, write_eit};
 use guide_model::Event;
-use row_lines::{MOST, Row};
+use row_lines::{Row, each_part, put_read};
 use si_base::{Bytes, Items};
 
 /// `write_eit HEAD / EVENT / EVENT ..`: the body.
@@ -23,11 +23,8 @@ pub fn write_and_read(row: &mut Row) {
 
 /// `read_eit BYTES`: the head and the events.
 pub fn read(row: &mut Row, bytes: &[u8]) {
-    match read_eit(row.alloc(), bytes) {
-        Ok(Some(eit)) => put_eit(row, &eit),
-        Ok(None) => row.put(" refused"),
-        Err(_) => row.lack_memory(),
-    }
+    let read = read_eit(row.alloc(), bytes);
+    put_read(row, read, " refused", put_eit);
 }
 
 fn put_eit(row: &mut Row, eit: &Eit) {
@@ -45,7 +42,7 @@ fn put_eit(row: &mut Row, eit: &Eit) {
 fn written(row: &mut Row) -> Bytes {
     let head = head(row);
     let status = row.small("running_status");
-    let events = events(row);
+    let events = each_part(row, event);
     if status >= 8 || !are_codable(&events) {
         row.refuse();
         return Items::new(row.alloc());
@@ -70,29 +67,6 @@ fn head(row: &mut Row) -> EitHead {
         original,
         segment_last,
         last_table: row.byte(),
-    }
-}
-
-fn events(row: &mut Row) -> Vec<Event> {
-    let mut events = Vec::new(row.alloc());
-    let word = row.word();
-    if !row.is_end(word) {
-        row.refuse();
-    }
-    append_events(row, &mut events);
-    events
-}
-
-fn append_events(row: &mut Row, events: &mut Vec<Event>) {
-    for _ in 0..MOST {
-        if !row.goes_on() {
-            break;
-        }
-        if let Some(event) = event(row) {
-            if events.push(event).is_err() {
-                row.lack_memory();
-            }
-        }
     }
 }
 

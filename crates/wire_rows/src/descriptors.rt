@@ -1,11 +1,11 @@
 // Descriptors both ways.
 use crate::events::{event, genres, have_nibbles, is_codable, rating};
 use desc_event::{
-    ExtendedPiece, RawDesc, ShortEvent, event_len, read_descriptors, write_content,
+    ExtendedPiece, RawDescs, ShortEvent, event_len, read_descriptors, write_content,
     write_event_descriptors, write_extended_event, write_parental_rating, write_short_event,
 };
 use guide_model::Event;
-use row_lines::{Row, code, text};
+use row_lines::{Row, code, put_appended, put_read, text};
 use si_base::Items;
 use si_text::Shown;
 
@@ -16,10 +16,8 @@ pub fn content(row: &mut Row) {
         return row.refuse();
     }
     let mut out = Vec::new(row.alloc());
-    match write_content(genres.as_slice(), &mut out) {
-        Ok(()) => row.put_bytes(&out),
-        Err(_) => row.lack_memory(),
-    }
+    let done = write_content(genres.as_slice(), &mut out);
+    put_appended(row, done, &out);
 }
 
 /// `write_parental_rating RATING`.
@@ -28,10 +26,8 @@ pub fn parental_rating(row: &mut Row) {
         return row.refuse();
     };
     let mut out = Vec::new(row.alloc());
-    match write_parental_rating(&[rating], &mut out) {
-        Ok(()) => row.put_bytes(&out),
-        Err(_) => row.lack_memory(),
-    }
+    let done = write_parental_rating(&[rating], &mut out);
+    put_appended(row, done, &out);
 }
 
 /// `write_short_event LANGUAGE | NAME | TEXT`.
@@ -57,10 +53,8 @@ fn put_short_event(row: &mut Row, event: &ShortEvent) {
         return row.refuse();
     }
     let mut out = Vec::new(row.alloc());
-    match write_short_event(event, &mut out) {
-        Ok(()) => row.put_bytes(&out),
-        Err(_) => row.lack_memory(),
-    }
+    let done = write_short_event(event, &mut out);
+    put_appended(row, done, &out);
 }
 
 /// `write_extended_event number NUMBER last LAST LANGUAGE | TEXT`.
@@ -83,10 +77,8 @@ fn put_extended_event(row: &mut Row, piece: &ExtendedPiece) {
         return row.refuse();
     }
     let mut out = Vec::new(row.alloc());
-    match write_extended_event(piece, &mut out) {
-        Ok(()) => row.put_bytes(&out),
-        Err(_) => row.lack_memory(),
-    }
+    let done = write_extended_event(piece, &mut out);
+    put_appended(row, done, &out);
 }
 
 /// `event_len EVENT`.
@@ -117,9 +109,7 @@ fn write(row: &mut Row, event: &Event, out: &mut Vec<u8>) {
     if !is_codable(event) {
         return row.refuse();
     }
-    if write_event_descriptors(event, out).is_err() {
-        row.lack_memory();
-    }
+    row.need(write_event_descriptors(event, out).is_ok());
 }
 
 /// `write_event_descriptors EVENT`.
@@ -131,15 +121,12 @@ pub fn event_descriptors(row: &mut Row) {
 /// `event_descriptor_sizes EVENT`: of each descriptor that is written its tag and its length.
 pub fn event_sizes(row: &mut Row) {
     let out = written(row);
-    match read_descriptors(row.alloc(), &out) {
-        Ok(Some(descs)) => put_sizes(row, descs.as_slice()),
-        Ok(None) => row.put(" refused"),
-        Err(_) => row.lack_memory(),
-    }
+    let read = read_descriptors(row.alloc(), &out);
+    put_read(row, read, " refused", put_sizes);
 }
 
-fn put_sizes(row: &mut Row, descs: &[RawDesc]) {
-    for desc in descs {
+fn put_sizes(row: &mut Row, descs: &RawDescs) {
+    for desc in descs.as_slice() {
         row.begin_part();
         row.put_byte(" ", desc.tag);
         row.put_number(" of ", desc.body.len() as u64);

@@ -5,10 +5,12 @@ ghost use Rattle.desc_event.specs.Content.{HasNibbles};
 ghost use Rattle.eit_codec.specs.Eit.{IsCodable};
 
 use guide_model::{Event, Genre, Genres, Rating, ScreenEvent};
-use row_lines::{MOST, Row, code, code_in, put_code, put_letters, put_shown, repeated, text};
+use row_lines::{
+    MOST, Row, code, code_in, duration, moment, put_code, put_letters, put_shown, repeated, text,
+};
 use si_base::Items;
 use si_text::{Txt, coded_len};
-use si_time::{Moment, read_duration, read_moment, write_duration, write_moment};
+use si_time::{Moment, write_duration, write_moment};
 
 /// An event: its id, start, duration and language, its name and its short and extended text, its rating or `-`, and its genres or
 /// `-`, with bars between.
@@ -43,7 +45,7 @@ struct Head {
 }
 
 fn head_of(row: &mut Row) -> Head {
-    let id = row.number();
+    let id = row.short();
     row.pass("|");
     let start = moment(row);
     row.pass("|");
@@ -51,34 +53,11 @@ fn head_of(row: &mut Row) -> Head {
     row.pass("|");
     let language = code(row);
     row.pass("|");
-    if id >= 65_536 {
-        row.refuse();
-    }
     Head {
-        id: (id % 65_536) as u16,
+        id,
         start,
         seconds,
         language,
-    }
-}
-
-fn moment(row: &mut Row) -> Moment {
-    match read_moment(row.word().as_bytes()) {
-        Some(moment) => moment,
-        None => {
-            row.refuse();
-            Moment(0)
-        }
-    }
-}
-
-fn duration(row: &mut Row) -> u32 {
-    match read_duration(row.word().as_bytes()) {
-        Some(seconds) => seconds,
-        None => {
-            row.refuse();
-            0
-        }
     }
 }
 
@@ -94,11 +73,9 @@ pub fn rating(row: &mut Row) -> Option<Rating> {
     if word == "-" {
         return None;
     }
-    let country = code_in(row, word);
-    let value = row.word();
     Some(Rating {
-        country,
-        value: row.small_in(value),
+        country: code_in(row, word),
+        value: row.octet(),
     })
 }
 
@@ -125,9 +102,7 @@ fn append_genre(row: &mut Row, word: &str, genres: &mut Vec<Genre>) {
     let (unit, count) = repeated(word).unwrap_or(("", 1));
     let genre = genre(row, unit);
     for _ in 0..count {
-        if genres.push(genre).is_err() {
-            row.lack_memory();
-        }
+        row.need(genres.push(genre).is_ok());
     }
 }
 

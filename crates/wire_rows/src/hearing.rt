@@ -1,8 +1,7 @@
 // What packet lists carry: their sections, and the sub-tables that are complete.
-use crate::packets::packet_in;
 use crate::sections::put_key;
 use guide_receiver::{DoneKey, HearStop, Receiver, write_done};
-use row_lines::{MOST, Row};
+use row_lines::{MOST, Row, packet_in};
 use section_codec::Key;
 use ts_demux::{Demux, RawSection};
 use ts_packets::read_packet;

@@ -1,7 +1,6 @@
 //! Tests of bytes and hearing: the public calls of crates from `section_codec` to `guide_receiver`.
 //!
-//! A line of `stdin` is a call with its arguments, and the program prints it with what it gives.
-//! `stdout` has the expected values, to be compared with the standards.
+//! A line of `stdin` is a call with its arguments and the answer that is wanted (`run_rows`).
 #![tactic(auto)]
 
 mod bodies;
@@ -13,8 +12,7 @@ mod packets;
 mod readings;
 mod sections;
 
-use row_lines::Row;
-use std::alloc::{AllocError, Global};
+use row_lines::{Row, run_rows};
 use std::io;
 
 // Answers a row.
@@ -66,20 +64,6 @@ fn answer_of_descriptor(row: &mut Row, call: &str) {
     }
 }
 
-// A line as it is printed.
-fn told(alloc: Global, line: &str) -> Result<String, AllocError> {
-    if line.is_empty() || line.starts_with('#') {
-        return String::from_str(alloc, line);
-    }
-    let mut row = Row::open(alloc, line);
-    answer(&mut row);
-    row.finish(line)
-}
-
 fn main(rt: HostRuntime) -> io::Result<()> {
-    for line in rt.lines(rt.alloc()) {
-        let text = told(rt.alloc(), line?.as_str())?;
-        println!(rt; "{text}")?;
-    }
-    Ok(())
+    run_rows(&rt, answer)
 }

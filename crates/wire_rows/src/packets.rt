@@ -1,7 +1,7 @@
 // Packets: a section cut into them, sections that share them, and what a packet is.
 ghost use Rattle.std.specs.Prelude.{◌<◌, length};
 
-use row_lines::{MOST, Row};
+use row_lines::{MOST, Row, packet_in};
 use ts_packets::{BadPacket, Counters, Packer, Shape, TsPacket, packet, packets_of, read_packet};
 
 /// `packets_of LENGTH`: how many packets a section of so many bytes has.
@@ -93,17 +93,4 @@ pub fn read(row: &mut Row) {
         }
         Err(BadPacket::Sync) => row.put(" refused sync"),
     }
-}
-
-/// The packet that begins with these bytes and is FF up to its end.
-pub fn packet_in(row: &mut Row) -> [u8; 188] {
-    let front = row.bytes();
-    let mut packet = [0xFF; 188];
-    if front.len() <= 188 {
-        let (place, _) = packet.split_at_mut(front.len());
-        place.copy_from_slice(&front);
-    } else {
-        row.refuse();
-    }
-    packet
 }

@@ -2,20 +2,36 @@
 use crate::bodies;
 use crate::events::{put_genres, put_ratings};
 use desc_event::{
-    ExtendedPiece, RawDesc, ShortEvent, read_content, read_descriptors, read_extended_event,
-    read_parental_rating, read_short_event,
+    ExtendedPiece, Ratings, RawDescs, ShortEvent, read_content, read_descriptors,
+    read_extended_event, read_parental_rating, read_short_event,
 };
-use row_lines::{Row, put_code, put_shown};
+use guide_model::Genres;
+use row_lines::{Row, put_code, put_read, put_shown};
 use std::alloc::Global;
 
 /// Appends what the bytes are read as by this call.
 pub fn read(row: &mut Row, call: &str, bytes: &[u8]) {
     match call {
-        "read_descriptors" => descriptors(row, bytes),
-        "read_content" => content(row, bytes),
-        "read_parental_rating" => parental_rating(row, bytes),
-        "read_short_event" => short_event(row, bytes),
-        "read_extended_event" => extended_event(row, bytes),
+        "read_descriptors" => {
+            let read = read_descriptors(row.alloc(), bytes);
+            put_read(row, read, " refused", put_descriptors);
+        }
+        "read_content" => {
+            let read = read_content(row.alloc(), bytes);
+            put_read(row, read, " refused", put_content);
+        }
+        "read_parental_rating" => {
+            let read = read_parental_rating(row.alloc(), bytes);
+            put_read(row, read, " refused", put_rated);
+        }
+        "read_short_event" => {
+            let read = read_short_event(row.alloc(), bytes);
+            put_read(row, read, " refused", put_texts);
+        }
+        "read_extended_event" => {
+            let read = read_extended_event(row.alloc(), bytes);
+            put_read(row, read, " refused", put_piece);
+        }
         "read_eit" => bodies::read(row, bytes),
         _ => row.refuse(),
     }
@@ -44,16 +60,8 @@ fn is_read(alloc: Global, call: &str, bytes: &[u8]) -> bool {
     !row.has(" refused")
 }
 
-fn descriptors(row: &mut Row, bytes: &[u8]) {
-    match read_descriptors(row.alloc(), bytes) {
-        Ok(Some(descs)) => put_descriptors(row, descs.as_slice()),
-        Ok(None) => row.put(" refused"),
-        Err(_) => row.lack_memory(),
-    }
-}
-
-fn put_descriptors(row: &mut Row, descs: &[RawDesc]) {
-    for desc in descs {
+fn put_descriptors(row: &mut Row, descs: &RawDescs) {
+    for desc in descs.as_slice() {
         row.begin_part();
         row.put_byte(" ", desc.tag);
         row.put(" |");
@@ -62,28 +70,12 @@ fn put_descriptors(row: &mut Row, descs: &[RawDesc]) {
     row.end_parts();
 }
 
-fn content(row: &mut Row, bytes: &[u8]) {
-    match read_content(row.alloc(), bytes) {
-        Ok(Some(genres)) => put_genres(row, genres.as_slice()),
-        Ok(None) => row.put(" refused"),
-        Err(_) => row.lack_memory(),
-    }
+fn put_content(row: &mut Row, genres: &Genres) {
+    put_genres(row, genres.as_slice());
 }
 
-fn parental_rating(row: &mut Row, bytes: &[u8]) {
-    match read_parental_rating(row.alloc(), bytes) {
-        Ok(Some(ratings)) => put_ratings(row, ratings.as_slice()),
-        Ok(None) => row.put(" refused"),
-        Err(_) => row.lack_memory(),
-    }
-}
-
-fn short_event(row: &mut Row, bytes: &[u8]) {
-    match read_short_event(row.alloc(), bytes) {
-        Ok(Some(event)) => put_texts(row, &event),
-        Ok(None) => row.put(" refused"),
-        Err(_) => row.lack_memory(),
-    }
+fn put_rated(row: &mut Row, ratings: &Ratings) {
+    put_ratings(row, ratings.as_slice());
 }
 
 fn put_texts(row: &mut Row, event: &ShortEvent) {
@@ -92,14 +84,6 @@ fn put_texts(row: &mut Row, event: &ShortEvent) {
     put_shown(row, &event.name);
     row.put(" |");
     put_shown(row, &event.short);
-}
-
-fn extended_event(row: &mut Row, bytes: &[u8]) {
-    match read_extended_event(row.alloc(), bytes) {
-        Ok(Some(piece)) => put_piece(row, &piece),
-        Ok(None) => row.put(" refused"),
-        Err(_) => row.lack_memory(),
-    }
 }
 
 fn put_piece(row: &mut Row, piece: &ExtendedPiece) {

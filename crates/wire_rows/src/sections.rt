@@ -2,7 +2,7 @@
 ghost use Rattle.std.specs.Prelude.{◌≡◌, ◌<◌};
 ghost use Rattle.section_codec.specs.Section.{longest_body};
 
-use row_lines::Row;
+use row_lines::{Row, put_made};
 use section_codec::{
     BadSection, Key, LongHeader, Section, eit_numbers, has_long_form, has_short_form, key_of,
     read_section, write_long, write_short, write_short_crc,
@@ -19,10 +19,7 @@ pub fn long(row: &mut Row) {
     {
         return row.refuse();
     }
-    match write_long(row.alloc(), &header, &body) {
-        Ok(section) => row.put_bytes(section.as_slice()),
-        Err(_) => row.lack_memory(),
-    }
+    put_made(row, write_long(row.alloc(), &header, &body));
 }
 
 /// `write_short TABLE | BODY`: the bytes of the section.
@@ -33,10 +30,7 @@ pub fn short(row: &mut Row) {
     if has_long_form(table) || table == 0x73 || body.len() > 4093 {
         return row.refuse();
     }
-    match write_short(row.alloc(), table, &body) {
-        Ok(section) => row.put_bytes(section.as_slice()),
-        Err(_) => row.lack_memory(),
-    }
+    put_made(row, write_short(row.alloc(), table, &body));
 }
 
 /// `write_short_crc BODY`: the bytes of the section of table 73.
@@ -45,10 +39,7 @@ pub fn short_crc(row: &mut Row) {
     if body.len() > 4089 {
         return row.refuse();
     }
-    match write_short_crc(row.alloc(), 0x73, &body) {
-        Ok(section) => row.put_bytes(section.as_slice()),
-        Err(_) => row.lack_memory(),
-    }
+    put_made(row, write_short_crc(row.alloc(), 0x73, &body));
 }
 
 /// `read_section BYTES`: the section, or why there is none.
