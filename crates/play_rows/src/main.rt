@@ -1,0 +1,40 @@
+//! Tests of whole runs of `play` and `audit` by `run`.
+//!
+//! A row of `stdin` is `CALL ARGUMENTS = ANSWER`; its head explains the calls. The program prints
+//! the rows that give another answer, and the number of rows, and ends with 1 where one fails. Rows
+//! of `play` cover words, each kind of line, replies and limits of edits, faults of a description,
+//! versions and counters, the smallest runs byte for byte, and the order of reads and writes; then
+//! scripts that are cut and resumed. Rows of `audit` cover airs that are whole, short and changed,
+//! null packets with `--nulls` and without, and files that do not open. Each read and each write
+//! fails in turn.
+#![tactic(auto)]
+
+mod changed;
+mod cuts;
+mod fronts;
+mod order;
+mod rows;
+mod tally;
+
+use row_sheets::Sheet;
+use run_tools::Bench;
+use std::process::ExitCode;
+use std::{fs, io};
+
+fn main(rt: HostRuntime) -> io::Result<ExitCode> {
+    let mut bench = Bench::open(&rt, rt.alloc())?;
+    for name in ["week.txt", "one-name.txt"] {
+        bench.shelve(name, &fs::read(&rt, name)?)?;
+    }
+    let mut sheet = Sheet::open(rt.alloc());
+    for line in rt.lines(rt.alloc()) {
+        if sheet.take(line?.as_str()) {
+            let is_row = rows::answer(&mut bench, sheet.row());
+            sheet.compare(is_row, &bench.answer);
+        }
+        print!(rt; "{}", sheet.told())?;
+    }
+    sheet.end();
+    print!(rt; "{}", sheet.told())?;
+    Ok(ExitCode::from(u8::from(sheet.has_failed())))
+}
