@@ -65,7 +65,7 @@ pub fn tell<W: Threads + Wait + Sync>(
     texts: (&str, &str),
     out: &mut Buffer,
 ) -> Result<(), AllocError> {
-    let gate = Holding::of(alloc, "-").ok_or(AllocError)?;
+    let gate = Holding::of(alloc, "")?;
     let desk = desk_of(rt, alloc, two_services(alloc)?, texts, &gate)?;
     put_steps_of(out, 0, desk.entries());
     put_steps_of(out, 1, desk.entries());
@@ -80,7 +80,7 @@ pub fn tell_held<W: Threads + Wait + Sync>(
     texts: (&str, &str),
     out: &mut Buffer,
 ) -> Result<(), AllocError> {
-    let gate = Holding::of(alloc, holds).ok_or(AllocError)?;
+    let gate = Holding::of(alloc, holds)?;
     let desk = desk_of(rt, alloc, two_services(alloc)?, texts, &gate)?;
     put_edits(out, desk.entries());
     out.say(if gate.gave_up() { "gave up" } else { "end" });

@@ -3,42 +3,71 @@ use crate::reads::Reads;
 use crate::runs::Run;
 use crate::{callers, calls, reads, runs};
 use input_lines::numeral;
-use row_lines::{Buffer, Cut, Lines, reader};
-use row_sheets::cut;
-use std::alloc::Global;
+use row_lines::{Buffer, Cut, reader};
+use std::alloc::{AllocError, Global};
 use std::marker::Sync;
 use std::sync::Wait;
 use std::thread::Threads;
 
-// The text of a row as it comes: `PIECE READ TEXT`.
-fn lines_of(alloc: Global, row: &str) -> Option<Lines> {
-    let (piece, row) = cut(row);
-    let (fails_at, text) = cut(row);
-    let cut = Cut {
-        piece: numeral(piece)?,
-        fails_at: numeral(fails_at)?,
-    };
-    reader(alloc, text, cut).ok()
+fn no_row(out: &mut Buffer) -> Result<(), AllocError> {
+    out.say("no row");
+    Ok(())
 }
 
-// What a job that reads leaves.
+// How the text of a row comes, and the text.
+fn cut_of(row: &str) -> Option<(Cut, &str)> {
+    let (piece, rest) = row.split_once(' ')?;
+    let (fails_at, rest) = rest.split_once(' ')?;
+    let (piece, fails_at) = (numeral(piece)?, numeral(fails_at)?);
+    Some((Cut { piece, fails_at }, rest))
+}
+
+// What a job that reads leaves, of a text that comes so.
 fn tell_reads<W: Wait>(
     rt: &W,
     alloc: Global,
     reads: Reads,
     row: &str,
     out: &mut Buffer,
-) -> Option<()> {
-    let mut lines = lines_of(alloc, row)?;
-    reads::tell(rt, alloc, reads, &mut lines, out).ok()
+) -> Result<(), AllocError> {
+    let Some((cut, text)) = cut_of(row) else {
+        return no_row(out);
+    };
+    let mut lines = reader(alloc, text, cut)?;
+    reads::tell(rt, alloc, reads, &mut lines, out)
+}
+
+fn tell_callers<W: Threads + Wait + Sync>(
+    rt: &W,
+    alloc: Global,
+    text: &str,
+    out: &mut Buffer,
+) -> Result<(), AllocError> {
+    match text.split_once(" ; ") {
+        Some(texts) => callers::tell(rt, alloc, texts, out),
+        None => no_row(out),
+    }
+}
+
+fn tell_held<W: Threads + Wait + Sync>(
+    rt: &W,
+    alloc: Global,
+    row: &str,
+    out: &mut Buffer,
+) -> Result<(), AllocError> {
+    let (holds, text) = row.split_once(' ').unwrap_or((row, ""));
+    match text.split_once(" ; ") {
+        Some(texts) => callers::tell_held(rt, alloc, holds, texts, out),
+        None => no_row(out),
+    }
 }
 
 // A run: `CYCLES JOIN N HOLDS CONTROL ; FEED ; FEED`.
 fn run_of(row: &str) -> Option<Run<'_>> {
-    let (cycles, row) = cut(row);
-    let (join, row) = cut(row);
-    let (fails_at, row) = cut(row);
-    let (holds, row) = cut(row);
+    let (cycles, row) = row.split_once(' ')?;
+    let (join, row) = row.split_once(' ')?;
+    let (fails_at, row) = row.split_once(' ')?;
+    let (holds, row) = row.split_once(' ')?;
     let (control, feeds) = row.split_once(" ; ")?;
     let (first, second) = feeds.split_once(" ; ")?;
     Some(Run {
@@ -52,37 +81,47 @@ fn run_of(row: &str) -> Option<Run<'_>> {
     })
 }
 
-// `TEXT ; TEXT`, or `HOLDS TEXT ; TEXT`
-fn tell_callers<W: Threads + Wait + Sync>(
+fn tell_live<W: Threads + Wait + Sync>(
     rt: &W,
     alloc: Global,
     row: &str,
-    is_held: bool,
+    in_order: bool,
     out: &mut Buffer,
-) -> Option<()> {
-    if is_held {
-        let (holds, text) = cut(row);
-        return callers::tell_held(rt, alloc, holds, text.split_once(" ; ")?, out).ok();
+) -> Result<(), AllocError> {
+    match run_of(row) {
+        Some(run) => runs::tell(rt, alloc, &run, in_order, out),
+        None => no_row(out),
     }
-    callers::tell(rt, alloc, row.split_once(" ; ")?, out).ok()
 }
 
-/// Appends what a row gives; None where it is no row.
-pub fn tell<W: Threads + Wait + Sync>(
+// Appends what a row gives.
+fn tell<W: Threads + Wait + Sync>(
     rt: &W,
     alloc: Global,
-    row: &str,
+    call: &str,
+    text: &str,
     out: &mut Buffer,
-) -> Option<()> {
-    let (call, text) = cut(row);
+) -> Result<(), AllocError> {
     match call {
         "feed" => tell_reads(rt, alloc, Reads::Feed, text, out),
         "control" => tell_reads(rt, alloc, Reads::Control, text, out),
-        "calls" => calls::tell(rt, alloc, text, out).ok(),
-        "callers" => tell_callers(rt, alloc, text, false, out),
-        "held" => tell_callers(rt, alloc, text, true, out),
-        "live" => runs::tell(rt, alloc, &run_of(text)?, false, out).ok(),
-        "order" => runs::tell(rt, alloc, &run_of(text)?, true, out).ok(),
-        _ => None,
+        "calls" => calls::tell(rt, alloc, text, out),
+        "callers" => tell_callers(rt, alloc, text, out),
+        "held" => tell_held(rt, alloc, text, out),
+        "live" => tell_live(rt, alloc, text, false, out),
+        "order" => tell_live(rt, alloc, text, true, out),
+        _ => no_row(out),
     }
+}
+
+/// Appends the line with its answer; an empty line and one that begins with `#` as they are.
+pub fn put_told<W: Threads + Wait + Sync>(rt: &W, alloc: Global, line: &str, out: &mut Buffer) {
+    out.say(line);
+    if line.is_empty() || line.starts_with('#') {
+        return;
+    }
+    let (call, text) = line.split_once(' ').unwrap_or((line, ""));
+    out.say(" = ");
+    let done = tell(rt, alloc, call, text, out);
+    out.note(done);
 }

@@ -152,7 +152,7 @@ pub fn tell<W: Threads + Wait + Sync>(
     in_order: bool,
     out: &mut Buffer,
 ) -> Result<(), AllocError> {
-    let gate = Holding::of(alloc, run.holds).ok_or(AllocError)?;
+    let gate = Holding::of(alloc, run.holds)?;
     let fails = vec![in alloc; u64::from(run.fails_at); 1]?;
     let mut air = MemSink::open(alloc, 65_536, fails);
     tell_over(rt, alloc, run, in_order, &mut air, &gate, out)

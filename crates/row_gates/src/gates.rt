@@ -1,6 +1,6 @@
 // A gate that holds places of a run until others are passed.
 use si_causes::{Gate, Place};
-use std::alloc::Global;
+use std::alloc::{AllocError, Global};
 use std::sync::atomic::{AtomicBool, AtomicU64, Ordering};
 
 /// A gate that holds each first place of a pair until the second is passed. A hold that is looked at 300,000,000 times gives up.
@@ -58,13 +58,15 @@ fn hold(text: &str) -> Option<(Place, Place)> {
 }
 
 impl Holding {
-    /// The gate of holds with commas between; `-` holds nothing. None where one of them is no hold, or memory is wanting.
-    pub fn of(alloc: Global, text: &str) -> Option<Holding> {
+    /// The gate of holds with commas between; `-` holds nothing.
+    pub fn of(alloc: Global, text: &str) -> Result<Holding, AllocError> {
         let mut holds = Vec::new(alloc);
-        for text in text.split(',').filter(|text| *text != "-") {
-            holds.push(hold(text)?).ok()?;
+        for text in text.split(',') {
+            if let Some(hold) = hold(text) {
+                holds.push(hold)?;
+            }
         }
-        Some(Holding {
+        Ok(Holding {
             holds,
             passed: AtomicU64::new(0),
             gave_up: AtomicBool::new(false),
