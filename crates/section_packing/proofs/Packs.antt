@@ -16,7 +16,7 @@ use Rattle.section_packing.specs.Packing.{packets_behind, not_put, packets_with,
 
 -- ---- a stretch that goes on, packet by packet
 
--- the sections on this PID that can begin in a packet of which n bytes are taken, and all behind these
+-- the sections on this PID that can begin in a packet of which n bytes are taken, and all after these
 abbrev beginning_on : ℕ → ℕ → List Sent → List (List ℕ)
 beginning_on pid n ss = beginning n (bytes_of (front_on pid ss))
 
@@ -70,7 +70,7 @@ Goes pid (b ∷ rest) ss = Unit {0}
 Goes pid [] [] = Prim.⊥
 Goes pid [] (s ∷ ss) = s.pid ≡ pid
 
--- the first packet, and those behind it
+-- the first packet, and those after it
 record FirstGoes (pid : ℕ) (rest : List ℕ) (ss : List Sent) : Type 0 where
   is : goes_on pid rest ss ≡ packet_on pid (piece_of rest (beginning_on pid (length rest) ss)) ∷ goes_on pid (left_by rest (beginning_on pid (length rest) ss)) (waiting_on pid (length rest) ss)
 
@@ -120,7 +120,7 @@ first_goes pid [] (s ∷ ss) all h = subst (λ (q : ℕ). FirstGoes q [] (s ∷ 
 
 -- ---- a packet that is begun
 
--- with these sections begun behind what it has
+-- with these sections begun after what it has
 abbrev pointer_with : Option ℕ → ℕ → List (List ℕ) → Option ℕ
 pointer_with pointer n [] = pointer
 pointer_with pointer n (s ∷ ss) = pointer_at pointer n
@@ -131,7 +131,7 @@ pointed_twice None n m (s ∷ ss) = refl
 pointed_twice (Some p) n m [] = refl
 pointed_twice (Some p) n m (s ∷ ss) = refl
 
--- the first packet, and those behind it
+-- the first packet, and those after it
 abbrev first_with : Begun → List (List ℕ) → List Sent → List Packet
 first_with b g w =
     packet_on b.pid (piece_so_far (pointer_with b.pointer (length b.bytes) g) (b.bytes ++ joined g))
@@ -249,7 +249,7 @@ is_other b s ss other =
 pub holds_all : (b : Begun) (ss : List Sent) → not_put b.pointer b.bytes ≡ [] → finished b ∷ goes_on b.pid (not_put b.pointer b.bytes) ss ≡ finished b ∷ each_dense ss
 holds_all b ss fits = ap (λ (l : List Packet). finished b ∷ l) (ap (λ (r : List ℕ). goes_on b.pid r ss) fits ∙ nothing_goes_on b.pid ss)
 
--- fill stands only behind what is there
+-- fill stands only after what is there
 filled_front : (n : ℕ) (xs : List ℕ) → filled n (take n xs) ≡ filled n xs
 filled_front zero xs = refl
 filled_front (suc n) [] = refl

@@ -28,7 +28,7 @@ Sends-none left counters = record {
   count = λ past fields s. subst (λ (l : List Packet). StandFor (map bytes_of_packet l) counters) (sym (append-nil past)) s;
 }
 
--- a packet whose counter is set behind the past
+-- a packet whose counter is set after the past
 stamped_bytes : (past : List Packet) (p : Packet) → AllByRecursion HasFields past → IsUncounted p →
     with_counter (count_on (pid_in (bytes_of_packet p)) (map bytes_of_packet past) % 16) (bytes_of_packet p) ≡ bytes_of_packet (count_behind past p)
 stamped_bytes past p fields h =

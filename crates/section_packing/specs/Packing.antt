@@ -1,4 +1,4 @@
--- A packet that takes pieces of the sections still to come, one behind the other.
+-- A packet that takes pieces of the sections still to come, one after the other.
 use Rattle.std.specs.Prelude.{◌≡◌, ℕ, zero, suc, ◌<◌, List, [], ◌∷◌, Option, Some, None, Bool, true, false, ◌==◌, ◌&&◌, nat_lt, if◌then◌else◌, length, drop}
 use Rattle.ts_packets.specs.Bytes.{Packet}
 use Rattle.ts_packets.specs.Packer.{Begun, empty_on, with_first, finished}
@@ -6,7 +6,7 @@ use Rattle.air_model.specs.Air.{Sent}
 use Rattle.air_model.specs.Making.{each_dense, goes_on}
 use Rattle.section_packing.specs.Queue.{first_pid, IsBegun}
 
--- the packets of these sections, behind so many bytes of the first of them
+-- the packets of these sections, after so many bytes of the first of them
 abbrev pub packets_behind : List Sent → ℕ → List Packet
 packets_behind ss zero = each_dense ss
 packets_behind [] (suc from) = []
@@ -17,7 +17,7 @@ abbrev pub not_put : Option ℕ → List ℕ → List ℕ
 not_put None bytes = drop 184 bytes
 not_put (Some pointer) bytes = drop 183 bytes
 
--- the packet that is begun, finished with all sections of its PID that can begin in it, and the packets behind it
+-- the packet that is begun, finished with all sections of its PID that can begin in it, and the packets after it
 abbrev pub packets_with : Begun → List Sent → List Packet
 packets_with b [] = finished b ∷ goes_on b.pid (not_put b.pointer b.bytes) []
 packets_with b (s ∷ ss) =
@@ -29,7 +29,7 @@ abbrev pub packets_from : Begun → List Sent → ℕ → List Packet
 packets_from b ss zero = packets_with b ss
 packets_from b ss (suc from) = packets_behind ss (suc from)
 
--- A packet that is begun can take these sections, behind so many bytes of the first: it holds all that was put into it, is
+-- A packet that is begun can take these sections, after so many bytes of the first: it holds all that was put into it, is
 -- empty where a section goes on, and where it is empty the next section is of its PID.
 pub record CanTake (b : Begun) (ss : List Sent) (from : ℕ) : Type 0 where
   pub begun : IsBegun from ss

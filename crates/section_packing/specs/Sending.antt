@@ -17,7 +17,7 @@ abbrev pub PutsFirst : List Packet → List Packet → List ℕ → Type 0
 PutsFirst [] left bytes = Unit {0}
 PutsFirst (p ∷ ps) left bytes = (left ≡ ps) × (bytes ≡ bytes_of_packet p) × IsUncounted p
 
--- A front of the packets to come was handed out as these bytes, each packet with its counter: so it is behind whatever
+-- A front of the packets to come was handed out as these bytes, each packet with its counter: so it is after whatever
 -- packets the counters stood for, and they stand for those and these now.
 pub record Sends (old new : List Packet) (counters counters_new : List (Option ℕ)) (bytes : List ℕ) : Type 0 where
   pub front : List Packet
