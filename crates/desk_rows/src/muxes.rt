@@ -146,6 +146,9 @@ fn put_mux(out: &mut Buffer, mux: &Mux) {
     put_stream(out, mux);
     put_moment(out, "; start ", mux.start);
     out.say_number("; quota ", u64::from(mux.quota));
+    if let Some(rate) = mux.rate {
+        out.say_number("; rate ", u64::from(rate));
+    }
     put_each(out, mux.offsets.as_slice(), " offsets", put_offset);
     put_each(out, mux.services.as_slice(), " services", put_service);
     put_each(out, mux.others.as_slice(), " other streams", put_other);

@@ -17,16 +17,16 @@ use Rattle.guide_model.specs.declared.stream.Component.{Component}
 use Rattle.mux_model.specs.declared.mux.MuxService.{MuxService}
 use Rattle.mux_model.specs.declared.mux.RemoteService.{RemoteService}
 use Rattle.mux_model.specs.declared.mux.Mux.{Mux}
-use Rattle.mux_model.specs.Sound.{AreDifferent, Between, HasSoundLanguage, IsSoundCable, IsSoundComponent, IsSoundOffset, IsSoundRemote, IsSoundService, farthest}
+use Rattle.mux_model.specs.Sound.{AreDifferent, Between, HasSoundLanguage, IsSoundCable, IsSoundComponent, IsSoundRemote, IsSoundService, farthest}
 use Rattle.mux_config.specs.declared.fault.MuxFault.{MuxFault}
 use Rattle.mux_config.specs.declared.rows.Numbers.{Numbers}
 use Rattle.mux_config.specs.declared.record.Record.{Record}
-use Rattle.mux_config.specs.declared.record.Record.TheVariants.{Network, Stream, Delivery, Service, Part, Quota, Local, Elsewhere, Remote, End}
+use Rattle.mux_config.specs.declared.record.Record.TheVariants.{Network, Stream, Delivery, Service, Part, Quota, Rate, Local, Elsewhere, Remote, End}
 use Rattle.mux_config.specs.declared.record.RecordFound.{RecordFound}
 use Rattle.mux_config.specs.declared.record.RecordFound.TheVariants.{NoRecord, OutOfRange, Is}
 use Rattle.mux_config.specs.declared.record.Numbered.{Numbered}
 use Rattle.mux_config.specs.Descriptions.{Description, and_found, described_from, ended, fault_of, has_no_place, is_end, repeated_at, unless}
-use Rattle.mux_config.specs.Fields.{are_ids, cabled_in, is_remote_in_range, other_by, other_in, remote_by, remote_in, cable_with, found_fields, found_in, found_line, found_with, is_language, is_letter, is_service_in_range, language_of, network_in, stream_in, cable_in, numbers_in, service_of, service_in, bare_service, part_in, is_capital, country_of, side_of, offset_with, offset_in, start_with, start_in, quota_in, within}
+use Rattle.mux_config.specs.Fields.{are_ids, cabled_in, is_remote_in_range, other_by, other_in, remote_by, remote_in, cable_with, found_fields, found_in, found_line, found_with, is_language, is_letter, is_service_in_range, language_of, network_in, stream_in, cable_in, numbers_in, service_of, service_in, bare_service, part_in, is_capital, country_of, side_of, offset_with, offset_in, start_with, start_in, quota_in, rate_in, within}
 use Rattle.mux_config.specs.Laws.{DescribedTextsAreKept, WholeDescriptionsAreSound}
 use Rattle.mux_config.proofs.FineRecords.{AreFine, IsFine, IsFineFound}
 use Rattle.mux_config.proofs.Soundness.{IsFineMux, fine_end, fine_more, fine_none}
@@ -215,11 +215,17 @@ fine_offset country region side minutes change next =
 fine_quota : (quota : List ℕ) → IsFineFound (quota_in quota)
 fine_quota quota = fine_with (numeral_of quota) _ (λ n. fine_within (in_range 1 10000 n) (Quota n) (bounds 1 10000 n))
 
+fine_rate : (rate : List ℕ) → IsFineFound (rate_in rate)
+fine_rate rate =
+    fine_with (numeral_of rate) _
+    (λ n. fine_within (in_range 100000 100000000 n) (Rate n) (bounds 100000 100000000 n))
+
 fine_in : (fields : List (List ℕ)) → AllByRecursion IsKept fields → IsFineFound (found_in fields)
 fine_in (word ∷ []) kept = fine_if (is_word (codes "end") word) (Is End) NoRecord tt tt
 fine_in (word ∷ a ∷ []) kept =
     fine_if (is_word (codes "start") word) (start_in a) _ (fine_start a)
-    (fine_if (is_word (codes "quota") word) (quota_in a) NoRecord (fine_quota a) tt)
+    (fine_if (is_word (codes "quota") word) (quota_in a) _ (fine_quota a)
+    (fine_if (is_word (codes "rate") word) (rate_in a) NoRecord (fine_rate a) tt))
 fine_in (word ∷ a ∷ b ∷ []) kept =
     fine_if (is_word (codes "network") word) (network_in a b) _ (fine_network a b kept.1.1.0)
     (fine_if (is_word (codes "stream") word) (stream_in a b) _ (fine_stream a b)

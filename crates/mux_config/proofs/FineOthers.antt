@@ -12,17 +12,16 @@ use Rattle.si_text.specs.Decoding.{IsKept}
 use Rattle.mux_model.specs.declared.mux.MuxService.{MuxService}
 use Rattle.mux_model.specs.declared.mux.RemoteService.{RemoteService}
 use Rattle.mux_model.specs.declared.mux.Other.{Other}
-use Rattle.mux_model.specs.declared.mux.Mux.{Mux}
 use Rattle.mux_model.specs.Order.{DoCome, all_placed, placed}
-use Rattle.mux_model.specs.Sound.{AreDifferent, AreSoundOthers, HasSoundCable, HasStreamIds, IsSoundOther, IsSoundRemote, comes_before, has_lower_id, has_stream_ids, remote_services, service_ids}
+use Rattle.mux_model.specs.Sound.{AreSoundOthers, HasSoundCable, HasStreamIds, IsSoundOther, IsSoundRemote, comes_before, has_lower_id, has_stream_ids, remote_services}
 use Rattle.mux_model.proofs.Placing.{all_in_place, all_with, come_with, length_placed, placed_more}
 use Rattle.mux_config.specs.declared.record.Record.{Record}
-use Rattle.mux_config.specs.declared.record.Record.TheVariants.{Stream, Service, Elsewhere, Remote}
+use Rattle.mux_config.specs.declared.record.Record.TheVariants.{Stream, Elsewhere, Remote}
 use Rattle.mux_config.specs.declared.record.Numbered.{Numbered}
 use Rattle.mux_config.specs.Descriptions.{all_of, first, first_line, has_any_id, has_ids, has_no_place, is_other, is_stream, mux_with, numbered, other_in, others_of, remote_in, remote_of, repeated_at, said, service_in, services_of, sorted, stream_in, with_parts, with_remotes}
-use Rattle.mux_config.proofs.FineRecords.{AreFineOthers, IsAlone, IsFine, IsFineRemote, IsFineStream, others_in, remotes_in}
+use Rattle.mux_config.proofs.FineRecords.{AreFineOthers, IsAlone, IsFine, IsFineRemote, others_in, remotes_in}
 use Rattle.mux_config.proofs.RecordFacts.{all_kept, all_more, differs, first_not, none_pass, or_false_right, said_all}
-use Rattle.mux_config.proofs.Tallies.{different_of, of_each, tally, tally_append, tally_each, tally_either, tally_map, tally_of_each, tally_remotes, tally_sorted}
+use Rattle.mux_config.proofs.Tallies.{different_of, tally, tally_append, tally_each, tally_either, tally_map, tally_of_each, tally_remotes, tally_sorted}
 
 -- ---- ids
 

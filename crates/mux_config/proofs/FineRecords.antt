@@ -10,7 +10,7 @@ use Rattle.mux_model.specs.declared.mux.RemoteService.{RemoteService}
 use Rattle.mux_model.specs.declared.mux.Other.{Other}
 use Rattle.mux_model.specs.Order.{DoCome, all_placed}
 use Rattle.mux_config.specs.declared.record.Record.{Record}
-use Rattle.mux_config.specs.declared.record.Record.TheVariants.{Network, Stream, Delivery, Service, Part, Start, Quota, Local, Elsewhere, Remote, End}
+use Rattle.mux_config.specs.declared.record.Record.TheVariants.{Network, Stream, Delivery, Service, Part, Start, Quota, Rate, Local, Elsewhere, Remote, End}
 use Rattle.mux_config.specs.declared.record.RecordFound.{RecordFound}
 use Rattle.mux_config.specs.declared.record.RecordFound.TheVariants.{Is}
 use Rattle.mux_model.specs.Sound.{AreDifferent, Between, DoAscend, IsSoundCable, IsSoundComponent, IsSoundOffset, IsSoundRemote, IsSoundService, AreOfRegions, HasSoundCable, comes_before, has_lower_id, has_stream_ids, pmt_pids}
@@ -43,6 +43,7 @@ IsFine (Service s) = IsFineService s
 IsFine (Part id component) = IsSoundComponent component
 IsFine (Start moment) = IsFineStart moment
 IsFine (Quota n) = Between 1 10000 n
+IsFine (Rate n) = Between 100000 100000000 n
 IsFine (Local offset) = IsSoundOffset offset
 IsFine (Elsewhere s o cable) = IsFineStream (s, o) × HasSoundCable cable
 IsFine (Remote s o service) = IsFineRemote service

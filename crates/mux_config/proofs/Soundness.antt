@@ -15,11 +15,11 @@ use Rattle.mux_model.specs.declared.mux.MuxService.{MuxService}
 use Rattle.mux_model.specs.declared.mux.RemoteService.{RemoteService}
 use Rattle.mux_model.specs.declared.mux.Mux.{Mux}
 use Rattle.mux_config.specs.declared.record.Record.{Record}
-use Rattle.mux_config.specs.declared.record.Record.TheVariants.{Network, Stream, Delivery, Service, Part, Start, Quota, Local, Elsewhere, Remote}
+use Rattle.mux_config.specs.declared.record.Record.TheVariants.{Network, Stream, Delivery, Service, Part, Start, Quota, Rate, Local, Elsewhere, Remote}
 use Rattle.mux_config.specs.declared.record.Numbered.{Numbered}
-use Rattle.mux_config.specs.Descriptions.{Description, all_of, cable_of, delivery_in, first, first_line, has_any_id, has_id, has_ids, has_pmt, has_pid, has_region, holds, local_in, ended, is_stream, stream_in, with_network, with_services, with_stream, has_no_place, insert, is_delivery, is_network, is_quota, is_start, mux_with, network_in, numbered, part_in, quota_in, repeated_at, said, service_in, services_of, sorted, start_in, with_parts}
+use Rattle.mux_config.specs.Descriptions.{Description, all_of, cable_of, delivery_in, first, first_line, has_any_id, has_id, has_ids, has_pmt, has_pid, has_region, holds, local_in, ended, is_stream, stream_in, with_network, with_services, with_stream, has_no_place, insert, is_delivery, is_network, is_quota, is_rate, is_start, mux_with, network_in, numbered, part_in, quota_in, rate_in, rate_of, repeated_at, said, service_in, services_of, sorted, start_in, with_parts}
 use Rattle.mux_config.proofs.FineRecords.{AreFine, AreFineOthers, IsAlone, IsApart, IsFine, IsFineNetwork, IsFineService, IsFineStart, IsFineStream, in_order, others_in, parts_in}
-use Rattle.mux_model.specs.Sound.{AreDifferent, Between, DoAscend, HasSoundCable, IsSoundCable, IsSoundComponent, IsSoundOffset, IsSoundService, AreOfRegions, is_region, all_component_pids, component_pids, pmt_pids, IsSoundWithIds, remote_services}
+use Rattle.mux_model.specs.Sound.{AreDifferent, Between, DoAscend, HasSoundCable, HasSoundRate, IsSoundCable, IsSoundComponent, IsSoundOffset, IsSoundService, AreOfRegions, is_region, all_component_pids, component_pids, pmt_pids, IsSoundWithIds, remote_services}
 use Rattle.mux_config.proofs.RecordFacts.{all_kept, all_more, differs, first_not, none_pass, or_false_left, or_false_right, or_none_left, or_none_right, said_all}
 use Rattle.mux_config.proofs.Ordering.{sorted_more}
 use Rattle.mux_config.proofs.FineOthers.{fine_ids, first_alone, kept_names, others_kept, others_more, others_none, remotes_more, sound_others, stream_alone}
@@ -335,6 +335,14 @@ in_quota : (r : Record) → IsFine r → IfSome (quota_in r) (Between 1 10000)
 in_quota (Quota n) h = h
 in_quota other h = tt
 
+in_rate : (r : Record) → IsFine r → IfSome (rate_in r) (Between 100000 100000000)
+in_rate (Rate n) h = h
+in_rate other h = tt
+
+sound_rate : (o : Option ℕ) → IfSome o (Between 100000 100000000) → HasSoundRate o
+sound_rate None h = tt
+sound_rate (Some n) h = h
+
 sound_cable : (o : Option Cable) → IfSome o IsSoundCable → HasSoundCable o
 sound_cable None h = tt
 sound_cable (Some cable) h = h
@@ -400,6 +408,8 @@ fine_mux rs network stream f named ids alone some =
           cable = sound_cable (cable_of rs) (said_first delivery_in IsSoundCable in_delivery is_delivery rs f.each);
           start = or_other IsFineStart (said start_in (first is_start rs)) (record { 0 = 3506716800 }) (said_first start_in IsFineStart in_start is_start rs f.each) (lit< tt);
           quota = or_other (Between 1 10000) (said quota_in (first is_quota rs)) 200 (said_first quota_in (Between 1 10000) in_quota is_quota rs f.each) (lit≤ tt, lit≤ tt);
+          rate = sound_rate (rate_of rs)
+              (said_first rate_in (Between 100000 100000000) in_rate is_rate rs f.each);
           offsets = record { few = f.few_offsets; each = said_all local_in IsSoundOffset IsFine offset_said rs f.each; once = f.regions };
           count = (some, omega (arith, f.count, length-map (in_order rs) (with_parts rs)));
           services = sound_services rs ts f served;

@@ -17,7 +17,7 @@ use Rattle.mux_model.specs.declared.mux.Mux.{Mux}
 use Rattle.mux_model.specs.Order.{all_placed}
 use Rattle.mux_model.specs.Sound.{comes_before, has_lower_id, is_region}
 use Rattle.mux_config.specs.declared.record.Record.{Record}
-use Rattle.mux_config.specs.declared.record.Record.TheVariants.{Network, Stream, Delivery, Service, Part, Start, Quota, Local, Elsewhere, Remote, End}
+use Rattle.mux_config.specs.declared.record.Record.TheVariants.{Network, Stream, Delivery, Service, Part, Start, Quota, Rate, Local, Elsewhere, Remote, End}
 use Rattle.mux_config.specs.declared.record.Numbered.{Numbered}
 use Rattle.mux_config.specs.declared.record.RecordFound.{RecordFound}
 use Rattle.mux_config.specs.declared.record.RecordFound.TheVariants.{NoRecord, OutOfRange, Is}
@@ -48,6 +48,10 @@ start_in r = None
 abbrev pub quota_in : Record → Option ℕ
 quota_in (Quota n) = Some n
 quota_in r = None
+
+abbrev pub rate_in : Record → Option ℕ
+rate_in (Rate n) = Some n
+rate_in r = None
 
 abbrev pub local_in : Record → Option Offset
 local_in (Local offset) = Some offset
@@ -104,6 +108,9 @@ is_start r = is_some (start_in r)
 
 abbrev pub is_quota : Record → Bool
 is_quota r = is_some (quota_in r)
+
+abbrev pub is_rate : Record → Bool
+is_rate r = is_some (rate_in r)
 
 -- a service of whatever stream with this id
 abbrev pub has_any_id : ℕ → Record → Bool
@@ -169,6 +176,7 @@ repeated_at before (Service s) = option_or (first_line (has_any_id s.service) be
 repeated_at before (Part id c) = first_line (holds id c.pid) before
 repeated_at before (Start moment) = first_line is_start before
 repeated_at before (Quota n) = first_line is_quota before
+repeated_at before (Rate n) = first_line is_rate before
 repeated_at before (Local o) = first_line (has_region o) before
 repeated_at before (Elsewhere s o cable) = first_line (has_ids s o) before
 repeated_at before (Remote s o service) = first_line (has_any_id service.service) before
@@ -214,6 +222,10 @@ start_of records = unwrap_or (said start_in (first is_start records)) (record { 
 abbrev pub quota_of : List Numbered → ℕ
 quota_of records = unwrap_or (said quota_in (first is_quota records)) 200
 
+-- the bit rate, where a line says it
+abbrev pub rate_of : List Numbered → Option ℕ
+rate_of records = said rate_in (first is_rate records)
+
 -- the multiplex of a network, a stream and the records
 abbrev pub mux_with : ℕ × List ℕ → ℕ × ℕ → List Numbered → Mux
 mux_with network stream records = record {
@@ -224,6 +236,7 @@ mux_with network stream records = record {
   cable = cable_of records;
   start = start_of records;
   quota = quota_of records;
+  rate = rate_of records;
   offsets = all_of local_in records;
   services = services_of records;
   others = others_of records;

@@ -8,7 +8,7 @@ use Rattle.mux_model.specs.declared.mux.MuxService.{MuxService}
 use Rattle.mux_model.specs.declared.mux.RemoteService.{RemoteService}
 use Rattle.mux_config.specs.declared.rows.Numbers.{Numbers}
 use Rattle.mux_config.specs.declared.record.Record.{Record}
-use Rattle.mux_config.specs.declared.record.Record.TheVariants.{Network, Stream, Delivery, Service, Part, Start, Quota, Local, Elsewhere, Remote, End}
+use Rattle.mux_config.specs.declared.record.Record.TheVariants.{Network, Stream, Delivery, Service, Part, Start, Quota, Rate, Local, Elsewhere, Remote, End}
 use Rattle.mux_config.specs.declared.record.RecordFound.{RecordFound}
 use Rattle.mux_config.specs.declared.record.RecordFound.TheVariants.{NoRecord, OutOfRange, Is}
 use Rattle.si_text.specs.Coding.{coded_size}
@@ -129,6 +129,10 @@ start_in moment = start_with (moment_in moment)
 abbrev pub quota_in : List ℕ → RecordFound
 quota_in quota = spelled quota (λ n. within (in_range 1 10000 n) (Quota n))
 
+-- `rate,BITS`
+abbrev pub rate_in : List ℕ → RecordFound
+rate_in rate = spelled rate (λ n. within (in_range 100000 100000000 n) (Rate n))
+
 -- `other,STREAM,ORIGINAL`
 abbrev pub are_ids : ℕ → ℕ → Bool
 are_ids stream original = in_range 0 65535 stream && in_range 0 65535 original
@@ -183,7 +187,11 @@ three_in word a b =
 -- what the fields of a line say, by the word in front and how many they are
 abbrev pub found_in : List (List ℕ) → RecordFound
 found_in (word ∷ []) = if is_word (codes "end") word then Is End else NoRecord
-found_in (word ∷ a ∷ []) = if is_word (codes "start") word then start_in a else (if is_word (codes "quota") word then quota_in a else NoRecord)
+found_in (word ∷ a ∷ []) =
+    if is_word (codes "start") word then start_in a
+    else if is_word (codes "quota") word then quota_in a
+    else if is_word (codes "rate") word then rate_in a
+    else NoRecord
 found_in (word ∷ a ∷ b ∷ []) = three_in word a b
 found_in (word ∷ a ∷ b ∷ c ∷ d ∷ []) = if is_word (codes "component") word then part_in a b c d else NoRecord
 found_in (word ∷ a ∷ b ∷ c ∷ d ∷ e ∷ []) = if is_word (codes "cable") word then cable_in a b c d e else NoRecord

@@ -8,9 +8,9 @@ use Rattle.mux_model.specs.Order.{placed}
 use Rattle.mux_model.specs.Sound.{comes_before, has_lower_id}
 use Rattle.mux_config.specs.declared.record.Numbered.{Numbered}
 use Rattle.mux_config.specs.declared.kinds.Kind.{Kind}
-use Rattle.mux_config.specs.declared.kinds.Kind.TheVariants.{Networks, Streams, Deliveries, Starts, Quotas, Regions, Ids, Pairs, Pmts, Pids, Holders, Services, Parts, Offsets, Others, Remotes}
+use Rattle.mux_config.specs.declared.kinds.Kind.TheVariants.{Networks, Streams, Deliveries, Starts, Quotas, Rates, Regions, Ids, Pairs, Pmts, Pids, Holders, Services, Parts, Offsets, Others, Remotes}
 use Rattle.mux_config.specs.declared.record.Record.{Record}
-use Rattle.mux_config.specs.Descriptions.{is_network, is_stream, is_delivery, is_start, is_quota, has_any_id, has_ids, has_pmt, has_pid, has_region, holds, insert, local_in, other_in, part_in, remote_in, service_in, with_parts, with_remotes}
+use Rattle.mux_config.specs.Descriptions.{is_network, is_stream, is_delivery, is_start, is_quota, is_rate, has_any_id, has_ids, has_pmt, has_pid, has_region, holds, insert, local_in, other_in, part_in, remote_in, service_in, with_parts, with_remotes}
 
 abbrev pub is_of : Kind → Record → Bool
 is_of Networks = is_network
@@ -18,6 +18,7 @@ is_of Streams = is_stream
 is_of Deliveries = is_delivery
 is_of Starts = is_start
 is_of Quotas = is_quota
+is_of Rates = is_rate
 is_of (Regions offset) = has_region offset
 is_of (Ids id) = has_any_id id
 is_of (Pairs stream original) = has_ids stream original

@@ -48,6 +48,7 @@ row_sound = record {
   cable = record { frequency = lit≤ tt; symbol_rate = lit≤ tt; fec_outer = lit≤ tt; fec_inner = lit≤ tt };
   start = lit< tt;
   quota = (lit≤ tt, lit≤ tt);
+  rate = tt;
   offsets = record { few = lit≤ tt; each = tt; once = tt };
   count = (lit≤ tt, lit≤ tt);
   services = (

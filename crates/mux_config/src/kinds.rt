@@ -1,4 +1,4 @@
-// Kinds of records, and what a record repeats of those before it. A description has at most 1,188
+// Kinds of records, and what a record repeats of those before it. A description has at most 1,189
 // records, so each is held against all before it.
 ghost use Rattle.std.specs.Prelude.{◌≡◌, ◌||◌, not, nat_le, length, option_copied};
 ghost use Rattle.std.specs.Option.{option_or, is_some};
@@ -34,6 +34,7 @@ pub(crate) enum Kind {
     Deliveries,
     Starts,
     Quotas,
+    Rates,
     Regions(Offset),
     Ids(u16),
     Pairs(u16, u16),
@@ -57,6 +58,7 @@ pub(crate) fn is_of_kind(kind: Kind, says: &Record) -> bool
         Kind::Deliveries => matches!(says, Record::Delivery(_)),
         Kind::Starts => matches!(says, Record::Start(_)),
         Kind::Quotas => matches!(says, Record::Quota(_)),
+        Kind::Rates => matches!(says, Record::Rate(_)),
         Kind::Regions(offset) => has_region(offset, says),
         Kind::Ids(id) => has_any_id(id, says),
         Kind::Pairs(stream, original) => has_ids(stream, original, says),
@@ -262,6 +264,7 @@ pub(crate) fn repeated_at(records: &[Numbered], says: &Record) -> Option<u64>
         Record::Delivery(_) => first_line(Kind::Deliveries, records),
         Record::Start(_) => first_line(Kind::Starts, records),
         Record::Quota(_) => first_line(Kind::Quotas, records),
+        Record::Rate(_) => first_line(Kind::Rates, records),
         Record::Service(service) => service_at(service.service, service.pmt_pid, records),
         Record::Part(id, component) => first_line(Kind::Holders(*id, component.pid), records),
         Record::Local(offset) => first_line(Kind::Regions(*offset), records),

@@ -6,7 +6,7 @@ use si_time::Moment;
 
 /// What a line of the description says: the network's id and name; the stream's id and its original network; the cable
 /// delivery; a service, still without components; a component of a service; the moment at which the desk starts; the
-/// quota; how far the clocks of a region are from UTC; another stream's id, its original network and its cable
+/// quota; the bit rate of the air; how far the clocks of a region are from UTC; another stream's id, its original network and its cable
 /// delivery; a service of the other stream with this id and original network; the end.
 #[derive(Drop)]
 pub enum Record {
@@ -17,6 +17,7 @@ pub enum Record {
     Part(u16, Component),
     Start(Moment),
     Quota(u32),
+    Rate(u32),
     Local(Offset),
     Elsewhere(u16, u16, Option<Cable>),
     Remote(u16, u16, RemoteService),

@@ -3,7 +3,7 @@ ghost use Rattle.std.specs.Prelude.{◌≡◌, ◌<◌, ◌∷◌, [], true, fal
 ghost use Rattle.si_text.specs.Coding.{coded_size};
 ghost use Rattle.input_lines.specs.Numbers.{in_range};
 ghost use Rattle.mux_model.specs.Sound.{Between, farthest};
-ghost use Rattle.mux_config.specs.Fields.{network_in, stream_in, cable_in, delivery_with, are_ids, other_in, other_by, cabled_in, remote_with, remote_by, remote_in, eight_in, three_in, numbers_in, service_with, service_of as numbers_service, bare_service, is_letter as is_small_letter, is_language as is_a_language, language_of, part_in, is_capital, country_of, side_of, offset_with, offset_in, start_in, quota_in, found_in};
+ghost use Rattle.mux_config.specs.Fields.{network_in, stream_in, cable_in, delivery_with, are_ids, other_in, other_by, cabled_in, remote_with, remote_by, remote_in, eight_in, three_in, numbers_in, service_with, service_of as numbers_service, bare_service, is_letter as is_small_letter, is_language as is_a_language, language_of, part_in, is_capital, country_of, side_of, offset_with, offset_in, start_in, quota_in, rate_in, found_in};
 
 use crate::record::{Record, RecordFound};
 use guide_model::{Cable, Component, Components, Offset};
@@ -430,6 +430,20 @@ fn quota(quota: &Txt) -> RecordFound
     }
 }
 
+// `rate,BITS`
+fn rate(rate: &Txt) -> RecordFound
+    ensures { result ≡ rate_in rate.now }
+{
+    let Some(n) = numeral(rate.as_str()) else {
+        return RecordFound::NoRecord;
+    };
+    if is_in(100_000, 100_000_000, n) {
+        RecordFound::Is(Record::Rate(n))
+    } else {
+        RecordFound::OutOfRange
+    }
+}
+
 // The ids of a stream, where both are in their range.
 fn ids(stream: u32, original: u32) -> Option<(u16, u16)>
     ensures some { IfSome result (λ both. (are_ids stream original ≡ true) × (both ≡ (stream, original))) }
@@ -600,6 +614,9 @@ fn record_of_one(word: &Txt, a: &Txt) -> RecordFound
     }
     if is_word(word.as_str(), "quota") {
         return quota(a);
+    }
+    if is_word(word.as_str(), "rate") {
+        return rate(a);
     }
     RecordFound::NoRecord
 }

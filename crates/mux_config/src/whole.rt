@@ -4,7 +4,7 @@ ghost use Rattle.std.specs.Option.{unwrap_or};
 ghost use Rattle.mux_model.specs.declared.mux.MuxService.{MuxService};
 ghost use Rattle.mux_model.specs.declared.mux.Other.{Other};
 ghost use Rattle.mux_model.specs.declared.mux.RemoteService.{RemoteService};
-ghost use Rattle.mux_config.specs.Descriptions.{all_of, cable_of as the_cable, ended, first, insert as inserted, is_network, is_stream, local_in, network_in, part_in, quota_of as the_quota, said, service_in, services_of as the_services, start_of as the_start, stream_in, with_parts as with_its_parts, others_of as the_others, remote_of as the_remote, other_in, with_remotes as with_its_remotes};
+ghost use Rattle.mux_config.specs.Descriptions.{all_of, cable_of as the_cable, ended, first, insert as inserted, is_network, is_stream, local_in, network_in, part_in, quota_of as the_quota, rate_of as the_rate, said, service_in, services_of as the_services, start_of as the_start, stream_in, with_parts as with_its_parts, others_of as the_others, remote_of as the_remote, other_in, with_remotes as with_its_remotes};
 ghost use Rattle.mux_model.specs.Order.{all_placed, placed};
 ghost use Rattle.mux_model.specs.Sound.{comes_before, has_lower_id};
 ghost use Rattle.mux_config.specs.Kinds.{put_other, put_remote, put_service};
@@ -78,6 +78,15 @@ fn quota_of(records: &[Numbered]) -> u32
             _ => QUOTA,
         },
         None => QUOTA,
+    }
+}
+
+fn rate_of(records: &[Numbered]) -> Option<u32>
+    ensures { result ≡ the_rate records.now }
+{
+    match &first_of(Kind::Rates, records)?.says {
+        Record::Rate(rate) => Some(*rate),
+        _ => None,
     }
 }
 
@@ -376,6 +385,7 @@ pub(crate) fn multiplex(alloc: Global, records: &[Numbered]) -> Result<Mux, MuxS
         cable: cable_of(records),
         start: start_of(records),
         quota: quota_of(records),
+        rate: rate_of(records),
         offsets,
         services,
         others,

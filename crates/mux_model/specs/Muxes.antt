@@ -1,4 +1,4 @@
--- A multiplex with what each has, and nothing else: no cable delivery, no offsets and no other stream.
+-- A multiplex with what each has, and nothing else: no cable delivery, no bit rate, no offsets and no other stream.
 use Rattle.std.specs.Prelude.{ℕ, List, [], None}
 use Rattle.si_time.specs.declared.moment.Moment.{Moment}
 use Rattle.mux_model.specs.declared.mux.MuxService.{MuxService}
@@ -13,6 +13,7 @@ mux_of network name stream original start quota services = record {
   cable = None;
   start = start;
   quota = quota;
+  rate = None;
   offsets = [];
   services = services;
   others = [];

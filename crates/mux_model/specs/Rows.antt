@@ -20,6 +20,7 @@ row_sound = record {
   cable = tt;
   start = lit< tt;
   quota = (lit≤ tt, lit≤ tt);
+  rate = tt;
   offsets = record { few = lit≤ tt; each = tt; once = tt };
   count = (lit≤ tt, lit≤ tt);
   services = (

@@ -25,6 +25,11 @@ abbrev pub HasSoundCable : Option Cable → Type 0
 HasSoundCable None = Unit {0}
 HasSoundCable (Some cable) = IsSoundCable cable
 
+-- no bit rate, or one of 100,000 to 100,000,000 bits per second
+abbrev pub HasSoundRate : Option ℕ → Type 0
+HasSoundRate None = Unit {0}
+HasSoundRate (Some rate) = Between 100000 100000000 rate
+
 -- no language, or three letters a to z
 abbrev pub HasSoundLanguage : Option (List ℕ) → Type 0
 HasSoundLanguage None = Unit {0}
@@ -138,6 +143,7 @@ pub record IsSound (mux : Mux) : Type 0 where
   pub cable : HasSoundCable mux.cable
   pub start : mux.start.0 < 65536 * 86400
   pub quota : Between 1 10000 mux.quota
+  pub rate : HasSoundRate mux.rate
   pub offsets : AreSoundOffsets mux.offsets
   pub count : Between 1 64 (length mux.services)
   pub services : AllByRecursion IsSoundService mux.services

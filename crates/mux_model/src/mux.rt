@@ -53,8 +53,9 @@ pub type Others = Items<Other>;
 
 /// A multiplex: network_id and network name, transport_stream_id, original_network_id, its cable
 /// delivery where it is given, the moment at which its desk starts, the number of packets between
-/// two repeats of its frequent tables, how far the clocks of regions are from UTC (EN 300 468,
-/// 5.2.6), its services, and the other streams of the network.
+/// two repeats of its frequent tables, the bit rate at which its air is sent where it is given, in
+/// bits per second, how far the clocks of regions are from UTC (EN 300 468, 5.2.6), its services,
+/// and the other streams of the network.
 #[derive(Drop)]
 pub struct Mux {
     pub network: u16,
@@ -64,6 +65,7 @@ pub struct Mux {
     pub cable: Option<Cable>,
     pub start: Moment,
     pub quota: u32,
+    pub rate: Option<u32>,
     pub offsets: Offsets,
     pub services: MuxServices,
     pub others: Others,
@@ -120,6 +122,7 @@ impl Mux {
             cable: self.cable,
             start: self.start,
             quota: self.quota,
+            rate: self.rate,
             offsets: self.offsets.copy()?,
             services: self.services.copy()?,
             others: self.others.copy()?,

@@ -82,6 +82,7 @@ wide = record {
   cable = None;
   start = record { 0 = 0 };
   quota = 200;
+  rate = None;
   offsets = [];
   services = news ∷ [];
   others = third ∷ fifth ∷ [];
