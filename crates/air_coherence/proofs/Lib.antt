@@ -2,5 +2,4 @@ pub mod Told
 pub mod Steady
 pub mod Counts
 pub mod Coherent
-pub mod Sent
 pub mod Carried

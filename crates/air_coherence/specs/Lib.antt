@@ -1,4 +1,3 @@
 pub mod Coherence
-pub mod Sent
 pub mod Laws
 pub mod Rows

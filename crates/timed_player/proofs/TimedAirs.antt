@@ -10,7 +10,8 @@ use Rattle.air_paced.proofs.Times.{timed_airs_tell_the_time}
 use Rattle.air_paced.proofs.Repeats.{timed_cycles_repeat}
 use Rattle.timed_player.specs.Playing.{IsTimedAir, TimedPlayersSendAirs, CyclesBegunAreAirs}
 
-is_timed_air : (rate : ℕ) (xs : List Aired) → 0 < rate → AreTimed rate [] xs → CanAllBeTimed xs → IsTimedAir rate xs
+-- cycles at a bit rate, whoever made them
+pub is_timed_air : (rate : ℕ) (xs : List Aired) → 0 < rate → AreTimed rate [] xs → CanAllBeTimed xs → IsTimedAir rate xs
 is_timed_air rate xs some timed can = record {
   is_air = timed_airs_are_airs rate xs timed can;
   stand = timed_sections_are_on_air rate xs timed;

@@ -26,4 +26,4 @@ mod runs;
 
 pub use clock::Clock;
 pub use laws::timed_players_send_airs;
-pub use player::{KeptPlaying, TimedPlayer};
+pub use player::{PlayerState, TimedPlayer};

@@ -27,7 +27,7 @@ use version_book::{KeyVersions, VersionBook};
 /// What a player goes on from: each key with its last version and content, and each PID with its
 /// counter, both in ascending order, and the clock.
 #[derive(Drop)]
-pub struct KeptPlaying {
+pub struct PlayerState {
     pub versions: KeyVersions,
     pub counters: PidCounters,
     pub clock: Clock,
@@ -122,7 +122,7 @@ impl TimedPlayer {
 
     /// What a player at its end goes on from (`resume`). What was handed in counts as carried and
     /// as sent. AllocError comes where memory is wanting.
-    pub fn kept(&self) -> Result<KeptPlaying, AllocError>
+    pub fn kept(&self) -> Result<PlayerState, AllocError>
         requires { self.now.left ≡ [] }
         ensures versions { IfOk result (λ kept. AreKeyVersionsOf self.now.book kept.versions) }
         ensures counters { IfOk result (λ kept. ArePidCountersOf self.now.counters kept.counters) }
@@ -132,7 +132,7 @@ impl TimedPlayer {
     {
         let versions = self.book.kept()?;
         let counters = self.counters.kept(versions.allocator())?;
-        Ok(KeptPlaying {
+        Ok(PlayerState {
             versions,
             counters,
             clock: self.clock,

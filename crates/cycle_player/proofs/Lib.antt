@@ -1,0 +1,3 @@
+pub mod Airs
+pub mod Sent
+pub mod Ends

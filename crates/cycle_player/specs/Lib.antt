@@ -1,0 +1,4 @@
+pub mod Airs
+pub mod Sent
+pub mod Sending
+pub mod Player
