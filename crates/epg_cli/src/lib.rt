@@ -8,7 +8,7 @@
 //! `opener_kept`, `input_kept`). `cause`, `open_cause` and `report` hold for all words: each fault
 //! has its cause.
 //!
-//! Tested by whole runs in `headend_rows`, `epg_live_rows` and `example_rows`.
+//! Tested by whole runs, and by those of the examples.
 #![tactic(auto)]
 
 mod top;

@@ -13,8 +13,8 @@
 //! guide that was heard of them. By [`whole_guides_are_reported_alike`] a whole guide is the same with
 //! `partial`, if of events that the SDT says are not sent nothing is held but whole tables.
 //!
-//! Tested in `headend_rows`: a completion is reported before the next packet is read; recordings
-//! of other generators.
+//! Tested by whole runs: a completion is reported before the next packet is read; recordings of
+//! other generators.
 //!
 //! Not promised: what is left after Memory, and that it comes only where memory runs out.
 #![tactic(auto)]

@@ -20,11 +20,12 @@ use Rattle.journal_screen.specs.Shown.{IsAsRead}
 use Rattle.journal_screen.specs.Last.{IsShownLast}
 use Rattle.journal_screen.proofs.Last.{journals_last}
 use Rattle.headend_jobs.specs.declared.live.LiveStop.{LiveStop}
-use Rattle.headend_jobs.specs.declared.send.SendStop.{SendStop}
-use Rattle.headend_jobs.specs.declared.send.SendStop.TheVariants as send
-use Rattle.headend_jobs.specs.Live.{AirDid, AirOf, LastMade, and_stop, control_stop, halts, run_stop, sent_stop}
+use Rattle.air_sending.specs.declared.send.SendStop.{SendStop}
+use Rattle.air_sending.specs.declared.send.SendStop.TheVariants as send
+use Rattle.air_sending.specs.AirOf.{AirDid, AirOf}
+use Rattle.headend_jobs.specs.Live.{LastMade, and_stop, control_stop, halts, run_stop, sent_stop}
 use Rattle.headend_live.specs.Watched.{guide_of_air}
-use Rattle.headend_live.proofs.Sent.{air_sent}
+use Rattle.air_sending.proofs.Sent.{air_sent}
 use Rattle.journal_text.specs.Back.{IsOfLines, IsWritten}
 use Rattle.headend_jobs.specs.Whole.{final_commands}
 use Rattle.epg_report.specs.declared.status.Status.{Status}

@@ -17,7 +17,7 @@ use Rattle.desk_hall.specs.Reads.{HasReadCause, commands_by, edit_step, ToldDid}
 use Rattle.turn_lock.specs.Knowledge.{TableId}
 use Rattle.headend_jobs.specs.declared.jobs.FeedJob.{FeedJob}
 use Rattle.headend_jobs.specs.declared.live.LiveStop.{LiveStop}
-use Rattle.headend_jobs.specs.declared.send.SendStop.{SendStop}
+use Rattle.air_sending.specs.declared.send.SendStop.{SendStop}
 use Rattle.headend_live.specs.declared.watched.LivePlan.{LivePlan}
 use Rattle.headend_live.specs.declared.watched.LiveEnd.{LiveEnd}
 use Rattle.headend_jobs.specs.Back.{lines_back}

@@ -20,7 +20,7 @@ use Rattle.epg_report.specs.declared.status.Status.{Status}
 use Rattle.epg_report.specs.Texts.{fault_line, fault_lines, fault_text, has_line}
 use Rattle.epg_play.proofs.AgainFacts.{journals-again}
 use Rattle.epg_live.specs.declared.reporting.Observed.{Observed}
-use Rattle.epg_live.specs.Ends.{done_text, observed_text, run_text}
+use Rattle.epg_live.specs.Ends.{done_text, observed_text}
 use Rattle.epg_live.specs.Views.{views_text}
 use Rattle.epg_live.specs.Reports.{IsScript, LiveReportsTellJournals}
 

@@ -9,7 +9,7 @@ use Rattle.journal_model.specs.declared.step.Entry.{Entry}
 use Rattle.journal_text.specs.Back.{IsOfLines}
 use Rattle.guide_screen.specs.declared.need.Heard.{Heard}
 use Rattle.journal_screen.specs.Last.{IsShownLast}
-use Rattle.headend_live.specs.SentAir.{SentAir}
+use Rattle.air_sending.specs.SentAir.{SentAir}
 use Rattle.epg_report.specs.declared.status.Status.{Status}
 use Rattle.epg_report.specs.declared.status.Status.TheVariants.{Done, Memory}
 use Rattle.epg_report.specs.Told.{OpenerAsked, ReportTaken, SourceGave}
@@ -47,7 +47,8 @@ pub record LeftLive (paths : List (List ℕ)) (plan : LivePlan) (text : List ℕ
   -- its text is a script: after the description `play` plays it to this journal again
   pub again : IsScript text journal
   -- whoever joins that air at any packet, and loses none: each completion is of one airing, and once a cycle was heard whole the guide is that
-  -- of its publication, as long as that stays on air; and sections of tier Fast and Near repeat within their bounds
+  -- of its publication, as long as that stays on air; without a bit rate sections of tier Fast and
+  -- Near repeat within their bounds, and at one the air keeps time
   pub sent : JournalIsSent text journal air.old air.new
   -- with Done, a monitor that joined before the last cycle shows, whole, the publication on air, which has each accepted edit of each feed
   pub shown : met ≡ Done → (sent : List ℕ) → air.old ≡ Some sent → MonitorShows plan.join text journal air.old air.new observed.guide

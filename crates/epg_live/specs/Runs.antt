@@ -22,9 +22,10 @@ use Rattle.desk_hall.specs.Reads.{HasReadCause, ToldDid, commands_by, control_st
 use Rattle.turn_lock.specs.Journal.{entries_of}
 use Rattle.guide_screen.specs.declared.need.Heard.{Heard}
 use Rattle.air_monitor.specs.Heard.{lines_of_air}
-use Rattle.headend_jobs.specs.declared.send.SendStop.{SendStop}
+use Rattle.air_sending.specs.declared.send.SendStop.{SendStop}
 use Rattle.headend_jobs.specs.Callers.{CommandsAre, PlayerSwapped}
-use Rattle.headend_jobs.specs.Live.{AirDid, LastMade, halts, run_stop}
+use Rattle.air_sending.specs.AirOf.{AirDid}
+use Rattle.headend_jobs.specs.Live.{LastMade, halts, run_stop}
 use Rattle.headend_jobs.specs.Posting.{posts_of}
 use Rattle.headend_live.specs.Watched.{guide_of_air}
 use Rattle.epg_report.specs.declared.status.Status.{Status}

@@ -26,7 +26,7 @@ use Rattle.journal_text.specs.Back.{EntryReadsBack, IsReadable}
 use Rattle.command_text.specs.Back.{ahead_of, command_lines, shown_lines}
 use Rattle.journal_text.specs.Entries.{entry_text, journal_text}
 use Rattle.journal_text.proofs.EntryBack.{entries_read_back}
-use Rattle.headend_jobs.specs.OnAir.{and_step}
+use Rattle.air_sending.specs.OnAir.{and_step}
 use Rattle.epg_play.specs.Outcomes.{is_outcome}
 use Rattle.epg_play.specs.Script.{Script, Stop, Ended, Disagreed, difference, script_in, script_of_lines, script_with}
 use Rattle.epg_play.specs.Leaves.{whole_journal}

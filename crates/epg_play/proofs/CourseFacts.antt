@@ -23,12 +23,12 @@ use Rattle.script_lines.specs.declared.script.ScriptItem.{ScriptItem}
 use Rattle.script_lines.specs.declared.script.ScriptItem.TheVariants.{Step as step, Kept}
 use Rattle.script_lines.specs.Script.{asked_by, first_script_item, items_ahead, kept_first}
 use Rattle.script_lines.proofs.ItemsAhead.{items_step, items_kept, items_stop}
-use Rattle.headend_jobs.specs.OnAir.{and_step}
+use Rattle.air_sending.specs.OnAir.{and_step}
 use Rattle.epg_play.specs.declared.stop.PlayStop.{PlayStop}
-use Rattle.headend_jobs.specs.OnAir.{HasAired, AiredTo as OnAirTo}
-use Rattle.headend_jobs.specs.declared.send.SendStop.{SendStop}
-use Rattle.headend_jobs.specs.declared.send.SendStop.TheVariants as send
-use Rattle.carousel_player.specs.Playing.{Playing}
+use Rattle.air_sending.specs.OnAir.{HasAired, AiredTo as OnAirTo}
+use Rattle.air_sending.specs.declared.send.SendStop.{SendStop}
+use Rattle.air_sending.specs.declared.send.SendStop.TheVariants as send
+use Rattle.cycle_player.specs.Sending.{Sending}
 use Rattle.epg_play.specs.declared.stop.PlayStop.TheVariants.{NoMux, NoCommand as Refused, Disagrees, Read, Air, Memory}
 use Rattle.epg_play.specs.Script.{Stop, Ended, NoCommand, Disagreed, TooLong, Unread, commands_of, difference, first_difference, first_of, stop_of, up_to}
 use Rattle.epg_play.specs.Played.{AiredTo, HasAirCause, HasReadCause, IsBehindMux, IsDifference, PlayedWhole, RestDid, RestTaken, course_of, desk_after, late_difference, played_raised, read_stop, send_stop, unless_late}
@@ -230,7 +230,7 @@ module _ (shift : ℕ) where
       (length w.done, w.did ∙ ap (desk_after before) (sym (front_of (course_at shift before None (ahead old text)) (course_at shift desk made (ahead now t.0)) w.done t.2)))
 
   -- what is on air at a desk that is as it was
-  pub stopped_aired : (earlier : List Aired) (old desk : DeskState) (player : Playing) (before now : Option (List ℕ)) (stop : PlayStop) → ItemDid old desk (Err stop) → HasAired earlier old player before now
+  pub stopped_aired : (earlier : List Aired) (old desk : DeskState) (player : Sending) (before now : Option (List ℕ)) (stop : PlayStop) → ItemDid old desk (Err stop) → HasAired earlier old player before now
       → AiredTo {T = Unit {0}} earlier desk player before now (Err stop)
   stopped_aired earlier old desk player before now (NoMux fault) did has = absurd did
   stopped_aired earlier old desk player before now (Refused n) did has = subst (λ (d : DeskState). HasAired earlier d player before now) (sym did) has
@@ -254,7 +254,7 @@ module _ (shift : ℕ) where
   cut_stop left old now before desk made send.Air w = (λ text told. cut_at left old now before desk made w text told, tt)
   cut_stop left old now before desk made send.Memory w = (λ text told. tt, tt)
 
-  pub cut_aired : (earlier : List Aired) (desk : DeskState) (player : Playing) (before now : Option (List ℕ)) (stop : SendStop) → OnAirTo earlier desk player before now (Err stop)
+  pub cut_aired : (earlier : List Aired) (desk : DeskState) (player : Sending) (before now : Option (List ℕ)) (stop : SendStop) → OnAirTo earlier desk player before now (Err stop)
       → AiredTo {T = Unit {0}} earlier desk player before now (Err (send_stop stop))
   cut_aired earlier desk player before now send.Air has = has
   cut_aired earlier desk player before now send.Memory has = tt

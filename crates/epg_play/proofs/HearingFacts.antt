@@ -15,8 +15,9 @@ use Rattle.packet_reader.proofs.RecordingFacts.{packet_step}
 use Rattle.desk_core.specs.Journal.{journal_of}
 use Rattle.desk_core.proofs.JournalFacts.{journal_legal}
 use Rattle.air_model.specs.Air.{air, air_bytes}
-use Rattle.air_model.proofs.Airs.{air-whole}
-use Rattle.air_model.proofs.Repeating.{airs_repeat}
+use Rattle.air_model.specs.Repeating.{IsRepeatingAirOf}
+use Rattle.air_model.proofs.Airs.{repeating-whole}
+use Rattle.cycle_player.proofs.Airs.{air_repeats}
 use Rattle.heard_completions.specs.declared.done.DoneKey.{DoneKey}
 use Rattle.section_codec.specs.Tables.{is_counted}
 use Rattle.heard_completions.specs.Dones.{DoneAt, dones_of}
@@ -97,10 +98,13 @@ play-heard lines tail mux k xs script is_air few =
     let journal = journal_of mux commands in
     let typed = journal-typed mux commands (first-typed k (script_of_lines lines tail).commands (script-typed lines tail)) in
     let can : AllByRecursion CanBeHeard (airings mux journal) = airings_heard mux journal is typed (journal_legal mux [] commands) in
-    let record_is : recording (air_bytes xs) ≡ (map bytes_of_packet (air xs), AtEnd) = recorded packet_limit (air xs) (air-whole (airings mux journal) xs is_air) few in (
+    let repeating : IsRepeatingAirOf (airings mux journal) xs =
+    air_repeats mux.rate (airings mux journal) xs is_air in
+    let record_is : recording (air_bytes xs) ≡ (map bytes_of_packet (air xs), AtEnd) =
+    recorded packet_limit (air xs) (repeating-whole (airings mux journal) xs repeating) few in (
       ap (λ (r : List (List ℕ) × RecordingEnd). r.1) record_is,
       λ key lt.
           ap (λ (r : List (List ℕ) × RecordingEnd). filter (is_done_key key) (map (λ (d : DoneAt). d.done) (dones_of r.0))) record_is
-          ∙ changes_heard (airings mux journal) xs (airs_repeat (airings mux journal) xs is_air) can key lt
+          ∙ changes_heard (airings mux journal) xs repeating can key lt
           ∙ counted_or_not (airings mux journal) key (airings_counted mux journal is.sound) (is_counted key.pid key.table) refl,
     )

@@ -24,15 +24,17 @@ use Rattle.mux_config.specs.Descriptions.{Description, description_ahead, fault_
 use Rattle.mux_config.proofs.Reading.{fault_read, read_stopped}
 use Rattle.input_lines.specs.Ahead as lines
 use Rattle.version_book.specs.Airings.{AiredTables}
-use Rattle.air_model.specs.Air.{IsAirOf}
-use Rattle.carousel_player.specs.Playing.{Playing, AtEnd as AllSent}
+use Rattle.air_model.specs.Air.{Aired, airings_of}
+use Rattle.cycle_player.specs.Airs.{AreMadeAt, IsAirAt}
+use Rattle.cycle_player.specs.Sending.{Sending, AtEndAt, AtEnd as AllSent}
+use Rattle.cycle_player.proofs.Ends.{end_air}
 use Rattle.journal_model.specs.declared.step.Entry.{Entry}
 use Rattle.desk_core.specs.Journal.{journal_after, journal_of}
 use Rattle.journal_model.specs.Steps.{Command}
 use Rattle.desk_core.specs.Desks.{DeskState, fresh}
 use Rattle.journal_text.specs.Entries.{journal_text}
-use Rattle.journal_air.specs.Air.{airings, mux_form}
-use Rattle.headend_jobs.specs.OnAir.{HasSentAll, HasAired, HasAiredFront}
+use Rattle.journal_air.specs.Air.{airings}
+use Rattle.air_sending.specs.OnAir.{HasSentAll, HasAired, HasAiredFront, IsPlayerOf}
 use Rattle.epg_play.specs.declared.stop.PlayStop.{PlayStop}
 use Rattle.epg_play.specs.declared.stop.PlayStop.TheVariants.{NoMux as Undescribed, NoCommand as Refused, Disagrees as Differs, Read, Air as OnAir, Memory as NoMemory}
 use Rattle.epg_report.specs.declared.status.Status.{Status}
@@ -50,7 +52,7 @@ use Rattle.epg_report.specs.Texts.{fault_line}
 use Rattle.epg_play.specs.Leaves.{IsAired, IsAiredFront, IsSent, Leaves, LeavesAll, Completes, first_journal, whole_journal, status_for, stop_text}
 use Rattle.epg_play.specs.Ending.{HasPlayed, HasPlayedAll, HasPlayedTaken, Finished, FinishedBy, entries_of, mux_stop}
 use Rattle.epg_report.specs.Told.{ReportTaken, Reported}
-use Rattle.headend_jobs.specs.Live.{AirOf}
+use Rattle.air_sending.specs.AirOf.{AirOf}
 use Rattle.epg_play.proofs.CourseFacts.{Rest}
 use Rattle.epg_play.proofs.SentFacts.{cut_sent, whole_sent}
 
@@ -130,14 +132,21 @@ no_mux_played left faults alike old new source text air (mux.Read Failed) e told
     (nothing_played (script_taken fault.whole.more) Unread air (ap (λ l. script_with (description_ahead (ahead_with (unread source) l Breaks))) fault.whole.whole ∙ ap script_with fault.reads) same)
 no_mux_played left faults alike old new source text air mux.Memory e told same read = tt
 
-aired_is : (mux : Mux) (desk : DeskState) (player : Playing) (commands : List Command) (air : ReportTaken) → desk ≡ desk_after (fresh mux) commands → HasAired [] desk player air.old air.new
+aired_is : (mux : Mux) (desk : DeskState) (player : Sending) (commands : List Command) (air : ReportTaken) → desk ≡ desk_after (fresh mux) commands → HasAired [] desk player air.old air.new
     → AirOf mux (journal_of mux commands) air.old air.new
-aired_is mux desk player commands air d (xs, sent, bytes) = record {
-  cycles = xs;
-  is_air = subst (λ (l : List AiredTables). IsAirOf l xs) (sent.airings_are ∙ ap (λ (x : DeskState). airings x.mux x.entries) d) sent.at_end.is_air;
-  made = sent.made;
-  bytes = bytes;
-}
+aired_is mux desk player commands air d (xs, sent, bytes) =
+    let own : desk.mux.rate ≡ mux.rate = ap (λ (x : DeskState). x.mux.rate) d in
+    let all : List AiredTables = airings mux (journal_of mux commands) in
+    let are : airings_of xs ≡ all =
+    sent.airings_are ∙ ap (λ (x : DeskState). airings x.mux x.entries) d in
+    record {
+      cycles = xs;
+      is_air = subst (λ (r : Option ℕ). IsAirAt r all xs) (sent.player_of.rate ∙ own)
+          (subst (λ (l : List AiredTables). IsAirAt player.rate l xs) are
+          (end_air xs player sent.at_end));
+      made = subst (λ (r : Option ℕ). AreMadeAt r [] xs) own sent.made;
+      bytes = bytes;
+    }
 
 front_is : (mux : Mux) (desk : DeskState) (commands : List Command) (air : ReportTaken) → desk ≡ desk_after (fresh mux) commands → HasAiredFront [] desk air.old air.new
     → IsAiredFront (Some mux) (journal_of mux commands) air
@@ -151,8 +160,10 @@ front_is mux desk commands air d f = record {
   cut = record {
     whole = f.whole;
     cut = f.cut;
-    is_air = subst (λ (l : List AiredTables). IsAirOf l (f.whole ++ f.cut ∷ [])) (ap (λ (x : DeskState). airings x.mux x.entries) d) f.is_air;
-    made = f.made;
+    is_air = subst
+        (λ (x : DeskState). IsAirAt x.mux.rate (airings x.mux x.entries) (f.whole ++ f.cut ∷ [])) d
+        f.is_air;
+    made = subst (λ (x : DeskState). AreMadeAt x.mux.rate [] (f.whole ++ f.cut ∷ [])) d f.made;
     taken = f.taken;
     proper = f.proper;
     bytes = f.bytes;
@@ -160,14 +171,14 @@ front_is mux desk commands air d f = record {
 }
 
 -- all commands were played
-played_all : (script : Script) (stop : Stop) (mux : Mux) (rest : Rest) (desk : DeskState) (player : Playing) (air : ReportTaken) → script ≡ with_commands mux rest → (rest.1 ≡ stop) × (desk ≡ desk_after (fresh mux) rest.0)
+played_all : (script : Script) (stop : Stop) (mux : Mux) (rest : Rest) (desk : DeskState) (player : Sending) (air : ReportTaken) → script ≡ with_commands mux rest → (rest.1 ≡ stop) × (desk ≡ desk_after (fresh mux) rest.0)
     → HasAired [] desk player air.old air.new → HasPlayedAll script stop air (Some desk)
 played_all script stop mux rest desk player air e did aired =
     subst (λ (s : Script). HasPlayedAll s stop air (Some desk)) (sym e)
     (record { stopped = did.0; air_is = aired_is mux desk player rest.0 air did.1 aired; journal = ap (λ (x : DeskState). x.entries) did.1 })
 
 -- those of the lines that were whole, where a read failed
-played_taken : {S : Type 0} (left : S → Known) (source : S) (mid new : Reading S) (text : List ℕ) (mux : Mux) (desk : DeskState) (player : Playing) (air : ReportTaken) → left source ≡ Some text
+played_taken : {S : Type 0} (left : S → Known) (source : S) (mid new : Reading S) (text : List ℕ) (mux : Mux) (desk : DeskState) (player : Sending) (air : ReportTaken) → left source ≡ Some text
     → Passes left description_ahead (Came (Ok mux)) (unread source) mid → PlayedWhole 0 left mid new (fresh mux) desk → HasAired [] desk player air.old air.new → HasPlayedTaken text (left new.source) air (Some desk)
 played_taken left source mid new text mux desk player air told came p aired =
     let both : WereWhole left (unread source) new (came.looked.lines ++ p.lines) = whole_more left (unread source) mid new came.looked.lines p.lines came.looked.handed p.unended p.whole in
@@ -177,7 +188,7 @@ played_taken left source mid new text mux desk player air told came p aired =
     (played_all (script_taken both.more) Unread mux (plain mux (ahead_with mid p.lines Breaks)) desk player air script (plain_did mux (ahead_with mid p.lines Breaks) Unread desk (p.stop, p.did)) aired)
 
 -- what was played behind the description of a multiplex
-pub played_behind : {S : Type 0} (left : S → Known) (source : S) (mid new : Reading S) (text : List ℕ) (mux : Mux) (desk : DeskState) (player : Playing) (air : ReportTaken) (r : Result (Unit {0}) PlayStop) → left source ≡ Some text
+pub played_behind : {S : Type 0} (left : S → Known) (source : S) (mid new : Reading S) (text : List ℕ) (mux : Mux) (desk : DeskState) (player : Sending) (air : ReportTaken) (r : Result (Unit {0}) PlayStop) → left source ≡ Some text
     → LeavesAhead left description_ahead (Came (Ok mux)) (unread source) mid text → Passes left description_ahead (Came (Ok mux)) (unread source) mid
     → ((rest : List ℕ) → text_left left mid ≡ Some rest → RestDid (plain mux (ahead mid rest)) (fresh mux) desk r) → RestTaken 0 left mid new (fresh mux) desk r → AiredTo [] desk player air.old air.new r
     → HasPlayed text (left new.source) air (Some desk) (result_err r)
@@ -272,12 +283,31 @@ pub leaves_input : {S : Type 0} (left_of : S → Known) (source input : S) (stop
 leaves_input {S = S} left_of source input stop text air report desk status e played finished =
     subst (λ (s : S). Leaves text (left_of s) air report status) (sym e) (leaves stop text (left_of source) air report desk status played finished)
 
-start_sent : (mux : Mux) (desk : DeskState) (player : Playing) → desk ≡ fresh mux → AllSent [] player → player.form ≡ mux_form mux → HasSentAll [] desk player []
-start_sent mux desk player d end form =
-    record { at_end = end; airings_are = sym (ap (λ (x : DeskState). airings x.mux x.entries) d); made = tt; form = form ∙ sym (ap (λ (x : DeskState). mux_form x.mux) d) }
+-- no cycle is made at each rate
+none_made : (rate : Option ℕ) (before : List Aired) → AreMadeAt rate before []
+none_made None before = tt
+none_made (Some rate) before = tt
 
-pub start_aired : (mux : Mux) (desk : DeskState) (player : Playing) (w : Option (List ℕ)) → desk ≡ fresh mux → AllSent [] player → player.form ≡ mux_form mux → HasAired [] desk player w w
-start_aired mux desk player w d end form = ([], start_sent mux desk player d end form, Appends-nothing w)
+start_sent : (mux : Mux) (desk : DeskState) (player : Sending) → desk ≡ fresh mux → AllSent [] player
+    → IsPlayerOf mux player → HasSentAll [] desk player []
+start_sent mux desk player d end is = record {
+  at_end = end;
+  airings_are = sym (ap (λ (x : DeskState). airings x.mux x.entries) d);
+  made = none_made desk.mux.rate [];
+  player_of = subst (λ (x : DeskState). IsPlayerOf x.mux player) (sym d) is;
+}
+
+pub start_aired : (mux : Mux) (desk : DeskState) (player : Sending) (w : Option (List ℕ))
+    → desk ≡ fresh mux → AllSent [] player → IsPlayerOf mux player → HasAired [] desk player w w
+start_aired mux desk player w d end is = ([], start_sent mux desk player d end is, Appends-nothing w)
+
+ended_at : (rate : Option ℕ) (xs : List Aired) (s : Sending) → AtEndAt rate xs s → s.left ≡ []
+ended_at None xs s end = end.none
+ended_at (Some rate) xs s end = end.none
+
+-- at the end of a cycle nothing of it is left
+pub start_ended : (xs : List Aired) (s : Sending) → AllSent xs s → s.left ≡ []
+start_ended xs s end = ended_at s.rate xs s end
 
 -- where nothing fails, the script's stop decides
 pub completes : (text : List ℕ) (left : Known) (air report : ReportTaken) (status : Status) → Leaves text left air report status → (status ≡ ReadFault Input → ⊥) → (status ≡ WriteFault Air → ⊥) → (status ≡ WriteFault Report → ⊥)

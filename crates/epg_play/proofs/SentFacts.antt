@@ -15,9 +15,9 @@ use Rattle.journal_model.specs.Steps.{Command}
 use Rattle.desk_core.specs.Journal.{journal_of}
 use Rattle.desk_core.proofs.JournalFacts.{journal_legal}
 use Rattle.journal_screen.specs.Shown.{IsAsRead}
-use Rattle.headend_jobs.specs.declared.send.SendStop.TheVariants as send
-use Rattle.headend_jobs.specs.Live.{CutAirOf}
-use Rattle.headend_live.proofs.Sent.{air_sent}
+use Rattle.air_sending.specs.declared.send.SendStop.TheVariants as send
+use Rattle.air_sending.specs.AirOf.{CutAirOf}
+use Rattle.air_sending.proofs.Sent.{air_sent}
 use Rattle.epg_report.specs.Told.{ReportTaken}
 use Rattle.epg_play.specs.Script.{Script, script_of_lines}
 use Rattle.epg_play.specs.Leaves.{IsAired, IsAiredFront, IsSent, first_journal, journal_for, whole_journal}

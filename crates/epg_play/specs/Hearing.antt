@@ -6,10 +6,11 @@ use Rattle.desk_core.specs.Journal.{journal_of}
 use Rattle.packet_reader.specs.Recordings.{RecordingEnd.AtEnd, packet_limit, recording}
 use Rattle.section_codec.specs.declared.table.Key.{Key}
 use Rattle.heard_completions.specs.Dones.{DoneAt, dones_of}
-use Rattle.air_model.specs.Air.{Aired, IsAirOf, air, air_bytes}
+use Rattle.air_model.specs.Air.{Aired, air, air_bytes}
 use Rattle.air_hearing.specs.Changes.{changes_of, is_done_key}
 use Rattle.journal_air.specs.Air.{airings}
 use Rattle.epg_play.specs.Script.{script_of_lines}
+use Rattle.cycle_player.specs.Airs.{IsAirAt}
 
 -- What `play` sends, `listen` hears: of an air of a journal of a script, which are its first commands or all, as a recording, each
 -- piece is a packet, and of each key the completions are just its version changes along the airing list. The script is one of lines,
@@ -17,7 +18,7 @@ use Rattle.epg_play.specs.Script.{script_of_lines}
 abbrev pub PlayIsHeard : Type 0
 PlayIsHeard =
     (lines : List (List ℕ)) (tail : Tail) (mux : Mux) (k : ℕ) (xs : List Aired) → (script_of_lines lines tail).mux ≡ Some mux
-    → IsAirOf (airings mux (journal_of mux (take k (script_of_lines lines tail).commands))) xs → length (air xs) ≤ packet_limit
+    → IsAirAt mux.rate (airings mux (journal_of mux (take k (script_of_lines lines tail).commands))) xs → length (air xs) ≤ packet_limit
     → ((recording (air_bytes xs)).1 ≡ AtEnd)
     × ((key : Key) → key.pid < 8191
     → filter (is_done_key key) (map (λ (d : DoneAt). d.done) (dones_of (recording (air_bytes xs)).0))

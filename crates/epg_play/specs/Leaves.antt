@@ -9,8 +9,8 @@ use Rattle.journal_model.specs.declared.step.Entry.{Entry}
 use Rattle.desk_core.specs.Journal.{journal_of}
 use Rattle.journal_model.specs.Steps.{Command}
 use Rattle.journal_text.specs.Entries.{journal_text}
-use Rattle.headend_jobs.specs.Live.{AirOf, CutAirOf}
-use Rattle.headend_live.specs.SentAir.{SentAir}
+use Rattle.air_sending.specs.AirOf.{AirOf, CutAirOf}
+use Rattle.air_sending.specs.SentAir.{SentAir}
 use Rattle.epg_play.specs.declared.stop.PlayStop.{PlayStop}
 use Rattle.epg_play.specs.declared.stop.PlayStop.TheVariants.{NoMux as Undescribed, NoCommand as Refused, Disagrees as Differs, Read, Air as OnAir, Memory as NoMemory}
 use Rattle.epg_report.specs.declared.status.Status.{Status}

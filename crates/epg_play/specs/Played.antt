@@ -5,7 +5,7 @@ use Rattle.si_causes.specs.Reading.{Reading}
 use Rattle.si_causes.specs.declared.stop.ReadStop.TheVariants.{Failed, TooLong as Overlong}
 use Rattle.input_lines.specs.Going.{WereWhole}
 use Rattle.air_model.specs.Air.{Aired}
-use Rattle.carousel_player.specs.Playing.{Playing}
+use Rattle.cycle_player.specs.Sending.{Sending}
 use Rattle.mux_model.specs.declared.mux.Mux.{Mux}
 use Rattle.input_lines.specs.declared.stop.EditStop.{EditStop}
 use Rattle.input_lines.specs.declared.stop.EditStop.TheVariants as edits
@@ -20,9 +20,9 @@ use Rattle.desk_core.specs.Desks.{DeskState}
 use Rattle.script_lines.specs.declared.script.ScriptItem.{ScriptItem}
 use Rattle.script_lines.specs.Script.{Asked, asked_by, items_ahead, kept_first}
 use Rattle.checkpoint_laws.specs.Going.{all_raised}
-use Rattle.headend_jobs.specs.OnAir.{HasAired, HasAiredFront}
-use Rattle.headend_jobs.specs.declared.send.SendStop.{SendStop}
-use Rattle.headend_jobs.specs.declared.send.SendStop.TheVariants as send
+use Rattle.air_sending.specs.OnAir.{HasAired, HasAiredFront}
+use Rattle.air_sending.specs.declared.send.SendStop.{SendStop}
+use Rattle.air_sending.specs.declared.send.SendStop.TheVariants as send
 use Rattle.epg_play.specs.declared.stop.PlayStop.{PlayStop}
 use Rattle.epg_play.specs.declared.stop.PlayStop.TheVariants.{NoMux as Undescribed, NoCommand as Refused, Disagrees, Read, Air, Memory}
 use Rattle.epg_play.specs.Script.{Stop, Ended, NoCommand, Disagreed, TooLong, Unread, commands_of, difference, first_difference, stop_of, up_to}
@@ -35,7 +35,7 @@ send_stop send.Air = Air
 send_stop send.Memory = Memory
 
 -- what the air has behind earlier cycles, once a script is played as far as this
-abbrev pub AiredTo : {T : Type 0} → List Aired → DeskState → Playing → Option (List ℕ) → Option (List ℕ) → Result T PlayStop → Type 0
+abbrev pub AiredTo : {T : Type 0} → List Aired → DeskState → Sending → Option (List ℕ) → Option (List ℕ) → Result T PlayStop → Type 0
 AiredTo earlier desk player before now (Ok u) = HasAired earlier desk player before now
 AiredTo earlier desk player before now (Err Air) = HasAiredFront earlier desk before now
 AiredTo earlier desk player before now (Err Memory) = Unit {0}

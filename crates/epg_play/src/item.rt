@@ -7,7 +7,7 @@ ghost use Rattle.desk_core.specs.Journal.{Legal};
 ghost use Rattle.desk_core.specs.Desks.{DeskState};
 ghost use Rattle.journal_model.specs.Steps.{IsInWindow};
 ghost use Rattle.checkpoint_laws.specs.Going.{raised};
-ghost use Rattle.headend_jobs.specs.OnAir.{is_swap};
+ghost use Rattle.air_sending.specs.OnAir.{is_swap};
 ghost use Rattle.epg_play.specs.Items.{Falls, GoesOn, ItemDid, Went};
 ghost use Rattle.epg_play.specs.Outcomes.{is_outcome};
 ghost use Rattle.epg_play.specs.Played.{HasReadCause, IsDifference, IsStopInWindow, late_difference, read_stop};

@@ -10,8 +10,8 @@
 //! (`reports_tell_journals`). `do_item` and `play_rest` play a script at any desk, also at one that
 //! goes on from a checkpoint.
 //!
-//! Tested in `headend_rows`: how much the air has after a failed write, and that a cycle is sent
-//! before the next line is read.
+//! Tested by whole runs: how much the air has after a failed write, and that a cycle is sent before
+//! the next line is read.
 //!
 //! Not promised: what is left after Memory, and that it comes only where memory runs out.
 #![tactic(auto)]

@@ -5,14 +5,14 @@ ghost use Rattle.si_causes.specs.Reading.{text_left};
 ghost use Rattle.input_lines.specs.Ahead.{ahead};
 ghost use Rattle.air_model.specs.Air.{Aired};
 ghost use Rattle.desk_core.specs.Journal.{Legal};
-ghost use Rattle.headend_jobs.specs.OnAir.{HasAired};
+ghost use Rattle.air_sending.specs.OnAir.{HasAired};
 ghost use Rattle.epg_play.specs.Played.{AiredTo, HasAirCause, HasReadCause, IsBehindMux, IsStopInWindow, RestDid, RestTaken, course, send_stop};
 
 use crate::item::{ItemDone, do_item};
 use crate::stop::PlayStop;
-use carousel_player::Player;
+use air_sending::{SendStop, send_on_air};
+use cycle_player::CyclePlayer;
 use desk_core::Desk;
-use headend_live::{SendStop, send_on_air};
 use si_causes::{LineReader, Sink, Source};
 use std::alloc::Global;
 
@@ -31,7 +31,7 @@ pub fn play_rest<S: Source, A: Sink>(
     alloc: Global,
     lines: &mut LineReader<S>,
     desk: &mut Desk,
-    player: &mut Player,
+    player: &mut CyclePlayer,
     air: &mut A,
     shift: u64,
 ) -> Result<(), PlayStop>

@@ -12,8 +12,8 @@ use Rattle.guide_screen.specs.declared.need.Heard.TheVariants.{Whole}
 use Rattle.desk_core.specs.Journal.{accepted}
 use Rattle.desk_core.specs.Publications.{guide_after}
 use Rattle.publication_screen.specs.Screen.{screen_of}
-use Rattle.headend_live.specs.SentAir.{SentAir}
-use Rattle.headend_live.proofs.Sent.{air_sent}
+use Rattle.air_sending.specs.SentAir.{SentAir}
+use Rattle.air_sending.proofs.Sent.{air_sent}
 use Rattle.epg_report.specs.declared.status.Status.{Status}
 use Rattle.epg_report.specs.declared.status.Status.TheVariants.{Done, Usage, BadScript, Disagrees, BadMux, BadFeed, BadStream, TooLong, OpenFault, ReadFault, WriteFault, Memory, NoView, NotAir, Short, TooMany, BadCheckpoint}
 use Rattle.epg_report.specs.declared.status.Origin.TheVariants.{Input, Feed, Recording}

@@ -7,7 +7,7 @@
 //! the first bytes of one where the air failed. Where neither air nor report fails the status is
 //! Done, if memory lasts.
 //!
-//! Tested in `epg_live_rows`: the summaries of some numbers, a failing air or report.
+//! Tested by whole runs: the summaries of some numbers, a failing air or report.
 //!
 //! Not promised: that the threads overlap in time, and what is left with Memory.
 #![tactic(auto)]

@@ -7,10 +7,12 @@ use mathlib.Core.List.{IsPrefix}
 use Rattle.guide_model.specs.declared.guide.Guide.{Guide}
 use Rattle.mux_model.specs.declared.mux.Mux.{Mux}
 use Rattle.version_book.specs.Airings.{CycleForm, AiredTables}
-use Rattle.air_model.specs.Air.{Aired, air, airings_of, air_bytes}
-use Rattle.air_model.specs.Making.{cycle_dense}
-use Rattle.air_model.proofs.Airs.{AreMade-push}
-use Rattle.carousel_player.specs.Playing.{Playing}
+use Rattle.air_model.specs.Air.{Aired, airings_of, air_bytes}
+use Rattle.air_model.proofs.Airs.{airings_of-push, air_bytes-push}
+use Rattle.cycle_player.specs.Airs.{cycle_at, IsAirAt}
+use Rattle.cycle_player.specs.Sending.{Sending, AtEnd}
+use Rattle.cycle_player.proofs.Airs.{made_push}
+use Rattle.cycle_player.proofs.Ends.{end_air}
 use Rattle.publication.specs.Tables.{tables_of, HasServicesOf}
 use Rattle.journal_model.specs.declared.step.Step.{Step}
 use Rattle.journal_model.specs.declared.step.Step.TheVariants.{Swap}
@@ -22,11 +24,11 @@ use Rattle.desk_core.specs.Journal.{publishes}
 use Rattle.desk_core.specs.Publications.{aired_by, publication}
 use Rattle.desk_core.specs.Desks.{on_air_of}
 use Rattle.desk_core.proofs.JournalFacts.{publication_stays}
-use Rattle.headend_jobs.specs.declared.send.SendStop.TheVariants.{Air}
-use Rattle.headend_jobs.specs.OnAir.{airing_by, cycle_bytes}
+use Rattle.air_sending.specs.declared.send.SendStop.TheVariants.{Air}
+use Rattle.air_sending.specs.OnAir.{IsPlayerOf, airing_by, cycle_bytes}
 use Rattle.journal_air.specs.Air.{airings_by, mux_form}
-use Rattle.headend_jobs.proofs.SwapFacts.{airings-append, airings_of-push, air_bytes-push, publishes-front}
-use Rattle.headend_jobs.proofs.AirFacts.{on_air_services}
+use Rattle.air_sending.proofs.SwapFacts.{airings-append, publishes-front}
+use Rattle.air_sending.proofs.AirFacts.{on_air_services}
 use Rattle.turn_lock.proofs.Lists.{prefix_trans}
 use Rattle.desk_hall.specs.Turn.{View, entry_of, desk_with, Made}
 use Rattle.headend_jobs.specs.Playing.{airing_with_tables, ArePutOnAir, HasPlayedTo, HasPlayedFront, HasPlayedSome, SwapSent, GoesOn}
@@ -75,47 +77,62 @@ one_more mux airing v w front xs x m is are e =
     (puts mux airing v w m is))
 
 -- the airing of a player with the multiplex's form
-own_form : (mux : Mux) (airing : Airing) (player : Playing) → player.form ≡ mux_form mux → airing_by mux player.form airing ≡ airing_with_tables mux airing
+own_form : (mux : Mux) (airing : Airing) (player : Sending) → player.form ≡ mux_form mux → airing_by mux player.form airing ≡ airing_with_tables mux airing
 own_form mux airing player form = ap (λ (f : CycleForm). airing_by mux f airing) form
 
+-- the packets of a cycle, at the multiplex's rate
+own_cycle : (rate : Option ℕ) (player : Sending) (xs : List Aired) (x : Aired) (a : AiredTables)
+    → player.rate ≡ rate → x.airing ≡ a → x.packets ≡ cycle_at player.rate xs a
+    → x.packets ≡ cycle_at rate xs x.airing
+own_cycle rate player xs x a same e packets =
+    packets ∙ ap (λ (r : Option ℕ). cycle_at r xs a) same ∙ ap (cycle_at rate xs) (sym e)
+
+-- what a player of the multiplex has sent is an air at the multiplex's rate
+pub own_air : (mux : Mux) (player : Sending) (xs : List Aired) → IsPlayerOf mux player
+    → AtEnd xs player → IsAirAt mux.rate (airings_of xs) xs
+own_air mux player xs is end =
+    subst (λ (r : Option ℕ). IsAirAt r (airings_of xs) xs) is.rate (end_air xs player end)
+
 -- a whole cycle was sent
-pub sent_whole : (mux : Mux) (v w : View) (old new : Playing) (mid now : Known) (u : Unit {0}) → (s : SwapSent mux v w old new mid now (Ok u))
+pub sent_whole : (mux : Mux) (v w : View) (old new : Sending) (mid now : Known) (u : Unit {0}) → (s : SwapSent mux v w old new mid now (Ok u))
     → GoesOn (λ entries before. HasPlayedTo mux w.seen entries new before now) mux v (entry_of v.own.low Swap (Swapped s.airing.number s.airing.moment) ∷ []) old mid
-sent_whole mux v w old new mid now u s = λ front before (xs, end, are, made, form, bytes).
-    let (x, e, packets, ended, took) = s.sent xs end in (
+sent_whole mux v w old new mid now u s = λ front before (xs, end, are, made, is, bytes).
+    let (x, e, packets, ended, took) = s.sent xs end in
+    let rate : new.rate ≡ mux.rate = s.rate ∙ is.rate in (
       xs ++ x ∷ [],
       ended,
-      one_more mux s.airing v w front xs x s.made s.airing_is are (e ∙ own_form mux s.airing old form),
-      AreMade-push [] xs x made (packets ∙ ap (cycle_dense (airings_of xs) (air xs)) (sym e)),
-      s.form ∙ form,
+      one_more mux s.airing v w front xs x s.made s.airing_is are (e ∙ own_form mux s.airing old is.form),
+      made_push mux.rate [] xs x made (own_cycle mux.rate new xs x _ rate e packets),
+      record { form = s.form ∙ is.form; rate = rate },
       subst (Appends before now) (sym (air_bytes-push xs x)) (Appends-trans before mid now (air_bytes xs) (cycle_bytes x) bytes took),
     )
 
 -- a cycle was sent in part
-pub sent_front : (mux : Mux) (v w : View) (old new : Playing) (mid now : Known) → (s : SwapSent mux v w old new mid now (Err Air))
+pub sent_front : (mux : Mux) (v w : View) (old new : Sending) (mid now : Known) → (s : SwapSent mux v w old new mid now (Err Air))
     → GoesOn (λ entries before. HasPlayedFront mux w.seen entries before now) mux v (entry_of v.own.low Swap (Swapped s.airing.number s.airing.moment) ∷ []) old mid
-sent_front mux v w old new mid now s = λ front before (xs, end, are, made, form, bytes).
+sent_front mux v w old new mid now s = λ front before (xs, end, are, made, is, bytes).
     let (x, e, packets, is_air, (n, proper, took)) = s.sent xs end in
+    let rate : new.rate ≡ mux.rate = s.rate ∙ is.rate in
     record {
       whole = xs;
       cut = x;
-      is_air = is_air;
-      airings_are = one_more mux s.airing v w front xs x s.made s.airing_is are (e ∙ own_form mux s.airing old form);
-      made = AreMade-push [] xs x made (packets ∙ ap (cycle_dense (airings_of xs) (air xs)) (sym e));
+      is_air = subst (λ (r : Option ℕ). IsAirAt r (airings_of (xs ++ x ∷ [])) (xs ++ x ∷ [])) rate is_air;
+      airings_are = one_more mux s.airing v w front xs x s.made s.airing_is are (e ∙ own_form mux s.airing old is.form);
+      made = made_push mux.rate [] xs x made (own_cycle mux.rate new xs x _ rate e packets);
       taken = n;
       proper = proper;
       bytes = Appends-trans before mid now (air_bytes xs) (take n (cycle_bytes x)) bytes took;
     }
 
 -- no cycle was sent
-pub sent_none : (mux : Mux) (v w : View) (old : Playing) (mid now : Known) (added : List Entry) → IsPrefix v.seen w.seen → now ≡ mid
+pub sent_none : (mux : Mux) (v w : View) (old : Sending) (mid now : Known) (added : List Entry) → IsPrefix v.seen w.seen → now ≡ mid
     → GoesOn (λ entries before. HasPlayedSome mux w.seen entries before now) mux v added old mid
-sent_none mux v w old mid now added p same = λ front before (xs, end, are, made, form, bytes). record {
+sent_none mux v w old mid now added p same = λ front before (xs, end, are, made, is, bytes). record {
   done = front;
   left = added;
   entries_are = refl;
   whole = xs;
-  is_air = end.is_air;
+  is_air = own_air mux old xs is end;
   airings_are = put_longer mux v.seen w.seen front (airings_of xs) p are;
   made = made;
   bytes = subst (λ (k : Known). Appends before k (air_bytes xs)) (sym same) bytes;

@@ -13,10 +13,10 @@ use Rattle.script_lines.specs.Edits.{edits_ahead}
 use Rattle.journal_model.specs.declared.step.Step.{Step}
 use Rattle.journal_model.specs.declared.step.Entry.{Entry}
 use Rattle.journal_model.specs.Steps.{Command, command_of}
-use Rattle.carousel_player.specs.Playing.{Playing}
-use Rattle.headend_jobs.specs.declared.send.SendStop.{SendStop}
-use Rattle.headend_jobs.specs.declared.send.SendStop.TheVariants.{Air}
-use Rattle.headend_jobs.specs.declared.send.SendStop.TheVariants as wanting
+use Rattle.cycle_player.specs.Sending.{Sending}
+use Rattle.air_sending.specs.declared.send.SendStop.{SendStop}
+use Rattle.air_sending.specs.declared.send.SendStop.TheVariants.{Air}
+use Rattle.air_sending.specs.declared.send.SendStop.TheVariants as wanting
 use Rattle.headend_jobs.specs.Playing.{SwapsPlayed, swaps_by}
 use Rattle.turn_lock.specs.declared.known.Caller.{Caller}
 use Rattle.turn_lock.specs.Knowledge.{NotLowest, TableId}
@@ -70,14 +70,14 @@ did_commands journal commands v w empty is d =
     ∙ ap (map command_of) (is ∙ ap (λ (z : View). z.own.made) d.gained ∙ ap (λ (l : List Entry). l ++ d.added) empty)
     ∙ d.commands_are
 
-player_swapped : (mux : Mux) (journal : List Entry) (n : ℕ) (v w : View) (old new : Playing) (mid now : Option (List ℕ)) (end : Result (Unit {0}) SendStop) → v.own.low ≡ 1 → v.own.made ≡ [] → of w.own.low journal ≡ w.own.made
+player_swapped : (mux : Mux) (journal : List Entry) (n : ℕ) (v w : View) (old new : Sending) (mid now : Option (List ℕ)) (end : Result (Unit {0}) SendStop) → v.own.low ≡ 1 → v.own.made ≡ [] → of w.own.low journal ≡ w.own.made
     → SwapsPlayed mux n v w old new mid now end → PlayerSwapped journal n end
 player_swapped mux journal n v w old new mid now (Ok u) low empty is (d, goes) = subst (λ (k : ℕ). CommandsAre journal k (swaps_by k n)) low (did_commands journal (swaps_by v.own.low n) v w empty is d)
 player_swapped mux journal n v w old new mid now (Err Air) low empty is (k, less, (d, goes)) = (k, less, subst (λ (i : ℕ). CommandsAre journal i (swaps_by i (suc k))) low (did_commands journal (swaps_by v.own.low (suc k)) v w empty is d))
 player_swapped mux journal n v w old new mid now (Err wanting.Memory) low empty is (k, le, (d, goes)) = (k, le, subst (λ (i : ℕ). CommandsAre journal i (swaps_by i k)) low (did_commands journal (swaps_by v.own.low k) v w empty is d))
 
 -- the player's pass keeps its number
-swaps_low : (mux : Mux) (n : ℕ) (v w : View) (old new : Playing) (mid now : Option (List ℕ)) (end : Result (Unit {0}) SendStop) → SwapsPlayed mux n v w old new mid now end → w.own.low ≡ v.own.low
+swaps_low : (mux : Mux) (n : ℕ) (v w : View) (old new : Sending) (mid now : Option (List ℕ)) (end : Result (Unit {0}) SendStop) → SwapsPlayed mux n v w old new mid now end → w.own.low ≡ v.own.low
 swaps_low mux n v w old new mid now (Ok u) (d, goes) = ap (λ (z : View). z.own.low) d.gained
 swaps_low mux n v w old new mid now (Err Air) (k, less, (d, goes)) = ap (λ (z : View). z.own.low) d.gained
 swaps_low mux n v w old new mid now (Err wanting.Memory) (k, le, (d, goes)) = ap (λ (z : View). z.own.low) d.gained
@@ -107,7 +107,7 @@ module _ {F : Type 0} (left : F → Option (List ℕ)) (faults : F → ℕ) (is_
       (λ e. absurd (omega (arith, e, low, le)), feeds_below (n + 1) rs rest more k (omega (arith, le)))
 
 module _ {F S : Type 0} (left : F → Option (List ℕ)) (faults : F → ℕ) (is_same : F → F → Type 0) (leftS : S → Option (List ℕ)) (faultsS : S → ℕ) (is_sameS : S → S → Type 0) where
-  pub callers_have : (turns : TableId) (mux : Mux) (cycles : ℕ) (readers : List (Reading F)) (reader : Reading S) (playing : Playing) (before now : Option (List ℕ)) (journal : List Entry) (sent : Result (Unit {0}) SendStop)
+  pub callers_have : (turns : TableId) (mux : Mux) (cycles : ℕ) (readers : List (Reading F)) (reader : Reading S) (playing : Sending) (before now : Option (List ℕ)) (journal : List Entry) (sent : Result (Unit {0}) SendStop)
       → (d : LiveDid left faults is_same leftS faultsS is_sameS turns mux cycles readers reader playing before now journal sent)
       → HaveTheirCommands left leftS journal cycles readers reader d.feeds d.control d.player d.final
   callers_have turns mux cycles readers reader playing before now journal sent d =

@@ -16,7 +16,7 @@ use Rattle.desk_hall.specs.Turn.{View, caller_of, entry_of, Made, Knows, Did}
 use Rattle.headend_jobs.specs.Playing.{swaps_by}
 use Rattle.headend_jobs.specs.Whole.{IsWhole, JournalDid, SwapsNot}
 use Rattle.desk_hall.proofs.Passes.{made_knows}
-use Rattle.headend_jobs.proofs.SwapFacts.{airings-append, swaps-append}
+use Rattle.air_sending.proofs.SwapFacts.{airings-append, swaps-append}
 use Rattle.headend_jobs.proofs.WholeJournal.{of, rest_is, front_whole, swaps_part, of_mine, of_other}
 
 -- ---- entries of one caller

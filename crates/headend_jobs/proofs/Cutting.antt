@@ -13,7 +13,7 @@ use Rattle.si_causes.specs.Reading.{Reading}
 use Rattle.journal_model.specs.declared.step.Step.{Step}
 use Rattle.journal_model.specs.declared.step.Entry.{Entry}
 use Rattle.journal_model.specs.Steps.{Command, command_of}
-use Rattle.headend_jobs.specs.OnAir.{is_swap}
+use Rattle.air_sending.specs.OnAir.{is_swap}
 use Rattle.turn_lock.specs.declared.known.Caller.{Caller}
 use Rattle.turn_lock.specs.Knowledge.{TableId, HasAny, first_pass, lower_part, upper_part}
 use Rattle.headend_jobs.specs.declared.jobs.FeedJob.{FeedJob}

@@ -5,15 +5,16 @@ use Rattle.std.specs.List.{AllByRecursion}
 use mathlib.Core.List.{IsPrefix}
 use Rattle.mux_model.specs.declared.mux.Mux.{Mux}
 use Rattle.version_book.specs.Airings.{AiredTables}
-use Rattle.air_model.specs.Air.{IsAirOf, airings_of}
-use Rattle.carousel_player.specs.Playing.{Playing}
+use Rattle.air_model.specs.Air.{airings_of}
+use Rattle.cycle_player.specs.Airs.{IsAirAt}
+use Rattle.cycle_player.specs.Sending.{Sending}
 use Rattle.journal_model.specs.declared.step.Step.TheVariants.{Publish}
 use Rattle.journal_model.specs.declared.step.Outcome.TheVariants.{Published}
 use Rattle.journal_model.specs.declared.step.Entry.{Entry}
 use Rattle.desk_core.specs.Journal.{Legal}
 use Rattle.journal_model.specs.Steps.{Command, command_of}
-use Rattle.headend_jobs.specs.declared.send.SendStop.{SendStop}
-use Rattle.headend_jobs.specs.declared.send.SendStop.TheVariants.{Air, Memory}
+use Rattle.air_sending.specs.declared.send.SendStop.{SendStop}
+use Rattle.air_sending.specs.declared.send.SendStop.TheVariants.{Air, Memory}
 use Rattle.journal_air.specs.Air.{airing_at, airings, airings_by}
 use Rattle.turn_lock.specs.declared.known.Caller.{Caller}
 use Rattle.turn_lock.specs.Knowledge.{Closes}
@@ -21,11 +22,12 @@ use Rattle.turn_lock.proofs.Lists.{prefix_self, prefix_trans}
 use Rattle.desk_hall.specs.Turn.{View, caller_of, entry_of, with_entries, Made, Idle, Did}
 use Rattle.headend_jobs.specs.Playing.{HasPlayedTo, HasPlayedFront, HasPlayedSome, swaps_by}
 use Rattle.headend_jobs.specs.Whole.{JournalDid, SwapsNot, final_commands}
-use Rattle.headend_jobs.specs.Live.{halts, Went, FinalDid, LastDid, SentDid, PlayedAs, AirOf, CutAirOf, SomeAirOf, AirDid, EndDid}
+use Rattle.air_sending.specs.AirOf.{AirOf, CutAirOf, SomeAirOf, AirDid}
+use Rattle.headend_jobs.specs.Live.{halts, Went, FinalDid, LastDid, SentDid, PlayedAs, EndDid}
 use Rattle.desk_hall.proofs.Passes.{made_began, more_none, more_more}
-use Rattle.headend_jobs.proofs.Airs.{put_longer}
+use Rattle.headend_jobs.proofs.Airs.{own_air, put_longer}
 use Rattle.headend_jobs.proofs.Closing.{closed_plain, closed_final, airs_final}
-use Rattle.headend_jobs.proofs.SwapFacts.{airings-append}
+use Rattle.air_sending.proofs.SwapFacts.{airings-append}
 
 abbrev Known : Type 0
 Known = Option (List ℕ)
@@ -44,17 +46,17 @@ stays_did v m w n k p d = (
   d.gained ∙ ap (λ (z : View). with_entries z w.seen d.added) p.gained ∙ more_more v m.seen w.seen (entry_of v.own.low Publish (Published n) ∷ []) d.added,
 )
 
-stays_final : (mux : Mux) (v w : View) (old new : Playing) (mid now : Known) (r : Result (Unit {0}) SendStop) → FinalDid mux v w old new mid now r → Stays v w
+stays_final : (mux : Mux) (v w : View) (old new : Sending) (mid now : Known) (r : Result (Unit {0}) SendStop) → FinalDid mux v w old new mid now r → Stays v w
 stays_final mux v w old new mid now r (inr h) = ([], h.idle.same ∙ ap (λ (z : View). let y : View = record z { seen = w.seen } in y) (more_none v))
 stays_final mux v w old new mid now (Ok u) (inl f) = stays_did v f.between w f.number 2 f.made f.played.0
 stays_final mux v w old new mid now (Err Air) (inl f) = stays_did v f.between w f.number (suc f.played.0) f.made f.played.2.0
 stays_final mux v w old new mid now (Err Memory) (inl f) = stays_did v f.between w f.number f.played.0 f.made f.played.2.0
 
-stays_last : (stopped : Bool) (mux : Mux) (v w : View) (old new : Playing) (mid now : Known) (r : Result (Unit {0}) SendStop) → LastDid stopped mux v w old new mid now r → Stays v w
+stays_last : (stopped : Bool) (mux : Mux) (v w : View) (old new : Sending) (mid now : Known) (r : Result (Unit {0}) SendStop) → LastDid stopped mux v w old new mid now r → Stays v w
 stays_last false mux v w old new mid now r d = stays_final mux v w old new mid now r d
 stays_last true mux v w old new mid now r d = stays_same v w d.1
 
-pub stays : (end : Result (Unit {0}) SendStop) (stopped : Bool) (mux : Mux) (v w : View) (old new : Playing) (mid now : Known) (r : Result (Unit {0}) SendStop) → SentDid end stopped mux v w old new mid now r → Stays v w
+pub stays : (end : Result (Unit {0}) SendStop) (stopped : Bool) (mux : Mux) (v w : View) (old new : Sending) (mid now : Known) (r : Result (Unit {0}) SendStop) → SentDid end stopped mux v w old new mid now r → Stays v w
 stays (Ok u) stopped mux v w old new mid now r d = stays_last stopped mux v w old new mid now r d
 stays (Err stop) stopped mux v w old new mid now r d = stays_same v w d.1
 
@@ -69,17 +71,21 @@ stays_on v w (added, e) = ap (λ (z : View). z.on) e
 
 -- ---- the air
 
-air_ok : (mux : Mux) (journal seen entries : List Entry) (new : Playing) (before now : Known) → airings mux journal ≡ airings_by mux journal entries → IsPrefix seen journal
+air_ok : (mux : Mux) (journal seen entries : List Entry) (new : Sending) (before now : Known) → airings mux journal ≡ airings_by mux journal entries → IsPrefix seen journal
     → HasPlayedTo mux seen entries new before now → AirOf mux journal before now
-air_ok mux journal seen entries new before now is p (xs, end, are, made, form, bytes) =
-    record { cycles = xs; is_air = subst (λ (l : List AiredTables). IsAirOf l xs) (are journal p ∙ sym is) end.is_air; made = made; bytes = bytes }
+air_ok mux journal seen entries new before now is p (xs, end, are, made, player, bytes) = record {
+  cycles = xs;
+  is_air = subst (λ (l : List AiredTables). IsAirAt mux.rate l xs) (are journal p ∙ sym is) (own_air mux new xs player end);
+  made = made;
+  bytes = bytes;
+}
 
 air_cut : (mux : Mux) (journal seen entries : List Entry) (before now : Known) → airings mux journal ≡ airings_by mux journal entries → IsPrefix seen journal
     → HasPlayedFront mux seen entries before now → CutAirOf mux journal before now
 air_cut mux journal seen entries before now is p h = record {
   whole = h.whole;
   cut = h.cut;
-  is_air = subst (λ (l : List AiredTables). IsAirOf l (h.whole ++ h.cut ∷ [])) (h.airings_are journal p ∙ sym is) h.is_air;
+  is_air = subst (λ (l : List AiredTables). IsAirAt mux.rate l (h.whole ++ h.cut ∷ [])) (h.airings_are journal p ∙ sym is) h.is_air;
   made = h.made;
   taken = h.taken;
   proper = h.proper;
@@ -97,7 +103,7 @@ air_some mux journal seen entries before now is p h = record {
   bytes = h.bytes;
 }
 
-air_as : (mux : Mux) (journal seen entries : List Entry) (player : Playing) (before now : Known) (end : Result (Unit {0}) SendStop) → airings mux journal ≡ airings_by mux journal entries → IsPrefix seen journal
+air_as : (mux : Mux) (journal seen entries : List Entry) (player : Sending) (before now : Known) (end : Result (Unit {0}) SendStop) → airings mux journal ≡ airings_by mux journal entries → IsPrefix seen journal
     → PlayedAs mux seen entries player before now end → AirDid mux journal before now end
 air_as mux journal seen entries player before now (Ok u) is p h = air_ok mux journal seen entries player before now is p h
 air_as mux journal seen entries player before now (Err Air) is p h = air_cut mux journal seen entries before now is p h
@@ -105,13 +111,13 @@ air_as mux journal seen entries player before now (Err Memory) is p h = air_some
 
 -- ---- the end
 
-played_longer : (mux : Mux) (seen more entries : List Entry) (player : Playing) (before now : Known) → IsPrefix seen more → HasPlayedTo mux seen entries player before now → HasPlayedTo mux more entries player before now
-played_longer mux seen more entries player before now p (xs, end, are, made, form, bytes) = (xs, end, put_longer mux seen more entries (airings_of xs) p are, made, form, bytes)
+played_longer : (mux : Mux) (seen more entries : List Entry) (player : Sending) (before now : Known) → IsPrefix seen more → HasPlayedTo mux seen entries player before now → HasPlayedTo mux more entries player before now
+played_longer mux seen more entries player before now p (xs, end, are, made, is, bytes) = (xs, end, put_longer mux seen more entries (airings_of xs) p are, made, is, bytes)
 
 -- whole cycles are also some
-to_some : (mux : Mux) (seen more entries : List Entry) (player : Playing) (before now : Known) → IsPrefix seen more → HasPlayedTo mux seen entries player before now → HasPlayedSome mux more entries before now
-to_some mux seen more entries player before now p (xs, end, are, made, form, bytes) =
-    record { done = entries; left = []; entries_are = sym (append-nil entries); whole = xs; is_air = end.is_air; airings_are = put_longer mux seen more entries (airings_of xs) p are; made = made; bytes = bytes }
+to_some : (mux : Mux) (seen more entries : List Entry) (player : Sending) (before now : Known) → IsPrefix seen more → HasPlayedTo mux seen entries player before now → HasPlayedSome mux more entries before now
+to_some mux seen more entries player before now p (xs, end, are, made, is, bytes) =
+    record { done = entries; left = []; entries_are = sym (append-nil entries); whole = xs; is_air = own_air mux player xs is end; airings_are = put_longer mux seen more entries (airings_of xs) p are; made = made; bytes = bytes }
 
 made_final : (who k n : ℕ) (added : List Entry) → map command_of added ≡ swaps_by who k → map command_of (entry_of who Publish (Published n) ∷ added) ≡ (who, Publish) ∷ swaps_by who k
 made_final who k n added e = ap (λ (l : List Command). (who, Publish) ∷ l) e
@@ -127,7 +133,7 @@ airs_are : {control player : Caller Entry} {feeds : List (Caller Entry)} {final 
     → airings mux journal ≡ airings_by mux journal (player.made ++ final)
 airs_are {mux = mux} {journal = journal} did = ap (map (airing_at mux journal)) did.swaps_are
 
-module _ (mux : Mux) (control player : View) (feeds : List (Caller Entry)) (old : Playing) (mid now : Known) (journal : List Entry) (v w : View) where
+module _ (mux : Mux) (control player : View) (feeds : List (Caller Entry)) (old : Sending) (mid now : Known) (journal : List Entry) (v w : View) where
   -- what the ending rests on
   pub record Ready : Type 0 where
     pub closes : Closes caller_of w journal
@@ -189,7 +195,7 @@ module _ (mux : Mux) (control player : View) (feeds : List (Caller Entry)) (old 
         subst (λ (i : ℕ). map command_of final_of ≡ (i, Publish) ∷ swaps_by i k) (ap (λ (c : Caller Entry). c.low) r.own)
         (made_final v.own.low k n d.added (d.commands_are ∙ ap (λ (i : ℕ). swaps_by i k) (ap (λ (z : View). z.own.low) p.gained)))
 
-  ended_final : Ready → (new : Playing) (u : Unit {0}) (sent : Result (Unit {0}) SendStop) → Went mux v w old new mid now sent → EndDid mux control player feeds old (Ok u) false mid now journal sent
+  ended_final : Ready → (new : Sending) (u : Unit {0}) (sent : Result (Unit {0}) SendStop) → Went mux v w old new mid now sent → EndDid mux control player feeds old (Ok u) false mid now journal sent
   ended_final r new u (Ok x) f = record {
     final = final_of f.number 2 f.between f.made f.played.0;
     journal_did = final_did f.number 2 f.between f.made f.played.0 r;
@@ -228,12 +234,12 @@ module _ (mux : Mux) (control player : View) (feeds : List (Caller Entry)) (old 
             (subst (λ (k : Known). HasPlayedSome mux player.seen player.own.made before k) (sym same) (to_some mux player.seen player.seen player.own.made old before mid (prefix_self player.seen) h));
       }
 
-  ended_going : Ready → (new : Playing) (u : Unit {0}) (stopped : Bool) (sent : Result (Unit {0}) SendStop) → LastDid stopped mux v w old new mid now sent → EndDid mux control player feeds old (Ok u) stopped mid now journal sent
+  ended_going : Ready → (new : Sending) (u : Unit {0}) (stopped : Bool) (sent : Result (Unit {0}) SendStop) → LastDid stopped mux v w old new mid now sent → EndDid mux control player feeds old (Ok u) stopped mid now journal sent
   ended_going r new u true sent d = subst (λ (z : Result (Unit {0}) SendStop). EndDid mux control player feeds old (Ok u) true mid now journal z) (sym d.0) (ended_plain r (Ok u) d.1 d.2)
   ended_going r new u false sent (inl f) = ended_final r new u sent f
   ended_going r new u false sent (inr h) = subst (λ (z : Result (Unit {0}) SendStop). EndDid mux control player feeds old (Ok u) false mid now journal z) (sym h.memory) (ended_halted r u h.idle h.same)
 
-  pub ended : {X Y : Type 0} → Ready → (new : Playing) (end : Result (Unit {0}) SendStop) (stopped : Bool) (x : Option X) (y : Option Y) (sent : Result (Unit {0}) SendStop) → stopped ≡ (is_some x || is_some y)
+  pub ended : {X Y : Type 0} → Ready → (new : Sending) (end : Result (Unit {0}) SendStop) (stopped : Bool) (x : Option X) (y : Option Y) (sent : Result (Unit {0}) SendStop) → stopped ≡ (is_some x || is_some y)
       → SentDid end stopped mux v w old new mid now sent → EndDid mux control player feeds old end (halts end x y) mid now journal sent
   ended r new (Err stop) stopped x y sent e d = subst (λ (z : Result (Unit {0}) SendStop). EndDid mux control player feeds old (Err stop) true mid now journal z) (sym d.0) (ended_plain r (Err stop) d.1 d.2)
   ended r new (Ok u) stopped x y sent e d = subst (λ (b : Bool). EndDid mux control player feeds old (Ok u) b mid now journal sent) e (ended_going r new u stopped sent d)

@@ -1,5 +1,3 @@
-pub mod AirFacts
-pub mod SwapFacts
 pub mod Airs
 pub mod ManyJobs
 pub mod WholeJournal

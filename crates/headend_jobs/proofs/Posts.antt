@@ -1,7 +1,7 @@
 -- What is posted, swap by swap.
 use Rattle.std.proofs.Common.{◌≡◌, ℕ, List, [], ◌∷◌, ◌++◌, map, refl, sym, ap, ◌∙◌, subst, append-nil, append_assoc}
-use Rattle.std.specs.Prelude.{Some, Ok, Err, OnOk, Result}
-use Rattle.headend_jobs.specs.declared.send.SendStop.{SendStop}
+use Rattle.std.specs.Prelude.{Ok, Err, OnOk, Result}
+use Rattle.air_sending.specs.declared.send.SendStop.{SendStop}
 use Rattle.std.specs.List.{AllByRecursion}
 use Rattle.std.proofs.lemmas.List.{append_cancel_left}
 use Rattle.std.proofs.lemmas.List.Elements.{All-from_recursion}
@@ -32,7 +32,7 @@ use Rattle.desk_hall.proofs.Passes.{made_began}
 use Rattle.headend_jobs.specs.Posting.{HasPosted, HasPostedAll, HaveServicesOf, KeepsBoard, opening_of, post_at, posts_by, posts_of}
 use Rattle.headend_jobs.specs.Whole.{JournalDid}
 use Rattle.headend_jobs.proofs.Airs.{swap_number}
-use Rattle.headend_jobs.proofs.SwapFacts.{swaps-append}
+use Rattle.air_sending.proofs.SwapFacts.{swaps-append}
 
 -- ---- what can be posted
 

@@ -1,19 +1,19 @@
 -- What the jobs of a run leave, of what a run gave them.
 use Rattle.std.proofs.Common.{◌≡◌, ◌≢◌, inl, inr, ℕ, suc, ◌+◌, ◌≤◌, ◌<◌, List, [], ◌∷◌, ◌++◌, length, refl, sym, ap, ◌∙◌, subst, arith, lt_of_not-le}
-use Rattle.std.specs.Prelude.{Option, Some, Result, Ok, Err, OnOk, slice_index_or}
+use Rattle.std.specs.Prelude.{Option, Some, None, Result, Ok, Err, OnOk, slice_index_or}
 use Rattle.std.specs.List.{AllByRecursion}
 use native.Mathlib.Decide.{ℕ_discrete, dec_le}
 use mathlib.Core.Logic.{dite}
 use Rattle.mux_model.specs.declared.mux.Mux.{Mux}
-use Rattle.journal_air.specs.Air.{mux_form}
 use Rattle.si_causes.specs.Causes.{Rose}
 use Rattle.si_causes.proofs.CauseFacts.{Appends-nothing}
-use Rattle.headend_jobs.specs.OnAir.{HasAirCause}
+use Rattle.air_sending.specs.OnAir.{HasAirCause, IsPlayerOf}
 use Rattle.si_causes.specs.Reading.{Reading}
-use Rattle.carousel_player.specs.Playing.{Playing, AtEnd}
+use Rattle.cycle_player.specs.Airs.{AreMadeAt}
+use Rattle.cycle_player.specs.Sending.{Sending, AtEnd}
 use Rattle.journal_model.specs.declared.step.Entry.{Entry}
-use Rattle.headend_jobs.specs.declared.send.SendStop.{SendStop}
-use Rattle.headend_jobs.specs.declared.send.SendStop.TheVariants.{Air, Memory}
+use Rattle.air_sending.specs.declared.send.SendStop.{SendStop}
+use Rattle.air_sending.specs.declared.send.SendStop.TheVariants.{Air, Memory}
 use Rattle.turn_lock.specs.declared.known.Caller.{Caller}
 use Rattle.turn_lock.specs.Knowledge.{TableId, HasAny, first_pass, lower_part, upper_part}
 use Rattle.headend_jobs.specs.declared.jobs.FeedJob.{FeedJob}
@@ -26,15 +26,20 @@ use Rattle.headend_jobs.specs.Whole.{NoSwaps, SwapsNot}
 use Rattle.headend_jobs.specs.Live.{callers_back, new_pass, new_control, new_player, jobs_back, FeedsRan, PlayedAs}
 use Rattle.headend_jobs.proofs.Cutting.{control_no_swaps, feeds_apart, feeds_have, feeds_swaps, ran, zip_of, Zip}
 
-pub swaps_did : (mux : Mux) (n : ℕ) (v w : View) (old new : Playing) (mid now : Option (List ℕ)) (end : Result (Unit {0}) SendStop) → SwapsPlayed mux n v w old new mid now end → (k : ℕ) × Did (swaps_by v.own.low k) v w
+pub swaps_did : (mux : Mux) (n : ℕ) (v w : View) (old new : Sending) (mid now : Option (List ℕ)) (end : Result (Unit {0}) SendStop) → SwapsPlayed mux n v w old new mid now end → (k : ℕ) × Did (swaps_by v.own.low k) v w
 swaps_did mux n v w old new mid now (Ok u) (d, on) = (n, d)
 swaps_did mux n v w old new mid now (Err Air) (k, less, (d, on)) = (suc k, d)
 swaps_did mux n v w old new mid now (Err Memory) (k, le, (d, on)) = (k, d)
 
+-- no cycles, at any rate
+made_none : (rate : Option ℕ) → AreMadeAt rate [] []
+made_none None = tt
+made_none (Some rate) = tt
+
 -- what a player that had sent nothing has sent
-module _ (mux : Mux) (v w : View) (old new : Playing) (mid now : Option (List ℕ)) (empty : v.own.made ≡ []) (ready : AtEnd [] old) (form : old.form ≡ mux_form mux) where
+module _ (mux : Mux) (v w : View) (old new : Sending) (mid now : Option (List ℕ)) (empty : v.own.made ≡ []) (ready : AtEnd [] old) (is : IsPlayerOf mux old) where
   none_played : HasPlayedTo mux v.seen [] old mid mid
-  none_played = ([], ready, (λ journal p. refl), tt, form, Appends-nothing mid)
+  none_played = ([], ready, (λ journal p. refl), made_none mux.rate, is, Appends-nothing mid)
 
   made_is : (k : ℕ) → (d : Did (swaps_by v.own.low k) v w) → w.own.made ≡ d.added
   made_is k d = ap (λ (z : View). z.own.made) d.gained ∙ ap (λ (l : List Entry). l ++ d.added) empty

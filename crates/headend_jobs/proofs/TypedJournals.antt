@@ -1,5 +1,5 @@
 -- Journals of which each caller's edits and ticks were read from lines.
-use Rattle.std.proofs.Common.{◌≡◌, ℕ, ◌*◌, ◌<◌, List, [], ◌∷◌, Bool, true, false, map, subst, sym}
+use Rattle.std.proofs.Common.{ℕ, ◌*◌, ◌<◌, List, [], ◌∷◌, Bool, true, false, map, subst, sym}
 use Rattle.std.specs.Prelude.{Some, None, Option, IfSome, if◌then◌else◌}
 use Rattle.std.specs.List.{AllByRecursion, cons_option}
 use Rattle.si_lists.proofs.Lists.{all_map}

@@ -1,5 +1,5 @@
 -- The answers to a viewer, one more at a time.
-use Rattle.std.proofs.Common.{◌≡◌, ℕ, zero, suc, ◌+◌, ◌<◌, ◌≤◌, List, [], ◌∷◌, ◌++◌, length, Some, slice_get, refl, ap, sym, subst, arith, length-append, Ok}
+use Rattle.std.proofs.Common.{◌≡◌, ℕ, zero, suc, ◌<◌, ◌≤◌, List, [], ◌∷◌, ◌++◌, length, Some, slice_get, refl, ap, sym, subst, arith, length-append, Ok}
 use mathlib.Core.List.{IsPrefix}
 use Rattle.guide_board.specs.declared.post.Post.{Post}
 use Rattle.guide_board.specs.declared.lines.NowNext.{NowNext}

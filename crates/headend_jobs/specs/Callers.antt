@@ -2,15 +2,15 @@
 use Rattle.std.specs.Prelude.{◌≡◌, ℕ, suc, ◌+◌, ◌<◌, ◌≤◌, List, [], ◌∷◌, ◌++◌, length, map, Option, Some, None, Ok, Err, Result}
 use Rattle.si_causes.specs.Reading.{Reading, text_left}
 use Rattle.mux_model.specs.declared.mux.Mux.{Mux}
-use Rattle.carousel_player.specs.Playing.{Playing}
+use Rattle.cycle_player.specs.Sending.{Sending}
 use Rattle.input_lines.specs.declared.stop.EditStop.{EditStop}
 use Rattle.input_lines.specs.Ahead.{Ahead, Stop, ahead}
 use Rattle.script_lines.specs.Edits.{edits_ahead}
 use Rattle.journal_model.specs.declared.step.Step.{Step}
 use Rattle.journal_model.specs.declared.step.Entry.{Entry}
 use Rattle.journal_model.specs.Steps.{Command, command_of}
-use Rattle.headend_jobs.specs.declared.send.SendStop.{SendStop}
-use Rattle.headend_jobs.specs.declared.send.SendStop.TheVariants.{Air, Memory}
+use Rattle.air_sending.specs.declared.send.SendStop.{SendStop}
+use Rattle.air_sending.specs.declared.send.SendStop.TheVariants.{Air, Memory}
 use Rattle.turn_lock.specs.Journal.{entries_of}
 use Rattle.turn_lock.specs.Knowledge.{TableId}
 use Rattle.desk_hall.specs.Turn.{caller_of}
@@ -58,6 +58,6 @@ pub record HaveTheirCommands {F S : Type 0} (left : F → Option (List ℕ)) (le
 -- A run: what it did, each caller with its commands, why the jobs that read stopped, and their readers, in the order of the feeds.
 abbrev pub HasRun : {F S : Type 0} → (F → Option (List ℕ)) → (F → ℕ) → (F → F → Type 0) → (S → Option (List ℕ)) → (S → ℕ) → (S → S → Type 0) → Mux → ℕ → List (Reading F) → Reading S → Option (List ℕ) → Option (List ℕ) → Ended F S → Type 0
 HasRun left faults is_same leftS faultsS is_sameS mux cycles feeds control before now end =
-    (turns : TableId) × (playing : Playing) × (d : LiveDid left faults is_same leftS faultsS is_sameS turns mux cycles feeds control playing before now end.desk.entries end.sent)
+    (turns : TableId) × (playing : Sending) × (d : LiveDid left faults is_same leftS faultsS is_sameS turns mux cycles feeds control playing before now end.desk.entries end.sent)
     × HaveTheirCommands left leftS end.desk.entries cycles feeds control d.feeds d.control d.player d.final
     × (end.feeds.items ≡ lines_back d.feeds) × (end.lines ≡ d.control.lines) × (end.control ≡ d.control.stop) × (end.feed ≡ first_stop d.feeds)

@@ -13,8 +13,8 @@ use Rattle.headend_jobs.specs.declared.jobs.FeedJob.{FeedJob}
 use Rattle.headend_jobs.specs.declared.jobs.ControlJob.{ControlJob}
 use Rattle.headend_jobs.specs.declared.jobs.PlayerJob.{PlayerJob}
 use Rattle.air_model.specs.Air.{Aired}
-use Rattle.carousel_player.specs.Playing.{AtEnd}
-use Rattle.headend_jobs.specs.OnAir.{HasAirCause}
+use Rattle.cycle_player.specs.Sending.{AtEnd}
+use Rattle.air_sending.specs.OnAir.{HasAirCause}
 use Rattle.headend_jobs.specs.Playing.{SwapsPlayed}
 use Rattle.headend_jobs.specs.declared.views.ViewJob.{ViewJob}
 use Rattle.guide_board.specs.Posts.{Sight}

@@ -1,4 +1,3 @@
-pub mod OnAir
 pub mod Playing
 pub mod Jobs
 pub mod Whole

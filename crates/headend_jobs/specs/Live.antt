@@ -1,12 +1,12 @@
 -- How a run ends.
-use Rattle.std.specs.Prelude.{◌≡◌, ◌⊎◌, ℕ, suc, ◌+◌, ◌<◌, Bool, true, false, ◌||◌, is_some, List, [], ◌∷◌, ◌++◌, length, map, take, Option, Some, None, Ok, Err, Result}
+use Rattle.std.specs.Prelude.{◌≡◌, ◌⊎◌, ℕ, suc, ◌+◌, ◌<◌, Bool, true, false, ◌||◌, is_some, List, [], ◌∷◌, ◌++◌, map, take, Option, Some, None, Ok, Err, Result}
 use Rattle.mux_model.specs.declared.mux.Mux.{Mux}
-use Rattle.carousel_player.specs.Playing.{Playing}
+use Rattle.cycle_player.specs.Sending.{Sending}
 use Rattle.journal_model.specs.declared.step.Step.TheVariants.{Publish}
 use Rattle.journal_model.specs.declared.step.Outcome.TheVariants.{Published}
 use Rattle.journal_model.specs.declared.step.Entry.{Entry}
-use Rattle.headend_jobs.specs.declared.send.SendStop.{SendStop}
-use Rattle.headend_jobs.specs.declared.send.SendStop.TheVariants.{Air, Memory}
+use Rattle.air_sending.specs.declared.send.SendStop.{SendStop}
+use Rattle.air_sending.specs.declared.send.SendStop.TheVariants.{Air, Memory}
 use Rattle.turn_lock.specs.declared.known.Caller.{Caller}
 use Rattle.input_lines.specs.declared.stop.EditStop.{EditStop}
 use Rattle.headend_jobs.specs.declared.live.LiveStop.{LiveStop}
@@ -19,15 +19,10 @@ use Rattle.headend_jobs.specs.declared.jobs.ControlJob.{ControlJob}
 use Rattle.headend_jobs.specs.declared.jobs.PlayerJob.{PlayerJob}
 use Rattle.headend_jobs.specs.Jobs.{FeedDid, ControlDid}
 use Rattle.desk_hall.specs.Turn.{View, Made, Idle}
-use Rattle.std.specs.Io.KnownBytes.{Appends}
-use Rattle.version_book.specs.Airings.{AiredTables}
-use Rattle.air_model.specs.Air.{Aired, IsAirOf, airings_of, air_bytes}
-use Rattle.air_model.specs.Making.{AreMade}
 use Rattle.journal_model.specs.Steps.{command_of}
-use Rattle.journal_air.specs.Air.{airings}
-use Rattle.headend_jobs.specs.OnAir.{cycle_bytes}
 use Rattle.headend_jobs.specs.Playing.{SwapsPlayed, HasPlayedTo, HasPlayedFront, HasPlayedSome}
 use Rattle.headend_jobs.specs.Whole.{JournalDid, final_commands}
+use Rattle.air_sending.specs.AirOf.{AirDid}
 
 -- what the passes of the feeds bring, the last job first
 abbrev pub callers_back : {S : Type 0} → List (FeedJob S) → List (Caller Entry)
@@ -86,7 +81,7 @@ halts (Err stop) control feed = true
 halts (Ok u) control feed = is_some control || is_some feed
 
 -- The control published, and then swapped twice, or as far as this.
-pub record Went (mux : Mux) (v w : View) (old new : Playing) (mid now : Option (List ℕ)) (result : Result (Unit {0}) SendStop) : Type 0 where
+pub record Went (mux : Mux) (v w : View) (old new : Sending) (mid now : Option (List ℕ)) (result : Result (Unit {0}) SendStop) : Type 0 where
   pub number : ℕ
   pub between : View
   pub made : Made Publish (Published number) v between
@@ -98,57 +93,26 @@ pub record Halted (v w : View) (mid now : Option (List ℕ)) (result : Result (U
   pub idle : Idle v w
   pub same : now ≡ mid
 
-abbrev pub FinalDid : Mux → View → View → Playing → Playing → Option (List ℕ) → Option (List ℕ) → Result (Unit {0}) SendStop → Type 0
+abbrev pub FinalDid : Mux → View → View → Sending → Sending → Option (List ℕ) → Option (List ℕ) → Result (Unit {0}) SendStop → Type 0
 FinalDid mux v w old new mid now result = Went mux v w old new mid now result ⊎ Halted v w mid now result
 
 -- Where no job stopped, the control made its last turns; else it made none.
-abbrev pub LastDid : Bool → Mux → View → View → Playing → Playing → Option (List ℕ) → Option (List ℕ) → Result (Unit {0}) SendStop → Type 0
+abbrev pub LastDid : Bool → Mux → View → View → Sending → Sending → Option (List ℕ) → Option (List ℕ) → Result (Unit {0}) SendStop → Type 0
 LastDid false mux v w old new mid now result = FinalDid mux v w old new mid now result
 LastDid true mux v w old new mid now result = (result ≡ Ok tt) × (w ≡ v) × (now ≡ mid)
 
 -- Where the player had failed, nothing more is sent.
-abbrev pub SentDid : Result (Unit {0}) SendStop → Bool → Mux → View → View → Playing → Playing → Option (List ℕ) → Option (List ℕ) → Result (Unit {0}) SendStop → Type 0
+abbrev pub SentDid : Result (Unit {0}) SendStop → Bool → Mux → View → View → Sending → Sending → Option (List ℕ) → Option (List ℕ) → Result (Unit {0}) SendStop → Type 0
 SentDid (Ok u) stopped mux v w old new mid now result = LastDid stopped mux v w old new mid now result
 SentDid (Err stop) stopped mux v w old new mid now result = (result ≡ Err stop) × (w ≡ v) × (now ≡ mid)
 
 -- ---- what the air has
 
 -- what the air has of the cycles of these entries, where the player ended so
-abbrev pub PlayedAs : Mux → List Entry → List Entry → Playing → Option (List ℕ) → Option (List ℕ) → Result (Unit {0}) SendStop → Type 0
+abbrev pub PlayedAs : Mux → List Entry → List Entry → Sending → Option (List ℕ) → Option (List ℕ) → Result (Unit {0}) SendStop → Type 0
 PlayedAs mux seen entries player before now (Ok u) = HasPlayedTo mux seen entries player before now
 PlayedAs mux seen entries player before now (Err Air) = HasPlayedFront mux seen entries before now
 PlayedAs mux seen entries player before now (Err Memory) = HasPlayedSome mux seen entries before now
-
--- The air of a journal: all cycles, from before to now.
-pub record AirOf (mux : Mux) (journal : List Entry) (before now : Option (List ℕ)) : Type 0 where
-  pub cycles : List Aired
-  pub is_air : IsAirOf (airings mux journal) cycles
-  pub made : AreMade [] cycles
-  pub bytes : Appends before now (air_bytes cycles)
-
--- All cycles but the last, and a proper front of that.
-pub record CutAirOf (mux : Mux) (journal : List Entry) (before now : Option (List ℕ)) : Type 0 where
-  pub whole : List Aired
-  pub cut : Aired
-  pub is_air : IsAirOf (airings mux journal) (whole ++ cut ∷ [])
-  pub made : AreMade [] (whole ++ cut ∷ [])
-  pub taken : ℕ
-  pub proper : taken < length (cycle_bytes cut)
-  pub bytes : Appends before now (air_bytes whole ++ take taken (cycle_bytes cut))
-
--- Whole cycles of the first airings.
-pub record SomeAirOf (mux : Mux) (journal : List Entry) (before now : Option (List ℕ)) : Type 0 where
-  pub cycles : List Aired
-  pub is_air : IsAirOf (airings_of cycles) cycles
-  pub made : AreMade [] cycles
-  pub left : List AiredTables
-  pub airings_are : airings mux journal ≡ airings_of cycles ++ left
-  pub bytes : Appends before now (air_bytes cycles)
-
-abbrev pub AirDid : Mux → List Entry → Option (List ℕ) → Option (List ℕ) → Result (Unit {0}) SendStop → Type 0
-AirDid mux journal before now (Ok u) = AirOf mux journal before now
-AirDid mux journal before now (Err Air) = CutAirOf mux journal before now
-AirDid mux journal before now (Err Memory) = SomeAirOf mux journal before now
 
 -- ---- the end
 
@@ -161,7 +125,7 @@ LastMade false who final (Err Air) = (k : ℕ) × (k < 2) × (map command_of fin
 LastMade false who final (Err Memory) = (k : ℕ) × (map command_of final ≡ take k (final_commands who))
 
 -- How a run ends, of which all jobs have ended: its journal, and its air.
-pub record EndDid (mux : Mux) (control player : View) (feeds : List (Caller Entry)) (old : Playing) (end : Result (Unit {0}) SendStop) (stopped : Bool) (mid now : Option (List ℕ)) (journal : List Entry) (sent : Result (Unit {0}) SendStop) : Type 0 where
+pub record EndDid (mux : Mux) (control player : View) (feeds : List (Caller Entry)) (old : Sending) (end : Result (Unit {0}) SendStop) (stopped : Bool) (mid now : Option (List ℕ)) (journal : List Entry) (sent : Result (Unit {0}) SendStop) : Type 0 where
   pub final : List Entry
   pub journal_did : JournalDid control.own player.own feeds final mux journal
   pub last : LastMade stopped control.own.low final sent
@@ -192,14 +156,14 @@ FeedsRan {S} left faults is_same turns mux n (reader ∷ readers) jobs =
 abbrev pub new_control : {S : Type 0} → TableId → Mux → Reading S → ControlJob S
 new_control turns mux reader = record { pass = new_pass turns mux 0; lines = reader; stop = None }
 
-abbrev pub new_player : TableId → Mux → ℕ → Playing → PlayerJob
+abbrev pub new_player : TableId → Mux → ℕ → Sending → PlayerJob
 new_player turns mux cycles player = record { pass = new_pass turns mux 1; mux = mux; cycles = cycles; player = player; end = Ok tt }
 
 -- A run: each job did what it read, and its commands alone stand under its number in the journal, which is legal; the
 -- control's last turns stand behind them where no job stopped; and the air is that of the journal. Where the player failed, nothing more was
 -- sent (`failed`).
 pub record LiveDid {F S : Type 0} (left : F → Option (List ℕ)) (faults : F → ℕ) (is_same : F → F → Type 0) (leftS : S → Option (List ℕ)) (faultsS : S → ℕ) (is_sameS : S → S → Type 0)
-    (turns : TableId) (mux : Mux) (cycles : ℕ) (readers : List (Reading F)) (reader : Reading S) (playing : Playing) (before now : Option (List ℕ)) (journal : List Entry) (sent : Result (Unit {0}) SendStop) : Type 0 where
+    (turns : TableId) (mux : Mux) (cycles : ℕ) (readers : List (Reading F)) (reader : Reading S) (playing : Sending) (before now : Option (List ℕ)) (journal : List Entry) (sent : Result (Unit {0}) SendStop) : Type 0 where
   pub feeds : List (FeedJob F)
   pub feeds_ran : FeedsRan left faults is_same turns mux 1 readers feeds
   pub control : ControlJob S

@@ -6,9 +6,9 @@ ghost use Rattle.headend_jobs.specs.Jobs.{AllOf, ControlDid, FeedDid, OthersDid,
 ghost use Rattle.headend_jobs.specs.Views.{ViewReady, ViewsDid};
 
 use crate::player::play;
-use crate::send::SendStop;
 use crate::views::{ViewJob, run_views};
-use carousel_player::Player;
+use air_sending::SendStop;
+use cycle_player::CyclePlayer;
 use desk_hall::{Hall, HallPass};
 use guide_board::BoardWriter;
 use mux_model::Mux;
@@ -41,7 +41,7 @@ pub struct PlayerJob {
     pub pass: HallPass,
     pub mux: Mux,
     pub cycles: u64,
-    pub player: Player,
+    pub player: CyclePlayer,
     pub end: Result<(), SendStop>,
 }
 

@@ -4,15 +4,14 @@ ghost use mathlib.Core.List.{IsPrefix};
 ghost use Rattle.mux_model.specs.Sound.{IsSound};
 ghost use Rattle.mux_model.specs.declared.mux.Mux.{Mux as AMux};
 ghost use Rattle.air_model.specs.Air.{Aired};
-ghost use Rattle.carousel_player.specs.Playing.{AtEnd, Playing};
-ghost use Rattle.journal_air.specs.Air.{mux_form};
+ghost use Rattle.cycle_player.specs.Sending.{AtEnd, Sending};
 ghost use Rattle.turn_lock.specs.Knowledge.{HasAny, TableId, first_pass, numbers};
 ghost use Rattle.std.specs.List.{All, AllByRecursion};
 ghost use Rattle.headend_jobs.specs.Whole.{SwapsNot};
 ghost use Rattle.si_causes.specs.Reading.{Reading};
 ghost use Rattle.headend_jobs.specs.Jobs.{AllOf};
-ghost use Rattle.headend_jobs.specs.OnAir.{HasAirCause};
-ghost use Rattle.headend_jobs.specs.declared.send.SendStop.{SendStop as AStop};
+ghost use Rattle.air_sending.specs.OnAir.{HasAirCause, IsPlayerOf};
+ghost use Rattle.air_sending.specs.declared.send.SendStop.{SendStop as AStop};
 ghost use Rattle.headend_jobs.specs.Callers.{HasRun};
 ghost use Rattle.headend_jobs.specs.Posting.{HasPosted, HasPostedAll, HaveServicesOf, KeepsBoard, opening_of, posts_of};
 ghost use Rattle.headend_jobs.specs.Views.{ViewReady, ViewsDid};
@@ -21,9 +20,9 @@ ghost use Rattle.headend_jobs.specs.Live.{callers_back, FinalDid, LastDid, SentD
 
 use crate::jobs::{ControlJob, FeedJob, PlayerJob, run_side_by_side};
 use crate::player::play;
-use crate::send::{SendStop, open_player};
 use crate::views::ViewJob;
-use carousel_player::Player;
+use air_sending::{SendStop, open_player};
+use cycle_player::CyclePlayer;
 use desk_core::Desk;
 use desk_hall::{Hall, HallPass, HallState};
 use guide_board::BoardWriter;
@@ -160,7 +159,7 @@ fn finish<W: Wait, A: Sink, G: Gate>(
     hall: &Hall,
     mux: &Mux,
     pass: &mut HallPass,
-    player: &mut Player,
+    player: &mut CyclePlayer,
     board: &mut BoardWriter,
     air: &mut A,
     gate: &G,
@@ -191,7 +190,7 @@ fn finish_unless<W: Wait, A: Sink, G: Gate>(
     stopped: bool,
     mux: &Mux,
     pass: &mut HallPass,
-    player: &mut Player,
+    player: &mut CyclePlayer,
     board: &mut BoardWriter,
     air: &mut A,
     gate: &G,
@@ -223,7 +222,7 @@ fn finish_after<W: Wait, A: Sink, G: Gate>(
     stopped: bool,
     mux: &Mux,
     pass: &mut HallPass,
-    player: &mut Player,
+    player: &mut CyclePlayer,
     board: &mut BoardWriter,
     air: &mut A,
     gate: &G,
@@ -386,7 +385,7 @@ fn run_jobs<W: Threads + Wait + Sync, F: Source + Send, S: Source + Send, A: Sin
     requires player { player ≡ new_player hall.turns player.mux player.cycles player.player }
     requires sound { IsSound player.mux }
     requires ready { AtEnd [] player.player }
-    requires form { player.player.form ≡ mux_form player.mux }
+    requires player_of { IsPlayerOf player.mux player.player }
     requires few { player.cycles < 2 ^ 32 }
     requires opening { board.old.posts ≡ opening_of player.mux ∷ [] }
     requires views { All ViewReady views.old }

@@ -1,14 +1,14 @@
 // The job of the player, which swaps, posts what each swap puts on air, and sends its cycle.
 ghost use Rattle.std.specs.Prelude.{◌≡◌, ◌≤◌, ◌<◌, ◌^◌, [], List, Some, OnOk};
 ghost use Rattle.air_model.specs.Air.{Aired};
-ghost use Rattle.carousel_player.specs.Playing.{AtEnd};
+ghost use Rattle.cycle_player.specs.Sending.{AtEnd};
 ghost use Rattle.mux_model.specs.Sound.{IsSound};
-ghost use Rattle.headend_jobs.specs.OnAir.{HasAirCause};
+ghost use Rattle.air_sending.specs.OnAir.{HasAirCause};
 ghost use Rattle.headend_jobs.specs.Playing.{SwapPlayed, SwapsPlayed};
 ghost use Rattle.headend_jobs.specs.Posting.{HasPosted, HaveServicesOf, KeepsBoard};
 
-use crate::send::{SendStop, send_cycle};
-use carousel_player::Player;
+use air_sending::{SendStop, send_cycle};
+use cycle_player::CyclePlayer;
 use desk_hall::{Hall, HallPass};
 use guide_board::BoardWriter;
 use mux_model::Mux;
@@ -23,7 +23,7 @@ fn swap_and_send<W: Wait, A: Sink>(
     hall: &Hall,
     mux: &Mux,
     pass: &mut HallPass,
-    player: &mut Player,
+    player: &mut CyclePlayer,
     board: &mut BoardWriter,
     air: &mut A,
 ) -> Result<(), SendStop>
@@ -55,7 +55,7 @@ pub(crate) fn play<W: Wait, A: Sink, G: Gate>(
     mux: &Mux,
     cycles: u64,
     pass: &mut HallPass,
-    player: &mut Player,
+    player: &mut CyclePlayer,
     board: &mut BoardWriter,
     air: &mut A,
     gate: &G,

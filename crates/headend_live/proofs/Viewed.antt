@@ -1,6 +1,6 @@
 -- The views of a run, from their jobs to their lines.
-use Rattle.std.proofs.Common.{◌≡◌, ◌∙◌, ◌==◌, ne_eqb, ℕ, ◌+◌, ◌<◌, ◌≤◌, zero, suc, Bool, true, false, List, [], ◌∷◌, ◌++◌, length, map, take, refl, sym, ap, subst, arith, append-nil, append_assoc, vec_len, vec_capacity}
-use Rattle.std.specs.Prelude.{Option, Some, None, Ok, Err, Result, IfOk, OnOk, get_or, remove, slice_index_or}
+use Rattle.std.proofs.Common.{◌≡◌, ◌∙◌, ◌==◌, ne_eqb, ℕ, ◌+◌, ◌<◌, zero, suc, Bool, true, false, List, [], ◌∷◌, ◌++◌, length, map, take, refl, sym, ap, subst, arith, append-nil, append_assoc, vec_len}
+use Rattle.std.specs.Prelude.{Option, Some, None, Ok, Err, Result, OnOk, get_or, remove, slice_index_or}
 use Rattle.std.specs.List.{All, AllByRecursion, AllZip}
 use Rattle.std.proofs.lemmas.List.{map-append, take_more}
 use Rattle.std.proofs.lemmas.List.Elements.{All-from_recursion, recursion_from_All}
@@ -12,8 +12,8 @@ use Rattle.guide_board.specs.Posts.{Sight, serves, services_in}
 use Rattle.headend_jobs.specs.declared.live.LiveStop.{LiveStop}
 use Rattle.headend_jobs.specs.declared.live.LiveStop.TheVariants as live
 use Rattle.headend_jobs.specs.declared.views.ViewJob.{ViewJob}
-use Rattle.headend_jobs.specs.declared.send.SendStop.{SendStop}
-use Rattle.headend_jobs.specs.declared.send.SendStop.TheVariants.{Air, Memory}
+use Rattle.air_sending.specs.declared.send.SendStop.{SendStop}
+use Rattle.air_sending.specs.declared.send.SendStop.TheVariants.{Air, Memory}
 use Rattle.headend_jobs.specs.Live.{and_stop, sent_stop}
 use Rattle.headend_jobs.specs.Posting.{KeepsBoard, opening_of, posts_of}
 use Rattle.headend_jobs.specs.Views.{AreSaid, ViewDid, ViewReady, Viewed, ViewsDid}

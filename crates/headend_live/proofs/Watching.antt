@@ -1,20 +1,16 @@
 -- What is heard of the air of a run.
-use Rattle.std.proofs.Common.{◌≡◌, ◌≢◌, ℕ, ◌+◌, ◌/◌, Bool, true, false, List, [], ◌∷◌, ◌++◌, length, take, drop, map, flat_map, refl, sym, ap, ◌∙◌, subst, arith, append-nil}
+use Rattle.std.proofs.Common.{◌≡◌, ◌≢◌, ℕ, ◌/◌, Bool, true, false, List, [], ◌∷◌, take, drop, map, refl, sym, ap, ◌∙◌, subst, append-nil}
 use Rattle.std.specs.Prelude.{Option, Some, IfSome, Ok, Err, Result, OnOk, OnErr}
-use Rattle.std.proofs.lemmas.List.{take_all}
-use Rattle.std.proofs.Math.Seq.{take-append-add}
-use Rattle.std.specs.Io.KnownBytes.{Appends}
 use Rattle.mux_model.specs.declared.mux.Mux.{Mux}
 use Rattle.ts_packets.specs.Bytes.{Packet, bytes_of_packet}
-use Rattle.version_book.specs.Airings.{AiredTables}
-use Rattle.air_model.specs.Air.{Aired, IsAirOf, air, air_bytes}
-use Rattle.air_model.proofs.Airs.{air-whole, air_bytes-push}
+use Rattle.air_model.specs.Air.{air, air_bytes, airings_of}
+use Rattle.air_model.proofs.Airs.{repeating-whole}
+use Rattle.cycle_player.proofs.Sent.{sent_repeats}
 use Rattle.journal_model.specs.declared.step.Entry.{Entry}
 use Rattle.guide_receiver.specs.Heard.{Hearing}
 use Rattle.guide_receiver.specs.Guides.{guide_of}
 use Rattle.guide_screen.specs.declared.need.Heard.{Heard}
-use Rattle.headend_jobs.specs.declared.send.SendStop.{SendStop}
-use Rattle.headend_jobs.specs.declared.send.SendStop.TheVariants.{Air, Memory}
+use Rattle.air_sending.specs.declared.send.SendStop.{SendStop}
 use Rattle.air_monitor.specs.declared.done_line.DoneLine.{DoneLine}
 use Rattle.air_monitor.specs.Heard.{AreInSync, HasTaken, HearsBy, WasHeard, Watching, WatchedOn}
 use Rattle.ts_packets.specs.WholePackets.{whole_packets}
@@ -22,7 +18,9 @@ use Rattle.ts_packets.specs.Packets.{joined}
 use Rattle.air_monitor.specs.Watches.{watched_at_once}
 use Rattle.air_monitor.proofs.Packets.{heard_front, told_taken, was_heard}
 use Rattle.ts_packets.proofs.WholePackets.{whole_packets-front}
-use Rattle.headend_jobs.specs.Live.{AirDid}
+use Rattle.air_sending.specs.AirOf.{AirDid}
+use Rattle.air_sending.proofs.Sent.{did_sent}
+use Rattle.journal_air.specs.Air.{airings}
 use Rattle.headend_live.specs.Watched.{HeardOfAir, HeardWhole, watched_stop}
 use Rattle.headend_jobs.specs.declared.live.LiveStop.{LiveStop}
 use Rattle.headend_jobs.specs.declared.live.LiveStop.TheVariants as live
@@ -32,44 +30,16 @@ packets_sync : (ps : List Packet) → AreInSync (map bytes_of_packet ps)
 packets_sync [] = tt
 packets_sync (p ∷ ps) = (refl, packets_sync ps)
 
--- a front of an air was appended
-record FrontOfAir (before now : Option (List ℕ)) : Type 0 where
-  airings : List AiredTables
-  cycles : List Aired
-  is_air : IsAirOf airings cycles
-  n : ℕ
-  bytes : Appends before now (take n (air_bytes cycles))
-
-whole_air : (airings : List AiredTables) (cycles : List Aired) (before now : Option (List ℕ)) → IsAirOf airings cycles → Appends before now (air_bytes cycles) → FrontOfAir before now
-whole_air airings cycles before now is bytes = record {
-  airings = airings;
-  cycles = cycles;
-  is_air = is;
-  n = length (air_bytes cycles);
-  bytes = subst (Appends before now) (sym (take_all (length (air_bytes cycles)) (air_bytes cycles) (omega arith))) bytes;
-}
-
-front_of_air : (mux : Mux) (journal : List Entry) (before now : Option (List ℕ)) (sent : Result (Unit {0}) SendStop) → AirDid mux journal before now sent → FrontOfAir before now
-front_of_air mux journal before now (Ok u) did = whole_air _ did.cycles before now did.is_air did.bytes
-front_of_air mux journal before now (Err Air) did = record {
-  airings = _;
-  cycles = did.whole ++ did.cut ∷ [];
-  is_air = did.is_air;
-  n = length (air_bytes did.whole) + did.taken;
-  bytes = subst (Appends before now)
-      (sym (ap (take (length (air_bytes did.whole) + did.taken)) (air_bytes-push did.whole did.cut) ∙ take-append-add (air_bytes did.whole) (flat_map bytes_of_packet did.cut.packets) did.taken)) did.bytes;
-}
-front_of_air mux journal before now (Err Memory) did = whole_air _ did.cycles before now did.is_air did.bytes
-
 pub heard_of_air : (mux : Mux) (journal : List Entry) (join : ℕ) (before now : Option (List ℕ)) (sent : Result (Unit {0}) SendStop) (wanting : Bool) (receiver : Hearing) (dones : List DoneLine) (bytes : List ℕ)
     → before ≡ Some bytes → AirDid mux journal before now sent → WasHeard join before now wanting receiver dones → HeardOfAir join before now wanting receiver dones
 heard_of_air mux journal join before now sent wanting receiver dones bytes told did was =
-    let front = front_of_air mux journal before now sent did in
+    let front = did_sent mux journal before now sent did in
     let packets = map bytes_of_packet (air front.cycles) in
-    let whole = packets_whole (air front.cycles) (air-whole front.airings front.cycles front.is_air) in
-    let is : was.taken ≡ take front.n (joined packets) = told_taken before now bytes was.taken (take front.n (air_bytes front.cycles)) told was.gave front.bytes ∙ ap (take front.n) (packets_joined (air front.cycles)) in
-    let heard = heard_front join front.n was.taken packets wanting receiver dones whole (packets_sync (air front.cycles)) is was.heard in
-    let are : whole_packets was.taken ≡ take (front.n / 188) packets = ap whole_packets is ∙ whole_packets-front packets front.n whole in
+    let repeats = sent_repeats mux.rate (airings mux journal) before now front in
+    let whole = packets_whole (air front.cycles) (repeating-whole (airings_of front.cycles) front.cycles repeats) in
+    let is : was.taken ≡ take front.size (joined packets) = told_taken before now bytes was.taken (take front.size (air_bytes front.cycles)) told was.gave front.bytes ∙ ap (take front.size) (packets_joined (air front.cycles)) in
+    let heard = heard_front join front.size was.taken packets wanting receiver dones whole (packets_sync (air front.cycles)) is was.heard in
+    let are : whole_packets was.taken ≡ take (front.size / 188) packets = ap whole_packets is ∙ whole_packets-front packets front.size whole in
     record {
       taken = was.taken;
       gave = was.gave;

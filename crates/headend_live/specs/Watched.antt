@@ -3,7 +3,7 @@ use Rattle.std.specs.Prelude.{◌≡◌, ◌≢◌, ◌↔◌, ◌+◌, ℕ, Boo
 use Rattle.std.specs.Io.KnownBytes.{Appends}
 use Rattle.mux_model.specs.declared.mux.Mux.{Mux}
 use Rattle.si_causes.specs.Reading.{Reading}
-use Rattle.carousel_player.specs.Playing.{Playing}
+use Rattle.cycle_player.specs.Sending.{Sending}
 use Rattle.turn_lock.specs.Knowledge.{TableId}
 use Rattle.guide_receiver.specs.Heard.{Hearing, ReceiverStandsFor}
 use Rattle.guide_receiver.specs.Guides.{guide_of}
@@ -15,8 +15,8 @@ use Rattle.headend_jobs.specs.declared.live.LiveStop.{LiveStop}
 use Rattle.headend_jobs.specs.declared.live.LiveStop.TheVariants as live
 use Rattle.headend_live.specs.declared.watched.LivePlan.{LivePlan}
 use Rattle.headend_live.specs.declared.watched.LiveEnd.{LiveEnd}
-use Rattle.headend_jobs.specs.declared.send.SendStop.{SendStop}
-use Rattle.headend_jobs.specs.OnAir.{HasAirCause}
+use Rattle.air_sending.specs.declared.send.SendStop.{SendStop}
+use Rattle.air_sending.specs.OnAir.{HasAirCause}
 use Rattle.headend_jobs.specs.Back.{lines_back}
 use Rattle.headend_jobs.specs.Callers.{HaveTheirCommands}
 use Rattle.headend_jobs.specs.Posting.{posts_of}
@@ -63,7 +63,7 @@ pub record WatchedRan {F S : Type 0} (left : F → Option (List ℕ)) (faults : 
     (mux : Mux) (plan : LivePlan) (feeds : List (Reading F)) (control : Reading S) (before now : Option (List ℕ)) (faults_before faults_now : ℕ) (end : LiveEnd F S) : Type 0 where
   pub mux_is : end.desk.mux ≡ mux
   pub turns : TableId
-  pub playing : Playing
+  pub playing : Sending
   pub sent : Result (Unit {0}) SendStop
   pub did : LiveDid left faults is_same leftS faultsS is_sameS turns mux plan.cycles feeds control playing before now end.desk.entries sent
   pub commands : HaveTheirCommands left leftS end.desk.entries plan.cycles feeds control did.feeds did.control did.player did.final

@@ -2,11 +2,12 @@
 ghost use Rattle.std.specs.Prelude.{◌≡◌, ◌≤◌, ◌↔◌, ◌≢◌, ◌+◌, ◌∷◌, Bool, true, false, List, ℕ, Option, None, Some, OnOk, OnErr, IfOk, IfSome, IsSome, [], length};
 ghost use Rattle.mux_model.specs.Sound.{IsSound, IsSoundWithIds};
 ghost use Rattle.air_coherence.specs.Coherence.{IsCoherent};
-ghost use Rattle.air_coherence.specs.Sent.{IsSentWhole, SentOf};
+ghost use Rattle.cycle_player.specs.Sent.{IsSentWhole, SentOf};
 ghost use Rattle.carousel_player.specs.Spacing.{IsSpacedAir};
+ghost use Rattle.timed_player.specs.Playing.{IsTimedAir};
 ghost use Rattle.journal_air.specs.Air.{airings};
 ghost use Rattle.journal_air.specs.Laws.{HasTypedEdits};
-ghost use Rattle.headend_jobs.specs.OnAir.{HasAirCause};
+ghost use Rattle.air_sending.specs.OnAir.{HasAirCause};
 ghost use Rattle.journal_screen.specs.Shown.{IsAsRead, IsExact};
 ghost use Rattle.guide_receiver.specs.Guides.{guide_of};
 ghost use Rattle.air_monitor.specs.Heard.{HasTaken, HearsBy, WasHeard};
@@ -15,8 +16,8 @@ ghost use Rattle.std.specs.List.{All, AllByRecursion};
 ghost use Rattle.headend_jobs.specs.Posting.{KeepsBoard, opening_of, posts_of};
 ghost use Rattle.headend_jobs.specs.Views.{ViewReady, ViewsDid};
 ghost use Rattle.headend_live.specs.Viewing.{AreViewed, IsAsked, IsServiceOf, asked_for};
-ghost use Rattle.headend_live.specs.HeardKeys.{HaveFewKeys};
-ghost use Rattle.headend_live.specs.SentAir.{OfEachAir};
+ghost use Rattle.air_sending.specs.HeardKeys.{HaveFewKeys};
+ghost use Rattle.air_sending.specs.SentAir.{OfEachAir};
 ghost use Rattle.headend_live.specs.Watched.{WatchedRan, wanting_stop, watched_stop};
 ghost use Rattle.headend_jobs.specs.Live.{run_stop};
 
@@ -281,21 +282,24 @@ pub fn run_live<
     requires views { (length plan.views ≤ 8) × AllByRecursion (IsServiceOf mux) plan.views }
     ensures ran { IfOk result (λ end. WatchedRan F.left F.faults F.same S.left S.faults S.same mux plan feeds.items control (A.written air.old) (A.written air.new) (A.faults air.old) (A.faults air.new) end) }
     // What was sent are the first bytes of an air of the journal, and all of one where nothing stopped the run.
-    ensures sent { IfOk result (λ end. SentOf (airings mux end.desk.entries) (A.written air.old) (A.written air.new)) }
+    ensures sent { IfOk result (λ end. SentOf mux.rate (airings mux end.desk.entries) (A.written air.old) (A.written air.new)) }
     ensures whole { IfOk result (λ end. end.stop ≡ None
-        → (air : SentOf (airings mux end.desk.entries) (A.written air.old) (A.written air.new)) × IsSentWhole air) }
+        → (air : SentOf mux.rate (airings mux end.desk.entries) (A.written air.old) (A.written air.new)) × IsSentWhole air) }
     // Each such air is coherent: of any part of its packets no content is ever completed from two airings.
     ensures coherent { IfOk result (λ end. IsSoundWithIds mux → HasTypedEdits end.desk.entries
-        → OfEachAir (airings mux end.desk.entries) (A.written air.old) (A.written air.new) IsCoherent) }
-    // And it is spaced: sections of tier Fast and Near repeat within their bounds.
-    ensures spaced { IfOk result (λ end. HasTypedEdits end.desk.entries
-        → OfEachAir (airings mux end.desk.entries) (A.written air.old) (A.written air.new) (λ cycles packets. IsSpacedAir cycles)) }
+        → OfEachAir mux.rate (airings mux end.desk.entries) (A.written air.old) (A.written air.new) IsCoherent) }
+    // And without a bit rate it is spaced: sections of tier Fast and Near repeat within their bounds.
+    ensures spaced { IfOk result (λ end. HasTypedEdits end.desk.entries → mux.rate ≡ None
+        → OfEachAir None (airings mux end.desk.entries) (A.written air.old) (A.written air.new) (λ cycles packets. IsSpacedAir cycles)) }
+    // And at one it keeps time: sections of one sub-table are 25 ms apart, and TDT and TOT tell the time.
+    ensures timed { IfOk result (λ end. (rate : ℕ) → IsAsRead mux end.desk.entries → mux.rate ≡ Some rate
+        → OfEachAir (Some rate) (airings mux end.desk.entries) (A.written air.old) (A.written air.new) (λ cycles packets. IsTimedAir rate cycles)) }
     // And exact: once a cycle was heard whole, the guide is that of its publication, as long as that stays on air.
     ensures exact { IfOk result (λ end. IsAsRead mux end.desk.entries
-        → OfEachAir (airings mux end.desk.entries) (A.written air.old) (A.written air.new) (IsExact mux end.desk.entries)) }
+        → OfEachAir mux.rate (airings mux end.desk.entries) (A.written air.old) (A.written air.new) (IsExact mux end.desk.entries)) }
     // And of its packets no receiver hears more keys than it keeps.
     ensures keys { IfOk result (λ end. IsSoundWithIds mux → HasTypedEdits end.desk.entries
-        → OfEachAir (airings mux end.desk.entries) (A.written air.old) (A.written air.new) (λ cycles packets. HaveFewKeys packets)) }
+        → OfEachAir mux.rate (airings mux end.desk.entries) (A.written air.old) (A.written air.new) (λ cycles packets. HaveFewKeys packets)) }
     ensures memory { OnErr result (air.new ≡ air.old) }
 {
     let LivePlan {

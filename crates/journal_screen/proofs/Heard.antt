@@ -1,11 +1,13 @@
 -- How an air of a journal is heard.
-use Rattle.std.proofs.Common.{◌≡◌, ℕ, ◌*◌, ◌/◌, List, [], length, take, refl, sym, ◌∙◌, subst, arith, map, append-nil}
+use Rattle.std.proofs.Common.{◌≡◌, ◌*◌, ◌/◌, List, [], length, take, refl, sym, ◌∙◌, subst, arith, map, append-nil}
 use Rattle.std.proofs.lemmas.List.{length-map, take_all}
 use Rattle.version_book.specs.Airings.{AiredTables}
 use Rattle.ts_packets.specs.Bytes.{bytes_of_packet}
 use Rattle.ts_packets.specs.WholePackets.{whole_packets}
-use Rattle.air_model.specs.Air.{Aired, IsAirOf, air, air_bytes, airings_of}
-use Rattle.air_model.proofs.Repeating.{airs_repeat}
+use Rattle.air_model.specs.Air.{Aired, air, air_bytes, airings_of}
+use Rattle.air_model.specs.Repeating.{IsRepeatingAirOf}
+use Rattle.cycle_player.specs.Airs.{IsAirAt}
+use Rattle.cycle_player.proofs.Airs.{air_repeats}
 use Rattle.air_coherence.specs.Coherence.{IsCoherent}
 use Rattle.air_coherence.proofs.Coherent.{front_is_coherent, front_packets}
 use Rattle.mux_model.specs.declared.mux.Mux.{Mux}
@@ -17,24 +19,26 @@ use Rattle.journal_screen.specs.Shown.{IsAsRead, IsExact}
 use Rattle.journal_screen.specs.Heard.{IsHeardAs}
 use Rattle.journal_screen.proofs.Shown.{journals_shown}
 
-all_packets : (aired : List AiredTables) (cycles : List Aired) → IsAirOf aired cycles → whole_packets (take (188 * length (air cycles)) (air_bytes cycles)) ≡ map bytes_of_packet (air cycles)
+all_packets : (aired : List AiredTables) (cycles : List Aired) → IsRepeatingAirOf aired cycles → whole_packets (take (188 * length (air cycles)) (air_bytes cycles)) ≡ map bytes_of_packet (air cycles)
 all_packets aired cycles is =
     let n = 188 * length (air cycles) in
     let count : n / 188 ≡ length (air cycles) = omega arith in
-    front_packets aired cycles (airs_repeat aired cycles is) n ∙ take_all (n / 188) (map bytes_of_packet (air cycles)) (omega (arith, count, length-map (air cycles) bytes_of_packet))
+    front_packets aired cycles is n ∙ take_all (n / 188) (map bytes_of_packet (air cycles)) (omega (arith, count, length-map (air cycles) bytes_of_packet))
 
 -- an air of a legal journal that lines give
-pub airs_heard : (mux : Mux) (journal : List Entry) (cycles : List Aired) → IsAsRead mux journal → Legal mux journal → IsAirOf (airings mux journal) cycles
+pub airs_heard : (mux : Mux) (journal : List Entry) (cycles : List Aired) → IsAsRead mux journal → Legal mux journal → IsAirAt mux.rate (airings mux journal) cycles
     → IsHeardAs mux journal (map bytes_of_packet (air cycles))
 airs_heard mux journal cycles read legal is =
     let aired = airings mux journal in
     let n = 188 * length (air cycles) in
-    let all = all_packets aired cycles is in
-    let own = subst (λ (l : List AiredTables). IsAirOf l cycles) (sym is.airings_are) is in
+    let repeating : IsRepeatingAirOf aired cycles = air_repeats mux.rate aired cycles is in
+    let all = all_packets aired cycles repeating in
+    let own =
+    subst (λ (l : List AiredTables). IsRepeatingAirOf l cycles) (sym repeating.airings_are) repeating in
     record {
       cycles = cycles;
       is_air = is;
       packets_are = refl;
-      coherent = subst (IsCoherent cycles) all (front_is_coherent aired cycles (airs_repeat aired cycles is) (airings_heard mux journal read.sound read.edits legal) n);
-      exact = subst (IsExact mux journal cycles) all (journals_shown mux journal read legal cycles [] (sym is.airings_are ∙ sym (append-nil (airings_of cycles))) (airs_repeat (airings_of cycles) cycles own) n);
+      coherent = subst (IsCoherent cycles) all (front_is_coherent aired cycles repeating (airings_heard mux journal read.sound read.edits legal) n);
+      exact = subst (IsExact mux journal cycles) all (journals_shown mux journal read legal cycles [] (sym repeating.airings_are ∙ sym (append-nil (airings_of cycles))) own n);
     }

@@ -23,10 +23,11 @@ use Rattle.ts_packets.specs.Bytes.{Packet, bytes_of_packet}
 use Rattle.ts_packets.specs.WholePackets.{whole_packets}
 use Rattle.ts_packets.proofs.WholePackets.{whole_packets-all}
 use Rattle.ts_demux.specs.Sections.{heard_all}
-use Rattle.air_model.specs.Air.{Aired, IsAirOf, air, airings_of, air_bytes}
+use Rattle.air_model.specs.Air.{Aired, air, airings_of, air_bytes}
 use Rattle.air_model.specs.Repeating.{IsRepeatingAirOf}
-use Rattle.air_model.proofs.Airs.{air-push, air-whole}
-use Rattle.air_model.proofs.Repeating.{airs_repeat}
+use Rattle.air_model.proofs.Airs.{air-push, repeating-whole}
+use Rattle.cycle_player.specs.Airs.{IsAirAt}
+use Rattle.cycle_player.proofs.Airs.{air_repeats}
 use Rattle.air_coherence.proofs.Coherent.{packets_joined, packets_whole}
 use Rattle.guide_screen.specs.declared.need.Heard.{Heard}
 use Rattle.guide_screen.specs.declared.need.Heard.TheVariants.{Whole}
@@ -143,12 +144,16 @@ module _ (mux : Mux) (front : List Entry) (p f l : Entry) (publish : p.step ≡ 
 
   -- ---- its air
 
-  module _ (is : IsAsRead mux journal) (cycles : List Aired) (air_is : IsAirOf (airings mux journal) cycles) (join : ℕ) where
+  module _ (is : IsAsRead mux journal) (cycles : List Aired)
+      (air_is : IsAirAt mux.rate (airings mux journal) cycles) (join : ℕ) where
+    repeating : IsRepeatingAirOf (airings mux journal) cycles
+    repeating = air_repeats mux.rate (airings mux journal) cycles air_is
+
     abbrev before_two : List AiredTables
     before_two = map (airing_at mux journal) (swaps front)
 
     airings_are : airings_of cycles ≡ before_two ++ airing_at mux journal (number, moment_of mux one) ∷ airing_at mux journal (number, moment_of mux two) ∷ []
-    airings_are = air_is.airings_are ∙ ap (map (airing_at mux journal)) swaps_are ∙ map-append (airing_at mux journal) (swaps front) last_swaps
+    airings_are = repeating.airings_are ∙ ap (map (airing_at mux journal)) swaps_are ∙ map-append (airing_at mux journal) (swaps front) last_swaps
 
     abbrev heard_packets : List (List ℕ)
     heard_packets = drop join (whole_packets (air_bytes cycles))
@@ -157,7 +162,7 @@ module _ (mux : Mux) (front : List Entry) (p f l : Entry) (publish : p.step ≡ 
     packets_are =
         let packets : List (List ℕ) = map bytes_of_packet (air cycles) in
         let all : whole_packets (air_bytes cycles) ≡ packets =
-        ap whole_packets (packets_joined (air cycles)) ∙ whole_packets-all packets (packets_whole (air cycles) (air-whole (airings mux journal) cycles air_is)) in
+        ap whole_packets (packets_joined (air cycles)) ∙ whole_packets-all packets (packets_whole (air cycles) (repeating-whole (airings mux journal) cycles repeating)) in
         let rest : take (length (air cycles) - join) (drop join (air cycles)) ≡ drop join (air cycles) =
         take_all (length (air cycles) - join) (drop join (air cycles)) (omega (arith, length-drop join (air cycles))) in
         ap (drop join) all ∙ drop-map bytes_of_packet join (air cycles) ∙ ap (map bytes_of_packet) (sym rest)
@@ -187,11 +192,13 @@ module _ (mux : Mux) (front : List Entry) (p f l : Entry) (publish : p.step ≡ 
       }
 
       repeats : IsRepeatingAirOf (airings_of cycles) cycles
-      repeats = airs_repeat (airings_of cycles) cycles (subst (λ (airs : List AiredTables). IsAirOf airs cycles) (sym air_is.airings_are) air_is)
+      repeats =
+          subst (λ (airs : List AiredTables). IsRepeatingAirOf airs cycles) (sym repeating.airings_are)
+          repeating
 
       shown_at : join ≤ length (air (before ++ x ∷ [])) → AreShown mux (guide_after mux journal) heard_packets
       shown_at joined =
-          let here = exact_of mux journal is legal cycles [] (sym air_is.airings_are ∙ sym (append-nil (airings_of cycles))) repeats join (length (air cycles))
+          let here = exact_of mux journal is legal cycles [] (sym repeating.airings_are ∙ sym (append-nil (airings_of cycles))) repeats join (length (air cycles))
           (before ++ x ∷ []) y [] apart (stays joined) in
           let own = ap (publication mux journal) number_is ∙ guide_is in
           subst (AreShown mux (guide_after mux journal)) (sym packets_are)
@@ -215,7 +222,7 @@ module _ (mux : Mux) (front : List Entry) (p f l : Entry) (publish : p.step ≡ 
           cycles = front_cycles;
           first = x;
           last = y;
-          is_air = subst (IsAirOf (airings mux journal)) cut air_is;
+          is_air = subst (IsAirAt mux.rate (airings mux journal)) cut air_is;
           bytes = subst (λ (c : List Aired). Appends before now (air_bytes c)) cut bytes;
           first_is = ap (λ (a : AiredTables). a.tables) x_is ∙ ap (tables_of mux) guide_is;
           last_is = ap (λ (a : AiredTables). a.tables) y_is ∙ ap (tables_of mux) guide_is;
@@ -235,5 +242,5 @@ journals_last who join mux journal is legal ends cycles air_is before now bytes 
         let last : command_of l ≡ (who, Swap) = cc commands in
         subst (λ (j : List Entry). IsShownLast join mux j before now heard) (sym e)
         (ends_shown mux ends.front p f l (ap (λ (c : Command). c.1) publish) (ap (λ (c : Command). c.1) first) (ap (λ (c : Command). c.1) last)
-        (subst (Legal mux) e legal) (subst (IsAsRead mux) e is) cycles (subst (λ (j : List Entry). IsAirOf (airings mux j) cycles) e air_is) join before now bytes heard heard_is)
+        (subst (Legal mux) e legal) (subst (IsAsRead mux) e is) cycles (subst (λ (j : List Entry). IsAirAt mux.rate (airings mux j) cycles) e air_is) join before now bytes heard heard_is)
     by (p ∷ f ∷ l ∷ more ∷ final) e commands = cc commands

@@ -19,7 +19,7 @@ use Rattle.air_model.specs.Air.{Aired, air, airings_of, air_bytes}
 use Rattle.air_model.specs.Repeating.{IsRepeatingAirOf}
 use Rattle.air_hearing.specs.Counting.{CanBeHeard}
 use Rattle.air_coherence.proofs.Coherent.{front_part, part-map, front_packets}
-use Rattle.air_coherence.proofs.Sent.{sent_repeats}
+use Rattle.cycle_player.proofs.Sent.{sent_repeats}
 use Rattle.air_exact.proofs.Views.{element_at}
 use Rattle.air_screen.specs.Published.{ArePublished, HaveOffsetsOf, CanBePublished, number_at, StaysPublished, AreShown}
 use Rattle.air_screen.proofs.Shown.{published_is_shown}
@@ -102,4 +102,4 @@ journals_shown mux journal is legal cycles others are air_is n = bytes_exact mux
 
 pub sent_shown : SentIsShown
 sent_shown mux journal is legal before now sent =
-    bytes_exact mux journal is legal sent.cycles sent.others sent.airings_are (sent_repeats (airings mux journal) before now sent) sent.size
+    bytes_exact mux journal is legal sent.cycles sent.others sent.airings_are (sent_repeats mux.rate (airings mux journal) before now sent) sent.size

@@ -8,13 +8,14 @@ use Rattle.journal_model.specs.Steps.{command_of}
 use Rattle.desk_core.specs.Publications.{guide_after}
 use Rattle.ts_demux.specs.Sections.{heard_all}
 use Rattle.ts_packets.specs.WholePackets.{whole_packets}
-use Rattle.air_model.specs.Air.{Aired, IsAirOf, air, air_bytes}
+use Rattle.air_model.specs.Air.{Aired, air, air_bytes}
 use Rattle.guide_screen.specs.declared.need.Heard.{Heard}
 use Rattle.guide_screen.specs.declared.need.Heard.TheVariants.{Whole}
 use Rattle.guide_receiver.specs.Latest.{clock_of}
 use Rattle.publication.specs.Tables.{tables_of}
 use Rattle.publication_screen.specs.Screen.{screen_of}
 use Rattle.journal_air.specs.Air.{airings}
+use Rattle.cycle_player.specs.Airs.{IsAirAt}
 
 -- the journal ends with a publish, a swap and a swap of this caller
 pub record EndsPublished (who : ℕ) (journal : List Entry) : Type 0 where
@@ -29,7 +30,7 @@ pub record IsShownLast (join : ℕ) (mux : Mux) (journal : List Entry) (before n
   pub cycles : List Aired
   pub first : Aired
   pub last : Aired
-  pub is_air : IsAirOf (airings mux journal) (cycles ++ first ∷ last ∷ [])
+  pub is_air : IsAirAt mux.rate (airings mux journal) (cycles ++ first ∷ last ∷ [])
   pub bytes : Appends before now (air_bytes (cycles ++ first ∷ last ∷ []))
   -- that publication has each edit of the whole journal that was accepted
   pub first_is : first.airing.tables ≡ tables_of mux (guide_after mux journal)

@@ -6,14 +6,15 @@ use Rattle.version_book.specs.Airings.{AiredTables}
 use Rattle.journal_model.specs.declared.step.Entry.{Entry}
 use Rattle.desk_core.specs.Journal.{Legal}
 use Rattle.ts_packets.specs.WholePackets.{whole_packets}
-use Rattle.air_model.specs.Air.{Aired, IsAirOf, airings_of, air_bytes}
+use Rattle.air_model.specs.Air.{Aired, airings_of, air_bytes}
 use Rattle.air_model.specs.Repeating.{IsRepeatingAirOf}
-use Rattle.air_coherence.specs.Sent.{SentOf, packets_sent}
+use Rattle.cycle_player.specs.Sent.{SentOf, packets_sent}
 use Rattle.guide_screen.specs.declared.need.Heard.{Heard}
 use Rattle.guide_receiver.specs.Guides.{guide_of}
 use Rattle.journal_air.specs.Air.{airings}
 use Rattle.journal_screen.specs.Shown.{IsAsRead, IsExact}
 use Rattle.journal_screen.specs.Last.{EndsPublished, IsShownLast}
+use Rattle.cycle_player.specs.Airs.{IsAirAt}
 
 -- The air of a legal journal, or of its first airings, is exact, and so are its first bytes alone.
 abbrev pub JournalsAreShown : Type 0
@@ -26,11 +27,11 @@ JournalsAreShown =
 abbrev pub SentIsShown : Type 0
 SentIsShown =
     (mux : Mux) (journal : List Entry) → IsAsRead mux journal → Legal mux journal → (before now : Option (List ℕ))
-    → (sent : SentOf (airings mux journal) before now) → IsExact mux journal sent.cycles (packets_sent sent)
+    → (sent : SentOf mux.rate (airings mux journal) before now) → IsExact mux journal sent.cycles (packets_sent sent)
 
 -- And where a journal ends with a publish and two swaps, its air ends with the screen of all accepted edits.
 abbrev pub JournalsEndShown : Type 0
 JournalsEndShown =
     (who join : ℕ) (mux : Mux) (journal : List Entry) → IsAsRead mux journal → Legal mux journal → EndsPublished who journal → (cycles : List Aired)
-    → IsAirOf (airings mux journal) cycles → (before now : Option (List ℕ)) → Appends before now (air_bytes cycles) → (heard : Option Heard)
+    → IsAirAt mux.rate (airings mux journal) cycles → (before now : Option (List ℕ)) → Appends before now (air_bytes cycles) → (heard : Option Heard)
     → heard ≡ Some (guide_of (drop join (whole_packets (air_bytes cycles)))) → IsShownLast join mux journal before now heard

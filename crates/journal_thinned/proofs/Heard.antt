@@ -11,9 +11,10 @@ use Rattle.version_book.specs.Airings.{AiredTables}
 use Rattle.ts_demux.specs.Sections.{heard_all}
 use Rattle.guide_receiver.specs.Latest.{clock_of}
 use Rattle.strict_receiver.specs.Strict.{strict_view}
-use Rattle.air_model.specs.Air.{Aired, IsAirOf, air, airings_of}
+use Rattle.air_model.specs.Air.{Aired, airings_of}
 use Rattle.air_model.specs.Repeating.{IsRepeatingAirOf}
-use Rattle.air_model.proofs.Repeating.{airs_repeat}
+use Rattle.cycle_player.specs.Airs.{IsAirAt}
+use Rattle.cycle_player.proofs.Airs.{air_repeats}
 use Rattle.air_hearing.specs.Counting.{CanBeHeard}
 use Rattle.air_exact.specs.Exact.{TellOffsetsOf}
 use Rattle.air_exact.proofs.Views.{element_at}
@@ -35,16 +36,20 @@ use Rattle.journal_screen.proofs.ReadBack.{nit_back, sdt_back}
 use Rattle.journal_screen.proofs.Shown.{guides, can_publish, front_published, can, in_range, IsInRange}
 use Rattle.journal_thinned.specs.Heard.{CamePublished, AreStrictlyShown, ThinnedJournalIsHeard}
 
-module _ (mux : Mux) (journal : List Entry) (is : IsAsRead mux journal) (legal : Legal mux journal) (cycles : List Aired) (air_is : IsAirOf (airings mux journal) cycles)
+module _ (mux : Mux) (journal : List Entry) (is : IsAsRead mux journal) (legal : Legal mux journal) (cycles : List Aired) (air_is : IsAirAt mux.rate (airings mux journal) cycles)
     (fates : List Fate) (thin : IsThinnedAir cycles fates) where
   abbrev numbers : List ℕ
   numbers = numbers_on_air journal
 
+  own_air : IsRepeatingAirOf (airings mux journal) cycles
+  own_air = air_repeats mux.rate (airings mux journal) cycles air_is
+
   are : airings mux journal ≡ airings_of cycles ++ []
-  are = sym air_is.airings_are ∙ sym (append-nil (airings_of cycles))
+  are = sym own_air.airings_are ∙ sym (append-nil (airings_of cycles))
 
   repeating : IsRepeatingAirOf (airings_of cycles) cycles
-  repeating = subst (λ (l : List AiredTables). IsRepeatingAirOf l cycles) (sym air_is.airings_are) (airs_repeat (airings mux journal) cycles air_is)
+  repeating =
+      subst (λ (l : List AiredTables). IsRepeatingAirOf l cycles) (sym own_air.airings_are) own_air
 
   all : AllByRecursion CanBeHeard (airings_of cycles)
   all = can mux journal is legal cycles [] are repeating
@@ -57,7 +62,7 @@ module _ (mux : Mux) (journal : List Entry) (is : IsAsRead mux journal) (legal :
 
   -- all airings tell the offsets of the multiplex
   tell : HaveOffsetsOf mux (airings_of cycles)
-  tell = subst (AllByRecursion TellsOffsets) (sym air_is.airings_are) (each_airing TellsOffsets mux journal (λ swap. refl) (swaps journal))
+  tell = subst (AllByRecursion TellsOffsets) (sym own_air.airings_are) (each_airing TellsOffsets mux journal (λ swap. refl) (swaps journal))
 
   tells_of : (before : List Aired) (x : Aired) (after : List Aired) → cycles ≡ before ++ x ∷ after → TellOffsetsOf x.airing (airings_of cycles)
   tells_of before x after cut =

@@ -12,12 +12,13 @@ use Rattle.guide_screen.specs.declared.need.Heard.TheVariants.{Whole}
 use Rattle.guide_receiver.specs.Latest.{clock_of}
 use Rattle.sub_collect.specs.Marks.{completions_over}
 use Rattle.strict_receiver.specs.Strict.{taken_of, strict_dones_by, strict_guide_of}
-use Rattle.air_model.specs.Air.{Aired, IsAirOf}
+use Rattle.air_model.specs.Air.{Aired}
 use Rattle.air_screen.specs.Published.{number_at}
 use Rattle.air_thinned.specs.Thinned.{Fate, DidCome, bytes_that_came, fates_at, SomeCame, IsThinnedAir, IsAiredAmong, IsDoneAmong}
 use Rattle.publication_screen.specs.Screen.{screen_of}
 use Rattle.journal_air.specs.Air.{airings}
 use Rattle.journal_screen.specs.Shown.{IsAsRead, numbers_on_air}
+use Rattle.cycle_player.specs.Airs.{IsAirAt}
 
 -- The cycles of an air are of publications with these numbers. All packets of this cycle came, and of later cycles
 -- packets came only where they are of the same publication.
@@ -48,5 +49,5 @@ pub record IsStrictlyHeard (mux : Mux) (journal : List Entry) (cycles : List Air
 abbrev pub ThinnedJournalIsHeard : Type 0
 ThinnedJournalIsHeard =
     (mux : Mux) (journal : List Entry) → IsAsRead mux journal → Legal mux journal
-    → (cycles : List Aired) → IsAirOf (airings mux journal) cycles
+    → (cycles : List Aired) → IsAirAt mux.rate (airings mux journal) cycles
     → (fates : List Fate) → IsThinnedAir cycles fates → IsStrictlyHeard mux journal cycles fates

@@ -5,8 +5,8 @@ use Rattle.input_lines.specs.declared.stop.EditStop.{EditStop}
 use Rattle.input_lines.specs.declared.stop.EditStop.TheVariants as edit
 use Rattle.journal_model.specs.declared.step.Entry.{Entry}
 use Rattle.headend_jobs.specs.declared.live.LiveStop.{LiveStop}
-use Rattle.headend_jobs.specs.declared.send.SendStop.{SendStop}
-use Rattle.headend_jobs.specs.declared.send.SendStop.TheVariants as send
+use Rattle.air_sending.specs.declared.send.SendStop.{SendStop}
+use Rattle.air_sending.specs.declared.send.SendStop.TheVariants as send
 use Rattle.headend_jobs.specs.Callers.{CommandsAre, PlayerSwapped}
 use Rattle.headend_jobs.specs.Live.{and_stop, control_stop, feed_stop, run_stop, sent_stop}
 use Rattle.headend_jobs.specs.Playing.{swaps_by}

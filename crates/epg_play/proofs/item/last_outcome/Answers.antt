@@ -1,4 +1,4 @@
-use Rattle.std.proofs.Common.{rules, ◌<◌, ◌^◌, ◌∙◌, ap, length, sym, subst}
+use Rattle.std.proofs.Common.{rules, ◌<◌, ◌^◌, length, sym, subst}
 use Rattle.mux_model.specs.declared.mux.Mux.{Mux}
 use Rattle.desk_core.specs.Journal.{Legal}
 use Rattle.desk_core.proofs.WindowFacts.{legal_window}

@@ -2,17 +2,17 @@ use Rattle.std.proofs.Common.{◌≡◌, List, ℕ, sym, subst, arith, inl, inr,
 use Rattle.std.specs.Prelude.{Option, Ok, Err, false}
 use Rattle.epg_play.specs.declared.stop.PlayStop.{PlayStop}
 use Rattle.air_model.specs.Air.{Aired}
-use Rattle.carousel_player.specs.Playing.{Playing}
+use Rattle.cycle_player.specs.Sending.{Sending}
 use Rattle.desk_core.specs.Journal.{Legal}
 use Rattle.desk_core.specs.Desks.{DeskState}
-use Rattle.headend_jobs.specs.OnAir.{HasAired}
-use Rattle.headend_jobs.proofs.SwapFacts.{after_swap_aired, after_other_aired}
+use Rattle.air_sending.specs.OnAir.{HasAired}
+use Rattle.air_sending.proofs.SwapFacts.{after_swap_aired, after_other_aired}
 use Rattle.epg_play.specs.Items.{Stops, StepAt}
 use Rattle.epg_play.specs.Played.{AiredTo, IsBehindMux}
 use Rattle.epg_play.proofs.CourseFacts.{went_none, cut_stop, cut_aired, item_behind, sent_behind, stopped_aired, stopped_no_air}
 use Rattle.epg_play.proofs.play.play_rest.Goals as goal
 
-other_aired : (earlier : List Aired) (old desk : DeskState) (player : Playing) (before now : Option (List ℕ)) → StepAt false old desk ⊎ (desk ≡ old) → Legal old.mux old.entries → HasAired earlier old player before now → HasAired earlier desk player before now
+other_aired : (earlier : List Aired) (old desk : DeskState) (player : Sending) (before now : Option (List ℕ)) → StepAt false old desk ⊎ (desk ≡ old) → Legal old.mux old.entries → HasAired earlier old player before now → HasAired earlier desk player before now
 other_aired earlier old desk player before now (inl step) legal has = after_other_aired earlier old desk step.who step.step player before now step.did legal step.is has
 other_aired earlier old desk player before now (inr same) legal has = subst (λ (d : DeskState). HasAired earlier d player before now) (sym same) has
 
@@ -42,7 +42,7 @@ returns-in-Err-send_on_air-clause-aired g c = λ earlier before has.
     subst (λ (s : PlayStop). AiredTo {T = Unit {0}} earlier c.do_item.new.desk c.send_on_air.new.player before (g.A.Sink.written c.send_on_air.new.air) (Err s)) (sym c.stop_of.ensures)
     (cut_aired c.args.shift earlier c.do_item.new.desk c.send_on_air.new.player before (g.A.Sink.written c.send_on_air.new.air) c.in-Err-send_on_air.stop
     (after_swap_aired earlier c.items.desk c.do_item.new.desk e.did.who e.did.step c.items.player c.send_on_air.new.player before (g.A.Sink.written c.items.air) (g.A.Sink.written c.send_on_air.new.air) (Err c.in-Err-send_on_air.stop)
-    e.did.did i.legal e.did.is c.in-Err-send_on_air.ensures.form (i.aired earlier before has) c.in-Err-send_on_air.ensures.sent))
+    e.did.did i.legal e.did.is (record { form = c.in-Err-send_on_air.ensures.form; rate = c.in-Err-send_on_air.ensures.rate }) (i.aired earlier before has) c.in-Err-send_on_air.ensures.sent))
 
 pub items-preserved-in_default : goal.items-preserved-in_default
 items-preserved-in_default g c =
@@ -57,7 +57,7 @@ items-preserved-in_default g c =
       legal = e.legal;
       window = e.window;
       aired = λ earlier before has. after_swap_aired earlier c.items.desk c.do_item.new.desk e.did.who e.did.step c.items.player c.send_on_air.new.player before (g.A.Sink.written c.items.air) (g.A.Sink.written c.send_on_air.new.air) (Ok tt)
-          e.did.did i.legal e.did.is c.in_default.ensures.form (i.aired earlier before has) c.in_default.ensures.sent;
+          e.did.did i.legal e.did.is (record { form = c.in_default.ensures.form; rate = c.in_default.ensures.rate }) (i.aired earlier before has) c.in_default.ensures.sent;
       went = e.goes_on c.args.lines.now c.args.desk.now i.went;
     }
 

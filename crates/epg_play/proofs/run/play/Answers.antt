@@ -7,7 +7,7 @@ use Rattle.input_lines.specs.Ahead.{ahead}
 use Rattle.si_causes.specs.Reading.{text_left}
 use Rattle.epg_play.specs.Ending.{HasPlayed}
 use Rattle.epg_report.specs.Told.{told}
-use Rattle.epg_play.proofs.RunFacts.{no_mux_played, plain_rest, played_behind, start_aired}
+use Rattle.epg_play.proofs.RunFacts.{no_mux_played, plain_rest, played_behind, start_aired, start_ended}
 use Rattle.epg_play.proofs.run.play.Goals as goal
 use Rattle.mux_config.proofs.Reading.{first_read}
 
@@ -33,7 +33,7 @@ returns-clause-played g c = λ text tells.
     let r = c.play_rest.result in
     let did = subst (λ (d : DeskState). (rest : List ℕ) → text_left g.S.Source.left mid ≡ Some rest → RestDid (course 0 d.mux d.entries None (ahead mid rest)) d after r) desk c.play_rest.ensures.did in
     let taken = subst (λ (d : DeskState). RestTaken 0 g.S.Source.left mid new d after r) desk c.play_rest.ensures.taken in
-    let aired = c.play_rest.ensures.aired [] (g.A.Sink.written c.args.air.now) (start_aired mux c.in-Ok-open.desk c.in-Ok-open_player.player (g.A.Sink.written c.args.air.now) desk c.in-Ok-open_player.ensures.at_end c.in-Ok-open_player.ensures.form) in
+    let aired = c.play_rest.ensures.aired [] (g.A.Sink.written c.args.air.now) (start_aired mux c.in-Ok-open.desk c.in-Ok-open_player.player (g.A.Sink.written c.args.air.now) desk c.in-Ok-open_player.ensures.at_end c.in-Ok-open_player.ensures.player_of) in
     subst (λ (o : Option PlayStop). HasPlayed text (g.S.Source.left new.source) air (Some after) o) (sym c.err-stop.ensures.value)
     (played_behind g.S.Source.left old.source mid new text mux after c.play_rest.new.player air r tells read.0 read.1 (λ rest told. plain_rest mux (ahead mid rest) after r (did rest told)) taken aired)
 
@@ -41,4 +41,5 @@ pub returns-clause-same : goal.returns-clause-same
 returns-clause-same g c = g.met.S.Source.same_later c.args.lines.now.source c.read_mux.new.lines.source c.play_rest.new.lines.source c.in-Ok.ensures.read.reads.same c.play_rest.ensures.same
 
 pub play_rest-requires-clause-at_end : goal.play_rest-requires-clause-at_end
-play_rest-requires-clause-at_end g c = c.in-Ok-open_player.ensures.at_end.none
+play_rest-requires-clause-at_end g c =
+    start_ended [] c.in-Ok-open_player.player c.in-Ok-open_player.ensures.at_end

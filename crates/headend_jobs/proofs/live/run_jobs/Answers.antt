@@ -99,7 +99,7 @@ returns-clause-did g c = λ readers is.
         last = here.last;
         failed = c.end_live.ensures.failed;
         air = here.aired (g.A.Sink.written c.args.air.now)
-            (first_played mux c.args.player.pass r.new.player.pass c.args.player.player r.new.player.player (g.A.Sink.written c.args.air.now) (g.A.Sink.written r.new.air) (ap (λ (v : View). v.own.made) pass) c.requires.ready c.requires.form c.args.player.cycles r.new.player.end r.ensures.player.played);
+            (first_played mux c.args.player.pass r.new.player.pass c.args.player.player r.new.player.player (g.A.Sink.written c.args.air.now) (g.A.Sink.written r.new.air) (ap (λ (v : View). v.own.made) pass) c.requires.ready c.requires.player_of c.args.player.cycles r.new.player.end r.ensures.player.played);
       },
       c.end_live.ensures.feeds ∙ ap (λ (l : List (FeedJob g.row.F.Denot)). lines_back l) back,
       c.end_live.ensures.lines,

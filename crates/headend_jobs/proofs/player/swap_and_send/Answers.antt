@@ -17,6 +17,7 @@ returns-clause-played g c = inl (record {
   airing_is = c.in-Ok.ensures.airing c.args.mux.now (stands_still c.args.mux.now _ _ c.args.pass.now c.swap.new.pass c.requires.stands c.in-Ok.ensures.made);
   sent = c.send_cycle.ensures.sent;
   form = c.send_cycle.ensures.form;
+  rate = c.send_cycle.ensures.rate;
   wanting = λ e. ap g.A.Sink.written (c.send_cycle.ensures.memory e).0;
 })
 

@@ -1,4 +1,4 @@
-use Rattle.std.proofs.Common.{rules, ◌≡◌, length, slice_index_or, sym, subst}
+use Rattle.std.proofs.Common.{slice_index_or, subst}
 use Rattle.headend_jobs.specs.declared.views.ViewJob.{ViewJob}
 use Rattle.headend_jobs.specs.Views.{ViewDid}
 use Rattle.headend_jobs.proofs.views.run_views.Goals as goal

@@ -1,4 +1,4 @@
-use Rattle.std.proofs.Common.{◌≡◌, ◌∙◌, ap, sym, subst}
+use Rattle.std.proofs.Common.{sym, subst}
 use Rattle.desk_core.specs.declared.airing.Airing.{Airing}
 use Rattle.guide_board.specs.Posts.{IsInOrder}
 use Rattle.headend_jobs.proofs.Posts.{guide_in_order}

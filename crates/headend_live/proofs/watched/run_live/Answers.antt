@@ -11,11 +11,10 @@ use Rattle.headend_jobs.specs.Live.{run_stop}
 use Rattle.headend_live.specs.Watched.{HeardOfAir, watched_stop}
 use Rattle.journal_air.proofs.CarryFacts.{airings_heard}
 use Rattle.journal_screen.proofs.Shown.{sent_shown}
-use Rattle.air_coherence.proofs.Sent.{sent_coherent}
 use Rattle.journal_air.specs.Air.{airings, mux_form}
-use Rattle.headend_live.proofs.Keys.{sent_keys}
-use Rattle.headend_live.proofs.Sent.{did_all, did_sent}
-use Rattle.headend_live.proofs.Spaced.{sent_spaced, airings_fit}
+use Rattle.air_sending.proofs.Keys.{sent_keys}
+use Rattle.air_sending.proofs.Sent.{did_all, did_sent, rate_some, sent_coherent}
+use Rattle.air_sending.proofs.Spaced.{airings_fit, airings_timed, sent_spaced, sent_timed}
 use Rattle.headend_live.proofs.Viewed.{all_sent, no_stop, stop_twice, viewed_end, views_asked, views_ready}
 use Rattle.headend_live.proofs.Watching.{heard_of_air, heard_whole, or_wanting}
 use Rattle.headend_live.proofs.watched.run_live.Goals as goal
@@ -89,7 +88,7 @@ returns-in-Ok-clause-coherent g c =
     let end = c.in-Ok.end in
     let did = rw c.in-Ok.is at ran.ensures.did in
     λ sound typed sent.
-    sent_coherent (airings c.args.mux end.desk.entries) (g.A.Sink.written c.args.air.now) (g.A.Sink.written ran.new.air) sent
+    sent_coherent c.args.mux.rate (airings c.args.mux end.desk.entries) (g.A.Sink.written c.args.air.now) (g.A.Sink.written ran.new.air) sent
     (airings_heard c.args.mux end.desk.entries sound typed did.2.journal_did.legal)
 
 pub returns-in-Ok-clause-spaced : goal.returns-in-Ok-clause-spaced
@@ -97,9 +96,18 @@ returns-in-Ok-clause-spaced g c =
     let ran = c.run_and_hear-end in
     let end = c.in-Ok.end in
     let did = rw c.in-Ok.is at ran.ensures.did in
-    λ typed sent.
+    λ typed none sent.
     sent_spaced (mux_form c.args.mux) (airings c.args.mux end.desk.entries)
     (airings_fit c.args.mux end.desk.entries c.requires.sound typed did.2.journal_did.legal) (g.A.Sink.written c.args.air.now) (g.A.Sink.written ran.new.air) sent
+
+pub returns-in-Ok-clause-timed : goal.returns-in-Ok-clause-timed
+returns-in-Ok-clause-timed g c =
+    let ran = c.run_and_hear-end in
+    let end = c.in-Ok.end in
+    let did = rw c.in-Ok.is at ran.ensures.did in
+    λ rate read is sent.
+    sent_timed rate (rate_some c.args.mux.rate rate is c.requires.sound.rate) (airings c.args.mux end.desk.entries)
+    (airings_timed c.args.mux end.desk.entries read did.2.journal_did.legal) (g.A.Sink.written c.args.air.now) (g.A.Sink.written ran.new.air) sent
 
 pub returns-in-Ok-clause-exact : goal.returns-in-Ok-clause-exact
 returns-in-Ok-clause-exact g c =

@@ -1,6 +1,6 @@
 -- One more entry, and what it puts on air.
 use Rattle.std.proofs.Common.{◌≡◌, ℕ, ◌≤◌, true, false, List, [], ◌∷◌, ◌++◌, take, refl, sym, ap, ◌∙◌, subst, arith, append-nil, append_assoc}
-use Rattle.std.specs.Prelude.{flat_map, map, Option, Some, None, Result, Ok, Err, OnOk}
+use Rattle.std.specs.Prelude.{map, Option, Some, None, Result, Ok, Err, OnOk}
 use mathlib.Core.List.{map-append}
 use Rattle.std.specs.List.{AllByRecursion, cons_option}
 use Rattle.std.specs.Io.KnownBytes.{Appends}
@@ -10,11 +10,11 @@ use Rattle.si_time.specs.declared.moment.Moment.{Moment}
 use Rattle.guide_model.specs.declared.guide.Guide.{Guide}
 use Rattle.mux_model.specs.declared.mux.Mux.{Mux}
 use Rattle.version_book.specs.Airings.{CycleForm, AiredTables}
-use Rattle.ts_packets.specs.Bytes.{Packet, bytes_of_packet}
-use Rattle.air_model.specs.Air.{Aired, IsAirOf, airings_of, air, air_bytes}
-use Rattle.air_model.specs.Making.{cycle_dense}
-use Rattle.air_model.proofs.Airs.{AreMade-push}
-use Rattle.carousel_player.specs.Playing.{Playing, AtEnd}
+use Rattle.air_model.specs.Air.{Aired, airings_of, air_bytes}
+use Rattle.air_model.proofs.Airs.{airings_of-push, air_bytes-push}
+use Rattle.cycle_player.specs.Airs.{cycle_at, IsAirAt}
+use Rattle.cycle_player.proofs.Airs.{made_push}
+use Rattle.cycle_player.specs.Sending.{Sending, AtEnd}
 use Rattle.journal_model.specs.declared.step.Step.{Step}
 use Rattle.journal_model.specs.declared.step.Step.TheVariants.{Edit as edit, Tick, Publish, Swap}
 use Rattle.journal_model.specs.declared.step.Outcome.{Outcome}
@@ -26,9 +26,9 @@ use Rattle.desk_core.proofs.DerivedFacts.{not_aired}
 use Rattle.desk_core.proofs.JournalFacts.{publication-kept, aired-swap, legal_more}
 use Rattle.publication.specs.Tables.{tables_of}
 use Rattle.journal_air.specs.Air.{mux_form, airings, airings_by, airing_at}
-use Rattle.headend_jobs.specs.OnAir.{cycle_bytes, airing_on, HasSentAll, HasAired, SentCycle, AiredTo, and_step, is_swap}
-use Rattle.headend_jobs.specs.declared.send.SendStop.{SendStop}
-use Rattle.headend_jobs.specs.declared.send.SendStop.TheVariants.{Air as OnFault, Memory}
+use Rattle.air_sending.specs.OnAir.{cycle_bytes, airing_on, IsPlayerOf, HasSentAll, HasAired, SentCycle, AiredTo, and_step, is_swap}
+use Rattle.air_sending.specs.declared.send.SendStop.{SendStop}
+use Rattle.air_sending.specs.declared.send.SendStop.TheVariants.{Air as OnFault, Memory}
 
 -- ---- the airing list with one more entry
 
@@ -118,27 +118,12 @@ other_airings : (desk : DeskState) (who : ℕ) (step : Step) → Legal desk.mux 
 other_airings desk who step legal h =
     sym (airings-other desk.mux desk.entries (record { who = who; step = step; outcome = outcome_of desk.mux desk.entries step }) legal (other_airs desk.mux desk.entries step h))
 
-other_sent : (earlier : List Aired) (desk : DeskState) (who : ℕ) (step : Step) (player : Playing) (xs : List Aired) → Legal desk.mux desk.entries → is_swap step ≡ false → HasSentAll earlier desk player xs → HasSentAll earlier (and_step desk who step) player xs
+other_sent : (earlier : List Aired) (desk : DeskState) (who : ℕ) (step : Step) (player : Sending) (xs : List Aired) → Legal desk.mux desk.entries → is_swap step ≡ false → HasSentAll earlier desk player xs → HasSentAll earlier (and_step desk who step) player xs
 other_sent earlier desk who step player xs legal h sent =
-    record { at_end = sent.at_end; airings_are = sent.airings_are ∙ other_airings desk who step legal h; made = sent.made; form = sent.form }
+    record { at_end = sent.at_end; airings_are = sent.airings_are ∙ other_airings desk who step legal h; made = sent.made; player_of = sent.player_of }
 
-pub other_aired : (earlier : List Aired) (desk : DeskState) (who : ℕ) (step : Step) (player : Playing) (before now : Option (List ℕ)) → Legal desk.mux desk.entries → is_swap step ≡ false → HasAired earlier desk player before now → HasAired earlier (and_step desk who step) player before now
+pub other_aired : (earlier : List Aired) (desk : DeskState) (who : ℕ) (step : Step) (player : Sending) (before now : Option (List ℕ)) → Legal desk.mux desk.entries → is_swap step ≡ false → HasAired earlier desk player before now → HasAired earlier (and_step desk who step) player before now
 other_aired earlier desk who step player before now legal h (xs, sent, bytes) = (xs, other_sent earlier desk who step player xs legal h sent, bytes)
-
-pub airings_of-push : (xs : List Aired) (x : Aired) → airings_of (xs ++ x ∷ []) ≡ airings_of xs ++ x.airing ∷ []
-airings_of-push [] x = refl
-airings_of-push (y ∷ ys) x = ap (λ l. y.airing ∷ l) (airings_of-push ys x)
-
-joined_bytes : (xs ys : List Packet) → flat_map bytes_of_packet (xs ++ ys) ≡ flat_map bytes_of_packet xs ++ flat_map bytes_of_packet ys
-joined_bytes [] ys = refl
-joined_bytes (x ∷ xs) ys = ap (λ l. bytes_of_packet x ++ l) (joined_bytes xs ys) ∙ sym (append_assoc (bytes_of_packet x) (flat_map bytes_of_packet xs) (flat_map bytes_of_packet ys))
-
-air-push : (xs : List Aired) (x : Aired) → air (xs ++ x ∷ []) ≡ air xs ++ x.packets
-air-push [] x = append-nil x.packets
-air-push (y ∷ ys) x = ap (λ l. y.packets ++ l) (air-push ys x) ∙ sym (append_assoc y.packets (air ys) x.packets)
-
-pub air_bytes-push : (xs : List Aired) (x : Aired) → air_bytes (xs ++ x ∷ []) ≡ air_bytes xs ++ cycle_bytes x
-air_bytes-push xs x = ap (flat_map bytes_of_packet) (air-push xs x) ∙ joined_bytes (air xs) x.packets
 
 swap_airings : (desk : DeskState) (who : ℕ) (step : Step) (xs : List Aired) (x : Aired) → Legal desk.mux desk.entries → is_swap step ≡ true → airings_of xs ≡ airings desk.mux desk.entries → x.airing ≡ airing_on (and_step desk who step) (mux_form desk.mux)
     → airings_of (xs ++ x ∷ []) ≡ airings (and_step desk who step).mux (and_step desk who step).entries
@@ -148,7 +133,7 @@ swap_airings desk who step xs x legal h are e =
     ∙ sym (airings-swap desk.mux desk.entries entry (publishes desk.entries, moment_of desk.mux desk.entries) legal (swap_airs desk.mux desk.entries step h))
 
 -- the airing of a player with the multiplex's form
-own_form : (desk after : DeskState) (player : Playing) → player.form ≡ mux_form desk.mux → airing_on after player.form ≡ airing_on after (mux_form desk.mux)
+own_form : (desk after : DeskState) (player : Sending) → player.form ≡ mux_form desk.mux → airing_on after player.form ≡ airing_on after (mux_form desk.mux)
 own_form desk after player form = ap (λ (f : CycleForm). airing_on after f) form
 
 -- cycles behind earlier ones, part by part
@@ -156,18 +141,34 @@ pub airings_of-append : (xs ys : List Aired) → airings_of (xs ++ ys) ≡ airin
 airings_of-append [] ys = refl
 airings_of-append (x ∷ xs) ys = ap (λ l. x.airing ∷ l) (airings_of-append xs ys)
 
--- one more cycle was sent
-swap_sent : (earlier : List Aired) (desk : DeskState) (who : ℕ) (step : Step) (old new : Playing) (xs : List Aired) (x : Aired) → Legal desk.mux desk.entries → is_swap step ≡ true → HasSentAll earlier desk old xs → new.form ≡ old.form
-    → x.airing ≡ airing_on (and_step desk who step) old.form → x.packets ≡ cycle_dense (airings_of (earlier ++ xs)) (air (earlier ++ xs)) (airing_on (and_step desk who step) old.form) → AtEnd ((earlier ++ xs) ++ x ∷ []) new
-    → HasSentAll earlier (and_step desk who step) new (xs ++ x ∷ [])
-swap_sent earlier desk who step old new xs x legal h sent kept e made at_end = record {
-  at_end = subst (λ (l : List Aired). AtEnd l new) (append_assoc earlier xs (x ∷ [])) at_end;
-  airings_are = swap_airings desk who step xs x legal h sent.airings_are (e ∙ own_form desk (and_step desk who step) old sent.form);
-  made = AreMade-push earlier xs x sent.made (made ∙ ap (cycle_dense (airings_of (earlier ++ xs)) (air (earlier ++ xs))) (sym e));
-  form = kept ∙ sent.form;
-}
+-- what a player keeps while it sends
+pub record KeepsForm (old new : Sending) : Type 0 where
+  pub form : new.form ≡ old.form
+  pub rate : new.rate ≡ old.rate
 
-pub swap_aired : (earlier : List Aired) (desk : DeskState) (who : ℕ) (step : Step) (old new : Playing) (before mid now : Option (List ℕ)) (r : Result (Unit {0}) SendStop) → Legal desk.mux desk.entries → is_swap step ≡ true → new.form ≡ old.form
+-- a player of a multiplex stays one
+pub player_kept : (mux : Mux) (old new : Sending) → KeepsForm old new → IsPlayerOf mux old → IsPlayerOf mux new
+player_kept mux old new kept is = record { form = kept.form ∙ is.form; rate = kept.rate ∙ is.rate }
+
+-- what a player of a multiplex sent is made at the rate of the multiplex
+made_at : (mux : Mux) (player : Sending) (before : List Aired) (x : Aired) (a : AiredTables) → player.rate ≡ mux.rate → x.airing ≡ a → x.packets ≡ cycle_at player.rate before a
+    → x.packets ≡ cycle_at mux.rate before x.airing
+made_at mux player before x a rate e made = made ∙ ap (λ (r : Option ℕ). cycle_at r before a) rate ∙ ap (cycle_at mux.rate before) (sym e)
+
+-- one more cycle was sent
+swap_sent : (earlier : List Aired) (desk : DeskState) (who : ℕ) (step : Step) (old new : Sending) (xs : List Aired) (x : Aired) → Legal desk.mux desk.entries → is_swap step ≡ true → HasSentAll earlier desk old xs → KeepsForm old new
+    → x.airing ≡ airing_on (and_step desk who step) old.form → x.packets ≡ cycle_at new.rate (earlier ++ xs) (airing_on (and_step desk who step) old.form) → AtEnd ((earlier ++ xs) ++ x ∷ []) new
+    → HasSentAll earlier (and_step desk who step) new (xs ++ x ∷ [])
+swap_sent earlier desk who step old new xs x legal h sent kept e made at_end =
+    let is = player_kept desk.mux old new kept sent.player_of in
+    record {
+      at_end = subst (λ (l : List Aired). AtEnd l new) (append_assoc earlier xs (x ∷ [])) at_end;
+      airings_are = swap_airings desk who step xs x legal h sent.airings_are (e ∙ own_form desk (and_step desk who step) old sent.player_of.form);
+      made = made_push desk.mux.rate earlier xs x sent.made (made_at desk.mux new (earlier ++ xs) x _ is.rate e made);
+      player_of = is;
+    }
+
+pub swap_aired : (earlier : List Aired) (desk : DeskState) (who : ℕ) (step : Step) (old new : Sending) (before mid now : Option (List ℕ)) (r : Result (Unit {0}) SendStop) → Legal desk.mux desk.entries → is_swap step ≡ true → KeepsForm old new
     → HasAired earlier desk old before mid → ((xs : List Aired) → AtEnd xs old → SentCycle xs (airing_on (and_step desk who step) old.form) new mid now r) → AiredTo earlier (and_step desk who step) new before now r
 swap_aired earlier desk who step old new before mid now (Ok u) legal h kept (xs, sent, bytes) sends =
     let (x, e, made, ended, took) = sends (earlier ++ xs) sent.at_end in (
@@ -178,10 +179,11 @@ swap_aired earlier desk who step old new before mid now (Ok u) legal h kept (xs,
 swap_aired earlier desk who step old new before mid now (Err Memory) legal h kept has sends = tt
 swap_aired earlier desk who step old new before mid now (Err OnFault) legal h kept (xs, sent, bytes) sends =
     let (x, e, made, is_air, (n, proper, took)) = sends (earlier ++ xs) sent.at_end in
+    let is = player_kept desk.mux old new kept sent.player_of in
     let all : (earlier ++ xs) ++ x ∷ [] ≡ earlier ++ (xs ++ x ∷ []) = append_assoc earlier xs (x ∷ []) in
     let are : airings_of (earlier ++ (xs ++ x ∷ [])) ≡ airings_of earlier ++ airings (and_step desk who step).mux (and_step desk who step).entries =
     airings_of-append earlier (xs ++ x ∷ [])
-    ∙ ap (λ (l : List AiredTables). airings_of earlier ++ l) (swap_airings desk who step xs x legal h sent.airings_are (e ∙ own_form desk (and_step desk who step) old sent.form)) in
+    ∙ ap (λ (l : List AiredTables). airings_of earlier ++ l) (swap_airings desk who step xs x legal h sent.airings_are (e ∙ own_form desk (and_step desk who step) old sent.player_of.form)) in
     record {
       front = desk.entries;
       last = record { who = who; step = step; outcome = outcome_of desk.mux desk.entries step };
@@ -189,8 +191,9 @@ swap_aired earlier desk who step old new before mid now (Err OnFault) legal h ke
       is_swap = is_swap-Swap step h;
       whole = xs;
       cut = x;
-      is_air = subst (λ (l : List AiredTables). IsAirOf l (earlier ++ (xs ++ x ∷ []))) are (subst (λ (l : List Aired). IsAirOf (airings_of l) l) all is_air);
-      made = AreMade-push earlier xs x sent.made (made ∙ ap (cycle_dense (airings_of (earlier ++ xs)) (air (earlier ++ xs))) (sym e));
+      is_air = subst (λ (r : Option ℕ). IsAirAt r (airings_of earlier ++ airings (and_step desk who step).mux (and_step desk who step).entries) (earlier ++ (xs ++ x ∷ []))) is.rate
+          (subst (λ (l : List AiredTables). IsAirAt new.rate l (earlier ++ (xs ++ x ∷ []))) are (subst (λ (l : List Aired). IsAirAt new.rate (airings_of l) l) all is_air));
+      made = made_push desk.mux.rate earlier xs x sent.made (made_at desk.mux new (earlier ++ xs) x _ is.rate e made);
       taken = n;
       proper = proper;
       bytes = Appends-trans before mid now (air_bytes xs) (take n (cycle_bytes x)) bytes took;
@@ -198,12 +201,12 @@ swap_aired earlier desk who step old new before mid now (Err OnFault) legal h ke
 
 -- ---- the same, of a desk that did the step
 
-pub after_swap_aired : (earlier : List Aired) (desk after : DeskState) (who : ℕ) (step : Step) (old new : Playing) (before mid now : Option (List ℕ)) (r : Result (Unit {0}) SendStop) → after ≡ and_step desk who step → Legal desk.mux desk.entries → is_swap step ≡ true → new.form ≡ old.form
+pub after_swap_aired : (earlier : List Aired) (desk after : DeskState) (who : ℕ) (step : Step) (old new : Sending) (before mid now : Option (List ℕ)) (r : Result (Unit {0}) SendStop) → after ≡ and_step desk who step → Legal desk.mux desk.entries → is_swap step ≡ true → KeepsForm old new
     → HasAired earlier desk old before mid → ((xs : List Aired) → AtEnd xs old → SentCycle xs (airing_on after old.form) new mid now r) → AiredTo earlier after new before now r
 after_swap_aired earlier desk after who step old new before mid now r e legal h kept has =
     subst (λ (d : DeskState). ((xs : List Aired) → AtEnd xs old → SentCycle xs (airing_on d old.form) new mid now r) → AiredTo earlier d new before now r) (sym e) (swap_aired earlier desk who step old new before mid now r legal h kept has)
 
-pub after_other_aired : (earlier : List Aired) (desk after : DeskState) (who : ℕ) (step : Step) (player : Playing) (before now : Option (List ℕ)) → after ≡ and_step desk who step → Legal desk.mux desk.entries → is_swap step ≡ false → HasAired earlier desk player before now → HasAired earlier after player before now
+pub after_other_aired : (earlier : List Aired) (desk after : DeskState) (who : ℕ) (step : Step) (player : Sending) (before now : Option (List ℕ)) → after ≡ and_step desk who step → Legal desk.mux desk.entries → is_swap step ≡ false → HasAired earlier desk player before now → HasAired earlier after player before now
 after_other_aired earlier desk after who step player before now e legal h has = subst (λ (d : DeskState). HasAired earlier d player before now) (sym e) (other_aired earlier desk who step player before now legal h has)
 
 pub after_legal : (desk after : DeskState) (who : ℕ) (step : Step) → after ≡ and_step desk who step → Legal desk.mux desk.entries → Legal after.mux after.entries

@@ -1,6 +1,6 @@
--- What was sent of a journal is spaced.
+-- What was sent of a journal is spaced, or at a bit rate keeps time.
 use Rattle.std.proofs.Common.{◌≡◌, ◌⊎◌, inl, inr, [], ◌∷◌, ◌++◌, true, refl, arith}
-use Rattle.std.specs.Prelude.{ℕ, List, Option}
+use Rattle.std.specs.Prelude.{ℕ, ◌<◌, ◌*◌, List, Option, Some, None, map}
 use Rattle.std.specs.List.{AllByRecursion}
 use Rattle.si_lists.proofs.Lists.{each_unit}
 use Rattle.guide_model.specs.declared.guide.Guide.{Guide}
@@ -14,10 +14,15 @@ use Rattle.mux_model.specs.Sound.{IsSound}
 use Rattle.journal_model.specs.declared.step.Entry.{Entry}
 use Rattle.version_book.specs.Airings.{CycleForm, AiredTables}
 use Rattle.air_model.specs.Air.{Aired, airings_of}
-use Rattle.air_coherence.specs.Sent.{SentOf}
-use Rattle.air_coherence.proofs.Sent.{each_sent}
+use Rattle.cycle_player.specs.Sent.{SentOf}
+use Rattle.cycle_player.proofs.Sent.{each_sent}
 use Rattle.carousel_player.specs.Spacing.{RunsBeginAlone, CanBeSpaced, IsSpacedAir}
 use Rattle.carousel_player.proofs.Spaced.{made_airs_are_spaced}
+use Rattle.air_paced.specs.Airs.{CanBeTimed}
+use Rattle.timed_player.specs.Playing.{IsTimedAir}
+use Rattle.timed_player.proofs.TimedAirs.{is_timed_air}
+use Rattle.desk_core.proofs.MomentFacts.{swaps_range}
+use Rattle.journal_screen.specs.Shown.{IsAsRead}
 use Rattle.eit_tables.proofs.EntryFacts.{typed_small}
 use Rattle.publication.specs.Parts.{own_guide, remote_guide}
 use Rattle.publication.specs.Programs.{pat_table, pmt_tables}
@@ -79,7 +84,30 @@ each_cycle : (P : AiredTables → Type 0) (xs : List Aired) → AllByRecursion P
 each_cycle P [] all = tt
 each_cycle P (x ∷ xs) all = (all.0, each_cycle P xs all.1)
 
-pub sent_spaced : (form : CycleForm) (airings : List AiredTables) → AreFitAs form airings → (before now : Option (List ℕ)) (sent : SentOf airings before now)
+pub sent_spaced : (form : CycleForm) (airings : List AiredTables) → AreFitAs form airings → (before now : Option (List ℕ)) (sent : SentOf None airings before now)
     → IsSpacedAir sent.cycles
 sent_spaced form airings fit before now sent =
-    made_airs_are_spaced form sent.cycles sent.made (each_cycle (IsFitAs form) sent.cycles (each_sent airings before now sent (IsFitAs form) fit))
+    made_airs_are_spaced form sent.cycles sent.made (each_cycle (IsFitAs form) sent.cycles (each_sent None airings before now sent (IsFitAs form) fit))
+
+-- ---- at a bit rate
+
+-- a publication of a journal can be sent at a bit rate, at a moment that can be told
+timed_at : (mux : Mux) (journal : List Entry) → IsAsRead mux journal → Legal mux journal → (swap : ℕ × Moment) → swap.1.0 < 65536 * 86400 → CanBeTimed (airing_at mux journal swap)
+timed_at mux journal read legal (n, moment) before =
+    let guide = publication mux journal n in
+    let within = publications_within mux journal n read.sound.sound legal in
+    let fit = publication_fit mux guide read.sound.sound within (typed_small guide within (published_typed mux journal n read.edits within)) in
+    record { sendable = record { tables = fit.each; offsets = offsets_told mux.offsets read.sound.sound.offsets }; moment = omega (arith, before) }
+
+-- and so can all that a journal puts on air
+pub airings_timed : (mux : Mux) (journal : List Entry) → IsAsRead mux journal → Legal mux journal → AllByRecursion CanBeTimed (airings mux journal)
+airings_timed mux journal read legal = go (swaps journal) (swaps_range mux journal read.sound.sound read.steps legal)
+  where
+    go : (aired : List (ℕ × Moment)) → AllByRecursion (λ (swap : ℕ × Moment). swap.1.0 < 65536 * 86400) aired → AllByRecursion CanBeTimed (map (airing_at mux journal) aired)
+    go [] all = tt
+    go (swap ∷ aired) all = (timed_at mux journal read legal swap all.0, go aired all.1)
+
+pub sent_timed : (rate : ℕ) → 0 < rate → (airings : List AiredTables) → AllByRecursion CanBeTimed airings → (before now : Option (List ℕ)) (sent : SentOf (Some rate) airings before now)
+    → IsTimedAir rate sent.cycles
+sent_timed rate some airings can before now sent =
+    is_timed_air rate sent.cycles some sent.made (each_cycle CanBeTimed sent.cycles (each_sent (Some rate) airings before now sent CanBeTimed can))

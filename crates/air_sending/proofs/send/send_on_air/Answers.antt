@@ -1,8 +1,8 @@
 use Rattle.std.proofs.Common.{subst}
 use Rattle.version_book.specs.Airings.{AiredTables}
-use Rattle.headend_jobs.specs.OnAir.{SentCycle}
-use Rattle.headend_jobs.proofs.AirFacts.{on_air_services, airing_is}
-use Rattle.headend_jobs.proofs.send.send_on_air.Goals as goal
+use Rattle.air_sending.specs.OnAir.{SentCycle}
+use Rattle.air_sending.proofs.AirFacts.{on_air_services, airing_is}
+use Rattle.air_sending.proofs.send.send_on_air.Goals as goal
 
 pub send_cycle-requires-clause-services : goal.send_cycle-requires-clause-services
 send_cycle-requires-clause-services g c = on_air_services c.args.desk.now c.mux.result.now c.in_ok-airing.airing c.mux.ensures.value c.in_ok-airing.ensures.airing

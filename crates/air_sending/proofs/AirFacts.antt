@@ -10,15 +10,16 @@ use Rattle.section_codec.specs.declared.table.SubTable.{SubTable}
 use Rattle.version_book.specs.Airings.{CycleForm, AiredTables}
 use Rattle.version_book.specs.Book.{aired}
 use Rattle.ts_packets.specs.Bytes.{Packet, bytes_of_packet}
-use Rattle.air_model.specs.Air.{Aired, IsAirOf, air, airings_of}
-use Rattle.air_model.specs.Making.{cycle_dense}
-use Rattle.carousel_player.specs.Playing.{Playing, AtEnd, GaveUp}
+use Rattle.air_model.specs.Air.{Aired, airings_of}
+use Rattle.cycle_player.specs.Airs.{cycle_at, IsAirAt}
+use Rattle.cycle_player.specs.Sending.{Sending, AtEnd, GaveUp}
+use Rattle.cycle_player.proofs.Ends.{within_air}
 use Rattle.publication.specs.Tables.{HasServicesOf, tables_of}
 use Rattle.journal_air.proofs.Published.{published_services}
 use Rattle.desk_core.specs.declared.airing.Airing.{Airing}
 use Rattle.desk_core.specs.Publications.{last_aired}
 use Rattle.desk_core.specs.Desks.{DeskState, on_air_of}
-use Rattle.headend_jobs.specs.OnAir.{airing_by, airing_on, cycle_bytes}
+use Rattle.air_sending.specs.OnAir.{airing_by, airing_on, cycle_bytes}
 
 -- ---- the sub-tables of a publication
 
@@ -44,21 +45,24 @@ joined_bytes [] ys = refl
 joined_bytes (x ∷ xs) ys = ap (λ l. bytes_of_packet x ++ l) (joined_bytes xs ys) ∙ sym (append_assoc (bytes_of_packet x) (flat_map bytes_of_packet xs) (flat_map bytes_of_packet ys))
 
 -- a cycle was sent whole
-pub cycle_sent : (xs : List Aired) (x : Aired) (a : AiredTables) (b : AiredTables) (player : Playing) (old new : Option (List ℕ)) → x.airing ≡ b → x.packets ≡ cycle_dense (airings_of xs) (air xs) b → b ≡ a
+pub cycle_sent : (rate : Option ℕ) (xs : List Aired) (x : Aired) (a b : AiredTables) (player : Sending) (old new : Option (List ℕ)) → player.rate ≡ rate
+    → x.airing ≡ b → x.packets ≡ cycle_at rate xs b → b ≡ a
     → AtEnd (xs ++ x ∷ []) player → Appends old new (flat_map bytes_of_packet x.packets)
-    → (x' : Aired) × (x'.airing ≡ a) × (x'.packets ≡ cycle_dense (airings_of xs) (air xs) a) × AtEnd (xs ++ x' ∷ []) player × Appends old new (cycle_bytes x')
-cycle_sent xs x a b player old new e made f end bytes = (x, e ∙ f, made ∙ ap (cycle_dense (airings_of xs) (air xs)) f, end, bytes)
+    → (x' : Aired) × (x'.airing ≡ a) × (x'.packets ≡ cycle_at player.rate xs a) × AtEnd (xs ++ x' ∷ []) player × Appends old new (cycle_bytes x')
+cycle_sent rate xs x a b player old new same e made f end bytes =
+    (x, e ∙ f, made ∙ ap (cycle_at rate xs) f ∙ ap (λ (r : Option ℕ). cycle_at r xs a) (sym same), end, bytes)
 
 -- a cycle was sent in part
-pub cycle_cut : (xs : List Aired) (x : Aired) (a : AiredTables) (b : AiredTables) (player : Playing) (old new : Option (List ℕ)) → x.airing ≡ b → x.packets ≡ cycle_dense (airings_of xs) (air xs) b → b ≡ a
-    → GaveUp xs x x.packets old new player
-    → (x' : Aired) × (x'.airing ≡ a) × (x'.packets ≡ cycle_dense (airings_of xs) (air xs) a) × IsAirOf (airings_of (xs ++ x' ∷ [])) (xs ++ x' ∷ []) × ((n : ℕ) × (n < length (cycle_bytes x')) × Appends old new (take n (cycle_bytes x')))
-cycle_cut xs x a b player old new e made f (handed, left, parts, within, front) =
+pub cycle_cut : (rate : Option ℕ) (xs : List Aired) (x : Aired) (a b : AiredTables) (player : Sending) (old new : Option (List ℕ)) → player.rate ≡ rate
+    → x.airing ≡ b → x.packets ≡ cycle_at rate xs b → b ≡ a → GaveUp xs x x.packets old new player
+    → (x' : Aired) × (x'.airing ≡ a) × (x'.packets ≡ cycle_at player.rate xs a) × IsAirAt player.rate (airings_of (xs ++ x' ∷ [])) (xs ++ x' ∷ [])
+    × ((n : ℕ) × (n < length (cycle_bytes x')) × Appends old new (take n (cycle_bytes x')))
+cycle_cut rate xs x a b player old new same e made f (handed, left, parts, within, front) =
     let all : cycle_bytes x ≡ flat_map bytes_of_packet handed ++ flat_map bytes_of_packet left = ap (flat_map bytes_of_packet) parts ∙ joined_bytes handed left in (
       x,
       e ∙ f,
-      made ∙ ap (cycle_dense (airings_of xs) (air xs)) f,
-      within.is_air,
+      made ∙ ap (cycle_at rate xs) f ∙ ap (λ (r : Option ℕ). cycle_at r xs a) (sym same),
+      within_air xs x left player within,
       (
         front.0,
         omega (arith, front.1, ap length all, length-append (flat_map bytes_of_packet handed) (flat_map bytes_of_packet left)),

@@ -2,7 +2,7 @@
 use Rattle.std.proofs.Common.{◌≡◌, ℕ, List, [], ◌∷◌, ◌++◌, Bool, true, false, ◌||◌, map, refl, sym, ◌∙◌, subst, arith}
 use Rattle.std.specs.Prelude.{Option, slice_range}
 use Rattle.std.specs.List.{AllByRecursion}
-use Rattle.std.specs.Set.{is_member, distinct_count}
+use Rattle.std.specs.Set.{is_member}
 use Rattle.std.proofs.lemmas.List.Folds.{list_any-append}
 use Rattle.si_lists.proofs.Distinct.{distinct_count-within}
 use Rattle.section_codec.specs.declared.table.Key.{Key}
@@ -17,13 +17,13 @@ use Rattle.heard_completions.specs.Dones.{counted_heard}
 use Rattle.air_model.specs.Air.{airings_of}
 use Rattle.air_hearing.specs.Counting.{CanBeHeard}
 use Rattle.air_hearing.specs.Sending.{carried_keys}
-use Rattle.air_coherence.specs.Sent.{SentOf, packets_sent}
+use Rattle.cycle_player.specs.Sent.{SentOf, packets_sent}
 use Rattle.air_coherence.proofs.Carried.{heard_keys_carried}
-use Rattle.air_coherence.proofs.Sent.{each_sent, sent_repeats}
+use Rattle.cycle_player.proofs.Sent.{each_sent, sent_repeats}
 use Rattle.journal_model.specs.declared.step.Entry.{Entry}
 use Rattle.journal_air.specs.Air.{airings}
 use Rattle.journal_air.proofs.KeyFacts.{airings_few}
-use Rattle.headend_live.specs.HeardKeys.{HaveFewKeys}
+use Rattle.air_sending.specs.HeardKeys.{HaveFewKeys}
 
 -- the keys of the first of some airings are among those of all
 carried_first : (first others : List AiredTables) (k : Key) → is_member is_key (carried_keys first) k ≡ true → is_member is_key (carried_keys (first ++ others)) k ≡ true
@@ -40,12 +40,12 @@ carried_first (a ∷ first) others k there =
     go false e rest = rest e
 
 pub sent_keys : (mux : Mux) (journal : List Entry) → IsSound mux → AllByRecursion CanBeHeard (airings mux journal)
-    → (before now : Option (List ℕ)) (sent : SentOf (airings mux journal) before now) → HaveFewKeys (packets_sent sent)
+    → (before now : Option (List ℕ)) (sent : SentOf mux.rate (airings mux journal) before now) → HaveFewKeys (packets_sent sent)
 sent_keys mux journal sound can before now sent join end le =
     let all : List AiredTables = airings mux journal in
     let first : List AiredTables = airings_of sent.cycles in
     let heard = counted_heard (slice_range (packets_sent sent) join end) in
-    let among = heard_keys_carried first sent.cycles (sent_repeats all before now sent) (each_sent all before now sent CanBeHeard can) sent.size join end le in
+    let among = heard_keys_carried first sent.cycles (sent_repeats mux.rate all before now sent) (each_sent mux.rate all before now sent CanBeHeard can) sent.size join end le in
     let within = distinct_count-within key_laws (section_keys heard) (carried_keys all)
     (λ k there. subst (λ (all : List AiredTables). is_member is_key (carried_keys all) k ≡ true) (sym sent.airings_are) (carried_first first sent.others k (among k there))) in
     let few = airings_few mux journal sound in

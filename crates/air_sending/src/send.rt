@@ -1,15 +1,14 @@
 // Sending the cycle of what is on air.
 ghost use Rattle.std.specs.Prelude.{◌≡◌, ◌≤◌, ◌<◌, ◌*◌, [], List, Err, IfOk, OnOk};
 ghost use Rattle.air_model.specs.Air.{Aired};
-ghost use Rattle.carousel_player.specs.Playing.{AtEnd};
+ghost use Rattle.cycle_player.specs.Sending.{AtEnd};
 ghost use Rattle.mux_model.specs.Sound.{IsSound};
 ghost use Rattle.guide_limits.specs.Limits.{IsGuideWithin};
 ghost use Rattle.publication.specs.Tables.{HasServicesOf};
-ghost use Rattle.journal_air.specs.Air.{mux_form};
-ghost use Rattle.headend_jobs.specs.declared.send.SendStop.TheVariants.{Memory};
-ghost use Rattle.headend_jobs.specs.OnAir.{SentCycle, airing_by, airing_on, HasAirCause};
+ghost use Rattle.air_sending.specs.declared.send.SendStop.TheVariants.{Memory};
+ghost use Rattle.air_sending.specs.OnAir.{SentCycle, IsPlayerOf, airing_by, airing_on, HasAirCause};
 
-use carousel_player::Player;
+use cycle_player::CyclePlayer;
 use desk_core::{Airing, Desk};
 use mux_model::Mux;
 use publication::build;
@@ -31,22 +30,24 @@ impl From<AllocError> for SendStop {
     }
 }
 
-/// A player that sends the cycles of a multiplex, of its quota and with its offsets of local time
-/// (EN 300 468, 5.2.6). It has sent nothing, and needs a sound multiplex.
-pub fn open_player(alloc: Global, mux: &Mux) -> Result<Player, AllocError>
+/// A player that sends the cycles of a multiplex, at its bit rate where it has one, of its quota
+/// and with its offsets of local time (EN 300 468, 5.2.6). It has sent nothing, and needs a sound
+/// multiplex.
+pub fn open_player(alloc: Global, mux: &Mux) -> Result<CyclePlayer, AllocError>
     requires { IsSound mux.now }
     ensures at_end { IfOk result (AtEnd []) }
-    ensures form { IfOk result (λ player. player.form ≡ mux_form mux.now) }
+    ensures player_of { IfOk result (IsPlayerOf mux.now) }
 {
     let offsets = mux.offsets.copy()?;
-    Ok(Player::open(alloc, mux.quota, offsets))
+    Ok(CyclePlayer::open(alloc, mux.rate, mux.quota, offsets))
 }
 
-/// Sends one whole cycle of a publication of this multiplex: of its sub-tables at the moment at which it went on air, sections of
-/// one PID that follow each other sharing packets, with the versions and continuity counters that go on from the cycles before
-/// (EN 300 468, 5.1; ISO/IEC 13818-1, 2.4.3). The cycle has the form of the player's cycles. It needs
-/// a player at its end, a moment whose day has 16 bits, and a guide within its limits that has the
-/// services of the multiplex in their order, as each publication of a desk has.
+/// Sends one whole cycle of a publication of this multiplex: of its sub-tables at the moment at
+/// which it went on air, with the versions and continuity counters that go on from the cycles
+/// before (EN 300 468, 5.1; ISO/IEC 13818-1, 2.4.3). The cycle has the form of the player's cycles
+/// and its bit rate; without a rate, sections of one PID that follow each other share packets. It
+/// needs a player at its end, a moment whose day has 16 bits, and a guide within its limits that
+/// has the services of the multiplex in their order, as each publication of a desk has.
 ///
 /// `Air` comes only where the air's count of faults rose, or stands at its last value: the air then has a proper front of the cycle.
 /// With `Memory` nothing of the cycle was sent, and the player is as it was.
@@ -54,7 +55,7 @@ pub fn send_cycle<A: Sink>(
     alloc: Global,
     mux: &Mux,
     airing: &Airing,
-    player: &mut Player,
+    player: &mut CyclePlayer,
     air: &mut A,
 ) -> Result<(), SendStop>
     requires sound { IsSound mux.now }
@@ -65,6 +66,7 @@ pub fn send_cycle<A: Sink>(
     ensures sent { (xs : List Aired) → AtEnd xs player.old → SentCycle xs (airing_by mux.now player.old.form airing.now) player.new (A.written air.old) (A.written air.new) result }
     ensures ended { OnOk result (player.new.left ≡ []) }
     ensures form { player.new.form ≡ player.old.form }
+    ensures rate { player.new.rate ≡ player.old.rate }
     ensures cause { HasAirCause (A.faults air.old) (A.faults air.new) result }
     ensures memory { result ≡ Err SendStop.Memory → (air.new ≡ air.old) × (player.new ≡ player.old) }
     ensures later { A.faults air.old ≤ A.faults air.new }
@@ -82,13 +84,14 @@ pub fn send_cycle<A: Sink>(
 pub fn send_on_air<A: Sink>(
     alloc: Global,
     desk: &Desk,
-    player: &mut Player,
+    player: &mut CyclePlayer,
     air: &mut A,
 ) -> Result<(), SendStop>
     requires at_end { player.old.left ≡ [] }
     ensures sent { (xs : List Aired) → AtEnd xs player.old → SentCycle xs (airing_on desk.now player.old.form) player.new (A.written air.old) (A.written air.new) result }
     ensures ended { OnOk result (player.new.left ≡ []) }
     ensures form { player.new.form ≡ player.old.form }
+    ensures rate { player.new.rate ≡ player.old.rate }
     ensures cause { HasAirCause (A.faults air.old) (A.faults air.new) result }
     ensures memory { result ≡ Err SendStop.Memory → (air.new ≡ air.old) × (player.new ≡ player.old) }
     ensures later { A.faults air.old ≤ A.faults air.new }

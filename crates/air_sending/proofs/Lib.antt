@@ -1,0 +1,5 @@
+pub mod AirFacts
+pub mod SwapFacts
+pub mod Keys
+pub mod Spaced
+pub mod Sent

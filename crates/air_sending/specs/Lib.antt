@@ -1,0 +1,4 @@
+pub mod OnAir
+pub mod AirOf
+pub mod HeardKeys
+pub mod SentAir
